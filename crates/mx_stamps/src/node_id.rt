@@ -1,0 +1,48 @@
+//! The number of a node.
+
+ghost use Rattle.std.specs.Prelude.{◌≡◌, ◌<◌, ◌↔◌, IsSome, IfSome};
+
+use std::marker::Model;
+
+/// How many nodes a cluster has at the most.
+pub const MAX_NODES: u8 = 21;
+
+/// A node, by its number from 0 to 20.
+#[derive(Clone, Copy, Debug, Default, PartialEq, Eq, PartialOrd, Ord, Hash)]
+pub struct NodeId {
+    index: u8,
+}
+
+impl Model for NodeId {
+    ghost use Rattle.std.specs.Prelude.{ℕ, ◌<◌};
+
+    ghost Value = { ℕ };
+
+    ghost view = { λ n. n.index };
+
+    ghost invariant = { λ n. n.index < 21 };
+
+    ghost inverse = { λ n. record { index = n } };
+}
+
+impl NodeId {
+    /// The node of this number, where there is one in any cluster.
+    pub fn of(index: u8) -> Option<NodeId>
+        ensures some { IsSome result ↔ (index < 21) }
+        ensures value { IfSome result (λ n. n ≡ index) }
+    {
+        if index < MAX_NODES {
+            Some(NodeId { index })
+        } else {
+            None
+        }
+    }
+
+    /// Its number.
+    pub fn get(self) -> u8
+        ensures value { result ≡ self }
+        ensures bound { result < 21 }
+    {
+        self.index
+    }
+}

@@ -1,0 +1,44 @@
+//! The stamp of a request, and the order of stamps.
+
+ghost use Rattle.std.specs.Prelude.{◌≡◌, ◌↔◌, ◌⊎◌, IsTrue};
+ghost use Rattle.mx_stamps.specs.Stamp.{Before, is_before_of, is_same_as};
+
+use crate::node_id::NodeId;
+use std::cmp::Ordering;
+
+/// The stamp of a request: a number from its node's clock, and that node. Stamps are ordered by
+/// number, and then by node (Lamport 1978); `Ord` is that order.
+#[derive(Clone, Copy, Debug, Default, PartialEq, Eq, PartialOrd, Ord, Hash)]
+pub struct Stamp {
+    pub number: u64,
+    pub node: NodeId,
+}
+
+impl Stamp {
+    /// Whether both are the same stamp.
+    pub fn is(&self, other: &Stamp) -> bool
+        ensures value { result ≡ is_same_as self.now other.now }
+        ensures same { IsTrue result ↔ (self.now ≡ other.now) }
+    {
+        self.number == other.number && self.node.get() == other.node.get()
+    }
+
+    /// Whether this stamp comes first.
+    pub fn is_before(&self, other: &Stamp) -> bool
+        ensures value { result ≡ is_before_of self.now other.now }
+        ensures before { IsTrue result ↔ Before self.now other.now }
+    {
+        self.number < other.number
+            || (self.number == other.number && self.node.get() < other.node.get())
+    }
+
+    /// How two stamps stand to each other. One of the three holds of any two.
+    pub fn compare(&self, other: &Stamp) -> Ordering
+        ensures less { (result ≡ Ordering.Less) ↔ Before self.now other.now }
+        ensures equal { (result ≡ Ordering.Equal) ↔ (self.now ≡ other.now) }
+        ensures greater { (result ≡ Ordering.Greater) ↔ Before other.now self.now }
+        ensures total { Before self.now other.now ⊎ (self.now ≡ other.now) ⊎ Before other.now self.now }
+    {
+        self.cmp(other)
+    }
+}
