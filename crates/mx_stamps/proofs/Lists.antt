@@ -135,3 +135,34 @@ pub get_or_replicate : {X : Type 0} (n j : ℕ) (d : X) → get_or (replicate n 
 get_or_replicate zero j d = refl
 get_or_replicate (suc n) zero d = refl
 get_or_replicate (suc n) (suc j) d = get_or_replicate n j d
+
+pub set_set : {X : Type 0} (xs : List X) (i : ℕ) (u v : X) → slice_set (slice_set xs i u) i v ≡ slice_set xs i v
+set_set [] i u v = refl
+set_set (x ∷ xs) zero u v = refl
+set_set (x ∷ xs) (suc i) u v = ap (λ ys. x ∷ ys) (set_set xs i u v)
+
+pub append_append : {X : Type 0} (xs ys zs : List X) → (xs ++ ys) ++ zs ≡ xs ++ (ys ++ zs)
+append_append [] ys zs = refl
+append_append (x ∷ xs) ys zs = ap (λ r. x ∷ r) (append_append xs ys zs)
+
+pub get_append_left : {X : Type 0} (xs ys : List X) (i : ℕ) (t : X) → slice_get xs i ≡ Some t → slice_get (xs ++ ys) i ≡ Some t
+get_append_left [] ys i t h = absurd (none_is_no_some t h)
+get_append_left (x ∷ xs) ys zero t h = h
+get_append_left (x ∷ xs) ys (suc i) t h = get_append_left xs ys i t h
+
+pub get_at_end : {X : Type 0} (xs : List X) (y : X) → slice_get (xs ++ y ∷ []) (length xs) ≡ Some y
+get_at_end [] y = refl
+get_at_end (x ∷ xs) y = get_at_end xs y
+
+pub has_each_below : {X : Type 0} (f : ℕ → X) (n i : ℕ) → i < n → slice_get (each_below f n) i ≡ Some (f i)
+has_each_below f zero i lt = absurd (omega arith)
+has_each_below f (suc n) i lt = elim (dec_eq i n) [
+  | inl e ↦ subst (λ k. slice_get (each_below f n ++ f n ∷ []) k ≡ Some (f k)) (sym e) (subst (λ k. slice_get (each_below f n ++ f n ∷ []) k ≡ Some (f n)) (length_each_below f n) (get_at_end (each_below f n) (f n)))
+  | inr ne ↦ get_append_left (each_below f n) (f n ∷ []) i (f i) (has_each_below f n i (omega arith))
+]
+
+-- the element at an index stands in the list
+pub in_get : {X : Type 0} (xs : List X) (i : ℕ) (x : X) → slice_get xs i ≡ Some x → IsIn x xs
+in_get [] i x h = absurd (none_is_no_some x h)
+in_get (y ∷ ys) zero x h = inl (sym (same_Some y x h))
+in_get (y ∷ ys) (suc i) x h = inr (in_get ys i x h)

@@ -1,0 +1,6 @@
+-- World: the core part of a world and of its steps. Core: a step table and the promises on phases.
+-- Laws: the start, step, exclusion and numbering laws. Acts: what one node does.
+pub mod World
+pub mod Core
+pub mod Laws
+pub mod Acts

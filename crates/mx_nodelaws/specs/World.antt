@@ -1,0 +1,49 @@
+-- The core part of a world: the nodes' states, and the letters ever sent.
+use Rattle.std.specs.Prelude.{ℕ, zero, suc, ◌≡◌, List, [], ◌∷◌, ◌++◌, Option, Some, None, slice_get, slice_set}
+use Rattle.mx_stamps.specs.Lists.{IsIn}
+
+-- what one act makes of a node: its next state, its answer, and its letters in order, each with its addressee
+pub record Done (S A M : Type 0) : Type 0 where
+  pub state : S
+  pub answer : A
+  pub letters : List (ℕ × M)
+
+-- the same of an act that sends nothing
+pub record Quiet (S A : Type 0) : Type 0 where
+  pub state : S
+  pub answer : A
+
+abbrev pub quietly : {S A M : Type 0} → Quiet S A → Done S A M
+quietly step = record { state = step.state; answer = step.answer; letters = [] }
+
+-- the state of each node, in order, and each letter ever sent, with its sender and its addressee
+pub record World (S M : Type 0) : Type 0 where
+  pub nodes : List S
+  pub sent : List (ℕ × ℕ × M)
+
+-- node i is in state s
+abbrev pub IsNode : {S M : Type 0} → World S M → ℕ → S → Type 0
+IsNode w i s = slice_get w.nodes i ≡ Some s
+
+-- this letter was sent by node a to node b
+abbrev pub WasSent : {S M : Type 0} → World S M → ℕ → ℕ → M → Type 0
+WasSent w a b m = IsIn (a, b, m) w.sent
+
+-- the letters of one act of node i, as they are sent
+abbrev pub sent_by : {M : Type 0} → ℕ → List (ℕ × M) → List (ℕ × ℕ × M)
+sent_by i [] = []
+sent_by i (p ∷ ps) = (i, p.0, p.1) ∷ sent_by i ps
+
+-- node i takes its step, and its letters join those sent. Nothing else changes
+abbrev pub after : {S A M : Type 0} → World S M → ℕ → Done S A M → World S M
+after w i done = record { nodes = slice_set w.nodes i done.state; sent = w.sent ++ sent_by i done.letters }
+
+-- the letter, if there is one, to node n
+abbrev pub letter_to : {M : Type 0} → ℕ → Option M → List (ℕ × M)
+letter_to n None = []
+letter_to n (Some m) = (n, m) ∷ []
+
+-- a letter to each node below n for which f has one, in ascending order of addressee
+abbrev pub addressed : {M : Type 0} → (ℕ → Option M) → ℕ → List (ℕ × M)
+addressed f zero = []
+addressed f (suc n) = addressed f n ++ letter_to n (f n)

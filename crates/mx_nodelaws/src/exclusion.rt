@@ -1,0 +1,96 @@
+//! The interface of an exclusion algorithm.
+
+ghost use Rattle.std.specs.Prelude.{◌≡◌, ◌<◌, ◌≤◌, []};
+
+use crate::faults::{AskFault, EnterFault, LeaveFault};
+use crate::phase::Phase;
+use mx_letters::Outbox;
+use mx_stamps::{NodeId, Stamp};
+
+/// A node of an exclusion algorithm. Its step table is `core`; each call equals the table in state,
+/// answer and letters in order. The laws below the calls are what a cluster rests on.
+pub trait Exclusion: Drop {
+    ghost use Rattle.mx_nodelaws.specs.World.{World};
+    ghost use Rattle.mx_nodelaws.specs.Core.{Core, KeepsPhases, BearsNumber};
+    ghost use Rattle.mx_nodelaws.specs.Laws.{KeepsGood};
+    ghost use Rattle.std.specs.Prelude.{◌≡◌, ◌<◌, ◌≤◌, []};
+
+    /// A letter.
+    type Msg: Copy + Default;
+
+    /// What all nodes of a cluster know of it: how many there are, and how they stand to each other.
+    type Shape: Copy;
+
+    // the step table
+    ghost core: { Core Self.Shape Self Self.Msg };
+
+    // the shapes that the laws speak of
+    ghost IsShape: { Self.Shape → Type 0 };
+
+    // the worlds that are reached from the start: at the start it holds, and each step keeps it
+    ghost Good: { World Self Self.Msg → Type 0 };
+
+    /// How many nodes there are.
+    fn nodes(shape: &Self::Shape) -> u8
+        ensures value { result ≡ core.count shape.now }
+        ensures valid { IsShape shape.now }
+        ensures low { 0 < result }
+        ensures high { result ≤ 21 };
+
+    /// A node at rest. `origin` is where its numbers of requests start, and `limit` the greatest
+    /// section number.
+    fn start(shape: &Self::Shape, me: NodeId, origin: u64, limit: u64) -> Self
+        requires node { me < core.count shape.now }
+        requires low { 0 < limit }
+        requires high { limit ≤ 1000000 }
+        ensures { result ≡ core.start shape.now me origin limit };
+
+    /// Asks for the next section. The stamp is that of the request.
+    fn ask(&mut self, out: &mut Outbox<Self::Msg>) -> Result<Stamp, AskFault>
+        requires { out.old ≡ [] }
+        ensures state { self.new ≡ (core.ask self.old).state }
+        ensures answer { result ≡ (core.ask self.old).answer }
+        ensures letters { out.new ≡ (core.ask self.old).letters };
+
+    /// Takes a letter. One that no row of the step table fits is ignored.
+    fn deliver(&mut self, from: NodeId, letter: Self::Msg, out: &mut Outbox<Self::Msg>)
+        requires { out.old ≡ [] }
+        ensures state { self.new ≡ (core.deliver from letter self.old).state }
+        ensures letters { out.new ≡ (core.deliver from letter self.old).letters };
+
+    /// Whether every permission for the current request is there.
+    fn can_enter(&self) -> bool
+        ensures { result ≡ core.can_enter self.now };
+
+    /// Enters the section, and answers its number.
+    fn enter(&mut self) -> Result<u64, EnterFault>
+        ensures state { self.new ≡ (core.enter self.old).state }
+        ensures answer { result ≡ (core.enter self.old).answer };
+
+    /// Leaves the section, and answers its number.
+    fn leave(&mut self, out: &mut Outbox<Self::Msg>) -> Result<u64, LeaveFault>
+        requires { out.old ≡ [] }
+        ensures state { self.new ≡ (core.leave self.old).state }
+        ensures answer { result ≡ (core.leave self.old).answer }
+        ensures letters { out.new ≡ (core.leave self.old).letters };
+
+    /// Sends again what is outstanding, as any letter may have been lost.
+    fn tick(&mut self, out: &mut Outbox<Self::Msg>)
+        requires { out.old ≡ [] }
+        ensures state { self.new ≡ (core.tick self.old).state }
+        ensures letters { out.new ≡ (core.tick self.old).letters };
+
+    /// Where the node stands.
+    fn phase(&self) -> Phase
+        ensures value { result ≡ core.phase self.now }
+        ensures numbered { BearsNumber result };
+
+    /// The number of the last section that this node entered, 0 before the first.
+    fn mine(&self) -> u64
+        ensures value { result ≡ core.mine self.now }
+        ensures high { result ≤ 1000000 };
+
+    ghost phases: { KeepsPhases core };
+
+    ghost laws: { KeepsGood core IsShape Good };
+}

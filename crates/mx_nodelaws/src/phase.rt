@@ -1,0 +1,10 @@
+//! Where a node stands.
+
+/// Where a node stands: it asks for nothing, waits for its permissions, or is inside the section
+/// of this number.
+#[derive(Clone, Copy, Debug, PartialEq, Eq)]
+pub enum Phase {
+    Idle,
+    Waiting,
+    Inside(u64),
+}
