@@ -1,0 +1,102 @@
+-- Which events can't happen: those of a node that isn't there, and deliveries of what was not sent.
+use Rattle.std.proofs.Common.{ℕ, ◌<◌, ◌≤◌, ◌≡◌, ◌⊎◌, ◌↔◌, inl, inr, List, Option, Some, None, Result, Ok, Err, IsOk, IfErr, IfOk, slice_get, length, refl, sym, ◌∙◌, ap, subst, arith}
+use Rattle.std.proofs.lemmas.Option.{slice_get_cases, slice_get_within}
+use Rattle.mx_stamps.proofs.Lists.{none_is_no_some, in_get}
+use Rattle.mx_nodelaws.specs.World.{World}
+use Rattle.mx_nodelaws.specs.Core.{Core}
+use Rattle.mx_nodelaws.specs.Laws.{KeepsGood}
+use Rattle.mx_nodelaws.specs.declared.acts.Act.{Act}
+use Rattle.mx_nodelaws.specs.declared.acts.Act.TheVariants as act
+use Rattle.mx_network.specs.declared.event.Event.{Event}
+use Rattle.mx_network.specs.declared.event.Event.TheVariants as event
+use Rattle.mx_network.specs.declared.outcome.Outcome.{Outcome}
+use Rattle.mx_network.specs.declared.faults.StepFault.{StepFault}
+use Rattle.mx_network.specs.declared.faults.StepFault.TheVariants.{NoNode, NoParcel, Memory}
+use Rattle.mx_network.specs.Step.{Group, world_of, answer_of, delivery_of, grown, at_state, at_part, step_of, IsFaultOf, NamesNoNode, NamesNoParcel}
+use Rattle.mx_network.specs.Kept.{IsKept}
+
+past_end : {X : Type 0} (xs : List X) (k : ℕ) → slice_get xs k ≡ None → length xs ≤ k
+past_end xs k was = elim (slice_get_cases xs k).1 [ inl p ↦ absurd (none_is_no_some p.0 (sym was ∙ p.2)) | inr q ↦ q.0 ]
+
+-- which of the three an event is
+abbrev Class : {H S M : Type 0} → Core H S M → Group S M → Event → Type 0
+Class {H} {S} {M} core g e =
+    (NamesNoNode g e × (NamesNoParcel g e → ⊥) × (step_of core g e ≡ Err NoNode))
+    ⊎ (NamesNoParcel g e × (NamesNoNode g e → ⊥) × (step_of core g e ≡ Err NoParcel))
+    ⊎ ((NamesNoNode g e → ⊥) × (NamesNoParcel g e → ⊥) × (new : Group S M) × (step_of core g e ≡ Ok new))
+
+apart : {A : Type 0} (f : StepFault) (a : A) → ◌≡◌ {A = Result A StepFault} (Err f) (Ok a) → ⊥
+apart f a e = cc
+
+same_Err : {A : Type 0} (f h : StepFault) → ◌≡◌ {A = Result A StepFault} (Err f) (Err h) → f ≡ h
+same_Err f h e = cc
+
+no_ok : (A : Type 0) (f : StepFault) → IsOk {T = A} {E = StepFault} (Err f) → ⊥
+no_ok A f h = cc
+
+memory_apart : ◌≡◌ {A = StepFault} NoNode Memory → ⊥
+memory_apart e = cc
+
+memory_apart_too : ◌≡◌ {A = StepFault} NoParcel Memory → ⊥
+memory_apart_too e = cc
+
+faults_apart : ◌≡◌ {A = StepFault} NoNode NoParcel → ⊥
+faults_apart e = cc
+
+module _ {H S M : Type 0} (core : Core H S M) (IsShape : H → Type 0) (Good : World S M → Type 0) (laws : KeepsGood core IsShape Good) where
+  -- an act of node i happens exactly where the node is there
+  at_node : (g : Group S M) (e : Event) (i : ℕ) (a : Act M) → ((length g.nodes ≤ i) × (at_state core g e i a (slice_get g.nodes i) ≡ Err NoNode)) ⊎ ((i < length g.nodes) × (new : Group S M) × (at_state core g e i a (slice_get g.nodes i) ≡ Ok new))
+  at_node g e i a = elim (slice_get_cases g.nodes i).1 [
+    | inl p ↦ inr (p.1, grown g e i (answer_of core a p.0), ap (λ o. at_state core g e i a o) p.2)
+    | inr q ↦ inl (q.0, ap (λ o. at_state core g e i a o) q.1)
+  ]
+
+  delivers : (g : Group S M) (k : ℕ) → IsKept core Good g → (o : Option (ℕ × ℕ × M)) → slice_get g.sent k ≡ o → Class core g (event.Deliver k)
+  delivers g k kept None was = inr (inl (past_end g.sent k was, λ none. none, ap (λ o. at_part core g (event.Deliver k) (delivery_of o)) was))
+  delivers g k kept (Some p) was =
+      let lt = laws.to_nodes (world_of g) p.0 p.1 p.2 kept.good (in_get g.sent k p was) in
+      elim (at_node g (event.Deliver k) p.1 (act.Deliver p.0 p.2)) [
+        | inl q ↦ absurd (omega (arith, q.0, lt))
+        | inr q ↦ inr (inr (λ none. none, λ le. absurd (omega (arith, le, slice_get_within g.sent k p was)), q.1, ap (λ o. at_part core g (event.Deliver k) (delivery_of o)) was ∙ q.2))
+      ]
+
+  class_of : (g : Group S M) (e : Event) → IsKept core Good g → Class core g e
+  class_of g (event.Ask i) kept = elim (at_node g (event.Ask i) i act.Ask) [ inl q ↦ inl (q.0, λ none. none, q.1) | inr q ↦ inr (inr (λ le. absurd (omega (arith, le, q.0)), λ none. none, q.1, q.2)) ]
+  class_of g (event.Enter i) kept = elim (at_node g (event.Enter i) i act.Enter) [ inl q ↦ inl (q.0, λ none. none, q.1) | inr q ↦ inr (inr (λ le. absurd (omega (arith, le, q.0)), λ none. none, q.1, q.2)) ]
+  class_of g (event.Leave i) kept = elim (at_node g (event.Leave i) i act.Leave) [ inl q ↦ inl (q.0, λ none. none, q.1) | inr q ↦ inr (inr (λ le. absurd (omega (arith, le, q.0)), λ none. none, q.1, q.2)) ]
+  class_of g (event.Tick i) kept = elim (at_node g (event.Tick i) i act.Tick) [ inl q ↦ inl (q.0, λ none. none, q.1) | inr q ↦ inr (inr (λ le. absurd (omega (arith, le, q.0)), λ none. none, q.1, q.2)) ]
+  class_of g (event.Restart i) kept = elim (at_node g (event.Restart i) i act.Restart) [ inl q ↦ inl (q.0, λ none. none, q.1) | inr q ↦ inr (inr (λ le. absurd (omega (arith, le, q.0)), λ none. none, q.1, q.2)) ]
+  class_of g (event.Deliver k) kept = delivers g k kept (slice_get g.sent k) refl
+
+  -- where the step has this fault other than for memory, the answer is that fault, and only there
+  tells : (g new : Group S M) (e : Event) (fault : StepFault) (r : Result Outcome StepFault) → step_of core g e ≡ Err fault → IfOk r (λ o. step_of core g e ≡ Ok new) → IfErr r (IsFaultOf (step_of core g e)) → r ≡ Err fault
+  tells g new e fault (Ok o) is ok refusal = absurd (apart fault new (sym is ∙ ok))
+  tells g new e fault (Err f) is ok (inl m) = absurd (no_ok (Group S M) fault (subst (λ s. IsOk s) is m.1))
+  tells g new e fault (Err f) is ok (inr q) = ap (λ x. Err x) (same_Err {A = Group S M} f fault (sym q ∙ is))
+
+  told : (g : Group S M) (e : Event) (fault : StepFault) (r : Result Outcome StepFault) → (fault ≡ Memory → ⊥) → r ≡ Err fault → IfErr r (IsFaultOf (step_of core g e)) → step_of core g e ≡ Err fault
+  told g e fault r other is refusal = elim (subst (λ x. IfErr x (IsFaultOf (step_of core g e))) is refusal) [ inl m ↦ absurd (other m.0) | inr q ↦ q ]
+
+  pub no_node : (g new : Group S M) (e : Event) (r : Result Outcome StepFault) → IsKept core Good g → IfOk r (λ o. step_of core g e ≡ Ok new) → IfErr r (IsFaultOf (step_of core g e)) → (r ≡ Err NoNode) ↔ NamesNoNode g e
+  no_node g new e r kept ok refusal = (
+    λ is. let step = told g e NoNode r memory_apart is refusal in elim (class_of g e kept) [
+      | inl c ↦ c.0
+      | inr d ↦ elim d [ inl c ↦ absurd (faults_apart (same_Err {A = Group S M} NoNode NoParcel (sym step ∙ c.2))) | inr c ↦ absurd (apart NoNode c.2 (sym step ∙ c.3)) ]
+    ],
+    λ names. elim (class_of g e kept) [
+      | inl c ↦ tells g new e NoNode r c.2 ok refusal
+      | inr d ↦ elim d [ inl c ↦ absurd (c.1 names) | inr c ↦ absurd (c.0 names) ]
+    ],
+  )
+
+  pub no_parcel : (g new : Group S M) (e : Event) (r : Result Outcome StepFault) → IsKept core Good g → IfOk r (λ o. step_of core g e ≡ Ok new) → IfErr r (IsFaultOf (step_of core g e)) → (r ≡ Err NoParcel) ↔ NamesNoParcel g e
+  no_parcel g new e r kept ok refusal = (
+    λ is. let step = told g e NoParcel r memory_apart_too is refusal in elim (class_of g e kept) [
+      | inl c ↦ absurd (faults_apart (same_Err {A = Group S M} NoNode NoParcel (sym c.2 ∙ step)))
+      | inr d ↦ elim d [ inl c ↦ c.0 | inr c ↦ absurd (apart NoParcel c.2 (sym step ∙ c.3)) ]
+    ],
+    λ names. elim (class_of g e kept) [
+      | inl c ↦ absurd (c.1 names)
+      | inr d ↦ elim d [ inl c ↦ tells g new e NoParcel r c.2 ok refusal | inr c ↦ absurd (c.1 names) ]
+    ],
+  )

@@ -1,0 +1,38 @@
+use Rattle.mx_network.proofs.Keeps.{result_kept}
+use Rattle.mx_network.proofs.Refusals.{no_node, no_parcel}
+use Rattle.mx_network.proofs.cluster.Cluster.step.Goals as goal
+
+pub invariant_of-self : goal.invariant_of-self
+invariant_of-self g c = (
+  c.happen.ensures.out,
+  result_kept g.C.Exclusion.core g.C.Exclusion.IsShape g.C.Exclusion.Good g.met.C.Exclusion.phases g.met.C.Exclusion.laws
+      _ c.args.event _ c.happen.result c.happen.ensures.ok c.happen.ensures.err c.self.invariant.1,
+)
+
+pub returns-clause-ok : goal.returns-clause-ok
+returns-clause-ok g c = rw (← c.self.view_is) c.happen.ensures.ok
+
+pub returns-clause-outcome : goal.returns-clause-outcome
+returns-clause-outcome g c = rw (← c.self.view_is) c.happen.ensures.outcome
+
+pub returns-clause-no_node : goal.returns-clause-no_node
+returns-clause-no_node g c = rw (← c.self.view_is)
+    (no_node g.C.Exclusion.core g.C.Exclusion.IsShape g.C.Exclusion.Good g.met.C.Exclusion.laws
+    _ _ c.args.event c.happen.result c.self.invariant.1 c.happen.ensures.ok c.happen.ensures.fault)
+
+pub returns-clause-no_parcel : goal.returns-clause-no_parcel
+returns-clause-no_parcel g c = rw (← c.self.view_is)
+    (no_parcel g.C.Exclusion.core g.C.Exclusion.IsShape g.C.Exclusion.Good g.met.C.Exclusion.laws
+    _ _ c.args.event c.happen.result c.self.invariant.1 c.happen.ensures.ok c.happen.ensures.fault)
+
+pub returns-clause-err : goal.returns-clause-err
+returns-clause-err g c = rw (← c.self.view_is) c.happen.ensures.err
+
+pub returns-clause-fault : goal.returns-clause-fault
+returns-clause-fault g c = rw (← c.self.view_is) c.happen.ensures.fault
+
+pub returns-clause-exclusive : goal.returns-clause-exclusive
+returns-clause-exclusive g c = (invariant_of-self g c).1.exclusive
+
+pub returns-clause-numbered : goal.returns-clause-numbered
+returns-clause-numbered g c = (invariant_of-self g c).1.numbered

@@ -1,0 +1,37 @@
+//! Why there is no such event.
+
+use std::alloc::AllocError;
+use thiserror::Error;
+
+/// Why an event did not happen. The cluster is as before, its trace too.
+#[derive(Clone, Copy, Debug, PartialEq, Eq, Error)]
+pub enum StepFault {
+    /// The event names a node that the cluster has not.
+    #[error("no node")]
+    NoNode,
+    /// No parcel of this number has been sent.
+    #[error("no parcel")]
+    NoParcel,
+    /// A growth was refused.
+    #[error("out of memory")]
+    Memory,
+}
+
+impl From<AllocError> for StepFault {
+    ghost use Rattle.std.specs.Prelude.{◌≡◌};
+    ghost use Rattle.mx_network.specs.declared.faults.StepFault.TheVariants.{Memory};
+
+    ghost from_gives = { λ _ e. e ≡ Memory };
+
+    fn from(_e: AllocError) -> StepFault {
+        StepFault::Memory
+    }
+}
+
+/// Which event of a run did not happen, counted from 0. Those before it stand.
+#[derive(Clone, Copy, Debug, PartialEq, Eq, Error)]
+#[error("event {index}: {fault}")]
+pub struct RunFault {
+    pub index: u64,
+    pub fault: StepFault,
+}

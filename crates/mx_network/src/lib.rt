@@ -1,0 +1,15 @@
+//! A cluster of nodes in one value, for one thread: events, what comes of them, and the trace. It
+//! names no algorithm, so whatever implements `Exclusion` has its theorem: over every list of
+//! events no two nodes are inside together, and the n-th section entered bears the number n.
+#![tactic(auto)]
+
+mod cluster;
+mod event;
+mod faults;
+mod outcome;
+mod parts;
+
+pub use cluster::Cluster;
+pub use event::Event;
+pub use faults::{RunFault, StepFault};
+pub use outcome::{Cause, Entry, Outcome};
