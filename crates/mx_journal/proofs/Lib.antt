@@ -1,0 +1,8 @@
+-- Choices: comparisons. Maps: the laws of journals. Below: records below a number. The others serve
+-- this crate's own proofs.
+pub mod Choices
+pub mod Maps
+pub mod Below
+pub mod Seeking
+pub mod Disputes
+pub mod Answering

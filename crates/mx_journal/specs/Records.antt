@@ -1,0 +1,47 @@
+-- A journal is a finite map from numbers to records: the strictly ascending list of its records.
+use Rattle.std.specs.Prelude.{ℕ, suc, ◌≡◌, ◌≤◌, ◌&&◌, List, [], ◌∷◌, Option, Some, None, nat_lt, nat_le, nat_eq, if◌then◌else◌, filter}
+use Rattle.mx_stamps.specs.Lists.{IsIn, greatest}
+use Rattle.mx_journal.specs.declared.records.Record.{Record}
+use Rattle.mx_journal.specs.declared.ranges.Range.{Range}
+
+-- the numbers ascend strictly, and the first is at least `least`
+abbrev pub Ascending : ℕ → List Record → Type 0
+Ascending least [] = Unit {0}
+Ascending least (x ∷ xs) = (least ≤ x.number) × Ascending (suc x.number) xs
+
+-- the record that bears n
+abbrev pub record_at : ℕ → List Record → Option Record
+record_at n [] = None
+record_at n (x ∷ xs) = if nat_eq x.number n then Some x else record_at n xs
+
+-- some record bears n
+abbrev pub IsThere : ℕ → List Record → Type 0
+IsThere n xs = (x : Record) × IsIn x xs × (x.number ≡ n)
+
+-- each number is at least 1
+abbrev pub IsNumbered : List Record → Type 0
+IsNumbered xs = (x : Record) → IsIn x xs → 1 ≤ x.number
+
+-- the map with this record too. Where its number is there already, nothing changes
+abbrev pub with_record : Record → List Record → List Record
+with_record r [] = r ∷ []
+with_record r (x ∷ xs) =
+    if nat_lt r.number x.number then r ∷ x ∷ xs else (if nat_lt x.number r.number then x ∷ with_record r xs else x ∷ xs)
+
+-- the map with these records too, of which the first that bears a number counts
+abbrev pub with_records : List Record → List Record → List Record
+with_records [] journal = journal
+with_records (r ∷ rs) journal = with_records rs (with_record r journal)
+
+-- the records numbered below n
+abbrev pub below : ℕ → List Record → List Record
+below n [] = []
+below n (x ∷ xs) = if nat_lt x.number n then x ∷ below n xs else []
+
+-- the records whose numbers lie in the range
+abbrev pub in_range : Range → List Record → List Record
+in_range range xs = filter (λ x. nat_le range.first x.number && nat_le x.number range.last) xs
+
+-- the greatest number, 0 without records
+abbrev pub top_of : List Record → ℕ
+top_of xs = greatest (λ x. x.number) xs

@@ -1,0 +1,13 @@
+-- What the private searches answer.
+use Rattle.std.specs.Prelude.{ℕ, suc, min, List, [], ◌∷◌, Option, Some, None, nat_lt, if◌then◌else◌}
+use Rattle.mx_journal.specs.declared.records.Record.{Record}
+
+-- how many records bear a number below n
+abbrev pub place : ℕ → List Record → ℕ
+place n [] = 0
+place n (x ∷ xs) = if nat_lt x.number n then suc (place n xs) else 0
+
+-- the lower of the two, where there are two
+abbrev pub lower_of : Option ℕ → ℕ → ℕ
+lower_of None n = n
+lower_of (Some m) n = min m n

@@ -1,0 +1,166 @@
+//! The journal of a node: the records that it knows, by their numbers.
+
+ghost use Rattle.std.specs.Prelude.{ℕ, ◌≡◌, ◌+◌, ◌≤◌, ◌<◌, ◌↔◌, ◌++◌, ◌⊎◌, [], List, Some, None, Ok, Err, IsOk, IsTrue, IfOk, OnErr, MatchOption, length, slice_get, take};
+ghost use Rattle.mx_journal.specs.Agreement.{AreAgreeing, IsConsistent, IsFirstConflict, IsOther};
+ghost use Rattle.mx_journal.specs.Gapless.{IsGapless, first_missing};
+ghost use Rattle.mx_journal.specs.Records.{Ascending, IsNumbered, IsThere, in_range, record_at, top_of, with_record, with_records};
+
+use crate::places::{find, gapless_in, insert, least_in, top_in};
+use crate::puts::{Put, PutFault, has_zero, insert_all, least_conflict};
+use crate::ranges::Range;
+use crate::records::Record;
+use arrayvec::ArrayVec;
+use std::alloc::{AllocError, Global};
+use std::marker::Model;
+
+/// How many records go into one answer of `records_in`.
+const RECORDS_AT_ONCE: usize = 4;
+
+/// A finite map from section numbers, 1 and above, to the records that bear them.
+#[derive(Drop)]
+pub struct Journal {
+    records: Vec<Record>,
+}
+
+impl Model for Journal {
+    ghost use Rattle.std.specs.Prelude.{List};
+    ghost use Rattle.mx_journal.specs.Records.{Ascending};
+    ghost use Rattle.mx_journal.specs.declared.records.Record.{Record};
+
+    ghost Value = { List Record };
+
+    ghost view = { λ j. j.records.items };
+
+    ghost invariant = { λ j. Ascending 1 j.records.items };
+}
+
+impl Journal {
+    /// A journal without records.
+    pub fn new(alloc: Global) -> Journal
+        ensures { result ≡ [] }
+    {
+        Journal {
+            records: Vec::new(alloc),
+        }
+    }
+
+    /// Puts a record. `Conflict` names its number, which another record bears; memory is asked for
+    /// only where the record is new.
+    pub fn put(&mut self, entry: Record) -> Result<Put, PutFault>
+        ensures zero { (result ≡ Err PutFault.ZeroNumber) ↔ (entry.number ≡ 0) }
+        ensures conflict { (n : ℕ) → (result ≡ Err (PutFault.Conflict n))
+            ↔ ((n ≡ entry.number) × IsOther entry (record_at n self.old)) }
+        ensures same { (result ≡ Ok Put.Same) ↔ (record_at entry.number self.old ≡ Some entry) }
+        ensures new { (result ≡ Ok Put.New) → self.new ≡ with_record entry self.old }
+        ensures fresh { ((result ≡ Ok Put.New) ⊎ (result ≡ Err PutFault.Memory))
+            ↔ ((1 ≤ entry.number) × (record_at entry.number self.old ≡ None)) }
+        ensures kept { (result ≡ Ok Put.New) ⊎ (self.new ≡ self.old) }
+    {
+        let records = &mut self.records;
+        if entry.number == 0 {
+            return Err(PutFault::ZeroNumber);
+        }
+        if let Some(there) = find(records, entry.number) {
+            return if there.is(&entry) {
+                Ok(Put::Same)
+            } else {
+                Err(PutFault::Conflict(entry.number))
+            };
+        }
+        records.reserve(1)?;
+        insert(records, entry);
+        Ok(Put::New)
+    }
+
+    /// Puts all records of a list, or none where one of them can't be put, and answers how many
+    /// were new. A record may stand in the list more than once. `Conflict` names the least number
+    /// that two differing records bear, be they of the list or one of the journal. `Memory` comes
+    /// only where there is no other fault. A list that ascends takes time by its length; in one
+    /// that doesn't, the records are compared with one another.
+    pub fn put_all(&mut self, list: &[Record]) -> Result<u64, PutFault>
+        ensures zero { (result ≡ Err PutFault.ZeroNumber) ↔ IsThere 0 list.now }
+        ensures conflict { (n : ℕ) → (result ≡ Err (PutFault.Conflict n))
+            ↔ (IsNumbered list.now × IsFirstConflict n (self.old ++ list.now)) }
+        ensures agreed { (IsOk result ⊎ (result ≡ Err PutFault.Memory))
+            ↔ (IsNumbered list.now × IsConsistent (self.old ++ list.now)) }
+        ensures ok { IfOk result (λ k. (self.new ≡ with_records list.now self.old)
+            × (length self.new ≡ length self.old + k)) }
+        ensures err { OnErr result (self.new ≡ self.old) }
+    {
+        if has_zero(list) {
+            return Err(PutFault::ZeroNumber);
+        }
+        if let Some(number) = least_conflict(&self.records, list) {
+            return Err(PutFault::Conflict(number));
+        }
+        self.records.reserve(list.len())?;
+        Ok(insert_all(&mut self.records, list))
+    }
+
+    /// Takes the records of an agreeing journal too, and answers how many were new. Memory is asked
+    /// for once, before anything changes.
+    pub fn join(&mut self, other: &Journal) -> Result<u64, AllocError>
+        requires { AreAgreeing self.old other.now }
+        ensures ok { IfOk result (λ k. (self.new ≡ with_records other.now self.old)
+            × (length self.new ≡ length self.old + k)) }
+        ensures err { OnErr result (self.new ≡ self.old) }
+    {
+        self.records.reserve(other.records.len())?;
+        Ok(insert_all(&mut self.records, &other.records))
+    }
+
+    /// The record that bears the number.
+    pub fn get(&self, number: u64) -> Option<&Record>
+        ensures { MatchOption result (record_at number self.now ≡ None)
+            (λ found. record_at number self.now ≡ Some found.now) }
+    {
+        find(&self.records, number)
+    }
+
+    /// The record at a place, from 0 on, in order of number.
+    pub fn record(&self, place: usize) -> &Record
+        requires { place < length self.now }
+        ensures { slice_get self.now place ≡ Some result.now }
+    {
+        &self.records[place]
+    }
+
+    /// How many records it has.
+    pub fn len(&self) -> usize
+        ensures value { result ≡ length self.now }
+        // what every journal keeps: the numbers ascend, from 1 on
+        ensures ordered { Ascending 1 self.now }
+    {
+        self.records.len()
+    }
+
+    /// Whether it has none.
+    pub fn is_empty(&self) -> bool
+        ensures { IsTrue result ↔ (self.now ≡ []) }
+    {
+        self.records.is_empty()
+    }
+
+    /// The greatest number that a record bears, 0 where there is no record.
+    pub fn top(&self) -> u64
+        ensures { result ≡ top_of self.now }
+    {
+        top_in(&self.records)
+    }
+
+    /// The greatest number up to which none is missing: all of 1 to it are there.
+    pub fn gapless_to(&self) -> u64
+        ensures all { IsGapless result self.now }
+        ensures next { record_at (result + 1) self.now ≡ None }
+        ensures value { result + 1 ≡ first_missing 1 self.now }
+    {
+        gapless_in(&self.records)
+    }
+
+    /// The records in a range, ascending, or the least four where there are more.
+    pub fn records_in(&self, range: Range) -> ArrayVec<Record, RECORDS_AT_ONCE>
+        ensures { result.items ≡ take 4 (in_range range self.now) }
+    {
+        least_in(&self.records, range)
+    }
+}

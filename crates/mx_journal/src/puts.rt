@@ -1,0 +1,152 @@
+//! What a journal answers to records, and the conflicts among them.
+
+ghost use Rattle.std.specs.Prelude.{◌≡◌, ◌+◌, ◌≤◌, ◌↔◌, ◌++◌, IsTrue, IsFalse, IfSome, IfNone, length, vec_len, vec_capacity};
+ghost use Rattle.mx_stamps.specs.Lists.{IsIn};
+ghost use Rattle.mx_journal.specs.Agreement.{AgreesWith, IsConsistent, IsFirstConflict, IsOpposed};
+ghost use Rattle.mx_journal.specs.Searches.{lower_of};
+ghost use Rattle.mx_journal.specs.Records.{Ascending, IsNumbered, IsThere, with_records};
+
+use crate::places::{find, insert, is_there};
+use crate::records::Record;
+use std::alloc::AllocError;
+use thiserror::Error;
+
+/// What `Journal::put` found.
+#[derive(Clone, Copy, Debug, PartialEq, Eq)]
+pub enum Put {
+    /// Nothing bore the number, and now the record does.
+    New,
+    /// This very record was there.
+    Same,
+}
+
+/// Why a journal takes nothing.
+#[derive(Clone, Copy, Debug, PartialEq, Eq, Error)]
+pub enum PutFault {
+    #[error("a record bears the number 0")]
+    ZeroNumber,
+    #[error("another record bears {0}")]
+    Conflict(u64),
+    #[error("out of memory")]
+    Memory,
+}
+
+impl From<AllocError> for PutFault {
+    ghost use Rattle.mx_journal.specs.declared.puts.PutFault.TheVariants.{Memory};
+    ghost use Rattle.std.specs.Prelude.{◌≡◌};
+
+    ghost from_gives = { λ _ fault. fault ≡ Memory };
+
+    fn from(_refused: AllocError) -> PutFault {
+        PutFault::Memory
+    }
+}
+
+/// Whether some record bears the number 0, which no section has.
+pub(crate) fn has_zero(list: &[Record]) -> bool
+    ensures there { IsTrue result ↔ IsThere 0 list.now }
+    ensures numbered { IsFalse result → IsNumbered list.now }
+{
+    for entry in list {
+        if entry.number == 0 {
+            return true;
+        }
+    }
+    false
+}
+
+/// Whether the numbers ascend strictly, from 1 on.
+fn ascends(list: &[Record]) -> bool
+    ensures { IsTrue result ↔ Ascending 1 list.now }
+{
+    let mut last = 0;
+    for entry in list {
+        if entry.number <= last {
+            return false;
+        }
+        last = entry.number;
+    }
+    true
+}
+
+/// Whether each record of the list that bears the record's number is that record.
+fn agrees_in(list: &[Record], entry: &Record) -> bool
+    ensures agrees { IsTrue result → AgreesWith entry.now list.now }
+    ensures opposed { IsFalse result → IsOpposed entry.now list.now }
+{
+    for other in list {
+        if other.number == entry.number && !other.is(entry) {
+            return false;
+        }
+    }
+    true
+}
+
+/// The same, in a list that ascends, by one search.
+fn agrees_at_place(records: &[Record], entry: &Record) -> bool
+    requires { Ascending 1 records.now }
+    ensures agrees { IsTrue result → AgreesWith entry.now records.now }
+    ensures opposed { IsFalse result → IsOpposed entry.now records.now }
+{
+    match find(records, entry.number) {
+        Some(there) => there.is(entry),
+        None => true,
+    }
+}
+
+/// The same, in a journal's records and a list to which the record belongs. A list that is in order
+/// has no conflict in itself.
+fn agrees_in_both(records: &[Record], list: &[Record], in_order: bool, entry: &Record) -> bool
+    requires ascending { Ascending 1 records.now }
+    requires ordered { IsTrue in_order → Ascending 1 list.now }
+    requires member { IsIn entry.now list.now }
+    ensures agrees { IsTrue result → AgreesWith entry.now (records.now ++ list.now) }
+    ensures opposed { IsFalse result → IsOpposed entry.now (records.now ++ list.now) }
+{
+    agrees_at_place(records, entry) && (in_order || agrees_in(list, entry))
+}
+
+/// The least number that two differing records bear, of the journal's records and the list's. Where
+/// the list ascends, the time is that of a search for each of its records; else each is compared
+/// with the whole list. It takes no memory.
+pub(crate) fn least_conflict(records: &[Record], list: &[Record]) -> Option<u64>
+    requires { Ascending 1 records.now }
+    ensures some { IfSome result (λ n. IsFirstConflict n (records.now ++ list.now)) }
+    ensures none { IfNone result (IsConsistent (records.now ++ list.now)) }
+{
+    let in_order = ascends(list);
+    let mut least = None;
+    for entry in list {
+        if !agrees_in_both(records, list, in_order, entry) {
+            least = Some(lower(least, entry.number));
+        }
+    }
+    least
+}
+
+/// The lower of the two, where there are two.
+fn lower(least: Option<u64>, number: u64) -> u64
+    ensures { result ≡ lower_of least number }
+{
+    match least {
+        Some(other) => other.min(number),
+        None => number,
+    }
+}
+
+/// Puts each record of the list that is not there yet, and answers how many were not.
+pub(crate) fn insert_all(records: &mut Vec<Record>, list: &[Record]) -> u64
+    requires ascending { Ascending 1 records.old.items }
+    requires numbered { IsNumbered list.now }
+    requires room { vec_len records.old + length list.now ≤ vec_capacity records.old }
+    ensures items { records.new.items ≡ with_records list.now records.old.items }
+    ensures count { vec_len records.new ≡ vec_len records.old + result }
+{
+    let before = records.len();
+    for entry in list {
+        if !is_there(records, entry.number) {
+            insert(records, entry.copy());
+        }
+    }
+    (records.len() - before) as u64
+}

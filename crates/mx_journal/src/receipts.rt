@@ -1,0 +1,63 @@
+//! Receipts: what closed sections read and wrote.
+
+ghost use Rattle.std.specs.Prelude.{◌≡◌};
+ghost use Rattle.mx_journal.specs.Drafted.{record_of};
+
+use crate::records::{Record, Write, copy_of_writes};
+use arrayvec::ArrayVec;
+use mx_stamps::NodeId;
+
+/// A read of a value from a register, after so many writes of its own section.
+#[derive(Clone, Copy, Debug, Default, PartialEq, Eq)]
+pub struct Read {
+    pub register: u8,
+    pub value: u64,
+    pub after: u8,
+}
+
+/// The reads and the writes of a closed section, each in order, with the section's number and the
+/// node that was inside.
+#[derive(Debug, Default, PartialEq, Eq, Drop)]
+pub struct Receipt {
+    pub number: u64,
+    pub node: NodeId,
+    pub reads: ArrayVec<Read, 8>,
+    pub writes: ArrayVec<Write, 8>,
+}
+
+impl Receipt {
+    /// The receipt without its reads.
+    pub fn to_record(&self) -> Record
+        ensures { result ≡ record_of self.now }
+    {
+        let writes = copy_of_writes(&self.writes);
+        Record {
+            number: self.number,
+            node: self.node,
+            writes,
+        }
+    }
+
+    /// An equal receipt.
+    pub fn copy(&self) -> Receipt
+        ensures { result ≡ self.now }
+    {
+        Receipt {
+            number: self.number,
+            node: self.node,
+            reads: copy_of_reads(&self.reads),
+            writes: copy_of_writes(&self.writes),
+        }
+    }
+}
+
+/// An equal list.
+pub(crate) fn copy_of_reads(reads: &ArrayVec<Read, 8>) -> ArrayVec<Read, 8>
+    ensures { result ≡ reads.now }
+{
+    let mut copy = ArrayVec::new();
+    for read in reads.as_slice() {
+        copy.push(*read);
+    }
+    copy
+}

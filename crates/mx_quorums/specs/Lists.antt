@@ -1,0 +1,79 @@
+-- Sets that are given as lists of members.
+use Rattle.std.specs.Prelude.{ℕ, ◌<◌, ◌≤◌, ◌≡◌, ◌≢◌, ◌⊎◌, ◌↔◌, true, List, [], map, length, slice_index_or, nat_le, find, Some, Vec}
+use Rattle.std.specs.declared.alloc.Global.{Global}
+use Rattle.mx_stamps.specs.Lists.{IsIn}
+use Rattle.mx_quorums.specs.Family.{Family, has_of}
+use Rattle.mx_quorums.specs.Rules.{IsLeast, AllOwn, AllMeet, IsFirstNotOwn, IsFirstApart}
+use Rattle.mx_quorums.specs.declared.fault.QuorumFault.{QuorumFault}
+use Rattle.mx_quorums.specs.declared.fault.QuorumFault.TheVariants.{NoNodes, TooMany, EmptySet, Stranger, NotOwnMember, Apart, NoPlane}
+
+-- the members of each vector
+abbrev pub lists_of : List (Vec ℕ Global) → List (List ℕ)
+lists_of vectors = map (λ v. v.items) vectors
+
+-- the list of node i, empty where there is no such node
+abbrev pub list_of : List (List ℕ) → ℕ → List ℕ
+list_of lists i = slice_index_or lists i []
+
+-- node j is in the list of node i
+abbrev pub IsListed : List (List ℕ) → ℕ → ℕ → Type 0
+IsListed lists i j = IsIn j (list_of lists i)
+
+-- as many lists as a cluster may have nodes
+abbrev pub IsCounted : List (List ℕ) → Type 0
+IsCounted lists = (0 < length lists) × (length lists ≤ 21)
+
+abbrev pub NoneEmpty : List (List ℕ) → Type 0
+NoneEmpty lists = (i : ℕ) → i < length lists → list_of lists i ≢ []
+
+-- each member is a node
+abbrev pub AllNodes : List (List ℕ) → Type 0
+AllNodes lists = (i j : ℕ) → i < length lists → IsListed lists i j → j < length lists
+
+-- the lists are a meeting family of 1 to 21 nodes
+pub record AreMeeting (lists : List (List ℕ)) : Type 0 where
+  pub counted : IsCounted lists
+  pub filled : NoneEmpty lists
+  pub nodes : AllNodes lists
+  pub own : AllOwn (IsListed lists) (length lists)
+  pub meet : AllMeet (IsListed lists) (length lists)
+
+-- the family has the lists as its sets
+pub record IsFamilyOf (lists : List (List ℕ)) (f : Family) : Type 0 where
+  pub count : f.count ≡ length lists
+  pub sets : (i j : ℕ) → (has_of f i j ≡ true) ↔ IsListed lists i j
+
+abbrev pub IsFirstEmpty : List (List ℕ) → ℕ → Type 0
+IsFirstEmpty lists i = IsLeast (λ k. list_of lists k ≡ []) (length lists) i
+
+-- i is the least node with a member that is no node, and j the first such member of its list
+abbrev pub IsFirstStranger : List (List ℕ) → ℕ → ℕ → Type 0
+IsFirstStranger lists i j =
+    IsLeast (λ k. (m : ℕ) × IsListed lists k m × (length lists ≤ m)) (length lists) i
+    × (find (nat_le (length lists)) (list_of lists i) ≡ Some j)
+
+-- the first rule that the lists break, in the order of the faults, at its least witness
+abbrev pub IsFirstFault : List (List ℕ) → QuorumFault → Type 0
+IsFirstFault lists NoNodes = length lists ≡ 0
+IsFirstFault lists TooMany = 21 < length lists
+IsFirstFault lists (EmptySet i) = IsCounted lists × IsFirstEmpty lists i
+IsFirstFault lists (Stranger i j) = IsCounted lists × NoneEmpty lists × IsFirstStranger lists i j
+IsFirstFault lists (NotOwnMember i) =
+    IsCounted lists × NoneEmpty lists × AllNodes lists
+    × IsFirstNotOwn (IsListed lists) (length lists) i
+IsFirstFault lists (Apart i j) =
+    IsCounted lists × NoneEmpty lists × AllNodes lists × AllOwn (IsListed lists) (length lists)
+    × IsFirstApart (IsListed lists) (length lists) i j
+IsFirstFault lists (NoPlane n) = ⊥
+
+-- what the check of the count finds, and the checks of the members
+abbrev pub IsCountFault : ℕ → QuorumFault → Type 0
+IsCountFault count fault =
+    ((fault ≡ NoNodes) × (count ≡ 0)) ⊎ ((fault ≡ TooMany) × (21 < count))
+
+abbrev pub IsEmptyFault : List (List ℕ) → QuorumFault → Type 0
+IsEmptyFault lists fault = (i : ℕ) × (fault ≡ EmptySet i) × IsFirstEmpty lists i
+
+abbrev pub IsStrangerFault : List (List ℕ) → QuorumFault → Type 0
+IsStrangerFault lists fault =
+    (i : ℕ) × (j : ℕ) × (fault ≡ Stranger i j) × IsFirstStranger lists i j

@@ -1,0 +1,98 @@
+//! The check that any two sets meet, the same for sets of each kind.
+
+ghost use Rattle.std.specs.Prelude.{◌≡◌, ℕ, ◌<◌, ◌≤◌, ◌↔◌, MatchOption, MatchResult};
+ghost use Rattle.mx_quorums.specs.Rules.{IsLeast, AllOwn, AllMeet, MeetsAll, IsFirstNotOwn, IsFirstApart, IsFirstApartOf};
+ghost use Rattle.mx_quorums.specs.Rows.{IsMember, BothMark, IsFirstRowFault};
+ghost use Rattle.mx_quorums.specs.Lists.{IsCountFault};
+
+use crate::fault::QuorumFault;
+use mx_stamps::NodeId;
+
+/// The members of a set, by node.
+pub type Row = [bool; 21];
+
+/// The set of each node. The rows past the last node are empty.
+pub type Rows = [Row; 21];
+
+/// The number of nodes, where it is from 1 to 21.
+pub fn node_count(count: usize) -> Result<u8, QuorumFault>
+    ensures { MatchResult result (λ n. (n ≡ count) × (0 < n) × (n ≤ 21)) (λ fault. IsCountFault count fault) }
+{
+    match count {
+        0 => Err(QuorumFault::NoNodes),
+        1..=21 => Ok(count as u8),
+        _ => Err(QuorumFault::TooMany),
+    }
+}
+
+/// The least node of both sets.
+pub fn first_common(a: &Row, b: &Row) -> Option<NodeId>
+    ensures { MatchOption result
+        ((k : ℕ) → BothMark a.now b.now k → ⊥)
+        (λ k. IsLeast (BothMark a.now b.now) 21 k) }
+{
+    for k in 0..21u8 {
+        if a[k as usize] && b[k as usize] {
+            return NodeId::of(k);
+        }
+    }
+    None
+}
+
+/// The least node whose set does not meet that of node i.
+fn first_apart(nodes: u8, rows: &Rows, i: u8) -> Option<u8>
+    requires few { nodes ≤ 21 }
+    requires node { i < nodes }
+    ensures { MatchOption result
+        (MeetsAll (IsMember rows.now) nodes i)
+        (λ j. IsFirstApartOf (IsMember rows.now) nodes i j) }
+{
+    for j in 0..nodes {
+        let Some(_) = first_common(&rows[i as usize], &rows[j as usize]) else {
+            return Some(j);
+        };
+    }
+    None
+}
+
+/// Each node is in its own set.
+fn check_own(nodes: u8, rows: &Rows) -> Result<(), QuorumFault>
+    requires { nodes ≤ 21 }
+    ensures { MatchResult result
+        (λ _. AllOwn (IsMember rows.now) nodes)
+        (λ fault. IsFirstRowFault nodes rows.now fault) }
+{
+    for i in 0..nodes {
+        if !rows[i as usize][i as usize] {
+            return Err(QuorumFault::NotOwnMember(i));
+        }
+    }
+    Ok(())
+}
+
+/// Any two sets meet.
+fn check_pairs(nodes: u8, rows: &Rows) -> Result<(), QuorumFault>
+    requires few { nodes ≤ 21 }
+    requires own { AllOwn (IsMember rows.now) nodes }
+    ensures { MatchResult result
+        (λ _. AllMeet (IsMember rows.now) nodes)
+        (λ fault. IsFirstRowFault nodes rows.now fault) }
+{
+    for i in 0..nodes {
+        if let Some(j) = first_apart(nodes, rows, i) {
+            return Err(QuorumFault::Apart(i, j));
+        }
+    }
+    Ok(())
+}
+
+/// Each node is in its own set, and any two sets meet.
+pub fn check(nodes: u8, rows: &Rows) -> Result<(), QuorumFault>
+    requires { nodes ≤ 21 }
+    ensures { MatchResult result
+        (λ _. AllOwn (IsMember rows.now) nodes × AllMeet (IsMember rows.now) nodes)
+        (λ fault. IsFirstRowFault nodes rows.now fault) }
+{
+    check_own(nodes, rows)?;
+    check_pairs(nodes, rows)
+}

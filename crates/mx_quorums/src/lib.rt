@@ -1,0 +1,15 @@
+//! Sets of arbiters of which any two meet (Maekawa 1985).
+#![tactic(auto)]
+
+mod check;
+mod fault;
+mod lines;
+mod lists;
+mod quorums;
+mod shifts;
+
+pub use fault::QuorumFault;
+pub use quorums::Quorums;
+
+#[cfg(test)]
+mod tests;

@@ -1,0 +1,72 @@
+//! Sets that are given as lists of members.
+
+ghost use Rattle.std.specs.Prelude.{◌≡◌, ℕ, ◌<◌, ◌≤◌, ◌↔◌, MatchResult, find, nat_le, length};
+ghost use Rattle.mx_quorums.specs.Lists.{lists_of, list_of, IsListed, NoneEmpty, AllNodes, IsFirstEmpty, IsFirstStranger, IsEmptyFault, IsStrangerFault};
+ghost use Rattle.mx_quorums.specs.Rows.{Marks, MarksLists};
+ghost use Rattle.mx_stamps.specs.Lists.{IsIn};
+
+use crate::check::{Row, Rows};
+use crate::fault::QuorumFault;
+
+/// No set is empty.
+pub fn check_filled(sets: &[Vec<u8>]) -> Result<(), QuorumFault>
+    requires { length sets.now ≤ 21 }
+    ensures { MatchResult result
+        (λ _. NoneEmpty (lists_of sets.now))
+        (λ fault. IsEmptyFault (lists_of sets.now) fault) }
+{
+    for (i, set) in sets.iter().enumerate() {
+        if set.is_empty() {
+            return Err(QuorumFault::EmptySet(i as u8));
+        }
+    }
+    Ok(())
+}
+
+/// The first member that is no node.
+fn first_stranger(set: &[u8], nodes: u8) -> Option<u8>
+    ensures { result ≡ find (nat_le nodes) set.now }
+{
+    set.iter().copied().find(|j| nodes <= *j)
+}
+
+/// Each member is a node.
+pub fn check_members(sets: &[Vec<u8>], nodes: u8) -> Result<(), QuorumFault>
+    requires count { nodes ≡ length sets.now }
+    requires few { length sets.now ≤ 21 }
+    ensures { MatchResult result
+        (λ _. AllNodes (lists_of sets.now))
+        (λ fault. IsStrangerFault (lists_of sets.now) fault) }
+{
+    for (i, set) in sets.iter().enumerate() {
+        if let Some(j) = first_stranger(set, nodes) {
+            return Err(QuorumFault::Stranger(i as u8, j));
+        }
+    }
+    Ok(())
+}
+
+/// The row of a list of nodes.
+fn row_of(set: &[u8]) -> Row
+    requires { (j : ℕ) → IsIn j set.now → j < 21 }
+    ensures { Marks result set.now }
+{
+    let mut row = [false; 21];
+    for j in set {
+        row[*j as usize] = true;
+    }
+    row
+}
+
+/// The rows of lists of nodes.
+pub fn rows_of(sets: &[Vec<u8>]) -> Rows
+    requires few { length sets.now ≤ 21 }
+    requires nodes { AllNodes (lists_of sets.now) }
+    ensures { MarksLists result (lists_of sets.now) }
+{
+    let mut rows = [[false; 21]; 21];
+    for (i, set) in sets.iter().enumerate() {
+        rows[i] = row_of(set);
+    }
+    rows
+}

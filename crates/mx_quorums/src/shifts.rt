@@ -1,0 +1,49 @@
+//! The shifted difference sets of a plane.
+
+ghost use Rattle.std.specs.Prelude.{◌≡◌, ℕ, ◌<◌, ◌≤◌, ◌↔◌, MatchOption, length};
+ghost use Rattle.mx_stamps.specs.Lists.{IsIn};
+ghost use Rattle.mx_quorums.specs.Rows.{IsMarked, IsMember};
+ghost use Rattle.mx_quorums.specs.Shapes.{IsPlaneSize, difference_set, IsShifted};
+
+use crate::check::{Row, Rows};
+
+/// Numbers of which each number below n is a difference modulo n.
+pub fn differences(n: u8) -> Option<&'static [u8]>
+    ensures { MatchOption result (IsPlaneSize n → ⊥) (λ d. IsPlaneSize n × (d.now ≡ difference_set n)) }
+{
+    match n {
+        7 => Some(&[0, 1, 3]),
+        13 => Some(&[0, 1, 3, 9]),
+        21 => Some(&[0, 1, 4, 14, 16]),
+        _ => None,
+    }
+}
+
+/// Node i plus each of the differences, modulo n.
+fn shifted(n: u8, differences: &[u8], i: u8) -> Row
+    requires some { 0 < n }
+    requires few { n ≤ 21 }
+    requires node { i < n }
+    requires small { (d : ℕ) → IsIn d differences.now → d < n }
+    ensures { (j : ℕ) → IsMarked result j ↔ IsShifted n differences.now i j }
+{
+    let mut row = [false; 21];
+    for d in differences {
+        row[((i + *d) % n) as usize] = true;
+    }
+    row
+}
+
+/// Each node plus each of the differences, modulo n.
+pub fn plane_rows(n: u8, differences: &[u8]) -> Rows
+    requires some { 0 < n }
+    requires few { n ≤ 21 }
+    requires small { (d : ℕ) → IsIn d differences.now → d < n }
+    ensures { (i j : ℕ) → IsMember result i j ↔ ((i < n) × IsShifted n differences.now i j) }
+{
+    let mut rows = [[false; 21]; 21];
+    for i in 0..n {
+        rows[i as usize] = shifted(n, differences, i);
+    }
+    rows
+}

@@ -1,0 +1,123 @@
+//! The one node, and its calls.
+
+use mx_letters::Outbox;
+use mx_nodelaws::{AskFault, EnterFault, Exclusion, LeaveFault, Phase};
+use mx_stamps::{NodeId, Stamp};
+use std::marker::Model;
+
+/// A cluster of one node. There is nothing else to know of it.
+#[derive(Clone, Copy, Debug, PartialEq, Eq)]
+pub struct One;
+
+/// The one node.
+#[derive(Drop)]
+pub struct Solo {
+    me: NodeId,
+    limit: u64,
+    phase: Phase,
+    mine: u64,
+}
+
+impl Model for Solo {
+    ghost use Rattle.std.specs.Prelude.{◌≤◌};
+    ghost use Rattle.mx_nodelaws.specs.Core.{BearsNumber};
+    ghost use Rattle.mx_solo.specs.Node.{Node};
+
+    ghost Value = { Node };
+
+    ghost view = { λ s. record { me = s.me; limit = s.limit; phase = s.phase; mine = s.mine } };
+
+    ghost invariant = { λ s. (s.mine ≤ 1000000) × (s.limit ≤ 1000000) × BearsNumber s.phase };
+}
+
+impl Exclusion for Solo {
+    // it has no letters: a number stands for one
+    type Msg = u8;
+
+    type Shape = One;
+
+    ghost use Rattle.mx_solo.specs.Step.{solo_core};
+    ghost use Rattle.mx_solo.specs.Good.{IsOne, IsGood};
+    ghost use Rattle.mx_solo.specs.Laws.{solo_phases, solo_laws};
+
+    ghost core = { solo_core 1 };
+
+    ghost IsShape = { IsOne };
+
+    ghost Good = { IsGood };
+
+    ghost phases = { solo_phases 1 };
+
+    ghost laws = { solo_laws };
+
+    fn nodes(shape: &One) -> u8 {
+        let _ = shape;
+        1
+    }
+
+    fn start(shape: &One, me: NodeId, origin: u64, limit: u64) -> Self {
+        let _ = shape;
+        let _ = origin;
+        Solo {
+            me,
+            limit,
+            phase: Phase::Idle,
+            mine: 0,
+        }
+    }
+
+    fn ask(&mut self, out: &mut Outbox<u8>) -> Result<Stamp, AskFault> {
+        let _ = out;
+        if !matches!(self.phase, Phase::Idle) {
+            return Err(AskFault::NotIdle);
+        }
+        self.phase = Phase::Waiting;
+        Ok(Stamp {
+            number: self.mine,
+            node: self.me,
+        })
+    }
+
+    fn deliver(&mut self, from: NodeId, letter: u8, out: &mut Outbox<u8>) {
+        let _ = from;
+        let _ = letter;
+        let _ = out;
+    }
+
+    fn can_enter(&self) -> bool {
+        matches!(self.phase, Phase::Waiting)
+    }
+
+    fn enter(&mut self) -> Result<u64, EnterFault> {
+        if !matches!(self.phase, Phase::Waiting) {
+            return Err(EnterFault::NotWaiting);
+        }
+        if self.mine >= self.limit {
+            return Err(EnterFault::NumbersSpent);
+        }
+        self.mine += 1;
+        self.phase = Phase::Inside(self.mine);
+        Ok(self.mine)
+    }
+
+    fn leave(&mut self, out: &mut Outbox<u8>) -> Result<u64, LeaveFault> {
+        let _ = out;
+        let Phase::Inside(number) = self.phase else {
+            return Err(LeaveFault::NotInside);
+        };
+        self.phase = Phase::Idle;
+        Ok(number)
+    }
+
+    fn tick(&mut self, out: &mut Outbox<u8>) {
+        let _ = out;
+    }
+
+    fn phase(&self) -> Phase {
+        self.phase
+    }
+
+    fn mine(&self) -> u64 {
+        self.mine
+    }
+}
