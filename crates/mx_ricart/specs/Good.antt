@@ -1,0 +1,102 @@
+-- The worlds that are reached from the start.
+use Rattle.std.specs.Prelude.{ℕ, ◌<◌, ◌≤◌, ◌^◌, ◌≡◌, ◌≢◌, true, Some, length}
+use Rattle.mx_stamps.specs.declared.stamp.Stamp.{Stamp}
+use Rattle.mx_stamps.specs.Stamp.{Before}
+use Rattle.mx_letters.specs.declared.ricart.RicartMsg.{RicartMsg}
+use Rattle.mx_letters.specs.declared.ricart.RicartMsg.TheVariants.{Request, Reply}
+use Rattle.mx_nodelaws.specs.World.{World, IsNode, WasSent}
+use Rattle.mx_nodelaws.specs.declared.phase.Phase.{Phase}
+use Rattle.mx_nodelaws.specs.declared.phase.Phase.TheVariants.{Idle, Waiting, Inside}
+use Rattle.mx_ricart.specs.Node.{Node}
+use Rattle.mx_ricart.specs.Step.{is_busy, has_reply, deferred_at}
+
+-- node s has a current stamp
+abbrev pub IsBusy : Node → Type 0
+IsBusy s = is_busy s.phase ≡ true
+
+-- node i has seen this number
+abbrev pub HasSeen : World Node RicartMsg → ℕ → ℕ → Type 0
+HasSeen w i number = (s : Node) → IsNode w i s → number ≤ s.highest
+
+-- some node has entered a section of this number or a later one
+abbrev pub IsReached : World Node RicartMsg → ℕ → Type 0
+IsReached w n = (j : ℕ) × (t : Node) × (IsNode w j t) × (n ≤ t.mine)
+
+-- what holds of each node
+pub record IsNodeOk (w : World Node RicartMsg) (i : ℕ) (s : Node) : Type 0 where
+  pub me : s.me ≡ i
+  pub count : s.count ≡ length w.nodes
+  -- a current stamp is the node's own, and its clock has seen it
+  pub ours_node : IsBusy s → s.ours.node ≡ i
+  pub ours_seen : IsBusy s → s.ours.number ≤ s.highest
+  -- the node knows its own sections, and no section that nobody has entered
+  pub mine_top : s.mine ≤ s.top
+  pub top_reached : IsReached w s.top
+  -- who is inside has every reply
+  pub inside_has : (n : ℕ) → s.phase ≡ Inside n → (j : ℕ) → j < length w.nodes → j ≢ i → has_reply s j ≡ true
+  -- each reply that counts was sent, for the current stamp
+  pub replies : IsBusy s → (j : ℕ) → has_reply s j ≡ true → (top : ℕ) × (WasSent w j i (Reply s.ours top)) × (top ≤ s.top)
+  -- a request that waits is one of that node, and both clocks have seen it
+  pub waits : (j : ℕ) (d : Stamp) → deferred_at s j ≡ Some d → (j ≢ i) × (d.node ≡ j) × (d.number ≤ s.highest) × HasSeen w j d.number
+
+-- what holds of each request that was sent: its sender has drawn its stamp
+pub record IsRequestOk (w : World Node RicartMsg) (a : ℕ) (stamp : Stamp) : Type 0 where
+  pub node : stamp.node ≡ a
+  pub issued : HasSeen w a stamp.number
+
+-- what holds of each reply that was sent
+pub record IsReplyOk (w : World Node RicartMsg) (a b : ℕ) (stamp : Stamp) (top : ℕ) : Type 0 where
+  pub other : a ≢ b
+  -- both clocks have seen the stamp
+  pub issued : HasSeen w b stamp.number
+  pub seen : HasSeen w a stamp.number
+  -- it tells of no section that nobody has entered
+  pub reached : IsReached w top
+  -- while the stamp is current, its sender has entered no section since, and has no current stamp before it
+  pub stands : (s t : Node) → IsNode w a s → IsNode w b t → IsBusy t → t.ours ≡ stamp → (s.mine ≤ top) × (IsBusy s → Before stamp s.ours)
+
+abbrev pub IsLetterOk : World Node RicartMsg → ℕ → ℕ → RicartMsg → Type 0
+IsLetterOk w a b (Request stamp) = IsRequestOk w a stamp
+IsLetterOk w a b (Reply stamp top) = IsReplyOk w a b stamp top
+
+-- each node and each letter is as above
+pub record IsSafe (w : World Node RicartMsg) : Type 0 where
+  pub nodes : (i : ℕ) (s : Node) → IsNode w i s → IsNodeOk w i s
+  pub letters : (a b : ℕ) (m : RicartMsg) → WasSent w a b m → IsLetterOk w a b m
+
+-- a u64 value
+abbrev pub Small : ℕ → Type 0
+Small x = x < 2 ^ 64
+
+-- a stamp of one of n nodes
+abbrev pub PlainStamp : ℕ → Stamp → Type 0
+PlainStamp n stamp = Small stamp.number × (stamp.node < n)
+
+abbrev pub PlainLetter : ℕ → RicartMsg → Type 0
+PlainLetter n (Request stamp) = PlainStamp n stamp
+PlainLetter n (Reply stamp top) = PlainStamp n stamp × Small top
+
+abbrev pub PlainPhase : Phase → Type 0
+PlainPhase Idle = Unit {0}
+PlainPhase Waiting = Unit {0}
+PlainPhase (Inside n) = Small n
+
+pub record PlainNode (n : ℕ) (s : Node) : Type 0 where
+  pub me : s.me < n
+  pub count : s.count ≤ n
+  pub limit : Small s.limit
+  pub phase : PlainPhase s.phase
+  pub highest : Small s.highest
+  pub ours : PlainStamp n s.ours
+  pub waits : (j : ℕ) (d : Stamp) → deferred_at s j ≡ Some d → PlainStamp n d
+  pub top : Small s.top
+  pub mine : Small s.mine
+
+-- each number is a u64 value, and each name a node
+pub record PlainWorld (w : World Node RicartMsg) : Type 0 where
+  pub nodes : (i : ℕ) (s : Node) → IsNode w i s → PlainNode (length w.nodes) s
+  pub letters : (a b : ℕ) (m : RicartMsg) → WasSent w a b m → (a < length w.nodes) × (b < length w.nodes) × PlainLetter (length w.nodes) m
+
+pub record IsGood (w : World Node RicartMsg) : Type 0 where
+  pub safe : IsSafe w
+  pub plain : PlainWorld w

@@ -1,0 +1,15 @@
+-- Definitions: Node (the state), Step (the step table), Good (the invariant).
+-- Proofs: Tests (what the table's tests mean), Frame (what any step leaves as it was), Rows and
+-- Keeps (each row, and each call, keeps a world safe), Plain (and its numbers and names),
+-- Safety (exclusion and numbering), Promises (on phases), Laws (all together).
+pub mod Node
+pub mod Step
+pub mod Good
+pub mod Tests
+pub mod Frame
+pub mod Rows
+pub mod Keeps
+pub mod Plain
+pub mod Safety
+pub mod Promises
+pub mod Laws

@@ -1,0 +1,24 @@
+-- The state of a node.
+use Rattle.std.specs.Prelude.{ℕ, Bool, List, Option}
+use Rattle.mx_stamps.specs.declared.stamp.Stamp.{Stamp}
+use Rattle.mx_nodelaws.specs.declared.phase.Phase.{Phase}
+
+pub record Node : Type 0 where
+  pub me : ℕ
+  -- how many nodes there are
+  pub count : ℕ
+  -- the greatest section number
+  pub limit : ℕ
+  pub phase : Phase
+  -- the highest number of a stamp that it has seen or drawn
+  pub highest : ℕ
+  -- the stamp of its request, current while it waits or is inside
+  pub ours : Stamp
+  -- for each node, whether its reply to the current request counted
+  pub got : List Bool
+  -- for each node, its request that waits for an answer
+  pub deferred : List (Option Stamp)
+  -- the highest section number that it knows
+  pub top : ℕ
+  -- the number of the last section that it entered, 0 before the first
+  pub mine : ℕ

@@ -1,0 +1,95 @@
+-- In a safe world at most one node is inside, and who enters draws the next number.
+use Rattle.std.proofs.Common.{ℕ, ◌≤◌, ◌+◌, ◌≡◌, ◌≢◌, inl, inr, Bool, true, false, cond, Some, Result, Ok, Err, slice_get, nat_lt, refl, sym, ◌∙◌, ap, subst, arith}
+use Rattle.std.proofs.lemmas.Option.{same_Some, slice_get_within}
+use Rattle.mx_stamps.specs.Lists.{greatest}
+use Rattle.mx_stamps.proofs.Lists.{dec_eq, and_true, greatest_above, greatest_below}
+use Rattle.mx_letters.specs.declared.ricart.RicartMsg.{RicartMsg}
+use Rattle.mx_letters.specs.declared.ricart.RicartMsg.TheVariants.{Reply}
+use Rattle.mx_nodelaws.specs.World.{World, Quiet, IsNode}
+use Rattle.mx_nodelaws.specs.Core.{IsInside}
+use Rattle.mx_nodelaws.specs.Laws.{greatest_mine}
+use Rattle.mx_nodelaws.specs.declared.phase.Phase.{Phase}
+use Rattle.mx_nodelaws.specs.declared.phase.Phase.TheVariants.{Idle, Waiting, Inside}
+use Rattle.mx_nodelaws.specs.declared.faults.EnterFault.{EnterFault}
+use Rattle.mx_nodelaws.specs.declared.faults.EnterFault.TheVariants.{NotGranted, NumbersSpent}
+use Rattle.mx_ricart.specs.Node.{Node}
+use Rattle.mx_ricart.specs.Step.{is_busy, is_waiting, has_reply, HasAllReplies, has_all_replies, can_enter_of, entered, refused, enter_in, enter_of, ricart_core}
+use Rattle.mx_ricart.specs.Good.{IsBusy, IsReplyOk, IsSafe}
+use Rattle.mx_ricart.specs.Tests.{waiting_not_inside, waiting_is, before_apart, all_replies}
+use Rattle.mx_ricart.specs.Rows.{has_of_all}
+
+-- two nodes of which each has the other's reply, for current stamps, are one
+each_replied : (w : World Node RicartMsg) (i j : ℕ) (s t : Node) → IsSafe w → IsNode w i s → IsNode w j t → IsBusy s → IsBusy t → has_reply s j ≡ true → has_reply t i ≡ true → ⊥
+each_replied w i j s t good at bt busy_s busy_t has_s has_t =
+    let r = (good.nodes i s at).replies busy_s j has_s in
+    let q = (good.nodes j t bt).replies busy_t i has_t in
+    let a : IsReplyOk w j i s.ours r.0 = good.letters j i (Reply s.ours r.0) r.1 in
+    let b : IsReplyOk w i j t.ours q.0 = good.letters i j (Reply t.ours q.0) q.1 in
+    before_apart s.ours t.ours ((a.stands t s bt at busy_s refl).1 busy_t) ((b.stands s t at bt busy_t refl).1 busy_s)
+
+pub one_inside : (w : World Node RicartMsg) (i j : ℕ) (s t : Node) → IsSafe w → IsNode w i s → IsNode w j t → IsInside ricart_core s → IsInside ricart_core t → i ≡ j
+one_inside w i j s t good at bt (n, p) (m, q) = elim (dec_eq i j) [
+  | inl e ↦ e
+  | inr ne ↦ absurd (each_replied w i j s t good at bt (ap is_busy p) (ap is_busy q)
+      ((good.nodes i s at).inside_has n p j (slice_get_within w.nodes j t bt) (λ e. ne (sym e)))
+      ((good.nodes j t bt).inside_has m q i (slice_get_within w.nodes i s at) ne))
+]
+
+module _ (w : World Node RicartMsg) (i : ℕ) (s : Node) (good : IsSafe w) (at : IsNode w i s) (waiting : s.phase ≡ Waiting) (all : HasAllReplies s) where
+  -- a node at i is s
+  is_s : (j : ℕ) (t : Node) → j ≡ i → IsNode w j t → t ≡ s
+  is_s j t e bt = same_Some t s (sym bt ∙ subst (λ x. slice_get w.nodes x ≡ Some s) (sym e) at)
+
+  -- another node's reply counted
+  has_its_reply : (j : ℕ) (t : Node) → IsNode w j t → j ≢ i → has_reply s j ≡ true
+  has_its_reply j t bt ne = has_of_all w i s good at all j (slice_get_within w.nodes j t bt) ne
+
+  nobody_inside : (j : ℕ) (t : Node) → IsNode w j t → IsInside ricart_core t → ⊥
+  nobody_inside j t bt (n, inside) = elim (dec_eq j i) [
+    | inl e ↦ waiting_not_inside t.phase n (ap (λ x. x.phase) (is_s j t e bt) ∙ waiting) inside
+    | inr ne ↦ each_replied w i j s t good at bt (ap is_busy waiting) (ap is_busy inside)
+        (has_its_reply j t bt ne)
+        ((good.nodes j t bt).inside_has n inside i (slice_get_within w.nodes i s at) (λ e. ne (sym e)))
+  ]
+
+  -- no node has entered a section above its `top`
+  mine_below : (j : ℕ) (t : Node) → IsNode w j t → t.mine ≤ s.top
+  mine_below j t bt = elim (dec_eq j i) [
+    | inl e ↦ let same : t.mine ≡ s.mine = ap (λ x. x.mine) (is_s j t e bt) in let l = (good.nodes i s at).mine_top in omega arith
+    | inr ne ↦
+        let r = (good.nodes i s at).replies (ap is_busy waiting) j (has_its_reply j t bt ne) in
+        let a : IsReplyOk w j i s.ours r.0 = good.letters j i (Reply s.ours r.0) r.1 in
+        let k : t.mine ≤ r.0 = (a.stands t s bt at (ap is_busy waiting) refl).0 in
+        let l : r.0 ≤ s.top = r.2 in omega arith
+  ]
+
+  -- its `top` is the greatest number of all
+  top_greatest : greatest_mine ricart_core w ≡ s.top
+  top_greatest =
+      let below : greatest (λ x. x.mine) w.nodes ≤ s.top = greatest_below (λ x. x.mine) w.nodes s.top mine_below in
+      let q = (good.nodes i s at).top_reached in
+      let up : s.top ≤ q.1.mine = q.3 in
+      let g : q.1.mine ≤ greatest (λ x. x.mine) w.nodes = greatest_above (λ x. x.mine) w.nodes q.0 q.1 q.2 in
+      omega arith
+
+-- what an enter with every permission answers
+granted_answer : (a b : Bool) (x y z : Quiet Node (Result ℕ EnterFault)) → a ≡ true → (cond a (cond b x y) z).answer ≡ cond b x.answer y.answer
+granted_answer true true x y z e = refl
+granted_answer true false x y z e = refl
+granted_answer false b x y z e = let bad : ⊥ = cc in absurd bad
+
+entered_answer : (p : Phase) (s : Node) → p ≡ Waiting → has_all_replies s ≡ true → (enter_in p s).answer ≡ cond (nat_lt s.top s.limit) (Ok (s.top + 1)) (Err NumbersSpent)
+entered_answer Waiting s e all = granted_answer (has_all_replies s) (nat_lt s.top s.limit) (entered s) (refused s NumbersSpent) (refused s NotGranted) all
+entered_answer Idle s e all = let bad : ⊥ = cc in absurd bad
+entered_answer (Inside n) s e all = let bad : ⊥ = cc in absurd bad
+
+pub entry : (w : World Node RicartMsg) (i : ℕ) (s : Node) → IsSafe w → IsNode w i s → can_enter_of s ≡ true →
+    ((j : ℕ) (t : Node) → IsNode w j t → IsInside ricart_core t → ⊥)
+    × ((enter_of s).answer ≡ cond (nat_lt (greatest_mine ricart_core w) s.limit) (Ok (greatest_mine ricart_core w + 1)) (Err NumbersSpent))
+entry w i s good at can =
+    let p = and_true (is_waiting s.phase) (has_all_replies s) can in
+    let waiting = waiting_is s.phase p.0 in
+    let all = all_replies s p.1 in (
+      nobody_inside w i s good at waiting all,
+      subst (λ g. (enter_of s).answer ≡ cond (nat_lt g s.limit) (Ok (g + 1)) (Err NumbersSpent)) (sym (top_greatest w i s good at waiting all)) (entered_answer s.phase s waiting p.1),
+    )

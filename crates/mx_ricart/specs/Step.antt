@@ -1,0 +1,204 @@
+-- The step table: what each call makes of a node, what it answers and what it sends.
+use Rattle.std.specs.Prelude.{ℕ, zero, suc, ◌+◌, ◌<◌, ◌≤◌, ◌≡◌, ◌≢◌, Bool, true, false, ◌||◌, ◌&&◌, not, [], ◌∷◌, Option, Some, None, Result, Ok, Err, max, nat_lt, nat_eq, if◌then◌else◌, slice_index_or, slice_set, replicate}
+use Rattle.mx_stamps.specs.declared.stamp.Stamp.{Stamp}
+use Rattle.mx_stamps.specs.Stamp.{is_before_of, is_same_as}
+use Rattle.mx_letters.specs.declared.ricart.RicartMsg.{RicartMsg}
+use Rattle.mx_letters.specs.declared.ricart.RicartMsg.TheVariants.{Request, Reply}
+use Rattle.mx_nodelaws.specs.World.{Done, Quiet, addressed}
+use Rattle.mx_nodelaws.specs.Core.{Core}
+use Rattle.mx_nodelaws.specs.declared.phase.Phase.{Phase}
+use Rattle.mx_nodelaws.specs.declared.phase.Phase.TheVariants.{Idle, Waiting, Inside}
+use Rattle.mx_nodelaws.specs.declared.faults.AskFault.{AskFault}
+use Rattle.mx_nodelaws.specs.declared.faults.AskFault.TheVariants.{NotIdle, StampsSpent}
+use Rattle.mx_nodelaws.specs.declared.faults.EnterFault.{EnterFault}
+use Rattle.mx_nodelaws.specs.declared.faults.EnterFault.TheVariants.{NotWaiting, NotGranted, NumbersSpent}
+use Rattle.mx_nodelaws.specs.declared.faults.LeaveFault.{LeaveFault}
+use Rattle.mx_nodelaws.specs.declared.faults.LeaveFault.TheVariants.{NotInside}
+use Rattle.mx_ricart.specs.Node.{Node}
+
+-- how many nodes a cluster may have
+abbrev pub IsCount : ℕ → Type 0
+IsCount n = (0 < n) × (n ≤ 21)
+
+-- a node at rest: of the count, the node, the origin and the limit
+abbrev pub start_of : ℕ → ℕ → ℕ → ℕ → Node
+start_of count me origin limit = record {
+  me = me;
+  count = count;
+  limit = limit;
+  phase = Idle;
+  highest = origin;
+  ours = record { number = 0; node = me };
+  got = replicate 21 false;
+  deferred = replicate 21 None;
+  top = 0;
+  mine = 0;
+}
+
+-- a node that waits or is inside has a current stamp
+abbrev pub is_busy : Phase → Bool
+is_busy Idle = false
+is_busy Waiting = true
+is_busy (Inside n) = true
+
+abbrev pub is_waiting : Phase → Bool
+is_waiting Idle = false
+is_waiting Waiting = true
+is_waiting (Inside n) = false
+
+-- j is another node of the cluster
+abbrev pub is_other : Node → ℕ → Bool
+is_other s j = nat_lt j s.count && not (nat_eq j s.me)
+
+-- node j's reply counted
+abbrev pub has_reply : Node → ℕ → Bool
+has_reply s j = slice_index_or s.got j false
+
+-- the request of node j that waits for an answer
+abbrev pub deferred_at : Node → ℕ → Option Stamp
+deferred_at s j = slice_index_or s.deferred j None
+
+-- the permission: the reply of every other node counted
+abbrev pub HasAllReplies : Node → Type 0
+HasAllReplies s = (j : ℕ) → j < s.count → j ≢ s.me → has_reply s j ≡ true
+
+-- the same as a test, node by node below n
+abbrev pub has_replies_below : Node → ℕ → Bool
+has_replies_below s zero = true
+has_replies_below s (suc n) = has_replies_below s n && (nat_eq n s.me || has_reply s n)
+
+abbrev pub has_all_replies : Node → Bool
+has_all_replies s = has_replies_below s s.count
+
+-- a refusal, or a letter that no row fits: nothing changes and nothing is sent
+abbrev pub unchanged : {A : Type 0} → Node → A → Done Node A RicartMsg
+unchanged s answer = record { state = s; answer = answer; letters = [] }
+
+-- ask: the clock's next stamp, no reply yet, and a request to every other node
+abbrev pub asking : Node → Node
+asking s = record s { highest = s.highest + 1; ours = record { number = s.highest + 1; node = s.me }; got = replicate 21 false; phase = Waiting }
+
+abbrev pub request_others : Node → ℕ → Option RicartMsg
+request_others s j = if nat_eq j s.me then None else Some (Request s.ours)
+
+abbrev pub asked : Node → Done Node (Result Stamp AskFault) RicartMsg
+asked s = record { state = asking s; answer = Ok (asking s).ours; letters = addressed (request_others (asking s)) s.count }
+
+abbrev pub ask_in : Phase → Node → Done Node (Result Stamp AskFault) RicartMsg
+ask_in Idle s = if nat_lt s.highest 18446744073709551615 then asked s else unchanged s (Err StampsSpent)
+ask_in Waiting s = unchanged s (Err NotIdle)
+ask_in (Inside n) s = unchanged s (Err NotIdle)
+
+abbrev pub ask_of : Node → Done Node (Result Stamp AskFault) RicartMsg
+ask_of s = ask_in s.phase s
+
+-- a request comes: the clock sees its number
+abbrev pub seeing : Node → ℕ → Node
+seeing s number = record s { highest = max s.highest number }
+
+-- the greater of the request that waits, if there is one, and the new one
+abbrev pub later_of : Option Stamp → Stamp → Stamp
+later_of None stamp = stamp
+later_of (Some old) stamp = if is_before_of old stamp then stamp else old
+
+-- it has to wait
+abbrev pub deferring : Node → Stamp → Node
+deferring s stamp = record s { deferred = slice_set s.deferred stamp.node (Some (later_of (deferred_at s stamp.node) stamp)) }
+
+-- it is answered
+abbrev pub replied : Node → Stamp → Done Node (Unit {0}) RicartMsg
+replied s stamp = record { state = s; answer = tt; letters = (stamp.node, Reply stamp s.top) ∷ [] }
+
+-- it has to wait where our own request is current and comes first
+abbrev pub take_request : Node → Stamp → Done Node (Unit {0}) RicartMsg
+take_request s stamp =
+    if is_busy s.phase && is_before_of s.ours stamp
+    then unchanged (deferring (seeing s stamp.number) stamp) tt
+    else replied (seeing s stamp.number) stamp
+
+-- a reply comes: it counts once, while we wait, where it bears the current stamp
+abbrev pub counting : Node → ℕ → ℕ → Node
+counting s from top = record s { got = slice_set s.got from true; top = max s.top top }
+
+abbrev pub take_reply : Node → ℕ → Stamp → ℕ → Done Node (Unit {0}) RicartMsg
+take_reply s from stamp top =
+    if is_waiting s.phase && (is_same_as stamp s.ours && not (has_reply s from))
+    then unchanged (counting s from top) tt
+    else unchanged s tt
+
+-- both come from another node, and the stamp of a request is of its sender
+abbrev pub deliver_of : ℕ → RicartMsg → Node → Done Node (Unit {0}) RicartMsg
+deliver_of from (Request stamp) s = if is_other s from && nat_eq stamp.node from then take_request s stamp else unchanged s tt
+deliver_of from (Reply stamp top) s = if is_other s from then take_reply s from stamp top else unchanged s tt
+
+abbrev pub can_enter_of : Node → Bool
+can_enter_of s = is_waiting s.phase && has_all_replies s
+
+-- enter: the section's number is one above the highest that the node knows
+abbrev pub entering : Node → Node
+entering s = record s { top = s.top + 1; mine = s.top + 1; phase = Inside (s.top + 1) }
+
+abbrev pub entered : Node → Quiet Node (Result ℕ EnterFault)
+entered s = record { state = entering s; answer = Ok (s.top + 1) }
+
+abbrev pub refused : Node → EnterFault → Quiet Node (Result ℕ EnterFault)
+refused s fault = record { state = s; answer = Err fault }
+
+abbrev pub enter_granted : Node → Quiet Node (Result ℕ EnterFault)
+enter_granted s = if nat_lt s.top s.limit then entered s else refused s NumbersSpent
+
+abbrev pub enter_in : Phase → Node → Quiet Node (Result ℕ EnterFault)
+enter_in Idle s = refused s NotWaiting
+enter_in Waiting s = if has_all_replies s then enter_granted s else refused s NotGranted
+enter_in (Inside n) s = refused s NotWaiting
+
+abbrev pub enter_of : Node → Quiet Node (Result ℕ EnterFault)
+enter_of s = enter_in s.phase s
+
+-- leave: each request that waits is answered
+abbrev pub leaving : Node → Node
+leaving s = record s { phase = Idle; deferred = replicate 21 None }
+
+abbrev pub reply_to : Option Stamp → ℕ → Option RicartMsg
+reply_to None top = None
+reply_to (Some stamp) top = Some (Reply stamp top)
+
+abbrev pub reply_deferred : Node → ℕ → Option RicartMsg
+reply_deferred s j = reply_to (deferred_at s j) s.top
+
+abbrev pub left : Node → ℕ → Done Node (Result ℕ LeaveFault) RicartMsg
+left s n = record { state = leaving s; answer = Ok n; letters = addressed (reply_deferred s) s.count }
+
+abbrev pub leave_in : Phase → Node → Done Node (Result ℕ LeaveFault) RicartMsg
+leave_in Idle s = unchanged s (Err NotInside)
+leave_in Waiting s = unchanged s (Err NotInside)
+leave_in (Inside n) s = left s n
+
+abbrev pub leave_of : Node → Done Node (Result ℕ LeaveFault) RicartMsg
+leave_of s = leave_in s.phase s
+
+-- tick: a waiting node sends its request again to each other node whose reply is missing
+abbrev pub request_missing : Node → ℕ → Option RicartMsg
+request_missing s j = if nat_eq j s.me || has_reply s j then None else Some (Request s.ours)
+
+abbrev pub ticked : Node → Done Node (Unit {0}) RicartMsg
+ticked s = record { state = s; answer = tt; letters = addressed (request_missing s) s.count }
+
+abbrev pub tick_of : Node → Done Node (Unit {0}) RicartMsg
+tick_of s = if is_waiting s.phase then ticked s else unchanged s tt
+
+-- the whole table
+abbrev pub ricart_core : Core ℕ Node RicartMsg
+ricart_core = record {
+  count = λ count. count;
+  start = start_of;
+  phase = λ s. s.phase;
+  mine = λ s. s.mine;
+  limit = λ s. s.limit;
+  can_enter = can_enter_of;
+  ask = ask_of;
+  deliver = deliver_of;
+  enter = enter_of;
+  leave = leave_of;
+  tick = tick_of;
+}

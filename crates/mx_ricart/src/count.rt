@@ -1,0 +1,47 @@
+//! How many nodes a cluster has.
+
+ghost use Rattle.std.specs.Prelude.{◌≡◌, ◌<◌, ◌≤◌, ◌↔◌, IsSome, IfSome};
+
+use mx_stamps::MAX_NODES;
+use std::marker::Model;
+
+/// How many nodes a cluster has, from 1 to 21.
+#[derive(Clone, Copy, Debug, PartialEq, Eq)]
+pub struct Count {
+    nodes: u8,
+}
+
+impl Model for Count {
+    ghost use Rattle.std.specs.Prelude.{ℕ, ◌<◌, ◌≤◌};
+
+    ghost Value = { ℕ };
+
+    ghost view = { λ c. c.nodes };
+
+    ghost invariant = { λ c. (0 < c.nodes) × (c.nodes ≤ 21) };
+
+    ghost inverse = { λ n. record { nodes = n } };
+}
+
+impl Count {
+    /// This many nodes, where a cluster may have so many.
+    pub fn of(nodes: u8) -> Option<Count>
+        ensures some { IsSome result ↔ ((0 < nodes) × (nodes ≤ 21)) }
+        ensures value { IfSome result (λ c. c ≡ nodes) }
+    {
+        if nodes > 0 && nodes <= MAX_NODES {
+            Some(Count { nodes })
+        } else {
+            None
+        }
+    }
+
+    /// How many.
+    pub fn get(self) -> u8
+        ensures value { result ≡ self }
+        ensures low { 0 < result }
+        ensures high { result ≤ 21 }
+    {
+        self.nodes
+    }
+}

@@ -1,0 +1,127 @@
+//! The calls of a node.
+
+use crate::count::Count;
+use crate::ricart::Ricart;
+use mx_letters::{Outbox, RicartMsg};
+use mx_nodelaws::{AskFault, EnterFault, Exclusion, LeaveFault, Phase};
+use mx_stamps::{Clock, NodeId, Stamp};
+
+impl Exclusion for Ricart {
+    type Msg = RicartMsg;
+
+    type Shape = Count;
+
+    ghost use Rattle.std.specs.Prelude.{◌≡◌, ◌↔◌, IsTrue};
+    ghost use Rattle.mx_nodelaws.specs.declared.phase.Phase.TheVariants.{Waiting};
+    ghost use Rattle.mx_ricart.specs.Step.{ricart_core, IsCount, HasAllReplies, can_enter_of};
+    ghost use Rattle.mx_ricart.specs.Good.{IsGood};
+    ghost use Rattle.mx_ricart.specs.Promises.{ricart_phases};
+    ghost use Rattle.mx_ricart.specs.Laws.{ricart_laws};
+
+    ghost core = { ricart_core };
+
+    ghost IsShape = { IsCount };
+
+    ghost Good = { IsGood };
+
+    ghost phases = { ricart_phases };
+
+    ghost laws = { ricart_laws };
+
+    fn nodes(shape: &Count) -> u8 {
+        shape.get()
+    }
+
+    fn start(shape: &Count, me: NodeId, origin: u64, limit: u64) -> Self {
+        Ricart {
+            me,
+            count: *shape,
+            limit,
+            phase: Phase::Idle,
+            highest: Clock::at(origin),
+            ours: Stamp {
+                number: 0,
+                node: me,
+            },
+            got: [false; 21],
+            deferred: [None; 21],
+            top: 0,
+            mine: 0,
+        }
+    }
+
+    fn ask(&mut self, out: &mut Outbox<RicartMsg>) -> Result<Stamp, AskFault> {
+        if !matches!(self.phase, Phase::Idle) {
+            return Err(AskFault::NotIdle);
+        }
+        let Some(ours) = self.highest.next(self.me) else {
+            return Err(AskFault::StampsSpent);
+        };
+        self.ours = ours;
+        self.got = [false; 21];
+        self.phase = Phase::Waiting;
+        self.send_requests(out);
+        Ok(ours)
+    }
+
+    fn deliver(&mut self, from: NodeId, letter: RicartMsg, out: &mut Outbox<RicartMsg>) {
+        if self.is_other(from) {
+            match letter {
+                RicartMsg::Request(stamp) => {
+                    if stamp.node.get() == from.get() {
+                        self.take_request(stamp, out);
+                    }
+                }
+                RicartMsg::Reply(stamp, top) => self.take_reply(from, stamp, top),
+            }
+        }
+    }
+
+    fn can_enter(&self) -> bool
+        ensures value { result ≡ can_enter_of self.now }
+        ensures granted { IsTrue result ↔ ((self.now.phase ≡ Waiting) × HasAllReplies self.now) }
+    {
+        matches!(self.phase, Phase::Waiting) && self.has_all_replies()
+    }
+
+    fn enter(&mut self) -> Result<u64, EnterFault> {
+        if !matches!(self.phase, Phase::Waiting) {
+            return Err(EnterFault::NotWaiting);
+        }
+        if !self.has_all_replies() {
+            return Err(EnterFault::NotGranted);
+        }
+        if self.top >= self.limit {
+            return Err(EnterFault::NumbersSpent);
+        }
+        self.top += 1;
+        self.mine = self.top;
+        self.phase = Phase::Inside(self.top);
+        Ok(self.top)
+    }
+
+    fn leave(&mut self, out: &mut Outbox<RicartMsg>) -> Result<u64, LeaveFault> {
+        let Phase::Inside(number) = self.phase else {
+            return Err(LeaveFault::NotInside);
+        };
+        self.send_replies(out);
+        self.phase = Phase::Idle;
+        let none = [None; 21];
+        self.deferred = none;
+        Ok(number)
+    }
+
+    fn tick(&mut self, out: &mut Outbox<RicartMsg>) {
+        if matches!(self.phase, Phase::Waiting) {
+            self.send_missing(out);
+        }
+    }
+
+    fn phase(&self) -> Phase {
+        self.phase
+    }
+
+    fn mine(&self) -> u64 {
+        self.mine
+    }
+}

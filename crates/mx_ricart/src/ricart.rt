@@ -1,0 +1,150 @@
+//! A node, and the rows of its step table.
+
+ghost use Rattle.std.specs.Prelude.{◌≡◌, ◌≤◌, []};
+ghost use Rattle.mx_ricart.specs.Step.{later_of};
+
+use crate::count::Count;
+use mx_letters::{Outbox, RicartMsg};
+use mx_nodelaws::Phase;
+use mx_stamps::{Clock, NodeId, Stamp};
+use std::marker::Model;
+
+/// A node of the algorithm. Its calls are those of `Exclusion`.
+#[derive(Drop)]
+pub struct Ricart {
+    pub(crate) me: NodeId,
+    pub(crate) count: Count,
+    pub(crate) limit: u64,
+    pub(crate) phase: Phase,
+    pub(crate) highest: Clock,
+    pub(crate) ours: Stamp,
+    pub(crate) got: [bool; 21],
+    pub(crate) deferred: [Option<Stamp>; 21],
+    pub(crate) top: u64,
+    pub(crate) mine: u64,
+}
+
+impl Model for Ricart {
+    ghost use Rattle.std.specs.Prelude.{◌≤◌};
+    ghost use Rattle.mx_nodelaws.specs.Core.{BearsNumber};
+    ghost use Rattle.mx_ricart.specs.Node.{Node};
+
+    ghost Value = { Node };
+
+    ghost view = { λ r. record { me = r.me; count = r.count; limit = r.limit; phase = r.phase; highest = r.highest; ours = r.ours; got = r.got; deferred = r.deferred; top = r.top; mine = r.mine } };
+
+    ghost invariant = { λ r. (r.mine ≤ 1000000) × (r.limit ≤ 1000000) × BearsNumber r.phase };
+}
+
+impl Ricart {
+    ghost use Rattle.std.specs.Prelude.{◌≡◌, ◌↔◌, [], IsTrue};
+    ghost use Rattle.mx_nodelaws.specs.World.{addressed};
+    ghost use Rattle.mx_ricart.specs.Step.{is_busy, is_other, HasAllReplies, has_all_replies, request_others, request_missing, reply_deferred, take_request, take_reply};
+
+    /// Whether this is another node of the cluster.
+    pub(crate) fn is_other(&self, node: NodeId) -> bool
+        ensures { result ≡ is_other self.now node }
+    {
+        node.get() < self.count.get() && node.get() != self.me.get()
+    }
+
+    /// Whether it has a current stamp.
+    fn is_busy(&self) -> bool
+        ensures { result ≡ is_busy self.now.phase }
+    {
+        !matches!(self.phase, Phase::Idle)
+    }
+
+    /// Whether the reply of every other node counted.
+    pub(crate) fn has_all_replies(&self) -> bool
+        ensures value { result ≡ has_all_replies self.now }
+        ensures all { IsTrue result ↔ HasAllReplies self.now }
+    {
+        let mut all = true;
+        for i in 0..self.count.get() {
+            if i != self.me.get() && !self.got[i as usize] {
+                all = false;
+            }
+        }
+        all
+    }
+
+    /// Our request to every other node.
+    pub(crate) fn send_requests(&self, out: &mut Outbox<RicartMsg>)
+        requires { out.old ≡ [] }
+        ensures { out.new ≡ addressed (request_others self.now) self.now.count }
+    {
+        for i in 0..self.count.get() {
+            if let Some(to) = NodeId::of(i) {
+                if i != self.me.get() {
+                    out.add(to, RicartMsg::Request(self.ours));
+                }
+            }
+        }
+    }
+
+    /// Our request to every other node whose reply is missing.
+    pub(crate) fn send_missing(&self, out: &mut Outbox<RicartMsg>)
+        requires { out.old ≡ [] }
+        ensures { out.new ≡ addressed (request_missing self.now) self.now.count }
+    {
+        for i in 0..self.count.get() {
+            if let Some(to) = NodeId::of(i) {
+                if i != self.me.get() && !self.got[i as usize] {
+                    out.add(to, RicartMsg::Request(self.ours));
+                }
+            }
+        }
+    }
+
+    /// A reply to each request that waits.
+    pub(crate) fn send_replies(&self, out: &mut Outbox<RicartMsg>)
+        requires { out.old ≡ [] }
+        ensures { out.new ≡ addressed (reply_deferred self.now) self.now.count }
+    {
+        for i in 0..self.count.get() {
+            if let Some(to) = NodeId::of(i) {
+                if let Some(stamp) = self.deferred[i as usize] {
+                    out.add(to, RicartMsg::Reply(stamp, self.top));
+                }
+            }
+        }
+    }
+
+    /// A request comes, of another node. It waits where ours is current and comes first.
+    pub(crate) fn take_request(&mut self, stamp: Stamp, out: &mut Outbox<RicartMsg>)
+        requires { out.old ≡ [] }
+        ensures state { self.new ≡ (take_request self.old stamp).state }
+        ensures letters { out.new ≡ (take_request self.old stamp).letters }
+    {
+        let from = stamp.node;
+        self.highest.see(stamp.number);
+        if self.is_busy() && self.ours.is_before(&stamp) {
+            let index = from.get() as usize;
+            self.deferred[index] = Some(later(&self.deferred[index], stamp));
+        } else {
+            out.add(from, RicartMsg::Reply(stamp, self.top));
+        }
+    }
+
+    /// A reply comes, of another node. It counts once, for the current stamp.
+    pub(crate) fn take_reply(&mut self, from: NodeId, stamp: Stamp, top: u64)
+        ensures { self.new ≡ (take_reply self.old from stamp top).state }
+    {
+        let index = from.get() as usize;
+        if matches!(self.phase, Phase::Waiting) && stamp.is(&self.ours) && !self.got[index] {
+            self.got[index] = true;
+            self.top = self.top.max(top);
+        }
+    }
+}
+
+/// The greater of the request that waits, if there is one, and the new one.
+fn later(waiting: &Option<Stamp>, stamp: Stamp) -> Stamp
+    ensures { result ≡ later_of waiting.now stamp }
+{
+    match *waiting {
+        Some(old) => { if old.is_before(&stamp) { stamp } else { old } }
+        None => stamp,
+    }
+}
