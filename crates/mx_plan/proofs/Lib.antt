@@ -1,0 +1,4 @@
+pub mod Lists
+pub mod EventLemmas
+pub mod Values
+pub mod PlanLemmas

@@ -1,0 +1,114 @@
+//! A plan for Ricart and Agrawala's algorithm.
+
+ghost use Rattle.std.specs.Prelude.{◌≡◌, ◌<◌, ◌≤◌, IfSome, length, option_map, slice_get};
+ghost use Rattle.mx_plan.specs.Fields.{node_of, register_of};
+
+use crate::names::Names;
+use mx_ricart::Count;
+use mx_stamps::NodeId;
+use std::marker::Model;
+
+/// What a cluster is made of: the names of its nodes, 1 to 21, and of the registers that they
+/// guard, 1 to 32, the greatest section number and the number at which stamps start.
+#[derive(Drop)]
+pub struct Plan {
+    pub(crate) nodes: Names,
+    pub(crate) registers: Names,
+    pub(crate) sections: u64,
+    pub(crate) origin: u64,
+}
+
+impl Model for Plan {
+    ghost use Rattle.mx_plan.specs.Fields.{Fields, IsPlan};
+
+    ghost Value = { Fields };
+
+    ghost view = { λ p. record {
+      nodes = p.nodes;
+      registers = p.registers;
+      sections = p.sections;
+      origin = p.origin;
+    } };
+
+    ghost invariant = { λ p. IsPlan (record {
+      nodes = p.nodes;
+      registers = p.registers;
+      sections = p.sections;
+      origin = p.origin;
+    }) };
+}
+
+impl Plan {
+    /// The shape of the cluster: how many nodes it has.
+    pub fn shape(&self) -> Count
+        ensures value { result ≡ length self.now.nodes }
+    {
+        Count::of(self.nodes()).unwrap()
+    }
+
+    /// How many nodes the cluster has.
+    pub fn nodes(&self) -> u8
+        ensures value { result ≡ length self.now.nodes }
+        ensures low { 0 < result }
+        ensures high { result ≤ 21 }
+    {
+        self.nodes.len() as u8
+    }
+
+    /// How many registers the nodes guard.
+    pub fn registers(&self) -> u8
+        ensures value { result ≡ length self.now.registers }
+        ensures low { 0 < result }
+        ensures high { result ≤ 32 }
+    {
+        self.registers.len() as u8
+    }
+
+    /// The greatest number that a section may bear.
+    pub fn sections(&self) -> u64
+        ensures value { result ≡ self.now.sections }
+        ensures low { 1 ≤ result }
+        ensures high { result ≤ 1000000 }
+    {
+        self.sections
+    }
+
+    /// The number at which stamps start.
+    pub fn origin(&self) -> u64
+        ensures value { result ≡ self.now.origin }
+    {
+        self.origin
+    }
+
+    /// The name of the node of this number.
+    pub fn node_name(&self, index: u8) -> Option<&str>
+        ensures value { option_map (λ s. s.now) result ≡ slice_get self.now.nodes index }
+    {
+        self.nodes.get(usize::from(index))
+    }
+
+    /// The name of the register of this number.
+    pub fn register_name(&self, index: u8) -> Option<&str>
+        ensures value { option_map (λ s. s.now) result ≡ slice_get self.now.registers index }
+    {
+        self.registers.get(usize::from(index))
+    }
+
+    /// The node of this name.
+    pub fn node(&self, name: &str) -> Option<NodeId>
+        ensures value { result ≡ node_of self.now name.now }
+        ensures within { IfSome result (λ n. n < length self.now.nodes) }
+    {
+        let index = self.nodes.index_of(name)?;
+        NodeId::of(index as u8)
+    }
+
+    /// The number of the register of this name.
+    pub fn register(&self, name: &str) -> Option<u8>
+        ensures value { result ≡ register_of self.now name.now }
+        ensures within { IfSome result (λ r. r < length self.now.registers) }
+    {
+        let index = self.registers.index_of(name)?;
+        Some(index as u8)
+    }
+}

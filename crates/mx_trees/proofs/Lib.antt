@@ -1,0 +1,8 @@
+pub mod Booleans
+pub mod Paths
+pub mod Counts
+pub mod Listed
+pub mod Rows
+pub mod Grown
+pub mod Ways
+pub mod Faults

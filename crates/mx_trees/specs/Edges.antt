@@ -1,0 +1,61 @@
+-- A tree by the list of its edges, and what is wrong with a list that is none.
+use Rattle.std.specs.Prelude.{ℕ, ◌+◌, ◌<◌, ◌≤◌, ◌≡◌, ◌≢◌, ◌⊎◌, ◌↔◌, List, length, slice_index_or}
+use Rattle.mx_stamps.specs.Lists.{IsIn}
+use Rattle.mx_trees.specs.declared.fault.TreeFault.{TreeFault}
+use Rattle.mx_trees.specs.declared.fault.TreeFault.TheVariants.{NoNodes, TooMany, BadEdge, WrongCount, NotJoined, BadHolder}
+use Rattle.mx_trees.specs.Paths.{IsJoined}
+use Rattle.mx_trees.specs.Tree.{Rooted, IsNear}
+
+-- the edge between nodes i and j is listed, from one end or the other
+abbrev pub IsLinked : List (ℕ × ℕ) → ℕ → ℕ → Type 0
+IsLinked edges i j = IsIn (i, j) edges ⊎ IsIn (j, i) edges
+
+-- an edge between two different nodes of n
+abbrev pub IsEdge : ℕ → ℕ × ℕ → Type 0
+IsEdge n e = (e.0 < n) × (e.1 < n) × (e.0 ≢ e.1)
+
+-- the first k of the list are edges between two different nodes of n
+abbrev pub AreEdges : ℕ → ℕ → List (ℕ × ℕ) → Type 0
+AreEdges n k edges = (m : ℕ) → m < k → IsEdge n (slice_index_or edges m (0, 0))
+
+-- the first k nodes have a path to node 0
+abbrev pub AreJoined : ℕ → List (ℕ × ℕ) → Type 0
+AreJoined k edges = (i : ℕ) → i < k → IsJoined (IsLinked edges) i 0
+
+-- 1 to 21 nodes, n - 1 edges between different nodes, a path from every node to node 0
+pub record IsTree (n : ℕ) (edges : List (ℕ × ℕ)) : Type 0 where
+  pub some : 0 < n
+  pub few : n ≤ 21
+  pub linked : AreEdges n (length edges) edges
+  pub count : length edges + 1 ≡ n
+  pub joined : AreJoined n edges
+
+-- the rooted tree of n nodes, these edges and this holder
+pub record IsTreeOf (n : ℕ) (edges : List (ℕ × ℕ)) (holder : ℕ) (t : Rooted) : Type 0 where
+  pub count : t.count ≡ n
+  pub root : t.holder ≡ holder
+  pub near : (i j : ℕ) → IsNear t i j ↔ IsLinked edges i j
+
+-- the least k whose edge has an end that is no node, or equal ends
+abbrev pub IsFirstBadEdge : ℕ → List (ℕ × ℕ) → ℕ → Type 0
+IsFirstBadEdge n edges k =
+    (k < length edges) × AreEdges n k edges × (IsEdge n (slice_index_or edges k (0, 0)) → ⊥)
+
+-- the least node i without a path to node 0
+abbrev pub IsFirstUnjoined : ℕ → List (ℕ × ℕ) → ℕ → Type 0
+IsFirstUnjoined n edges i =
+    (i < n) × AreJoined i edges × (IsJoined (IsLinked edges) i 0 → ⊥)
+
+-- the number of nodes, and all edges, are as in a tree
+abbrev pub AreEdgesOf : ℕ → List (ℕ × ℕ) → Type 0
+AreEdgesOf n edges = (0 < n) × (n ≤ 21) × AreEdges n (length edges) edges
+
+-- the first thing that is wrong, in the order of the faults: all that comes before it is right
+abbrev pub IsFirstFault : ℕ → List (ℕ × ℕ) → ℕ → TreeFault → Type 0
+IsFirstFault n edges holder NoNodes = n ≡ 0
+IsFirstFault n edges holder TooMany = 21 < n
+IsFirstFault n edges holder (BadEdge k) = (0 < n) × (n ≤ 21) × IsFirstBadEdge n edges k
+IsFirstFault n edges holder WrongCount = AreEdgesOf n edges × (length edges + 1 ≢ n)
+IsFirstFault n edges holder (NotJoined i) =
+    AreEdgesOf n edges × (length edges + 1 ≡ n) × IsFirstUnjoined n edges i
+IsFirstFault n edges holder BadHolder = IsTree n edges × (n ≤ holder)

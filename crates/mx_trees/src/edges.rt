@@ -1,0 +1,49 @@
+//! The checks of a list of edges, and the neighbours that it makes.
+
+ghost use Rattle.std.specs.Prelude.{ℕ, ◌≡◌, ◌≤◌, ◌↔◌, true, false, [], length, slice_index_or, IfNone, IfSome};
+ghost use Rattle.mx_trees.specs.Edges.{IsLinked, AreEdges, AreJoined, IsFirstBadEdge, IsFirstUnjoined};
+
+use crate::growth::Growth;
+
+/// The first edge with an end that is no node, or with equal ends.
+pub fn bad_edge(nodes: u8, edges: &[(u8, u8)]) -> Option<u64>
+    ensures none { IfNone result (AreEdges nodes (length edges.now) edges.now) }
+    ensures some { IfSome result (λ k. IsFirstBadEdge nodes edges.now k) }
+{
+    for (k, &(a, b)) in edges.iter().enumerate() {
+        if a >= nodes || b >= nodes || a == b {
+            return Some(k as u64);
+        }
+    }
+    None
+}
+
+/// The first node with no path to node 0.
+pub fn unjoined(nodes: u8, edges: &[(u8, u8)]) -> Option<u8>
+    requires few { nodes ≤ 21 }
+    requires edges { AreEdges 21 (length edges.now) edges.now }
+    ensures none { IfNone result (AreJoined nodes edges.now) }
+    ensures some { IfSome result (λ i. IsFirstUnjoined nodes edges.now i) }
+{
+    let growth = Growth::from(edges, 0);
+    for i in 0..nodes {
+        if !growth.has(i) {
+            return Some(i);
+        }
+    }
+    None
+}
+
+/// For each node which are its neighbours.
+pub fn neighbours(edges: &[(u8, u8)]) -> [[bool; 21]; 21]
+    requires { AreEdges 21 (length edges.now) edges.now }
+    ensures { (i j : ℕ) →
+        (slice_index_or (slice_index_or result i []) j false ≡ true) ↔ IsLinked edges.now i j }
+{
+    let mut rows = [[false; 21]; 21];
+    for &(a, b) in edges {
+        rows[a as usize][b as usize] = true;
+        rows[b as usize][a as usize] = true;
+    }
+    rows
+}

@@ -1,0 +1,75 @@
+//! A tree that grows from its root along the edges of a graph, as far as they lead.
+
+ghost use Rattle.std.specs.Prelude.{ℕ, ◌≡◌, ◌<◌, List, length, IfNone, IfSome};
+ghost use Rattle.mx_trees.specs.Edges.{AreEdges};
+ghost use Rattle.mx_trees.specs.Growth.{is_reached, with_node, IsGrown, IsClosed, IsCrossing};
+
+/// Which nodes have been reached, and from which node each.
+#[derive(Clone, Copy)]
+pub struct Growth {
+    pub reached: [bool; 21],
+    pub next: [u8; 21],
+}
+
+impl Growth {
+    /// The root alone.
+    fn at(root: u8) -> Growth
+        requires { root < 21 }
+        ensures { (edges : List (ℕ × ℕ)) → IsGrown edges root result }
+    {
+        let mut reached = [false; 21];
+        reached[root as usize] = true;
+        Growth {
+            reached,
+            next: [root; 21],
+        }
+    }
+
+    /// All that these edges join to the root.
+    pub fn from(edges: &[(u8, u8)], root: u8) -> Growth
+        requires edges { AreEdges 21 (length edges.now) edges.now }
+        requires root { root < 21 }
+        ensures grown { IsGrown edges.now root result }
+        ensures closed { IsClosed edges.now result }
+    {
+        let mut growth = Growth::at(root);
+        while let Some((near, far)) = growth.crossing(edges) {
+            growth.add(near, far);
+        }
+        growth
+    }
+
+    /// Whether it has reached this node.
+    pub fn has(&self, i: u8) -> bool
+        requires { i < 21 }
+        ensures { result ≡ is_reached self.now i }
+    {
+        self.reached[i as usize]
+    }
+
+    /// An edge that leads out of it: the end that it has reached, and the other.
+    fn crossing(&self, edges: &[(u8, u8)]) -> Option<(u8, u8)>
+        requires { AreEdges 21 (length edges.now) edges.now }
+        ensures none { IfNone result (IsClosed edges.now self.now) }
+        ensures some { IfSome result (λ e. IsCrossing edges.now self.now e.0 e.1) }
+    {
+        for &(a, b) in edges {
+            if self.has(a) && !self.has(b) {
+                return Some((a, b));
+            }
+            if self.has(b) && !self.has(a) {
+                return Some((b, a));
+            }
+        }
+        None
+    }
+
+    /// Reaches one more node.
+    fn add(&mut self, near: u8, far: u8)
+        requires { far < 21 }
+        ensures { self.new ≡ with_node self.old near far }
+    {
+        self.reached[far as usize] = true;
+        self.next[far as usize] = near;
+    }
+}
