@@ -1,0 +1,162 @@
+-- The arbiter's rows of the step table.
+use Rattle.std.specs.Prelude.{ℕ, zero, suc, ◌+◌, ◌<◌, ◌≡◌, Bool, false, ◌||◌, ◌&&◌, List, [], ◌∷◌, Option, Some, None, max, nat_lt, nat_eq, if◌then◌else◌, slice_index_or, slice_set, replicate}
+use Rattle.mx_stamps.specs.declared.stamp.Stamp.{Stamp}
+use Rattle.mx_stamps.specs.Stamp.{Before, is_before_of, is_same_as}
+use Rattle.mx_letters.specs.declared.maekawa.MaekawaMsg.{MaekawaMsg}
+use Rattle.mx_letters.specs.declared.maekawa.MaekawaMsg.TheVariants.{Locked, Failed, Inquire}
+use Rattle.mx_nodelaws.specs.World.{Done}
+use Rattle.mx_maekawa.specs.declared.lock.Lock.{Lock}
+use Rattle.mx_maekawa.specs.Node.{ArbiterState}
+
+-- an arbiter at rest: of the count and the origin
+abbrev pub start_arbiter : ℕ → ℕ → ArbiterState
+start_arbiter count origin = record { count = count; lock = None; granted = origin; waiting = replicate 21 None; ended = replicate 21 origin; last = 0 }
+
+-- the request of node j that waits for a grant
+abbrev pub waiting_at : ArbiterState → ℕ → Option Stamp
+waiting_at a j = slice_index_or a.waiting j None
+
+-- the greatest number of node j's stamps that are known to have ended
+abbrev pub ended_at : ArbiterState → ℕ → ℕ
+ended_at a j = slice_index_or a.ended j 0
+
+-- the lesser of two requests, as far as they are there
+abbrev pub lesser : Option Stamp → Option Stamp → Option Stamp
+lesser None y = y
+lesser (Some x) None = Some x
+lesser (Some x) (Some y) = if is_before_of y x then Some y else Some x
+
+-- the least of the requests f 0, f 1, .., below n, as far as they are there
+abbrev pub IsLeastOf : (ℕ → Option Stamp) → ℕ → Option Stamp → Type 0
+IsLeastOf f n None = (j : ℕ) → j < n → f j ≡ None
+IsLeastOf f n (Some u) = ((j : ℕ) × (j < n) × (f j ≡ Some u)) × ((j : ℕ) (v : Stamp) → j < n → f j ≡ Some v → Before v u → ⊥)
+
+-- the same, found node by node
+abbrev pub least_of : (ℕ → Option Stamp) → ℕ → Option Stamp
+least_of f zero = None
+least_of f (suc n) = lesser (least_of f n) (f n)
+
+-- the requests that wait, but for that of one node
+abbrev pub others_at : ArbiterState → ℕ → ℕ → Option Stamp
+others_at a but j = if nat_eq j but then None else waiting_at a j
+
+-- what a step makes of the arbiter
+abbrev pub Did : Type 0
+Did = Done ArbiterState (Unit {0}) MaekawaMsg
+
+-- nothing is sent
+abbrev pub silent : ArbiterState → Did
+silent a = record { state = a; answer = tt; letters = [] }
+
+abbrev pub sending : ArbiterState → List (ℕ × MaekawaMsg) → Did
+sending a letters = record { state = a; answer = tt; letters = letters }
+
+-- the letter of the lock, if there is one
+abbrev pub lock_letter : Option Lock → List (ℕ × MaekawaMsg)
+lock_letter None = []
+lock_letter (Some lock) = (lock.stamp.node, Locked lock.stamp lock.grant lock.last) ∷ []
+
+-- Grant: where there is no lock, the least waiting request gets the next grant
+abbrev pub locking : ArbiterState → Stamp → ArbiterState
+locking a u = record a { waiting = slice_set a.waiting u.node None; granted = a.granted + 1; lock = Some (record { stamp = u; grant = a.granted + 1; last = a.last }) }
+
+abbrev pub locked : ArbiterState → Stamp → Did
+locked a u = sending (locking a u) ((u.node, Locked u (a.granted + 1) a.last) ∷ [])
+
+abbrev pub grant_to : Option Stamp → ArbiterState → Did
+grant_to None a = silent a
+grant_to (Some u) a = if nat_lt a.granted 18446744073709551615 then locked a u else silent a
+
+abbrev pub grant_in : Option Lock → ArbiterState → Did
+grant_in None a = grant_to (least_of (waiting_at a) a.count) a
+grant_in (Some lock) a = silent a
+
+abbrev pub grant : ArbiterState → Did
+grant a = grant_in a.lock a
+
+-- a request that waits, if there is one, is before s
+abbrev pub is_below : Option Stamp → Stamp → Bool
+is_below None s = false
+is_below (Some u) s = is_before_of u s
+
+abbrev pub fail_least : Option Stamp → List (ℕ × MaekawaMsg)
+fail_least None = []
+fail_least (Some u) = (u.node, Failed u) ∷ []
+
+-- Rank: the request s stands against the lock, and against the least of the others that wait
+abbrev pub overtaking : Lock → Option Stamp → List (ℕ × MaekawaMsg)
+overtaking lock other = (lock.stamp.node, Inquire lock.stamp lock.grant) ∷ fail_least other
+
+abbrev pub rank_against : Lock → Stamp → Option Stamp → List (ℕ × MaekawaMsg)
+rank_against lock s other = if is_before_of lock.stamp s || is_below other s then (s.node, Failed s) ∷ [] else overtaking lock other
+
+abbrev pub rank_by : Lock → Stamp → Option Stamp → List (ℕ × MaekawaMsg)
+rank_by lock s other = if nat_eq lock.stamp.node s.node then (s.node, Inquire lock.stamp lock.grant) ∷ [] else rank_against lock s other
+
+abbrev pub rank : Lock → Stamp → ArbiterState → Did
+rank lock s a = sending a (rank_by lock s (least_of (others_at a s.node) a.count))
+
+-- REQUEST of a node: a stamp that has ended is ignored, a lock for it is told again, a later one of its node stands before it
+abbrev pub waiting_for : ArbiterState → Stamp → ArbiterState
+waiting_for a s = record a { waiting = slice_set a.waiting s.node (Some s) }
+
+abbrev pub queue : Option Lock → Stamp → ArbiterState → Did
+queue None s a = grant (waiting_for a s)
+queue (Some lock) s a = rank lock s (waiting_for a s)
+
+abbrev pub is_later : Option Stamp → Stamp → Bool
+is_later None s = false
+is_later (Some u) s = nat_eq u.node s.node && is_before_of s u
+
+abbrev pub stamp_of : Option Lock → Option Stamp
+stamp_of None = None
+stamp_of (Some lock) = Some lock.stamp
+
+abbrev pub is_for : Option Lock → Stamp → Bool
+is_for None s = false
+is_for (Some lock) s = is_same_as lock.stamp s
+
+abbrev pub is_overtaken : ArbiterState → Stamp → Bool
+is_overtaken a s = is_later (stamp_of a.lock) s || is_later (waiting_at a s.node) s
+
+abbrev pub take_fresh : Stamp → ArbiterState → Did
+take_fresh s a = if is_overtaken a s then silent a else queue a.lock s a
+
+abbrev pub take_live : Stamp → ArbiterState → Did
+take_live s a = if is_for a.lock s then sending a (lock_letter a.lock) else take_fresh s a
+
+abbrev pub take_request : Stamp → ArbiterState → Did
+take_request s a = if nat_lt (ended_at a s.node) s.number then take_live s a else silent a
+
+-- RELINQUISH of the node of s: where the lock is for exactly this stamp and grant it ends, and the request waits again
+abbrev pub is_exactly : Option Lock → Stamp → ℕ → Bool
+is_exactly None s g = false
+is_exactly (Some lock) s g = is_same_as lock.stamp s && nat_eq lock.grant g
+
+abbrev pub or_else : Option Stamp → Stamp → Option Stamp
+or_else None s = Some s
+or_else (Some u) s = Some u
+
+abbrev pub taking_back : Stamp → ArbiterState → ArbiterState
+taking_back s a = record a { lock = None; waiting = slice_set a.waiting s.node (or_else (waiting_at a s.node) s) }
+
+abbrev pub take_relinquish : Stamp → ℕ → ArbiterState → Did
+take_relinquish s g a = if is_exactly a.lock s g then grant (taking_back s a) else silent a
+
+-- RELEASE of the node of s: all its requests up to s have ended, and a lock for one of them ends
+abbrev pub drop_up_to : Option Stamp → ℕ → Option Stamp
+drop_up_to None number = None
+drop_up_to (Some u) number = if nat_lt number u.number then Some u else None
+
+abbrev pub ending : Stamp → ℕ → ArbiterState → ArbiterState
+ending s t a = record a { last = max a.last t; ended = slice_set a.ended s.node (max (ended_at a s.node) s.number); waiting = slice_set a.waiting s.node (drop_up_to (waiting_at a s.node) s.number) }
+
+abbrev pub unlocking : ArbiterState → ArbiterState
+unlocking a = record a { lock = None }
+
+abbrev pub is_up_to : Option Lock → Stamp → Bool
+is_up_to None s = false
+is_up_to (Some lock) s = nat_eq lock.stamp.node s.node && nat_lt lock.stamp.number (s.number + 1)
+
+abbrev pub take_release : Stamp → ℕ → ArbiterState → Did
+take_release s t a = if is_up_to a.lock s then grant (unlocking (ending s t a)) else silent (ending s t a)

@@ -1,0 +1,199 @@
+-- The worlds that are reached from the start.
+use Rattle.std.specs.Prelude.{ℕ, ◌<◌, ◌≤◌, ◌^◌, ◌≡◌, ◌⊎◌, true, false, Some, length}
+use Rattle.mx_stamps.specs.declared.stamp.Stamp.{Stamp}
+use Rattle.mx_letters.specs.declared.maekawa.MaekawaMsg.{MaekawaMsg}
+use Rattle.mx_letters.specs.declared.maekawa.MaekawaMsg.TheVariants.{Request, Locked, Failed, Inquire, Relinquish, Release}
+use Rattle.mx_nodelaws.specs.World.{World, IsNode, WasSent}
+use Rattle.mx_nodelaws.specs.declared.phase.Phase.{Phase}
+use Rattle.mx_nodelaws.specs.declared.phase.Phase.TheVariants.{Idle, Waiting, Inside}
+use Rattle.mx_maekawa.specs.declared.lock.Lock.{Lock}
+use Rattle.mx_maekawa.specs.Node.{RequesterState, ArbiterState, Node}
+use Rattle.mx_maekawa.specs.RequesterStep.{is_busy, is_own, held_at, asked_at, back_at, has_failed}
+use Rattle.mx_maekawa.specs.ArbiterStep.{waiting_at, ended_at}
+
+abbrev pub NodeWorld : Type 0
+NodeWorld = World Node MaekawaMsg
+
+-- the requester has a current stamp
+abbrev pub IsBusy : RequesterState → Type 0
+IsBusy r = is_busy r.phase ≡ true
+
+-- the own stamp of this number is no longer current, and never will be
+abbrev pub IsEnded : RequesterState → ℕ → Type 0
+IsEnded r number = (number ≤ r.issued) × (IsBusy r → number < r.issued)
+
+-- no grant up to g of arbiter a will be held for this stamp again
+abbrev pub IsGiven : RequesterState → ℕ → Stamp → ℕ → Type 0
+IsGiven r a stamp g = IsEnded r stamp.number ⊎ ((g ≤ back_at r a) ⊎ ((h : ℕ) × (held_at r a ≡ Some h) × (g < h)))
+
+-- some node has entered a section of this number or a later one
+abbrev pub IsReached : NodeWorld → ℕ → Type 0
+IsReached w n = (j : ℕ) × (t : Node) × (IsNode w j t) × (n ≤ t.requester.mine)
+
+-- arbiter a was told that node i's grant is given back, or that its request has ended
+abbrev pub IsOver : NodeWorld → ℕ → ℕ → Stamp → ℕ → Type 0
+IsOver w a i stamp g = WasSent w i a (Relinquish stamp g) ⊎ ((later : Stamp) × (t : ℕ) × WasSent w i a (Release later t) × (stamp.number ≤ later.number))
+
+-- the arbiter is locked for exactly this
+abbrev pub IsLockedFor : Node → Stamp → ℕ → ℕ → Type 0
+IsLockedFor s stamp g c = s.arbiter.lock ≡ Some (record { stamp = stamp; grant = g; last = c })
+
+-- the entry of node i into its last section
+pub record IsEntered (w : NodeWorld) (i : ℕ) (s : Node) : Type 0 where
+  -- its stamp, and its grant of each arbiter
+  pub stamp : Stamp
+  pub grant_of : ℕ → ℕ
+  pub node : stamp.node ≡ i
+  -- while it is inside both are current, and then the stamp is ended
+  pub inside : (n : ℕ) → s.requester.phase ≡ Inside n → (stamp ≡ s.requester.ours) × ((a : ℕ) → is_own s.requester a ≡ true → held_at s.requester a ≡ Some (grant_of a))
+  pub ended : ((n : ℕ) → s.requester.phase ≡ Inside n → ⊥) → IsEnded s.requester stamp.number
+  -- each grant was sent, and was not given back
+  pub sent : (a : ℕ) → is_own s.requester a ≡ true → (c : ℕ) × WasSent w a i (Locked stamp (grant_of a) c)
+  pub kept : (a : ℕ) → is_own s.requester a ≡ true → WasSent w i a (Relinquish stamp (grant_of a)) → ⊥
+  -- each release of the stamp or a later one tells the section's number
+  pub released : (a : ℕ) (later : Stamp) (t : ℕ) → WasSent w i a (Release later t) → stamp.number ≤ later.number → s.requester.mine ≤ t
+  -- an arbiter is still locked for it, or was told the section's number
+  pub locked : (a : ℕ) (arbiter : Node) → is_own s.requester a ≡ true → IsNode w a arbiter → ((c : ℕ) × IsLockedFor arbiter stamp (grant_of a) c) ⊎ (s.requester.mine ≤ arbiter.arbiter.last)
+  -- each later grant of its arbiters tells the section's number
+  pub after : (a b : ℕ) (other : Stamp) (g c : ℕ) → is_own s.requester a ≡ true → WasSent w a b (Locked other g c) → grant_of a < g → s.requester.mine ≤ c
+
+-- a grant that is held is its arbiter's lock
+pub record IsHeldOk (w : NodeWorld) (s : Node) (a g : ℕ) : Type 0 where
+  pub own : is_own s.requester a ≡ true
+  pub back : back_at s.requester a < g
+  pub c : ℕ
+  pub top : c ≤ s.requester.top
+  pub lock : (arbiter : Node) → IsNode w a arbiter → IsLockedFor arbiter s.requester.ours g c
+
+-- what holds of each node
+pub record IsNodeOk (w : NodeWorld) (i : ℕ) (s : Node) : Type 0 where
+  pub me : s.requester.me ≡ i
+  pub few : s.requester.count ≤ 21
+  pub back_places : length s.requester.back ≡ 21
+  pub held_places : length s.requester.held ≡ 21
+  -- each arbiter of the own set is a node, and the sets of two nodes meet
+  pub own_few : (a : ℕ) → is_own s.requester a ≡ true → a < s.requester.count
+  pub own_node : (a : ℕ) → is_own s.requester a ≡ true → (arbiter : Node) × IsNode w a arbiter
+  pub meet : (j : ℕ) (t : Node) → IsNode w j t → (a : ℕ) × (is_own s.requester a ≡ true) × (is_own t.requester a ≡ true)
+  -- a current stamp is the last own one, and the clock has seen it
+  pub issued : s.requester.issued ≤ s.requester.highest
+  pub ours_node : IsBusy s.requester → s.requester.ours.node ≡ i
+  pub ours_number : IsBusy s.requester → s.requester.ours.number ≡ s.requester.issued
+  -- the node knows its own sections, and no section that nobody has entered
+  pub mine_top : s.requester.mine ≤ s.requester.top
+  pub top_reached : IsReached w s.requester.top
+  pub last_reached : IsReached w s.arbiter.last
+  -- the lock is the last grant, and was sent
+  pub lock_last : (lock : Lock) → s.arbiter.lock ≡ Some lock → (lock.grant ≡ s.arbiter.granted) × WasSent w i lock.stamp.node (Locked lock.stamp lock.grant lock.last)
+  pub held : IsBusy s.requester → (a g : ℕ) → held_at s.requester a ≡ Some g → IsHeldOk w s a g
+  -- who is inside holds a grant of each arbiter of its set
+  pub inside_holds : (n : ℕ) → s.requester.phase ≡ Inside n → (a : ℕ) → is_own s.requester a ≡ true → (g : ℕ) × (held_at s.requester a ≡ Some g)
+  -- a remembered inquiry is for the grant that is held
+  pub asked_held : (a g : ℕ) → asked_at s.requester a ≡ Some g → held_at s.requester a ≡ Some g
+  pub entered : 0 < s.requester.mine → IsEntered w i s
+
+-- what holds of each LOCKED that was sent
+pub record IsLockedOk (w : NodeWorld) (a b : ℕ) (stamp : Stamp) (g c : ℕ) : Type 0 where
+  pub node : stamp.node ≡ b
+  pub granted : (s : Node) → IsNode w a s → g ≤ s.arbiter.granted
+  -- it tells of no section that nobody has entered
+  pub reached : IsReached w c
+  -- no other LOCKED of its arbiter has its grant
+  pub same : (other_b : ℕ) (other : Stamp) (other_c : ℕ) → WasSent w a other_b (Locked other g other_c) → (other ≡ stamp) × (other_c ≡ c)
+  -- the arbiter is locked for it, or was told that this is over
+  pub ends : (s : Node) → IsNode w a s → IsLockedFor s stamp g c ⊎ IsOver w a b stamp g
+
+-- what holds of each RELINQUISH that was sent: the grant will not be held again
+pub record IsRelinquishOk (w : NodeWorld) (i a : ℕ) (stamp : Stamp) (g : ℕ) : Type 0 where
+  pub node : stamp.node ≡ i
+  pub issued : (s : Node) → IsNode w i s → stamp.number ≤ s.requester.issued
+  pub given : (s : Node) → IsNode w i s → IsGiven s.requester a stamp g
+
+-- what holds of each RELEASE that was sent: its stamp is ended, and it tells of no section that nobody has entered
+pub record IsReleaseOk (w : NodeWorld) (i : ℕ) (stamp : Stamp) (t : ℕ) : Type 0 where
+  pub node : stamp.node ≡ i
+  pub ended : (s : Node) → IsNode w i s → IsEnded s.requester stamp.number
+  pub reached : IsReached w t
+
+abbrev pub IsLetterOk : NodeWorld → ℕ → ℕ → MaekawaMsg → Type 0
+IsLetterOk w a b (Request stamp) = Unit {0}
+IsLetterOk w a b (Locked stamp g c) = IsLockedOk w a b stamp g c
+IsLetterOk w a b (Failed stamp) = Unit {0}
+IsLetterOk w a b (Inquire stamp g) = (c : ℕ) × WasSent w a b (Locked stamp g c)
+IsLetterOk w a b (Relinquish stamp g) = IsRelinquishOk w a b stamp g
+IsLetterOk w a b (Release stamp t) = IsReleaseOk w a stamp t
+
+-- each node and each letter is as above: what each part of a step keeps
+pub record IsSound (w : NodeWorld) : Type 0 where
+  pub nodes : (i : ℕ) (s : Node) → IsNode w i s → IsNodeOk w i s
+  pub letters : (a b : ℕ) (m : MaekawaMsg) → WasSent w a b m → IsLetterOk w a b m
+
+-- no inquiry is remembered beside a failed arbiter: what each step keeps as a whole
+abbrev pub IsCalm : RequesterState → Type 0
+IsCalm r = (a g b : ℕ) → b < r.count → asked_at r a ≡ Some g → has_failed r b ≡ false
+
+pub record IsSafe (w : NodeWorld) : Type 0 where
+  pub sound : IsSound w
+  pub calm : (i : ℕ) (s : Node) → IsNode w i s → IsCalm s.requester
+
+-- a u64 value
+abbrev pub Small : ℕ → Type 0
+Small x = x < 2 ^ 64
+
+-- a stamp of one of n nodes
+abbrev pub PlainStamp : ℕ → Stamp → Type 0
+PlainStamp n stamp = Small stamp.number × (stamp.node < n)
+
+abbrev pub PlainLetter : ℕ → MaekawaMsg → Type 0
+PlainLetter n (Request stamp) = PlainStamp n stamp
+PlainLetter n (Locked stamp g c) = PlainStamp n stamp × Small g × Small c
+PlainLetter n (Failed stamp) = PlainStamp n stamp
+PlainLetter n (Inquire stamp g) = PlainStamp n stamp × Small g
+PlainLetter n (Relinquish stamp g) = PlainStamp n stamp × Small g
+PlainLetter n (Release stamp t) = PlainStamp n stamp × Small t
+
+abbrev pub PlainPhase : Phase → Type 0
+PlainPhase Idle = Unit {0}
+PlainPhase Waiting = Unit {0}
+PlainPhase (Inside n) = Small n
+
+pub record PlainRequester (n : ℕ) (r : RequesterState) : Type 0 where
+  pub me : r.me < n
+  pub own : (a : ℕ) → is_own r a ≡ true → a < n
+  pub count : r.count ≤ n
+  pub limit : Small r.limit
+  pub phase : PlainPhase r.phase
+  pub highest : Small r.highest
+  pub issued : Small r.issued
+  pub ours : PlainStamp n r.ours
+  pub held : (a g : ℕ) → held_at r a ≡ Some g → Small g
+  pub back : (a x : ℕ) → back_at r a ≡ x → Small x
+  pub asked : (a g : ℕ) → asked_at r a ≡ Some g → Small g
+  pub top : Small r.top
+  pub mine : Small r.mine
+
+pub record PlainLock (n : ℕ) (lock : Lock) : Type 0 where
+  pub stamp : PlainStamp n lock.stamp
+  pub grant : Small lock.grant
+  pub last : Small lock.last
+
+pub record PlainArbiter (n : ℕ) (a : ArbiterState) : Type 0 where
+  pub count : a.count ≤ n
+  pub lock : (lock : Lock) → a.lock ≡ Some lock → PlainLock n lock
+  pub granted : Small a.granted
+  pub waiting : (j : ℕ) (u : Stamp) → waiting_at a j ≡ Some u → PlainStamp n u
+  pub ended : (j x : ℕ) → ended_at a j ≡ x → Small x
+  pub last : Small a.last
+
+pub record PlainNode (n : ℕ) (s : Node) : Type 0 where
+  pub requester : PlainRequester n s.requester
+  pub arbiter : PlainArbiter n s.arbiter
+
+-- each number is a u64 value, and each name a node
+pub record PlainWorld (w : NodeWorld) : Type 0 where
+  pub nodes : (i : ℕ) (s : Node) → IsNode w i s → PlainNode (length w.nodes) s
+  pub letters : (a b : ℕ) (m : MaekawaMsg) → WasSent w a b m → (a < length w.nodes) × (b < length w.nodes) × PlainLetter (length w.nodes) m
+
+pub record IsGood (w : NodeWorld) : Type 0 where
+  pub safe : IsSafe w
+  pub plain : PlainWorld w

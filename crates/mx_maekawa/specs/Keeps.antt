@@ -1,0 +1,137 @@
+-- Each call keeps a world safe.
+use Rattle.std.proofs.Common.{ℕ, ◌+◌, ◌≡◌, inl, inr, Bool, true, false, cond, not, ◌&&◌, List, [], ◌++◌, Some, None, Result, Ok, Err, get_or, replicate, nat_eq, nat_lt, refl, sym, ◌∙◌, ap, subst}
+use Rattle.std.proofs.lemmas.Option.{same_Some}
+use Rattle.mx_stamps.specs.declared.stamp.Stamp.{Stamp}
+use Rattle.mx_stamps.specs.Lists.{IsIn}
+use Rattle.mx_stamps.proofs.Lists.{in_append, none_is_no_some, get_or_replicate, cond_case, and_true}
+use Rattle.mx_letters.specs.declared.maekawa.MaekawaMsg.{MaekawaMsg}
+use Rattle.mx_letters.specs.declared.maekawa.MaekawaMsg.TheVariants.{Request, Locked, Failed, Inquire, Relinquish, Release}
+use Rattle.mx_nodelaws.specs.World.{Done, Quiet, quietly, IsNode, WasSent, after, addressed}
+use Rattle.mx_nodelaws.proofs.Worlds.{in_addressed}
+use Rattle.mx_nodelaws.specs.declared.phase.Phase.{Phase}
+use Rattle.mx_nodelaws.specs.declared.phase.Phase.TheVariants.{Idle, Waiting, Inside}
+use Rattle.mx_nodelaws.specs.declared.faults.AskFault.{AskFault}
+use Rattle.mx_nodelaws.specs.declared.faults.AskFault.TheVariants.{NotIdle, StampsSpent}
+use Rattle.mx_nodelaws.specs.declared.faults.EnterFault.{EnterFault}
+use Rattle.mx_nodelaws.specs.declared.faults.EnterFault.TheVariants.{NotWaiting, NotGranted, NumbersSpent}
+use Rattle.mx_nodelaws.specs.declared.faults.LeaveFault.{LeaveFault}
+use Rattle.mx_nodelaws.specs.declared.faults.LeaveFault.TheVariants.{NotInside}
+use Rattle.mx_quorums.specs.Family.{has_of}
+use Rattle.mx_maekawa.specs.Node.{RequesterState, Node}
+use Rattle.mx_maekawa.specs.RequesterStep.{unchanged, is_waiting, is_own, holds, holds_all, to_missing, asking, asked, ask_in, take_locked, take_failed, take_inquire, entering, entered, refused, enter_granted, enter_in, leaving, left, leave_in, request_again}
+use Rattle.mx_maekawa.specs.Step.{still, by_requester, by_arbiter, ask_of, enter_of, leave_of, tick_of, seeing, is_answer, is_call, deliver_of}
+use Rattle.mx_maekawa.specs.ArbiterStep.{lock_letter, take_request, take_relinquish, take_release}
+use Rattle.mx_maekawa.specs.Good.{NodeWorld, IsNodeOk, IsCalm, IsSafe}
+use Rattle.mx_maekawa.specs.Places.{eq_true}
+use Rattle.mx_maekawa.specs.Frame.{IsSendable}
+use Rattle.mx_maekawa.specs.Parts.{asked_sound, entered_sound, left_sound}
+use Rattle.mx_maekawa.specs.Cascades.{sends_sound}
+use Rattle.mx_maekawa.specs.RequesterKeeps.{safe_of, still_safe, locked_safe, failed_safe, inquire_safe}
+use Rattle.mx_maekawa.specs.ArbiterKeeps.{lock_may, request_safe, relinquish_safe, release_safe}
+
+none_asked : (r : RequesterState) → r.asked ≡ replicate 21 None → IsCalm r
+none_asked r e a g b lt was = absurd (none_is_no_some g (sym (get_or_replicate 21 a None) ∙ sym (ap (λ x. get_or x a None) e) ∙ was))
+
+one_of : (c : Bool) (m n : MaekawaMsg) → cond c (Some m) None ≡ Some n → n ≡ m
+one_of true m n h = sym (same_Some m n h)
+one_of false m n h = absurd (none_is_no_some n h)
+
+module _ (w : NodeWorld) (i : ℕ) (s : Node) (good : IsSafe w) (at : IsNode w i s) where
+  ok_s : IsNodeOk w i s
+  ok_s = good.sound.nodes i s at
+
+  same : {A : Type 0} (answer : A) → IsSafe (after w i (still s answer))
+  same {A} answer = still_safe w i s good at {A = A} answer
+
+  -- ask
+
+  ask_in_safe : (p : Phase) → s.requester.phase ≡ p → IsSafe (after w i (by_requester s (ask_in p s.requester)))
+  ask_in_safe Idle e =
+      let r = s.requester in
+      cond_case (λ d. IsSafe (after w i (by_requester s d))) (nat_lt r.highest 18446744073709551615) (asked r) (unchanged r (Err StampsSpent))
+      (λ _. safe_of w i s good at {A = Result Stamp AskFault} (by_requester s (asked r)) (asked_sound w i s good.sound at {A = Result Stamp AskFault} (Ok (asking r).ours) e) (none_asked (asking r) refl))
+      (λ _. same {A = Result Stamp AskFault} (Err StampsSpent))
+  ask_in_safe Waiting e = same {A = Result Stamp AskFault} (Err NotIdle)
+  ask_in_safe (Inside n) e = same {A = Result Stamp AskFault} (Err NotIdle)
+
+  pub ask_safe : IsSafe (after w i (ask_of s))
+  ask_safe = ask_in_safe s.requester.phase refl
+
+  -- a letter comes
+
+  calls : (from : ℕ) (stamp : Stamp) → is_call s from stamp ≡ true → stamp.node ≡ from
+  calls from stamp e = eq_true stamp.node from (and_true (has_of s.quorums from s.requester.me) (nat_eq stamp.node from) e).1
+
+  answers : (from : ℕ) (stamp : Stamp) → is_answer s from stamp ≡ true → (is_own s.requester from ≡ true) × (stamp.node ≡ i)
+  answers from stamp e = let p = and_true (is_own s.requester from) (nat_eq stamp.node s.requester.me) e in (p.0, eq_true stamp.node s.requester.me p.1 ∙ ok_s.me)
+
+  pub deliver_safe : (from : ℕ) (m : MaekawaMsg) → WasSent w from i m → IsSafe (after w i (deliver_of from m s))
+  deliver_safe from (Request stamp) sent =
+      cond_case (λ d. IsSafe (after w i d)) (is_call s from stamp) (by_arbiter (seeing s stamp.number) (take_request stamp s.arbiter)) (still s tt)
+      (λ _. request_safe w i s good at stamp) (λ _. same {A = Unit {0}} tt)
+  deliver_safe from (Locked stamp g c) sent =
+      cond_case (λ d. IsSafe (after w i d)) (is_answer s from stamp) (by_requester s (take_locked from stamp g c s.requester)) (still s tt)
+      (λ e. let p = answers from stamp e in locked_safe w i s good at from stamp g c p.0 p.1 sent) (λ _. same {A = Unit {0}} tt)
+  deliver_safe from (Failed stamp) sent =
+      cond_case (λ d. IsSafe (after w i d)) (is_answer s from stamp) (by_requester s (take_failed from stamp s.requester)) (still s tt)
+      (λ _. failed_safe w i s good at from stamp) (λ _. same {A = Unit {0}} tt)
+  deliver_safe from (Inquire stamp g) sent =
+      cond_case (λ d. IsSafe (after w i d)) (is_answer s from stamp) (by_requester s (take_inquire from stamp g s.requester)) (still s tt)
+      (λ e. let p = answers from stamp e in inquire_safe w i s good at from stamp g p.0 p.1 sent) (λ _. same {A = Unit {0}} tt)
+  deliver_safe from (Relinquish stamp g) sent =
+      cond_case (λ d. IsSafe (after w i d)) (is_call s from stamp) (by_arbiter s (take_relinquish stamp g s.arbiter)) (still s tt)
+      (λ e. relinquish_safe w i s good at from stamp g (calls from stamp e) sent) (λ _. same {A = Unit {0}} tt)
+  deliver_safe from (Release stamp t) sent =
+      cond_case (λ d. IsSafe (after w i d)) (is_call s from stamp) (by_arbiter s (take_release stamp t s.arbiter)) (still s tt)
+      (λ e. release_safe w i s good at from stamp t (calls from stamp e) sent) (λ _. same {A = Unit {0}} tt)
+
+  -- enter
+
+  abbrev enters : Quiet RequesterState (Result ℕ EnterFault) → Done Node (Result ℕ EnterFault) MaekawaMsg
+  enters did = record { state = record s { requester = did.state }; answer = did.answer; letters = [] }
+
+  enter_in_safe : (p : Phase) → s.requester.phase ≡ p → IsSafe (after w i (enters (enter_in p s.requester)))
+  enter_in_safe Idle e = same {A = Result ℕ EnterFault} (Err NotWaiting)
+  enter_in_safe Waiting e =
+      let r = s.requester in
+      let P : Quiet RequesterState (Result ℕ EnterFault) → Type 0 = λ d. IsSafe (after w i (enters d)) in
+      cond_case P (holds_all r) (enter_granted r) (refused r NotGranted)
+      (λ all. cond_case P (nat_lt r.top r.limit) (entered r) (refused r NumbersSpent)
+      (λ _. safe_of w i s good at {A = Result ℕ EnterFault} (enters (entered r)) (entered_sound w i s good.sound at {A = Result ℕ EnterFault} (Ok (r.top + 1)) e all) (none_asked (entering r) refl))
+      (λ _. same {A = Result ℕ EnterFault} (Err NumbersSpent)))
+      (λ _. same {A = Result ℕ EnterFault} (Err NotGranted))
+  enter_in_safe (Inside n) e = same {A = Result ℕ EnterFault} (Err NotWaiting)
+
+  pub enter_safe : IsSafe (after w i (quietly (enter_of s)))
+  enter_safe = enter_in_safe s.requester.phase refl
+
+  -- leave
+
+  leave_in_safe : (p : Phase) → s.requester.phase ≡ p → IsSafe (after w i (by_requester s (leave_in p s.requester)))
+  leave_in_safe Idle e = same {A = Result ℕ LeaveFault} (Err NotInside)
+  leave_in_safe Waiting e = same {A = Result ℕ LeaveFault} (Err NotInside)
+  leave_in_safe (Inside n) e = safe_of w i s good at {A = Result ℕ LeaveFault} (by_requester s (left s.requester n)) (left_sound w i s good.sound at {A = Result ℕ LeaveFault} (Ok n) n e) (none_asked (leaving s.requester) refl)
+
+  pub leave_safe : IsSafe (after w i (leave_of s))
+  leave_safe = leave_in_safe s.requester.phase refl
+
+  -- tick
+
+  request_may : (b : ℕ) (m : MaekawaMsg) → IsIn {X = ℕ × MaekawaMsg} (b, m) (request_again s.requester) → IsSendable w i s s b m
+  request_may b m =
+      let r = s.requester in
+      let P : List (ℕ × MaekawaMsg) → Type 0 = λ ls. IsIn {X = ℕ × MaekawaMsg} (b, m) ls → IsSendable w i s s b m in
+      cond_case P (is_waiting r.phase) (addressed (to_missing r (Request r.ours)) r.count) []
+      (λ _ sent. let p = in_addressed (to_missing r (Request r.ours)) r.count b m sent in
+      subst (λ x. IsSendable w i s s b x) (sym (one_of (is_own r b && not (holds r b)) (Request r.ours) m p.1)) tt)
+      (λ _ none. absurd none)
+
+  pub tick_safe : IsSafe (after w i (tick_of s))
+  tick_safe =
+      let letters = request_again s.requester ++ lock_letter s.arbiter.lock in
+      safe_of w i s good at {A = Unit {0}} (tick_of s)
+      (sends_sound i {A = Unit {0}} w s tt letters good.sound at (λ b m sent. elim (in_append (b, m) (request_again s.requester) (lock_letter s.arbiter.lock) sent) [
+        | inl a ↦ request_may b m a
+        | inr c ↦ lock_may w i s good at s s.arbiter.lock refl b m c
+      ]))
+      (good.calm i s at)

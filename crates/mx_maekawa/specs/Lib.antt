@@ -1,0 +1,24 @@
+-- Definitions: Node (the state), RequesterStep and ArbiterStep (the rows of the step table by role), Step (the step
+-- table), Good (the invariant).
+pub mod Node
+pub mod RequesterStep
+pub mod ArbiterStep
+pub mod Step
+pub mod Good
+-- Proofs of the laws: Places and Permissions (lemmas), Frame (what any step leaves as it was), Parts and Cascades (what
+-- a step is made of), RequesterKeeps, ArbiterKeeps and Keeps (each step keeps a world safe), RequesterPlain,
+-- ArbiterPlain and Plain (each number stays a u64 value), Safety (exclusion and numbering), Promises, Laws.
+pub mod Places
+pub mod Permissions
+pub mod Frame
+pub mod Safety
+pub mod Parts
+pub mod Cascades
+pub mod RequesterKeeps
+pub mod ArbiterKeeps
+pub mod Keeps
+pub mod RequesterPlain
+pub mod ArbiterPlain
+pub mod Plain
+pub mod Promises
+pub mod Laws

@@ -1,0 +1,53 @@
+-- The state of a node: it asks for the section as a requester, and grants it as an arbiter.
+use Rattle.std.specs.Prelude.{ℕ, Bool, List, Option}
+use Rattle.mx_stamps.specs.declared.stamp.Stamp.{Stamp}
+use Rattle.mx_nodelaws.specs.declared.phase.Phase.{Phase}
+use Rattle.mx_quorums.specs.Family.{Family}
+use Rattle.mx_maekawa.specs.declared.lock.Lock.{Lock}
+
+pub record RequesterState : Type 0 where
+  pub me : ℕ
+  -- its own set: for each node, whether it is one of its arbiters
+  pub own : List Bool
+  -- how many nodes there are
+  pub count : ℕ
+  -- the greatest section number
+  pub limit : ℕ
+  pub phase : Phase
+  -- the highest number of a stamp that it has seen or drawn
+  pub highest : ℕ
+  -- the number of its last own stamp
+  pub issued : ℕ
+  -- the stamp of its request, current while it waits or is inside
+  pub ours : Stamp
+  -- for each arbiter, the grant that it holds
+  pub held : List (Option ℕ)
+  -- for each arbiter, the highest grant that it gave back
+  pub back : List ℕ
+  -- for each arbiter, whether it has failed the current request
+  pub failed : List Bool
+  -- for each arbiter, the grant that it asked back, while the inquiry is remembered
+  pub asked : List (Option ℕ)
+  -- the highest section number that it knows
+  pub top : ℕ
+  -- the number of the last section that it entered, 0 before the first
+  pub mine : ℕ
+
+pub record ArbiterState : Type 0 where
+  -- how many nodes there are
+  pub count : ℕ
+  -- whom it is locked for
+  pub lock : Option Lock
+  -- the number of its last grant
+  pub granted : ℕ
+  -- for each node, its request that waits for a grant
+  pub waiting : List (Option Stamp)
+  -- for each node, the greatest number of its stamps that are known to have ended
+  pub ended : List ℕ
+  -- the highest section number that it was told
+  pub last : ℕ
+
+pub record Node : Type 0 where
+  pub quorums : Family
+  pub requester : RequesterState
+  pub arbiter : ArbiterState

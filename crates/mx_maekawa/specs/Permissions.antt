@@ -1,0 +1,54 @@
+-- What the tests of the permission and of failed arbiters say.
+use Rattle.std.proofs.Common.{ℕ, zero, suc, ◌<◌, ◌≡◌, ◌↔◌, inl, inr, Bool, true, false, not, ◌||◌, refl, sym, ap, subst, arith}
+use Rattle.mx_stamps.proofs.Lists.{dec_eq, and_true, or_false}
+use Rattle.mx_maekawa.specs.Node.{RequesterState}
+use Rattle.mx_maekawa.specs.RequesterStep.{has_failed, is_own, holds, holds_below, holds_all, has_failed_below}
+use Rattle.mx_maekawa.specs.RequesterStep.{HoldsAll, HasFailed}
+use Rattle.mx_maekawa.specs.Places.{both_true, true_not_false, or_cases, neither}
+
+-- each arbiter of the own set below n has granted
+pub holds_each : (r : RequesterState) (n : ℕ) → holds_below r n ≡ true → (a : ℕ) → a < n → is_own r a ≡ true → holds r a ≡ true
+holds_each r zero all a lt own = absurd (omega arith)
+holds_each r (suc n) all a lt own =
+    let p = and_true (holds_below r n) (not (is_own r n) || holds r n) all in
+    elim (dec_eq a n) [
+      | inl e ↦
+          let own_n : is_own r n ≡ true = subst (λ k. is_own r k ≡ true) e own in
+          subst (λ k. holds r k ≡ true) (sym e) (or_false (not (is_own r n)) (holds r n) p.1 (ap not own_n))
+      | inr f ↦ holds_each r n p.0 a (omega arith) own
+    ]
+
+own_or_not : (own held : Bool) → (own ≡ true → held ≡ true) → (not own || held) ≡ true
+own_or_not true held h = h refl
+own_or_not false held h = refl
+
+holds_if_each : (r : RequesterState) (n : ℕ) → ((a : ℕ) → a < n → is_own r a ≡ true → holds r a ≡ true) → holds_below r n ≡ true
+holds_if_each r zero h = refl
+holds_if_each r (suc n) h =
+    both_true (holds_below r n) (not (is_own r n) || holds r n) (holds_if_each r n (λ a lt. h a (omega arith))) (own_or_not (is_own r n) (holds r n) (h n (omega arith)))
+
+pub holds_all_is : (r : RequesterState) → (holds_all r ≡ true) ↔ HoldsAll r
+holds_all_is r = (holds_each r r.count, holds_if_each r r.count)
+
+pub some_failed : (r : RequesterState) (n : ℕ) → has_failed_below r n ≡ true → (b : ℕ) × (b < n) × (has_failed r b ≡ true)
+some_failed r zero h = let bad : ⊥ = cc in absurd bad
+some_failed r (suc n) h = elim (or_cases (has_failed_below r n) (has_failed r n) h) [
+  | inl a ↦ let p = some_failed r n a in (p.0, (let lt : p.0 < n = p.1 in omega arith), p.2)
+  | inr b ↦ (n, omega arith, b)
+]
+
+pub none_failed : (r : RequesterState) (n : ℕ) → has_failed_below r n ≡ false → (b : ℕ) → b < n → has_failed r b ≡ false
+none_failed r zero h b lt = absurd (omega arith)
+none_failed r (suc n) h b lt =
+    let p = neither (has_failed_below r n) (has_failed r n) h in
+    elim (dec_eq b n) [
+      | inl e ↦ subst (λ k. has_failed r k ≡ false) (sym e) p.1
+      | inr ne ↦ none_failed r n p.0 b (omega arith)
+    ]
+
+failed_test : (t : Bool) (r : RequesterState) → has_failed_below r r.count ≡ t → HasFailed r → t ≡ true
+failed_test true r e h = refl
+failed_test false r e (a, lt, failed) = absurd (true_not_false (has_failed r a) failed (none_failed r r.count e a lt))
+
+pub has_failed_is : (r : RequesterState) → (has_failed_below r r.count ≡ true) ↔ HasFailed r
+has_failed_is r = (some_failed r r.count, failed_test (has_failed_below r r.count) r refl)

@@ -1,0 +1,126 @@
+-- Each call keeps each number a u64 value, and each name a node.
+use Rattle.std.proofs.Common.{ℕ, zero, suc, ◌<◌, ◌≤◌, ◌^◌, ◌≡◌, inl, inr, [], None, Result, slice_set, length, get_or, replicate, sym, ◌∙◌, subst, arith}
+use Rattle.std.proofs.lemmas.Option.{slice_get_within}
+use Rattle.std.proofs.lemmas.List.{length-set}
+use Rattle.mx_stamps.specs.declared.stamp.Stamp.{Stamp}
+use Rattle.mx_stamps.specs.Lists.{each_below}
+use Rattle.mx_stamps.proofs.Lists.{get_after, in_append, none_is_no_some, get_or_replicate, cond_case, get_each_below, length_each_below}
+use Rattle.mx_letters.specs.declared.maekawa.MaekawaMsg.{MaekawaMsg}
+use Rattle.mx_letters.specs.declared.maekawa.MaekawaMsg.TheVariants.{Request, Locked, Failed, Inquire, Relinquish, Release}
+use Rattle.mx_nodelaws.specs.World.{Done, quietly, IsNode, after, sent_by}
+use Rattle.mx_nodelaws.proofs.Worlds.{in_sent_by}
+use Rattle.mx_nodelaws.specs.declared.faults.AskFault.{AskFault}
+use Rattle.mx_nodelaws.specs.declared.faults.EnterFault.{EnterFault}
+use Rattle.mx_nodelaws.specs.declared.faults.LeaveFault.{LeaveFault}
+use Rattle.mx_quorums.specs.Family.{Family, IsMeeting}
+use Rattle.mx_maekawa.specs.Node.{RequesterState, ArbiterState, Node}
+use Rattle.mx_maekawa.specs.RequesterStep.{ask_in, take_locked, take_failed, take_inquire, leave_in, request_again}
+use Rattle.mx_maekawa.specs.Step.{still, by_requester, by_arbiter, start_of, ask_of, enter_of, leave_of, tick_of, seeing, is_answer, is_call, deliver_of}
+use Rattle.mx_maekawa.specs.ArbiterStep.{lock_letter, take_request, take_relinquish, take_release}
+use Rattle.mx_maekawa.specs.Good.{NodeWorld}
+use Rattle.mx_maekawa.specs.Good.{Small, PlainLetter, PlainRequester, PlainNode, PlainWorld}
+use Rattle.mx_maekawa.specs.RequesterPlain.{PlainLetters, PlainDid, nil, both, cleared_small, ask_plain, locked_plain, failed_plain, inquire_plain, enter_plain, leave_plain, again_plain}
+use Rattle.mx_maekawa.specs.ArbiterPlain as arbiter
+
+pub record PlainDone {A : Type 0} (n : ℕ) (d : Done Node A MaekawaMsg) : Type 0 where
+  pub state : PlainNode n d.state
+  pub letters : PlainLetters n d.letters
+
+pub plain_after : {A : Type 0} (w : NodeWorld) (i : ℕ) (s : Node) (done : Done Node A MaekawaMsg) → PlainWorld w → IsNode w i s → PlainDone {A = A} (length w.nodes) done → PlainWorld (after w i done)
+plain_after w i s done plain at ok =
+    let e : length w.nodes ≡ length (slice_set w.nodes i done.state) = sym (length-set w.nodes i done.state) in record {
+      nodes = λ j t tat. subst (λ n. PlainNode n t) e (elim (get_after w.nodes i j s done.state t at tat) [
+        | inl p ↦ subst (λ x. PlainNode (length w.nodes) x) (sym p.1) ok.state
+        | inr p ↦ plain.nodes j t p.1
+      ]);
+      letters = λ a b m sent. subst (λ n. (a < n) × (b < n) × PlainLetter n m) e (elim (in_append (a, b, m) w.sent (sent_by i done.letters) sent) [
+        | inl old ↦ plain.letters a b m old
+        | inr new ↦ let r = in_sent_by i a b m done.letters new in let q = ok.letters b m r.1 in let lt = slice_get_within w.nodes i s at in (omega (arith, r.0), q.0, q.1)
+      ]);
+    }
+
+module _ (n : ℕ) (s : Node) (ok : PlainNode n s) where
+  by_r : {A : Type 0} (d : Done RequesterState A MaekawaMsg) → PlainDid {A = A} n d → PlainDone {A = A} n (by_requester s d)
+  by_r d p = record { state = record { requester = p.state; arbiter = ok.arbiter }; letters = p.letters }
+
+  by_a : (d : Done ArbiterState (Unit {0}) MaekawaMsg) → arbiter.PlainDid n d → PlainDone {A = Unit {0}} n (by_arbiter s d)
+  by_a d p = record { state = record { requester = ok.requester; arbiter = p.state }; letters = p.letters }
+
+  ignored : PlainDone {A = Unit {0}} n (still s tt)
+  ignored = record { state = ok; letters = nil n }
+
+  saw : (number : ℕ) → Small number → PlainRequester n (seeing s number).requester
+  saw number small = record { me = ok.requester.me; own = ok.requester.own; count = ok.requester.count; limit = ok.requester.limit; phase = ok.requester.phase; highest = (let k = ok.requester.highest in omega arith); issued = ok.requester.issued; ours = ok.requester.ours; held = ok.requester.held; back = ok.requester.back; asked = ok.requester.asked; top = ok.requester.top; mine = ok.requester.mine }
+
+  pub ask_done : PlainDone {A = Result Stamp AskFault} n (ask_of s)
+  ask_done = by_r {A = Result Stamp AskFault} (ask_in s.requester.phase s.requester) (ask_plain n s.requester.phase s.requester ok.requester)
+
+  pub deliver_done : (from : ℕ) (m : MaekawaMsg) → from < n → PlainLetter n m → PlainDone {A = Unit {0}} n (deliver_of from m s)
+  deliver_done from (Request stamp) lt p =
+      cond_case (λ d. PlainDone {A = Unit {0}} n d) (is_call s from stamp) (by_arbiter (seeing s stamp.number) (take_request stamp s.arbiter)) (still s tt)
+      (λ _. let a = arbiter.request_plain n stamp s.arbiter p ok.arbiter in record { state = record { requester = saw stamp.number p.0; arbiter = a.state }; letters = a.letters }) (λ _. ignored)
+  deliver_done from (Locked stamp g c) lt p =
+      cond_case (λ d. PlainDone {A = Unit {0}} n d) (is_answer s from stamp) (by_requester s (take_locked from stamp g c s.requester)) (still s tt)
+      (λ _. by_r {A = Unit {0}} (take_locked from stamp g c s.requester) (locked_plain n from stamp g c s.requester lt p.0 p.1 p.2 ok.requester)) (λ _. ignored)
+  deliver_done from (Failed stamp) lt p =
+      cond_case (λ d. PlainDone {A = Unit {0}} n d) (is_answer s from stamp) (by_requester s (take_failed from stamp s.requester)) (still s tt)
+      (λ _. by_r {A = Unit {0}} (take_failed from stamp s.requester) (failed_plain n from stamp s.requester ok.requester)) (λ _. ignored)
+  deliver_done from (Inquire stamp g) lt p =
+      cond_case (λ d. PlainDone {A = Unit {0}} n d) (is_answer s from stamp) (by_requester s (take_inquire from stamp g s.requester)) (still s tt)
+      (λ _. by_r {A = Unit {0}} (take_inquire from stamp g s.requester) (inquire_plain n from stamp g s.requester lt p.0 p.1 ok.requester)) (λ _. ignored)
+  deliver_done from (Relinquish stamp g) lt p =
+      cond_case (λ d. PlainDone {A = Unit {0}} n d) (is_call s from stamp) (by_arbiter s (take_relinquish stamp g s.arbiter)) (still s tt)
+      (λ _. by_a (take_relinquish stamp g s.arbiter) (arbiter.relinquish_plain n stamp g s.arbiter p.0 ok.arbiter)) (λ _. ignored)
+  deliver_done from (Release stamp t) lt p =
+      cond_case (λ d. PlainDone {A = Unit {0}} n d) (is_call s from stamp) (by_arbiter s (take_release stamp t s.arbiter)) (still s tt)
+      (λ _. by_a (take_release stamp t s.arbiter) (arbiter.release_plain n stamp t s.arbiter p.0 p.1 ok.arbiter)) (λ _. ignored)
+
+  pub enter_done : PlainDone {A = Result ℕ EnterFault} n (quietly (enter_of s))
+  enter_done = record { state = record { requester = enter_plain n s.requester.phase s.requester ok.requester; arbiter = ok.arbiter }; letters = nil n }
+
+  pub leave_done : PlainDone {A = Result ℕ LeaveFault} n (leave_of s)
+  leave_done = by_r {A = Result ℕ LeaveFault} (leave_in s.requester.phase s.requester) (leave_plain n s.requester.phase s.requester ok.requester)
+
+  pub tick_done : PlainDone {A = Unit {0}} n (tick_of s)
+  tick_done = record { state = ok; letters = both n (request_again s.requester) (lock_letter s.arbiter.lock) (again_plain n s.requester ok.requester) (arbiter.lock_letter_plain n s.arbiter.lock ok.arbiter.lock) }
+
+small_or_zero : (origin k a x : ℕ) → Small origin → get_or (replicate k origin) a 0 ≡ x → Small x
+small_or_zero origin zero a x small h = omega arith
+small_or_zero origin (suc k) zero x small h = omega arith
+small_or_zero origin (suc k) (suc a) x small h = small_or_zero origin k a x small h
+
+start_node : (shape : Family) (origin limit : ℕ) → IsMeeting shape → origin < 2 ^ 64 → limit ≤ 1000000 → (i : ℕ) → i < shape.count → PlainNode shape.count (start_of shape i origin limit)
+start_node shape origin limit valid small high i lt = record {
+  requester = record {
+    me = lt;
+    own = λ a own. valid.nodes i a lt own;
+    count = omega arith;
+    limit = omega arith;
+    phase = tt;
+    highest = small;
+    issued = small;
+    ours = (omega arith, lt);
+    held = cleared_small shape.count;
+    back = λ a x h. small_or_zero origin 21 a x small h;
+    asked = cleared_small shape.count;
+    top = omega arith;
+    mine = omega arith;
+  };
+  arbiter = record {
+    count = omega arith;
+    lock = λ l h. absurd (none_is_no_some l h);
+    granted = small;
+    waiting = λ j u h. absurd (none_is_no_some u (sym (get_or_replicate 21 j None) ∙ h));
+    ended = λ j x h. small_or_zero origin 21 j x small h;
+    last = omega arith;
+  };
+}
+
+pub start_plain : (shape : Family) (origin limit : ℕ) → IsMeeting shape → origin < 2 ^ 64 → limit ≤ 1000000 → PlainWorld (record { nodes = each_below (λ i. start_of shape i origin limit) shape.count; sent = [] })
+start_plain shape origin limit valid small high =
+    let e : length (each_below (λ i. start_of shape i origin limit) shape.count) ≡ shape.count = length_each_below (λ i. start_of shape i origin limit) shape.count in record {
+      nodes = λ i s at.
+          let r = get_each_below (λ k. start_of shape k origin limit) shape.count i s at in
+          subst (λ n. PlainNode n s) (sym e) (subst (λ x. PlainNode shape.count x) (sym r.1) (start_node shape origin limit valid small high i r.0));
+      letters = λ a b m sent. absurd sent;
+    }

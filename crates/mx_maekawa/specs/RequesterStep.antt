@@ -1,0 +1,244 @@
+-- The requester's rows of the step table.
+use Rattle.std.specs.Prelude.{ℕ, zero, suc, ◌+◌, ◌<◌, ◌≡◌, Bool, true, false, ◌||◌, ◌&&◌, not, List, [], ◌∷◌, ◌++◌, Option, Some, None, Result, Ok, Err, max, nat_lt, nat_eq, if◌then◌else◌, slice_index_or, slice_set, replicate}
+use Rattle.mx_stamps.specs.declared.stamp.Stamp.{Stamp}
+use Rattle.mx_stamps.specs.Stamp.{is_same_as}
+use Rattle.mx_letters.specs.declared.maekawa.MaekawaMsg.{MaekawaMsg}
+use Rattle.mx_letters.specs.declared.maekawa.MaekawaMsg.TheVariants.{Request, Relinquish, Release}
+use Rattle.mx_nodelaws.specs.World.{Done, Quiet, addressed}
+use Rattle.mx_nodelaws.specs.declared.phase.Phase.{Phase}
+use Rattle.mx_nodelaws.specs.declared.phase.Phase.TheVariants.{Idle, Waiting, Inside}
+use Rattle.mx_nodelaws.specs.declared.faults.AskFault.{AskFault}
+use Rattle.mx_nodelaws.specs.declared.faults.AskFault.TheVariants.{NotIdle, StampsSpent}
+use Rattle.mx_nodelaws.specs.declared.faults.EnterFault.{EnterFault}
+use Rattle.mx_nodelaws.specs.declared.faults.EnterFault.TheVariants.{NotWaiting, NotGranted, NumbersSpent}
+use Rattle.mx_nodelaws.specs.declared.faults.LeaveFault.{LeaveFault}
+use Rattle.mx_nodelaws.specs.declared.faults.LeaveFault.TheVariants.{NotInside}
+use Rattle.mx_maekawa.specs.Node.{RequesterState}
+
+-- a requester at rest: of its node, its own set, the count, the origin and the limit
+abbrev pub start_requester : ℕ → List Bool → ℕ → ℕ → ℕ → RequesterState
+start_requester me own count origin limit = record {
+  me = me;
+  own = own;
+  count = count;
+  limit = limit;
+  phase = Idle;
+  highest = origin;
+  issued = origin;
+  ours = record { number = 0; node = me };
+  held = replicate 21 None;
+  back = replicate 21 origin;
+  failed = replicate 21 false;
+  asked = replicate 21 None;
+  top = 0;
+  mine = 0;
+}
+
+-- a node that waits or is inside has a current stamp
+abbrev pub is_busy : Phase → Bool
+is_busy Idle = false
+is_busy Waiting = true
+is_busy (Inside n) = true
+
+abbrev pub is_waiting : Phase → Bool
+is_waiting Idle = false
+is_waiting Waiting = true
+is_waiting (Inside n) = false
+
+-- node a is in the own set
+abbrev pub is_own : RequesterState → ℕ → Bool
+is_own r a = slice_index_or r.own a false
+
+-- the grant of arbiter a that is held
+abbrev pub held_at : RequesterState → ℕ → Option ℕ
+held_at r a = slice_index_or r.held a None
+
+abbrev pub is_some : Option ℕ → Bool
+is_some None = false
+is_some (Some g) = true
+
+abbrev pub holds : RequesterState → ℕ → Bool
+holds r a = is_some (held_at r a)
+
+-- the highest grant that was given back to arbiter a
+abbrev pub back_at : RequesterState → ℕ → ℕ
+back_at r a = slice_index_or r.back a 0
+
+-- arbiter a has failed the current request
+abbrev pub has_failed : RequesterState → ℕ → Bool
+has_failed r a = slice_index_or r.failed a false
+
+-- the grant that arbiter a asked back, while its inquiry is remembered
+abbrev pub asked_at : RequesterState → ℕ → Option ℕ
+asked_at r a = slice_index_or r.asked a None
+
+-- the permission: a grant of each arbiter of the own set is held
+abbrev pub HoldsAll : RequesterState → Type 0
+HoldsAll r = (a : ℕ) → a < r.count → is_own r a ≡ true → holds r a ≡ true
+
+-- the same as a test, arbiter by arbiter below n
+abbrev pub holds_below : RequesterState → ℕ → Bool
+holds_below r zero = true
+holds_below r (suc n) = holds_below r n && (not (is_own r n) || holds r n)
+
+abbrev pub holds_all : RequesterState → Bool
+holds_all r = holds_below r r.count
+
+-- some arbiter has failed the current request
+abbrev pub HasFailed : RequesterState → Type 0
+HasFailed r = (a : ℕ) × (a < r.count) × (has_failed r a ≡ true)
+
+-- the same as a test, arbiter by arbiter below n
+abbrev pub has_failed_below : RequesterState → ℕ → Bool
+has_failed_below r zero = false
+has_failed_below r (suc n) = has_failed_below r n || has_failed r n
+
+-- the stamp is that of the current request of a waiting node
+abbrev pub is_current_wait : RequesterState → Stamp → Bool
+is_current_wait r stamp = is_waiting r.phase && is_same_as stamp r.ours
+
+-- a stamp of this node is ended: it is not the current one, and was issued
+abbrev pub has_ended : RequesterState → Stamp → Bool
+has_ended r stamp = not (is_busy r.phase && is_same_as stamp r.ours) && nat_lt stamp.number (r.issued + 1)
+
+-- what a step makes of the requester
+abbrev pub Did : Type 0 → Type 0
+Did A = Done RequesterState A MaekawaMsg
+
+-- a refusal, or a letter that no row fits: nothing changes and nothing is sent
+abbrev pub unchanged : {A : Type 0} → RequesterState → A → Did A
+unchanged r answer = record { state = r; answer = answer; letters = [] }
+
+-- one letter to arbiter a
+abbrev pub saying : RequesterState → ℕ → MaekawaMsg → Did (Unit {0})
+saying r a letter = record { state = r; answer = tt; letters = (a, letter) ∷ [] }
+
+-- one step, and then another
+abbrev pub and_then : Did (Unit {0}) → (RequesterState → Did (Unit {0})) → Did (Unit {0})
+and_then first second = record { state = (second first.state).state; answer = tt; letters = first.letters ++ (second first.state).letters }
+
+-- the grant of a remembered inquiry of arbiter b, if there is one, goes back
+abbrev pub giving_asked : RequesterState → ℕ → ℕ → RequesterState
+giving_asked r b g = record r { back = slice_set r.back b g; held = slice_set r.held b None; asked = slice_set r.asked b None; failed = slice_set r.failed b true }
+
+abbrev pub giving : Option ℕ → RequesterState → ℕ → Did (Unit {0})
+giving None r b = unchanged r tt
+giving (Some g) r b = saying (giving_asked r b g) b (Relinquish r.ours g)
+
+abbrev pub give_asked : ℕ → RequesterState → Did (Unit {0})
+give_asked b r = giving (asked_at r b) r b
+
+-- those of the arbiters below n, in order
+abbrev pub give_below : ℕ → RequesterState → Did (Unit {0})
+give_below zero r = unchanged r tt
+give_below (suc n) r = and_then (give_below n r) (give_asked n)
+
+-- Fail: arbiter a has failed the request, and each grant of a remembered inquiry goes back
+abbrev pub failing : RequesterState → ℕ → RequesterState
+failing r a = record r { failed = slice_set r.failed a true }
+
+abbrev pub fail : ℕ → RequesterState → Did (Unit {0})
+fail a r = give_below r.count (failing r a)
+
+-- ask: the clock's next stamp, no grant yet, and a request to each arbiter of the own set
+abbrev pub asking : RequesterState → RequesterState
+asking r = record r { highest = r.highest + 1; issued = r.highest + 1; ours = record { number = r.highest + 1; node = r.me }; held = replicate 21 None; failed = replicate 21 false; asked = replicate 21 None; phase = Waiting }
+
+-- the letter, to each arbiter of the own set
+abbrev pub to_own : RequesterState → MaekawaMsg → ℕ → Option MaekawaMsg
+to_own r letter a = if is_own r a then Some letter else None
+
+abbrev pub asked : RequesterState → Did (Result Stamp AskFault)
+asked r = record { state = asking r; answer = Ok (asking r).ours; letters = addressed (to_own r (Request (asking r).ours)) r.count }
+
+abbrev pub ask_in : Phase → RequesterState → Did (Result Stamp AskFault)
+ask_in Idle r = if nat_lt r.highest 18446744073709551615 then asked r else unchanged r (Err StampsSpent)
+ask_in Waiting r = unchanged r (Err NotIdle)
+ask_in (Inside n) r = unchanged r (Err NotIdle)
+
+-- a letter for an ended stamp is answered by a release
+abbrev pub release_ended : RequesterState → Stamp → ℕ → Did (Unit {0})
+release_ended r stamp a = if has_ended r stamp then saying r a (Release stamp r.top) else unchanged r tt
+
+-- LOCKED from arbiter a, for the current request, whose grant is missing: a grant that was given back does not count again
+abbrev pub holding : RequesterState → ℕ → ℕ → ℕ → RequesterState
+holding r a g c = record r { held = slice_set r.held a (Some g); failed = slice_set r.failed a false; top = max r.top c }
+
+abbrev pub locked_fresh : ℕ → Stamp → ℕ → ℕ → RequesterState → Did (Unit {0})
+locked_fresh a stamp g c r = if nat_lt (back_at r a) g then unchanged (holding r a g c) tt else saying r a (Relinquish stamp g)
+
+abbrev pub locked_current : ℕ → Stamp → ℕ → ℕ → RequesterState → Did (Unit {0})
+locked_current a stamp g c r = if holds r a then unchanged r tt else locked_fresh a stamp g c r
+
+abbrev pub take_locked : ℕ → Stamp → ℕ → ℕ → RequesterState → Did (Unit {0})
+take_locked a stamp g c r = if is_current_wait r stamp then locked_current a stamp g c r else release_ended r stamp a
+
+-- FAILED from arbiter a, for the current request, whose grant is missing
+abbrev pub take_failed : ℕ → Stamp → RequesterState → Did (Unit {0})
+take_failed a stamp r = if is_current_wait r stamp && not (holds r a) then fail a r else unchanged r tt
+
+-- INQUIRE from arbiter a for the grant that is held: it goes back where some arbiter has failed, else the inquiry is remembered
+abbrev pub giving_now : RequesterState → ℕ → ℕ → RequesterState
+giving_now r a g = record r { back = slice_set r.back a g; held = slice_set r.held a None; failed = slice_set r.failed a true }
+
+abbrev pub remembering : RequesterState → ℕ → ℕ → RequesterState
+remembering r a g = record r { asked = slice_set r.asked a (Some g) }
+
+abbrev pub inquired_held : ℕ → Stamp → ℕ → RequesterState → Did (Unit {0})
+inquired_held a stamp g r =
+    if has_failed_below r r.count then saying (giving_now r a g) a (Relinquish stamp g) else unchanged (remembering r a g) tt
+
+-- for a grant that has not come: it goes back at once, and arbiter a has failed
+abbrev pub declining : RequesterState → ℕ → ℕ → RequesterState
+declining r a g = record r { back = slice_set r.back a (max (back_at r a) g) }
+
+abbrev pub inquired_missing : ℕ → Stamp → ℕ → RequesterState → Did (Unit {0})
+inquired_missing a stamp g r = and_then (saying (declining r a g) a (Relinquish stamp g)) (fail a)
+
+-- by what is held: for another grant than that one, it goes back and nothing else
+abbrev pub inquired : Option ℕ → ℕ → Stamp → ℕ → RequesterState → Did (Unit {0})
+inquired None a stamp g r = inquired_missing a stamp g r
+inquired (Some h) a stamp g r = if nat_eq h g then inquired_held a stamp g r else saying r a (Relinquish stamp g)
+
+abbrev pub take_inquire : ℕ → Stamp → ℕ → RequesterState → Did (Unit {0})
+take_inquire a stamp g r = if is_current_wait r stamp then inquired (held_at r a) a stamp g r else release_ended r stamp a
+
+abbrev pub can_enter_of : RequesterState → Bool
+can_enter_of r = is_waiting r.phase && holds_all r
+
+-- enter: the section's number is one above the highest that the node knows
+abbrev pub entering : RequesterState → RequesterState
+entering r = record r { top = r.top + 1; mine = r.top + 1; phase = Inside (r.top + 1); asked = replicate 21 None }
+
+abbrev pub entered : RequesterState → Quiet RequesterState (Result ℕ EnterFault)
+entered r = record { state = entering r; answer = Ok (r.top + 1) }
+
+abbrev pub refused : RequesterState → EnterFault → Quiet RequesterState (Result ℕ EnterFault)
+refused r fault = record { state = r; answer = Err fault }
+
+abbrev pub enter_granted : RequesterState → Quiet RequesterState (Result ℕ EnterFault)
+enter_granted r = if nat_lt r.top r.limit then entered r else refused r NumbersSpent
+
+abbrev pub enter_in : Phase → RequesterState → Quiet RequesterState (Result ℕ EnterFault)
+enter_in Idle r = refused r NotWaiting
+enter_in Waiting r = if holds_all r then enter_granted r else refused r NotGranted
+enter_in (Inside n) r = refused r NotWaiting
+
+-- leave: each arbiter of the own set is released
+abbrev pub leaving : RequesterState → RequesterState
+leaving r = record r { phase = Idle; held = replicate 21 None; failed = replicate 21 false; asked = replicate 21 None }
+
+abbrev pub left : RequesterState → ℕ → Did (Result ℕ LeaveFault)
+left r n = record { state = leaving r; answer = Ok n; letters = addressed (to_own r (Release r.ours r.top)) r.count }
+
+abbrev pub leave_in : Phase → RequesterState → Did (Result ℕ LeaveFault)
+leave_in Idle r = unchanged r (Err NotInside)
+leave_in Waiting r = unchanged r (Err NotInside)
+leave_in (Inside n) r = left r n
+
+-- tick: a waiting node sends its request again to each arbiter of the own set whose grant is missing
+abbrev pub to_missing : RequesterState → MaekawaMsg → ℕ → Option MaekawaMsg
+to_missing r letter a = if is_own r a && not (holds r a) then Some letter else None
+
+abbrev pub request_again : RequesterState → List (ℕ × MaekawaMsg)
+request_again r = if is_waiting r.phase then addressed (to_missing r (Request r.ours)) r.count else []

@@ -1,0 +1,82 @@
+-- The step table: the rows of the two roles, put together.
+use Rattle.std.specs.Prelude.{ℕ, Bool, ◌&&◌, [], ◌++◌, Result, max, nat_eq, if◌then◌else◌}
+use Rattle.mx_stamps.specs.declared.stamp.Stamp.{Stamp}
+use Rattle.mx_letters.specs.declared.maekawa.MaekawaMsg.{MaekawaMsg}
+use Rattle.mx_letters.specs.declared.maekawa.MaekawaMsg.TheVariants.{Request, Locked, Failed, Inquire, Relinquish, Release}
+use Rattle.mx_nodelaws.specs.World.{Done, Quiet}
+use Rattle.mx_nodelaws.specs.Core.{Core}
+use Rattle.mx_nodelaws.specs.declared.faults.AskFault.{AskFault}
+use Rattle.mx_nodelaws.specs.declared.faults.EnterFault.{EnterFault}
+use Rattle.mx_nodelaws.specs.declared.faults.LeaveFault.{LeaveFault}
+use Rattle.mx_quorums.specs.Family.{Family, row_of, has_of}
+use Rattle.mx_maekawa.specs.Node.{RequesterState, ArbiterState, Node}
+use Rattle.mx_maekawa.specs.RequesterStep.{start_requester, ask_in, take_locked, take_failed, take_inquire, enter_in, leave_in, request_again, can_enter_of, is_own}
+use Rattle.mx_maekawa.specs.ArbiterStep.{start_arbiter, take_request, take_relinquish, take_release, lock_letter}
+
+-- a refusal, or a letter that no row fits: nothing changes and nothing is sent
+abbrev pub still : {A : Type 0} → Node → A → Done Node A MaekawaMsg
+still s answer = record { state = s; answer = answer; letters = [] }
+
+-- a step of the requester alone, or of the arbiter alone
+abbrev pub by_requester : {A : Type 0} → Node → Done RequesterState A MaekawaMsg → Done Node A MaekawaMsg
+by_requester s did = record { state = record s { requester = did.state }; answer = did.answer; letters = did.letters }
+
+abbrev pub by_arbiter : Node → Done ArbiterState (Unit {0}) MaekawaMsg → Done Node (Unit {0}) MaekawaMsg
+by_arbiter s did = record { state = record s { arbiter = did.state }; answer = tt; letters = did.letters }
+
+-- a node at rest: of the sets, the node, the origin and the limit
+abbrev pub start_of : Family → ℕ → ℕ → ℕ → Node
+start_of shape me origin limit = record {
+  quorums = shape;
+  requester = start_requester me (row_of shape me) shape.count origin limit;
+  arbiter = start_arbiter shape.count origin;
+}
+
+abbrev pub ask_of : Node → Done Node (Result Stamp AskFault) MaekawaMsg
+ask_of s = by_requester s (ask_in s.requester.phase s.requester)
+
+-- the requester takes a letter of an arbiter of its own set, about a stamp of its own
+abbrev pub is_answer : Node → ℕ → Stamp → Bool
+is_answer s from stamp = is_own s.requester from && nat_eq stamp.node s.requester.me
+
+-- the arbiter takes a letter of a node whose set it is in, about a stamp of that node
+abbrev pub is_call : Node → ℕ → Stamp → Bool
+is_call s from stamp = has_of s.quorums from s.requester.me && nat_eq stamp.node from
+
+-- the clock sees the number of a request
+abbrev pub seeing : Node → ℕ → Node
+seeing s number = record s { requester = record (s.requester) { highest = max s.requester.highest number } }
+
+abbrev pub deliver_of : ℕ → MaekawaMsg → Node → Done Node (Unit {0}) MaekawaMsg
+deliver_of from (Request stamp) s = if is_call s from stamp then by_arbiter (seeing s stamp.number) (take_request stamp s.arbiter) else still s tt
+deliver_of from (Locked stamp g c) s = if is_answer s from stamp then by_requester s (take_locked from stamp g c s.requester) else still s tt
+deliver_of from (Failed stamp) s = if is_answer s from stamp then by_requester s (take_failed from stamp s.requester) else still s tt
+deliver_of from (Inquire stamp g) s = if is_answer s from stamp then by_requester s (take_inquire from stamp g s.requester) else still s tt
+deliver_of from (Relinquish stamp g) s = if is_call s from stamp then by_arbiter s (take_relinquish stamp g s.arbiter) else still s tt
+deliver_of from (Release stamp t) s = if is_call s from stamp then by_arbiter s (take_release stamp t s.arbiter) else still s tt
+
+abbrev pub enter_of : Node → Quiet Node (Result ℕ EnterFault)
+enter_of s = let did = enter_in s.requester.phase s.requester in record { state = record s { requester = did.state }; answer = did.answer }
+
+abbrev pub leave_of : Node → Done Node (Result ℕ LeaveFault) MaekawaMsg
+leave_of s = by_requester s (leave_in s.requester.phase s.requester)
+
+-- tick: the request again, and then the letter of the lock
+abbrev pub tick_of : Node → Done Node (Unit {0}) MaekawaMsg
+tick_of s = record { state = s; answer = tt; letters = request_again s.requester ++ lock_letter s.arbiter.lock }
+
+-- the whole table
+abbrev pub maekawa_core : Core Family Node MaekawaMsg
+maekawa_core = record {
+  count = λ shape. shape.count;
+  start = start_of;
+  phase = λ s. s.requester.phase;
+  mine = λ s. s.requester.mine;
+  limit = λ s. s.requester.limit;
+  can_enter = λ s. can_enter_of s.requester;
+  ask = ask_of;
+  deliver = deliver_of;
+  enter = enter_of;
+  leave = leave_of;
+  tick = tick_of;
+}

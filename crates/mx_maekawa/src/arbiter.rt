@@ -1,0 +1,217 @@
+//! A node as an arbiter: whom it is locked for, who waits for it, and its rows of the step table.
+
+use crate::lock::{Lock, is_exactly, is_for, is_up_to, stamp_of};
+use crate::waiting::{drop_up_to, is_below, is_later, lesser, or_else};
+use mx_letters::{MaekawaMsg, Outbox};
+use mx_stamps::{NodeId, Stamp};
+use std::marker::Model;
+
+/// Whom a node has granted the section to, as far as it goes, and who waits for that.
+#[derive(Drop)]
+pub(crate) struct Arbiter {
+    count: u8,
+    lock: Option<Lock>,
+    granted: u64,
+    waiting: [Option<Stamp>; 21],
+    ended: [u64; 21],
+    last: u64,
+}
+
+impl Model for Arbiter {
+    ghost use Rattle.std.specs.Prelude.{◌≤◌};
+    ghost use Rattle.mx_maekawa.specs.Node.{ArbiterState};
+
+    ghost Value = { ArbiterState };
+
+    ghost view = { λ a. record { count = a.count; lock = a.lock; granted = a.granted; waiting = a.waiting; ended = a.ended; last = a.last } };
+
+    ghost invariant = { λ a. a.count ≤ 21 };
+}
+
+impl Arbiter {
+    ghost use Rattle.std.specs.Prelude.{◌≡◌, ◌≤◌, ◌<◌, [], ◌++◌, length, Some};
+    ghost use Rattle.mx_maekawa.specs.ArbiterStep.{start_arbiter, waiting_at, others_at, IsLeastOf, least_of, lock_letter, grant_to, grant, rank, queue, take_request, take_relinquish, take_release};
+
+    /// An arbiter at rest.
+    pub(crate) fn start(count: u8, origin: u64) -> Self
+        requires { count ≤ 21 }
+        ensures { result ≡ start_arbiter count origin }
+    {
+        Arbiter {
+            count,
+            lock: None,
+            granted: origin,
+            waiting: [None; 21],
+            ended: [origin; 21],
+            last: 0,
+        }
+    }
+
+    /// The least request that waits.
+    fn least(&self) -> Option<Stamp>
+        ensures value { result ≡ least_of (waiting_at self.now) self.now.count }
+        ensures least { IsLeastOf (waiting_at self.now) self.now.count result }
+    {
+        let mut least = None;
+        for i in 0..self.count {
+            least = lesser(&least, &self.waiting[i as usize]);
+        }
+        least
+    }
+
+    /// The least request that waits, but for that of one node.
+    fn least_but(&self, but: NodeId) -> Option<Stamp>
+        ensures value { result ≡ least_of (others_at self.now but) self.now.count }
+        ensures least { IsLeastOf (others_at self.now but) self.now.count result }
+    {
+        let mut least = None;
+        for i in 0..self.count {
+            if i != but.get() {
+                least = lesser(&least, &self.waiting[i as usize]);
+            }
+        }
+        least
+    }
+
+    /// Grants a request that waits.
+    fn lock_for(&mut self, stamp: &Stamp, out: &mut Outbox<MaekawaMsg>)
+        requires { out.old ≡ [] }
+        ensures state { self.new ≡ (grant_to (Some stamp.now) self.old).state }
+        ensures letters { out.new ≡ (grant_to (Some stamp.now) self.old).letters }
+    {
+        if self.granted < u64::MAX {
+            self.waiting[stamp.node.get() as usize] = None;
+            self.granted += 1;
+            let lock = Lock {
+                stamp: *stamp,
+                grant: self.granted,
+                last: self.last,
+            };
+            self.lock = Some(lock);
+            out.add(
+                stamp.node,
+                MaekawaMsg::Locked(*stamp, self.granted, self.last),
+            );
+        }
+    }
+
+    /// Grants the least request that waits, where nothing is granted.
+    fn grant(&mut self, out: &mut Outbox<MaekawaMsg>)
+        requires { out.old ≡ [] }
+        ensures state { self.new ≡ (grant self.old).state }
+        ensures letters { out.new ≡ (grant self.old).letters }
+    {
+        if self.lock.is_none() {
+            if let Some(stamp) = self.least() {
+                self.lock_for(&stamp, out);
+            }
+        }
+    }
+
+    /// Ranks a request: it fails, or the grant that is out is asked back.
+    fn rank(&self, lock: &Lock, stamp: &Stamp, out: &mut Outbox<MaekawaMsg>)
+        requires { out.old ≡ [] }
+        ensures { out.new ≡ (rank lock.now stamp.now self.now).letters }
+    {
+        let other = self.least_but(stamp.node);
+        if lock.stamp.node.get() == stamp.node.get() {
+            out.add(stamp.node, MaekawaMsg::Inquire(lock.stamp, lock.grant));
+        } else if lock.stamp.is_before(stamp) || is_below(&other, stamp) {
+            out.add(stamp.node, MaekawaMsg::Failed(*stamp));
+        } else {
+            out.add(lock.stamp.node, MaekawaMsg::Inquire(lock.stamp, lock.grant));
+            if let Some(least) = other {
+                out.add(least.node, MaekawaMsg::Failed(least));
+            }
+        }
+    }
+
+    /// Puts a request to those that wait.
+    fn queue(&mut self, stamp: &Stamp, out: &mut Outbox<MaekawaMsg>)
+        requires { out.old ≡ [] }
+        ensures state { self.new ≡ (queue self.old.lock stamp.now self.old).state }
+        ensures letters { out.new ≡ (queue self.old.lock stamp.now self.old).letters }
+    {
+        self.waiting[stamp.node.get() as usize] = Some(*stamp);
+        match self.lock {
+            None => self.grant(out),
+            Some(lock) => self.rank(&lock, stamp, out),
+        }
+    }
+
+    /// The letter of the lock, again.
+    fn send_lock(&self, out: &mut Outbox<MaekawaMsg>)
+        requires { length out.old ≤ 21 }
+        ensures { out.new ≡ out.old ++ lock_letter self.now.lock }
+    {
+        if let Some(lock) = &self.lock {
+            out.add(
+                lock.stamp.node,
+                MaekawaMsg::Locked(lock.stamp, lock.grant, lock.last),
+            );
+        }
+    }
+
+    /// A request comes, of the stamp's node.
+    pub(crate) fn take_request(&mut self, stamp: &Stamp, out: &mut Outbox<MaekawaMsg>)
+        requires { out.old ≡ [] }
+        ensures state { self.new ≡ (take_request stamp.now self.old).state }
+        ensures letters { out.new ≡ (take_request stamp.now self.old).letters }
+    {
+        let index = stamp.node.get() as usize;
+        if stamp.number <= self.ended[index] {
+            return;
+        }
+        if is_for(&self.lock, stamp) {
+            self.send_lock(out);
+            return;
+        }
+        if is_later(&stamp_of(&self.lock), stamp) || is_later(&self.waiting[index], stamp) {
+            return;
+        }
+        self.queue(stamp, out);
+    }
+
+    /// A grant comes back, from the stamp's node.
+    pub(crate) fn take_relinquish(
+        &mut self,
+        stamp: &Stamp,
+        grant: u64,
+        out: &mut Outbox<MaekawaMsg>,
+    )
+        requires { out.old ≡ [] }
+        ensures state { self.new ≡ (take_relinquish stamp.now grant self.old).state }
+        ensures letters { out.new ≡ (take_relinquish stamp.now grant self.old).letters }
+    {
+        if is_exactly(&self.lock, stamp, grant) {
+            let index = stamp.node.get() as usize;
+            self.lock = None;
+            self.waiting[index] = or_else(&self.waiting[index], stamp);
+            self.grant(out);
+        }
+    }
+
+    /// The stamp's node has ended its requests up to this one.
+    pub(crate) fn take_release(&mut self, stamp: &Stamp, top: u64, out: &mut Outbox<MaekawaMsg>)
+        requires { out.old ≡ [] }
+        ensures state { self.new ≡ (take_release stamp.now top self.old).state }
+        ensures letters { out.new ≡ (take_release stamp.now top self.old).letters }
+    {
+        let index = stamp.node.get() as usize;
+        self.last = self.last.max(top);
+        self.ended[index] = self.ended[index].max(stamp.number);
+        self.waiting[index] = drop_up_to(&self.waiting[index], stamp.number);
+        if is_up_to(&self.lock, stamp) {
+            self.lock = None;
+            self.grant(out);
+        }
+    }
+
+    /// The letter of the lock, again.
+    pub(crate) fn tick(&self, out: &mut Outbox<MaekawaMsg>)
+        requires { length out.old ≤ 21 }
+        ensures { out.new ≡ out.old ++ lock_letter self.now.lock }
+    {
+        self.send_lock(out);
+    }
+}

@@ -1,0 +1,170 @@
+//! What a requester does with the letters of its arbiters.
+
+use super::Requester;
+use mx_letters::{MaekawaMsg, Outbox};
+use mx_nodelaws::Phase;
+use mx_stamps::{NodeId, Stamp};
+
+impl Requester {
+    ghost use Rattle.std.specs.Prelude.{◌≡◌, ◌+◌, ◌≤◌, ◌<◌, ◌↔◌, [], ◌++◌, length, IsTrue};
+    ghost use Rattle.mx_maekawa.specs.RequesterStep.{HasFailed, has_failed_below, is_current_wait, has_ended, give_asked, fail, release_ended, take_locked, take_failed, inquired_held, take_inquire};
+
+    /// Whether some arbiter has failed the current request.
+    fn has_failed(&self) -> bool
+        ensures value { result ≡ has_failed_below self.now self.now.count }
+        ensures some { IsTrue result ↔ HasFailed self.now }
+    {
+        let mut any = false;
+        for i in 0..self.count {
+            if self.failed[i as usize] {
+                any = true;
+            }
+        }
+        any
+    }
+
+    /// Whether this is the stamp of our request, and we wait.
+    fn is_current_wait(&self, stamp: &Stamp) -> bool
+        ensures { result ≡ is_current_wait self.now stamp.now }
+    {
+        matches!(self.phase, Phase::Waiting) && stamp.is(&self.ours)
+    }
+
+    /// Whether this stamp of ours is not current, and never will be.
+    fn has_ended(&self, stamp: &Stamp) -> bool
+        ensures { result ≡ has_ended self.now stamp.now }
+    {
+        let is_current = !matches!(self.phase, Phase::Idle) && stamp.is(&self.ours);
+        !is_current && stamp.number <= self.issued
+    }
+
+    /// The grant of arbiter b goes back, where it was asked back.
+    fn give_asked(&mut self, b: NodeId, out: &mut Outbox<MaekawaMsg>)
+        requires { length out.old < 32 }
+        ensures state { self.new ≡ (give_asked b self.old).state }
+        ensures letters { out.new ≡ out.old ++ (give_asked b self.old).letters }
+        ensures room { length out.new ≤ length out.old + 1 }
+    {
+        let index = b.get() as usize;
+        if let Some(grant) = self.asked[index] {
+            out.add(b, MaekawaMsg::Relinquish(self.ours, grant));
+            self.back[index] = grant;
+            self.held[index] = None;
+            self.asked[index] = None;
+            self.failed[index] = true;
+        }
+    }
+
+    /// Arbiter a has failed our request: each grant that was asked back goes back.
+    fn fail(&mut self, a: NodeId, out: &mut Outbox<MaekawaMsg>)
+        requires { length out.old ≤ 1 }
+        ensures state { self.new ≡ (fail a self.old).state }
+        ensures letters { out.new ≡ out.old ++ (fail a self.old).letters }
+    {
+        self.failed[a.get() as usize] = true;
+        for i in 0..self.count {
+            if let Some(b) = NodeId::of(i) {
+                self.give_asked(b, out);
+            }
+        }
+    }
+
+    /// A release of a stamp that has ended, to an arbiter that still knows it.
+    fn release_ended(&self, stamp: &Stamp, a: NodeId, out: &mut Outbox<MaekawaMsg>)
+        requires { out.old ≡ [] }
+        ensures { out.new ≡ (release_ended self.now stamp.now a).letters }
+    {
+        if self.has_ended(stamp) {
+            out.add(a, MaekawaMsg::Release(*stamp, self.top));
+        }
+    }
+
+    /// A grant comes. One that was given back does not count again.
+    pub(crate) fn take_locked(
+        &mut self,
+        a: NodeId,
+        stamp: &Stamp,
+        grant: u64,
+        last: u64,
+        out: &mut Outbox<MaekawaMsg>,
+    )
+        requires { out.old ≡ [] }
+        ensures state { self.new ≡ (take_locked a stamp.now grant last self.old).state }
+        ensures letters { out.new ≡ (take_locked a stamp.now grant last self.old).letters }
+    {
+        let index = a.get() as usize;
+        if !self.is_current_wait(stamp) {
+            self.release_ended(stamp, a, out);
+        } else if self.held[index].is_none() {
+            if grant > self.back[index] {
+                self.held[index] = Some(grant);
+                self.failed[index] = false;
+                self.top = self.top.max(last);
+            } else {
+                out.add(a, MaekawaMsg::Relinquish(*stamp, grant));
+            }
+        }
+    }
+
+    /// An arbiter has another request before ours.
+    pub(crate) fn take_failed(&mut self, a: NodeId, stamp: &Stamp, out: &mut Outbox<MaekawaMsg>)
+        requires { out.old ≡ [] }
+        ensures state { self.new ≡ (take_failed a stamp.now self.old).state }
+        ensures letters { out.new ≡ (take_failed a stamp.now self.old).letters }
+    {
+        if self.is_current_wait(stamp) && !self.holds(a) {
+            self.fail(a, out);
+        }
+    }
+
+    /// An arbiter asks its grant back.
+    pub(crate) fn take_inquire(
+        &mut self,
+        a: NodeId,
+        stamp: &Stamp,
+        grant: u64,
+        out: &mut Outbox<MaekawaMsg>,
+    )
+        requires { out.old ≡ [] }
+        ensures state { self.new ≡ (take_inquire a stamp.now grant self.old).state }
+        ensures letters { out.new ≡ (take_inquire a stamp.now grant self.old).letters }
+    {
+        let index = a.get() as usize;
+        if !self.is_current_wait(stamp) {
+            self.release_ended(stamp, a, out);
+            return;
+        }
+        match self.held[index] {
+            None => {
+                out.add(a, MaekawaMsg::Relinquish(*stamp, grant));
+                self.back[index] = self.back[index].max(grant);
+                self.fail(a, out);
+            }
+            Some(held) if held != grant => out.add(a, MaekawaMsg::Relinquish(*stamp, grant)),
+            Some(_) => self.take_inquire_held(a, stamp, grant, out),
+        }
+    }
+
+    /// It is the grant that is held: it goes back where we cannot enter soon.
+    fn take_inquire_held(
+        &mut self,
+        a: NodeId,
+        stamp: &Stamp,
+        grant: u64,
+        out: &mut Outbox<MaekawaMsg>,
+    )
+        requires { out.old ≡ [] }
+        ensures state { self.new ≡ (inquired_held a stamp.now grant self.old).state }
+        ensures letters { out.new ≡ (inquired_held a stamp.now grant self.old).letters }
+    {
+        let index = a.get() as usize;
+        if self.has_failed() {
+            out.add(a, MaekawaMsg::Relinquish(*stamp, grant));
+            self.back[index] = grant;
+            self.held[index] = None;
+            self.failed[index] = true;
+        } else {
+            self.asked[index] = Some(grant);
+        }
+    }
+}
