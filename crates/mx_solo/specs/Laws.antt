@@ -148,32 +148,33 @@ lt_true : (a b : ℕ) → nat_lt a b ≡ true → a < b
 lt_true a b h = grind (arith, nat_tests)
 
 -- a step that sends nothing and keeps the numbers small
-quiet_good : {A : Type 0} (w : World Node ℕ) (i : ℕ) (s : Node) (new : Node) (answer : A) → IsGood w → IsNode w i s → (new.mine < 2 ^ 64) × (new.limit < 2 ^ 64) → IsGood (after w i (record { state = new; answer = answer; letters = [] }))
-quiet_good w i s new answer good at small = record {
+quiet_good : {A : Type 0} (w : World Node ℕ) (i : ℕ) (s : Node) (new : Node) (answer : A) → IsGood w → IsNode w i s → new.me ≡ s.me → (new.mine < 2 ^ 64) × (new.limit < 2 ^ 64) → IsGood (after w i (record { state = new; answer = answer; letters = [] }))
+quiet_good w i s new answer good at me small = record {
   alone = length_set w.nodes i new ∙ good.alone;
   mine = λ j t tat. elim (get_after w.nodes i j s new t at tat) [ inl p ↦ subst (λ x. (x.mine < 2 ^ 64) × (x.limit < 2 ^ 64)) (sym p.1) small | inr p ↦ good.mine j t p.1 ];
+  named = λ j t tat. elim (get_after w.nodes i j s new t at tat) [ inl p ↦ ap (λ x. x.me) p.1 ∙ me ∙ good.named i s at ∙ sym p.0 | inr p ↦ good.named j t p.1 ];
   silent = λ a b m sent. good.silent a b m (subst (λ l. IsIn (a, b, m) l) (append_nil w.sent) sent);
 }
 
 ask_good : (p : Phase) (w : World Node ℕ) (i : ℕ) (s : Node) → IsGood w → IsNode w i s → IsGood (after w i (ask_in p s))
-ask_good Idle w i s good at = quiet_good w i s (record s { phase = Waiting }) (ask_in Idle s).answer good at (good.mine i s at)
-ask_good Waiting w i s good at = quiet_good w i s s (ask_in Waiting s).answer good at (good.mine i s at)
-ask_good (Inside n) w i s good at = quiet_good w i s s (ask_in (Inside n) s).answer good at (good.mine i s at)
+ask_good Idle w i s good at = quiet_good w i s (record s { phase = Waiting }) (ask_in Idle s).answer good at refl (good.mine i s at)
+ask_good Waiting w i s good at = quiet_good w i s s (ask_in Waiting s).answer good at refl (good.mine i s at)
+ask_good (Inside n) w i s good at = quiet_good w i s s (ask_in (Inside n) s).answer good at refl (good.mine i s at)
 
 enter_good : (p : Phase) (w : World Node ℕ) (i : ℕ) (s : Node) → IsGood w → IsNode w i s → IsGood (after w i (quietly (enter_in p s)))
-enter_good Idle w i s good at = quiet_good w i s s (enter_in Idle s).answer good at (good.mine i s at)
+enter_good Idle w i s good at = quiet_good w i s s (enter_in Idle s).answer good at refl (good.mine i s at)
 enter_good Waiting w i s good at =
     let P : Quiet Node (Result ℕ EnterFault) → Type 0 = λ d. IsGood (after w i (quietly d)) in
     let small = good.mine i s at in
     cond_case P (nat_lt s.mine s.limit) (accepted s) (spent s)
-    (λ t. quiet_good w i s (entering s) (accepted s).answer good at (let l = lt_true s.mine s.limit t in let h = small.1 in (omega arith, h)))
-    (λ _. quiet_good w i s s (spent s).answer good at small)
-enter_good (Inside n) w i s good at = quiet_good w i s s (enter_in (Inside n) s).answer good at (good.mine i s at)
+    (λ t. quiet_good w i s (entering s) (accepted s).answer good at refl (let l = lt_true s.mine s.limit t in let h = small.1 in (omega arith, h)))
+    (λ _. quiet_good w i s s (spent s).answer good at refl small)
+enter_good (Inside n) w i s good at = quiet_good w i s s (enter_in (Inside n) s).answer good at refl (good.mine i s at)
 
 leave_good : (p : Phase) (w : World Node ℕ) (i : ℕ) (s : Node) → IsGood w → IsNode w i s → IsGood (after w i (leave_in p s))
-leave_good Idle w i s good at = quiet_good w i s s (leave_in Idle s).answer good at (good.mine i s at)
-leave_good Waiting w i s good at = quiet_good w i s s (leave_in Waiting s).answer good at (good.mine i s at)
-leave_good (Inside n) w i s good at = quiet_good w i s (record s { phase = Idle }) (leave_in (Inside n) s).answer good at (good.mine i s at)
+leave_good Idle w i s good at = quiet_good w i s s (leave_in Idle s).answer good at refl (good.mine i s at)
+leave_good Waiting w i s good at = quiet_good w i s s (leave_in Waiting s).answer good at refl (good.mine i s at)
+leave_good (Inside n) w i s good at = quiet_good w i s (record s { phase = Idle }) (leave_in (Inside n) s).answer good at refl (good.mine i s at)
 
 -- the node of a good world is node 0
 zeroth : (w : World Node ℕ) (i : ℕ) (s : Node) → IsGood w → IsNode w i s → i ≡ 0
@@ -200,14 +201,15 @@ solo_laws = record {
   at_start = λ shape origin limit valid small low high. record {
     alone = length_each_below (λ i. start_of shape i origin limit) 1;
     mine = λ i s at. let e = (get_each_below (λ k. start_of shape k origin limit) 1 i s at).1 in subst (λ x. (x.mine < 2 ^ 64) × (x.limit < 2 ^ 64)) (sym e) (omega arith, omega arith);
+    named = λ i s at. let e = get_each_below (λ k. start_of shape k origin limit) 1 i s at in ap (λ x. x.me) e.1;
     silent = λ a b m sent. absurd sent;
   };
   after_ask = λ w i s good at. ask_good s.phase w i s good at;
-  after_deliver = λ w i s from m good at sent. quiet_good {A = Unit {0}} w i s s tt good at (good.mine i s at);
+  after_deliver = λ w i s from m good at sent. quiet_good {A = Unit {0}} w i s s tt good at refl (good.mine i s at);
   after_enter = λ w i s good at. enter_good s.phase w i s good at;
   after_leave = λ w i s good at. leave_good s.phase w i s good at;
-  after_tick = λ w i s good at. quiet_good {A = Unit {0}} w i s s tt good at (good.mine i s at);
-  by_membership = λ w sent same good. record { alone = good.alone; mine = good.mine; silent = λ a b m h. good.silent a b m ((same (a, b, m)).1 h) };
+  after_tick = λ w i s good at. quiet_good {A = Unit {0}} w i s s tt good at refl (good.mine i s at);
+  by_membership = λ w sent same good. record { alone = good.alone; mine = good.mine; named = good.named; silent = λ a b m h. good.silent a b m ((same (a, b, m)).1 h) };
   to_nodes = λ w a b m good sent. absurd (good.silent a b m sent);
   one_inside = λ w i j s t good at bat inside too. zeroth w i s good at ∙ sym (zeroth w j t good bat);
   entry = λ w i s good at can.

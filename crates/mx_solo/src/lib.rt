@@ -1,6 +1,6 @@
 //! The smallest algorithm: a cluster of one node, which enters when it likes. It is the template for
-//! a new one (docs/ARCHITECTURE.md, "How to add an algorithm"), and shows what the laws refuse: with
-//! a second node that enters when it likes too, they can't be proved.
+//! a new one (docs/ARCHITECTURE.md, "How to add an algorithm"), and shows what the laws refuse: for
+//! two nodes that enter when they like they can't be proved (`no_two`, proofs/Refuted.antt).
 #![tactic(auto)]
 
 mod solo;

@@ -72,6 +72,7 @@ impl Exclusion for Solo {
             return Err(AskFault::NotIdle);
         }
         self.phase = Phase::Waiting;
+        // it has no clock: the stamp shows the number of its last section
         Ok(Stamp {
             number: self.mine,
             node: self.me,
