@@ -1,0 +1,48 @@
+-- The queue stays one as names join and leave it, and has room for each name that is not in it.
+use Rattle.std.proofs.Common.{ℕ, ◌<◌, ◌≤◌, ◌≡◌, inl, inr, Bool, true, false, ◌||◌, nat_eq, List, [], ◌∷◌, ◌++◌, Some, length, refl, subst, arith, length-append}
+use Rattle.std.specs.Cmp.{nat_eq_equiv}
+use Rattle.std.specs.List.{AllByRecursion, IsDistinct}
+use Rattle.std.proofs.lemmas.Option.{same_Some}
+use Rattle.std.proofs.lemmas.Map.Keys.{IsDistinct-push, IsDistinct-head, IsDistinct-tail}
+use Rattle.std.proofs.lemmas.Map.Steps.{length-le_from_distinct_below}
+use Rattle.mx_stamps.proofs.Lists.{none_is_no_some}
+use Rattle.mx_raymond.specs.Queue.{is_queued, head_of, rest_of, IsQueue}
+use Rattle.mx_raymond.specs.Tests.{or_second, queued_pushed}
+
+or_none : (a b : Bool) → a ≡ false → b ≡ false → (a || b) ≡ false
+or_none true b e f = let bad : ⊥ = cc in absurd bad
+or_none false b e f = f
+
+pub is_queue_pushed : (queue : List ℕ) (name : ℕ) → IsQueue queue → name < 21 → is_queued queue name ≡ false → IsQueue (queue ++ name ∷ [])
+is_queue_pushed queue name ok lt absent = record {
+  once = IsDistinct-push nat_eq_equiv queue name ok.once absent;
+  nodes = λ node h. elim (queued_pushed queue name node h) [ inl old ↦ ok.nodes node old | inr e ↦ omega arith ];
+}
+
+-- there is room for a name that is not in the queue
+pub room : (queue : List ℕ) (name : ℕ) → IsQueue queue → name < 21 → is_queued queue name ≡ false → length queue < 21
+room queue name ok lt absent =
+    let more = is_queue_pushed queue name ok lt absent in
+    let le : length (queue ++ name ∷ []) ≤ 21 = length-le_from_distinct_below (queue ++ name ∷ []) 21 more.once more.nodes in
+    omega (arith, length-append queue (name ∷ []))
+
+pub is_queue_rest : (queue : List ℕ) → IsQueue queue → IsQueue (rest_of queue)
+is_queue_rest [] ok = ok
+is_queue_rest (first ∷ rest) ok = record {
+  once = IsDistinct-tail nat_eq first rest ok.once;
+  nodes = λ node h. ok.nodes node (or_second (nat_eq node first) (is_queued rest node) h);
+}
+
+absent_in : (name : ℕ) (queue : List ℕ) → AllByRecursion (λ y. nat_eq name y ≡ false) queue → is_queued queue name ≡ false
+absent_in name [] h = refl
+absent_in name (first ∷ rest) h = or_none (nat_eq name first) (is_queued rest name) h.0 (absent_in name rest h.1)
+
+-- the head is not in the queue behind it
+pub head_once : (queue : List ℕ) (node : ℕ) → IsQueue queue → head_of queue ≡ Some node → is_queued (rest_of queue) node ≡ false
+head_once [] node ok h = absurd (none_is_no_some node h)
+head_once (first ∷ rest) node ok h =
+    subst (λ x. is_queued rest x ≡ false) (same_Some first node h) (absent_in first rest (IsDistinct-head nat_eq first rest ok.once))
+
+pub is_queue_empty : IsQueue []
+unfolding IsDistinct
+is_queue_empty = record { once = tt; nodes = λ node h. let bad : ⊥ = cc in absurd bad }

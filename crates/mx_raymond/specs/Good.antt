@@ -1,0 +1,125 @@
+-- The worlds that are reached from the start.
+use Rattle.std.specs.Prelude.{ℕ, ◌<◌, ◌≤◌, ◌^◌, ◌≡◌, ◌⊎◌, true, Some, length}
+use Rattle.mx_letters.specs.declared.raymond.RaymondMsg.{RaymondMsg}
+use Rattle.mx_letters.specs.declared.raymond.RaymondMsg.TheVariants.{Request, Privilege, Got}
+use Rattle.mx_nodelaws.specs.World.{World, IsNode, WasSent}
+use Rattle.mx_nodelaws.specs.declared.phase.Phase.{Phase}
+use Rattle.mx_nodelaws.specs.declared.phase.Phase.TheVariants.{Idle, Waiting, Inside}
+use Rattle.mx_raymond.specs.declared.unacked.Unacked.{Unacked}
+use Rattle.mx_raymond.specs.Queue.{is_queued}
+use Rattle.mx_raymond.specs.Node.{Node}
+use Rattle.mx_raymond.specs.Step.{heard_from}
+
+-- some node has entered a section of this number or a later one
+abbrev pub IsReached : World Node RaymondMsg → ℕ → Type 0
+IsReached w n = (j : ℕ) × (t : Node) × (IsNode w j t) × (n ≤ t.mine)
+
+-- no node has entered a later section than this number's
+abbrev pub IsLast : World Node RaymondMsg → ℕ → Type 0
+IsLast w n = (j : ℕ) (t : Node) → IsNode w j t → t.mine ≤ n
+
+-- node j has seen this hop
+abbrev pub HasSeen : World Node RaymondMsg → ℕ → ℕ → Type 0
+HasSeen w j hop = (t : Node) → IsNode w j t → hop ≤ t.hop
+
+-- what holds of each node, where `highest` is the highest hop
+pub record IsNodeOk (w : World Node RaymondMsg) (highest i : ℕ) (s : Node) : Type 0 where
+  pub me : s.me ≡ i
+  pub hop : s.hop ≤ highest
+  -- the node knows its own sections, and no section that nobody has entered
+  pub mine_top : s.mine ≤ s.top
+  pub top_reached : IsReached w s.top
+  -- who is inside has the privilege
+  pub inside_holds : (n : ℕ) → s.phase ≡ Inside n → s.holder ≡ i
+  -- the privilege that it may send again is one that it has sent
+  pub unacked_sent : (u : Unacked) → s.unacked ≡ Some u → WasSent w i u.to (Privilege u.hop u.last)
+
+-- what holds of each privilege that was sent
+pub record IsPrivilegeOk (w : World Node RaymondMsg) (highest to hop last : ℕ) : Type 0 where
+  pub low : hop ≤ highest
+  -- it tells of no section that nobody has entered
+  pub reached : IsReached w last
+  -- each hop but the highest has been seen by its addressee
+  pub seen : hop < highest → HasSeen w to hop
+
+abbrev pub IsLetterOk : World Node RaymondMsg → ℕ → ℕ → RaymondMsg → Type 0
+IsLetterOk w highest to (Request number) = Unit {0}
+IsLetterOk w highest to (Privilege hop last) = IsPrivilegeOk w highest to hop last
+IsLetterOk w highest to (Got hop) = Unit {0}
+
+-- one node has the privilege, at the highest hop
+pub record IsHeld (w : World Node RaymondMsg) (highest : ℕ) : Type 0 where
+  pub node : ℕ
+  pub here : node < length w.nodes
+  pub holder : (t : Node) → IsNode w node t → t.holder ≡ node
+  pub hop : (t : Node) → IsNode w node t → t.hop ≡ highest
+  -- it knows all sections
+  pub top : (t : Node) → IsNode w node t → IsLast w t.top
+  -- no other node has it
+  pub alone : (j : ℕ) (t : Node) → IsNode w j t → t.holder ≡ j → j ≡ node
+  -- the privileges of the highest hop have been seen
+  pub seen : (a b last : ℕ) → WasSent w a b (Privilege highest last) → HasSeen w b highest
+
+-- the privilege of the highest hop is on its way: no other has this hop, and its addressee has not seen it
+pub record IsUnderWay (w : World Node RaymondMsg) (highest : ℕ) : Type 0 where
+  pub from : ℕ
+  pub to : ℕ
+  pub last : ℕ
+  pub sent : WasSent w from to (Privilege highest last)
+  pub only : (a b c : ℕ) → WasSent w a b (Privilege highest c) → (a ≡ from) × (b ≡ to) × (c ≡ last)
+  pub unseen : (t : Node) → IsNode w to t → t.hop < highest
+  -- it tells of all sections
+  pub top : IsLast w last
+  -- no node has it
+  pub nobody : (j : ℕ) (t : Node) → IsNode w j t → t.holder ≡ j → ⊥
+
+-- each node and each letter is as above, and the privilege is in one place
+pub record IsSafeAt (w : World Node RaymondMsg) (highest : ℕ) : Type 0 where
+  pub nodes : (i : ℕ) (s : Node) → IsNode w i s → IsNodeOk w highest i s
+  pub letters : (a b : ℕ) (m : RaymondMsg) → WasSent w a b m → IsLetterOk w highest b m
+  pub privilege : IsHeld w highest ⊎ IsUnderWay w highest
+
+pub record IsSafe (w : World Node RaymondMsg) : Type 0 where
+  pub highest : ℕ
+  pub at : IsSafeAt w highest
+
+-- a u64 value
+abbrev pub Small : ℕ → Type 0
+Small x = x < 2 ^ 64
+
+abbrev pub PlainLetter : RaymondMsg → Type 0
+PlainLetter (Request number) = Small number
+PlainLetter (Privilege hop last) = Small hop × Small last
+PlainLetter (Got hop) = Small hop
+
+abbrev pub PlainPhase : Phase → Type 0
+PlainPhase Idle = Unit {0}
+PlainPhase Waiting = Unit {0}
+PlainPhase (Inside n) = Small n
+
+-- of n nodes
+abbrev pub PlainUnacked : ℕ → Unacked → Type 0
+PlainUnacked n u = (u.to < n) × Small u.hop × Small u.last
+
+pub record PlainNode (n : ℕ) (s : Node) : Type 0 where
+  pub me : s.me < n
+  pub limit : Small s.limit
+  pub phase : PlainPhase s.phase
+  pub holder : s.holder < n
+  pub queue : (j : ℕ) → is_queued s.queue j ≡ true → j < n
+  pub hop : Small s.hop
+  pub unacked : (u : Unacked) → s.unacked ≡ Some u → PlainUnacked n u
+  pub asks : Small s.asks
+  pub sent : Small s.sent
+  pub heard : (j : ℕ) → Small (heard_from s j)
+  pub top : Small s.top
+  pub mine : Small s.mine
+
+-- each number is a u64 value, and each name a node
+pub record PlainWorld (w : World Node RaymondMsg) : Type 0 where
+  pub nodes : (i : ℕ) (s : Node) → IsNode w i s → PlainNode (length w.nodes) s
+  pub letters : (a b : ℕ) (m : RaymondMsg) → WasSent w a b m → (a < length w.nodes) × (b < length w.nodes) × PlainLetter m
+
+pub record IsGood (w : World Node RaymondMsg) : Type 0 where
+  pub safe : IsSafe w
+  pub plain : PlainWorld w

@@ -1,0 +1,30 @@
+-- The queue of a node: names of nodes, each once, the oldest first.
+use Rattle.std.specs.Prelude.{ℕ, ◌<◌, ◌≡◌, Bool, true, false, List, [], ◌∷◌, ◌++◌, Option, Some, None, nat_eq, if◌then◌else◌}
+use Rattle.std.specs.List.{list_any, IsDistinct}
+
+-- whether this name is in the queue
+abbrev pub is_queued : List ℕ → ℕ → Bool
+is_queued queue node = list_any (nat_eq node) queue
+
+abbrev pub is_empty : List ℕ → Bool
+is_empty [] = true
+is_empty (name ∷ rest) = false
+
+-- the oldest name, if there is one
+abbrev pub head_of : List ℕ → Option ℕ
+head_of [] = None
+head_of (name ∷ rest) = Some name
+
+-- the names behind it
+abbrev pub rest_of : List ℕ → List ℕ
+rest_of [] = []
+rest_of (name ∷ rest) = rest
+
+-- the queue with this name at its end, where it is not in the queue
+abbrev pub joined : List ℕ → ℕ → List ℕ
+joined queue node = if is_queued queue node then queue else queue ++ node ∷ []
+
+-- each name is in it once, and there are names of nodes alone
+pub record IsQueue (queue : List ℕ) : Type 0 where
+  pub once : IsDistinct nat_eq queue
+  pub nodes : (node : ℕ) → is_queued queue node ≡ true → node < 21

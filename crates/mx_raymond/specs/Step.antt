@@ -1,0 +1,246 @@
+-- The step table: what each call makes of a node, what it answers and what it sends.
+use Rattle.std.specs.Prelude.{ℕ, ◌+◌, ◌≡◌, Bool, true, false, ◌&&◌, not, List, [], ◌∷◌, ◌++◌, Option, Some, None, Result, Ok, Err, max, nat_lt, nat_eq, if◌then◌else◌, slice_index_or, slice_set, replicate}
+use Rattle.mx_stamps.specs.declared.stamp.Stamp.{Stamp}
+use Rattle.mx_letters.specs.declared.raymond.RaymondMsg.{RaymondMsg}
+use Rattle.mx_letters.specs.declared.raymond.RaymondMsg.TheVariants.{Request, Privilege, Got}
+use Rattle.mx_nodelaws.specs.World.{Done, Quiet}
+use Rattle.mx_nodelaws.specs.Core.{Core}
+use Rattle.mx_nodelaws.specs.declared.phase.Phase.{Phase}
+use Rattle.mx_nodelaws.specs.declared.phase.Phase.TheVariants.{Idle, Waiting, Inside}
+use Rattle.mx_nodelaws.specs.declared.faults.AskFault.{AskFault}
+use Rattle.mx_nodelaws.specs.declared.faults.AskFault.TheVariants.{NotIdle, StampsSpent}
+use Rattle.mx_nodelaws.specs.declared.faults.EnterFault.{EnterFault}
+use Rattle.mx_nodelaws.specs.declared.faults.EnterFault.TheVariants.{NotWaiting, NotGranted, NumbersSpent}
+use Rattle.mx_nodelaws.specs.declared.faults.LeaveFault.{LeaveFault}
+use Rattle.mx_nodelaws.specs.declared.faults.LeaveFault.TheVariants.{NotInside}
+use Rattle.mx_trees.specs.Tree.{Rooted, toward_of, are_neighbours}
+use Rattle.mx_raymond.specs.declared.unacked.Unacked.{Unacked}
+use Rattle.mx_raymond.specs.Queue.{is_empty, head_of, rest_of, joined}
+use Rattle.mx_raymond.specs.Node.{Node}
+
+abbrev pub Step : Type 0 → Type 0
+Step A = Done Node A RaymondMsg
+
+-- a node at rest: of the tree, the node, the origin and the limit
+abbrev pub start_of : Rooted → ℕ → ℕ → ℕ → Node
+start_of tree me origin limit = record {
+  me = me;
+  tree = tree;
+  limit = limit;
+  phase = Idle;
+  holder = toward_of tree me;
+  queue = [];
+  asked = false;
+  hop = origin;
+  unacked = None;
+  asks = 0;
+  sent = 0;
+  heard = replicate 21 0;
+  top = 0;
+  mine = 0;
+}
+
+abbrev pub is_waiting : Phase → Bool
+is_waiting Idle = false
+is_waiting Waiting = true
+is_waiting (Inside n) = false
+
+abbrev pub is_inside : Phase → Bool
+is_inside Idle = false
+is_inside Waiting = false
+is_inside (Inside n) = true
+
+-- it has the privilege
+abbrev pub is_holder : Node → Bool
+is_holder s = nat_eq s.holder s.me
+
+-- the permission: it has the privilege, and is the first that wants it
+abbrev pub HasPermission : Node → Type 0
+HasPermission s = (s.holder ≡ s.me) × (head_of s.queue ≡ Some s.me)
+
+-- the same as a test
+abbrev pub is_named : Option ℕ → ℕ → Bool
+is_named None node = false
+is_named (Some name) node = nat_eq name node
+
+abbrev pub has_permission : Node → Bool
+has_permission s = is_holder s && is_named (head_of s.queue) s.me
+
+-- a refusal, or a letter that no row fits: nothing changes and nothing is sent
+abbrev pub unchanged : {A : Type 0} → Node → A → Step A
+unchanged s answer = record { state = s; answer = answer; letters = [] }
+
+-- a step, and then a second one
+abbrev pub and_then : {A : Type 0} → Step A → (Node → Step (Unit {0})) → Step A
+and_then first second = record {
+  state = (second first.state).state;
+  answer = first.answer;
+  letters = first.letters ++ (second first.state).letters;
+}
+
+-- Assign: who has the privilege and is not inside passes it on to the first that wants it, if that
+-- is another node
+abbrev pub can_pass : Node → ℕ → Bool
+can_pass s next = is_holder s && (not (is_inside s.phase) && (not (nat_eq next s.me) && nat_lt s.hop 18446744073709551615))
+
+abbrev pub passing : Node → ℕ → Node
+passing s next = record s { holder = next; queue = rest_of s.queue; asked = false; hop = s.hop + 1; unacked = Some (record { to = next; hop = s.hop + 1; last = s.top }) }
+
+abbrev pub passed : Node → ℕ → Step (Unit {0})
+passed s next = record { state = passing s next; answer = tt; letters = (next, Privilege (s.hop + 1) s.top) ∷ [] }
+
+abbrev pub assign_to : Option ℕ → Node → Step (Unit {0})
+assign_to None s = unchanged s tt
+assign_to (Some next) s = if can_pass s next then passed s next else unchanged s tt
+
+abbrev pub assign : Node → Step (Unit {0})
+assign s = assign_to (head_of s.queue) s
+
+-- Make: who wants the privilege and does not have it asks its holder, once
+abbrev pub must_request : Node → Bool
+must_request s = not (is_holder s) && (not (is_empty s.queue) && (not s.asked && nat_lt s.sent 18446744073709551615))
+
+abbrev pub requesting : Node → Node
+requesting s = record s { asked = true; sent = s.sent + 1 }
+
+abbrev pub requested : Node → Step (Unit {0})
+requested s = record { state = requesting s; answer = tt; letters = (s.holder, Request (s.sent + 1)) ∷ [] }
+
+abbrev pub make : Node → Step (Unit {0})
+make s = if must_request s then requested s else unchanged s tt
+
+-- a step, then Assign, then Make
+abbrev pub serving : {A : Type 0} → Step A → Step A
+serving step = and_then (and_then step assign) make
+
+-- ask: the node joins its own queue
+abbrev pub asking : Node → Node
+asking s = record s { phase = Waiting; queue = s.queue ++ s.me ∷ []; asks = s.asks + 1 }
+
+abbrev pub asked : Node → Step (Result Stamp AskFault)
+asked s = serving (unchanged (asking s) (Ok (record { number = s.asks + 1; node = s.me })))
+
+abbrev pub ask_in : Phase → Node → Step (Result Stamp AskFault)
+ask_in Idle s = if nat_lt s.asks 18446744073709551615 then asked s else unchanged s (Err StampsSpent)
+ask_in Waiting s = unchanged s (Err NotIdle)
+ask_in (Inside n) s = unchanged s (Err NotIdle)
+
+abbrev pub ask_of : Node → Step (Result Stamp AskFault)
+ask_of s = ask_in s.phase s
+
+-- the privilege that it sent last, again
+abbrev pub again : Option Unacked → List (ℕ × RaymondMsg)
+again None = []
+again (Some u) = (u.to, Privilege u.hop u.last) ∷ []
+
+-- a request of the holder: the holder does not know that it has the privilege
+abbrev pub take_holders_request : Node → Step (Unit {0})
+take_holders_request s = record { state = s; answer = tt; letters = again s.unacked }
+
+-- a request of another neighbour, which joins the queue
+abbrev pub heard_from : Node → ℕ → ℕ
+heard_from s from = slice_index_or s.heard from 0
+
+abbrev pub queueing : Node → ℕ → ℕ → Node
+queueing s from number = record s { queue = joined s.queue from; heard = slice_set s.heard from number }
+
+abbrev pub take_others_request : ℕ → ℕ → Node → Step (Unit {0})
+take_others_request from number s =
+    if nat_lt (heard_from s from) number
+    then serving (unchanged (queueing s from number) tt)
+    else unchanged s tt
+
+abbrev pub take_request : ℕ → ℕ → Node → Step (Unit {0})
+take_request from number s = if nat_eq from s.holder then take_holders_request s else take_others_request from number s
+
+-- a privilege, whose arrival is always told: it counts where its hop is a new one
+abbrev pub holding : Node → ℕ → ℕ → Node
+holding s hop last = record s { holder = s.me; asked = false; hop = hop; unacked = None; top = max s.top last }
+
+abbrev pub told : Node → ℕ → ℕ → Step (Unit {0})
+told s from hop = record { state = s; answer = tt; letters = (from, Got hop) ∷ [] }
+
+abbrev pub take_privilege : ℕ → ℕ → ℕ → Node → Step (Unit {0})
+take_privilege from hop last s =
+    if nat_lt s.hop hop
+    then serving (told (holding s hop last) from hop)
+    else told s from hop
+
+-- word that the privilege sent last has arrived
+abbrev pub is_unacked : Option Unacked → ℕ → ℕ → Bool
+is_unacked None from hop = false
+is_unacked (Some u) from hop = nat_eq u.to from && nat_eq u.hop hop
+
+abbrev pub take_got : ℕ → ℕ → Node → Step (Unit {0})
+take_got from hop s = if is_unacked s.unacked from hop then unchanged (record s { unacked = None }) tt else unchanged s tt
+
+-- each comes from a neighbour
+abbrev pub is_neighbour : Node → ℕ → Bool
+is_neighbour s from = are_neighbours s.tree s.me from
+
+abbrev pub deliver_of : ℕ → RaymondMsg → Node → Step (Unit {0})
+deliver_of from (Request number) s = if is_neighbour s from then take_request from number s else unchanged s tt
+deliver_of from (Privilege hop last) s = if is_neighbour s from then take_privilege from hop last s else unchanged s tt
+deliver_of from (Got hop) s = if is_neighbour s from then take_got from hop s else unchanged s tt
+
+abbrev pub can_enter_of : Node → Bool
+can_enter_of s = is_waiting s.phase && has_permission s
+
+-- enter: the section's number is one above the highest that the node knows; it leaves its queue
+abbrev pub entering : Node → Node
+entering s = record s { phase = Inside (s.top + 1); queue = rest_of s.queue; top = s.top + 1; mine = s.top + 1 }
+
+abbrev pub entered : Node → Quiet Node (Result ℕ EnterFault)
+entered s = record { state = entering s; answer = Ok (s.top + 1) }
+
+abbrev pub refused : Node → EnterFault → Quiet Node (Result ℕ EnterFault)
+refused s fault = record { state = s; answer = Err fault }
+
+abbrev pub enter_granted : Node → Quiet Node (Result ℕ EnterFault)
+enter_granted s = if nat_lt s.top s.limit then entered s else refused s NumbersSpent
+
+abbrev pub enter_in : Phase → Node → Quiet Node (Result ℕ EnterFault)
+enter_in Idle s = refused s NotWaiting
+enter_in Waiting s = if has_permission s then enter_granted s else refused s NotGranted
+enter_in (Inside n) s = refused s NotWaiting
+
+abbrev pub enter_of : Node → Quiet Node (Result ℕ EnterFault)
+enter_of s = enter_in s.phase s
+
+-- leave
+abbrev pub leaving : Node → Node
+leaving s = record s { phase = Idle }
+
+abbrev pub left : Node → ℕ → Step (Result ℕ LeaveFault)
+left s n = serving (unchanged (leaving s) (Ok n))
+
+abbrev pub leave_in : Phase → Node → Step (Result ℕ LeaveFault)
+leave_in Idle s = unchanged s (Err NotInside)
+leave_in Waiting s = unchanged s (Err NotInside)
+leave_in (Inside n) s = left s n
+
+abbrev pub leave_of : Node → Step (Result ℕ LeaveFault)
+leave_of s = leave_in s.phase s
+
+-- tick: the privilege that it sent last again, and then its last request
+abbrev pub request_again : Node → List (ℕ × RaymondMsg)
+request_again s = if s.asked && not (is_holder s) then (s.holder, Request s.sent) ∷ [] else []
+
+abbrev pub tick_of : Node → Step (Unit {0})
+tick_of s = record { state = s; answer = tt; letters = again s.unacked ++ request_again s }
+
+-- the whole table
+abbrev pub raymond_core : Core Rooted Node RaymondMsg
+raymond_core = record {
+  count = λ tree. tree.count;
+  start = start_of;
+  phase = λ s. s.phase;
+  mine = λ s. s.mine;
+  limit = λ s. s.limit;
+  can_enter = can_enter_of;
+  ask = ask_of;
+  deliver = deliver_of;
+  enter = enter_of;
+  leave = leave_of;
+  tick = tick_of;
+}

@@ -1,0 +1,24 @@
+//! Raymond 1989, "A tree-based algorithm for distributed mutual exclusion": one privilege moves
+//! along the edges of a tree. Each node knows in which direction it is, and queues the neighbours, and
+//! itself, that want it. Who has the privilege and is the first in its own queue enters.
+//!
+//! Added to the paper, since letters may be lost, repeated and reordered, and sections bear numbers:
+//! each move of the privilege has a number, its hop, so that a privilege that comes again does not
+//! count; it is sent again until its arrival is told, and so is a request; requests are numbered, so
+//! that an old one is not queued again; a privilege carries the highest section number that its
+//! sender knows, so that who enters draws the next one.
+//!
+//! Proved, over every schedule of these letters: each call equals the step table, at most one node
+//! is inside, and the sections of a cluster are numbered 1, 2, 3 and so on.
+#![tactic(auto)]
+
+mod exclusion;
+mod queue;
+mod raymond;
+mod unacked;
+
+pub use mx_trees::{Tree, TreeFault};
+pub use raymond::Raymond;
+
+#[cfg(test)]
+mod tests;

@@ -1,0 +1,83 @@
+//! The queue of a node.
+
+ghost use Rattle.std.specs.Prelude.{ℕ, ◌≡◌, false, [], ◌∷◌, ◌++◌, Some};
+ghost use Rattle.mx_raymond.specs.Queue.{is_queued, is_empty, head_of, rest_of, joined};
+
+use arrayvec::ArrayVec;
+use mx_stamps::{MAX_NODES, NodeId};
+use std::marker::Model;
+
+/// The nodes on whose behalf a node wants the privilege: names, each once, the oldest first.
+#[derive(Drop)]
+pub struct Queue {
+    names: ArrayVec<NodeId, 21>,
+}
+
+impl Model for Queue {
+    ghost use Rattle.std.specs.Prelude.{ℕ, List};
+    ghost use Rattle.mx_raymond.specs.Queue.{IsQueue};
+
+    ghost Value = { List ℕ };
+
+    ghost view = { λ q. q.names.items };
+
+    ghost invariant = { λ q. IsQueue q.names.items };
+}
+
+impl Queue {
+    /// An empty queue.
+    pub fn new() -> Queue
+        ensures { result ≡ [] }
+    {
+        Queue {
+            names: ArrayVec::new(),
+        }
+    }
+
+    /// Whether no name is in it.
+    pub fn is_empty(&self) -> bool
+        ensures { result ≡ is_empty self.now }
+    {
+        self.names.is_empty()
+    }
+
+    /// Whether this name is in it.
+    pub fn contains(&self, node: NodeId) -> bool
+        ensures { result ≡ is_queued self.now node }
+    {
+        self.names.iter().any(|name| node.get() == name.get())
+    }
+
+    /// The oldest name.
+    pub fn head(&self) -> Option<NodeId>
+        ensures { result ≡ head_of self.now }
+    {
+        self.names.as_slice().first().copied()
+    }
+
+    /// Adds a name at the end. As no name stands twice, there is room for it.
+    pub fn push(&mut self, node: NodeId)
+        requires { is_queued self.old node ≡ false }
+        ensures { self.new ≡ self.old ++ node ∷ [] }
+    {
+        prove!(node.get() < MAX_NODES);
+        self.names.push(node);
+    }
+
+    /// Adds a name at the end, where it is not in the queue.
+    pub fn join(&mut self, node: NodeId)
+        ensures { self.new ≡ joined self.old node }
+    {
+        if !self.contains(node) {
+            self.push(node);
+        }
+    }
+
+    /// Takes the oldest name out, which is then no longer in it.
+    pub fn remove_head(&mut self)
+        ensures value { self.new ≡ rest_of self.old }
+        ensures once { (node : ℕ) → head_of self.old ≡ Some node → is_queued self.new node ≡ false }
+    {
+        let _ = self.names.pop_at(0);
+    }
+}

@@ -1,0 +1,194 @@
+//! A node, and the rows of its step table.
+
+ghost use Rattle.std.specs.Prelude.{◌≡◌, ◌≤◌, []};
+
+use crate::queue::Queue;
+use crate::unacked::Unacked;
+use mx_letters::{Outbox, RaymondMsg};
+use mx_nodelaws::Phase;
+use mx_stamps::NodeId;
+use mx_trees::Tree;
+use std::marker::Model;
+
+/// A node of the algorithm. Its calls are those of `Exclusion`.
+#[derive(Drop)]
+pub struct Raymond {
+    pub(crate) me: NodeId,
+    pub(crate) tree: Tree,
+    pub(crate) limit: u64,
+    pub(crate) phase: Phase,
+    pub(crate) holder: NodeId,
+    pub(crate) queue: Queue,
+    pub(crate) asked: bool,
+    pub(crate) hop: u64,
+    pub(crate) unacked: Option<Unacked>,
+    pub(crate) asks: u64,
+    pub(crate) sent: u64,
+    pub(crate) heard: [u64; 21],
+    pub(crate) top: u64,
+    pub(crate) mine: u64,
+}
+
+impl Model for Raymond {
+    ghost use Rattle.mx_raymond.specs.Node.{Node, IsState};
+
+    ghost Value = { Node };
+
+    ghost view = { λ r. record { me = r.me; tree = r.tree; limit = r.limit; phase = r.phase; holder = r.holder; queue = r.queue; asked = r.asked; hop = r.hop; unacked = r.unacked; asks = r.asks; sent = r.sent; heard = r.heard; top = r.top; mine = r.mine } };
+
+    ghost invariant = { λ r. IsState (record { me = r.me; tree = r.tree; limit = r.limit; phase = r.phase; holder = r.holder; queue = r.queue; asked = r.asked; hop = r.hop; unacked = r.unacked; asks = r.asks; sent = r.sent; heard = r.heard; top = r.top; mine = r.mine }) };
+}
+
+impl Raymond {
+    ghost use Rattle.std.specs.Prelude.{◌≡◌, ◌+◌, ◌<◌, ◌≤◌, ◌≢◌, ◌↔◌, [], ◌++◌, length, IsTrue, true};
+    ghost use Rattle.mx_raymond.specs.Step.{is_holder, HasPermission, has_permission, assign, make, again, request_again, is_neighbour, take_request, take_privilege, take_got};
+
+    /// Whether it has the privilege.
+    fn is_holder(&self) -> bool
+        ensures { result ≡ is_holder self.now }
+    {
+        self.holder.get() == self.me.get()
+    }
+
+    /// Whether it has the privilege, and is the first that wants it.
+    pub(crate) fn has_permission(&self) -> bool
+        ensures value { result ≡ has_permission self.now }
+        ensures all { IsTrue result ↔ HasPermission self.now }
+    {
+        match self.queue.head() {
+            Some(name) => self.is_holder() && name.get() == self.me.get(),
+            None => false,
+        }
+    }
+
+    /// Assign: who has the privilege and is not inside passes it on to the first that wants it, if
+    /// that is another node.
+    fn assign(&mut self, out: &mut Outbox<RaymondMsg>)
+        requires { length out.old < 32 }
+        ensures state { self.new ≡ (assign self.old).state }
+        ensures letters { out.new ≡ out.old ++ (assign self.old).letters }
+        ensures few { length out.new ≤ length out.old + 1 }
+    {
+        let Some(next) = self.queue.head() else {
+            return;
+        };
+        let is_inside = matches!(self.phase, Phase::Inside(_));
+        if self.is_holder() && !is_inside && next.get() != self.me.get() && self.hop < u64::MAX {
+            self.queue.remove_head();
+            self.holder = next;
+            self.asked = false;
+            self.hop += 1;
+            self.unacked = Some(Unacked {
+                to: next,
+                hop: self.hop,
+                last: self.top,
+            });
+            out.add(next, RaymondMsg::Privilege(self.hop, self.top));
+        }
+    }
+
+    /// Make: who wants the privilege and does not have it asks its holder, once.
+    fn make(&mut self, out: &mut Outbox<RaymondMsg>)
+        requires { length out.old < 32 }
+        ensures state { self.new ≡ (make self.old).state }
+        ensures letters { out.new ≡ out.old ++ (make self.old).letters }
+    {
+        if !self.is_holder() && !self.queue.is_empty() && !self.asked && self.sent < u64::MAX {
+            self.asked = true;
+            self.sent += 1;
+            out.add(self.holder, RaymondMsg::Request(self.sent));
+        }
+    }
+
+    /// Assign, and then Make.
+    pub(crate) fn serve(&mut self, out: &mut Outbox<RaymondMsg>)
+        requires { length out.old < 31 }
+        ensures state { self.new ≡ (make (assign self.old).state).state }
+        ensures letters { out.new ≡ (out.old ++ (assign self.old).letters) ++ (make (assign self.old).state).letters }
+    {
+        self.assign(out);
+        self.make(out);
+    }
+
+    /// The privilege that it sent last, again.
+    pub(crate) fn send_again(&self, out: &mut Outbox<RaymondMsg>)
+        requires { out.old ≡ [] }
+        ensures letters { out.new ≡ again self.now.unacked }
+        ensures few { length out.new ≤ 1 }
+    {
+        if let Some(unacked) = self.unacked {
+            out.add(unacked.to, RaymondMsg::Privilege(unacked.hop, unacked.last));
+        }
+    }
+
+    /// Its last request, again.
+    pub(crate) fn request_again(&self, out: &mut Outbox<RaymondMsg>)
+        requires { length out.old < 32 }
+        ensures { out.new ≡ out.old ++ request_again self.now }
+    {
+        if self.asked && !self.is_holder() {
+            out.add(self.holder, RaymondMsg::Request(self.sent));
+        }
+    }
+
+    /// Whether this is a neighbour.
+    pub(crate) fn is_neighbour(&self, node: NodeId) -> bool
+        ensures value { result ≡ is_neighbour self.now node }
+        ensures other { result ≡ true → node ≢ self.now.me }
+    {
+        self.tree.neighbours(self.me, node)
+    }
+
+    /// A request comes, of a neighbour.
+    pub(crate) fn take_request(&mut self, from: NodeId, number: u64, out: &mut Outbox<RaymondMsg>)
+        requires empty { out.old ≡ [] }
+        requires other { from ≢ self.old.me }
+        ensures state { self.new ≡ (take_request from number self.old).state }
+        ensures letters { out.new ≡ (take_request from number self.old).letters }
+    {
+        if from.get() == self.holder.get() {
+            self.send_again(out);
+            return;
+        }
+        let index = from.get() as usize;
+        if number > self.heard[index] {
+            self.heard[index] = number;
+            self.queue.join(from);
+            self.serve(out);
+        }
+    }
+
+    /// A privilege comes, of a neighbour. Its arrival is told always; it counts where its hop is new.
+    pub(crate) fn take_privilege(
+        &mut self,
+        from: NodeId,
+        hop: u64,
+        last: u64,
+        out: &mut Outbox<RaymondMsg>,
+    )
+        requires { out.old ≡ [] }
+        ensures state { self.new ≡ (take_privilege from hop last self.old).state }
+        ensures letters { out.new ≡ (take_privilege from hop last self.old).letters }
+    {
+        out.add(from, RaymondMsg::Got(hop));
+        if hop > self.hop {
+            self.hop = hop;
+            self.holder = self.me;
+            self.asked = false;
+            self.unacked = None;
+            self.top = self.top.max(last);
+            self.serve(out);
+        }
+    }
+
+    /// Word of a neighbour that a privilege has arrived.
+    pub(crate) fn take_got(&mut self, from: NodeId, hop: u64)
+        ensures { self.new ≡ (take_got from hop self.old).state }
+    {
+        if let Some(unacked) = self.unacked {
+            if unacked.to.get() == from.get() && unacked.hop == hop {
+                self.unacked = None;
+            }
+        }
+    }
+}
