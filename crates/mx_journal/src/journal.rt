@@ -136,7 +136,8 @@ impl Journal {
 
     /// Whether it has none.
     pub fn is_empty(&self) -> bool
-        ensures { IsTrue result ↔ (self.now ≡ []) }
+        ensures value { IsTrue result ↔ (self.now ≡ []) }
+        ensures ordered { Ascending 1 self.now }
     {
         self.records.is_empty()
     }

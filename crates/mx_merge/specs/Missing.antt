@@ -1,0 +1,53 @@
+-- What a journal lacks of the numbers from 1 to a limit, and the records that ranges ask for.
+use Rattle.std.specs.Prelude.{ℕ, ◌+◌, ◌-◌, ◌≡◌, ◌≤◌, ◌<◌, ◌⊎◌, ◌&&◌, Bool, List, [], ◌∷◌, ◌++◌, length, nat_lt, nat_le, if◌then◌else◌, filter}
+use Rattle.std.specs.List.{list_any}
+use Rattle.mx_stamps.specs.Lists.{IsIn}
+use Rattle.mx_journal.specs.declared.records.Record.{Record}
+use Rattle.mx_journal.specs.declared.ranges.Range.{Range}
+use Rattle.mx_journal.specs.Records.{IsThere}
+
+-- numbers of 1 to the limit that are all missing, as many on both sides as there are
+pub record IsGap (limit : ℕ) (journal : List Record) (range : Range) : Type 0 where
+  pub low : 1 ≤ range.first
+  pub some : range.first ≤ range.last
+  pub high : range.last ≤ limit
+  pub gone : (n : ℕ) → range.first ≤ n → n ≤ range.last → IsThere n journal → ⊥
+  pub left : (range.first ≡ 1) ⊎ IsThere (range.first - 1) journal
+  pub right : (range.last ≡ limit) ⊎ IsThere (range.last + 1) journal
+
+-- each range begins behind the one before, the first at `least` or behind it
+abbrev pub AscendingRanges : ℕ → List Range → Type 0
+AscendingRanges least [] = Unit {0}
+AscendingRanges least (r ∷ rs) = (least ≤ r.first) × AscendingRanges (r.last + 1) rs
+
+-- the gap stands behind all of the ranges, which are as many as there may be
+abbrev pub IsLeftOut : ℕ → Range → List Range → Type 0
+IsLeftOut count gap ranges = (length ranges ≡ count) × ((r : Range) → IsIn r ranges → r.last < gap.first)
+
+-- the ranges are gaps, ascending; each gap is among them, or stands behind `count` of them
+pub record IsListOfGaps (count limit : ℕ) (journal : List Record) (ranges : List Range) : Type 0 where
+  pub gaps : (r : Range) → IsIn r ranges → IsGap limit journal r
+  pub ascending : AscendingRanges 1 ranges
+  pub all : (gap : Range) → IsGap limit journal gap → IsIn gap ranges ⊎ IsLeftOut count gap ranges
+
+-- the numbers above `before` up to `last`, where there are any
+abbrev pub gap_after : ℕ → ℕ → List Range
+gap_after before last = if nat_lt before last then record { first = before + 1; last = last } ∷ [] else []
+
+-- the gaps above `before` up to the limit, in a journal whose numbers are above `before`
+abbrev pub gaps_above : ℕ → ℕ → List Record → List Range
+gaps_above before limit [] = gap_after before limit
+gaps_above before limit (x ∷ xs) =
+    if nat_lt limit x.number then gap_after before limit else gap_after before (x.number - 1) ++ gaps_above x.number limit xs
+
+-- all gaps of a journal, ascending
+abbrev pub gaps_of : ℕ → List Record → List Range
+gaps_of limit journal = gaps_above 0 limit journal
+
+-- whether the number lies in some of the ranges
+abbrev pub lies_in : List Range → ℕ → Bool
+lies_in ranges n = list_any (λ (range : Range). nat_le range.first n && nat_le n range.last) ranges
+
+-- the records whose numbers lie in some of the ranges
+abbrev pub in_ranges : List Range → List Record → List Record
+in_ranges ranges journal = filter (λ x. lies_in ranges x.number) journal

@@ -1,0 +1,42 @@
+//! What a journal lacks.
+
+ghost use Rattle.std.specs.Prelude.{◌≡◌, ◌≤◌, ◌++◌, take, length};
+ghost use Rattle.mx_merge.specs.Missing.{IsListOfGaps, gap_after, gaps_of};
+
+use arrayvec::ArrayVec;
+use mx_journal::{Journal, Range};
+
+/// How many ranges go into one answer of `missing`.
+const RANGES_AT_ONCE: usize = 8;
+
+/// The ranges of the numbers from 1 to `limit` that the journal lacks, ascending, each as wide as
+/// it can be, or the least eight where there are more.
+pub fn missing(journal: &Journal, limit: u64) -> ArrayVec<Range, RANGES_AT_ONCE>
+    ensures gaps { IsListOfGaps 8 limit journal.now result.items }
+    ensures value { result.items ≡ take 8 (gaps_of limit journal.now) }
+{
+    let mut gaps = ArrayVec::new();
+    let mut last = 0;
+    for place in 0..journal.len() {
+        let number = journal.record(place).number;
+        if number > limit || gaps.is_full() {
+            break;
+        }
+        add_gap(&mut gaps, last, number - 1);
+        last = number;
+    }
+    add_gap(&mut gaps, last, limit);
+    gaps
+}
+
+/// Adds the range of the numbers above `before` up to `last`, where there are any and there is room.
+fn add_gap(gaps: &mut ArrayVec<Range, 8>, before: u64, last: u64)
+    ensures { gaps.new.items ≡ take 8 (gaps.old.items ++ gap_after before last) }
+{
+    if !gaps.is_full() && before < last {
+        gaps.push(Range {
+            first: before + 1,
+            last,
+        });
+    }
+}
