@@ -1,0 +1,108 @@
+-- What registers hold after sections. A register has the last write to it in the record of the
+-- greatest number that writes it, and that number; without such a record 0 and no number.
+use Rattle.std.specs.Prelude.{ℕ, zero, suc, ◌≡◌, ◌≤◌, List, [], ◌∷◌, ◌++◌, Option, Some, None, nat_le, nat_eq, if◌then◌else◌, length, get_or, slice_get}
+use Rattle.std.specs.Option.{option_map}
+use Rattle.mx_stamps.specs.Lists.{IsIn, each_below}
+use Rattle.mx_journal.specs.declared.records.Write.{Write}
+use Rattle.mx_journal.specs.declared.records.Record.{Record}
+use Rattle.mx_journal.specs.Records.{record_at}
+use Rattle.mx_journal.specs.Agreement.{IsSubmap}
+use Rattle.mx_journal.specs.Drafted.{last_value}
+use Rattle.mx_registers.specs.declared.cells.Cell.{Cell}
+
+-- what the record writes to the register, last
+abbrev pub written : ℕ → Record → Option ℕ
+written register entry = last_value register entry.writes.items
+
+-- no record writes the register
+abbrev pub IsUnwritten : ℕ → List Record → Type 0
+IsUnwritten register records = (x : Record) → IsIn x records → written register x ≡ None
+
+-- n is the greatest number of a record that writes the register, and value what that record writes last
+abbrev pub IsLastWrite : ℕ → List Record → ℕ → ℕ → Type 0
+IsLastWrite register records n value =
+    (x : Record) × IsIn x records × (x.number ≡ n) × (written register x ≡ Some value) × ((y : Record) (other : ℕ) → IsIn y records → written register y ≡ Some other → y.number ≤ n)
+
+-- by section n, or by none
+abbrev pub IsHeldBy : ℕ → List Record → Option ℕ → ℕ → Type 0
+IsHeldBy register records None value = (value ≡ 0) × IsUnwritten register records
+IsHeldBy register records (Some n) value = IsLastWrite register records n value
+
+-- the register of these records, whose order does not matter
+abbrev pub IsHeld : ℕ → List Record → Cell → Type 0
+IsHeld register records cell = IsHeldBy register records cell.by cell.value
+
+-- each of these cells is its register of the records
+abbrev pub AreHeld : List Record → List Cell → Type 0
+AreHeld records cells = (register : ℕ) (cell : Cell) → slice_get cells register ≡ Some cell → IsHeld register records cell
+
+-- the same records stand in both lists, in whatever order and however often
+abbrev pub HaveSameMembers : List Record → List Record → Type 0
+HaveSameMembers xs ys = IsSubmap xs ys × IsSubmap ys xs
+
+-- a register that no section wrote
+abbrev pub blank : Cell
+blank = record { value = 0; by = None }
+
+-- the number of a write, 0 without one
+abbrev pub number_by : Option ℕ → ℕ
+number_by None = 0
+number_by (Some n) = n
+
+-- a register after what section n writes to it last, if anything: the write of a later section stays
+abbrev pub after_write : ℕ → Option ℕ → Cell → Cell
+after_write n None cell = cell
+after_write n (Some value) cell = if nat_le (number_by cell.by) n then record { value = value; by = Some n } else cell
+
+-- a register after one more record
+abbrev pub after_record : ℕ → Record → Cell → Cell
+after_record register entry cell = after_write entry.number (written register entry) cell
+
+-- and after these records, one by one
+abbrev pub after_records : ℕ → List Record → Cell → Cell
+after_records register [] cell = cell
+after_records register (x ∷ xs) cell = after_records register xs (after_record register x cell)
+
+-- the register of these records
+abbrev pub register_of : ℕ → List Record → Cell
+register_of register records = after_records register records blank
+
+-- the registers below count
+abbrev pub registers_of : ℕ → List Record → List Cell
+registers_of count records = each_below (λ register. register_of register records) count
+
+-- each register after one more record
+abbrev pub with_taken : Record → List Cell → List Cell
+with_taken entry cells = each_below (λ register. after_record register entry (get_or cells register blank)) (length cells)
+
+-- the value of a register, if it is there
+abbrev pub value_in : ℕ → List Cell → Option ℕ
+value_in register cells = option_map (λ (cell : Cell). cell.value) (slice_get cells register)
+
+-- the number of the section that wrote it
+abbrev pub writer_of : Option Cell → Option ℕ
+writer_of None = None
+writer_of (Some cell) = cell.by
+
+-- the same, if the register is there
+abbrev pub writer_in : ℕ → List Cell → Option ℕ
+writer_in register cells = writer_of (slice_get cells register)
+
+-- the plain application of writes, in order: the value of a register that had this one before
+abbrev pub applied : ℕ → List Write → ℕ → ℕ
+applied register [] value = value
+applied register (w ∷ ws) value = applied register ws (if nat_eq w.register register then w.value else value)
+
+-- a record's writes
+abbrev pub writes_of : Option Record → List Write
+writes_of None = []
+writes_of (Some entry) = entry.writes.items
+
+-- the writes of sections 1, 2, .., k, each section's in order
+abbrev pub writes_to : ℕ → List Record → List Write
+writes_to zero records = []
+writes_to (suc k) records = writes_to k records ++ writes_of (record_at (suc k) records)
+
+-- each of these cells has the value that the plain application of the writes gives it
+abbrev pub AreApplied : List Write → List Cell → Type 0
+AreApplied writes cells = (register : ℕ) (cell : Cell) → slice_get cells register ≡ Some cell → cell.value ≡ applied register writes 0

@@ -1,0 +1,13 @@
+//! The registers that sections share, as the records of closed sections leave them.
+#![tactic(auto)]
+
+mod cells;
+mod registers;
+mod views;
+
+pub use cells::Cell;
+pub use registers::View;
+pub use views::{view, view_of};
+
+#[cfg(test)]
+mod tests;

@@ -1,0 +1,89 @@
+//! The view of the registers that follows from records.
+
+ghost use Rattle.std.specs.Prelude.{ℕ, ◌≡◌, ◌≤◌, List, [], ◌∷◌, ◌++◌, length};
+ghost use Rattle.mx_journal.specs.declared.records.Record.{Record};
+ghost use Rattle.mx_journal.specs.Agreement.{AgreesWith};
+ghost use Rattle.mx_journal.specs.Records.{Ascending, with_record};
+ghost use Rattle.mx_registers.specs.Registers.{registers_of, value_in, with_taken, writer_in};
+
+use crate::cells::{BLANK, Cell, write_all};
+use arrayvec::ArrayVec;
+use mx_journal::Record;
+use std::marker::Model;
+
+/// How many registers there can be.
+pub(crate) const MOST_REGISTERS: usize = 32;
+
+/// The registers 0 to count - 1, each with the last write to it in the record of the greatest
+/// number that writes it. It takes records in any order, and as often as they come.
+#[derive(Drop)]
+pub struct View {
+    cells: ArrayVec<Cell, MOST_REGISTERS>,
+}
+
+impl Model for View {
+    ghost use Rattle.std.specs.Prelude.{List};
+    ghost use Rattle.mx_registers.specs.declared.cells.Cell.{Cell};
+
+    ghost Value = { List Cell };
+
+    ghost view = { λ v. v.cells.items };
+}
+
+impl View {
+    /// So many registers, which nothing wrote yet.
+    pub fn new(count: u8) -> View
+        requires least { 1 ≤ count }
+        requires most { count ≤ 32 }
+        ensures { result ≡ registers_of count [] }
+    {
+        let mut cells = ArrayVec::new();
+        for _ in 0..count {
+            cells.push(BLANK);
+        }
+        View { cells }
+    }
+
+    /// Takes a record: each register that it writes has the last of these writes, unless a section
+    /// of a greater number wrote it. Writes to registers that are not there are passed over.
+    pub fn take(&mut self, entry: &Record)
+        ensures value { self.new ≡ with_taken entry.now self.old }
+        ensures more { (count : ℕ) (records : List Record)
+            → self.old ≡ registers_of count records
+            → self.new ≡ registers_of count (records ++ entry.now ∷ []) }
+        ensures map { (count : ℕ) (records : List Record) → Ascending 1 records
+            → AgreesWith entry.now records → self.old ≡ registers_of count records
+            → self.new ≡ registers_of count (with_record entry.now records) }
+    {
+        write_all(
+            self.cells.as_mut_slice(),
+            entry.number,
+            entry.writes.as_slice(),
+        );
+    }
+
+    /// The value of a register, 0 where no section wrote it. None where there is no such register.
+    pub fn value(&self, register: u8) -> Option<u64>
+        ensures { result ≡ value_in register self.now }
+    {
+        let cell = self.cells.as_slice().get(usize::from(register))?;
+        Some(cell.value)
+    }
+
+    /// The number of the section that wrote the register. None where no section did, or where there
+    /// is no such register.
+    pub fn written_by(&self, register: u8) -> Option<u64>
+        ensures { result ≡ writer_in register self.now }
+    {
+        let cell = self.cells.as_slice().get(usize::from(register))?;
+        cell.by
+    }
+
+    /// How many registers there are.
+    pub fn count(&self) -> u8
+        ensures value { result ≡ length self.now }
+        ensures bound { result ≤ 32 }
+    {
+        self.cells.len() as u8
+    }
+}

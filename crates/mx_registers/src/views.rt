@@ -1,0 +1,46 @@
+//! The registers of journals and of lists of records.
+
+ghost use Rattle.std.specs.Prelude.{ℕ, ◌≡◌, ◌≤◌, [], List};
+ghost use Rattle.mx_journal.specs.declared.records.Record.{Record};
+ghost use Rattle.mx_journal.specs.Agreement.{IsConsistent};
+ghost use Rattle.mx_journal.specs.Gapless.{IsGapless};
+ghost use Rattle.mx_journal.specs.Records.{top_of, with_records};
+ghost use Rattle.mx_registers.specs.Registers.{AreApplied, AreHeld, HaveSameMembers, registers_of, writes_to};
+
+use crate::registers::View;
+use mx_journal::{Journal, Record};
+
+/// The registers after all records of the list, whatever their order. Where the records agree,
+/// these are the registers of the map that they make.
+pub fn view_of(records: &[Record], count: u8) -> View
+    requires least { 1 ≤ count }
+    requires most { count ≤ 32 }
+    ensures value { result ≡ registers_of count records.now }
+    ensures held { AreHeld records.now result }
+    ensures same { (others : List Record) → IsConsistent records.now
+        → HaveSameMembers records.now others → result ≡ registers_of count others }
+    ensures map { IsConsistent records.now
+        → result ≡ registers_of count (with_records records.now []) }
+{
+    let mut shown = View::new(count);
+    for entry in records {
+        shown.take(entry);
+    }
+    shown
+}
+
+/// The registers of a journal.
+pub fn view(journal: &Journal, count: u8) -> View
+    requires least { 1 ≤ count }
+    requires most { count ≤ 32 }
+    ensures value { result ≡ registers_of count journal.now }
+    ensures held { AreHeld journal.now result }
+    ensures gapless { (k : ℕ) → IsGapless k journal.now → top_of journal.now ≤ k
+        → AreApplied (writes_to k journal.now) result }
+{
+    let mut view = View::new(count);
+    for k in 0..journal.len() {
+        view.take(journal.record(k));
+    }
+    view
+}
