@@ -9,8 +9,8 @@ use std::marker::Model;
 /// How many letters an outbox holds.
 pub const OUTBOX_ROOM: usize = 32;
 
-/// The letters of one call of a node, in order, each with its addressee. No call sends more than
-/// 22, so there is room for them in an empty outbox.
+/// The letters of one call of a node, in order, each with its addressee. No call of the
+/// algorithms here sends more than 22, so there is room for them in an empty outbox.
 #[derive(Drop)]
 pub struct Outbox<M> {
     letters: ArrayVec<(NodeId, M), OUTBOX_ROOM>,

@@ -3,7 +3,7 @@
 //! the grants of all. An arbiter has one grant out at a time; where a request comes that stands
 //! before the granted one it asks its grant back, and who cannot enter yet gives it back.
 //!
-//! Added to the paper, since letters may be lost, repeated and reordered, and sections bear numbers:
+//! Added to the publication, since letters may be lost, repeated and reordered, and sections bear numbers:
 //! each letter repeats the stamp that it is about, and grants are numbered, so that a grant that was
 //! given back does not count again; a letter about an ended stamp is answered by a release; a waiting
 //! node asks again, and a lock is told again; a waiting request that is overtaken is failed; releases
@@ -11,7 +11,7 @@
 //!
 //! Proved, over every schedule of these letters: each call equals the step table, at most one node
 //! is inside, and the sections of a cluster are numbered 1, 2, 3 and so on. Nodes may block one
-//! another for good, as in the paper.
+//! another for good, as in the publication.
 #![tactic(auto)]
 
 mod arbiter;

@@ -1,0 +1,5 @@
+pub mod WordLemmas
+pub mod RunLemmas
+pub mod EventLemmas
+pub mod ReplayLemmas
+pub mod CommandLemmas

@@ -1,0 +1,213 @@
+-- The texts of events, one after another.
+use Rattle.std.proofs.Common.{◌≡◌, ◌∙◌, ℕ, zero, suc, add-one, ◌+◌, ◌<◌, ◌≤◌, Bool, true, false, List, [], ◌∷◌, ◌++◌, length, take, drop, get_or, slice_get, slice_set, ap, ap₂, sym, refl, append_assoc, append-nil, Result, Ok, Err, Option, Some, None, subst, inl, inr, ◌⊎◌, OnOk, arith}
+use Rattle.std.specs.Bool.{⊤}
+use Rattle.std.specs.declared.alloc.AllocError.{AllocError}
+use Rattle.std.specs.Io.KnownBytes.{Appends, Keeps}
+use Rattle.std.specs.List.{concat}
+use Rattle.std.proofs.lemmas.List.{at_drop_all, at_drop_more, drop_at, take_at, take_all, length-append}
+use Rattle.std.proofs.lemmas.List.Folds.{concat-append}
+use Rattle.std.proofs.lemmas.Option.{same_Some, slice_get_cases}
+use Rattle.mx_stamps.proofs.Lists.{append_nil, length_set, length_each_below, none_is_no_some}
+use Rattle.mx_letters.specs.declared.ricart.RicartMsg.{RicartMsg}
+use Rattle.mx_nodelaws.specs.World.{sent_by}
+use Rattle.mx_nodelaws.specs.declared.acts.Act.{Act}
+use Rattle.mx_ricart.specs.Node.{Node}
+use Rattle.mx_ricart.specs.Step.{ricart_core}
+use Rattle.mx_network.specs.Step.{Group, step_of, at_part, at_state, part_of, grown, answer_of, NamesNoNode}
+use Rattle.mx_network.specs.declared.event.Event.{Event}
+use Rattle.mx_network.specs.declared.event.Event.TheVariants as event
+use Rattle.mx_network.specs.declared.outcome.Outcome.{Outcome}
+use Rattle.mx_network.specs.declared.faults.StepFault.{StepFault}
+use Rattle.mx_network.specs.declared.faults.StepFault.TheVariants as step_fault
+use Rattle.mx_plan.specs.Text.{Text}
+use Rattle.mx_plan.specs.Fields.{Fields}
+use Rattle.mx_program.specs.declared.faults.Stop.{Stop}
+use Rattle.mx_program.specs.declared.faults.Stop.TheVariants as stop
+use Rattle.mx_program.specs.declared.faults.Fault.{Fault}
+use Rattle.mx_program.specs.declared.faults.Fault.TheVariants.{NoParcel}
+use Rattle.mx_program.specs.declared.output.PutFault.{PutFault}
+use Rattle.mx_program.specs.declared.output.PutFault.TheVariants as put_fault
+use Rattle.mx_program.specs.Texts.{event_line, parcel_line, parcel_lines}
+use Rattle.mx_program.specs.Report.{Report, Nodes, nodes_of, after_texts, ends_with, event_lines, text_of, stepped, run_from, NamesNode, AllNameNodes}
+use Rattle.mx_program.specs.Ran.{Held, AppendsSome, Ran, StopsAt, stop_of}
+
+-- ---- bytes that are appended in turn
+
+pub Appends-nil : (a : Held) → Appends a a []
+Appends-nil None = tt
+Appends-nil (Some x) = sym (append-nil x)
+
+pub Appends-trans : (a b c : Held) (bs cs : List ℕ) → Appends a b bs → Appends b c cs → Appends a c (bs ++ cs)
+Appends-trans None b c bs cs p q = tt
+Appends-trans (Some x) None c bs cs p q = absurd p
+Appends-trans (Some x) (Some y) None bs cs p q = absurd q
+Appends-trans (Some x) (Some y) (Some z) bs cs p q = q ∙ ap (λ l. l ++ cs) p ∙ append_assoc x bs cs
+
+pub Appends-keeps : (a b c : Held) (bs : List ℕ) → Appends a b bs → Keeps b c → Appends a c bs
+Appends-keeps None b c bs p q = tt
+Appends-keeps (Some x) None c bs p q = absurd p
+Appends-keeps (Some x) (Some y) None bs p q = absurd q
+Appends-keeps (Some x) (Some y) (Some z) bs p q = q ∙ p
+
+pub Keeps-refl : (a : Held) → Keeps a a
+Keeps-refl None = tt
+Keeps-refl (Some x) = refl
+
+-- one more text
+pub appends_more : (a b c : Held) (done : List Text) (t : Text) → Appends a b (concat done) → Appends b c t → Appends a c (concat (done ++ t ∷ []))
+appends_more a b c done t p q =
+    subst (λ (l : List ℕ). Appends a c l) (ap (λ l. concat done ++ l) (sym (append_nil t)) ∙ sym (concat-append done (t ∷ []))) (Appends-trans a b c (concat done) t p q)
+
+pub some_keeps : (a b c : Held) (texts : List Text) → AppendsSome a b texts → Keeps b c → AppendsSome a c texts
+some_keeps a b c texts p q = (p.0, Appends-keeps a b c (concat (take p.0 texts)) p.1 q)
+
+-- all of them are some of them
+pub all_some : (a b : Held) (texts : List Text) → Appends a b (concat texts) → AppendsSome a b texts
+all_some a b texts p = (length texts, subst (λ (l : List Text). Appends a b (concat l)) (sym (take_all (length texts) texts (omega arith))) p)
+
+pub none_some : (a b : Held) (texts : List Text) → Keeps a b → AppendsSome a b texts
+none_some a b texts p = (0, Appends-keeps a a b [] (Appends-nil a) p)
+
+-- ---- one event
+
+same_Ok : {A E : Type 0} (x y : A) → ◌≡◌ {A = Result A E} (Ok x) (Ok y) → x ≡ y
+same_Ok x y e = cc
+
+not_Ok : {A : Type 0} (f : StepFault) (x : A) → ◌≡◌ {A = Result A StepFault} (Err f) (Ok x) → ⊥
+not_Ok f x e = cc
+
+module _ (g new : Nodes) (e : Event) where
+  at_state_Ok : (i : ℕ) (a : Act RicartMsg) (o : Option Node) → at_state ricart_core g e i a o ≡ Ok new
+      → (length new.nodes ≡ length g.nodes) × (length g.sent ≤ length new.sent)
+  at_state_Ok i a None h = absurd (not_Ok _ _ h)
+  at_state_Ok i a (Some s) h =
+      let is : grown g e i (answer_of ricart_core a s) ≡ new = same_Ok _ _ h in
+      let longer : length (grown g e i (answer_of ricart_core a s)).sent ≡ length new.sent = ap (λ (q : Nodes). length q.sent) is in
+      let more = sent_by i (answer_of ricart_core a s).letters in (
+        ap (λ (q : Nodes). length q.nodes) (sym is) ∙ length_set g.nodes i (answer_of ricart_core a s).state,
+        omega (arith, longer, length-append g.sent more),
+      )
+
+  at_part_Ok : (o : Result (ℕ × Act RicartMsg) StepFault) → at_part ricart_core g e o ≡ Ok new
+      → (length new.nodes ≡ length g.nodes) × (length g.sent ≤ length new.sent)
+  at_part_Ok (Err f) h = absurd (not_Ok _ _ h)
+  at_part_Ok (Ok p) h = at_state_Ok p.0 p.1 (slice_get g.nodes p.0) h
+
+  -- an event leaves as many nodes, and no fewer parcels
+  pub grows : step_of ricart_core g e ≡ Ok new → (length new.nodes ≡ length g.nodes) × (length g.sent ≤ length new.sent)
+  grows h = at_part_Ok (part_of g.sent e) h
+
+-- an event of a node of the plan
+pub has_node : (g : Nodes) (e : Event) → NamesNode (length g.nodes) e → NamesNoNode g e → ⊥
+has_node g (event.Ask i) lt le = absurd (omega (arith, lt, le))
+has_node g (event.Enter i) lt le = absurd (omega (arith, lt, le))
+has_node g (event.Leave i) lt le = absurd (omega (arith, lt, le))
+has_node g (event.Tick i) lt le = absurd (omega (arith, lt, le))
+has_node g (event.Restart i) lt le = absurd (omega (arith, lt, le))
+has_node g (event.Deliver k) lt le = le
+
+pub named_at : (n : ℕ) (es : List Event) (k : ℕ) (d : Event) → AllNameNodes n es → k < length es → NamesNode n (get_or es k d)
+named_at n [] k d all lt = absurd (omega (arith, lt))
+named_at n (e ∷ es) zero d all lt = all.0
+named_at n (e ∷ es) (suc k) d all lt = named_at n es k d all.1 (omega (arith, lt))
+
+drop_get : {X : Type 0} (xs : List X) (k : ℕ) (x : X) → slice_get xs k ≡ Some x → drop k xs ≡ x ∷ drop (suc k) xs
+drop_get [] k x h = absurd (none_is_no_some x h)
+drop_get (y ∷ ys) zero x h = ap (λ z. z ∷ ys) (same_Some y x h)
+drop_get (y ∷ ys) (suc k) x h = drop_get ys k x h
+
+-- the k-th parcel is there
+pub parcel_there : (sent : List (ℕ × ℕ × RicartMsg)) (k : ℕ) → slice_get sent k ≡ None → k < length sent → ⊥
+parcel_there sent k none lt = elim (slice_get_cases sent k).1 [
+  | inl p ↦ absurd (none_is_no_some p.0 (sym none ∙ p.2))
+  | inr q ↦ absurd (omega (arith, lt, q.0))
+]
+
+-- the line of one more parcel
+pub parcel_more : (p : Fields) (sent : List (ℕ × ℕ × RicartMsg)) (k : ℕ) (x : ℕ × ℕ × RicartMsg) (t t' : Text) → slice_get sent k ≡ Some x
+    → t' ≡ t ++ parcel_line p k x → t ++ parcel_lines p k (drop k sent) ≡ t' ++ parcel_lines p (k + 1) (drop (k + 1) sent)
+parcel_more p sent k x t t' h e =
+    ap (λ l. t ++ parcel_lines p k l) (drop_get sent k x h ∙ ap (λ n. x ∷ drop n sent) (sym (add-one k)))
+    ∙ sym (append_assoc t (parcel_line p k x) (parcel_lines p (k + 1) (drop (k + 1) sent)))
+    ∙ ap (λ l. l ++ parcel_lines p (k + 1) (drop (k + 1) sent)) (sym e)
+
+pub parcel_written : (r : Result ⊤ AllocError) (p : Fields) (sent : List (ℕ × ℕ × RicartMsg)) (k : ℕ) (x : ℕ × ℕ × RicartMsg) (t t' : Text) → slice_get sent k ≡ Some x
+    → OnOk r (t' ≡ t ++ parcel_line p k x) → OnOk r (t ++ parcel_lines p k (drop k sent) ≡ t' ++ parcel_lines p (k + 1) (drop (k + 1) sent))
+parcel_written (Ok u) p sent k x t t' h e = parcel_more p sent k x t t' h e
+parcel_written (Err f) p sent k x t t' h e = tt
+
+-- the text of one event, from what was appended to an empty one
+pub text_is : (p : Fields) (k n : ℕ) (old new : Nodes) (e : Event) (o : Outcome) (t0 t1 t2 : Text)
+    → new.trace ≡ old.trace ++ (record { event = e; outcome = o }) ∷ [] → n ≡ length old.sent → t0 ≡ []
+    → t1 ≡ t0 ++ event_line p k e o → t2 ≡ t1 ++ parcel_lines p n (drop n new.sent) → t2 ≡ text_of p k old new
+text_is p k n old new e o t0 t1 t2 trace count empty line parcels =
+    let lines : event_lines p k (drop (length old.trace) new.trace) ≡ event_line p k e o =
+    ap (event_lines p k) (ap (drop (length old.trace)) trace ∙ drop_at old.trace _ (length old.trace) refl) ∙ append_nil (event_line p k e o) in
+    parcels ∙ ap₂ (λ (l : Text) (m : ℕ). l ++ parcel_lines p m (drop m new.sent)) (line ∙ ap (λ (l : Text). l ++ event_line p k e o) empty ∙ sym lines) count
+
+-- ---- a run
+
+pub after_after : (a b : List Text) (r : Report) → after_texts a (after_texts b r) ≡ after_texts (a ++ b) r
+after_after a b r = ap (λ l. let q : Report = record { texts = l; end = r.end } in q) (sym (append_assoc a b r.texts))
+
+module _ (p : Fields) (es : List Event) where
+  -- the report of the events from the k-th on
+  abbrev pub rest : ℕ → Nodes → Report
+  rest k g = run_from p k g (drop k es)
+
+  rest_one : (k : ℕ) (g : Nodes) (d : Event) → k < length es
+      → rest k g ≡ stepped p k g (step_of ricart_core g (get_or es k d)) (λ new. rest (k + 1) new)
+  unfolding run_from
+  rest_one k g d h = at_drop_more (run_from p k g) es k d h
+
+  pub rest_ok : (k : ℕ) (g new : Nodes) (d : Event) → k < length es → step_of ricart_core g (get_or es k d) ≡ Ok new
+      → rest k g ≡ after_texts (text_of p k g new ∷ []) (rest (k + 1) new)
+  rest_ok k g new d h is = rest_one k g d h ∙ ap (λ r. stepped p k g r (λ new. rest (k + 1) new)) is
+
+  pub rest_err : (k : ℕ) (g : Nodes) (f : StepFault) (d : Event) → k < length es → step_of ricart_core g (get_or es k d) ≡ Err f
+      → rest k g ≡ ends_with (Some (NoParcel k))
+  rest_err k g f d h is = rest_one k g d h ∙ ap (λ r. stepped p k g r (λ new. rest (k + 1) new)) is
+
+  pub rest_end : (k : ℕ) (g : Nodes) → length es ≤ k → rest k g ≡ ends_with None
+  unfolding run_from
+  rest_end k g h = at_drop_all (run_from p k g) es k h
+
+-- what was done so far is some of the whole
+pub done_some : (a b : Held) (r more : Report) (done : List Text) → r ≡ after_texts done more → Appends a b (concat done) → AppendsSome a b r.texts
+done_some a b r more done e h =
+    (length done, subst (λ (l : List Text). Appends a b (concat l)) (sym (ap (λ (q : Report). take (length done) q.texts) e ∙ take_at done more.texts (length done) refl)) h)
+
+-- a run that comes to its end, or to a fault of its own
+pub ran_to : (t : Bool) (a b : Held) (r : Report) (done : List Text) (end : Option Fault) → r ≡ after_texts done (ends_with end) → Appends a b (concat done)
+    → (r.end ≡ end) × Appends a b (concat r.texts)
+ran_to t a b r done end e h =
+    (ap (λ (q : Report). q.end) e, subst (λ (l : List Text). Appends a b (concat l)) (sym (ap (λ (q : Report). q.texts) e ∙ append_nil done)) h)
+
+-- a run that stops at an event
+pub stopped_at : (t : Bool) (a b : Held) (p : Fields) (es : List Event) (k : ℕ) (g : Nodes) (d : Event) (s : Stop) (done : List Text)
+    → k < length es → rest p es 0 (nodes_of p) ≡ after_texts done (rest p es k g) → Appends a b (concat done)
+    → StopsAt k (step_of ricart_core g (get_or es k d)) s → Ran t a b (rest p es 0 (nodes_of p)) (Err s)
+stopped_at t a b p es k g d s done lt so_far h (inl memory) =
+    subst (λ (x : Stop). Ran t a b (rest p es 0 (nodes_of p)) (Err x)) (sym memory) (done_some a b _ (rest p es k g) done so_far h)
+stopped_at t a b p es k g d s done lt so_far h (inr none) =
+    subst (λ (x : Stop). Ran t a b (rest p es 0 (nodes_of p)) (Err x)) (sym none.0)
+    (ran_to t a b _ done (Some (NoParcel k)) (so_far ∙ ap (after_texts done) (rest_err p es k g step_fault.NoParcel d lt none.1)) h)
+
+pub is_false : (b : Bool) → (b ≡ true → ⊥) → b ≡ false
+is_false true h = absurd (h refl)
+is_false false h = refl
+
+pub refused_not_memory : put_fault.Refused ≡ put_fault.Memory → ⊥
+refused_not_memory e = cc
+
+-- a run that stops at its output
+pub stopped_by : (t u : Bool) (a b c : Held) (r more : Report) (done : List Text) (f : PutFault)
+    → r ≡ after_texts done more → Appends a b (concat done) → Keeps b c → u ≡ t → (u ≡ true → f ≡ put_fault.Memory)
+    → Ran t a c r (Err (stop_of f))
+stopped_by t u a b c r more done put_fault.Refused so_far h same is takes =
+    (sym is ∙ is_false u (λ e. refused_not_memory (takes e)), some_keeps a b c r.texts (done_some a b r more done so_far h) same)
+stopped_by t u a b c r more done put_fault.Memory so_far h same is takes = some_keeps a b c r.texts (done_some a b r more done so_far h) same
+
+-- a cluster at rest has the nodes of its plan
+pub nodes_at_rest : (p : Fields) (g : Nodes) → g ≡ nodes_of p → length g.nodes ≡ length p.nodes
+nodes_at_rest p g e = ap (λ (q : Nodes). length q.nodes) e ∙ length_each_below (λ i. ricart_core.start (length p.nodes) i p.origin p.sections) (length p.nodes)

@@ -1,0 +1,45 @@
+//! The files and the streams of the process.
+
+use crate::source::{Source, SourceFault};
+use std::alloc::Global;
+use std::io::{ErrorKind, Read};
+use std::rt::Files;
+use std::{fs, io};
+
+/// A longer file, or a longer standard input, can't be read.
+const MOST_BYTES: u64 = 268_435_456;
+
+/// Files by their paths, and standard input by the name `-`.
+#[derive(Drop)]
+pub(crate) struct Streams<'a, R: Files + Input> {
+    pub(crate) rt: &'a R,
+}
+
+impl<R: Files + Input> Source for Streams<'_, R> {
+    fn bytes(&mut self, alloc: Global, name: &str) -> Result<Vec<u8>, SourceFault> {
+        if name == "-" {
+            return read_all(alloc, self.rt.reader());
+        }
+        match fs::open(self.rt, name) {
+            Ok(file) => read_all(alloc, file),
+            Err(e) => Err(source_fault(&e)),
+        }
+    }
+}
+
+fn read_all<R: Read + Drop>(alloc: Global, reader: R) -> Result<Vec<u8>, SourceFault> {
+    let mut bytes = Vec::new(alloc);
+    let mut limited = reader.take(MOST_BYTES + 1);
+    match limited.read_to_end(&mut bytes) {
+        Ok(_) if bytes.len() as u64 > MOST_BYTES => Err(SourceFault::Unreadable),
+        Ok(_) => Ok(bytes),
+        Err(e) => Err(source_fault(&e)),
+    }
+}
+
+fn source_fault(e: &io::Error) -> SourceFault {
+    match e.kind() {
+        ErrorKind::OutOfMemory => SourceFault::Memory,
+        _ => SourceFault::Unreadable,
+    }
+}
