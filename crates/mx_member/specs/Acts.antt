@@ -1,0 +1,53 @@
+-- What a member does, what each act gives, and when it may be done.
+use Rattle.std.specs.Prelude.{ℕ, ◌<◌, ◌↔◌, ◌++◌, List, []}
+use Rattle.mx_stamps.specs.Lists.{IsIn}
+use Rattle.mx_nodelaws.specs.World.{Done, quietly, sent_by}
+use Rattle.mx_nodelaws.specs.Core.{Core}
+use Rattle.mx_nodelaws.specs.Acts.{answering}
+use Rattle.mx_member.specs.declared.acts.Act.{Act}
+use Rattle.mx_member.specs.declared.acts.Act.TheVariants as act
+use Rattle.mx_member.specs.declared.acts.Answer.{Answer}
+use Rattle.mx_member.specs.declared.acts.Answer.TheVariants as answer
+use Rattle.mx_member.specs.declared.parcel.Parcel.{Parcel}
+use Rattle.mx_member.specs.Member.{MemberState}
+use Rattle.mx_member.specs.Steps.{IsTakeable, ask_of, enter_of, read_of, write_of, leave_of, tick_of, want_of, take_of, restart_of}
+
+-- what an act makes of a member
+abbrev pub act_of : {H S M : Type 0} → Core H S M → Act M → MemberState S → Done (MemberState S) Answer (Parcel M)
+act_of core act.Ask m = answering (ask_of core m) (answer.Asked (ask_of core m).answer)
+act_of core act.Enter m = answering (quietly (enter_of core m)) (answer.Entered (enter_of core m).answer)
+act_of core (act.Read register) m = answering (quietly (read_of core register m)) (answer.Read (read_of core register m).answer)
+act_of core (act.Write register value) m = answering (quietly (write_of core register value m)) (answer.Written (write_of core register value m).answer)
+act_of core act.Leave m = answering (leave_of core m) (answer.Left (leave_of core m).answer)
+act_of core act.Tick m = answering (tick_of core m) answer.Ticked
+act_of core (act.Want to) m = answering (want_of core to m) answer.Wanted
+act_of core (act.Deliver from parcel) m = answering (take_of core from parcel m) answer.Delivered
+act_of core act.Restart m = record { state = restart_of core m; answer = answer.Woken; letters = [] }
+
+-- the member can do this: a parcel that is delivered is one that it takes
+abbrev pub IsDoable : {S M : Type 0} → Act M → MemberState S → Type 0
+IsDoable act.Ask m = Unit {0}
+IsDoable act.Enter m = Unit {0}
+IsDoable (act.Read register) m = Unit {0}
+IsDoable (act.Write register value) m = Unit {0}
+IsDoable act.Leave m = Unit {0}
+IsDoable act.Tick m = Unit {0}
+IsDoable (act.Want to) m = Unit {0}
+IsDoable (act.Deliver from parcel) m = IsTakeable from parcel m
+IsDoable act.Restart m = Unit {0}
+
+-- node i of so many may do this: a parcel that it takes was sent to it, a want goes to a node
+abbrev pub Arrives : {M : Type 0} → ℕ → List (ℕ × ℕ × Parcel M) → ℕ → Act M → Type 0
+Arrives nodes sent i act.Ask = Unit {0}
+Arrives nodes sent i act.Enter = Unit {0}
+Arrives nodes sent i (act.Read register) = Unit {0}
+Arrives nodes sent i (act.Write register value) = Unit {0}
+Arrives nodes sent i act.Leave = Unit {0}
+Arrives nodes sent i act.Tick = Unit {0}
+Arrives nodes sent i (act.Want to) = to < nodes
+Arrives nodes sent i (act.Deliver from parcel) = IsIn (from, i, parcel) sent
+Arrives nodes sent i act.Restart = Unit {0}
+
+-- all that was sent, what node i sends now, and nothing else, in whatever order
+abbrev pub Grows : {P : Type 0} → List (ℕ × ℕ × P) → ℕ → List (ℕ × P) → List (ℕ × ℕ × P) → Type 0
+Grows {P} sent i letters grown = (x : ℕ × ℕ × P) → IsIn x (sent ++ sent_by i letters) ↔ IsIn x grown

@@ -1,0 +1,50 @@
+-- The state of a member, and the parcels that it sends.
+use Rattle.std.specs.Prelude.{ℕ, List, [], ◌∷◌}
+use Rattle.mx_journal.specs.declared.records.Record.{Record}
+use Rattle.mx_journal.specs.Drafted.{Drafted}
+use Rattle.mx_member.specs.declared.parcel.Parcel.{Parcel}
+use Rattle.mx_member.specs.declared.parcel.Parcel.TheVariants.{Guard, Want, Records}
+
+-- what never changes in a member: its number, how many nodes there are, the greatest section number, how many registers there are
+pub record Setting : Type 0 where
+  pub me : ℕ
+  pub nodes : ℕ
+  pub limit : ℕ
+  pub registers : ℕ
+
+-- a member: its core, the records that it knows, and the draft of the section that it is inside
+pub record MemberState (S : Type 0) : Type 0 where
+  pub setting : Setting
+  pub core : S
+  pub journal : List Record
+  pub draft : Drafted
+
+-- a draft in which nothing was read or written yet
+abbrev pub fresh : Drafted
+fresh = record { reads = []; writes = [] }
+
+abbrev pub with_core : {S : Type 0} → S → MemberState S → MemberState S
+with_core s m = record { setting = m.setting; core = s; journal = m.journal; draft = m.draft }
+
+abbrev pub with_draft : {S : Type 0} → Drafted → MemberState S → MemberState S
+with_draft draft m = record { setting = m.setting; core = m.core; journal = m.journal; draft = draft }
+
+abbrev pub with_journal : {S : Type 0} → List Record → MemberState S → MemberState S
+with_journal journal m = record { setting = m.setting; core = m.core; journal = journal; draft = m.draft }
+
+-- letters of the core, as parcels
+abbrev pub guarded : {M : Type 0} → List (ℕ × M) → List (ℕ × Parcel M)
+guarded [] = []
+guarded (p ∷ ps) = (p.0, Guard p.1) ∷ guarded ps
+
+-- the letter of a core in a parcel from a to b, if it is one
+abbrev pub letter_in : {M : Type 0} → ℕ → ℕ → Parcel M → List (ℕ × ℕ × M)
+letter_in a b (Guard letter) = (a, b, letter) ∷ []
+letter_in a b (Want ranges) = []
+letter_in a b (Records records) = []
+
+-- the records in a parcel
+abbrev pub records_in : {M : Type 0} → Parcel M → List Record
+records_in (Guard letter) = []
+records_in (Want ranges) = []
+records_in (Records records) = records.items

@@ -1,0 +1,146 @@
+-- What each call makes of a member.
+use Rattle.std.specs.Prelude.{ℕ, ◌<◌, ◌++◌, List, [], ◌∷◌, Result, Ok, Err, length, nat_lt, nat_le, take, unwrap_or, if◌then◌else◌}
+use Rattle.mx_stamps.specs.declared.stamp.Stamp.{Stamp}
+use Rattle.mx_nodelaws.specs.World.{Done, Quiet}
+use Rattle.mx_nodelaws.specs.Core.{Core}
+use Rattle.mx_nodelaws.specs.declared.phase.Phase.{Phase}
+use Rattle.mx_nodelaws.specs.declared.phase.Phase.TheVariants.{Idle, Waiting, Inside}
+use Rattle.mx_nodelaws.specs.declared.faults.AskFault.{AskFault}
+use Rattle.mx_nodelaws.specs.declared.faults.EnterFault.{EnterFault}
+use Rattle.mx_nodelaws.specs.declared.faults.LeaveFault.{LeaveFault}
+use Rattle.mx_nodelaws.specs.declared.faults.LeaveFault.TheVariants as leave
+use Rattle.mx_journal.specs.declared.ranges.Range.{Range}
+use Rattle.mx_journal.specs.declared.records.Record.{Record}
+use Rattle.mx_journal.specs.declared.receipts.Receipt.{Receipt}
+use Rattle.mx_journal.specs.Agreement.{IsConsistent}
+use Rattle.mx_journal.specs.Drafted.{last_value, with_read, with_write, receipt_of, record_of}
+use Rattle.mx_journal.specs.Gapless.{first_missing}
+use Rattle.mx_journal.specs.Records.{IsNumbered, below, with_record, with_records}
+use Rattle.mx_merge.specs.Missing.{gaps_of, in_ranges}
+use Rattle.mx_registers.specs.Registers.{register_of}
+use Rattle.mx_member.specs.declared.parcel.Parcel.{Parcel}
+use Rattle.mx_member.specs.declared.parcel.Parcel.TheVariants.{Guard, Want, Records}
+use Rattle.mx_member.specs.declared.faults.ReadFault.{ReadFault}
+use Rattle.mx_member.specs.declared.faults.ReadFault.TheVariants as read
+use Rattle.mx_member.specs.declared.faults.WriteFault.{WriteFault}
+use Rattle.mx_member.specs.declared.faults.WriteFault.TheVariants as write
+use Rattle.mx_member.specs.Member.{MemberState, fresh, with_core, with_draft, with_journal, guarded, records_in}
+
+-- a step of the core: draft and journal stay
+abbrev pub core_step : {S A M : Type 0} → MemberState S → Done S A M → Done (MemberState S) A (Parcel M)
+core_step m done = record { state = with_core done.state m; answer = done.answer; letters = guarded done.letters }
+
+-- a refusal changes nothing
+abbrev pub refusing : {S A F : Type 0} → MemberState S → F → Quiet (MemberState S) (Result A F)
+refusing m fault = record { state = m; answer = Err fault }
+
+-- a section begins with an empty draft
+abbrev pub entered : {S : Type 0} → Result ℕ EnterFault → MemberState S → MemberState S
+entered (Ok n) m = with_draft fresh m
+entered (Err fault) m = m
+
+-- what a register shows inside section n: the draft's last write of it, or else what the sections below n left
+abbrev pub shown_inside : {S : Type 0} → ℕ → ℕ → MemberState S → ℕ
+shown_inside register n m = unwrap_or (last_value register m.draft.writes) (register_of register (below n m.journal)).value
+
+-- a read inside section n, which needs the records of all sections below n
+abbrev pub read_inside : {S : Type 0} → ℕ → ℕ → MemberState S → Quiet (MemberState S) (Result ℕ ReadFault)
+read_inside register n m =
+    if nat_le m.setting.registers register then refusing m read.NoRegister
+    else (if nat_lt (first_missing 1 m.journal) n then refusing m (read.Gap (first_missing 1 m.journal))
+    else (if nat_le 8 (length m.draft.reads) then refusing m read.Full
+    else record { state = with_draft (with_read register (shown_inside register n m) m.draft) m; answer = Ok (shown_inside register n m) }))
+
+-- a write inside
+abbrev pub write_inside : {S : Type 0} → ℕ → ℕ → MemberState S → Quiet (MemberState S) (Result (Unit {0}) WriteFault)
+write_inside register value m =
+    if nat_le m.setting.registers register then refusing m write.NoRegister
+    else (if nat_le 8 (length m.draft.writes) then refusing m write.Full
+    else record { state = with_draft (with_write register value m.draft) m; answer = Ok tt })
+
+-- the parcel, if there is anything to say, to node i
+abbrev pub want_to : {M : Type 0} → ℕ → List Range → List (ℕ × Parcel M)
+want_to i [] = []
+want_to i (r ∷ rs) = (i, Want (record { items = r ∷ rs })) ∷ []
+
+abbrev pub records_to : {M : Type 0} → ℕ → List Record → List (ℕ × Parcel M)
+records_to i [] = []
+records_to i (r ∷ rs) = (i, Records (record { items = r ∷ rs })) ∷ []
+
+-- the records can be put: none bears 0, and they agree with the journal and among themselves
+abbrev pub ArePuttable : List Record → List Record → Type 0
+ArePuttable records journal = IsNumbered records × IsConsistent (journal ++ records)
+
+-- the member takes this parcel of that sender: it is no stranger, and the records in it can be put
+abbrev pub IsTakeable : {S M : Type 0} → ℕ → Parcel M → MemberState S → Type 0
+IsTakeable from parcel m = (from < m.setting.nodes) × ArePuttable (records_in parcel) m.journal
+
+module _ {H S M : Type 0} (core : Core H S M) where
+  abbrev pub ask_of : MemberState S → Done (MemberState S) (Result Stamp AskFault) (Parcel M)
+  ask_of m = core_step m (core.ask m.core)
+
+  abbrev pub tick_of : MemberState S → Done (MemberState S) (Unit {0}) (Parcel M)
+  tick_of m = core_step m (core.tick m.core)
+
+  abbrev pub enter_of : MemberState S → Quiet (MemberState S) (Result ℕ EnterFault)
+  enter_of m = record { state = entered (core.enter m.core).answer (with_core (core.enter m.core).state m); answer = (core.enter m.core).answer }
+
+  abbrev pub read_at : ℕ → MemberState S → Phase → Quiet (MemberState S) (Result ℕ ReadFault)
+  read_at register m Idle = refusing m read.NotInside
+  read_at register m Waiting = refusing m read.NotInside
+  read_at register m (Inside n) = read_inside register n m
+
+  abbrev pub read_of : ℕ → MemberState S → Quiet (MemberState S) (Result ℕ ReadFault)
+  read_of register m = read_at register m (core.phase m.core)
+
+  abbrev pub write_at : ℕ → ℕ → MemberState S → Phase → Quiet (MemberState S) (Result (Unit {0}) WriteFault)
+  write_at register value m Idle = refusing m write.NotInside
+  write_at register value m Waiting = refusing m write.NotInside
+  write_at register value m (Inside n) = write_inside register value m
+
+  abbrev pub write_of : ℕ → ℕ → MemberState S → Quiet (MemberState S) (Result (Unit {0}) WriteFault)
+  write_of register value m = write_at register value m (core.phase m.core)
+
+  -- section n is left: its receipt is the draft's, and its record joins the journal, where no other bears n
+  abbrev pub left : ℕ → MemberState S → Done (MemberState S) (Result Receipt LeaveFault) (Parcel M)
+  left n m = record {
+    state = record {
+      setting = m.setting;
+      core = (core.leave m.core).state;
+      journal = with_record (record_of (receipt_of n m.setting.me m.draft)) m.journal;
+      draft = fresh;
+    };
+    answer = Ok (receipt_of n m.setting.me m.draft);
+    letters = guarded (core.leave m.core).letters;
+  }
+
+  abbrev pub leave_at : MemberState S → Phase → Done (MemberState S) (Result Receipt LeaveFault) (Parcel M)
+  leave_at m Idle = record { state = m; answer = Err leave.NotInside; letters = [] }
+  leave_at m Waiting = record { state = m; answer = Err leave.NotInside; letters = [] }
+  leave_at m (Inside n) = left n m
+
+  abbrev pub leave_of : MemberState S → Done (MemberState S) (Result Receipt LeaveFault) (Parcel M)
+  leave_of m = leave_at m (core.phase m.core)
+
+  -- the node asks another for all that it lacks
+  abbrev pub want_of : ℕ → MemberState S → Done (MemberState S) (Unit {0}) (Parcel M)
+  want_of to m = record { state = m; answer = tt; letters = want_to to (take 8 (gaps_of m.setting.limit m.journal)) }
+
+  -- a parcel that the member takes: a letter goes to the core, a want is answered by records where there are any, records join the journal
+  abbrev pub take_of : ℕ → Parcel M → MemberState S → Done (MemberState S) (Unit {0}) (Parcel M)
+  take_of from (Guard letter) m = core_step m (core.deliver from letter m.core)
+  take_of from (Want ranges) m = record { state = m; answer = tt; letters = records_to from (take 4 (in_ranges ranges.items m.journal)) }
+  take_of from (Records records) m = record { state = with_journal (with_records records.items m.journal) m; answer = tt; letters = [] }
+
+  -- a node wakes up again: core and journal stay, the draft is emptied
+  abbrev pub restart_of : MemberState S → MemberState S
+  restart_of m = with_draft fresh m
+
+  -- a member at rest
+  abbrev pub start_of : H → ℕ → ℕ → ℕ → ℕ → MemberState S
+  start_of shape me origin limit registers = record {
+    setting = record { me = me; nodes = core.count shape; limit = limit; registers = registers };
+    core = core.start shape me origin limit;
+    journal = [];
+    draft = fresh;
+  }

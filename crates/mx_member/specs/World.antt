@@ -1,0 +1,55 @@
+-- Whole worlds: members, the parcels ever sent, and the sections so far; and what each of them keeps.
+use Rattle.std.specs.Prelude.{ℕ, suc, ◌≡◌, ◌<◌, ◌++◌, false, List, [], ◌∷◌, Some, length, map, slice_get}
+use Rattle.mx_stamps.specs.Lists.{IsIn}
+use Rattle.mx_journal.specs.Agreement.{IsSubmap}
+use Rattle.mx_journal.specs.Records.{Ascending}
+use Rattle.mx_nodelaws.specs.World.{World}
+use Rattle.mx_nodelaws.specs.Core.{Core, IsInside}
+use Rattle.mx_nodelaws.specs.Laws.{greatest_mine}
+use Rattle.mx_nodelaws.specs.declared.phase.Phase.TheVariants.{Inside}
+use Rattle.mx_member.specs.declared.parcel.Parcel.{Parcel}
+use Rattle.mx_member.specs.Member.{MemberState, letter_in, records_in}
+use Rattle.mx_member.specs.Sections.{Section, section_journal}
+use Rattle.mx_member.specs.Serial.{AllClosed, ReadSerially}
+
+-- the letters of the cores among the parcels
+abbrev pub letters_in : {M : Type 0} → List (ℕ × ℕ × Parcel M) → List (ℕ × ℕ × M)
+letters_in [] = []
+letters_in (p ∷ ps) = letter_in p.0 p.1 p.2 ++ letters_in ps
+
+-- the core part of a world
+abbrev pub core_part : {S M : Type 0} → List (MemberState S) → List (ℕ × ℕ × Parcel M) → World S M
+core_part members sent = record { nodes = map (λ m. m.core) members; sent = letters_in sent }
+
+-- node i is this member
+abbrev pub IsMember : {S : Type 0} → List (MemberState S) → ℕ → MemberState S → Type 0
+IsMember members i m = slice_get members i ≡ Some m
+
+-- the section that this member's draft is of
+abbrev pub draft_of : {S : Type 0} → MemberState S → Section
+draft_of m = record { node = m.setting.me; draft = m.draft; closed = false }
+
+-- the newest section bears n, and is the open one of this member's draft; all others are left
+abbrev pub IsDraftOf : {S : Type 0} → MemberState S → ℕ → List Section → Type 0
+IsDraftOf m n [] = ⊥
+IsDraftOf m n (s ∷ ss) = (s ≡ draft_of m) × (n ≡ suc (length ss)) × AllClosed ss
+
+-- what every world keeps, with the sections so far
+pub record IsSound {H S M : Type 0} (core : Core H S M) (Good : World S M → Type 0) (ss : List Section) (members : List (MemberState S)) (sent : List (ℕ × ℕ × Parcel M)) : Type 0 where
+  pub good : Good (core_part members sent)
+  -- the sections bear 1 to the greatest number that a node drew
+  pub counted : length ss ≡ greatest_mine core (core_part members sent)
+  -- at most the newest is open: it is that of the node inside
+  pub inside : (i n : ℕ) (m : MemberState S) → IsMember members i m → core.phase m.core ≡ Inside n → IsDraftOf m n ss
+  pub nobody : ((i : ℕ) (m : MemberState S) → IsMember members i m → IsInside core m.core → ⊥) → AllClosed ss
+  -- each section's reads have the values that the sections before it and its own writes leave
+  pub serial : ReadSerially ss
+  -- each member knows its number, and how many there are
+  pub named : (i : ℕ) (m : MemberState S) → IsMember members i m → m.setting.me ≡ i
+  pub known : (i : ℕ) (m : MemberState S) → IsMember members i m → m.setting.nodes ≡ length members
+  -- journals, and the records in parcels, are of the section journal
+  pub journals : (i : ℕ) (m : MemberState S) → IsMember members i m → IsSubmap m.journal (section_journal ss)
+  pub ordered : (i : ℕ) (m : MemberState S) → IsMember members i m → Ascending 1 m.journal
+  pub parcels : (a b : ℕ) (p : Parcel M) → IsIn (a, b, p) sent → IsSubmap (records_in p) (section_journal ss)
+  -- parcels go from nodes to nodes
+  pub between : (a b : ℕ) (p : Parcel M) → IsIn (a, b, p) sent → (a < length members) × (b < length members)

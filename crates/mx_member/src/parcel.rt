@@ -1,0 +1,56 @@
+//! What members send one another.
+
+ghost use Rattle.std.specs.Prelude.{◌≡◌};
+
+use arrayvec::ArrayVec;
+use mx_journal::{Range, Record};
+
+/// A letter of the exclusion algorithm, or a message of gossip.
+#[derive(Drop)]
+pub enum Parcel<M> {
+    Guard(M),
+    /// The ranges of section numbers whose records the sender lacks.
+    Want(ArrayVec<Range, 8>),
+    /// Records that the receiver may lack.
+    Records(ArrayVec<Record, 4>),
+}
+
+impl<M> Default for Parcel<M> {
+    /// A want of nothing.
+    fn default() -> Self {
+        Parcel::Want(ArrayVec::new())
+    }
+}
+
+impl<M: Copy> Parcel<M> {
+    /// An equal parcel.
+    pub fn copy(&self) -> Parcel<M>
+        ensures { result ≡ self.now }
+    {
+        match self {
+            Parcel::Guard(letter) => Parcel::Guard(*letter),
+            Parcel::Want(ranges) => Parcel::Want(copy_of_ranges(ranges)),
+            Parcel::Records(records) => Parcel::Records(copy_of_records(records)),
+        }
+    }
+}
+
+fn copy_of_ranges(ranges: &ArrayVec<Range, 8>) -> ArrayVec<Range, 8>
+    ensures { result ≡ ranges.now }
+{
+    let mut copy = ArrayVec::new();
+    for range in ranges.as_slice() {
+        copy.push(*range);
+    }
+    copy
+}
+
+fn copy_of_records(records: &ArrayVec<Record, 4>) -> ArrayVec<Record, 4>
+    ensures { result ≡ records.now }
+{
+    let mut copy = ArrayVec::new();
+    for entry in records.as_slice() {
+        copy.push(entry.copy());
+    }
+    copy
+}
