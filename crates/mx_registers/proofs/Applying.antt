@@ -17,7 +17,7 @@ use Rattle.mx_registers.specs.Registers.{AreApplied, after_write, applied, numbe
 use Rattle.mx_registers.proofs.Held.{held, number_held}
 use Rattle.mx_registers.proofs.Taking.{register_more}
 
-applied_append : (register : ℕ) (us ws : List Write) (v : ℕ) → applied register (us ++ ws) v ≡ applied register ws (applied register us v)
+pub applied_append : (register : ℕ) (us ws : List Write) (v : ℕ) → applied register (us ++ ws) v ≡ applied register ws (applied register us v)
 applied_append register [] ws v = refl
 applied_append register (u ∷ us) ws v = applied_append register us ws (cond (nat_eq u.register register) u.value v)
 
@@ -31,7 +31,7 @@ applied_from register (w ∷ ws) o v =
     ]
 
 -- of writes that are applied the last one counts
-applied_last : (register : ℕ) (ws : List Write) (v : ℕ) → applied register ws v ≡ unwrap_or (last_value register ws) v
+pub applied_last : (register : ℕ) (ws : List Write) (v : ℕ) → applied register ws v ≡ unwrap_or (last_value register ws) v
 applied_last register ws v = applied_from register ws None v
 
 -- a section that no later one forestalls writes
