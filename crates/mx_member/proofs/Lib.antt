@@ -1,4 +1,9 @@
 -- Phases: phases. CorePart: the core part of worlds. SectionLists: sections and their journal.
+-- Moments: an act of one member, and what it has to show. CoreSteps: what the laws say of it.
+-- PlainSteps: acts of which no section tells.
 pub mod Phases
 pub mod CorePart
 pub mod SectionLists
+pub mod Moments
+pub mod CoreSteps
+pub mod PlainSteps

@@ -1,0 +1,106 @@
+-- Acts of which no section tells: the core takes a step, records are sent or join the journal.
+use Rattle.std.proofs.Common.{ℕ, ◌<◌, ◌≡◌, ◌≢◌, ◌↔◌, inl, inr, List, [], ◌∷◌, Some, length, take, refl, sym, ◌∙◌, ap, subst}
+use Rattle.std.proofs.lemmas.Option.{same_Some}
+use Rattle.mx_stamps.specs.Lists.{IsIn}
+use Rattle.mx_stamps.proofs.Lists.{dec_eq, get_set_other, get_set_same}
+use Rattle.mx_nodelaws.specs.World.{World, Done, after, sent_by}
+use Rattle.mx_nodelaws.specs.Core.{Core, KeepsPhases}
+use Rattle.mx_nodelaws.specs.Laws.{KeepsGood}
+use Rattle.mx_nodelaws.specs.declared.phase.Phase.TheVariants.{Inside}
+use Rattle.mx_journal.specs.declared.records.Record.{Record}
+use Rattle.mx_journal.specs.declared.ranges.Range.{Range}
+use Rattle.mx_journal.specs.Agreement.{IsSubmap}
+use Rattle.mx_journal.specs.Records.{Ascending, with_records}
+use Rattle.mx_journal.proofs.Maps.{ascending_with_all, in_with_records}
+use Rattle.mx_member.specs.declared.parcel.Parcel.{Parcel}
+use Rattle.mx_member.specs.Member.{MemberState, guarded, records_in, with_core, with_journal}
+use Rattle.mx_member.specs.Steps.{want_to, records_to}
+use Rattle.mx_member.specs.Sections.{Section, section_journal}
+use Rattle.mx_member.specs.World.{IsDraftOf, IsMember, IsSound, core_part, draft_of, letters_in}
+use Rattle.mx_member.proofs.CorePart.{letters_guarded}
+use Rattle.mx_member.proofs.CoreSteps.{core_kept, core_still, counted_same, letters_sent, part_of}
+use Rattle.mx_member.proofs.Moments.{GrowsBy, IsSoundStep, Moment, moved_in, step_sound}
+use Rattle.mx_member.proofs.SectionLists.{submap_numbered}
+
+-- only the draft decides what section it is of
+pub same_draft : {S : Type 0} (m k : MemberState S) (n : ℕ) (ss : List Section) → draft_of m ≡ draft_of k → IsDraftOf m n ss → IsDraftOf k n ss
+same_draft m k n [] e d = d
+same_draft m k n (s ∷ ss) e d = (d.0 ∙ e, d.1, d.2)
+
+-- an act of which no section tells
+pub record IsPlain {H S M : Type 0} {core : Core H S M} {Good : World S M → Type 0} (w : Moment core Good) (moved : MemberState S) (letters : List (ℕ × Parcel M)) (grown : List (ℕ × ℕ × Parcel M)) : Type 0 where
+  pub good : Good (core_part (moved_in w moved) grown)
+  pub mine : core.mine moved.core ≡ core.mine w.member.core
+  pub phase : (n : ℕ) → (core.phase moved.core ≡ Inside n) ↔ (core.phase w.member.core ≡ Inside n)
+  pub draft : (n : ℕ) → core.phase w.member.core ≡ Inside n → draft_of w.member ≡ draft_of moved
+  pub setting : moved.setting ≡ w.member.setting
+  pub journal : IsSubmap moved.journal (section_journal w.sections)
+  pub ordered : Ascending 1 moved.journal
+  pub sends : (b : ℕ) (p : Parcel M) → IsIn (b, p) letters → (b < length w.members) × IsSubmap (records_in p) (section_journal w.sections)
+
+module _ {H S M : Type 0} (core : Core H S M) (IsShape : H → Type 0) (Good : World S M → Type 0) (phases : KeepsPhases core) (laws : KeepsGood core IsShape Good) where
+  -- it leaves a sound world of the same sections
+  pub plain_sound : (w : Moment core Good) (moved : MemberState S) (letters : List (ℕ × Parcel M)) (grown : List (ℕ × ℕ × Parcel M)) →
+      IsPlain w moved letters grown → GrowsBy w letters grown → IsSound core Good w.sections (moved_in w moved) grown
+  plain_sound w moved letters grown plain grows = step_sound w w.sections moved letters grown (record {
+    good = plain.good;
+    counted = w.sound.counted ∙ sym (counted_same core IsShape Good phases laws w moved grown plain.mine);
+    inside = λ n h. let was = (plain.phase n).0 h in same_draft w.member moved n w.sections (plain.draft n was) (w.sound.inside w.node n w.member w.here was);
+    others = λ j n t ne at h. w.sound.inside j n t at h;
+    nobody = λ none. w.sound.nobody (λ j t at inside. elim (dec_eq j w.node) [
+      | inl e ↦
+          let same : t ≡ w.member = same_Some t w.member (sym at ∙ subst (λ k. IsMember w.members k w.member) (sym e) w.here) in
+          none w.node moved (get_set_same w.members w.node w.member moved w.here) (inside.0, (plain.phase inside.0).1 (subst (λ (x : MemberState S). core.phase x.core ≡ Inside inside.0) same inside.1))
+      | inr ne ↦ none j t (get_set_other w.members w.node j moved ne ∙ at) inside
+    ]);
+    serial = w.sound.serial;
+    setting = plain.setting;
+    journal = plain.journal;
+    ordered = plain.ordered;
+    older = λ x h. h;
+    sends = plain.sends;
+  }) grows
+
+  -- the core takes a step that keeps phase and number
+  pub core_sound : {A : Type 0} (w : Moment core Good) (done : Done S A M) (grown : List (ℕ × ℕ × Parcel M)) →
+      Good (after (part_of core IsShape Good phases laws w) w.node done) → core.mine done.state ≡ core.mine w.member.core →
+      ((n : ℕ) → (core.phase done.state ≡ Inside n) ↔ (core.phase w.member.core ≡ Inside n)) → GrowsBy w (guarded done.letters) grown →
+      IsSound core Good w.sections (moved_in w (with_core done.state w.member)) grown
+  core_sound w done grown good mine phase grows = plain_sound w (with_core done.state w.member) (guarded done.letters) grown (record {
+    good = core_kept core IsShape Good phases laws w done (with_core done.state w.member) (guarded done.letters) grown good refl (letters_guarded w.node done.letters) grows;
+    mine = mine;
+    phase = phase;
+    draft = λ n h. refl;
+    setting = refl;
+    journal = w.sound.journals w.node w.member w.here;
+    ordered = w.sound.ordered w.node w.member w.here;
+    sends = letters_sent core IsShape Good phases laws w done (section_journal w.sections) good;
+  }) grows
+
+  -- the core stays; records of the sections join the journal, and records of them are sent
+  pub gossip_sound : (w : Moment core Good) (records : List Record) (letters : List (ℕ × Parcel M)) (grown : List (ℕ × ℕ × Parcel M)) →
+      IsSubmap records (section_journal w.sections) → letters_in (sent_by w.node letters) ≡ [] →
+      ((b : ℕ) (p : Parcel M) → IsIn (b, p) letters → (b < length w.members) × IsSubmap (records_in p) (section_journal w.sections)) → GrowsBy w letters grown →
+      IsSound core Good w.sections (moved_in w (with_journal (with_records records w.member.journal) w.member)) grown
+  gossip_sound w records letters grown known none sends grows =
+      let moved : MemberState S = with_journal (with_records records w.member.journal) w.member in
+      plain_sound w moved letters grown (record {
+        good = core_still core IsShape Good phases laws w moved letters grown refl none grows;
+        mine = refl;
+        phase = λ n. (λ h. h, λ h. h);
+        draft = λ n h. refl;
+        setting = refl;
+        journal = λ x h. elim (in_with_records records w.member.journal x h) [ inl a ↦ w.sound.journals w.node w.member w.here x a | inr b ↦ known x b ];
+        ordered = ascending_with_all records w.member.journal (w.sound.ordered w.node w.member w.here) (submap_numbered w.sections records known);
+        sends = sends;
+      }) grows
+
+  -- nothing changes, and records of the own journal may be sent
+  pub still_sound : (w : Moment core Good) (letters : List (ℕ × Parcel M)) (grown : List (ℕ × ℕ × Parcel M)) → letters_in (sent_by w.node letters) ≡ [] →
+      ((b : ℕ) (p : Parcel M) → IsIn (b, p) letters → (b < length w.members) × IsSubmap (records_in p) (section_journal w.sections)) → GrowsBy w letters grown →
+      IsSound core Good w.sections (moved_in w w.member) grown
+  still_sound w letters grown none sends grows = gossip_sound w [] letters grown (λ x h. absurd h) none sends grows
+
+  -- a refusal
+  pub refused_sound : (w : Moment core Good) (grown : List (ℕ × ℕ × Parcel M)) → GrowsBy w [] grown → IsSound core Good w.sections (moved_in w w.member) grown
+  refused_sound w grown grows = still_sound w [] grown refl (λ b p h. absurd h) grows
