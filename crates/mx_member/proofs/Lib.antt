@@ -13,3 +13,5 @@ pub mod CoreSteps
 pub mod PlainSteps
 pub mod EntrySteps
 pub mod DraftSteps
+pub mod CallsKept
+pub mod ActsKept

@@ -1,0 +1,91 @@
+-- Each act of one member fits the sections so far, and leaves a sound world of the sections after it.
+use Rattle.std.proofs.Common.{ℕ, ◌<◌, ◌≤◌, ◌≡◌, ◌↔◌, inl, inr, true, false, List, [], ◌∷◌, ◌++◌, Some, Result, Ok, Err, length, nat_lt, nat_le, take, slice_set, refl, sym, ◌∙◌, ap, subst, if◌then◌else◌}
+use Rattle.mx_stamps.specs.declared.stamp.Stamp.{Stamp}
+use Rattle.mx_stamps.specs.Lists.{IsIn}
+use Rattle.mx_stamps.proofs.Lists.{cond_case, in_append}
+use Rattle.mx_nodelaws.specs.World.{World, Quiet, sent_by}
+use Rattle.mx_nodelaws.specs.Core.{Core, KeepsPhases}
+use Rattle.mx_nodelaws.specs.Laws.{KeepsGood}
+use Rattle.mx_nodelaws.specs.declared.phase.Phase.{Phase}
+use Rattle.mx_nodelaws.specs.declared.phase.Phase.TheVariants.{Idle, Waiting, Inside}
+use Rattle.mx_nodelaws.specs.declared.faults.AskFault.{AskFault}
+use Rattle.mx_nodelaws.specs.declared.faults.EnterFault.{EnterFault}
+use Rattle.mx_journal.specs.declared.records.Record.{Record}
+use Rattle.mx_journal.specs.declared.ranges.Range.{Range}
+use Rattle.mx_journal.specs.Agreement.{IsSubmap}
+use Rattle.mx_journal.specs.Drafted.{with_read, with_write}
+use Rattle.mx_journal.specs.Gapless.{first_missing}
+use Rattle.mx_journal.proofs.Choices.{lt_false}
+use Rattle.mx_merge.specs.Missing.{gaps_of, in_ranges}
+use Rattle.mx_merge.proofs.Answered.{answered_known}
+use Rattle.mx_member.specs.declared.acts.Act.{Act}
+use Rattle.mx_member.specs.declared.acts.Act.TheVariants as act
+use Rattle.mx_member.specs.declared.acts.Answer.{Answer}
+use Rattle.mx_member.specs.declared.acts.Answer.TheVariants as answer
+use Rattle.mx_member.specs.declared.parcel.Parcel.{Parcel}
+use Rattle.mx_member.specs.declared.parcel.Parcel.TheVariants.{Guard, Want, Records}
+use Rattle.mx_member.specs.declared.faults.ReadFault.{ReadFault}
+use Rattle.mx_member.specs.declared.faults.ReadFault.TheVariants as read
+use Rattle.mx_member.specs.declared.faults.WriteFault.{WriteFault}
+use Rattle.mx_member.specs.declared.faults.WriteFault.TheVariants as write
+use Rattle.mx_member.specs.Member.{MemberState, guarded, records_in, with_core, with_draft}
+use Rattle.mx_member.specs.Steps.{IsTakeable, entered, leave_at, read_at, records_to, refusing, shown_inside, take_of, want_to, write_at}
+use Rattle.mx_member.specs.Acts.{Arrives, Grows, IsDoable, act_of}
+use Rattle.mx_member.specs.Sections.{Mark, Section, after_marks, section_journal, told}
+use Rattle.mx_member.specs.Serial.{AllFit}
+use Rattle.mx_member.specs.World.{IsMember, IsSound, letters_in}
+use Rattle.mx_member.proofs.CallsKept.{Keeps, ask_kept, enter_kept, leave_kept, read_kept, take_kept, tick_kept, want_kept, write_kept}
+use Rattle.mx_member.proofs.CoreSteps.{core_here, part_of}
+use Rattle.mx_member.proofs.DraftSteps.{read_sound, wake_sound, write_sound}
+use Rattle.mx_member.proofs.EntrySteps.{enter_sound, leave_sound}
+use Rattle.mx_member.proofs.Moments.{GrowsBy, Moment, moved_in}
+use Rattle.mx_member.proofs.Phases.{idle_apart, waiting_apart}
+use Rattle.mx_member.proofs.PlainSteps.{core_sound, gossip_sound, refused_sound, still_sound}
+use Rattle.mx_member.proofs.SectionLists.{submap_numbered, submaps_agree}
+
+module _ {H S M : Type 0} (core : Core H S M) (IsShape : H → Type 0) (Good : World S M → Type 0) (phases : KeepsPhases core) (laws : KeepsGood core IsShape Good) where
+  -- what every act of a member tells fits, and it leaves a sound world
+  pub act_kept : (ss : List Section) (members : List (MemberState S)) (sent grown : List (ℕ × ℕ × Parcel M)) (i : ℕ) (a : Act M) (m : MemberState S) →
+      IsSound core Good ss members sent → IsMember members i m → Arrives (length members) sent i a → Grows sent i (act_of core a m).letters grown →
+      AllFit ss (told i a (act_of core a m).answer)
+      × IsSound core Good (after_marks ss (told i a (act_of core a m).answer)) (slice_set members i (act_of core a m).state) grown
+  act_kept ss members sent grown i a m sound at arrives grows =
+      by a arrives grows
+    where
+      w : Moment core Good
+      w = record { sections = ss; members = members; sent = sent; node = i; member = m; sound = sound; here = at }
+
+      by : (a : Act M) → Arrives (length members) sent i a → Grows sent i (act_of core a m).letters grown → Keeps core IsShape Good phases laws w (told i a (act_of core a m).answer) (act_of core a m).state grown
+      by act.Ask arrives grows = ask_kept core IsShape Good phases laws w grown grows
+      by act.Enter arrives grows = enter_kept core IsShape Good phases laws w grown (core.enter m.core).answer refl grows
+      by (act.Read register) arrives grows = read_kept core IsShape Good phases laws w register grown (core.phase m.core) refl grows
+      by (act.Write register value) arrives grows = write_kept core IsShape Good phases laws w register value grown (core.phase m.core) refl grows
+      by act.Leave arrives grows = leave_kept core IsShape Good phases laws w grown (core.phase m.core) refl grows
+      by act.Tick arrives grows = tick_kept core IsShape Good phases laws w grown grows
+      by (act.Want to) arrives grows = want_kept core IsShape Good phases laws w to (take 8 (gaps_of m.setting.limit m.journal)) grown arrives grows
+      by (act.Deliver from parcel) arrives grows = take_kept core IsShape Good phases laws w from parcel grown arrives grows
+      by act.Restart arrives grows = ((tt, tt), wake_sound core IsShape Good phases laws w grown grows)
+
+-- a parcel that was sent to a member is of no stranger and meets no conflict
+taken : {H S M : Type 0} (core : Core H S M) (Good : World S M → Type 0) (ss : List Section) (members : List (MemberState S)) (sent : List (ℕ × ℕ × Parcel M)) (i from : ℕ) (parcel : Parcel M) (m : MemberState S) →
+    IsSound core Good ss members sent → IsMember members i m → IsIn (from, i, parcel) sent → IsTakeable from parcel m
+taken core Good ss members sent i from parcel m sound at was =
+    let known = sound.parcels from i parcel was in
+    let all : List Record = m.journal ++ records_in parcel in
+    let both : IsSubmap all (section_journal ss) = λ x h. elim (in_append x m.journal (records_in parcel) h) [ inl a ↦ sound.journals i m at x a | inr b ↦ known x b ] in (
+      subst (λ n. from < n) (sym (sound.known i m at)) (sound.between from i parcel was).0,
+      (submap_numbered ss (records_in parcel) known, submaps_agree ss all all both both),
+    )
+
+-- so a member can do whatever arrives
+pub doable : {H S M : Type 0} (core : Core H S M) (Good : World S M → Type 0) (ss : List Section) (members : List (MemberState S)) (sent : List (ℕ × ℕ × Parcel M)) (i : ℕ) (a : Act M) (m : MemberState S) →
+    IsSound core Good ss members sent → IsMember members i m → Arrives (length members) sent i a → IsDoable a m
+doable core Good ss members sent i act.Ask m sound at arrives = tt
+doable core Good ss members sent i act.Enter m sound at arrives = tt
+doable core Good ss members sent i (act.Read register) m sound at arrives = tt
+doable core Good ss members sent i (act.Write register value) m sound at arrives = tt
+doable core Good ss members sent i act.Leave m sound at arrives = tt
+doable core Good ss members sent i act.Tick m sound at arrives = tt
+doable core Good ss members sent i (act.Want to) m sound at arrives = tt
+doable core Good ss members sent i (act.Deliver from parcel) m sound at arrives = taken core Good ss members sent i from parcel m sound at arrives
+doable core Good ss members sent i act.Restart m sound at arrives = tt
