@@ -15,3 +15,6 @@ pub mod EntrySteps
 pub mod DraftSteps
 pub mod CallsKept
 pub mod ActsKept
+pub mod AtRest
+pub mod Histories
+pub mod Consequences

@@ -1,0 +1,49 @@
+-- The world in which each member has just been started, and nothing was sent, is sound.
+use Rattle.std.proofs.Common.{ℕ, ◌≤◌, ◌<◌, ◌^◌, ◌≡◌, List, [], Some, length, map, slice_get, refl, sym, ◌∙◌, ap, subst, arith}
+use Rattle.mx_stamps.specs.Lists.{IsIn, each_below, greatest}
+use Rattle.mx_stamps.proofs.Lists.{get_each_below, greatest_below, length_each_below}
+use Rattle.mx_nodelaws.specs.World.{World}
+use Rattle.mx_nodelaws.specs.Core.{Core, KeepsPhases}
+use Rattle.mx_nodelaws.specs.Laws.{KeepsGood, greatest_mine}
+use Rattle.mx_nodelaws.specs.declared.phase.Phase.TheVariants.{Inside}
+use Rattle.mx_journal.specs.Records.{Ascending}
+use Rattle.mx_member.specs.Member.{MemberState}
+use Rattle.mx_member.specs.Steps.{start_of}
+use Rattle.mx_member.specs.World.{IsMember, IsSound, core_part}
+use Rattle.mx_member.proofs.CorePart.{map_each_below}
+use Rattle.mx_member.proofs.Phases.{idle_apart}
+
+module _ {H S M : Type 0} (core : Core H S M) (IsShape : H → Type 0) (Good : World S M → Type 0) (phases : KeepsPhases core) (laws : KeepsGood core IsShape Good) where
+  pub at_start : (shape : H) (origin limit registers : ℕ) → IsShape shape → origin < 2 ^ 64 → 0 < limit → limit ≤ 1000000 →
+      IsSound core Good [] (each_below (λ i. start_of core shape i origin limit registers) (core.count shape)) []
+  at_start shape origin limit registers valid low some high = record {
+    good = subst (λ ns. Good (record { nodes = ns; sent = [] })) (sym cores) (laws.at_start shape origin limit valid low some high);
+    counted = let l = greatest_below core.mine (map (λ (m : MemberState S). m.core) members) 0 none in omega arith;
+    inside = λ i n m at h. absurd (idle_apart n (sym (phases.started_idle shape i origin limit) ∙ sym (ap (λ (x : MemberState S). core.phase x.core) (is i m at)) ∙ h));
+    nobody = λ none. tt;
+    serial = tt;
+    named = λ i m at. ap (λ (x : MemberState S). x.setting.me) (is i m at);
+    known = λ i m at. ap (λ (x : MemberState S). x.setting.nodes) (is i m at) ∙ sym (length_each_below started (core.count shape));
+    journals = λ i m at x h. absurd (subst (λ (y : MemberState S). IsIn x y.journal) (is i m at) h);
+    ordered = λ i m at. subst (λ (y : MemberState S). Ascending 1 y.journal) (sym (is i m at)) tt;
+    parcels = λ a b p h. absurd h;
+    between = λ a b p h. absurd h;
+  }
+    where
+      started : ℕ → MemberState S
+      started = λ i. start_of core shape i origin limit registers
+
+      members : List (MemberState S)
+      members = each_below started (core.count shape)
+
+      is : (i : ℕ) (m : MemberState S) → IsMember members i m → m ≡ started i
+      is i m at = (get_each_below started (core.count shape) i m at).1
+
+      cores : map (λ (m : MemberState S). m.core) members ≡ each_below (λ i. core.start shape i origin limit) (core.count shape)
+      cores = map_each_below (λ (m : MemberState S). m.core) started (core.count shape)
+
+      none : (i : ℕ) (s : S) → slice_get (map (λ (m : MemberState S). m.core) members) i ≡ Some s → core.mine s ≤ 0
+      none i s at =
+          let e : s ≡ core.start shape i origin limit = (get_each_below (λ j. core.start shape j origin limit) (core.count shape) i s (subst (λ ns. slice_get ns i ≡ Some s) cores at)).1 in
+          let zero : core.mine s ≡ 0 = ap core.mine e ∙ phases.started_mine shape i origin limit in
+          omega arith
