@@ -18,3 +18,4 @@ pub mod ActsKept
 pub mod AtRest
 pub mod Histories
 pub mod Consequences
+pub mod Shown
