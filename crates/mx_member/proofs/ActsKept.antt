@@ -1,46 +1,25 @@
 -- Each act of one member fits the sections so far, and leaves a sound world of the sections after it.
-use Rattle.std.proofs.Common.{ℕ, ◌<◌, ◌≤◌, ◌≡◌, ◌↔◌, inl, inr, true, false, List, [], ◌∷◌, ◌++◌, Some, Result, Ok, Err, length, nat_lt, nat_le, take, slice_set, refl, sym, ◌∙◌, ap, subst, if◌then◌else◌}
-use Rattle.mx_stamps.specs.declared.stamp.Stamp.{Stamp}
+use Rattle.std.proofs.Common.{ℕ, ◌<◌, inl, inr, List, ◌++◌, length, take, slice_set, refl, sym, subst}
 use Rattle.mx_stamps.specs.Lists.{IsIn}
-use Rattle.mx_stamps.proofs.Lists.{cond_case, in_append}
-use Rattle.mx_nodelaws.specs.World.{World, Quiet, sent_by}
+use Rattle.mx_stamps.proofs.Lists.{in_append}
+use Rattle.mx_nodelaws.specs.World.{World}
 use Rattle.mx_nodelaws.specs.Core.{Core, KeepsPhases}
 use Rattle.mx_nodelaws.specs.Laws.{KeepsGood}
-use Rattle.mx_nodelaws.specs.declared.phase.Phase.{Phase}
-use Rattle.mx_nodelaws.specs.declared.phase.Phase.TheVariants.{Idle, Waiting, Inside}
-use Rattle.mx_nodelaws.specs.declared.faults.AskFault.{AskFault}
-use Rattle.mx_nodelaws.specs.declared.faults.EnterFault.{EnterFault}
 use Rattle.mx_journal.specs.declared.records.Record.{Record}
-use Rattle.mx_journal.specs.declared.ranges.Range.{Range}
 use Rattle.mx_journal.specs.Agreement.{IsSubmap}
-use Rattle.mx_journal.specs.Drafted.{with_read, with_write}
-use Rattle.mx_journal.specs.Gapless.{first_missing}
-use Rattle.mx_journal.proofs.Choices.{lt_false}
-use Rattle.mx_merge.specs.Missing.{gaps_of, in_ranges}
-use Rattle.mx_merge.proofs.Answered.{answered_known}
+use Rattle.mx_merge.specs.Missing.{gaps_of}
 use Rattle.mx_member.specs.declared.acts.Act.{Act}
 use Rattle.mx_member.specs.declared.acts.Act.TheVariants as act
-use Rattle.mx_member.specs.declared.acts.Answer.{Answer}
-use Rattle.mx_member.specs.declared.acts.Answer.TheVariants as answer
 use Rattle.mx_member.specs.declared.parcel.Parcel.{Parcel}
-use Rattle.mx_member.specs.declared.parcel.Parcel.TheVariants.{Guard, Want, Records}
-use Rattle.mx_member.specs.declared.faults.ReadFault.{ReadFault}
-use Rattle.mx_member.specs.declared.faults.ReadFault.TheVariants as read
-use Rattle.mx_member.specs.declared.faults.WriteFault.{WriteFault}
-use Rattle.mx_member.specs.declared.faults.WriteFault.TheVariants as write
-use Rattle.mx_member.specs.Member.{MemberState, guarded, records_in, with_core, with_draft}
-use Rattle.mx_member.specs.Steps.{IsTakeable, entered, leave_at, read_at, records_to, refusing, shown_inside, take_of, want_to, write_at}
+use Rattle.mx_member.specs.Member.{MemberState, records_in}
+use Rattle.mx_member.specs.Steps.{IsTakeable}
 use Rattle.mx_member.specs.Acts.{Arrives, Grows, IsDoable, act_of}
-use Rattle.mx_member.specs.Sections.{Mark, Section, after_marks, section_journal, told}
+use Rattle.mx_member.specs.Sections.{Section, after_marks, section_journal, told}
 use Rattle.mx_member.specs.Serial.{AllFit}
-use Rattle.mx_member.specs.World.{IsMember, IsSound, letters_in}
+use Rattle.mx_member.specs.World.{IsMember, IsSound}
 use Rattle.mx_member.proofs.CallsKept.{Keeps, ask_kept, enter_kept, leave_kept, read_kept, take_kept, tick_kept, want_kept, write_kept}
-use Rattle.mx_member.proofs.CoreSteps.{core_here, part_of}
-use Rattle.mx_member.proofs.DraftSteps.{read_sound, wake_sound, write_sound}
-use Rattle.mx_member.proofs.EntrySteps.{enter_sound, leave_sound}
-use Rattle.mx_member.proofs.Moments.{GrowsBy, Moment, moved_in}
-use Rattle.mx_member.proofs.Phases.{idle_apart, waiting_apart}
-use Rattle.mx_member.proofs.PlainSteps.{core_sound, gossip_sound, refused_sound, still_sound}
+use Rattle.mx_member.proofs.DraftSteps.{wake_sound}
+use Rattle.mx_member.proofs.Moments.{Moment}
 use Rattle.mx_member.proofs.SectionLists.{submap_numbered, submaps_agree}
 
 module _ {H S M : Type 0} (core : Core H S M) (IsShape : H → Type 0) (Good : World S M → Type 0) (phases : KeepsPhases core) (laws : KeepsGood core IsShape Good) where

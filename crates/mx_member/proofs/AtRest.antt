@@ -1,15 +1,14 @@
 -- The world in which each member has just been started, and nothing was sent, is sound.
-use Rattle.std.proofs.Common.{ℕ, ◌≤◌, ◌<◌, ◌^◌, ◌≡◌, List, [], Some, length, map, slice_get, refl, sym, ◌∙◌, ap, subst, arith}
-use Rattle.mx_stamps.specs.Lists.{IsIn, each_below, greatest}
+use Rattle.std.proofs.Common.{ℕ, ◌≤◌, ◌<◌, ◌^◌, ◌≡◌, List, [], Some, map, slice_get, sym, ◌∙◌, ap, subst, arith}
+use Rattle.mx_stamps.specs.Lists.{IsIn, each_below}
 use Rattle.mx_stamps.proofs.Lists.{get_each_below, greatest_below, length_each_below}
 use Rattle.mx_nodelaws.specs.World.{World}
 use Rattle.mx_nodelaws.specs.Core.{Core, KeepsPhases}
-use Rattle.mx_nodelaws.specs.Laws.{KeepsGood, greatest_mine}
-use Rattle.mx_nodelaws.specs.declared.phase.Phase.TheVariants.{Inside}
+use Rattle.mx_nodelaws.specs.Laws.{KeepsGood}
 use Rattle.mx_journal.specs.Records.{Ascending}
 use Rattle.mx_member.specs.Member.{MemberState}
 use Rattle.mx_member.specs.Steps.{start_of}
-use Rattle.mx_member.specs.World.{IsMember, IsSound, core_part}
+use Rattle.mx_member.specs.World.{IsMember, IsSound}
 use Rattle.mx_member.proofs.CorePart.{map_each_below}
 use Rattle.mx_member.proofs.Phases.{idle_apart}
 

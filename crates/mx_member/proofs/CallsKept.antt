@@ -1,9 +1,9 @@
 -- Each call of one member fits the sections so far, and leaves a sound world of the sections after it.
-use Rattle.std.proofs.Common.{ℕ, ◌<◌, ◌≤◌, ◌≡◌, ◌↔◌, inl, inr, true, false, List, [], ◌∷◌, ◌++◌, Some, Result, Ok, Err, length, nat_lt, nat_le, take, slice_set, refl, sym, ◌∙◌, ap, subst, if◌then◌else◌}
+use Rattle.std.proofs.Common.{ℕ, ◌<◌, ◌≡◌, ◌↔◌, inl, inr, List, [], ◌∷◌, Result, Ok, Err, length, nat_lt, nat_le, take, refl, sym, ◌∙◌, ap, subst, if◌then◌else◌}
 use Rattle.mx_stamps.specs.declared.stamp.Stamp.{Stamp}
 use Rattle.mx_stamps.specs.Lists.{IsIn}
-use Rattle.mx_stamps.proofs.Lists.{cond_case, in_append}
-use Rattle.mx_nodelaws.specs.World.{World, Quiet, sent_by}
+use Rattle.mx_stamps.proofs.Lists.{cond_case}
+use Rattle.mx_nodelaws.specs.World.{World, Quiet}
 use Rattle.mx_nodelaws.specs.Core.{Core, KeepsPhases}
 use Rattle.mx_nodelaws.specs.Laws.{KeepsGood}
 use Rattle.mx_nodelaws.specs.declared.phase.Phase.{Phase}
@@ -16,11 +16,9 @@ use Rattle.mx_journal.specs.Agreement.{IsSubmap}
 use Rattle.mx_journal.specs.Drafted.{with_read, with_write}
 use Rattle.mx_journal.specs.Gapless.{first_missing}
 use Rattle.mx_journal.proofs.Choices.{lt_false}
-use Rattle.mx_merge.specs.Missing.{gaps_of, in_ranges}
+use Rattle.mx_merge.specs.Missing.{in_ranges}
 use Rattle.mx_merge.proofs.Answered.{answered_known}
-use Rattle.mx_member.specs.declared.acts.Act.{Act}
 use Rattle.mx_member.specs.declared.acts.Act.TheVariants as act
-use Rattle.mx_member.specs.declared.acts.Answer.{Answer}
 use Rattle.mx_member.specs.declared.acts.Answer.TheVariants as answer
 use Rattle.mx_member.specs.declared.parcel.Parcel.{Parcel}
 use Rattle.mx_member.specs.declared.parcel.Parcel.TheVariants.{Guard, Want, Records}
@@ -29,19 +27,17 @@ use Rattle.mx_member.specs.declared.faults.ReadFault.TheVariants as read
 use Rattle.mx_member.specs.declared.faults.WriteFault.{WriteFault}
 use Rattle.mx_member.specs.declared.faults.WriteFault.TheVariants as write
 use Rattle.mx_member.specs.Member.{MemberState, guarded, records_in, with_core, with_draft}
-use Rattle.mx_member.specs.Steps.{IsTakeable, entered, leave_at, read_at, records_to, refusing, shown_inside, take_of, want_to, write_at}
-use Rattle.mx_member.specs.Acts.{Arrives, Grows, IsDoable, act_of}
-use Rattle.mx_member.specs.Sections.{Mark, Section, after_marks, section_journal, told}
+use Rattle.mx_member.specs.Steps.{entered, leave_at, read_at, records_to, refusing, shown_inside, take_of, want_to, write_at}
+use Rattle.mx_member.specs.Sections.{Mark, after_marks, section_journal, told}
 use Rattle.mx_member.specs.Serial.{AllFit}
-use Rattle.mx_member.specs.World.{IsMember, IsSound, letters_in}
+use Rattle.mx_member.specs.World.{IsSound}
 use Rattle.mx_member.proofs.CorePart.{letter_of}
 use Rattle.mx_member.proofs.CoreSteps.{core_here, part_of}
-use Rattle.mx_member.proofs.DraftSteps.{read_sound, wake_sound, write_sound}
+use Rattle.mx_member.proofs.DraftSteps.{read_sound, write_sound}
 use Rattle.mx_member.proofs.EntrySteps.{enter_sound, leave_sound}
 use Rattle.mx_member.proofs.Moments.{GrowsBy, Moment, moved_in}
 use Rattle.mx_member.proofs.Phases.{idle_apart, waiting_apart}
 use Rattle.mx_member.proofs.PlainSteps.{core_sound, gossip_sound, refused_sound, still_sound}
-use Rattle.mx_member.proofs.SectionLists.{submap_numbered, submaps_agree}
 
 module _ {H S M : Type 0} (core : Core H S M) (IsShape : H → Type 0) (Good : World S M → Type 0) (phases : KeepsPhases core) (laws : KeepsGood core IsShape Good) where
   -- what the act tells fits, and the world after it is sound

@@ -1,5 +1,5 @@
 -- What a sound world says of the journals of its members.
-use Rattle.std.proofs.Common.{ℕ, ◌≤◌, ◌≡◌, List}
+use Rattle.std.proofs.Common.{ℕ, ◌≤◌, List}
 use Rattle.mx_nodelaws.specs.World.{World}
 use Rattle.mx_nodelaws.specs.Core.{Core}
 use Rattle.mx_journal.specs.Agreement.{AreAgreeing}

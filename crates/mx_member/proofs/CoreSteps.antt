@@ -1,5 +1,5 @@
 -- What the laws of a core say of an act of a member: its core part stays good, and letters go to nodes.
-use Rattle.std.proofs.Common.{ℕ, ◌<◌, ◌≡◌, ◌↔◌, inl, inr, List, [], ◌∷◌, ◌++◌, Some, length, map, slice_get, slice_set, refl, sym, ◌∙◌, ap, subst}
+use Rattle.std.proofs.Common.{ℕ, ◌<◌, ◌≡◌, ◌↔◌, List, [], ◌++◌, Some, length, map, slice_get, slice_set, sym, ◌∙◌, ap, subst}
 use Rattle.std.proofs.lemmas.List.{length-map}
 use Rattle.mx_stamps.specs.Lists.{IsIn, greatest}
 use Rattle.mx_stamps.proofs.Lists.{greatest_same, in_right, length_set}
@@ -14,7 +14,7 @@ use Rattle.mx_member.specs.declared.parcel.Parcel.{Parcel}
 use Rattle.mx_member.specs.declared.parcel.Parcel.TheVariants.{Guard}
 use Rattle.mx_member.specs.Member.{MemberState, guarded, records_in}
 use Rattle.mx_member.specs.World.{IsMember, core_part, letters_in}
-use Rattle.mx_member.proofs.CorePart.{get_map, guard_in, in_guarded, in_sent, letter_of, letters_guarded, letters_in-append, map_set}
+use Rattle.mx_member.proofs.CorePart.{get_map, guard_in, in_guarded, in_sent, letter_of, letters_in-append, map_set}
 use Rattle.mx_member.proofs.Moments.{GrowsBy, Moment, moved_in}
 
 module _ {H S M : Type 0} (core : Core H S M) (IsShape : H → Type 0) (Good : World S M → Type 0) (phases : KeepsPhases core) (laws : KeepsGood core IsShape Good) where

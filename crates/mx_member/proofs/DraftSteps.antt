@@ -1,5 +1,5 @@
 -- Acts inside a section: reads, writes, and a node that wakes up again.
-use Rattle.std.proofs.Common.{ℕ, zero, suc, ◌≤◌, ◌≡◌, ◌≢◌, ◌⊎◌, inl, inr, List, [], ◌∷◌, ◌++◌, Some, length, slice_get, refl, sym, ◌∙◌, ap, subst}
+use Rattle.std.proofs.Common.{ℕ, zero, suc, ◌≤◌, ◌≡◌, ◌≢◌, ◌⊎◌, inl, inr, List, [], ◌∷◌, ◌++◌, length, refl, sym, ◌∙◌, ap, subst}
 use Rattle.mx_stamps.specs.Lists.{IsIn}
 use Rattle.mx_stamps.proofs.Lists.{get_set_same, none_is_no_some}
 use Rattle.std.proofs.lemmas.Option.{same_Some}
@@ -14,9 +14,9 @@ use Rattle.mx_registers.specs.Registers.{applied}
 use Rattle.mx_member.specs.declared.parcel.Parcel.{Parcel}
 use Rattle.mx_member.specs.Member.{MemberState, fresh, with_draft}
 use Rattle.mx_member.specs.Steps.{shown_inside}
-use Rattle.mx_member.specs.Sections.{Section, Got, Wrote, Woke, at_open, redrafted, section_journal, writes_in}
-use Rattle.mx_member.specs.Serial.{AllClosed, Fits, IsInNewest, IsSerialRead, ReadSerially}
-use Rattle.mx_member.specs.World.{IsDraftOf, IsMember, IsSound, draft_of}
+use Rattle.mx_member.specs.Sections.{Section, Got, Wrote, at_open, redrafted, section_journal, writes_in}
+use Rattle.mx_member.specs.Serial.{Fits, IsInNewest, IsSerialRead, ReadSerially}
+use Rattle.mx_member.specs.World.{IsMember, IsSound, draft_of}
 use Rattle.mx_member.proofs.CoreSteps.{alone, core_still, counted_same}
 use Rattle.mx_member.proofs.EntrySteps.{drafted, journal_rest}
 use Rattle.mx_member.proofs.Moments.{GrowsBy, Moment, moved_in, step_sound}
@@ -86,7 +86,7 @@ module _ {H S M : Type 0} (core : Core H S M) (IsShape : H → Type 0) (Good : W
   pub read_sound : (w : Moment core Good) (n register : ℕ) (grown : List (ℕ × ℕ × Parcel M)) → core.phase w.member.core ≡ Inside n → n ≤ first_missing 1 w.member.journal → GrowsBy w [] grown →
       Fits w.sections (Got w.node register (shown_inside register n w.member))
       × IsSound core Good (at_open w.node (redrafted (with_read register (shown_inside register n w.member))) w.sections)
-          (moved_in w (with_draft (with_read register (shown_inside register n w.member) w.member.draft) w.member)) grown
+      (moved_in w (with_draft (with_read register (shown_inside register n w.member) w.member.draft) w.member)) grown
   read_sound w n register grown inside full grows =
       let value : ℕ = shown_inside register n w.member in
       let serial = w.sound.journals w.node w.member w.here in

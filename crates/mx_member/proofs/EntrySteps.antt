@@ -1,5 +1,5 @@
 -- An entry opens the next section, and a leaving closes the newest one.
-use Rattle.std.proofs.Common.{ℕ, suc, ◌+◌, ◌≤◌, ◌≡◌, inl, inr, true, List, [], ◌∷◌, Some, Ok, length, map, slice_get, nat_lt, refl, sym, ◌∙◌, ap, subst, arith}
+use Rattle.std.proofs.Common.{ℕ, suc, ◌≤◌, ◌≡◌, inl, inr, List, [], ◌∷◌, Ok, length, map, nat_lt, refl, sym, ◌∙◌, ap, subst, arith}
 use Rattle.mx_stamps.specs.Lists.{IsIn, greatest}
 use Rattle.mx_stamps.proofs.Lists.{get_set_same, greatest_raised}
 use Rattle.mx_nodelaws.specs.World.{World, quietly}
@@ -14,9 +14,9 @@ use Rattle.mx_journal.proofs.Maps.{ascending_with, in_with_record}
 use Rattle.mx_member.specs.declared.parcel.Parcel.{Parcel}
 use Rattle.mx_member.specs.Member.{MemberState, fresh, guarded, with_core, with_draft}
 use Rattle.mx_member.specs.Steps.{left}
-use Rattle.mx_member.specs.Sections.{Section, Came, Went, after_mark, at_open, closing, opened, section_journal, section_receipt}
+use Rattle.mx_member.specs.Sections.{Section, Came, Went, at_open, closing, opened, section_journal, section_receipt}
 use Rattle.mx_member.specs.Serial.{AllClosed, Fits, ReadSerially}
-use Rattle.mx_member.specs.World.{IsDraftOf, IsMember, IsSound, core_part, draft_of}
+use Rattle.mx_member.specs.World.{IsDraftOf, IsSound, core_part, draft_of}
 use Rattle.mx_member.proofs.CorePart.{get_map, letters_guarded, map_set}
 use Rattle.mx_member.proofs.CoreSteps.{alone, core_here, core_kept, counted_same, letters_sent, part_of}
 use Rattle.mx_member.proofs.Moments.{GrowsBy, Moment, moved_in, step_sound}

@@ -1,5 +1,5 @@
 -- Histories mark by mark: one after the other, and what a history that fits says of entries.
-use Rattle.std.proofs.Common.{ℕ, suc, ◌≡◌, true, false, not, ◌&&◌, cond, List, [], ◌∷◌, ◌++◌, Option, Some, None, length, nat_eq, refl, sym, ap, subst, if◌then◌else◌}
+use Rattle.std.proofs.Common.{ℕ, suc, ◌≡◌, not, ◌&&◌, List, [], ◌∷◌, ◌++◌, Option, Some, None, length, nat_eq, refl, sym, ap, subst, if◌then◌else◌}
 use Rattle.mx_stamps.proofs.Lists.{cond_case}
 use Rattle.mx_nodelaws.specs.World.{World}
 use Rattle.mx_nodelaws.specs.Core.{Core}
@@ -9,7 +9,7 @@ use Rattle.mx_journal.proofs.Choices.{cond_true, cond_false}
 use Rattle.mx_member.specs.declared.parcel.Parcel.{Parcel}
 use Rattle.mx_member.specs.Member.{MemberState, fresh}
 use Rattle.mx_member.specs.Sections.{Came, Got, Mark, Section, Went, Woke, Wrote, after_mark, after_marks, at_open, closing, opened, redrafted}
-use Rattle.mx_member.specs.Serial.{AllClosed, AllFit, Alternate, Fits, IsInNewest, NumberedFrom}
+use Rattle.mx_member.specs.Serial.{AllClosed, AllFit, Alternate, NumberedFrom}
 use Rattle.mx_member.specs.World.{IsSound}
 use Rattle.mx_member.proofs.SectionLists.{at_open_newest, at_open_none, length_at_open}
 

@@ -1,5 +1,5 @@
 -- Acts of which no section tells: the core takes a step, records are sent or join the journal.
-use Rattle.std.proofs.Common.{ℕ, ◌<◌, ◌≡◌, ◌≢◌, ◌↔◌, inl, inr, List, [], ◌∷◌, Some, length, take, refl, sym, ◌∙◌, ap, subst}
+use Rattle.std.proofs.Common.{ℕ, ◌<◌, ◌≡◌, ◌↔◌, inl, inr, List, [], ◌∷◌, length, refl, sym, ◌∙◌, subst}
 use Rattle.std.proofs.lemmas.Option.{same_Some}
 use Rattle.mx_stamps.specs.Lists.{IsIn}
 use Rattle.mx_stamps.proofs.Lists.{dec_eq, get_set_other, get_set_same}
@@ -8,18 +8,16 @@ use Rattle.mx_nodelaws.specs.Core.{Core, KeepsPhases}
 use Rattle.mx_nodelaws.specs.Laws.{KeepsGood}
 use Rattle.mx_nodelaws.specs.declared.phase.Phase.TheVariants.{Inside}
 use Rattle.mx_journal.specs.declared.records.Record.{Record}
-use Rattle.mx_journal.specs.declared.ranges.Range.{Range}
 use Rattle.mx_journal.specs.Agreement.{IsSubmap}
 use Rattle.mx_journal.specs.Records.{Ascending, with_records}
 use Rattle.mx_journal.proofs.Maps.{ascending_with_all, in_with_records}
 use Rattle.mx_member.specs.declared.parcel.Parcel.{Parcel}
 use Rattle.mx_member.specs.Member.{MemberState, guarded, records_in, with_core, with_journal}
-use Rattle.mx_member.specs.Steps.{want_to, records_to}
 use Rattle.mx_member.specs.Sections.{Section, section_journal}
 use Rattle.mx_member.specs.World.{IsDraftOf, IsMember, IsSound, core_part, draft_of, letters_in}
 use Rattle.mx_member.proofs.CorePart.{letters_guarded}
 use Rattle.mx_member.proofs.CoreSteps.{core_kept, core_still, counted_same, letters_sent, part_of}
-use Rattle.mx_member.proofs.Moments.{GrowsBy, IsSoundStep, Moment, moved_in, step_sound}
+use Rattle.mx_member.proofs.Moments.{GrowsBy, Moment, moved_in, step_sound}
 use Rattle.mx_member.proofs.SectionLists.{submap_numbered}
 
 -- only the draft decides what section it is of

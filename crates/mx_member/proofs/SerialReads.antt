@@ -1,5 +1,5 @@
 -- Reads stay serial while their draft grows.
-use Rattle.std.proofs.Common.{ℕ, ◌≤◌, ◌≡◌, inl, inr, List, [], ◌∷◌, ◌++◌, length, take, sym, ◌∙◌, ap, subst, arith}
+use Rattle.std.proofs.Common.{ℕ, ◌≡◌, inl, inr, List, [], ◌∷◌, ◌++◌, length, sym, ◌∙◌, ap, subst, arith}
 use Rattle.std.proofs.lemmas.List.{length-append, take-append-le, take_all}
 use Rattle.mx_stamps.specs.Lists.{IsIn}
 use Rattle.mx_stamps.proofs.Lists.{in_append}
@@ -11,9 +11,9 @@ use Rattle.mx_member.specs.Serial.{IsSerialRead}
 -- a write comes after the reads before it
 pub serial_write : (before writes : List Write) (w : Write) (read : Read) → IsSerialRead before writes read → IsSerialRead before (writes ++ w ∷ []) read
 serial_write before writes w read s = (
-    let e = length-append writes (w ∷ []) in omega (arith, s.0),
-    s.1 ∙ ap (λ l. applied read.register (before ++ l) 0) (sym (take-append-le read.after writes (w ∷ []) s.0)),
-  )
+  let e = length-append writes (w ∷ []) in omega (arith, s.0),
+  s.1 ∙ ap (λ l. applied read.register (before ++ l) 0) (sym (take-append-le read.after writes (w ∷ []) s.0)),
+)
 
 -- a read of what all writes so far leave
 pub serial_read : (before writes : List Write) (reads : List Read) (register value : ℕ) → ((x : Read) → IsIn x reads → IsSerialRead before writes x) → value ≡ applied register (before ++ writes) 0 →

@@ -1,5 +1,5 @@
 -- Small histories that show what the definitions accept and refuse.
-use Rattle.std.proofs.Common.{ℕ, ◌≡◌, List, [], ◌∷◌, Option, Some, None, Ok, Err, refl, ap, arith}
+use Rattle.std.proofs.Common.{ℕ, ◌≡◌, List, [], ◌∷◌, None, Ok, Err, refl, ap, arith}
 use Rattle.mx_nodelaws.specs.declared.faults.EnterFault.TheVariants as enter
 use Rattle.mx_journal.specs.declared.records.Write.{Write}
 use Rattle.mx_journal.specs.declared.receipts.Read.{Read}
@@ -27,10 +27,19 @@ two_sections =
 
 -- this fits, so its entries and leavings alternate and bear 1 and 2
 pub two_sections_fit : AllFit [] two_sections
-two_sections_fit =
-    ((tt, refl), ((refl, refl), (((refl, refl), refl), (
-      ((refl, tt), refl), (((refl, refl), refl), ((refl, refl), (((refl, refl), refl), (((refl, refl), refl), tt)))),
-    ))))
+two_sections_fit = (
+  (tt, refl),
+  (
+    (refl, refl),
+    (
+      ((refl, refl), refl),
+      (
+        ((refl, tt), refl),
+        (((refl, refl), refl), ((refl, refl), (((refl, refl), refl), (((refl, refl), refl), tt)))),
+      ),
+    ),
+  ),
+)
 
 pub two_sections_alternate : Alternate None two_sections
 two_sections_alternate = alternate_if_fit two_sections two_sections_fit
