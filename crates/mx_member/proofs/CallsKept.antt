@@ -32,10 +32,9 @@ use Rattle.mx_member.specs.Sections.{Mark, after_marks, section_journal, told}
 use Rattle.mx_member.specs.Serial.{AllFit}
 use Rattle.mx_member.specs.World.{IsSound}
 use Rattle.mx_member.proofs.CorePart.{letter_of}
-use Rattle.mx_member.proofs.CoreSteps.{core_here, part_of}
 use Rattle.mx_member.proofs.DraftSteps.{read_sound, write_sound}
 use Rattle.mx_member.proofs.EntrySteps.{enter_sound, leave_sound}
-use Rattle.mx_member.proofs.Moments.{GrowsBy, Moment, moved_in}
+use Rattle.mx_member.proofs.Moments.{GrowsBy, Moment, moved_in, core_here, part_of}
 use Rattle.mx_member.proofs.Phases.{idle_apart, waiting_apart}
 use Rattle.mx_member.proofs.PlainSteps.{core_sound, gossip_sound, refused_sound, still_sound}
 
@@ -53,7 +52,7 @@ module _ {H S M : Type 0} (core : Core H S M) (IsShape : H → Type 0) (Good : W
   ask_kept w grown grows = (
     tt,
     core_sound core IsShape Good phases laws w (core.ask w.member.core) grown
-        (laws.after_ask (part_of core IsShape Good phases laws w) w.node w.member.core w.sound.good (core_here core IsShape Good phases laws w))
+        (laws.after_ask (part_of w) w.node w.member.core w.sound.good (core_here w))
         (phases.ask_mine w.member.core) (ask_phase w.member.core (core.ask w.member.core).answer refl) grows,
   )
 
@@ -61,7 +60,7 @@ module _ {H S M : Type 0} (core : Core H S M) (IsShape : H → Type 0) (Good : W
   tick_kept w grown grows = (
     tt,
     core_sound core IsShape Good phases laws w (core.tick w.member.core) grown
-        (laws.after_tick (part_of core IsShape Good phases laws w) w.node w.member.core w.sound.good (core_here core IsShape Good phases laws w))
+        (laws.after_tick (part_of w) w.node w.member.core w.sound.good (core_here w))
         (phases.tick_mine w.member.core) (λ n. let e = phases.tick_phase w.member.core in (λ h. sym e ∙ h, λ h. e ∙ h)) grows,
   )
 
@@ -156,7 +155,7 @@ module _ {H S M : Type 0} (core : Core H S M) (IsShape : H → Type 0) (Good : W
       let done = core.deliver from letter w.member.core in (
         tt,
         core_sound core IsShape Good phases laws w done grown
-            (laws.after_deliver (part_of core IsShape Good phases laws w) w.node w.member.core from letter w.sound.good (core_here core IsShape Good phases laws w) (letter_of from w.node letter w.sent was))
+            (laws.after_deliver (part_of w) w.node w.member.core from letter w.sound.good (core_here w) (letter_of from w.node letter w.sent was))
             (phases.deliver_mine from letter w.member.core) (λ n. let e = phases.deliver_phase from letter w.member.core in (λ h. sym e ∙ h, λ h. e ∙ h)) grows,
       )
   take_kept w from (Want ranges) grown was grows =

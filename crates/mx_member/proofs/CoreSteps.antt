@@ -1,5 +1,5 @@
 -- What the laws of a core say of an act of a member: its core part stays good, and letters go to nodes.
-use Rattle.std.proofs.Common.{ℕ, ◌<◌, ◌≡◌, ◌↔◌, List, [], ◌++◌, Some, length, map, slice_get, slice_set, sym, ◌∙◌, ap, subst}
+use Rattle.std.proofs.Common.{ℕ, ◌<◌, ◌≡◌, ◌↔◌, List, [], ◌++◌, length, map, slice_set, sym, ◌∙◌, ap, subst}
 use Rattle.std.proofs.lemmas.List.{length-map}
 use Rattle.mx_stamps.specs.Lists.{IsIn, greatest}
 use Rattle.mx_stamps.proofs.Lists.{greatest_same, in_right, length_set}
@@ -15,17 +15,9 @@ use Rattle.mx_member.specs.declared.parcel.Parcel.TheVariants.{Guard}
 use Rattle.mx_member.specs.Member.{MemberState, guarded, records_in}
 use Rattle.mx_member.specs.World.{IsMember, core_part, letters_in}
 use Rattle.mx_member.proofs.CorePart.{get_map, guard_in, in_guarded, in_sent, letter_of, letters_in-append, map_set}
-use Rattle.mx_member.proofs.Moments.{GrowsBy, Moment, moved_in}
+use Rattle.mx_member.proofs.Moments.{GrowsBy, Moment, core_here, moved_in, part_of}
 
 module _ {H S M : Type 0} (core : Core H S M) (IsShape : H → Type 0) (Good : World S M → Type 0) (phases : KeepsPhases core) (laws : KeepsGood core IsShape Good) where
-  -- the core part of the moment
-  abbrev pub part_of : Moment core Good → World S M
-  part_of w = core_part w.members w.sent
-
-  -- the core of the member that acts
-  pub core_here : (w : Moment core Good) → slice_get (map (λ (m : MemberState S). m.core) w.members) w.node ≡ Some w.member.core
-  core_here w = get_map (λ (m : MemberState S). m.core) w.members w.node w.member w.here
-
   -- a step of the core is the member's that sends its letters
   pub core_kept : {A : Type 0} (w : Moment core Good) (done : Done S A M) (moved : MemberState S) (letters : List (ℕ × Parcel M)) (grown : List (ℕ × ℕ × Parcel M)) →
       Good (after (part_of w) w.node done) → moved.core ≡ done.state → letters_in (sent_by w.node letters) ≡ sent_by w.node done.letters → GrowsBy w letters grown →

@@ -18,8 +18,8 @@ use Rattle.mx_member.specs.Sections.{Section, Came, Went, at_open, closing, open
 use Rattle.mx_member.specs.Serial.{AllClosed, Fits, ReadSerially}
 use Rattle.mx_member.specs.World.{IsDraftOf, IsSound, core_part, draft_of}
 use Rattle.mx_member.proofs.CorePart.{get_map, letters_guarded, map_set}
-use Rattle.mx_member.proofs.CoreSteps.{alone, core_here, core_kept, counted_same, letters_sent, part_of}
-use Rattle.mx_member.proofs.Moments.{GrowsBy, Moment, moved_in, step_sound}
+use Rattle.mx_member.proofs.CoreSteps.{alone, core_kept, counted_same, letters_sent}
+use Rattle.mx_member.proofs.Moments.{GrowsBy, Moment, moved_in, step_sound, core_here, part_of}
 use Rattle.mx_member.proofs.Phases.{drawn, idle_apart, inside_inj}
 use Rattle.mx_member.proofs.SectionLists.{at_open_newest, journal_newest, journal_older, journal_open}
 
@@ -39,8 +39,8 @@ module _ {H S M : Type 0} (core : Core H S M) (IsShape : H → Type 0) (Good : W
       × IsSound core Good (opened w.node ∷ w.sections) (moved_in w (with_draft fresh (with_core (core.enter w.member.core).state w.member))) grown
   enter_sound w n grown ok grows =
       let moved : MemberState S = with_draft fresh (with_core (core.enter w.member.core).state w.member) in
-      let here = core_here core IsShape Good phases laws w in
-      let part : World S M = part_of core IsShape Good phases laws w in
+      let here = core_here w in
+      let part : World S M = part_of w in
       let entered = phases.enter_ok w.member.core n ok in
       let law = laws.entry part w.node w.member.core w.sound.good here entered.0 in
       let top : n ≡ suc (greatest_mine core part) = drawn (nat_lt (greatest_mine core part) (core.limit w.member.core)) (greatest_mine core part) n (sym law.1 ∙ ok) in
@@ -74,8 +74,8 @@ module _ {H S M : Type 0} (core : Core H S M) (IsShape : H → Type 0) (Good : W
       × IsSound core Good (at_open w.node closing w.sections) (moved_in w (left core n w.member).state) grown
   leave_sound w n grown inside grows =
       let moved : MemberState S = (left core n w.member).state in
-      let here = core_here core IsShape Good phases laws w in
-      let part : World S M = part_of core IsShape Good phases laws w in
+      let here = core_here w in
+      let part : World S M = part_of w in
       let ok = (phases.leave_inside w.member.core n).1 inside in
       let idle : core.phase moved.core ≡ Idle = phases.leave_ok w.member.core n ok in
       let d = drafted w.member n w.sections (w.sound.inside w.node n w.member w.here inside) in

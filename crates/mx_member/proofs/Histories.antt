@@ -44,16 +44,16 @@ numbered_if_fit ss (Went i receipt ∷ ms) a = same_next i closing ss ms (number
 numbered_if_fit ss (Woke i ∷ ms) a = same_next i (redrafted (λ draft. fresh)) ss ms (numbered_if_fit (at_open i (redrafted (λ draft. fresh)) ss) ms a.1)
 
 -- who is inside the newest section, and its number
-abbrev inside_newest : List Section → Option (ℕ × ℕ)
-inside_newest [] = None
-inside_newest (s ∷ ss) = if s.closed then None else Some (s.node, suc (length ss))
+abbrev open_in : List Section → Option (ℕ × ℕ)
+open_in [] = None
+open_in (s ∷ ss) = if s.closed then None else Some (s.node, suc (length ss))
 
 -- only the newest section may be open
 abbrev RestClosed : List Section → Type 0
 RestClosed [] = Unit {0}
 RestClosed (s ∷ ss) = AllClosed ss
 
-nobody_inside : (ss : List Section) → AllClosed ss → inside_newest ss ≡ None
+nobody_inside : (ss : List Section) → AllClosed ss → open_in ss ≡ None
 nobody_inside [] all = refl
 nobody_inside (s ∷ ss) all = cond_true s.closed None (Some (s.node, suc (length ss))) all.0
 
@@ -62,7 +62,7 @@ newest_changed : (P : List Section → Type 0) (i : ℕ) (f : Section → Sectio
 newest_changed P i f s ss all a b =
     cond_case P (nat_eq s.node i && not s.closed) (f s ∷ ss) (s ∷ at_open i f ss) (λ _. a) (λ _. subst (λ l. P (s ∷ l)) (sym (at_open_none i f ss all)) b)
 
-alternating : (ss : List Section) (ms : List Mark) → RestClosed ss → AllFit ss ms → Alternate (inside_newest ss) ms
+alternating : (ss : List Section) (ms : List Mark) → RestClosed ss → AllFit ss ms → Alternate (open_in ss) ms
 alternating ss [] all a = tt
 alternating ss (Came i n ∷ ms) all a =
     subst (λ o. Alternate o (Came i n ∷ ms)) (sym (nobody_inside ss a.0.0))
@@ -79,7 +79,7 @@ alternating (s ∷ ss) (Went i receipt ∷ ms) all a =
     (sym a.0.0.0, ap (λ (x : Receipt). x.number) a.0.1, alternating (closing s ∷ ss) ms all (subst (λ l. AllFit l ms) (at_open_newest i closing s ss a.0.0.0 a.0.0.1) a.1))
 alternating [] (Woke i ∷ ms) all a = alternating [] ms tt a.1
 alternating (s ∷ ss) (Woke i ∷ ms) all a =
-    newest_changed (λ l. AllFit l ms → Alternate (inside_newest (s ∷ ss)) ms) i (redrafted (λ draft. fresh)) s ss all
+    newest_changed (λ l. AllFit l ms → Alternate (open_in (s ∷ ss)) ms) i (redrafted (λ draft. fresh)) s ss all
     (λ h. alternating (redrafted (λ draft. fresh) s ∷ ss) ms all h) (λ h. alternating (s ∷ ss) ms all h) a.1
 
 -- in a history that fits entries and leavings alternate, and a leaving has the node and the number of the entry before it

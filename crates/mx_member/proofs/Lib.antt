@@ -1,8 +1,11 @@
--- Phases: phases. CorePart: the core part of worlds. SectionLists: sections and their journal.
--- SectionWrites: what the sections wrote. SerialReads: reads that are serial.
--- Moments: an act of one member, and what it has to show. CoreSteps: what the laws say of it.
--- PlainSteps: acts of which no section tells. EntrySteps: entering and leaving.
--- DraftSteps: acts inside a section.
+-- What every world keeps. ActsKept: each act of one member. AtRest: the world at rest.
+-- Histories: whole histories. Consequences: the journals of a sound world. HeldReads: what serial
+-- reads show. Shown: small histories that the definitions accept and refuse.
+-- The others are the way there, lowest first. Phases: phases. CorePart: the core part of worlds.
+-- SectionLists: sections and their journal. SectionWrites: what the sections wrote.
+-- SerialReads: reads in a draft that grows. Moments: an act of one member, and what it has to show.
+-- CoreSteps: what the laws of a core say of it. PlainSteps: acts of which no section tells.
+-- EntrySteps: entering and leaving. DraftSteps: acts inside a section. CallsKept: each call.
 pub mod Phases
 pub mod CorePart
 pub mod SectionLists
@@ -18,4 +21,5 @@ pub mod ActsKept
 pub mod AtRest
 pub mod Histories
 pub mod Consequences
+pub mod HeldReads
 pub mod Shown

@@ -1,5 +1,5 @@
 -- A moment of a sound world at which one member acts, and what the world after it has to show.
-use Rattle.std.proofs.Common.{ℕ, ◌<◌, ◌≡◌, ◌≢◌, inl, inr, List, length, slice_set, sym, ◌∙◌, ap, subst}
+use Rattle.std.proofs.Common.{ℕ, ◌<◌, ◌≡◌, ◌≢◌, inl, inr, List, Some, length, map, slice_get, slice_set, sym, ◌∙◌, ap, subst}
 use Rattle.std.proofs.lemmas.Option.{slice_get_within}
 use Rattle.mx_stamps.specs.Lists.{IsIn}
 use Rattle.mx_stamps.proofs.Lists.{get_after, in_append, length_set}
@@ -16,6 +16,7 @@ use Rattle.mx_member.specs.Acts.{Grows}
 use Rattle.mx_member.specs.Sections.{Section, section_journal}
 use Rattle.mx_member.specs.Serial.{AllClosed, ReadSerially}
 use Rattle.mx_member.specs.World.{IsDraftOf, IsMember, IsSound, core_part}
+use Rattle.mx_member.proofs.CorePart.{get_map}
 
 -- a sound world, and the member of it that acts
 pub record Moment {H S M : Type 0} (core : Core H S M) (Good : World S M → Type 0) : Type 0 where
@@ -31,7 +32,15 @@ pub record Moment {H S M : Type 0} (core : Core H S M) (Good : World S M → Typ
 abbrev pub moved_in : {H S M : Type 0} {core : Core H S M} {Good : World S M → Type 0} → Moment core Good → MemberState S → List (MemberState S)
 moved_in w moved = slice_set w.members w.node moved
 
--- node i of the moment sends these, and nothing else
+-- the core part of its world
+abbrev pub part_of : {H S M : Type 0} {core : Core H S M} {Good : World S M → Type 0} → Moment core Good → World S M
+part_of w = core_part w.members w.sent
+
+-- the core of the member that acts
+pub core_here : {H S M : Type 0} {core : Core H S M} {Good : World S M → Type 0} (w : Moment core Good) → slice_get (map (λ (m : MemberState S). m.core) w.members) w.node ≡ Some w.member.core
+core_here {S} w = get_map (λ (m : MemberState S). m.core) w.members w.node w.member w.here
+
+-- the member sends these, and nothing else
 abbrev pub GrowsBy : {H S M : Type 0} {core : Core H S M} {Good : World S M → Type 0} → Moment core Good → List (ℕ × Parcel M) → List (ℕ × ℕ × Parcel M) → Type 0
 GrowsBy w letters grown = Grows w.sent w.node letters grown
 

@@ -16,8 +16,8 @@ use Rattle.mx_member.specs.Member.{MemberState, guarded, records_in, with_core, 
 use Rattle.mx_member.specs.Sections.{Section, section_journal}
 use Rattle.mx_member.specs.World.{IsDraftOf, IsMember, IsSound, core_part, draft_of, letters_in}
 use Rattle.mx_member.proofs.CorePart.{letters_guarded}
-use Rattle.mx_member.proofs.CoreSteps.{core_kept, core_still, counted_same, letters_sent, part_of}
-use Rattle.mx_member.proofs.Moments.{GrowsBy, Moment, moved_in, step_sound}
+use Rattle.mx_member.proofs.CoreSteps.{core_kept, core_still, counted_same, letters_sent}
+use Rattle.mx_member.proofs.Moments.{GrowsBy, Moment, moved_in, step_sound, part_of}
 use Rattle.mx_member.proofs.SectionLists.{submap_numbered}
 
 -- only the draft decides what section it is of
@@ -61,7 +61,7 @@ module _ {H S M : Type 0} (core : Core H S M) (IsShape : H → Type 0) (Good : W
 
   -- the core takes a step that keeps phase and number
   pub core_sound : {A : Type 0} (w : Moment core Good) (done : Done S A M) (grown : List (ℕ × ℕ × Parcel M)) →
-      Good (after (part_of core IsShape Good phases laws w) w.node done) → core.mine done.state ≡ core.mine w.member.core →
+      Good (after (part_of w) w.node done) → core.mine done.state ≡ core.mine w.member.core →
       ((n : ℕ) → (core.phase done.state ≡ Inside n) ↔ (core.phase w.member.core ≡ Inside n)) → GrowsBy w (guarded done.letters) grown →
       IsSound core Good w.sections (moved_in w (with_core done.state w.member)) grown
   core_sound w done grown good mine phase grows = plain_sound w (with_core done.state w.member) (guarded done.letters) grown (record {
