@@ -1,11 +1,24 @@
--- Marks of a longer trace.
-use Rattle.std.proofs.Common.{ℕ, suc, ◌≡◌, List, [], ◌∷◌, ◌++◌, Option, Some, None, refl, sym, ◌∙◌, ap, append_assoc}
+-- What the items of a trace tell, and what an act's answer tells, are the same.
+use Rattle.std.proofs.Common.{ℕ, ◌≡◌, List, [], ◌∷◌, ◌++◌, Result, Ok, Err, refl, sym, ◌∙◌, ap, append_assoc}
 use Rattle.mx_stamps.proofs.Lists.{append_nil}
+use Rattle.mx_nodelaws.specs.declared.faults.EnterFault.{EnterFault}
+use Rattle.mx_nodelaws.specs.declared.faults.EnterFault.TheVariants as enter
+use Rattle.mx_nodelaws.specs.declared.faults.LeaveFault.{LeaveFault}
+use Rattle.mx_nodelaws.specs.declared.faults.LeaveFault.TheVariants as leave
+use Rattle.mx_journal.specs.declared.receipts.Receipt.{Receipt}
+use Rattle.mx_member.specs.declared.acts.Act.TheVariants as act
+use Rattle.mx_member.specs.declared.acts.Answer.TheVariants as answer
+use Rattle.mx_member.specs.declared.faults.ReadFault.{ReadFault}
+use Rattle.mx_member.specs.declared.faults.ReadFault.TheVariants as read
+use Rattle.mx_member.specs.declared.faults.WriteFault.{WriteFault}
+use Rattle.mx_member.specs.declared.faults.WriteFault.TheVariants as write
+use Rattle.mx_member.specs.Sections.{told}
 use Rattle.mx_network.specs.declared.event.Event.{Event}
+use Rattle.mx_network.specs.declared.event.Event.TheVariants as event
 use Rattle.mx_network.specs.declared.outcome.Outcome.{Outcome}
 use Rattle.mx_network.specs.declared.outcome.Entry.{Entry}
-use Rattle.mx_network.specs.Trace.{Mark, Came, Went, mark_of, marks, Alternate, NumberedFrom}
-use Rattle.mx_network.specs.Kept.{inside_after, next_after}
+use Rattle.mx_network.specs.Outcome.{outcome_of}
+use Rattle.mx_network.specs.Trace.{mark_of, marks}
 
 marks-append : (es fs : List Entry) → marks (es ++ fs) ≡ marks es ++ marks fs
 marks-append [] fs = refl
@@ -15,24 +28,25 @@ marks-append (e ∷ es) fs = ap (λ ms. mark_of e.event e.outcome ++ ms) (marks-
 pub marks-snoc : (es : List Entry) (e : Event) (o : Outcome) → marks (es ++ record { event = e; outcome = o } ∷ []) ≡ marks es ++ mark_of e o
 marks-snoc es e o = marks-append es (record { event = e; outcome = o } ∷ []) ∙ ap (λ ms. marks es ++ ms) (append_nil (mark_of e o))
 
-pub inside_after-append : (o : Option (ℕ × ℕ)) (ms ns : List Mark) → inside_after o (ms ++ ns) ≡ inside_after (inside_after o ms) ns
-inside_after-append o [] ns = refl
-inside_after-append o (Came i n ∷ ms) ns = inside_after-append (Some (i, n)) ms ns
-inside_after-append o (Went i n ∷ ms) ns = inside_after-append None ms ns
+pub entering : (M : Type 0) (i k : ℕ) (r : Result ℕ EnterFault) → mark_of (event.Enter i) (outcome_of (answer.Entered r) k) ≡ told {M = M} i act.Enter (answer.Entered r)
+entering M i k (Ok n) = refl
+entering M i k (Err enter.NotWaiting) = refl
+entering M i k (Err enter.NotGranted) = refl
+entering M i k (Err enter.NumbersSpent) = refl
 
-pub next_after-append : (k : ℕ) (ms ns : List Mark) → next_after k (ms ++ ns) ≡ next_after (next_after k ms) ns
-next_after-append k [] ns = refl
-next_after-append k (Came i n ∷ ms) ns = next_after-append (suc k) ms ns
-next_after-append k (Went i n ∷ ms) ns = next_after-append k ms ns
+pub reading : (M : Type 0) (i k register : ℕ) (r : Result ℕ ReadFault) → mark_of (event.Read i register) (outcome_of (answer.Read r) k) ≡ told {M = M} i (act.Read register) (answer.Read r)
+reading M i k register (Ok value) = refl
+reading M i k register (Err read.NotInside) = refl
+reading M i k register (Err read.NoRegister) = refl
+reading M i k register (Err (read.Gap n)) = refl
+reading M i k register (Err read.Full) = refl
 
-pub Alternate-append : (o : Option (ℕ × ℕ)) (ms ns : List Mark) → Alternate o ms → Alternate (inside_after o ms) ns → Alternate o (ms ++ ns)
-Alternate-append o [] ns a b = b
-Alternate-append None (Came i n ∷ ms) ns a b = Alternate-append (Some (i, n)) ms ns a b
-Alternate-append None (Went i n ∷ ms) ns a b = a
-Alternate-append (Some p) (Came i n ∷ ms) ns a b = a
-Alternate-append (Some p) (Went i n ∷ ms) ns a b = (a.0, a.1, Alternate-append None ms ns a.2 b)
+pub writing : (M : Type 0) (i k register value : ℕ) (r : Result (Unit {0}) WriteFault) → mark_of (event.Write i register value) (outcome_of (answer.Written r) k) ≡ told {M = M} i (act.Write register value) (answer.Written r)
+writing M i k register value (Ok done) = refl
+writing M i k register value (Err write.NotInside) = refl
+writing M i k register value (Err write.NoRegister) = refl
+writing M i k register value (Err write.Full) = refl
 
-pub NumberedFrom-append : (k : ℕ) (ms ns : List Mark) → NumberedFrom k ms → NumberedFrom (next_after k ms) ns → NumberedFrom k (ms ++ ns)
-NumberedFrom-append k [] ns a b = b
-NumberedFrom-append k (Came i n ∷ ms) ns a b = (a.0, NumberedFrom-append (suc k) ms ns a.1 b)
-NumberedFrom-append k (Went i n ∷ ms) ns a b = NumberedFrom-append k ms ns a b
+pub leaving : (M : Type 0) (i k : ℕ) (r : Result Receipt LeaveFault) → mark_of (event.Leave i) (outcome_of (answer.Left r) k) ≡ told {M = M} i act.Leave (answer.Left r)
+leaving M i k (Ok receipt) = refl
+leaving M i k (Err leave.NotInside) = refl

@@ -1,6 +1,8 @@
--- Trace: exclusion and numbering, said of a trace alone. Outcome: the outcome that an answer is.
--- Step: one event of a cluster. Kept: what every cluster keeps, from which the first two follow.
+-- Trace: exclusion and numbering, said of a trace alone. Sections: the sections of a trace, their
+-- journal and their order. Outcome: the outcome that an answer is. Step: one event of a cluster.
+-- Kept: what every cluster keeps.
 pub mod Trace
+pub mod Sections
 pub mod Outcome
 pub mod Step
 pub mod Kept

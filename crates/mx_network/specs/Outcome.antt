@@ -1,15 +1,17 @@
--- The outcome that a node's answer is.
+-- The outcome that a member's answer is.
 use Rattle.std.specs.Prelude.{ℕ, Ok, Err}
-use Rattle.mx_nodelaws.specs.declared.acts.Answer.{Answer}
-use Rattle.mx_nodelaws.specs.declared.acts.Answer.TheVariants as answer
 use Rattle.mx_nodelaws.specs.declared.faults.AskFault.TheVariants as ask
 use Rattle.mx_nodelaws.specs.declared.faults.EnterFault.TheVariants as enter
 use Rattle.mx_nodelaws.specs.declared.faults.LeaveFault.TheVariants as leave
+use Rattle.mx_member.specs.declared.acts.Answer.{Answer}
+use Rattle.mx_member.specs.declared.acts.Answer.TheVariants as answer
+use Rattle.mx_member.specs.declared.faults.ReadFault.TheVariants as read
+use Rattle.mx_member.specs.declared.faults.WriteFault.TheVariants as write
 use Rattle.mx_network.specs.declared.outcome.Outcome.{Outcome}
-use Rattle.mx_network.specs.declared.outcome.Outcome.TheVariants.{Asked, Entered, Left, Sent, Delivered, Woken, Refused}
+use Rattle.mx_network.specs.declared.outcome.Outcome.TheVariants.{Asked, Entered, Value, Written, Left, Sent, Delivered, Woken, Refused}
 use Rattle.mx_network.specs.declared.outcome.Cause.TheVariants as cause
 
--- of an answer, and of how many letters went out with it
+-- of an answer, and of how many parcels went out with it
 abbrev pub outcome_of : Answer → ℕ → Outcome
 outcome_of (answer.Asked (Ok stamp)) sent = Asked stamp
 outcome_of (answer.Asked (Err ask.NotIdle)) sent = Refused cause.NotIdle
@@ -18,8 +20,18 @@ outcome_of (answer.Entered (Ok n)) sent = Entered n
 outcome_of (answer.Entered (Err enter.NotWaiting)) sent = Refused cause.NotWaiting
 outcome_of (answer.Entered (Err enter.NotGranted)) sent = Refused cause.NotGranted
 outcome_of (answer.Entered (Err enter.NumbersSpent)) sent = Refused cause.NumbersSpent
-outcome_of (answer.Left (Ok n)) sent = Left n
+outcome_of (answer.Read (Ok value)) sent = Value value
+outcome_of (answer.Read (Err read.NotInside)) sent = Refused cause.NotInside
+outcome_of (answer.Read (Err read.NoRegister)) sent = Refused cause.NoRegister
+outcome_of (answer.Read (Err (read.Gap n))) sent = Refused (cause.Gap n)
+outcome_of (answer.Read (Err read.Full)) sent = Refused cause.Full
+outcome_of (answer.Written (Ok done)) sent = Written
+outcome_of (answer.Written (Err write.NotInside)) sent = Refused cause.NotInside
+outcome_of (answer.Written (Err write.NoRegister)) sent = Refused cause.NoRegister
+outcome_of (answer.Written (Err write.Full)) sent = Refused cause.Full
+outcome_of (answer.Left (Ok receipt)) sent = Left receipt
 outcome_of (answer.Left (Err leave.NotInside)) sent = Refused cause.NotInside
 outcome_of answer.Ticked sent = Sent sent
+outcome_of answer.Wanted sent = Sent sent
 outcome_of answer.Delivered sent = Delivered
 outcome_of answer.Woken sent = Woken

@@ -1,28 +1,38 @@
 //! The cluster.
 
-ghost use Rattle.std.specs.Prelude.{◌≡◌, ◌+◌, ◌≤◌, ◌<◌, ◌↔◌, ℕ, [], ◌∷◌, ◌++◌, length, OnOk, OnErr, IfOk, IfErr, IfSome, MatchOption, slice_get, take};
-ghost use Rattle.mx_nodelaws.specs.Laws.{started};
+ghost use Rattle.std.specs.Prelude.{◌≡◌, ◌≤◌, ◌<◌, ◌↔◌, ℕ, [], ◌∷◌, ◌++◌, length, OnOk, OnErr, IfOk, IfErr, IfSome, MatchOption, slice_get, take};
+ghost use Rattle.mx_stamps.specs.Lists.{IsIn, each_below};
+ghost use Rattle.mx_journal.specs.Agreement.{AreAgreeing, IsSubmap};
+ghost use Rattle.mx_journal.specs.Records.{Ascending, with_records};
+ghost use Rattle.mx_merge.specs.Join.{IsLeastUpperBound};
+ghost use Rattle.mx_member.specs.Member.{MemberState};
+ghost use Rattle.mx_member.specs.Steps.{start_of};
+ghost use Rattle.mx_member.specs.World.{IsMember};
+ghost use Rattle.mx_network.specs.Sections.{IsSerial, ShowsInOrder, journal_of};
 ghost use Rattle.mx_network.specs.Step.{step_of, IsInsideAt, IsFaultOf, NamesNoNode, NamesNoParcel, RunsTo};
 ghost use Rattle.mx_network.specs.Trace.{IsExclusive, IsNumbered};
 
 use crate::event::Event;
 use crate::faults::{RunFault, StepFault};
 use crate::outcome::{Entry, Outcome};
-use crate::parts::{happen, start_nodes};
+use crate::parts::{happen, start_members};
+use mx_journal::Journal;
 use mx_letters::Outbox;
+use mx_member::{Member, Parcel};
+use mx_merge::merge;
 use mx_nodelaws::Exclusion;
 use mx_stamps::NodeId;
 use std::alloc::{AllocError, Global};
 use std::marker::Model;
 
-/// Nodes, the letters that they have sent, and the trace of what happened.
+/// Members, the parcels that they have sent, and the trace of what happened.
 #[derive(Drop)]
 pub struct Cluster<C: Exclusion> {
-    nodes: Vec<C>,
-    sent: Vec<(NodeId, NodeId, C::Msg)>,
+    members: Vec<Member<C>>,
+    sent: Vec<(NodeId, NodeId, Parcel<C::Msg>)>,
     trace: Vec<Entry>,
     /// Empty between events.
-    out: Outbox<C::Msg>,
+    out: Outbox<Parcel<C::Msg>>,
 }
 
 impl<C: Exclusion> Model for Cluster<C> {
@@ -32,14 +42,14 @@ impl<C: Exclusion> Model for Cluster<C> {
 
     ghost Value = { Group C C.Msg };
 
-    ghost view = { λ c. record { nodes = c.nodes.items; sent = c.sent.items; trace = c.trace.items } };
+    ghost view = { λ c. record { members = c.members.items; sent = c.sent.items; trace = c.trace.items } };
 
-    ghost invariant = { λ c. (c.out ≡ []) × IsKept C.core C.Good (record { nodes = c.nodes.items; sent = c.sent.items; trace = c.trace.items }) };
+    ghost invariant = { λ c. (c.out ≡ []) × IsKept C.core C.Good (record { members = c.members.items; sent = c.sent.items; trace = c.trace.items }) };
 }
 
 impl<C: Exclusion> Cluster<C> {
     /// A cluster at rest. `origin` is where the numbers of requests start, `limit` the greatest
-    /// section number. The number of registers, 1 to 32, is not used yet.
+    /// section number, and there are `registers` registers, which hold 0.
     pub fn start(
         alloc: Global,
         shape: &C::Shape,
@@ -51,18 +61,20 @@ impl<C: Exclusion> Cluster<C> {
         requires high { limit ≤ 1000000 }
         requires some { 0 < registers }
         requires few { registers ≤ 32 }
-        ensures { IfOk result (λ cluster. cluster ≡ record { nodes = (started C.core shape.now origin limit).nodes; sent = []; trace = [] }) }
+        ensures { IfOk result (λ cluster. cluster ≡ record {
+            members = each_below (λ i. start_of C.core shape.now i origin limit registers) (C.core.count shape.now);
+            sent = []; trace = [] }) }
     {
-        let _ = registers;
         Ok(Cluster {
-            nodes: start_nodes(alloc, shape, origin, limit)?,
+            members: start_members(alloc, shape, origin, limit, registers)?,
             sent: Vec::new(alloc),
             trace: Vec::new(alloc),
             out: Outbox::new(),
         })
     }
 
-    /// One event. An event that its node refuses has happened too, and stands in the trace.
+    /// One event. An event that its node refuses has happened too, and stands in the trace. `Memory`
+    /// comes only where the event would else have happened.
     pub fn step(&mut self, event: Event) -> Result<Outcome, StepFault>
         ensures ok { OnOk result (step_of C.core self.old event ≡ Ok self.new) }
         ensures outcome { IfOk result (λ outcome. self.new.trace ≡ self.old.trace ++ (record { event = event; outcome = outcome }) ∷ []) }
@@ -72,9 +84,10 @@ impl<C: Exclusion> Cluster<C> {
         ensures err { OnErr result (self.new ≡ self.old) }
         ensures exclusive { IsExclusive self.new.trace }
         ensures numbered { IsNumbered self.new.trace }
+        ensures serial { IsSerial self.new.trace }
     {
         happen(
-            &mut self.nodes,
+            &mut self.members,
             &mut self.sent,
             &mut self.trace,
             &mut self.out,
@@ -89,6 +102,7 @@ impl<C: Exclusion> Cluster<C> {
         ensures fault { IfErr result (λ fault. IfSome (slice_get events.now fault.index) (λ event. IsFaultOf (step_of C.core self.new event) fault.fault)) }
         ensures exclusive { IsExclusive self.new.trace }
         ensures numbered { IsNumbered self.new.trace }
+        ensures serial { IsSerial self.new.trace }
     {
         // what a cluster keeps is known from where a field is used
         let _ = &self.trace;
@@ -103,11 +117,14 @@ impl<C: Exclusion> Cluster<C> {
         Ok(())
     }
 
-    /// A node, where there is one of this number.
-    pub fn member(&self, node: NodeId) -> Option<&C>
-        ensures { MatchOption result (slice_get self.now.nodes node ≡ None) (λ member. slice_get self.now.nodes node ≡ Some member.now) }
+    /// A member, where there is one of this number. Its journal has records of this trace's
+    /// sections alone, and without gaps it shows their writes in order of entry.
+    pub fn member(&self, node: NodeId) -> Option<&Member<C>>
+        ensures value { MatchOption result (slice_get self.now.members node ≡ None) (λ member. slice_get self.now.members node ≡ Some member.now) }
+        ensures journal { IfSome result (λ member. IsSubmap member.now.journal (journal_of self.now.trace)) }
+        ensures in_order { IfSome result (λ member. ShowsInOrder self.now.trace member.now.journal) }
     {
-        self.nodes.get(node.get() as usize)
+        self.members.get(node.get() as usize)
     }
 
     /// How many parcels were sent.
@@ -118,22 +135,61 @@ impl<C: Exclusion> Cluster<C> {
     }
 
     /// The parcel of this number, counted from 0: who sent it, to whom, and what it is.
-    pub fn parcel(&self, number: u64) -> Option<(NodeId, NodeId, &C::Msg)>
+    pub fn parcel(&self, number: u64) -> Option<(NodeId, NodeId, &Parcel<C::Msg>)>
         ensures { MatchOption result (slice_get self.now.sent number ≡ None) (λ parcel. slice_get self.now.sent number ≡ Some (parcel.0, parcel.1, parcel.2.now)) }
     {
-        let (from, to, letter) = self.sent.get(number as usize)?;
-        Some((*from, *to, letter))
+        let (from, to, parcel) = self.sent.get(number as usize)?;
+        Some((*from, *to, parcel))
     }
 
     /// What happened, in order. At every moment of every run, entries and leavings alternate, each
-    /// leaving by the node and with the number of the entry before it, the n-th entry bears the
-    /// number n, and at most one node is inside.
+    /// leaving by the node and with the number of the entry before it; the n-th entry bears the
+    /// number n; each value read is what the sections before and the own writes leave, and each
+    /// receipt is that of its section. At most one node is inside, and any two journals agree.
     pub fn trace(&self) -> &[Entry]
         ensures value { result.now ≡ self.now.trace }
         ensures exclusive { IsExclusive result.now }
         ensures numbered { IsNumbered result.now }
+        ensures serial { IsSerial result.now }
         ensures alone { (i j : ℕ) → IsInsideAt C.core self.now i → IsInsideAt C.core self.now j → j ≡ i }
+        ensures agreed { (i j : ℕ) (m k : MemberState C) → IsMember self.now.members i m
+            → IsMember self.now.members j k → AreAgreeing m.journal k.journal }
+        ensures journals { (i : ℕ) (m : MemberState C) → IsMember self.now.members i m
+            → IsSubmap m.journal (journal_of result.now) }
+        ensures ordered { Ascending 1 (journal_of result.now) }
     {
         &self.trace
+    }
+
+    /// What the journals of these nodes know together: each merged, in turn, into an empty one. They
+    /// never conflict, so that memory alone can be wanting. A node that isn't there adds nothing.
+    pub fn merged(&self, alloc: Global, nodes: &[NodeId]) -> Result<Journal, AllocError>
+        ensures all { IfOk result (λ journal. (i : ℕ) (m : MemberState C) → IsIn i nodes.now
+            → IsMember self.now.members i m → IsSubmap m.journal journal) }
+        ensures sections { IfOk result (λ journal. IsSubmap journal (journal_of self.now.trace)) }
+        ensures in_order { IfOk result (λ journal. ShowsInOrder self.now.trace journal) }
+    {
+        // what a cluster keeps is known from where a field is used
+        let _ = &self.trace;
+        let mut all = Journal::new(alloc);
+        for node in nodes {
+            if let Some(member) = self.members.get(node.get() as usize) {
+                add_journal(&mut all, member.journal())?;
+            }
+        }
+        Ok(all)
+    }
+}
+
+/// Merges a journal that agrees with the other.
+fn add_journal(all: &mut Journal, journal: &Journal) -> Result<(), AllocError>
+    requires { AreAgreeing all.old journal.now }
+    ensures ok { OnOk result (all.new ≡ with_records journal.now all.old) }
+    ensures ordered { OnOk result (Ascending 1 all.new) }
+    ensures above { OnOk result (IsLeastUpperBound all.old journal.now all.new) }
+{
+    match merge(all, journal) {
+        Ok(_) => Ok(()),
+        Err(_) => Err(AllocError),
     }
 }

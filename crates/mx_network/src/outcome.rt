@@ -4,7 +4,9 @@ ghost use Rattle.std.specs.Prelude.{◌≡◌};
 ghost use Rattle.mx_network.specs.Outcome.{outcome_of};
 
 use crate::event::Event;
-use mx_nodelaws::{Answer, AskFault, EnterFault, LeaveFault};
+use mx_journal::Receipt;
+use mx_member::{Answer, ReadFault, WriteFault};
+use mx_nodelaws::{AskFault, EnterFault, LeaveFault};
 use mx_stamps::Stamp;
 
 /// Why a node refused.
@@ -16,18 +18,26 @@ pub enum Cause {
     NotGranted,
     NumbersSpent,
     NotInside,
+    NoRegister,
+    /// The record of this number is the first below the own section that the journal lacks.
+    Gap(u64),
+    /// The section has had eight reads, or eight writes.
+    Full,
 }
 
 /// What came of an event.
-#[derive(Clone, Copy, Debug, PartialEq, Eq)]
+#[derive(Debug, PartialEq, Eq, Drop)]
 pub enum Outcome {
     /// The stamp of the request.
     Asked(Stamp),
     /// The number of the section.
     Entered(u64),
-    /// The number of the section.
-    Left(u64),
-    /// How many parcels were sent again.
+    /// What was read.
+    Value(u64),
+    Written,
+    /// The reads and the writes of the section.
+    Left(Receipt),
+    /// How many parcels were sent.
     Sent(u64),
     Delivered,
     Woken,
@@ -35,14 +45,33 @@ pub enum Outcome {
     Refused(Cause),
 }
 
+impl Outcome {
+    /// An equal outcome.
+    pub fn copy(&self) -> Outcome
+        ensures { result ≡ self.now }
+    {
+        match self {
+            Outcome::Asked(stamp) => Outcome::Asked(*stamp),
+            Outcome::Entered(number) => Outcome::Entered(*number),
+            Outcome::Value(value) => Outcome::Value(*value),
+            Outcome::Written => Outcome::Written,
+            Outcome::Left(receipt) => Outcome::Left(receipt.copy()),
+            Outcome::Sent(count) => Outcome::Sent(*count),
+            Outcome::Delivered => Outcome::Delivered,
+            Outcome::Woken => Outcome::Woken,
+            Outcome::Refused(cause) => Outcome::Refused(*cause),
+        }
+    }
+}
+
 /// An item of the trace.
-#[derive(Clone, Copy, Debug, PartialEq, Eq)]
+#[derive(Debug, PartialEq, Eq, Drop)]
 pub struct Entry {
     pub event: Event,
     pub outcome: Outcome,
 }
 
-/// The outcome that a node's answer is, where it sent so many letters.
+/// The outcome that a member's answer is, where it sent so many parcels.
 pub(crate) fn outcome_from(answer: Answer, sent: u64) -> Outcome
     ensures { result ≡ outcome_of answer sent }
 {
@@ -54,9 +83,18 @@ pub(crate) fn outcome_from(answer: Answer, sent: u64) -> Outcome
         Answer::Entered(Err(EnterFault::NotWaiting)) => Outcome::Refused(Cause::NotWaiting),
         Answer::Entered(Err(EnterFault::NotGranted)) => Outcome::Refused(Cause::NotGranted),
         Answer::Entered(Err(EnterFault::NumbersSpent)) => Outcome::Refused(Cause::NumbersSpent),
-        Answer::Left(Ok(number)) => Outcome::Left(number),
+        Answer::Read(Ok(value)) => Outcome::Value(value),
+        Answer::Read(Err(ReadFault::NotInside)) => Outcome::Refused(Cause::NotInside),
+        Answer::Read(Err(ReadFault::NoRegister)) => Outcome::Refused(Cause::NoRegister),
+        Answer::Read(Err(ReadFault::Gap(number))) => Outcome::Refused(Cause::Gap(number)),
+        Answer::Read(Err(ReadFault::Full)) => Outcome::Refused(Cause::Full),
+        Answer::Written(Ok(())) => Outcome::Written,
+        Answer::Written(Err(WriteFault::NotInside)) => Outcome::Refused(Cause::NotInside),
+        Answer::Written(Err(WriteFault::NoRegister)) => Outcome::Refused(Cause::NoRegister),
+        Answer::Written(Err(WriteFault::Full)) => Outcome::Refused(Cause::Full),
+        Answer::Left(Ok(receipt)) => Outcome::Left(receipt),
         Answer::Left(Err(LeaveFault::NotInside)) => Outcome::Refused(Cause::NotInside),
-        Answer::Ticked => Outcome::Sent(sent),
+        Answer::Ticked | Answer::Wanted => Outcome::Sent(sent),
         Answer::Delivered => Outcome::Delivered,
         Answer::Woken => Outcome::Woken,
     }

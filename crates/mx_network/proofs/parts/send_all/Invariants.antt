@@ -4,6 +4,6 @@ use Rattle.mx_network.proofs.parts.send_all.Given as goal
 
 abbrev pub invariant-loop-to : goal.invariant-loop-to
 invariant-loop-to g l = record {
-  added : l.sent.items ≡ l.fn.sent.items ++ sent_by l.from (take l.to-index l.letters);
-  room : vec_len l.sent + (length l.letters - l.to-index) ≤ vec_capacity l.sent;
+  added : l.sent.items ≡ l.fn.sent.items ++ sent_by l.from (take l.to-index l.parcels);
+  room : vec_len l.sent + (length l.parcels - l.to-index) ≤ vec_capacity l.sent;
 }

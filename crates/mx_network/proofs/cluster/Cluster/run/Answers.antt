@@ -12,4 +12,5 @@ loop-index-preserved g c = record {
       (RunsTo-snoc g.C.Exclusion.core c.args.self.now c.loop-index.self c.step.new.self (take c.loop-index.index c.args.events.now) c.index-events-index.result c.loop-index.invariant.runs c.in_default.ensures.ok);
   exclusive = c.in_default.ensures.exclusive;
   numbered = c.in_default.ensures.numbered;
+  serial = c.in_default.ensures.serial;
 }

@@ -1,4 +1,5 @@
 use Rattle.std.proofs.Common.{take}
+use Rattle.mx_network.specs.Sections.{IsSerial}
 use Rattle.mx_network.specs.Step.{RunsTo}
 use Rattle.mx_network.specs.Trace.{IsExclusive, IsNumbered}
 use Rattle.mx_network.proofs.cluster.Cluster.run.Given as goal
@@ -8,4 +9,5 @@ invariant-loop-index g l = record {
   runs : RunsTo g.C.Exclusion.core l.fn.self (take l.index l.events) l.self;
   exclusive : IsExclusive l.self.trace;
   numbered : IsNumbered l.self.trace;
+  serial : IsSerial l.self.trace;
 }

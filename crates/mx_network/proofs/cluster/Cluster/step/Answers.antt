@@ -1,6 +1,11 @@
-use Rattle.mx_network.proofs.Keeps.{result_kept}
+use Rattle.mx_network.proofs.Headline.{exclusive, numbered}
+use Rattle.mx_network.proofs.Keeps.{all_doable, result_kept}
 use Rattle.mx_network.proofs.Refusals.{no_node, no_parcel}
 use Rattle.mx_network.proofs.cluster.Cluster.step.Goals as goal
+
+pub happen-requires-doable : goal.happen-requires-doable
+happen-requires-doable g c =
+    all_doable g.C.Exclusion.core g.C.Exclusion.IsShape g.C.Exclusion.Good g.met.C.Exclusion.phases g.met.C.Exclusion.laws _ c.args.event c.self.invariant.1
 
 pub invariant_of-self : goal.invariant_of-self
 invariant_of-self g c = (
@@ -17,12 +22,12 @@ returns-clause-outcome g c = rw (← c.self.view_is) c.happen.ensures.outcome
 
 pub returns-clause-no_node : goal.returns-clause-no_node
 returns-clause-no_node g c = rw (← c.self.view_is)
-    (no_node g.C.Exclusion.core g.C.Exclusion.IsShape g.C.Exclusion.Good g.met.C.Exclusion.laws
+    (no_node g.C.Exclusion.core g.C.Exclusion.Good
     _ _ c.args.event c.happen.result c.self.invariant.1 c.happen.ensures.ok c.happen.ensures.fault)
 
 pub returns-clause-no_parcel : goal.returns-clause-no_parcel
 returns-clause-no_parcel g c = rw (← c.self.view_is)
-    (no_parcel g.C.Exclusion.core g.C.Exclusion.IsShape g.C.Exclusion.Good g.met.C.Exclusion.laws
+    (no_parcel g.C.Exclusion.core g.C.Exclusion.Good
     _ _ c.args.event c.happen.result c.self.invariant.1 c.happen.ensures.ok c.happen.ensures.fault)
 
 pub returns-clause-err : goal.returns-clause-err
@@ -32,7 +37,10 @@ pub returns-clause-fault : goal.returns-clause-fault
 returns-clause-fault g c = rw (← c.self.view_is) c.happen.ensures.fault
 
 pub returns-clause-exclusive : goal.returns-clause-exclusive
-returns-clause-exclusive g c = (invariant_of-self g c).1.exclusive
+returns-clause-exclusive g c = exclusive _ (invariant_of-self g c).1.serial
 
 pub returns-clause-numbered : goal.returns-clause-numbered
-returns-clause-numbered g c = (invariant_of-self g c).1.numbered
+returns-clause-numbered g c = numbered _ (invariant_of-self g c).1.serial
+
+pub returns-clause-serial : goal.returns-clause-serial
+returns-clause-serial g c = (invariant_of-self g c).1.serial

@@ -1,0 +1,49 @@
+-- What the promise says of a cluster, from what every cluster keeps.
+use Rattle.std.proofs.Common.{ℕ, ◌≡◌, List, [], Option, Some, None, refl, slice_get}
+use Rattle.mx_journal.specs.declared.records.Record.{Record}
+use Rattle.mx_journal.specs.Agreement.{AreAgreeing, IsSubmap}
+use Rattle.mx_journal.specs.Records.{Ascending}
+use Rattle.mx_nodelaws.specs.World.{World}
+use Rattle.mx_nodelaws.specs.Core.{Core}
+use Rattle.mx_nodelaws.specs.Laws.{KeepsGood}
+use Rattle.mx_member.specs.Member.{MemberState}
+use Rattle.mx_member.specs.World.{IsMember, core_part}
+use Rattle.mx_member.proofs.Consequences.{journals_agree, member_shows}
+use Rattle.mx_member.proofs.CorePart.{get_map}
+use Rattle.mx_member.proofs.Histories.{alternate_if_fit, numbered_if_fit}
+use Rattle.mx_member.proofs.SectionLists.{journal_ascends}
+use Rattle.mx_network.specs.declared.outcome.Entry.{Entry}
+use Rattle.mx_network.specs.Kept.{IsKept}
+use Rattle.mx_network.specs.Sections.{IsSerial, ShowsInOrder, journal_of, sections}
+use Rattle.mx_network.specs.Step.{Group, IsInsideAt}
+use Rattle.mx_network.specs.Trace.{IsExclusive, IsNumbered, marks}
+
+pub exclusive : (trace : List Entry) → IsSerial trace → IsExclusive trace
+exclusive trace serial = alternate_if_fit (marks trace) serial
+
+pub numbered : (trace : List Entry) → IsSerial trace → IsNumbered trace
+numbered trace serial = numbered_if_fit [] (marks trace) serial
+
+pub journal_ordered : (trace : List Entry) → Ascending 1 (journal_of trace)
+journal_ordered trace = journal_ascends (sections trace)
+
+module _ {H S M : Type 0} (core : Core H S M) (IsShape : H → Type 0) (Good : World S M → Type 0) (laws : KeepsGood core IsShape Good) (g : Group S M) (kept : IsKept core Good g) where
+  -- two nodes that are inside are one
+  pub one_alone : (i j : ℕ) → IsInsideAt core g i → IsInsideAt core g j → j ≡ i
+  one_alone i j a b =
+      let state : MemberState S → S = λ m. m.core in
+      laws.one_inside (core_part g.members g.sent) j i b.0.core a.0.core kept.sound.good
+      (get_map state g.members j b.0 b.1) (get_map state g.members i a.0 a.1) b.2 a.2
+
+module _ {H S M : Type 0} (core : Core H S M) (Good : World S M → Type 0) (g : Group S M) (kept : IsKept core Good g) where
+  -- any two journals agree
+  pub agreed : (i j : ℕ) (m k : MemberState S) → IsMember g.members i m → IsMember g.members j k → AreAgreeing m.journal k.journal
+  agreed = journals_agree core Good (sections g.trace) g.members g.sent kept.sound
+
+  -- each journal is a sub-map of the section journal
+  pub of_sections : (i : ℕ) (m : MemberState S) → IsMember g.members i m → IsSubmap m.journal (journal_of g.trace)
+  of_sections = kept.sound.journals
+
+  -- a journal without gaps shows the writes of the first sections, in order of entry
+  pub shows_in_order : (i : ℕ) (m : MemberState S) → IsMember g.members i m → ShowsInOrder g.trace m.journal
+  shows_in_order i m at k count gapless top = member_shows core Good (sections g.trace) g.members g.sent kept.sound i k count m at gapless top
