@@ -7,7 +7,7 @@ mod views;
 
 pub use cells::Cell;
 pub use registers::View;
-pub use views::{view, view_of};
+pub use views::{view, view_below, view_of};
 
 #[cfg(test)]
 mod tests;

@@ -1,6 +1,6 @@
 //! Registers on the worked example.
 
-use crate::{Cell, View, view, view_of};
+use crate::{Cell, View, view, view_below, view_of};
 use arrayvec::ArrayVec;
 use mx_journal::{Draft, Full, Journal, Put, Record, Write};
 use mx_stamps::NodeId;
@@ -81,6 +81,23 @@ fn lists_and_journals_have_registers(rt: HostRuntime) -> Result<(), Fail> {
     assert_eq!(rt; narrow.count(), 1);
     assert_eq!(rt; narrow.value(0), Some(3));
     assert_eq!(rt; narrow.value(1), None);
+    Ok(())
+}
+
+#[test]
+fn a_section_finds_those_below_it(rt: HostRuntime) -> Result<(), Fail> {
+    let mut journal = Journal::new(rt.alloc());
+    for number in [5, 4, 2, 1] {
+        assert_eq!(rt; journal.put(section(number)?), Ok(Put::New));
+    }
+    let before_two = view_below(&journal, 3, 2);
+    assert_eq!(rt; before_two.value(0), Some(5));
+    assert_eq!(rt; before_two.written_by(1), None);
+    let before_five = view_below(&journal, 3, 5);
+    assert_eq!(rt; before_five.value(0), Some(3));
+    assert_eq!(rt; before_five.value(1), Some(1));
+    assert!(rt; is_the_example(&view_below(&journal, 3, 6)));
+    assert_eq!(rt; view_below(&journal, 3, 1).written_by(0), None);
     Ok(())
 }
 

@@ -4,7 +4,7 @@ ghost use Rattle.std.specs.Prelude.{ℕ, ◌≡◌, ◌≤◌, [], List};
 ghost use Rattle.mx_journal.specs.declared.records.Record.{Record};
 ghost use Rattle.mx_journal.specs.Agreement.{IsConsistent};
 ghost use Rattle.mx_journal.specs.Gapless.{IsGapless};
-ghost use Rattle.mx_journal.specs.Records.{top_of, with_records};
+ghost use Rattle.mx_journal.specs.Records.{below, top_of, with_records};
 ghost use Rattle.mx_registers.specs.Registers.{AreApplied, AreHeld, HaveSameMembers, registers_of, writes_to};
 
 use crate::registers::View;
@@ -43,4 +43,21 @@ pub fn view(journal: &Journal, count: u8) -> View
         view.take(journal.record(k));
     }
     view
+}
+
+/// The registers of a journal's sections below a number, as a section of that number finds them.
+pub fn view_below(journal: &Journal, count: u8, number: u64) -> View
+    requires least { 1 ≤ count }
+    requires most { count ≤ 32 }
+    ensures value { result ≡ registers_of count (below number journal.now) }
+{
+    let mut earlier = View::new(count);
+    for place in 0..journal.len() {
+        let entry = journal.record(place);
+        if entry.number >= number {
+            return earlier;
+        }
+        earlier.take(entry);
+    }
+    earlier
 }
