@@ -6,6 +6,7 @@
 -- SerialReads: reads in a draft that grows. Moments: an act of one member, and what it has to show.
 -- CoreSteps: what the laws of a core say of it. PlainSteps: acts of which no section tells.
 -- EntrySteps: entering and leaving. DraftSteps: acts inside a section. CallsKept: each call.
+-- Guarded, Choosing, Keeping, Sending, Delivering, Refusing: what the calls of a member do, over plain variables.
 pub mod Phases
 pub mod CorePart
 pub mod SectionLists
@@ -23,3 +24,9 @@ pub mod Histories
 pub mod Consequences
 pub mod HeldReads
 pub mod Shown
+pub mod Guarded
+pub mod Choosing
+pub mod Keeping
+pub mod Sending
+pub mod Refusing
+pub mod Delivering

@@ -9,7 +9,7 @@ use Rattle.mx_member.specs.declared.acts.Act.TheVariants as act
 use Rattle.mx_member.specs.declared.acts.Answer.{Answer}
 use Rattle.mx_member.specs.declared.acts.Answer.TheVariants as answer
 use Rattle.mx_member.specs.declared.parcel.Parcel.{Parcel}
-use Rattle.mx_member.specs.Member.{MemberState}
+use Rattle.mx_member.specs.Member.{BringsRecords, MemberState}
 use Rattle.mx_member.specs.Steps.{IsTakeable, ask_of, enter_of, read_of, write_of, leave_of, tick_of, want_of, take_of, restart_of}
 
 -- what an act makes of a member
@@ -35,6 +35,18 @@ IsDoable act.Tick m = Unit {0}
 IsDoable (act.Want to) m = Unit {0}
 IsDoable (act.Deliver from parcel) m = IsTakeable from parcel m
 IsDoable act.Restart m = Unit {0}
+
+-- the act may need memory: a record joins the journal
+abbrev pub NeedsMemory : {M : Type 0} → Act M → Type 0
+NeedsMemory act.Ask = ⊥
+NeedsMemory act.Enter = ⊥
+NeedsMemory (act.Read register) = ⊥
+NeedsMemory (act.Write register value) = ⊥
+NeedsMemory act.Leave = Unit {0}
+NeedsMemory act.Tick = ⊥
+NeedsMemory (act.Want to) = ⊥
+NeedsMemory (act.Deliver from parcel) = BringsRecords parcel
+NeedsMemory act.Restart = ⊥
 
 -- node i of so many may do this: a parcel that it takes was sent to it, a want goes to a node
 abbrev pub Arrives : {M : Type 0} → ℕ → List (ℕ × ℕ × Parcel M) → ℕ → Act M → Type 0

@@ -1,9 +1,11 @@
 -- Member: a member's state. Steps: what each call makes of it. Acts: what each act does.
+-- Faults: what a journal's refusal is at a member.
 -- Sections: the sections of a history. Serial: what a history must be to be serial.
 -- World: whole worlds, and what each of them keeps.
 pub mod Member
 pub mod Steps
 pub mod Acts
+pub mod Faults
 pub mod Sections
 pub mod Serial
 pub mod World

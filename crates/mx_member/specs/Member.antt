@@ -48,3 +48,9 @@ abbrev pub records_in : {M : Type 0} → Parcel M → List Record
 records_in (Guard letter) = []
 records_in (Want ranges) = []
 records_in (Records records) = records.items
+
+-- the parcel is one of records
+abbrev pub BringsRecords : {M : Type 0} → Parcel M → Type 0
+BringsRecords (Guard letter) = ⊥
+BringsRecords (Want ranges) = ⊥
+BringsRecords (Records records) = Unit {0}

@@ -1,5 +1,5 @@
 -- What each call makes of a member.
-use Rattle.std.specs.Prelude.{ℕ, ◌<◌, ◌++◌, List, [], ◌∷◌, Result, Ok, Err, length, nat_lt, nat_le, take, unwrap_or, if◌then◌else◌}
+use Rattle.std.specs.Prelude.{ℕ, ◌≡◌, ◌<◌, ◌++◌, ◌⊎◌, List, [], ◌∷◌, Result, Ok, Err, length, nat_lt, nat_le, take, unwrap_or, if◌then◌else◌}
 use Rattle.mx_stamps.specs.declared.stamp.Stamp.{Stamp}
 use Rattle.mx_nodelaws.specs.World.{Done, Quiet}
 use Rattle.mx_nodelaws.specs.Core.{Core}
@@ -12,10 +12,10 @@ use Rattle.mx_nodelaws.specs.declared.faults.LeaveFault.TheVariants as leave
 use Rattle.mx_journal.specs.declared.ranges.Range.{Range}
 use Rattle.mx_journal.specs.declared.records.Record.{Record}
 use Rattle.mx_journal.specs.declared.receipts.Receipt.{Receipt}
-use Rattle.mx_journal.specs.Agreement.{IsConsistent}
+use Rattle.mx_journal.specs.Agreement.{IsConsistent, IsFirstConflict}
 use Rattle.mx_journal.specs.Drafted.{last_value, with_read, with_write, receipt_of, record_of}
 use Rattle.mx_journal.specs.Gapless.{first_missing}
-use Rattle.mx_journal.specs.Records.{IsNumbered, below, with_record, with_records}
+use Rattle.mx_journal.specs.Records.{IsNumbered, IsThere, below, with_record, with_records}
 use Rattle.mx_merge.specs.Missing.{gaps_of, in_ranges}
 use Rattle.mx_registers.specs.Registers.{register_of}
 use Rattle.mx_member.specs.declared.parcel.Parcel.{Parcel}
@@ -70,6 +70,11 @@ records_to i (r ∷ rs) = (i, Records (record { items = r ∷ rs })) ∷ []
 -- the records can be put: none bears 0, and they agree with the journal and among themselves
 abbrev pub ArePuttable : List Record → List Record → Type 0
 ArePuttable records journal = IsNumbered records × IsConsistent (journal ++ records)
+
+-- the records can't be put, and n says why: 0 where a record bears 0, else the least number that two differing ones bear
+abbrev pub IsDisputed : ℕ → List Record → List Record → Type 0
+IsDisputed n records journal =
+    ((n ≡ 0) × IsThere 0 records) ⊎ (IsNumbered records × IsFirstConflict n (journal ++ records))
 
 -- the member takes this parcel of that sender: it is no stranger, and the records in it can be put
 abbrev pub IsTakeable : {S M : Type 0} → ℕ → Parcel M → MemberState S → Type 0

@@ -1,10 +1,16 @@
 //! What a member does, and what it answers.
 
+ghost use Rattle.std.specs.Prelude.{◌≡◌, [], IfOk, OnErr};
+ghost use Rattle.mx_member.specs.Acts.{IsDoable, NeedsMemory, act_of};
+
 use crate::faults::{CloseFault, ReadFault, WriteFault};
+use crate::member::Member;
 use crate::parcel::Parcel;
 use mx_journal::Receipt;
-use mx_nodelaws::{AskFault, EnterFault, LeaveFault};
+use mx_letters::Outbox;
+use mx_nodelaws::{AskFault, EnterFault, Exclusion, LeaveFault};
 use mx_stamps::{NodeId, Stamp};
+use std::alloc::AllocError;
 
 /// What a member does by itself, or with one parcel that was sent to it.
 #[derive(Drop)]
@@ -36,4 +42,49 @@ pub enum Answer {
     Wanted,
     Delivered,
     Woken,
+}
+
+/// One act of a member. The caller knows that a delivered parcel is one that the member takes, so
+/// that only memory is left to refuse it.
+pub fn perform<C: Exclusion>(
+    member: &mut Member<C>,
+    act: Act<C::Msg>,
+    out: &mut Outbox<Parcel<C::Msg>>,
+) -> Result<Answer, AllocError>
+    requires empty { out.old ≡ [] }
+    requires doable { IsDoable act member.old }
+    ensures state { IfOk result (λ answer. member.new ≡ (act_of C.core act member.old).state) }
+    ensures answer { IfOk result (λ answer. answer ≡ (act_of C.core act member.old).answer) }
+    ensures letters { IfOk result (λ answer. out.new ≡ (act_of C.core act member.old).letters) }
+    ensures memory { OnErr result (NeedsMemory act) }
+    ensures err { OnErr result (member.new ≡ member.old) }
+    ensures quiet { OnErr result (out.new ≡ []) }
+{
+    Ok(match act {
+        Act::Ask => Answer::Asked(member.ask(out)),
+        Act::Enter => Answer::Entered(member.enter()),
+        Act::Read(register) => Answer::Read(member.read(register)),
+        Act::Write(register, value) => Answer::Written(member.write(register, value)),
+        Act::Leave => match member.leave(out) {
+            Ok(receipt) => Answer::Left(Ok(receipt)),
+            Err(CloseFault::NotInside) => Answer::Left(Err(LeaveFault::NotInside)),
+            Err(CloseFault::Memory) => return Err(AllocError),
+        },
+        Act::Tick => {
+            member.tick(out);
+            Answer::Ticked
+        }
+        Act::Want(to) => {
+            member.want(to, out);
+            Answer::Wanted
+        }
+        Act::Deliver(from, parcel) => match member.deliver(from, parcel, out) {
+            Ok(()) => Answer::Delivered,
+            Err(_) => return Err(AllocError),
+        },
+        Act::Restart => {
+            member.restart();
+            Answer::Woken
+        }
+    })
 }

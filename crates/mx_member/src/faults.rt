@@ -1,7 +1,7 @@
 //! Why a member refuses. The faults of each call stand in the order in which they are looked for; a
 //! refused call changes nothing.
 
-use std::alloc::AllocError;
+use mx_journal::{Full, PutFault};
 use thiserror::Error;
 
 /// Why nothing was read.
@@ -19,6 +19,17 @@ pub enum ReadFault {
     Full,
 }
 
+impl From<Full> for ReadFault {
+    ghost use Rattle.std.specs.Prelude.{◌≡◌};
+    ghost use Rattle.mx_member.specs.declared.faults.ReadFault.TheVariants.{Full};
+
+    ghost from_gives = { λ _ fault. fault ≡ Full };
+
+    fn from(_full: Full) -> ReadFault {
+        ReadFault::Full
+    }
+}
+
 /// Why nothing was written.
 #[derive(Clone, Copy, Debug, PartialEq, Eq, Error)]
 pub enum WriteFault {
@@ -29,6 +40,17 @@ pub enum WriteFault {
     /// The draft holds eight writes already.
     #[error("full")]
     Full,
+}
+
+impl From<Full> for WriteFault {
+    ghost use Rattle.std.specs.Prelude.{◌≡◌};
+    ghost use Rattle.mx_member.specs.declared.faults.WriteFault.TheVariants.{Full};
+
+    ghost from_gives = { λ _ fault. fault ≡ Full };
+
+    fn from(_full: Full) -> WriteFault {
+        WriteFault::Full
+    }
 }
 
 /// Why a node is still where it was.
@@ -54,4 +76,19 @@ pub enum DeliverFault {
     /// The journal's growth was refused.
     #[error("out of memory")]
     Memory,
+}
+
+impl From<PutFault> for DeliverFault {
+    ghost use Rattle.std.specs.Prelude.{◌≡◌};
+    ghost use Rattle.mx_member.specs.Faults.{fault_of};
+
+    ghost from_gives = { λ put fault. fault ≡ fault_of put };
+
+    fn from(put: PutFault) -> DeliverFault {
+        match put {
+            PutFault::ZeroNumber => DeliverFault::Conflict(0),
+            PutFault::Conflict(number) => DeliverFault::Conflict(number),
+            PutFault::Memory => DeliverFault::Memory,
+        }
+    }
 }

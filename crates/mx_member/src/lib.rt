@@ -1,10 +1,21 @@
-//! A member.
+//! A member of a cluster: the core of an exclusion algorithm, the draft of the section that its node
+//! is inside, and the journal of the records that it knows. The definitions of whole worlds stand
+//! here, with the proof that one act of one member keeps what every world keeps; it names no
+//! algorithm, and no cluster.
 #![tactic(auto)]
 
 mod acts;
 mod faults;
+mod gossip;
+mod guards;
+mod member;
 mod parcel;
+mod sections;
 
-pub use acts::{Act, Answer};
+pub use acts::{Act, Answer, perform};
 pub use faults::{CloseFault, DeliverFault, ReadFault, WriteFault};
+pub use member::Member;
 pub use parcel::Parcel;
+
+// cfg
+// mod tests;

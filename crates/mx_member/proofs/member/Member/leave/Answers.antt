@@ -1,0 +1,17 @@
+use Rattle.std.proofs.Common.{◌≡◌, ◌∙◌, Ok, Err, Result, ap, sym, refl}
+use Rattle.mx_journal.specs.declared.receipts.Receipt.{Receipt}
+use Rattle.mx_nodelaws.specs.Core.{IsInside}
+use Rattle.mx_member.specs.declared.faults.CloseFault.{CloseFault}
+use Rattle.mx_member.specs.declared.faults.CloseFault.TheVariants.{Memory}
+use Rattle.mx_member.proofs.Refusing.{is_err, left, not_left}
+use Rattle.mx_member.proofs.member.Member.leave.Goals as goal
+
+pub returns-in_err-keep-clause-not_inside : goal.returns-in_err-keep-clause-not_inside
+returns-in_err-keep-clause-not_inside g c =
+    not_left c.from_residual.result c.in_err-keep.field-0.0 (is_err c.from_residual.result c.in_err-keep.field-0.0 c.from_residual.ensures.1) c.in_err-keep.ensures.err.0
+    (c.in-Inside.number, ap (λ m. g.C.Exclusion.core.phase m.core) (sym c.self.view_is) ∙ sym c.phase.ensures.value ∙ c.in-Inside.is)
+
+pub returns-clause-not_inside : goal.returns-clause-not_inside
+returns-clause-not_inside g c =
+    left c.close-receipt.result
+    (c.in-Inside.number, ap (λ m. g.C.Exclusion.core.phase m.core) (sym c.self.view_is) ∙ sym c.phase.ensures.value ∙ c.in-Inside.is)

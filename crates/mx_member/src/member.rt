@@ -1,0 +1,139 @@
+//! The member itself, and what it passes on to its core.
+
+ghost use Rattle.std.specs.Prelude.{◌≡◌, ◌≤◌, ◌<◌, []};
+ghost use Rattle.mx_nodelaws.specs.Core.{BearsNumber};
+ghost use Rattle.mx_member.specs.Steps.{ask_of, enter_of, start_of, tick_of};
+
+use crate::guards::guard_all;
+use crate::parcel::Parcel;
+use mx_journal::{Draft, Journal};
+use mx_letters::Outbox;
+use mx_nodelaws::{AskFault, EnterFault, Exclusion, Phase};
+use mx_stamps::{NodeId, Stamp};
+use std::alloc::Global;
+use std::marker::Model;
+
+/// A node with its core, the journal of the records that it knows, and the draft of the section
+/// that it is inside.
+#[derive(Drop)]
+pub struct Member<C: Exclusion> {
+    pub(crate) me: NodeId,
+    pub(crate) nodes: u8,
+    pub(crate) limit: u64,
+    pub(crate) registers: u8,
+    pub(crate) core: C,
+    pub(crate) journal: Journal,
+    pub(crate) draft: Draft,
+    /// The core's letters on their way. Empty between calls.
+    pub(crate) letters: Outbox<C::Msg>,
+}
+
+impl<C: Exclusion> Model for Member<C> {
+    ghost use Rattle.std.specs.Prelude.{◌≡◌, ◌≤◌, ◌<◌, [], length};
+    ghost use Rattle.mx_member.specs.Member.{MemberState};
+
+    ghost Value = { MemberState C };
+
+    ghost view = { λ m. record {
+        setting = record { me = m.me; nodes = m.nodes; limit = m.limit; registers = m.registers };
+        core = m.core;
+        journal = m.journal;
+        draft = m.draft;
+    } };
+
+    ghost invariant = { λ m. (m.letters ≡ []) × (0 < m.registers) × (m.registers ≤ 32)
+        × (length m.draft.reads ≤ 8) × (length m.draft.writes ≤ 8) };
+}
+
+impl<C: Exclusion> Member<C> {
+    /// A member at rest, with an empty journal. `origin` is where the numbers of its requests
+    /// start, `limit` the greatest section number, and `registers` how many registers there are.
+    pub fn start(
+        alloc: Global,
+        shape: &C::Shape,
+        me: NodeId,
+        origin: u64,
+        limit: u64,
+        registers: u8,
+    ) -> Self
+        requires node { me < C.core.count shape.now }
+        requires low { 0 < limit }
+        requires high { limit ≤ 1000000 }
+        requires some { 0 < registers }
+        requires few { registers ≤ 32 }
+        ensures { result ≡ start_of C.core shape.now me origin limit registers }
+    {
+        Member {
+            me,
+            nodes: C::nodes(shape),
+            limit,
+            registers,
+            core: C::start(shape, me, origin, limit),
+            journal: Journal::new(alloc),
+            draft: Draft::new(),
+            letters: Outbox::new(),
+        }
+    }
+
+    /// Asks for the next section. The stamp is that of the request.
+    pub fn ask(&mut self, out: &mut Outbox<Parcel<C::Msg>>) -> Result<Stamp, AskFault>
+        requires { out.old ≡ [] }
+        ensures state { self.new ≡ (ask_of C.core self.old).state }
+        ensures answer { result ≡ (ask_of C.core self.old).answer }
+        ensures letters { out.new ≡ (ask_of C.core self.old).letters }
+    {
+        let answer = self.core.ask(&mut self.letters);
+        guard_all(&mut self.letters, out);
+        answer
+    }
+
+    /// Enters the section with an empty draft, and answers its number.
+    pub fn enter(&mut self) -> Result<u64, EnterFault>
+        ensures state { self.new ≡ (enter_of C.core self.old).state }
+        ensures answer { result ≡ (enter_of C.core self.old).answer }
+    {
+        let number = self.core.enter()?;
+        self.draft.clear();
+        Ok(number)
+    }
+
+    /// Sends again what is outstanding, as any letter may have been lost.
+    pub fn tick(&mut self, out: &mut Outbox<Parcel<C::Msg>>)
+        requires { out.old ≡ [] }
+        ensures state { self.new ≡ (tick_of C.core self.old).state }
+        ensures letters { out.new ≡ (tick_of C.core self.old).letters }
+    {
+        self.core.tick(&mut self.letters);
+        guard_all(&mut self.letters, out);
+    }
+
+    /// Whether every permission for the current request is there.
+    pub fn can_enter(&self) -> bool
+        ensures { result ≡ C.core.can_enter self.now.core }
+    {
+        self.core.can_enter()
+    }
+
+    /// Where the node stands.
+    pub fn phase(&self) -> Phase
+        ensures value { result ≡ C.core.phase self.now.core }
+        ensures numbered { BearsNumber result }
+    {
+        self.core.phase()
+    }
+
+    /// The number of the last section that this node entered, 0 before the first.
+    pub fn mine(&self) -> u64
+        ensures value { result ≡ C.core.mine self.now.core }
+        ensures high { result ≤ 1000000 }
+    {
+        self.core.mine()
+    }
+
+    /// The records that it knows.
+    pub fn journal(&self) -> &Journal
+        ensures { result.now ≡ self.now.journal }
+    {
+        &self.journal
+    }
+}
