@@ -1,5 +1,5 @@
 -- What the answer to a delivery says of the records in the parcel.
-use Rattle.std.proofs.Common.{ℕ, ◌<◌, ◌≤◌, ◌≡◌, ◌↔◌, ◌++◌, ◌⊎◌, inl, inr, List, [], Result, Ok, Err, IsOk, refl, sym, ◌∙◌, ap, subst, arith}
+use Rattle.std.proofs.Common.{ℕ, ◌<◌, ◌≤◌, ◌≡◌, ◌↔◌, ◌++◌, ◌⊎◌, inl, inr, List, [], Result, Ok, Err, IsOk, refl, sym, ap, subst, arith}
 use Rattle.mx_journal.specs.declared.records.Record.{Record}
 use Rattle.mx_journal.specs.declared.puts.PutFault.{PutFault}
 use Rattle.mx_journal.specs.declared.puts.PutFault.TheVariants as put
@@ -58,27 +58,36 @@ pub fault_tells : (fault : PutFault) (nodes from : ℕ) (records journal : List 
     Tells (Err (fault_of fault)) nodes from records journal
 fault_tells put.ZeroNumber nodes from records journal l zero conflict agreed =
     let there : IsThere 0 records = zero.0 refl in (
-      (λ n. ((λ e. (l, inl ((let q : n ≡ 0 = cc in q), there))), λ h. elim h.1 [
-        | inl z ↦ ap (λ k. Err (deliver.Conflict k)) (sym z.0)
-        | inr w ↦ absurd (not_numbered records there w.0)
-      ])), (
+      (λ n. (
+        (λ e. (l, inl ((let q : n ≡ 0 = cc in q), there))),
+        λ h. elim h.1 [
+          | inl z ↦ ap (λ k. Err (deliver.Conflict k)) (sym z.0)
+          | inr w ↦ absurd (not_numbered records there w.0)
+        ],
+      )),
+      (
         (λ h. absurd (conflict_apart 0 h)),
         λ h. absurd (not_numbered records there h.1.0),
       ),
     )
 fault_tells (put.Conflict k) nodes from records journal l zero conflict agreed =
     let w = (conflict k).0 refl in (
-      (λ n. ((λ e. (l, inr (w.0, subst (λ i. IsFirstConflict i (journal ++ records)) (let q : k ≡ n = cc in q) w.1))), λ h. elim h.1 [
-        | inl z ↦ absurd (not_numbered records z.1 w.0)
-        | inr v ↦ ap (λ i. Err (deliver.Conflict i)) (one_first k n (journal ++ records) w.1 v.1)
-      ])), (
+      (λ n. (
+        (λ e. (l, inr (w.0, subst (λ i. IsFirstConflict i (journal ++ records)) (let q : k ≡ n = cc in q) w.1))),
+        λ h. elim h.1 [
+          | inl z ↦ absurd (not_numbered records z.1 w.0)
+          | inr v ↦ ap (λ i. Err (deliver.Conflict i)) (one_first k n (journal ++ records) w.1 v.1)
+        ],
+      )),
+      (
         (λ h. absurd (conflict_apart k h)),
         λ h. absurd (not_consistent k (journal ++ records) w.1 h.1.1),
       ),
     )
 fault_tells put.Memory nodes from records journal l zero conflict agreed =
     let p = agreed.0 (inr refl) in (
-      (λ n. ((λ e. absurd (let bad : ⊥ = cc in bad)), λ h. absurd (not_disputed n records journal p h.1))), (
+      (λ n. ((λ e. absurd (let bad : ⊥ = cc in bad)), λ h. absurd (not_disputed n records journal p h.1))),
+      (
         (λ _. (l, p)),
         λ _. inr refl,
       ),

@@ -6,7 +6,8 @@
 -- SerialReads: reads in a draft that grows. Moments: an act of one member, and what it has to show.
 -- CoreSteps: what the laws of a core say of it. PlainSteps: acts of which no section tells.
 -- EntrySteps: entering and leaving. DraftSteps: acts inside a section. CallsKept: each call.
--- Guarded, Choosing, Keeping, Sending, Delivering, Refusing: what the calls of a member do, over plain variables.
+-- Guarded, Choosing, Keeping, Sending, Refusing, Delivering, Leaving: what the calls of a member do,
+-- over plain variables.
 pub mod Phases
 pub mod CorePart
 pub mod SectionLists
@@ -30,3 +31,4 @@ pub mod Keeping
 pub mod Sending
 pub mod Refusing
 pub mod Delivering
+pub mod Leaving

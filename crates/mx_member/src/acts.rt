@@ -60,31 +60,31 @@ pub fn perform<C: Exclusion>(
     ensures err { OnErr result (member.new ≡ member.old) }
     ensures quiet { OnErr result (out.new ≡ []) }
 {
-    Ok(match act {
-        Act::Ask => Answer::Asked(member.ask(out)),
-        Act::Enter => Answer::Entered(member.enter()),
-        Act::Read(register) => Answer::Read(member.read(register)),
-        Act::Write(register, value) => Answer::Written(member.write(register, value)),
+    match act {
+        Act::Ask => Ok(Answer::Asked(member.ask(out))),
+        Act::Enter => Ok(Answer::Entered(member.enter())),
+        Act::Read(register) => Ok(Answer::Read(member.read(register))),
+        Act::Write(register, value) => Ok(Answer::Written(member.write(register, value))),
         Act::Leave => match member.leave(out) {
-            Ok(receipt) => Answer::Left(Ok(receipt)),
-            Err(CloseFault::NotInside) => Answer::Left(Err(LeaveFault::NotInside)),
-            Err(CloseFault::Memory) => return Err(AllocError),
+            Ok(receipt) => Ok(Answer::Left(Ok(receipt))),
+            Err(CloseFault::NotInside) => Ok(Answer::Left(Err(LeaveFault::NotInside))),
+            Err(CloseFault::Memory) => Err(AllocError),
         },
         Act::Tick => {
             member.tick(out);
-            Answer::Ticked
+            Ok(Answer::Ticked)
         }
         Act::Want(to) => {
             member.want(to, out);
-            Answer::Wanted
+            Ok(Answer::Wanted)
         }
         Act::Deliver(from, parcel) => match member.deliver(from, parcel, out) {
-            Ok(()) => Answer::Delivered,
-            Err(_) => return Err(AllocError),
+            Ok(()) => Ok(Answer::Delivered),
+            Err(_) => Err(AllocError),
         },
         Act::Restart => {
             member.restart();
-            Answer::Woken
+            Ok(Answer::Woken)
         }
-    })
+    }
 }

@@ -7,10 +7,7 @@ use crate::parcel::Parcel;
 use mx_letters::Outbox;
 
 /// Puts each letter into the outbox, in order, and empties that of the letters.
-pub(crate) fn guard_all<M: Copy + Default>(
-    letters: &mut Outbox<M>,
-    out: &mut Outbox<Parcel<M>>,
-)
+pub(crate) fn guard_all<M: Copy + Default>(letters: &mut Outbox<M>, out: &mut Outbox<Parcel<M>>)
     requires { out.old ≡ [] }
     ensures sent { out.new ≡ guarded letters.old }
     ensures empty { letters.new ≡ [] }

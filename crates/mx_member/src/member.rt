@@ -35,10 +35,10 @@ impl<C: Exclusion> Model for Member<C> {
     ghost Value = { MemberState C };
 
     ghost view = { λ m. record {
-        setting = record { me = m.me; nodes = m.nodes; limit = m.limit; registers = m.registers };
-        core = m.core;
-        journal = m.journal;
-        draft = m.draft;
+      setting = record { me = m.me; nodes = m.nodes; limit = m.limit; registers = m.registers };
+      core = m.core;
+      journal = m.journal;
+      draft = m.draft;
     } };
 
     ghost invariant = { λ m. (m.letters ≡ []) × (0 < m.registers) × (m.registers ≤ 32)

@@ -1,4 +1,4 @@
-use Rattle.std.proofs.Common.{arith, ◌≡◌, ◌∷◌, ◌++◌, [], ap, sym, ◌∙◌}
+use Rattle.std.proofs.Common.{arith, ◌∷◌, ◌++◌, [], ap, sym, ◌∙◌}
 use Rattle.std.proofs.lemmas.Grind.{common_steps}
 use Rattle.mx_member.specs.declared.parcel.Parcel.TheVariants.{Guard}
 use Rattle.mx_member.proofs.Guarded.{guarded-more}

@@ -1,4 +1,4 @@
-use Rattle.std.proofs.Common.{◌≡◌, ◌∙◌, ap, unwrap_or}
+use Rattle.std.proofs.Common.{◌∙◌, ap, unwrap_or}
 use Rattle.mx_journal.specs.Records.{below}
 use Rattle.mx_registers.specs.Registers.{value_in}
 use Rattle.mx_registers.proofs.Taking.{value_there}

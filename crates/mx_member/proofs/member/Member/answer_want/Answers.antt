@@ -1,9 +1,7 @@
-use Rattle.std.proofs.Common.{◌≡◌, ◌<◌, ◌∷◌, ◌++◌, [], length, take, ap, sym, ◌∙◌, arith}
+use Rattle.std.proofs.Common.{◌∷◌, ◌++◌, [], ap, sym, ◌∙◌, arith}
 use Rattle.std.proofs.lemmas.Bool.Decides.{nat_tests}
-use Rattle.mx_merge.specs.Missing.{in_ranges}
 use Rattle.mx_member.specs.declared.parcel.Parcel.TheVariants.{Records}
 use Rattle.mx_member.specs.Steps.{records_to}
-use Rattle.mx_member.specs.Member.{MemberState}
 use Rattle.mx_member.proofs.Sending.{sends_nothing, sends_records}
 use Rattle.mx_member.proofs.member.Member.answer_want.Goals as goal
 

@@ -35,7 +35,7 @@ returns-in-Want-clause-taken g c =
 
 -- what the journal's refusal tells
 refused : (g : Over) (c : goal.After-from_residual g) → Tells c.from_residual.result c.args.self.now.setting.nodes c.args.from (records_in c.args.parcel) c.args.self.now.journal
-refused g c = 
+refused g c =
     let e = c.in_err-put_all-in-Records.ensures in
     let is = is_err c.from_residual.result (fault_of c.in_err-put_all-in-Records.field-0.0) c.from_residual.ensures.1 in
     told c.from_residual.result c.args.from c.as_slice-in-Records.result.now c.args.parcel _ c.args.self.now c.self.view_is

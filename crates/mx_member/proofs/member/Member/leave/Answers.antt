@@ -1,8 +1,4 @@
-use Rattle.std.proofs.Common.{◌≡◌, ◌∙◌, Ok, Err, Result, ap, sym, refl}
-use Rattle.mx_journal.specs.declared.receipts.Receipt.{Receipt}
-use Rattle.mx_nodelaws.specs.Core.{IsInside}
-use Rattle.mx_member.specs.declared.faults.CloseFault.{CloseFault}
-use Rattle.mx_member.specs.declared.faults.CloseFault.TheVariants.{Memory}
+use Rattle.std.proofs.Common.{◌∙◌, ap, sym}
 use Rattle.mx_member.proofs.Refusing.{is_err, left, not_left}
 use Rattle.mx_member.proofs.member.Member.leave.Goals as goal
 

@@ -1,0 +1,30 @@
+-- Who is not inside does not leave.
+use Rattle.std.proofs.Common.{ℕ, ◌≡◌, [], Err, refl, ◌∙◌, ap}
+use Rattle.mx_nodelaws.specs.World.{Done}
+use Rattle.mx_nodelaws.specs.Core.{Core, IsInside}
+use Rattle.mx_nodelaws.specs.declared.phase.Phase.{Phase}
+use Rattle.mx_nodelaws.specs.declared.phase.Phase.TheVariants.{Idle, Waiting, Inside}
+use Rattle.mx_nodelaws.specs.declared.faults.LeaveFault.TheVariants.{NotInside}
+use Rattle.mx_member.specs.declared.acts.Act.{Act}
+use Rattle.mx_member.specs.declared.acts.Act.TheVariants as act
+use Rattle.mx_member.specs.declared.acts.Answer.{Answer}
+use Rattle.mx_member.specs.declared.acts.Answer.TheVariants as answer
+use Rattle.mx_member.specs.declared.parcel.Parcel.{Parcel}
+use Rattle.mx_member.specs.Member.{MemberState}
+use Rattle.mx_member.specs.Steps.{leave_at}
+use Rattle.mx_member.specs.Acts.{act_of}
+
+module _ {H S M : Type 0} (core : Core H S M) (m : MemberState S) where
+  -- nothing changes, and nothing is sent
+  abbrev pub stays : Done (MemberState S) Answer (Parcel M)
+  stays = record { state = m; answer = answer.Left (Err NotInside); letters = [] }
+
+  at : (p : Phase) → ((n : ℕ) → p ≡ Inside n → ⊥) → leave_at core m p ≡ record { state = m; answer = Err NotInside; letters = [] }
+  at Idle out = refl
+  at Waiting out = refl
+  at (Inside n) out = absurd (out n refl)
+
+  pub not_inside : (a : Act M) → a ≡ act.Leave → (IsInside core m.core → ⊥) → act_of core a m ≡ stays
+  not_inside a is out =
+      ap (λ b. act_of core b m) is
+      ∙ ap (λ d. record { state = d.state; answer = answer.Left d.answer; letters = d.letters }) (at (core.phase m.core) (λ n e. out (n, e)))
