@@ -1,5 +1,5 @@
 -- The part of an event: what it tells, and that it may be done.
-use Rattle.std.proofs.Common.{ℕ, ◌<◌, ◌≡◌, true, false, List, [], Option, Some, None, Result, Ok, Err, nat_lt, slice_get, length, refl, sym, ◌∙◌, ap, subst, arith, if◌then◌else◌}
+use Rattle.std.proofs.Common.{ℕ, ◌<◌, ◌≡◌, List, Option, Some, None, Result, Ok, Err, nat_lt, slice_get, length, refl, subst, if◌then◌else◌}
 use Rattle.mx_stamps.proofs.Lists.{cond_case, in_get}
 use Rattle.mx_journal.proofs.Choices.{lt_true}
 use Rattle.mx_nodelaws.specs.Core.{Core}
@@ -8,8 +8,8 @@ use Rattle.mx_member.specs.declared.acts.Act.TheVariants as act
 use Rattle.mx_member.specs.declared.parcel.Parcel.{Parcel}
 use Rattle.mx_member.specs.Acts.{act_of, Arrives}
 use Rattle.mx_member.specs.Member.{MemberState}
-use Rattle.mx_member.specs.Sections.{Mark, told}
-use Rattle.mx_member.specs.Steps.{ask_of, enter_of, read_of, write_of, leave_of, tick_of, want_of, take_of}
+use Rattle.mx_member.specs.Sections.{told}
+use Rattle.mx_member.specs.Steps.{enter_of, read_of, write_of, leave_of}
 use Rattle.mx_network.specs.declared.event.Event.{Event}
 use Rattle.mx_network.specs.declared.event.Event.TheVariants as event
 use Rattle.mx_network.specs.declared.faults.StepFault.{StepFault}

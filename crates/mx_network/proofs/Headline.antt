@@ -1,6 +1,5 @@
 -- What the promise says of a cluster, from what every cluster keeps.
-use Rattle.std.proofs.Common.{ℕ, ◌≡◌, List, [], Option, Some, None, refl, slice_get}
-use Rattle.mx_journal.specs.declared.records.Record.{Record}
+use Rattle.std.proofs.Common.{ℕ, ◌≡◌, List, [], sym, subst}
 use Rattle.mx_journal.specs.Agreement.{AreAgreeing, IsSubmap}
 use Rattle.mx_journal.specs.Records.{Ascending}
 use Rattle.mx_nodelaws.specs.World.{World}
@@ -43,6 +42,10 @@ module _ {H S M : Type 0} (core : Core H S M) (Good : World S M → Type 0) (g :
   -- each journal is a sub-map of the section journal
   pub of_sections : (i : ℕ) (m : MemberState S) → IsMember g.members i m → IsSubmap m.journal (journal_of g.trace)
   of_sections = kept.sound.journals
+
+  -- said of the trace that is handed out
+  pub journals_of : (trace : List Entry) → trace ≡ g.trace → (i : ℕ) (m : MemberState S) → IsMember g.members i m → IsSubmap m.journal (journal_of trace)
+  journals_of trace is i m at = subst (λ (t : List Entry). IsSubmap m.journal (journal_of t)) (sym is) (of_sections i m at)
 
   -- a journal without gaps shows the writes of the first sections, in order of entry
   pub shows_in_order : (i : ℕ) (m : MemberState S) → IsMember g.members i m → ShowsInOrder g.trace m.journal

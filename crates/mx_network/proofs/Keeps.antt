@@ -6,9 +6,9 @@ use Rattle.mx_nodelaws.specs.Core.{Core, KeepsPhases}
 use Rattle.mx_nodelaws.specs.Laws.{KeepsGood}
 use Rattle.mx_member.specs.declared.acts.Act.{Act}
 use Rattle.mx_member.specs.declared.parcel.Parcel.{Parcel}
-use Rattle.mx_member.specs.Acts.{act_of, IsDoable}
+use Rattle.mx_member.specs.Acts.{act_of}
 use Rattle.mx_member.specs.Member.{MemberState}
-use Rattle.mx_member.specs.Sections.{Mark, Section, after_marks, told}
+use Rattle.mx_member.specs.Sections.{Mark, after_marks, told}
 use Rattle.mx_member.specs.Serial.{AllFit}
 use Rattle.mx_member.specs.Steps.{start_of}
 use Rattle.mx_member.specs.World.{IsSound}
@@ -23,7 +23,7 @@ use Rattle.mx_network.specs.declared.faults.StepFault.TheVariants.{NoNode}
 use Rattle.mx_network.specs.Kept.{IsKept}
 use Rattle.mx_network.specs.Sections.{sections}
 use Rattle.mx_network.specs.Step.{Group, answer_of, part_of, grown, at_member, at_part, step_of, IsDoableAt, RunsTo}
-use Rattle.mx_network.specs.Trace.{mark_of, marks}
+use Rattle.mx_network.specs.Trace.{marks}
 use Rattle.mx_network.proofs.Marks.{marks-snoc}
 use Rattle.mx_network.proofs.EventParts.{arrives, err_no_ok, same_Ok, tells}
 

@@ -1,7 +1,11 @@
--- Marks: what items tell. EventParts: the part of an event. Refusals: which events can't happen. Keeps: each
--- event keeps what a cluster keeps. Headline: what the promise says of a cluster.
+-- Marks: what items tell. EventParts: the part of an event. Happening: an event by whether its node is
+-- there. Finding: what a look at a place finds. Refusals: which events can't happen. Keeps: each event keeps what a cluster keeps. Headline:
+-- what the promise says of a cluster. Merging: merging its journals.
 pub mod Marks
 pub mod EventParts
+pub mod Happening
+pub mod Finding
 pub mod Refusals
 pub mod Keeps
 pub mod Headline
+pub mod Merging

@@ -1,5 +1,5 @@
 -- What a trace tells of its sections, and exclusion and numbering, said of a trace alone.
-use Rattle.std.specs.Prelude.{ℕ, List, [], ◌∷◌, ◌++◌, None}
+use Rattle.std.specs.Prelude.{List, [], ◌∷◌, ◌++◌, None}
 use Rattle.mx_member.specs.Sections.{Mark, Came, Got, Wrote, Went, Woke}
 use Rattle.mx_member.specs.Serial.{Alternate, NumberedFrom}
 use Rattle.mx_network.specs.declared.event.Event.{Event}

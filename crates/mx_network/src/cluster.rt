@@ -33,6 +33,8 @@ pub struct Cluster<C: Exclusion> {
     trace: Vec<Entry>,
     /// Empty between events.
     out: Outbox<Parcel<C::Msg>>,
+    /// Always None: that a member's size is bounded is known from this field.
+    size: Option<Member<C>>,
 }
 
 impl<C: Exclusion> Model for Cluster<C> {
@@ -62,14 +64,17 @@ impl<C: Exclusion> Cluster<C> {
         requires some { 0 < registers }
         requires few { registers ≤ 32 }
         ensures { IfOk result (λ cluster. cluster ≡ record {
-            members = each_below (λ i. start_of C.core shape.now i origin limit registers) (C.core.count shape.now);
-            sent = []; trace = [] }) }
+          members = each_below (λ i. start_of C.core shape.now i origin limit registers) (C.core.count shape.now);
+          sent = [];
+          trace = [];
+        }) }
     {
         Ok(Cluster {
             members: start_members(alloc, shape, origin, limit, registers)?,
             sent: Vec::new(alloc),
             trace: Vec::new(alloc),
             out: Outbox::new(),
+            size: None,
         })
     }
 

@@ -142,9 +142,10 @@ pub(crate) fn happen<C: Exclusion>(
     ensures fault { IfErr result (IsFaultOf (step_of C.core (group_of members.old sent.old trace.old) event)) }
     ensures err { OnErr result (group_of members.new sent.new trace.new ≡ group_of members.old sent.old trace.old) }
 {
-    let (node, act) = part_at(members.len(), sent, &event)?;
+    let nodes = members.as_slice().len();
+    let (node, act) = part_at(nodes, sent, &event)?;
     let index = node.get() as usize;
-    if index >= members.len() {
+    if index >= nodes {
         return Err(StepFault::NoNode);
     }
     sent.reserve(OUTBOX_ROOM)?;

@@ -1,9 +1,19 @@
-use Rattle.std.proofs.Common.{List, [], ◌∷◌, ◌++◌, take, subst, sym, ap, ◌∙◌}
-use Rattle.std.proofs.lemmas.List.{take_more}
+use Rattle.std.proofs.Common.{List, [], ◌∷◌, ◌++◌, IfSome, Option, take, refl, subst, sym, ap, ◌∙◌}
+use Rattle.std.proofs.lemmas.List.{take_all, take_more}
 use Rattle.mx_network.specs.declared.event.Event.{Event}
-use Rattle.mx_network.specs.Step.{RunsTo}
+use Rattle.mx_network.specs.Step.{Group, IsFaultOf, RunsTo, step_of}
+use Rattle.mx_network.proofs.Happening.{at_place}
+use Rattle.mx_network.proofs.Headline.{exclusive, numbered}
 use Rattle.mx_network.proofs.Keeps.{RunsTo-snoc}
 use Rattle.mx_network.proofs.cluster.Cluster.run.Goals as goal
+
+pub loop-index-init : goal.loop-index-init
+loop-index-init g c = rw (← c.self.view_is) (record {
+  runs = refl;
+  exclusive = exclusive c.self.inside.trace.items c.self.invariant.1.serial;
+  numbered = numbered c.self.inside.trace.items c.self.invariant.1.serial;
+  serial = c.self.invariant.1.serial;
+})
 
 pub loop-index-preserved : goal.loop-index-preserved
 loop-index-preserved g c = record {
@@ -14,3 +24,14 @@ loop-index-preserved g c = record {
   numbered = c.in_default.ensures.numbered;
   serial = c.in_default.ensures.serial;
 }
+
+pub returns-in-Err-clause-fault : goal.returns-in-Err-clause-fault
+returns-in-Err-clause-fault g c =
+    subst (λ (o : Option Event). IfSome o (λ e. IsFaultOf (step_of g.C.Exclusion.core c.step.new.self e) c.in-Err.fault))
+    (sym (at_place c.args.events.now c.loop-index.index c.index-events-index.result c.loop-index-test.true c.index-events-index.is))
+    (subst (λ (s : Group g.row.C.Denot g.row.C-Msg.Denot). IsFaultOf (step_of g.C.Exclusion.core s c.index-events-index.result) c.in-Err.fault) (sym c.in-Err.ensures.err) c.in-Err.ensures.fault)
+
+pub returns-clause-ok : goal.returns-clause-ok
+returns-clause-ok g c =
+    subst (λ (es : List Event). RunsTo g.C.Exclusion.core c.args.self.now es c.loop-index.self)
+    (take_all c.loop-index.index c.args.events.now c.loop-index-test.false) c.loop-index.invariant.runs

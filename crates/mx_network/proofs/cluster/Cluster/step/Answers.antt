@@ -1,11 +1,12 @@
+use Rattle.std.proofs.Common.{rules}
 use Rattle.mx_network.proofs.Headline.{exclusive, numbered}
 use Rattle.mx_network.proofs.Keeps.{all_doable, result_kept}
 use Rattle.mx_network.proofs.Refusals.{no_node, no_parcel}
 use Rattle.mx_network.proofs.cluster.Cluster.step.Goals as goal
 
-pub happen-requires-doable : goal.happen-requires-doable
-happen-requires-doable g c =
-    all_doable g.C.Exclusion.core g.C.Exclusion.IsShape g.C.Exclusion.Good g.met.C.Exclusion.phases g.met.C.Exclusion.laws _ c.args.event c.self.invariant.1
+pub happen-requires : goal.happen-requires
+happen-requires g c =
+    (search rules, (search rules, (c.self.invariant.0, all_doable g.C.Exclusion.core g.C.Exclusion.IsShape g.C.Exclusion.Good g.met.C.Exclusion.phases g.met.C.Exclusion.laws _ c.args.event c.self.invariant.1)))
 
 pub invariant_of-self : goal.invariant_of-self
 invariant_of-self g c = (
@@ -37,10 +38,10 @@ pub returns-clause-fault : goal.returns-clause-fault
 returns-clause-fault g c = rw (← c.self.view_is) c.happen.ensures.fault
 
 pub returns-clause-exclusive : goal.returns-clause-exclusive
-returns-clause-exclusive g c = exclusive _ (invariant_of-self g c).1.serial
+returns-clause-exclusive g c = exclusive c.happen.new.trace.items (invariant_of-self g c).1.serial
 
 pub returns-clause-numbered : goal.returns-clause-numbered
-returns-clause-numbered g c = numbered _ (invariant_of-self g c).1.serial
+returns-clause-numbered g c = numbered c.happen.new.trace.items (invariant_of-self g c).1.serial
 
 pub returns-clause-serial : goal.returns-clause-serial
 returns-clause-serial g c = (invariant_of-self g c).1.serial

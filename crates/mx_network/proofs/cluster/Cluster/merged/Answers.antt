@@ -1,0 +1,56 @@
+use Rattle.std.proofs.Common.{ℕ, ◌≡◌, List, ◌+◌, get_or, take, subst, sym, ap, ◌∙◌}
+use Rattle.std.proofs.lemmas.List.{take_all}
+use Rattle.mx_journal.specs.declared.records.Record.{Record}
+use Rattle.mx_journal.specs.Agreement.{IsSubmap}
+use Rattle.mx_journal.specs.Records.{Ascending}
+use Rattle.mx_member.proofs.SectionWrites.{gapless_shows}
+use Rattle.mx_network.specs.Kept.{IsKept}
+use Rattle.mx_network.specs.Sections.{journal_of, sections}
+use Rattle.mx_network.specs.Step.{Group}
+use Rattle.mx_network.proofs.Finding.{none_at, some_at}
+use Rattle.mx_network.proofs.Merging.{AreMerged, mergeable, merged_more, merged_same, merged_within}
+use Rattle.mx_network.proofs.cluster.Cluster.merged.Goals as goal
+use Rattle.mx_network.proofs.cluster.Cluster.merged.Goals.{in-Some+in_ok-add_journal, in_default}
+
+pub add_journal-requires : goal.add_journal-requires
+add_journal-requires g c =
+    let kept = subst (λ (x : Group g.row.C.Denot g.row.C-Msg.Denot). IsKept g.C.Exclusion.core g.C.Exclusion.Good x) c.self.view_is c.self.invariant.1 in
+    let members = ap (λ (x : Group g.row.C.Denot g.row.C-Msg.Denot). x.members) c.self.view_is in
+    mergeable g.C.Exclusion.core g.C.Exclusion.Good c.args.self.now c.loop-node.all c.journal.result.now c.get.result c.in-Some.member.now
+    kept c.loop-node.invariant.sections
+    (some_at c.deref.result.now c.args.self.now.members c.get.result c.in-Some.member.now (c.deref.ensures.value ∙ members) c.in-Some.ensures.lookup.0 c.in-Some.ensures.lookup.1)
+    c.journal.ensures
+
+pub loop-node-preserved : goal.loop-node-preserved
+loop-node-preserved g c =
+    let kept = subst (λ (x : Group g.row.C.Denot g.row.C-Msg.Denot). IsKept g.C.Exclusion.core g.C.Exclusion.Good x) c.self.view_is c.self.invariant.1 in
+    let members = ap (λ (x : Group g.row.C.Denot g.row.C-Msg.Denot). x.members) c.self.view_is in
+    let here : c.get.result ≡ get_or c.args.nodes.now c.loop-node.node-index c.get.result =
+    subst (λ (n : ℕ). n ≡ get_or c.args.nodes.now c.loop-node.node-index n) (sym c.get.ensures.value) c.node-item.is in
+    elim c.match-get.branch [
+      | in-Some+in_ok-add_journal w ↦ (
+          let at = some_at c.deref.result.now c.args.self.now.members c.get.result w.in-Some.member.now (c.deref.ensures.value ∙ members) w.in-Some.ensures.lookup.0 w.in-Some.ensures.lookup.1 in
+          let new = w.in_ok-add_journal.ensures in record {
+            sections = subst (λ (l : List Record). IsSubmap l (journal_of c.args.self.now.trace)) (sym w.all-is)
+                (merged_within g.C.Exclusion.core g.C.Exclusion.Good c.args.self.now c.loop-node.all _ w.journal.result.now c.get.result w.in-Some.member.now kept c.loop-node.invariant.sections at w.journal.ensures new.above);
+            ordered = subst (λ (l : List Record). Ascending 1 l) (sym w.all-is) new.ordered;
+            all = subst (λ (l : List Record). AreMerged c.args.self.now.members (take (c.loop-node.node-index + 1) c.args.nodes.now) l) (sym w.all-is)
+                (merged_more c.args.self.now.members c.args.nodes.now c.loop-node.node-index c.get.result w.in-Some.member.now c.loop-node.all _ w.journal.result.now c.loop-node.invariant.all at w.journal.ensures new.above c.loop-node-test.true here);
+          }
+          )
+      | in_default w ↦ record {
+        sections = subst (λ (l : List Record). IsSubmap l (journal_of c.args.self.now.trace)) (sym w.all-is) c.loop-node.invariant.sections;
+        ordered = subst (λ (l : List Record). Ascending 1 l) (sym w.all-is) c.loop-node.invariant.ordered;
+        all = subst (λ (l : List Record). AreMerged c.args.self.now.members (take (c.loop-node.node-index + 1) c.args.nodes.now) l) (sym w.all-is)
+            (merged_same c.args.self.now.members c.args.nodes.now c.loop-node.node-index c.get.result c.loop-node.all c.loop-node.invariant.all
+            (none_at c.deref.result.now c.args.self.now.members c.get.result (c.deref.ensures.value ∙ members) w.in_default.ensures.lookup.0) c.loop-node-test.true here);
+      }
+    ]
+
+pub returns-clause-all : goal.returns-clause-all
+returns-clause-all g c =
+    subst (λ (l : List ℕ). AreMerged c.args.self.now.members l c.loop-node.all) (take_all c.loop-node.node-index c.args.nodes.now c.loop-node-test.false) c.loop-node.invariant.all
+
+pub returns-clause-in_order : goal.returns-clause-in_order
+returns-clause-in_order g c k count gapless top =
+    gapless_shows k (sections c.args.self.now.trace) c.loop-node.all c.loop-node.invariant.ordered c.loop-node.invariant.sections gapless top count

@@ -1,0 +1,5 @@
+use Rattle.std.proofs.Common.{length, ap}
+use Rattle.mx_network.proofs.cluster.Cluster.sent.Goals as goal
+
+pub returns : goal.returns
+returns g c = rw (← c.self.view_is) (ap length c.as_slice.ensures.value)
