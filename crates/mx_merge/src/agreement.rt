@@ -1,14 +1,18 @@
 //! Whether two journals agree: no number bears differing records.
 
-ghost use Rattle.std.specs.Prelude.{◌↔◌, ◌++◌, IsTrue, IsFalse, IfSome, IfNone};
-ghost use Rattle.mx_journal.specs.Agreement.{AgreesWith, AreAgreeing, IsFirstConflict, IsOpposed};
+ghost use Rattle.std.specs.Prelude.{◌↔◌, ◌++◌, List, IsTrue, IsFalse, IfSome, IfNone};
+ghost use Rattle.mx_journal.specs.Agreement.{AgreesWith, AreAgreeing, IsConsistent, IsFirstConflict, IsOpposed, IsSubmap};
 ghost use Rattle.mx_journal.specs.Records.{Ascending};
 
 use mx_journal::{Journal, Record};
 
-/// Whether the journals have the same record at each number that both have.
+/// Whether the journals have the same record at each number that both have. Two journals that hold
+/// parts of one map do.
 pub fn agree(journal: &Journal, other: &Journal) -> bool
-    ensures { IsTrue result ↔ AreAgreeing journal.now other.now }
+    ensures agreeing { IsTrue result ↔ AreAgreeing journal.now other.now }
+    ensures submaps {
+        (m : List Record) → IsConsistent m → IsSubmap journal.now m → IsSubmap other.now m → IsTrue result
+    }
 {
     first_difference(journal, other).is_none()
 }
