@@ -1,9 +1,10 @@
--- Lemmas on lists: membership, writes at a place, each_below and greatest; and on choices by a test.
-use Rattle.std.proofs.Common.{Bool, true, false, cond, not, ◌&&◌, ◌||◌, replicate, ℕ, zero, suc, ◌<◌, ◌≤◌, ◌≡◌, ◌≢◌, ◌⊎◌, inl, inr, List, [], ◌∷◌, ◌++◌, Some, None, max, slice_get, slice_set, length, get_or, refl, sym, ◌∙◌, ap, subst, arith}
-use Rattle.std.proofs.lemmas.Option.{same_Some}
-use Rattle.std.proofs.lemmas.List.{length-set}
+-- Lemmas on lists: membership, writes at a place, walks by place, each_below and greatest.
+use Rattle.std.proofs.Common.{replicate, ℕ, zero, suc, ◌<◌, ◌≤◌, ◌+◌, ◌≡◌, ◌≢◌, ◌⊎◌, inl, inr, List, [], ◌∷◌, ◌++◌, Some, None, max, slice_get, slice_set, length, get_or, take, drop, refl, sym, ◌∙◌, ap, subst, arith}
+use Rattle.std.proofs.lemmas.Option.{same_Some, get_or_from_slice_get, slice_get_within}
+use Rattle.std.proofs.lemmas.List.{at_drop_more, length-replicate, length-set, take-append-le, take_more}
 use Rattle.std.proofs.lemmas.Grind.{common_steps}
 use Rattle.mx_stamps.specs.Lists.{IsIn, each_below, greatest}
+pub use Rattle.mx_stamps.proofs.Choices.{cond_case, and_true, and_false, or_false, not_true}
 
 pub none_is_no_some : {X : Type 0} (x : X) → None ≡ Some x → ⊥
 none_is_no_some x e = cc
@@ -102,27 +103,6 @@ set_itself [] i s h = refl
 set_itself (x ∷ xs) zero s h = ap (λ y. y ∷ xs) (sym (same_Some x s h))
 set_itself (x ∷ xs) (suc i) s h = ap (λ ys. x ∷ ys) (set_itself xs i s h)
 
--- what holds of a choice
-pub cond_case : {X : Type 0} (P : X → Type 0) (b : Bool) (x y : X) → (b ≡ true → P x) → (b ≡ false → P y) → P (cond b x y)
-cond_case P true x y f g = f refl
-cond_case P false x y f g = g refl
-
-pub and_true : (a b : Bool) → (a && b) ≡ true → (a ≡ true) × (b ≡ true)
-and_true true b h = (refl, h)
-and_true false b h = let bad : ⊥ = cc in absurd bad
-
-pub and_false : (a b : Bool) → (a && b) ≡ false → a ≡ true → b ≡ false
-and_false true b h t = h
-and_false false b h t = let bad : ⊥ = cc in absurd bad
-
-pub or_false : (a b : Bool) → (a || b) ≡ true → a ≡ false → b ≡ true
-or_false true b h f = let bad : ⊥ = cc in absurd bad
-or_false false b h f = h
-
-pub not_true : (a : Bool) → not a ≡ true → a ≡ false
-not_true true h = let bad : ⊥ = cc in absurd bad
-not_true false h = refl
-
 -- an element after a write is the one written, or was there before
 pub get_or_after : {X : Type 0} (xs : List X) (n j : ℕ) (v d x : X) → get_or (slice_set xs n v) j d ≡ x → ((j ≡ n) × (v ≡ x)) ⊎ (get_or xs j d ≡ x)
 get_or_after [] n j v d x h = inr h
@@ -135,6 +115,9 @@ pub get_or_replicate : {X : Type 0} (n j : ℕ) (d : X) → get_or (replicate n 
 get_or_replicate zero j d = refl
 get_or_replicate (suc n) zero d = refl
 get_or_replicate (suc n) (suc j) d = get_or_replicate n j d
+
+pub length_replicate : {X : Type 0} (n : ℕ) (x : X) → length (replicate n x) ≡ n
+length_replicate n x = length-replicate n x
 
 pub set_set : {X : Type 0} (xs : List X) (i : ℕ) (u v : X) → slice_set (slice_set xs i u) i v ≡ slice_set xs i v
 set_set [] i u v = refl
@@ -166,3 +149,42 @@ pub in_get : {X : Type 0} (xs : List X) (i : ℕ) (x : X) → slice_get xs i ≡
 in_get [] i x h = absurd (none_is_no_some x h)
 in_get (y ∷ ys) zero x h = inl (sym (same_Some y x h))
 in_get (y ∷ ys) (suc i) x h = inr (in_get ys i x h)
+
+-- the element at a place below the length is a member
+pub in_at : {X : Type 0} (xs : List X) (i : ℕ) (x : X) → i < length xs → x ≡ get_or xs i x → IsIn x xs
+in_at [] i x l e = absurd (omega arith)
+in_at (y ∷ ys) zero x l e = inl e
+in_at (y ∷ ys) (suc i) x l e = inr (in_at ys i x (omega arith) e)
+
+-- a member of the first elements is a member
+pub in_first : {X : Type 0} (count : ℕ) (xs : List X) (x : X) → IsIn x (take count xs) → IsIn x xs
+in_first zero xs x h = absurd h
+in_first (suc count) [] x h = absurd h
+in_first (suc count) (y ∷ ys) x (inl e) = inl e
+in_first (suc count) (y ∷ ys) x (inr h) = inr (in_first count ys x h)
+
+-- what is left from a place on begins with the element there
+pub drop_here : {X : Type 0} (xs : List X) (i : ℕ) (x : X) → i < length xs → x ≡ get_or xs i x → drop i xs ≡ x ∷ drop (i + 1) xs
+drop_here xs i x l e = at_drop_more (λ zs. zs) xs i x l ∙ ap (λ z. z ∷ drop (i + 1) xs) (sym e)
+
+-- what was gone through grows by the element there
+pub take_here : {X : Type 0} (xs : List X) (i : ℕ) (x : X) → i < length xs → x ≡ get_or xs i x → take (i + 1) xs ≡ take i xs ++ x ∷ []
+take_here xs i x l e = take_more xs i x l ∙ ap (λ z. take i xs ++ z ∷ []) (sym e)
+
+-- the same of an element that was got
+
+pub drop_at : {X : Type 0} (xs : List X) (i : ℕ) (x : X) → slice_get xs i ≡ Some x → drop i xs ≡ x ∷ drop (i + 1) xs
+drop_at xs i x h = drop_here xs i x (slice_get_within xs i x h) (sym (get_or_from_slice_get xs i x x h))
+
+pub take_at : {X : Type 0} (xs : List X) (i : ℕ) (x : X) → slice_get xs i ≡ Some x → take (i + 1) xs ≡ take i xs ++ x ∷ []
+take_at xs i x h = take_here xs i x (slice_get_within xs i x h) (sym (get_or_from_slice_get xs i x x h))
+
+-- what is cut early can be cut again
+pub cut_twice : {X : Type 0} (n : ℕ) (xs ys : List X) → take n (take n xs ++ ys) ≡ take n (xs ++ ys)
+cut_twice zero xs ys = refl
+cut_twice (suc n) [] ys = refl
+cut_twice (suc n) (x ∷ xs) ys = ap (λ l. x ∷ l) (cut_twice n xs ys)
+
+-- behind a full list nothing counts
+pub cut_full : {X : Type 0} (n : ℕ) (xs ys zs : List X) → n ≤ length xs → take n (xs ++ ys) ≡ take n (xs ++ zs)
+cut_full n xs ys zs l = take-append-le n xs ys l ∙ sym (take-append-le n xs zs l)
