@@ -1,0 +1,15 @@
+-- What an accepted entry answers.
+use Rattle.std.proofs.Common.{ℕ, suc, ◌+◌, ◌≡◌, Bool, true, false, cond, Ok, Err, refl, arith, if◌then◌else◌}
+use Rattle.mx_nodelaws.specs.World.{Quiet}
+use Rattle.mx_nodelaws.specs.declared.faults.EnterFault.TheVariants.{NumbersSpent}
+
+-- the number that it draws
+pub drawn : (b : Bool) (m n : ℕ) → (if b then Ok (m + 1) else Err NumbersSpent) ≡ Ok n → n ≡ suc m
+drawn true m n e = let k : m + 1 ≡ n = cc in omega (arith, k)
+drawn false m n e = let bad : ⊥ = cc in absurd bad
+
+-- where every permission is there, the limit alone decides the answer
+pub granted_answer : {S A : Type 0} (granted low : Bool) (x y z : Quiet S A) → granted ≡ true → (cond granted (cond low x y) z).answer ≡ cond low x.answer y.answer
+granted_answer true true x y z e = refl
+granted_answer true false x y z e = refl
+granted_answer false low x y z e = let bad : ⊥ = cc in absurd bad
