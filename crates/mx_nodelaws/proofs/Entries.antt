@@ -1,6 +1,9 @@
--- What an accepted entry answers.
-use Rattle.std.proofs.Common.{ℕ, suc, ◌+◌, ◌≡◌, Bool, true, false, cond, Ok, Err, refl, arith, if◌then◌else◌}
-use Rattle.mx_nodelaws.specs.World.{Quiet}
+-- What an accepted entry answers, and the number that it is to be.
+use Rattle.std.proofs.Common.{ℕ, suc, ◌≤◌, ◌+◌, ◌≡◌, Bool, true, false, cond, Ok, Err, refl, arith, if◌then◌else◌}
+use Rattle.mx_stamps.specs.Lists.{greatest}
+use Rattle.mx_stamps.proofs.Lists.{greatest_above, greatest_below}
+use Rattle.mx_nodelaws.specs.World.{World, Quiet, IsNode}
+use Rattle.mx_nodelaws.specs.Raised.{IsReachedBy}
 use Rattle.mx_nodelaws.specs.declared.faults.EnterFault.TheVariants.{NumbersSpent}
 
 -- the number that it draws
@@ -13,3 +16,10 @@ pub granted_answer : {S A : Type 0} (granted low : Bool) (x y z : Quiet S A) →
 granted_answer true true x y z e = refl
 granted_answer true false x y z e = refl
 granted_answer false low x y z e = let bad : ⊥ = cc in absurd bad
+
+-- a number that some node has reached, and none has gone above, is the greatest
+pub greatest_is : {S M : Type 0} (number : S → ℕ) (w : World S M) (top : ℕ) → ((j : ℕ) (t : S) → IsNode w j t → number t ≤ top) → IsReachedBy number w top → greatest number w.nodes ≡ top
+greatest_is number w top below (j, t, tat, up) =
+    let low : greatest number w.nodes ≤ top = greatest_below number w.nodes top below in
+    let high : number t ≤ greatest number w.nodes = greatest_above number w.nodes j t tat in
+    omega arith

@@ -8,8 +8,8 @@ use Rattle.mx_nodelaws.specs.World.{World, Done, IsNode, WasSent, after, sent_by
 use Rattle.mx_nodelaws.specs.Raised.{IsReachedBy, HasComeTo}
 use Rattle.mx_nodelaws.proofs.Worlds.{in_sent_by}
 
-module _ {S A M : Type 0} (w : World S M) (i : ℕ) (s : S) (done : Done S A M) (at : IsNode w i s) where
-  -- node i before the step
+module _ {S M : Type 0} (w : World S M) (i : ℕ) (s : S) (at : IsNode w i s) where
+  -- node i is s, by whichever name
 
   pub at_as : (j : ℕ) → j ≡ i → IsNode w j s
   at_as j e = subst (λ x. IsNode w x s) (sym e) at
@@ -17,7 +17,8 @@ module _ {S A M : Type 0} (w : World S M) (i : ℕ) (s : S) (done : Done S A M) 
   pub was : (j : ℕ) (t : S) → j ≡ i → IsNode w j t → t ≡ s
   was j t e tat = same_Some t s (sym tat ∙ at_as j e)
 
-  -- and after it
+module _ {S A M : Type 0} (w : World S M) (i : ℕ) (s : S) (done : Done S A M) (at : IsNode w i s) where
+  -- node i after the step
 
   pub itself : IsNode (after w i done) i done.state
   itself = get_set_same w.nodes i s done.state at
@@ -35,7 +36,7 @@ module _ {S A M : Type 0} (w : World S M) (i : ℕ) (s : S) (done : Done S A M) 
   -- what holds of a node in its state, where the step keeps it
   pub each_after : (P : S → Type 0) (j : ℕ) → ((t : S) → IsNode w j t → P t) → (j ≡ i → P s → P done.state) → (t : S) → IsNode (after w i done) j t → P t
   each_after P j before keeps t tat = elim (node_cases j t tat) [
-    | inl p ↦ subst P (sym p.1) (keeps p.0 (before s (at_as j p.0)))
+    | inl p ↦ subst P (sym p.1) (keeps p.0 (before s (at_as w i s at j p.0)))
     | inr p ↦ before t p.1
   ]
 
@@ -65,7 +66,7 @@ module _ {S A M : Type 0} (w : World S M) (i : ℕ) (s : S) (done : Done S A M) 
 
   pub still_reached : (number : S → ℕ) → number s ≤ number done.state → (n : ℕ) → IsReachedBy number w n → IsReachedBy number (after w i done) n
   still_reached number up n (j, t, tat, le) = elim (dec_eq j i) [
-    | inl e ↦ let same : number t ≡ number s = ap number (was j t e tat) in (i, done.state, itself, omega arith)
+    | inl e ↦ let same : number t ≡ number s = ap number (was w i s at j t e tat) in (i, done.state, itself, omega arith)
     | inr ne ↦ (j, t, get_set_other w.nodes i j done.state ne ∙ tat, le)
   ]
 

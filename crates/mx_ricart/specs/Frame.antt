@@ -1,18 +1,18 @@
 -- What a step of one node leaves as it was.
-use Rattle.std.proofs.Common.{ℕ, ◌<◌, ◌≤◌, ◌≡◌, ◌≢◌, ◌⊎◌, inl, inr, true, Some, slice_get, length, refl, sym, ◌∙◌, ap, subst, arith}
-use Rattle.std.proofs.lemmas.Option.{same_Some, slice_get_within}
+use Rattle.std.proofs.Common.{ℕ, ◌<◌, ◌≤◌, ◌≡◌, ◌≢◌, ◌⊎◌, inl, inr, true, length, refl, sym, ◌∙◌, ap, subst, arith}
+use Rattle.std.proofs.lemmas.Option.{slice_get_within}
 use Rattle.std.proofs.lemmas.List.{length-set}
 use Rattle.mx_stamps.specs.declared.stamp.Stamp.{Stamp}
 use Rattle.mx_letters.specs.declared.ricart.RicartMsg.{RicartMsg}
 use Rattle.mx_letters.specs.declared.ricart.RicartMsg.TheVariants.{Request, Reply}
 use Rattle.mx_stamps.specs.Stamp.{Before}
 use Rattle.mx_stamps.specs.Lists.{IsIn}
-use Rattle.mx_nodelaws.specs.World.{World, Done, IsNode, after, sent_by}
-use Rattle.mx_stamps.proofs.Lists.{dec_eq, get_after, get_set_same, get_set_other, in_left, in_append}
-use Rattle.mx_nodelaws.proofs.Worlds.{in_sent_by}
+use Rattle.mx_nodelaws.specs.World.{World, Done, IsNode, after}
+use Rattle.mx_stamps.proofs.Lists.{get_after}
+use Rattle.mx_stamps.proofs.Stamps.{before_apart}
+use Rattle.mx_nodelaws.proofs.Frame.{sent_after, sent_before, still_come, still_reached}
 use Rattle.mx_ricart.specs.Node.{Node}
 use Rattle.mx_ricart.specs.Step.{has_reply}
-use Rattle.mx_ricart.specs.Tests.{before_apart}
 use Rattle.mx_ricart.specs.Good.{IsBusy, HasSeen, IsReached, IsNodeOk, IsReplyOk, IsLetterOk, IsSafe}
 
 -- what each step of a node keeps
@@ -26,21 +26,10 @@ pub record Moves (w : World Node RicartMsg) (i : ℕ) (s new : Node) : Type 0 wh
 
 module _ {A : Type 0} (w : World Node RicartMsg) (i : ℕ) (s : Node) (done : Done Node A RicartMsg) (good : IsSafe w) (at : IsNode w i s) (moves : Moves w i s done.state) where
   pub seen_after : (j number : ℕ) → HasSeen w j number → HasSeen (after w i done) j number
-  seen_after j number h t tat = elim (get_after w.nodes i j s done.state t at tat) [
-    | inl p ↦ let k : number ≤ s.highest = h s (subst (λ x. IsNode w x s) (sym p.0) at) in let e : t.highest ≡ done.state.highest = ap (λ r. r.highest) p.1 in let m = moves.highest in omega arith
-    | inr p ↦ h t p.1
-  ]
+  seen_after j number h = still_come w i s done at (λ x. x.highest) moves.highest j number h
 
   pub reached_after : (n : ℕ) → IsReached w n → IsReached (after w i done) n
-  reached_after n (j, t, tat, le) = elim (dec_eq j i) [
-    | inl e ↦ let same : t ≡ s = same_Some t s (sym tat ∙ subst (λ x. slice_get w.nodes x ≡ Some s) (sym e) at) in
-        (i, done.state, get_set_same w.nodes i s done.state at, (let q : t.mine ≡ s.mine = ap (λ r. r.mine) same in let m = moves.mine in omega arith))
-    | inr ne ↦ (j, t, get_set_other w.nodes i j done.state ne ∙ tat, le)
-  ]
-
-  -- node i before the step is s
-  was_s : (j : ℕ) (t : Node) → j ≡ i → IsNode w j t → t ≡ s
-  was_s j t e tat = same_Some t s (sym tat ∙ subst (λ x. slice_get w.nodes x ≡ Some s) (sym e) at)
+  reached_after n h = still_reached w i s done at (λ x. x.mine) moves.mine n h
 
   -- a reply that stands, where its addressee takes the step
   stands_to : (a : ℕ) (stamp : Stamp) (top : ℕ) → IsReplyOk w a i stamp top → (sa : Node) → IsNode w a sa → IsBusy done.state → done.state.ours ≡ stamp → (sa.mine ≤ top) × (IsBusy sa → Before stamp sa.ours)
@@ -100,7 +89,7 @@ module _ {A : Type 0} (w : World Node RicartMsg) (i : ℕ) (s : Node) (done : Do
     mine_top = ok.mine_top;
     top_reached = reached_after t.top ok.top_reached;
     inside_has = λ n inside k lt ne. ok.inside_has n inside k (subst (λ x. k < x) (length-set w.nodes i done.state) lt) ne;
-    replies = λ busy k has. let r = ok.replies busy k has in (r.0, in_left (k, j, Reply t.ours r.0) w.sent (sent_by i done.letters) r.1, r.2);
+    replies = λ busy k has. let r = ok.replies busy k has in (r.0, sent_after w i s done at k j (Reply t.ours r.0) r.1, r.2);
     waits = λ k d was. let r = ok.waits k d was in (r.0, r.1, r.2, seen_after k d.number r.3);
   }
 
@@ -111,8 +100,8 @@ module _ {A : Type 0} (w : World Node RicartMsg) (i : ℕ) (s : Node) (done : Do
       | inl p ↦ subst (λ x. IsNodeOk (after w i done) x t) (sym p.0) (subst (λ x. IsNodeOk (after w i done) i x) (sym p.1) node)
       | inr p ↦ other_after j t (good.nodes j t p.1)
     ];
-    letters = λ a b m sent. elim (in_append (a, b, m) w.sent (sent_by i done.letters) sent) [
+    letters = λ a b m sent. elim (sent_before w i s done at a b m sent) [
       | inl old ↦ letter_after a b m (good.letters a b m old)
-      | inr new ↦ let r = in_sent_by i a b m done.letters new in subst (λ x. IsLetterOk (after w i done) x b m) (sym r.0) (letters b m r.1)
+      | inr new ↦ subst (λ x. IsLetterOk (after w i done) x b m) (sym new.0) (letters b m new.1)
     ];
   }

@@ -1,14 +1,16 @@
 -- The worlds that are reached from the start.
-use Rattle.std.specs.Prelude.{ℕ, ◌<◌, ◌≤◌, ◌^◌, ◌≡◌, ◌≢◌, true, Some, length}
+use Rattle.std.specs.Prelude.{ℕ, ◌<◌, ◌≤◌, ◌≡◌, ◌≢◌, true, Some, length}
 use Rattle.mx_stamps.specs.declared.stamp.Stamp.{Stamp}
 use Rattle.mx_stamps.specs.Stamp.{Before}
 use Rattle.mx_letters.specs.declared.ricart.RicartMsg.{RicartMsg}
 use Rattle.mx_letters.specs.declared.ricart.RicartMsg.TheVariants.{Request, Reply}
 use Rattle.mx_nodelaws.specs.World.{World, IsNode, WasSent}
-use Rattle.mx_nodelaws.specs.declared.phase.Phase.{Phase}
-use Rattle.mx_nodelaws.specs.declared.phase.Phase.TheVariants.{Idle, Waiting, Inside}
+use Rattle.mx_nodelaws.specs.declared.phase.Phase.TheVariants.{Inside}
+use Rattle.mx_nodelaws.specs.Phases.{is_busy}
+use Rattle.mx_nodelaws.specs.Plain.{Small, PlainStamp, PlainPhase, IsPlainWorld}
+use Rattle.mx_nodelaws.specs.Raised.{IsReachedBy, HasComeTo}
 use Rattle.mx_ricart.specs.Node.{Node}
-use Rattle.mx_ricart.specs.Step.{is_busy, has_reply, deferred_at}
+use Rattle.mx_ricart.specs.Step.{has_reply, deferred_at}
 
 -- node s has a current stamp
 abbrev pub IsBusy : Node → Type 0
@@ -16,11 +18,11 @@ IsBusy s = is_busy s.phase ≡ true
 
 -- node i has seen this number
 abbrev pub HasSeen : World Node RicartMsg → ℕ → ℕ → Type 0
-HasSeen w i number = (s : Node) → IsNode w i s → number ≤ s.highest
+HasSeen w i number = HasComeTo (λ (s : Node). s.highest) w i number
 
 -- some node has entered a section of this number or a later one
 abbrev pub IsReached : World Node RicartMsg → ℕ → Type 0
-IsReached w n = (j : ℕ) × (t : Node) × (IsNode w j t) × (n ≤ t.mine)
+IsReached w n = IsReachedBy (λ (s : Node). s.mine) w n
 
 -- what holds of each node
 pub record IsNodeOk (w : World Node RicartMsg) (i : ℕ) (s : Node) : Type 0 where
@@ -64,23 +66,12 @@ pub record IsSafe (w : World Node RicartMsg) : Type 0 where
   pub nodes : (i : ℕ) (s : Node) → IsNode w i s → IsNodeOk w i s
   pub letters : (a b : ℕ) (m : RicartMsg) → WasSent w a b m → IsLetterOk w a b m
 
--- a u64 value
-abbrev pub Small : ℕ → Type 0
-Small x = x < 2 ^ 64
-
--- a stamp of one of n nodes
-abbrev pub PlainStamp : ℕ → Stamp → Type 0
-PlainStamp n stamp = Small stamp.number × (stamp.node < n)
-
+-- each number in a letter is a u64 value, and each name a node
 abbrev pub PlainLetter : ℕ → RicartMsg → Type 0
 PlainLetter n (Request stamp) = PlainStamp n stamp
 PlainLetter n (Reply stamp top) = PlainStamp n stamp × Small top
 
-abbrev pub PlainPhase : Phase → Type 0
-PlainPhase Idle = Unit {0}
-PlainPhase Waiting = Unit {0}
-PlainPhase (Inside n) = Small n
-
+-- the same of a node
 pub record PlainNode (n : ℕ) (s : Node) : Type 0 where
   pub me : s.me < n
   pub count : s.count ≤ n
@@ -92,11 +83,6 @@ pub record PlainNode (n : ℕ) (s : Node) : Type 0 where
   pub top : Small s.top
   pub mine : Small s.mine
 
--- each number is a u64 value, and each name a node
-pub record PlainWorld (w : World Node RicartMsg) : Type 0 where
-  pub nodes : (i : ℕ) (s : Node) → IsNode w i s → PlainNode (length w.nodes) s
-  pub letters : (a b : ℕ) (m : RicartMsg) → WasSent w a b m → (a < length w.nodes) × (b < length w.nodes) × PlainLetter (length w.nodes) m
-
 pub record IsGood (w : World Node RicartMsg) : Type 0 where
   pub safe : IsSafe w
-  pub plain : PlainWorld w
+  pub plain : IsPlainWorld PlainNode PlainLetter w

@@ -2,7 +2,8 @@
 use Rattle.std.proofs.Common.{ℕ, ◌≡◌, ◌≢◌, not, ◌&&◌, Result, Err, nat_eq, nat_lt, refl, sym, ◌∙◌}
 use Rattle.mx_stamps.specs.declared.stamp.Stamp.{Stamp}
 use Rattle.mx_stamps.specs.Stamp.{is_before_of, is_same_as}
-use Rattle.mx_stamps.proofs.Lists.{cond_case, and_true}
+use Rattle.mx_stamps.proofs.Choices.{eq_true, and_true, cond_case}
+use Rattle.mx_stamps.proofs.Stamps.{same_stamp}
 use Rattle.mx_letters.specs.declared.ricart.RicartMsg.{RicartMsg}
 use Rattle.mx_letters.specs.declared.ricart.RicartMsg.TheVariants.{Request, Reply}
 use Rattle.mx_nodelaws.specs.World.{World, quietly, IsNode, WasSent, after}
@@ -14,10 +15,12 @@ use Rattle.mx_nodelaws.specs.declared.faults.EnterFault.{EnterFault}
 use Rattle.mx_nodelaws.specs.declared.faults.EnterFault.TheVariants.{NotWaiting, NotGranted, NumbersSpent}
 use Rattle.mx_nodelaws.specs.declared.faults.LeaveFault.{LeaveFault}
 use Rattle.mx_nodelaws.specs.declared.faults.LeaveFault.TheVariants.{NotInside}
+use Rattle.mx_nodelaws.specs.Phases.{is_busy, is_waiting}
+use Rattle.mx_nodelaws.proofs.Phases.{waiting_is}
 use Rattle.mx_ricart.specs.Node.{Node}
-use Rattle.mx_ricart.specs.Step.{is_busy, is_waiting, is_other, has_reply, has_all_replies, unchanged, asked, ask_in, ask_of, seeing, deferring, replied, take_request, counting, take_reply, deliver_of, entered, refused, enter_granted, enter_in, enter_of, leave_in, leave_of, ticked, tick_of}
+use Rattle.mx_ricart.specs.Step.{is_other, has_reply, has_all_replies, unchanged, asked, ask_in, ask_of, seeing, deferring, replied, take_request, counting, take_reply, deliver_of, entered, refused, enter_granted, enter_in, enter_of, leave_in, leave_of, ticked, tick_of}
 use Rattle.mx_ricart.specs.Good.{IsRequestOk, IsSafe}
-use Rattle.mx_ricart.specs.Tests.{eq_true, waiting_is, same_stamp, other_is, all_replies}
+use Rattle.mx_ricart.specs.Tests.{other_is, all_replies}
 use Rattle.mx_ricart.specs.Rows.{unchanged_good, asked_good, deferred_good, replied_good, counted_good, waiting_busy, entered_good, left_good, ticked_good}
 
 module _ (w : World Node RicartMsg) (i : ℕ) (s : Node) (good : IsSafe w) (at : IsNode w i s) where

@@ -8,11 +8,13 @@ use Rattle.mx_nodelaws.specs.World.{World, Done, quietly, IsNode, WasSent, after
 use Rattle.mx_nodelaws.specs.Laws.{KeepsGood, started}
 use Rattle.mx_nodelaws.specs.declared.phase.Phase.TheVariants.{Idle}
 use Rattle.mx_ricart.specs.Node.{Node}
-use Rattle.mx_ricart.specs.Step.{IsCount, start_of, is_busy, ask_of, deliver_of, enter_of, leave_of, tick_of, ricart_core}
-use Rattle.mx_ricart.specs.Good.{IsNodeOk, IsLetterOk, IsSafe, IsGood}
-use Rattle.mx_ricart.specs.Tests.{idle_not_busy}
+use Rattle.mx_ricart.specs.Step.{IsCount, start_of, ask_of, deliver_of, enter_of, leave_of, tick_of, ricart_core}
+use Rattle.mx_ricart.specs.Good.{IsNodeOk, IsLetterOk, IsSafe, PlainLetter, PlainNode, IsGood}
 use Rattle.mx_ricart.specs.Keeps.{ask_good, deliver_good, enter_good, leave_good, tick_good}
-use Rattle.mx_ricart.specs.Plain.{PlainDone, plain_after, ask_plain, deliver_plain, enter_plain, leave_plain, tick_plain, start_plain}
+use Rattle.mx_nodelaws.proofs.Plain.{plain_after, plain_by}
+use Rattle.mx_nodelaws.specs.Phases.{is_busy}
+use Rattle.mx_nodelaws.proofs.Phases.{idle_not_busy}
+use Rattle.mx_ricart.specs.Plain.{PlainDone, ask_plain, deliver_plain, enter_plain, leave_plain, tick_plain, start_plain}
 use Rattle.mx_ricart.specs.Safety.{one_inside, entry}
 
 -- the world at rest
@@ -42,7 +44,7 @@ started_good count origin limit valid small high = record { safe = started_safe 
 
 module _ (w : World Node RicartMsg) (i : ℕ) (s : Node) (good : IsGood w) (at : IsNode w i s) where
   both : {A : Type 0} (done : Done Node A RicartMsg) → IsSafe (after w i done) → PlainDone {A = A} (length w.nodes) done → IsGood (after w i done)
-  both {A} done safe plain = record { safe = safe; plain = plain_after {A = A} w i s done good.plain at plain }
+  both {A} done safe plain = record { safe = safe; plain = plain_after PlainNode PlainLetter w i s done good.plain at plain }
 
   after_ask : IsGood (after w i (ask_of s))
   after_ask = both (ask_of s) (ask_good w i s good.safe at) (ask_plain (length w.nodes) s (good.plain.nodes i s at))
@@ -87,7 +89,7 @@ module _ (w : World Node RicartMsg) (sent : List (ℕ × ℕ × RicartMsg)) (sam
       nodes = λ i s at. node_again i s (good.safe.nodes i s at);
       letters = λ a b m was. letter_again a b m (good.safe.letters a b m ((same (a, b, m)).1 was));
     };
-    plain = record { nodes = good.plain.nodes; letters = λ a b m was. good.plain.letters a b m ((same (a, b, m)).1 was) };
+    plain = plain_by PlainNode PlainLetter w sent same good.plain;
   }
 
 pub ricart_laws : KeepsGood ricart_core IsCount IsGood

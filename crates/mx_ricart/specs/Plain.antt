@@ -1,14 +1,13 @@
 -- Each call keeps each number a u64 value and each name a node, whatever else holds.
-use Rattle.std.proofs.Common.{ℕ, ◌<◌, ◌≤◌, ◌+◌, ◌^◌, ◌≡◌, inl, inr, Bool, cond, not, ◌&&◌, ◌||◌, List, [], Option, Some, None, Result, Err, max, slice_set, length, get_or, nat_eq, nat_lt, refl, sym, ◌∙◌, subst, arith}
-use Rattle.std.proofs.lemmas.Option.{same_Some, slice_get_within}
-use Rattle.std.proofs.lemmas.List.{length-set}
-use Rattle.mx_stamps.specs.Lists.{IsIn, each_below}
+use Rattle.std.proofs.Common.{ℕ, ◌<◌, ◌≤◌, ◌+◌, ◌^◌, ◌≡◌, inl, inr, Bool, cond, not, ◌&&◌, ◌||◌, Option, Some, None, Result, Err, max, slice_set, get_or, nat_eq, nat_lt, refl, sym, ◌∙◌, subst, arith}
+use Rattle.std.proofs.lemmas.Option.{same_Some}
 use Rattle.mx_stamps.specs.declared.stamp.Stamp.{Stamp}
 use Rattle.mx_stamps.specs.Stamp.{is_before_of, is_same_as}
-use Rattle.mx_stamps.proofs.Lists.{get_after, in_append, get_each_below, length_each_below, cond_case, get_or_after, get_or_replicate, none_is_no_some}
+use Rattle.mx_stamps.proofs.Lists.{get_or_after, get_or_replicate, none_is_no_some}
+use Rattle.mx_stamps.proofs.Choices.{lt_true, cond_case}
 use Rattle.mx_letters.specs.declared.ricart.RicartMsg.{RicartMsg}
 use Rattle.mx_letters.specs.declared.ricart.RicartMsg.TheVariants.{Request, Reply}
-use Rattle.mx_nodelaws.specs.World.{World, Done, quietly, IsNode, after, sent_by, addressed}
+use Rattle.mx_nodelaws.specs.World.{Done, quietly, addressed}
 use Rattle.mx_nodelaws.specs.declared.phase.Phase.{Phase}
 use Rattle.mx_nodelaws.specs.declared.phase.Phase.TheVariants.{Idle, Waiting, Inside}
 use Rattle.mx_nodelaws.specs.declared.faults.AskFault.{AskFault}
@@ -17,48 +16,31 @@ use Rattle.mx_nodelaws.specs.declared.faults.EnterFault.{EnterFault}
 use Rattle.mx_nodelaws.specs.declared.faults.EnterFault.TheVariants.{NotWaiting, NotGranted, NumbersSpent}
 use Rattle.mx_nodelaws.specs.declared.faults.LeaveFault.{LeaveFault}
 use Rattle.mx_nodelaws.specs.declared.faults.LeaveFault.TheVariants.{NotInside}
-use Rattle.mx_nodelaws.proofs.Worlds.{in_addressed, in_sent_by}
+use Rattle.mx_nodelaws.specs.Laws.{started}
+use Rattle.mx_nodelaws.proofs.Worlds.{in_addressed}
+use Rattle.mx_nodelaws.proofs.Plain.{nil, one, plain_start}
+use Rattle.mx_nodelaws.specs.Phases.{is_busy, is_waiting}
+use Rattle.mx_nodelaws.specs.Plain.{Small, PlainStamp, ArePlain, IsPlainDone, IsPlainWorld}
+use Rattle.mx_nodelaws.proofs.Sent.{sent_unless}
 use Rattle.mx_ricart.specs.Node.{Node}
-use Rattle.mx_ricart.specs.Step.{IsCount, start_of, is_busy, is_waiting, is_other, has_reply, deferred_at, has_all_replies, unchanged, asking, asked, ask_in, ask_of, seeing, later_of, deferring, replied, take_request, counting, take_reply, deliver_of, entered, refused, enter_granted, enter_in, enter_of, reply_deferred, left, leave_in, leave_of, ticked, tick_of}
-use Rattle.mx_ricart.specs.Good.{Small, PlainStamp, PlainLetter, PlainNode, PlainWorld}
-use Rattle.mx_ricart.specs.Tests.{lt_true}
-use Rattle.mx_ricart.specs.Rows.{sent_request, sent_reply}
-
--- each letter is to a node, and plain
-abbrev pub PlainLetters : ℕ → List (ℕ × RicartMsg) → Type 0
-PlainLetters n ls = (b : ℕ) (m : RicartMsg) → IsIn {X = ℕ × RicartMsg} (b, m) ls → (b < n) × PlainLetter n m
+use Rattle.mx_ricart.specs.Step.{IsCount, start_of, is_other, has_reply, deferred_at, has_all_replies, unchanged, asking, asked, ask_in, ask_of, seeing, later_of, deferring, replied, take_request, counting, take_reply, deliver_of, entered, refused, enter_granted, enter_in, enter_of, reply_deferred, left, leave_in, leave_of, ticked, tick_of, ricart_core}
+use Rattle.mx_ricart.specs.Good.{PlainLetter, PlainNode}
+use Rattle.mx_ricart.specs.Rows.{sent_reply}
 
 -- a step that keeps the layer
-pub record PlainDone {A : Type 0} (n : ℕ) (d : Done Node A RicartMsg) : Type 0 where
-  pub state : PlainNode n d.state
-  pub letters : PlainLetters n d.letters
-
-pub plain_after : {A : Type 0} (w : World Node RicartMsg) (i : ℕ) (s : Node) (done : Done Node A RicartMsg) → PlainWorld w → IsNode w i s → PlainDone {A = A} (length w.nodes) done → PlainWorld (after w i done)
-plain_after w i s done plain at ok =
-    let e : length w.nodes ≡ length (slice_set w.nodes i done.state) = sym (length-set w.nodes i done.state) in record {
-      nodes = λ j t tat. subst (λ n. PlainNode n t) e (elim (get_after w.nodes i j s done.state t at tat) [
-        | inl p ↦ subst (λ x. PlainNode (length w.nodes) x) (sym p.1) ok.state
-        | inr p ↦ plain.nodes j t p.1
-      ]);
-      letters = λ a b m sent. subst (λ n. (a < n) × (b < n) × PlainLetter n m) e (elim (in_append (a, b, m) w.sent (sent_by i done.letters) sent) [
-        | inl old ↦ plain.letters a b m old
-        | inr new ↦ let r = in_sent_by i a b m done.letters new in let q = ok.letters b m r.1 in let lt = slice_get_within w.nodes i s at in (omega (arith, r.0), q.0, q.1)
-      ]);
-    }
+abbrev pub PlainDone : {A : Type 0} → ℕ → Done Node A RicartMsg → Type 0
+PlainDone n done = IsPlainDone PlainNode PlainLetter n done
 
 module _ (n : ℕ) (s : Node) (ok : PlainNode n s) where
-  nil : PlainLetters n []
-  nil b m none = absurd none
-
   as_was : {A : Type 0} (answer : A) → PlainDone {A = A} n (unchanged s answer)
-  as_was answer = record { state = ok; letters = nil }
+  as_was answer = record { state = ok; letters = nil PlainLetter n }
 
   -- a request to some nodes of the cluster
-  requests_plain : (stamp : Stamp) → PlainStamp n stamp → (skips : ℕ → Bool) → PlainLetters n (addressed (λ j. cond (skips j) None (Some (Request stamp))) s.count)
+  requests_plain : (stamp : Stamp) → PlainStamp n stamp → (skips : ℕ → Bool) → ArePlain PlainLetter n (addressed (λ j. cond (skips j) None (Some (Request stamp))) s.count)
   requests_plain stamp plain skips b m sent =
       let r = in_addressed (λ j. cond (skips j) None (Some (Request stamp))) s.count b m sent in
       let few = ok.count in
-      (omega (arith, r.0), subst (λ x. PlainLetter n x) (sym (sent_request (skips b) stamp m r.1)) plain)
+      (omega (arith, r.0), subst (λ x. PlainLetter n x) (sym (sent_unless (skips b) (Request stamp) m r.1).1) plain)
 
   asked_plain : s.highest < 18446744073709551615 → PlainDone {A = Result Stamp AskFault} n (asked s)
   asked_plain lt = record {
@@ -95,14 +77,11 @@ module _ (n : ℕ) (s : Node) (ok : PlainNode n s) where
       cond_case (λ d. PlainDone {A = Unit {0}} n d) (is_busy s.phase && is_before_of s.ours stamp) (unchanged (deferring (seeing s stamp.number) stamp) tt) (replied (seeing s stamp.number) stamp)
       (λ _. record {
         state = record { me = ok.me; count = ok.count; limit = ok.limit; phase = ok.phase; highest = seen; ours = ok.ours; waits = waits_plain stamp plain; top = ok.top; mine = ok.mine };
-        letters = nil;
+        letters = nil PlainLetter n;
       })
       (λ _. record {
         state = record { me = ok.me; count = ok.count; limit = ok.limit; phase = ok.phase; highest = seen; ours = ok.ours; waits = ok.waits; top = ok.top; mine = ok.mine };
-        letters = λ b m sent. elim sent [
-          | inl e ↦ subst (λ x. (x.0 < n) × PlainLetter n x.1) (sym e) (plain.1, (plain, ok.top))
-          | inr none ↦ absurd none
-        ];
+        letters = one PlainLetter n stamp.node (Reply stamp s.top) plain.1 (plain, ok.top);
       })
 
   -- a reply comes
@@ -112,7 +91,7 @@ module _ (n : ℕ) (s : Node) (ok : PlainNode n s) where
       cond_case (λ d. PlainDone {A = Unit {0}} n d) (is_waiting s.phase && (is_same_as stamp s.ours && not (has_reply s from))) (unchanged (counting s from top) tt) (unchanged s tt)
       (λ _. record {
         state = record { me = ok.me; count = ok.count; limit = ok.limit; phase = ok.phase; highest = ok.highest; ours = ok.ours; waits = ok.waits; top = (let k = ok.top in omega arith); mine = ok.mine };
-        letters = nil;
+        letters = nil PlainLetter n;
       })
       (λ _. as_was {A = Unit {0}} tt)
 
@@ -130,7 +109,7 @@ module _ (n : ℕ) (s : Node) (ok : PlainNode n s) where
   entered_plain lt =
       let small : Small (s.top + 1) = (let k = ok.limit in omega arith) in record {
         state = record { me = ok.me; count = ok.count; limit = ok.limit; phase = small; highest = ok.highest; ours = ok.ours; waits = ok.waits; top = small; mine = small };
-        letters = nil;
+        letters = nil PlainLetter n;
       }
 
   refused_plain : (fault : EnterFault) → PlainDone {A = Result ℕ EnterFault} n (quietly (refused s fault))
@@ -177,22 +156,17 @@ module _ (n : ℕ) (s : Node) (ok : PlainNode n s) where
 
 -- the world at rest
 
-pub start_plain : (count origin limit : ℕ) → IsCount count → origin < 2 ^ 64 → limit ≤ 1000000 → PlainWorld (record { nodes = each_below (λ i. start_of count i origin limit) count; sent = [] })
+pub start_plain : (count origin limit : ℕ) → IsCount count → origin < 2 ^ 64 → limit ≤ 1000000 → IsPlainWorld PlainNode PlainLetter (started ricart_core count origin limit)
 start_plain count origin limit valid small high =
-    let e : length (each_below (λ i. start_of count i origin limit) count) ≡ count = length_each_below (λ i. start_of count i origin limit) count in record {
-      nodes = λ i s at.
-          let r = get_each_below (λ k. start_of count k origin limit) count i s at in
-          let lt : i < count = r.0 in
-          subst (λ n. PlainNode n s) (sym e) (subst (λ x. PlainNode count x) (sym r.1) (record {
-            me = lt;
-            count = omega arith;
-            limit = omega arith;
-            phase = tt;
-            highest = small;
-            ours = (omega arith, lt);
-            waits = λ j d was. absurd (none_is_no_some d (sym (get_or_replicate 21 j None) ∙ was));
-            top = omega arith;
-            mine = omega arith;
-          }));
-      letters = λ a b m sent. absurd sent;
-    }
+    plain_start PlainNode PlainLetter (λ i. start_of count i origin limit) count
+    (λ i lt. record {
+      me = lt;
+      count = omega arith;
+      limit = omega arith;
+      phase = tt;
+      highest = small;
+      ours = (omega arith, lt);
+      waits = λ j d was. absurd (none_is_no_some d (sym (get_or_replicate 21 j None) ∙ was));
+      top = omega arith;
+      mine = omega arith;
+    })

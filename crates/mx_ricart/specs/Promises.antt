@@ -1,8 +1,8 @@
 -- The promises on phases, for every state.
-use Rattle.std.proofs.Common.{ℕ, ◌+◌, ◌≡◌, ◌≢◌, Bool, true, false, not, ◌&&◌, [], Result, Ok, Err, nat_eq, nat_lt, refl, ap}
+use Rattle.std.proofs.Common.{ℕ, ◌+◌, ◌≡◌, ◌≢◌, true, false, not, ◌&&◌, [], Result, Ok, Err, nat_eq, nat_lt, refl, ap}
 use Rattle.mx_stamps.specs.declared.stamp.Stamp.{Stamp}
 use Rattle.mx_stamps.specs.Stamp.{is_before_of, is_same_as}
-use Rattle.mx_stamps.proofs.Lists.{cond_case}
+use Rattle.mx_stamps.proofs.Choices.{cond_case}
 use Rattle.mx_letters.specs.declared.ricart.RicartMsg.{RicartMsg}
 use Rattle.mx_letters.specs.declared.ricart.RicartMsg.TheVariants.{Request, Reply}
 use Rattle.mx_nodelaws.specs.World.{Done, Quiet}
@@ -14,8 +14,10 @@ use Rattle.mx_nodelaws.specs.declared.faults.AskFault.TheVariants.{NotIdle, Stam
 use Rattle.mx_nodelaws.specs.declared.faults.EnterFault.{EnterFault}
 use Rattle.mx_nodelaws.specs.declared.faults.EnterFault.TheVariants.{NotWaiting, NotGranted, NumbersSpent}
 use Rattle.mx_nodelaws.specs.declared.faults.LeaveFault.{LeaveFault}
+use Rattle.mx_nodelaws.specs.Phases.{is_busy, is_waiting}
+use Rattle.mx_nodelaws.proofs.Phases.{waits_alone}
 use Rattle.mx_ricart.specs.Node.{Node}
-use Rattle.mx_ricart.specs.Step.{is_busy, is_waiting, is_other, has_reply, has_all_replies, unchanged, asked, ask_in, seeing, deferring, replied, take_request, counting, take_reply, deliver_of, entered, refused, enter_granted, enter_in, leave_in, ticked, tick_of, ricart_core}
+use Rattle.mx_ricart.specs.Step.{is_other, has_reply, has_all_replies, unchanged, asked, ask_in, seeing, deferring, replied, take_request, counting, take_reply, deliver_of, entered, refused, enter_granted, enter_in, leave_in, ticked, tick_of, ricart_core}
 
 -- ask
 
@@ -64,11 +66,6 @@ deliver_keeps from (Reply stamp top) s =
     (λ _. (refl, refl, refl))
 
 -- enter
-
-waits_alone : (p : Phase) (b : Bool) → (is_waiting p && b) ≡ true → p ≡ Waiting
-waits_alone Waiting b h = refl
-waits_alone Idle b h = let bad : ⊥ = cc in absurd bad
-waits_alone (Inside n) b h = let bad : ⊥ = cc in absurd bad
 
 enter_case : (P : Quiet Node (Result ℕ EnterFault) → Type 0) (s : Node) → (has_all_replies s ≡ true → P (entered s)) → (has_all_replies s ≡ true → P (refused s NumbersSpent)) → (has_all_replies s ≡ false → P (refused s NotGranted)) → P (enter_in Waiting s)
 enter_case P s a b c =

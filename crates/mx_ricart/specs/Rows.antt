@@ -1,37 +1,32 @@
 -- Each row of the step table keeps a world safe.
-use Rattle.std.proofs.Common.{ℕ, zero, suc, ◌<◌, ◌≤◌, ◌+◌, ◌≡◌, ◌≢◌, ◌⊎◌, inl, inr, Bool, true, false, ◌&&◌, ◌||◌, [], Option, Some, None, Result, max, length, nat_eq, refl, sym, ◌∙◌, ap, subst, arith, cond}
+use Rattle.std.proofs.Common.{ℕ, ◌<◌, ◌≤◌, ◌+◌, ◌≡◌, ◌≢◌, inl, inr, true, false, ◌&&◌, ◌||◌, [], Option, Some, None, Result, max, length, nat_eq, refl, sym, ◌∙◌, ap, subst, arith}
 use Rattle.std.proofs.lemmas.Option.{same_Some}
 use Rattle.std.proofs.lemmas.List.{length-set}
 use Rattle.mx_stamps.specs.Lists.{IsIn}
 use Rattle.mx_stamps.specs.declared.stamp.Stamp.{Stamp}
 use Rattle.mx_stamps.specs.Stamp.{Before, is_before_of}
-use Rattle.mx_stamps.proofs.Lists.{get_set_same, cond_case, and_false, get_or_after, get_or_replicate, none_is_no_some, in_left}
+use Rattle.mx_stamps.proofs.Lists.{get_set_same, get_or_after, get_or_replicate, none_is_no_some, in_left}
+use Rattle.mx_stamps.proofs.Choices.{and_false, cond_case}
+use Rattle.mx_stamps.proofs.Stamps.{not_before}
 use Rattle.mx_letters.specs.declared.ricart.RicartMsg.{RicartMsg}
 use Rattle.mx_letters.specs.declared.ricart.RicartMsg.TheVariants.{Request, Reply}
 use Rattle.mx_nodelaws.specs.World.{World, Done, quietly, IsNode, WasSent, after}
 use Rattle.mx_nodelaws.specs.declared.phase.Phase.TheVariants.{Idle, Waiting}
 use Rattle.mx_nodelaws.specs.declared.faults.EnterFault.{EnterFault}
 use Rattle.mx_nodelaws.specs.declared.faults.LeaveFault.{LeaveFault}
+use Rattle.mx_nodelaws.proofs.Frame.{is_new, reached_max}
 use Rattle.mx_nodelaws.proofs.Worlds.{in_addressed, after_nothing}
+use Rattle.mx_nodelaws.specs.Phases.{is_busy}
+use Rattle.mx_nodelaws.proofs.Phases.{waiting_not_inside, idle_not_busy}
+use Rattle.mx_nodelaws.proofs.Sent.{sent_unless}
 use Rattle.mx_ricart.specs.Node.{Node}
-use Rattle.mx_ricart.specs.Step.{is_busy, has_reply, deferred_at, HasAllReplies, unchanged, asking, request_others, asked, seeing, later_of, deferring, replied, counting, entering, entered, leaving, reply_to, reply_deferred, left, request_missing, ticked}
-use Rattle.mx_ricart.specs.Good.{IsBusy, HasSeen, IsReached, IsNodeOk, IsRequestOk, IsReplyOk, IsLetterOk, IsSafe}
-use Rattle.mx_ricart.specs.Tests.{idle_not_busy, waiting_not_inside, not_before}
+use Rattle.mx_ricart.specs.Step.{has_reply, deferred_at, HasAllReplies, unchanged, asking, request_others, asked, seeing, later_of, deferring, replied, counting, entering, entered, leaving, reply_to, reply_deferred, left, request_missing, ticked}
+use Rattle.mx_ricart.specs.Good.{IsBusy, HasSeen, IsNodeOk, IsRequestOk, IsReplyOk, IsLetterOk, IsSafe}
 use Rattle.mx_ricart.specs.Frame.{Moves, good_after, seen_after, reached_after, other_after}
-
--- a letter that some nodes get, the same for all
-pub sent_request : (c : Bool) (stamp : Stamp) (m : RicartMsg) → cond c None (Some (Request stamp)) ≡ Some m → m ≡ Request stamp
-sent_request true stamp m h = absurd (none_is_no_some m h)
-sent_request false stamp m h = sym (same_Some (Request stamp) m h)
 
 pub sent_reply : (o : Option Stamp) (top : ℕ) (m : RicartMsg) → reply_to o top ≡ Some m → (d : Stamp) × (o ≡ Some d) × (m ≡ Reply d top)
 sent_reply None top m h = absurd (none_is_no_some m h)
 sent_reply (Some d) top m h = (d, refl, sym (same_Some (Reply d top) m h))
-
-larger : (a b : ℕ) → (a ≤ b) ⊎ (b ≤ a)
-larger zero b = inl (omega arith)
-larger (suc a) zero = inr (omega arith)
-larger (suc a) (suc b) = elim (larger a b) [ inl l ↦ inl (omega arith) | inr r ↦ inr (omega arith) ]
 
 module _ (w : World Node RicartMsg) (i : ℕ) (s : Node) (good : IsSafe w) (at : IsNode w i s) where
   was_ok : IsNodeOk w i s
@@ -44,11 +39,8 @@ module _ (w : World Node RicartMsg) (i : ℕ) (s : Node) (good : IsSafe w) (at :
 
   -- the node itself after its step
 
-  self_is : {A : Type 0} (done : Done Node A RicartMsg) (t : Node) → IsNode (after w i done) i t → t ≡ done.state
-  self_is done t tat = same_Some t done.state (sym tat ∙ get_set_same w.nodes i s done.state at)
-
   seen_self : {A : Type 0} (done : Done Node A RicartMsg) (number : ℕ) → number ≤ done.state.highest → HasSeen (after w i done) i number
-  seen_self done number le t tat = let e : t.highest ≡ done.state.highest = ap (λ r. r.highest) (self_is done t tat) in omega arith
+  seen_self done number le t tat = let e : t.highest ≡ done.state.highest = ap (λ r. r.highest) (is_new w i s done at i t refl tat) in omega arith
 
   -- ask
 
@@ -71,7 +63,7 @@ module _ (w : World Node RicartMsg) (i : ℕ) (s : Node) (good : IsSafe w) (at :
         waits = λ j d was. let r = kept.waits j d was in (r.0, r.1, (let le : d.number ≤ s.highest = r.2 in omega arith), r.3);
       })
       (λ b m sent. let r = in_addressed (request_others (asking s)) s.count b m sent in
-      subst (λ x. IsLetterOk (after w i (asked s)) i b x) (sym (sent_request (nat_eq b s.me) (asking s).ours m r.1))
+      subst (λ x. IsLetterOk (after w i (asked s)) i b x) (sym (sent_unless (nat_eq b s.me) (Request (asking s).ours) m r.1).1)
       (record { node = was_ok.me; issued = seen_self (asked s) (s.highest + 1) (omega arith) }))
 
   -- a request comes
@@ -129,7 +121,7 @@ module _ (w : World Node RicartMsg) (i : ℕ) (s : Node) (good : IsSafe w) (at :
         seen = seen_self done stamp.number (omega arith);
         reached = kept.top_reached;
         stands = λ sa tb sat tat busy ours.
-            let e = self_is done sa sat in (
+            let e = is_new w i s done at i sa refl sat in (
               (let k : sa.mine ≡ s.mine = ap (λ x. x.mine) e in let l = was_ok.mine_top in omega arith),
               λ now.
                   let was_busy : is_busy s.phase ≡ true = sym (ap (λ x. is_busy x.phase) e) ∙ now in
@@ -157,12 +149,6 @@ module _ (w : World Node RicartMsg) (i : ℕ) (s : Node) (good : IsSafe w) (at :
 
   -- a reply counts
 
-  reached_max : (top : ℕ) → IsReached w s.top → IsReached w top → IsReached w (max s.top top)
-  reached_max top (j, t, tat, le) (k, u, uat, ge) = elim (larger s.top top) [
-    | inl a ↦ (k, u, uat, omega arith)
-    | inr b ↦ (j, t, tat, omega arith)
-  ]
-
   pub counted_good : (from : ℕ) (stamp : Stamp) (top : ℕ) → s.phase ≡ Waiting → stamp ≡ s.ours → WasSent w from i (Reply stamp top) → IsSafe (after w i (unchanged {A = Unit {0}} (counting s from top) tt))
   counted_good from stamp top waiting same sent =
       let new : Node = counting s from top in
@@ -177,7 +163,7 @@ module _ (w : World Node RicartMsg) (i : ℕ) (s : Node) (good : IsSafe w) (at :
         ours_node = was_ok.ours_node;
         ours_seen = was_ok.ours_seen;
         mine_top = (let l = was_ok.mine_top in omega arith);
-        top_reached = reached_after w i s done good at moves (max s.top top) (reached_max top was_ok.top_reached letter.reached);
+        top_reached = reached_after w i s done good at moves (max s.top top) (reached_max (λ x. x.mine) w s.top top was_ok.top_reached letter.reached);
         inside_has = λ n inside j jlt ne. absurd (waiting_not_inside s.phase n waiting inside);
         replies = λ busy j has. elim (get_or_after s.got from j true false true has) [
           | inl p ↦ (top, subst (λ x. IsIn (x, i, Reply s.ours top) (after w i done).sent) (sym p.0) (subst (λ x. IsIn (from, i, Reply x top) (after w i done).sent) same (in_left (from, i, Reply stamp top) w.sent [] sent)), omega arith)
@@ -247,7 +233,7 @@ module _ (w : World Node RicartMsg) (i : ℕ) (s : Node) (good : IsSafe w) (at :
         seen = seen_self done q.0.number p.2;
         reached = kept.top_reached;
         stands = λ sa tb sat tat busy ours.
-            let e = self_is done sa sat in (
+            let e = is_new w i s done at i sa refl sat in (
               (let k : sa.mine ≡ s.mine = ap (λ x. x.mine) e in let l = was_ok.mine_top in omega arith),
               λ now. absurd (idle_not_busy sa.phase (ap (λ x. x.phase) e) now),
             );
@@ -263,5 +249,5 @@ module _ (w : World Node RicartMsg) (i : ℕ) (s : Node) (good : IsSafe w) (at :
       good_after w i s (ticked s) good at stays
       (other_after w i s (ticked s) good at stays i s was_ok)
       (λ b m sent. let r = in_addressed (request_missing s) s.count b m sent in
-      subst (λ x. IsLetterOk (after w i (ticked s)) i b x) (sym (sent_request (nat_eq b s.me || has_reply s b) s.ours m r.1))
+      subst (λ x. IsLetterOk (after w i (ticked s)) i b x) (sym (sent_unless (nat_eq b s.me || has_reply s b) (Request s.ours) m r.1).1)
       (record { node = was_ok.ours_node busy; issued = seen_self (ticked s) s.ours.number (was_ok.ours_seen busy) }))

@@ -1,21 +1,25 @@
 -- In a safe world at most one node is inside, and who enters draws the next number.
-use Rattle.std.proofs.Common.{ℕ, ◌≤◌, ◌+◌, ◌≡◌, ◌≢◌, inl, inr, Bool, true, false, cond, Some, Result, Ok, Err, slice_get, nat_lt, refl, sym, ◌∙◌, ap, subst, arith}
-use Rattle.std.proofs.lemmas.Option.{same_Some, slice_get_within}
-use Rattle.mx_stamps.specs.Lists.{greatest}
-use Rattle.mx_stamps.proofs.Lists.{dec_eq, and_true, greatest_above, greatest_below}
+use Rattle.std.proofs.Common.{ℕ, ◌≤◌, ◌+◌, ◌≡◌, ◌≢◌, inl, inr, true, cond, Ok, Err, nat_lt, refl, sym, ◌∙◌, ap, subst, arith}
+use Rattle.std.proofs.lemmas.Option.{slice_get_within}
+use Rattle.mx_stamps.proofs.Lists.{dec_eq}
+use Rattle.mx_stamps.proofs.Choices.{and_true}
+use Rattle.mx_stamps.proofs.Stamps.{before_apart}
 use Rattle.mx_letters.specs.declared.ricart.RicartMsg.{RicartMsg}
 use Rattle.mx_letters.specs.declared.ricart.RicartMsg.TheVariants.{Reply}
-use Rattle.mx_nodelaws.specs.World.{World, Quiet, IsNode}
+use Rattle.mx_nodelaws.specs.World.{World, IsNode}
 use Rattle.mx_nodelaws.specs.Core.{IsInside}
 use Rattle.mx_nodelaws.specs.Laws.{greatest_mine}
 use Rattle.mx_nodelaws.specs.declared.phase.Phase.{Phase}
 use Rattle.mx_nodelaws.specs.declared.phase.Phase.TheVariants.{Idle, Waiting, Inside}
-use Rattle.mx_nodelaws.specs.declared.faults.EnterFault.{EnterFault}
 use Rattle.mx_nodelaws.specs.declared.faults.EnterFault.TheVariants.{NotGranted, NumbersSpent}
+use Rattle.mx_nodelaws.proofs.Frame.{was}
+use Rattle.mx_nodelaws.specs.Phases.{is_busy, is_waiting}
+use Rattle.mx_nodelaws.proofs.Phases.{waiting_not_inside, waiting_is}
+use Rattle.mx_nodelaws.proofs.Entries.{granted_answer, greatest_is}
 use Rattle.mx_ricart.specs.Node.{Node}
-use Rattle.mx_ricart.specs.Step.{is_busy, is_waiting, has_reply, HasAllReplies, has_all_replies, can_enter_of, entered, refused, enter_in, enter_of, ricart_core}
+use Rattle.mx_ricart.specs.Step.{has_reply, HasAllReplies, has_all_replies, can_enter_of, entered, refused, enter_in, enter_of, ricart_core}
 use Rattle.mx_ricart.specs.Good.{IsBusy, IsReplyOk, IsSafe}
-use Rattle.mx_ricart.specs.Tests.{waiting_not_inside, waiting_is, before_apart, all_replies}
+use Rattle.mx_ricart.specs.Tests.{all_replies}
 use Rattle.mx_ricart.specs.Rows.{has_of_all}
 
 -- two nodes of which each has the other's reply, for current stamps, are one
@@ -36,17 +40,13 @@ one_inside w i j s t good at bt (n, p) (m, q) = elim (dec_eq i j) [
 ]
 
 module _ (w : World Node RicartMsg) (i : ℕ) (s : Node) (good : IsSafe w) (at : IsNode w i s) (waiting : s.phase ≡ Waiting) (all : HasAllReplies s) where
-  -- a node at i is s
-  is_s : (j : ℕ) (t : Node) → j ≡ i → IsNode w j t → t ≡ s
-  is_s j t e bt = same_Some t s (sym bt ∙ subst (λ x. slice_get w.nodes x ≡ Some s) (sym e) at)
-
   -- another node's reply counted
   has_its_reply : (j : ℕ) (t : Node) → IsNode w j t → j ≢ i → has_reply s j ≡ true
   has_its_reply j t bt ne = has_of_all w i s good at all j (slice_get_within w.nodes j t bt) ne
 
   nobody_inside : (j : ℕ) (t : Node) → IsNode w j t → IsInside ricart_core t → ⊥
   nobody_inside j t bt (n, inside) = elim (dec_eq j i) [
-    | inl e ↦ waiting_not_inside t.phase n (ap (λ x. x.phase) (is_s j t e bt) ∙ waiting) inside
+    | inl e ↦ waiting_not_inside t.phase n (ap (λ x. x.phase) (was w i s at j t e bt) ∙ waiting) inside
     | inr ne ↦ each_replied w i j s t good at bt (ap is_busy waiting) (ap is_busy inside)
         (has_its_reply j t bt ne)
         ((good.nodes j t bt).inside_has n inside i (slice_get_within w.nodes i s at) (λ e. ne (sym e)))
@@ -55,7 +55,7 @@ module _ (w : World Node RicartMsg) (i : ℕ) (s : Node) (good : IsSafe w) (at :
   -- no node has entered a section above its `top`
   mine_below : (j : ℕ) (t : Node) → IsNode w j t → t.mine ≤ s.top
   mine_below j t bt = elim (dec_eq j i) [
-    | inl e ↦ let same : t.mine ≡ s.mine = ap (λ x. x.mine) (is_s j t e bt) in let l = (good.nodes i s at).mine_top in omega arith
+    | inl e ↦ let same : t.mine ≡ s.mine = ap (λ x. x.mine) (was w i s at j t e bt) in let l = (good.nodes i s at).mine_top in omega arith
     | inr ne ↦
         let r = (good.nodes i s at).replies (ap is_busy waiting) j (has_its_reply j t bt ne) in
         let a : IsReplyOk w j i s.ours r.0 = good.letters j i (Reply s.ours r.0) r.1 in
@@ -65,18 +65,7 @@ module _ (w : World Node RicartMsg) (i : ℕ) (s : Node) (good : IsSafe w) (at :
 
   -- its `top` is the greatest number of all
   top_greatest : greatest_mine ricart_core w ≡ s.top
-  top_greatest =
-      let below : greatest (λ x. x.mine) w.nodes ≤ s.top = greatest_below (λ x. x.mine) w.nodes s.top mine_below in
-      let q = (good.nodes i s at).top_reached in
-      let up : s.top ≤ q.1.mine = q.3 in
-      let g : q.1.mine ≤ greatest (λ x. x.mine) w.nodes = greatest_above (λ x. x.mine) w.nodes q.0 q.1 q.2 in
-      omega arith
-
--- what an enter with every permission answers
-granted_answer : (a b : Bool) (x y z : Quiet Node (Result ℕ EnterFault)) → a ≡ true → (cond a (cond b x y) z).answer ≡ cond b x.answer y.answer
-granted_answer true true x y z e = refl
-granted_answer true false x y z e = refl
-granted_answer false b x y z e = let bad : ⊥ = cc in absurd bad
+  top_greatest = greatest_is (λ x. x.mine) w s.top mine_below (good.nodes i s at).top_reached
 
 entered_answer : (p : Phase) (s : Node) → p ≡ Waiting → has_all_replies s ≡ true → (enter_in p s).answer ≡ cond (nat_lt s.top s.limit) (Ok (s.top + 1)) (Err NumbersSpent)
 entered_answer Waiting s e all = granted_answer (has_all_replies s) (nat_lt s.top s.limit) (entered s) (refused s NumbersSpent) (refused s NotGranted) all

@@ -14,6 +14,7 @@ use Rattle.mx_nodelaws.specs.declared.faults.EnterFault.{EnterFault}
 use Rattle.mx_nodelaws.specs.declared.faults.EnterFault.TheVariants.{NotWaiting, NotGranted, NumbersSpent}
 use Rattle.mx_nodelaws.specs.declared.faults.LeaveFault.{LeaveFault}
 use Rattle.mx_nodelaws.specs.declared.faults.LeaveFault.TheVariants.{NotInside}
+use Rattle.mx_nodelaws.specs.Phases.{is_busy, is_waiting}
 use Rattle.mx_ricart.specs.Node.{Node}
 
 -- how many nodes a cluster may have
@@ -34,17 +35,6 @@ start_of count me origin limit = record {
   top = 0;
   mine = 0;
 }
-
--- a node that waits or is inside has a current stamp
-abbrev pub is_busy : Phase → Bool
-is_busy Idle = false
-is_busy Waiting = true
-is_busy (Inside n) = true
-
-abbrev pub is_waiting : Phase → Bool
-is_waiting Idle = false
-is_waiting Waiting = true
-is_waiting (Inside n) = false
 
 -- j is another node of the cluster
 abbrev pub is_other : Node → ℕ → Bool

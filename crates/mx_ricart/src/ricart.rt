@@ -39,7 +39,8 @@ impl Model for Ricart {
 impl Ricart {
     ghost use Rattle.std.specs.Prelude.{◌≡◌, ◌↔◌, [], IsTrue};
     ghost use Rattle.mx_nodelaws.specs.World.{addressed};
-    ghost use Rattle.mx_ricart.specs.Step.{is_busy, is_other, HasAllReplies, has_all_replies, request_others, request_missing, reply_deferred, take_request, take_reply};
+    ghost use Rattle.mx_nodelaws.specs.Phases.{is_busy};
+    ghost use Rattle.mx_ricart.specs.Step.{is_other, HasAllReplies, has_all_replies, request_others, request_missing, reply_deferred, take_request, take_reply};
 
     /// Whether this is another node of the cluster.
     pub(crate) fn is_other(&self, node: NodeId) -> bool
