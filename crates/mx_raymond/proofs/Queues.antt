@@ -6,12 +6,9 @@ use Rattle.std.proofs.lemmas.Option.{same_Some}
 use Rattle.std.proofs.lemmas.Map.Keys.{IsDistinct-push, IsDistinct-head, IsDistinct-tail}
 use Rattle.std.proofs.lemmas.Map.Steps.{length-le_from_distinct_below}
 use Rattle.mx_stamps.proofs.Lists.{none_is_no_some}
+use Rattle.mx_stamps.proofs.Choices.{or_right, neither_true}
 use Rattle.mx_raymond.specs.Queue.{is_queued, head_of, rest_of, IsQueue}
-use Rattle.mx_raymond.specs.Tests.{or_second, queued_pushed}
-
-or_none : (a b : Bool) → a ≡ false → b ≡ false → (a || b) ≡ false
-or_none true b e f = let bad : ⊥ = cc in absurd bad
-or_none false b e f = f
+use Rattle.mx_raymond.specs.Tests.{queued_pushed}
 
 pub is_queue_pushed : (queue : List ℕ) (name : ℕ) → IsQueue queue → name < 21 → is_queued queue name ≡ false → IsQueue (queue ++ name ∷ [])
 is_queue_pushed queue name ok lt absent = record {
@@ -30,12 +27,12 @@ pub is_queue_rest : (queue : List ℕ) → IsQueue queue → IsQueue (rest_of qu
 is_queue_rest [] ok = ok
 is_queue_rest (first ∷ rest) ok = record {
   once = IsDistinct-tail nat_eq first rest ok.once;
-  nodes = λ node h. ok.nodes node (or_second (nat_eq node first) (is_queued rest node) h);
+  nodes = λ node h. ok.nodes node (or_right (nat_eq node first) (is_queued rest node) h);
 }
 
 absent_in : (name : ℕ) (queue : List ℕ) → AllByRecursion (λ y. nat_eq name y ≡ false) queue → is_queued queue name ≡ false
 absent_in name [] h = refl
-absent_in name (first ∷ rest) h = or_none (nat_eq name first) (is_queued rest name) h.0 (absent_in name rest h.1)
+absent_in name (first ∷ rest) h = neither_true (nat_eq name first) (is_queued rest name) h.0 (absent_in name rest h.1)
 
 -- the head is not in the queue behind it
 pub head_once : (queue : List ℕ) (node : ℕ) → IsQueue queue → head_of queue ≡ Some node → is_queued (rest_of queue) node ≡ false

@@ -5,6 +5,8 @@ use Rattle.mx_letters.specs.declared.raymond.RaymondMsg.TheVariants.{Request, Pr
 use Rattle.mx_nodelaws.specs.World.{World, IsNode, WasSent}
 use Rattle.mx_nodelaws.specs.declared.phase.Phase.{Phase}
 use Rattle.mx_nodelaws.specs.declared.phase.Phase.TheVariants.{Idle, Waiting, Inside}
+use Rattle.mx_nodelaws.specs.Plain.{Small, PlainPhase, IsPlainWorld}
+use Rattle.mx_nodelaws.specs.Raised.{IsReachedBy, HasComeTo}
 use Rattle.mx_raymond.specs.declared.unacked.Unacked.{Unacked}
 use Rattle.mx_raymond.specs.Queue.{is_queued}
 use Rattle.mx_raymond.specs.Node.{Node}
@@ -12,7 +14,7 @@ use Rattle.mx_raymond.specs.Step.{heard_from}
 
 -- some node has entered a section of this number or a later one
 abbrev pub IsReached : World Node RaymondMsg → ℕ → Type 0
-IsReached w n = (j : ℕ) × (t : Node) × (IsNode w j t) × (n ≤ t.mine)
+IsReached w n = IsReachedBy (λ (s : Node). s.mine) w n
 
 -- no node has entered a later section than this number's
 abbrev pub IsLast : World Node RaymondMsg → ℕ → Type 0
@@ -20,7 +22,7 @@ IsLast w n = (j : ℕ) (t : Node) → IsNode w j t → t.mine ≤ n
 
 -- node j has seen this hop
 abbrev pub HasSeen : World Node RaymondMsg → ℕ → ℕ → Type 0
-HasSeen w j hop = (t : Node) → IsNode w j t → hop ≤ t.hop
+HasSeen w j hop = HasComeTo (λ (s : Node). s.hop) w j hop
 
 -- what holds of each node, where `highest` is the highest hop
 pub record IsNodeOk (w : World Node RaymondMsg) (highest i : ℕ) (s : Node) : Type 0 where
@@ -83,24 +85,17 @@ pub record IsSafe (w : World Node RaymondMsg) : Type 0 where
   pub highest : ℕ
   pub at : IsSafeAt w highest
 
--- a u64 value
-abbrev pub Small : ℕ → Type 0
-Small x = x < 2 ^ 64
-
-abbrev pub PlainLetter : RaymondMsg → Type 0
-PlainLetter (Request number) = Small number
-PlainLetter (Privilege hop last) = Small hop × Small last
-PlainLetter (Got hop) = Small hop
-
-abbrev pub PlainPhase : Phase → Type 0
-PlainPhase Idle = Unit {0}
-PlainPhase Waiting = Unit {0}
-PlainPhase (Inside n) = Small n
+-- each number in a letter is a u64 value
+abbrev pub PlainLetter : ℕ → RaymondMsg → Type 0
+PlainLetter n (Request number) = Small number
+PlainLetter n (Privilege hop last) = Small hop × Small last
+PlainLetter n (Got hop) = Small hop
 
 -- of n nodes
 abbrev pub PlainUnacked : ℕ → Unacked → Type 0
 PlainUnacked n u = (u.to < n) × Small u.hop × Small u.last
 
+-- the same of a node, and each name is a node
 pub record PlainNode (n : ℕ) (s : Node) : Type 0 where
   pub me : s.me < n
   pub limit : Small s.limit
@@ -115,11 +110,6 @@ pub record PlainNode (n : ℕ) (s : Node) : Type 0 where
   pub top : Small s.top
   pub mine : Small s.mine
 
--- each number is a u64 value, and each name a node
-pub record PlainWorld (w : World Node RaymondMsg) : Type 0 where
-  pub nodes : (i : ℕ) (s : Node) → IsNode w i s → PlainNode (length w.nodes) s
-  pub letters : (a b : ℕ) (m : RaymondMsg) → WasSent w a b m → (a < length w.nodes) × (b < length w.nodes) × PlainLetter m
-
 pub record IsGood (w : World Node RaymondMsg) : Type 0 where
   pub safe : IsSafe w
-  pub plain : PlainWorld w
+  pub plain : IsPlainWorld PlainNode PlainLetter w

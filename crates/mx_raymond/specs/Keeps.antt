@@ -2,7 +2,8 @@
 use Rattle.std.proofs.Common.{ℕ, ◌+◌, ◌≡◌, inl, inr, Bool, true, false, cond, not, ◌&&◌, [], ◌∷◌, Option, Some, None, Result, Ok, Err, nat_eq, nat_lt, refl, sym, ◌∙◌, ap, subst}
 use Rattle.mx_stamps.specs.declared.stamp.Stamp.{Stamp}
 use Rattle.mx_stamps.specs.Lists.{IsIn}
-use Rattle.mx_stamps.proofs.Lists.{in_append, cond_case}
+use Rattle.mx_stamps.proofs.Lists.{in_append}
+use Rattle.mx_stamps.proofs.Choices.{lt_true, cond_case}
 use Rattle.mx_letters.specs.declared.raymond.RaymondMsg.{RaymondMsg}
 use Rattle.mx_letters.specs.declared.raymond.RaymondMsg.TheVariants.{Request, Privilege, Got}
 use Rattle.mx_nodelaws.specs.World.{World, Quiet, quietly, IsNode, WasSent, after}
@@ -15,13 +16,13 @@ use Rattle.mx_nodelaws.specs.declared.faults.EnterFault.TheVariants.{NotWaiting,
 use Rattle.mx_nodelaws.specs.declared.faults.LeaveFault.{LeaveFault}
 use Rattle.mx_nodelaws.specs.declared.faults.LeaveFault.TheVariants.{NotInside}
 use Rattle.mx_nodelaws.proofs.Worlds.{after_twice}
+use Rattle.mx_nodelaws.proofs.Frame.{itself}
 use Rattle.mx_raymond.specs.declared.unacked.Unacked.{Unacked}
 use Rattle.mx_raymond.specs.Queue.{head_of}
 use Rattle.mx_raymond.specs.Node.{Node}
 use Rattle.mx_raymond.specs.Step.{Step, is_holder, has_permission, unchanged, and_then, can_pass, passed, assign_to, assign, must_request, requested, make, serving, asking, asked, ask_in, again, take_holders_request, heard_from, queueing, take_others_request, take_request, holding, told, take_privilege, is_unacked, take_got, is_neighbour, deliver_of, entered, refused, enter_granted, enter_in, leaving, leave_in, request_again, tick_of}
 use Rattle.mx_raymond.specs.Good.{IsNodeOk, IsSafe}
-use Rattle.mx_raymond.specs.Tests.{lt_true, permission_holds, may_pass}
-use Rattle.mx_raymond.specs.Frame.{itself}
+use Rattle.mx_raymond.specs.Tests.{permission_holds, may_pass}
 use Rattle.mx_raymond.specs.Calm.{IsCalm, calm_safe, unchanged_safe}
 use Rattle.mx_raymond.specs.Moves.{holds, passed_kept, arrived_kept, entered_kept}
 

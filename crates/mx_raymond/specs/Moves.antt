@@ -4,26 +4,18 @@ use Rattle.std.proofs.Common.{ℕ, zero, suc, ◌<◌, ◌≤◌, ◌+◌, ◌�
 use Rattle.std.proofs.lemmas.Option.{same_Some, slice_get_within}
 use Rattle.mx_stamps.specs.Lists.{IsIn}
 use Rattle.mx_stamps.proofs.Lists.{dec_eq, in_right}
+use Rattle.mx_stamps.proofs.Choices.{dec_le}
 use Rattle.mx_letters.specs.declared.raymond.RaymondMsg.{RaymondMsg}
 use Rattle.mx_letters.specs.declared.raymond.RaymondMsg.TheVariants.{Request, Privilege, Got}
 use Rattle.mx_nodelaws.specs.World.{World, Done, IsNode, WasSent, after}
+use Rattle.mx_nodelaws.proofs.Phases.{not_inside}
+use Rattle.mx_nodelaws.proofs.Frame.{itself, is_new, is_old, here_after, sent_after, sent_before, reached_max, at_as}
 use Rattle.mx_raymond.specs.declared.unacked.Unacked.{Unacked}
 use Rattle.mx_raymond.specs.Node.{Node}
 use Rattle.mx_raymond.specs.Step.{passing, passed, holding, told, entering}
 use Rattle.mx_raymond.specs.Good.{IsReached, IsLast, HasSeen, IsNodeOk, IsPrivilegeOk, IsLetterOk, IsHeld, IsUnderWay, IsSafeAt}
-use Rattle.mx_raymond.specs.Tests.{not_inside, MayPass}
-use Rattle.mx_raymond.specs.Frame.{Rises, itself, is_new, is_old, here_after, sent_after, sent_before, seen_after, reached_after, last_after, safe_after}
-
-dec_le : (a b : ℕ) → (a ≤ b) ⊎ (b < a)
-dec_le zero b = inl (omega arith)
-dec_le (suc a) zero = inr (omega arith)
-dec_le (suc a) (suc b) = elim (dec_le a b) [ inl l ↦ inl (omega arith) | inr r ↦ inr (omega arith) ]
-
-pub reached_max : (w : World Node RaymondMsg) (a b : ℕ) → IsReached w a → IsReached w b → IsReached w (max a b)
-reached_max w a b p q = elim (dec_le a b) [
-  | inl le ↦ let e : b ≡ max a b = omega arith in subst (λ x. IsReached w x) e q
-  | inr lt ↦ let e : a ≡ max a b = omega arith in subst (λ x. IsReached w x) e p
-]
+use Rattle.mx_raymond.specs.Tests.{MayPass}
+use Rattle.mx_raymond.specs.Frame.{Rises, seen_after, reached_after, last_after, safe_after}
 
 module _ (w : World Node RaymondMsg) (i : ℕ) (s : Node) (at : IsNode w i s) (highest : ℕ) (safe : IsSafeAt w highest) where
   ok : IsNodeOk w highest i s
@@ -40,9 +32,6 @@ module _ (w : World Node RaymondMsg) (i : ℕ) (s : Node) (at : IsNode w i s) (h
     | inr u ↦ absurd (u.nobody i s at e)
   ]
 
-  at_node : (j : ℕ) → j ≡ i → IsNode w j s
-  at_node j e = subst (λ x. IsNode w x s) (sym e) at
-
   -- Assign
 
   module _ (next : ℕ) (may : MayPass s next) (held : IsHeld w highest) (mine : held.node ≡ i) where
@@ -53,10 +42,10 @@ module _ (w : World Node RaymondMsg) (i : ℕ) (s : Node) (at : IsNode w i s) (h
     rises = record { hop = omega arith; mine = omega arith }
 
     top_hop : s.hop ≡ highest
-    top_hop = held.hop s (at_node held.node mine)
+    top_hop = held.hop s (at_as w i s at held.node mine)
 
     knows : IsLast w s.top
-    knows = held.top s (at_node held.node mine)
+    knows = held.top s (at_as w i s at held.node mine)
 
     next_not_i : next ≢ i
     next_not_i e = may.other (e ∙ sym ok.me)
@@ -185,7 +174,7 @@ module _ (w : World Node RaymondMsg) (i : ℕ) (s : Node) (at : IsNode w i s) (h
           me = ok.me;
           hop = (let k = highest_hop in omega arith);
           mine_top = (let k = ok.mine_top in omega arith);
-          top_reached = reached_after w i s comes at comes_rises (max s.top last) (reached_max w s.top last ok.top_reached letter.reached);
+          top_reached = reached_after w i s comes at comes_rises (max s.top last) (reached_max (λ x. x.mine) w s.top last ok.top_reached letter.reached);
           inside_holds = λ n e. ok.me;
           unacked_sent = λ u e. let bad : ⊥ = cc in absurd bad;
         })
@@ -205,14 +194,14 @@ module _ (w : World Node RaymondMsg) (i : ℕ) (s : Node) (at : IsNode w i s) (h
     old_privilege a b hop last sent = elim (sent_before w i s enters at a b (Privilege hop last) sent) [ inl old ↦ old | inr now ↦ absurd now.1 ]
 
     is_last_now : IsLast (after w i enters) (s.top + 1)
-    is_last_now = last_after w i s enters at enters_rises (s.top + 1) (omega arith) (λ j t tat. let k : t.mine ≤ s.top = held.top s (at_node held.node mine) j t tat in omega arith)
+    is_last_now = last_after w i s enters at enters_rises (s.top + 1) (omega arith) (λ j t tat. let k : t.mine ≤ s.top = held.top s (at_as w i s at held.node mine) j t tat in omega arith)
 
     held_inside : IsHeld (after w i enters) highest
     held_inside = record {
       node = i;
       here = here_after w i s enters at i (slice_get_within w.nodes i s at);
       holder = λ t tat. ap (λ x. x.holder) (is_new w i s enters at i t refl tat) ∙ holder;
-      hop = λ t tat. ap (λ x. x.hop) (is_new w i s enters at i t refl tat) ∙ held.hop s (at_node held.node mine);
+      hop = λ t tat. ap (λ x. x.hop) (is_new w i s enters at i t refl tat) ∙ held.hop s (at_as w i s at held.node mine);
       top = λ t tat. subst (λ x. IsLast (after w i enters) x) (sym (ap (λ x. x.top) (is_new w i s enters at i t refl tat))) is_last_now;
       alone = λ j t tat e. elim (dec_eq j i) [
         | inl same ↦ same

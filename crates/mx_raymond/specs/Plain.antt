@@ -3,7 +3,8 @@ use Rattle.std.proofs.Common.{ℕ, ◌<◌, ◌≤◌, ◌+◌, ◌^◌, ◌≡�
 use Rattle.std.proofs.lemmas.Option.{same_Some, slice_get_within}
 use Rattle.mx_stamps.specs.declared.stamp.Stamp.{Stamp}
 use Rattle.mx_stamps.specs.Lists.{IsIn, each_below}
-use Rattle.mx_stamps.proofs.Lists.{get_after, in_append, length_set, cond_case, none_is_no_some, get_or_after, get_or_replicate, get_each_below, length_each_below}
+use Rattle.mx_stamps.proofs.Lists.{get_after, in_append, length_set, none_is_no_some, get_or_after, get_or_replicate, get_each_below, length_each_below}
+use Rattle.mx_stamps.proofs.Choices.{lt_true, cond_case}
 use Rattle.mx_letters.specs.declared.raymond.RaymondMsg.{RaymondMsg}
 use Rattle.mx_letters.specs.declared.raymond.RaymondMsg.TheVariants.{Request, Privilege, Got}
 use Rattle.mx_nodelaws.specs.World.{World, Quiet, quietly, IsNode, after, sent_by}
@@ -15,35 +16,24 @@ use Rattle.mx_nodelaws.specs.declared.faults.EnterFault.{EnterFault}
 use Rattle.mx_nodelaws.specs.declared.faults.EnterFault.TheVariants.{NotWaiting, NotGranted, NumbersSpent}
 use Rattle.mx_nodelaws.specs.declared.faults.LeaveFault.{LeaveFault}
 use Rattle.mx_nodelaws.specs.declared.faults.LeaveFault.TheVariants.{NotInside}
-use Rattle.mx_nodelaws.proofs.Worlds.{in_sent_by}
+use Rattle.mx_nodelaws.specs.Laws.{started}
+use Rattle.mx_nodelaws.proofs.Plain.{nil, one, both, plain_start}
+use Rattle.mx_nodelaws.specs.Plain.{Small, ArePlain, IsPlainDone, IsPlainWorld}
 use Rattle.mx_trees.specs.Tree.{Rooted, IsRooted}
 use Rattle.mx_raymond.specs.declared.unacked.Unacked.{Unacked}
 use Rattle.mx_raymond.specs.Queue.{head_of}
 use Rattle.mx_raymond.specs.Node.{Node}
-use Rattle.mx_raymond.specs.Step.{Step, start_of, is_holder, has_permission, unchanged, and_then, can_pass, passed, assign_to, assign, must_request, requested, make, serving, asking, asked, ask_in, again, take_holders_request, heard_from, queueing, take_others_request, take_request, holding, told, take_privilege, is_unacked, take_got, is_neighbour, deliver_of, entering, entered, refused, enter_granted, enter_in, leaving, leave_in, request_again, tick_of}
-use Rattle.mx_raymond.specs.Good.{Small, PlainLetter, PlainUnacked, PlainNode, PlainWorld}
-use Rattle.mx_raymond.specs.Tests.{lt_true, queued_pushed, queued_joined, queued_behind, queued_head, may_pass, may_request}
+use Rattle.mx_raymond.specs.Step.{Step, start_of, is_holder, has_permission, unchanged, and_then, can_pass, passed, assign_to, assign, must_request, requested, make, serving, asking, asked, ask_in, again, take_holders_request, heard_from, queueing, take_others_request, take_request, holding, told, take_privilege, is_unacked, take_got, is_neighbour, deliver_of, entering, entered, refused, enter_granted, enter_in, leaving, leave_in, request_again, tick_of, raymond_core}
+use Rattle.mx_raymond.specs.Good.{PlainLetter, PlainUnacked, PlainNode}
+use Rattle.mx_raymond.specs.Tests.{queued_pushed, queued_joined, queued_behind, queued_head, may_pass, may_request}
 
-abbrev pub PlainLetters : ℕ → List (ℕ × RaymondMsg) → Type 0
-PlainLetters n ls = (b : ℕ) (m : RaymondMsg) → IsIn {X = ℕ × RaymondMsg} (b, m) ls → (b < n) × PlainLetter m
-
-pub record PlainStep {A : Type 0} (n : ℕ) (step : Step A) : Type 0 where
-  pub state : PlainNode n step.state
-  pub letters : PlainLetters n step.letters
+-- a step that keeps the layer
+abbrev pub PlainStep : {A : Type 0} → ℕ → Step A → Type 0
+PlainStep n step = IsPlainDone PlainNode PlainLetter n step
 
 module _ (n : ℕ) where
-  nothing : PlainLetters n []
-  nothing b m none = absurd none
-
-  one : (b : ℕ) (m : RaymondMsg) → b < n → PlainLetter m → PlainLetters n ((b, m) ∷ [])
-  one b m lt ok c k (inl e) = subst (λ x. (x.0 < n) × PlainLetter x.1) (sym e) (lt, ok)
-  one b m lt ok c k (inr none) = absurd none
-
-  both : (xs ys : List (ℕ × RaymondMsg)) → PlainLetters n xs → PlainLetters n ys → PlainLetters n (xs ++ ys)
-  both xs ys p q b m sent = elim (in_append (b, m) xs ys sent) [ inl x ↦ p b m x | inr y ↦ q b m y ]
-
   unchanged_plain : {A : Type 0} (s : Node) (answer : A) → PlainNode n s → PlainStep n (unchanged s answer)
-  unchanged_plain s answer ok = record { state = ok; letters = nothing }
+  unchanged_plain s answer ok = record { state = ok; letters = nil PlainLetter n }
 
   -- Assign and Make
 
@@ -63,7 +53,7 @@ module _ (n : ℕ) where
       top = ok.top;
       mine = ok.mine;
     };
-    letters = one next (Privilege (s.hop + 1) s.top) lt (omega arith, ok.top);
+    letters = one PlainLetter n next (Privilege (s.hop + 1) s.top) lt (omega arith, ok.top);
   }
 
   assign_to_plain : (o : Option ℕ) (s : Node) → head_of s.queue ≡ o → PlainNode n s → PlainStep n (assign_to o s)
@@ -80,7 +70,7 @@ module _ (n : ℕ) where
   requested_plain : (s : Node) → s.sent < 18446744073709551615 → PlainNode n s → PlainStep n (requested s)
   requested_plain s low ok = record {
     state = record { me = ok.me; limit = ok.limit; phase = ok.phase; holder = ok.holder; queue = ok.queue; hop = ok.hop; unacked = ok.unacked; asks = ok.asks; sent = omega arith; heard = ok.heard; top = ok.top; mine = ok.mine };
-    letters = one s.holder (Request (s.sent + 1)) ok.holder (omega arith);
+    letters = one PlainLetter n s.holder (Request (s.sent + 1)) ok.holder (omega arith);
   }
 
   make_plain : (s : Node) → PlainNode n s → PlainStep n (make s)
@@ -93,14 +83,14 @@ module _ (n : ℕ) where
   then_plain : {A : Type 0} (first : Step A) (second : Node → Step (Unit {0})) → ((s : Node) → PlainNode n s → PlainStep n (second s)) → PlainStep n first → PlainStep n (and_then first second)
   then_plain first second keeps ok =
       let next = keeps first.state ok.state in
-      record { state = next.state; letters = both first.letters (second first.state).letters ok.letters next.letters }
+      record { state = next.state; letters = both PlainLetter n first.letters (second first.state).letters ok.letters next.letters }
 
   serving_plain : {A : Type 0} (step : Step A) → PlainStep n step → PlainStep n (serving step)
   serving_plain step ok = then_plain (and_then step assign) make make_plain (then_plain step assign assign_plain ok)
 
   module _ (s : Node) (ok : PlainNode n s) where
     as_it_was : {A : Type 0} (answer : A) → PlainStep n (unchanged s answer)
-    as_it_was answer = record { state = ok; letters = nothing }
+    as_it_was answer = record { state = ok; letters = nil PlainLetter n }
 
     -- ask
 
@@ -125,16 +115,16 @@ module _ (n : ℕ) where
         let P : Step (Result Stamp AskFault) → Type 0 = λ d. PlainStep n d in
         let first : Step (Result Stamp AskFault) = unchanged (asking s) (Ok (record { number = s.asks + 1; node = s.me })) in
         cond_case P (nat_lt s.asks 18446744073709551615) (asked s) (unchanged s (Err StampsSpent))
-        (λ e. serving_plain first (record { state = asking_plain (lt_true s.asks 18446744073709551615 e); letters = nothing }))
+        (λ e. serving_plain first (record { state = asking_plain (lt_true s.asks 18446744073709551615 e); letters = nil PlainLetter n }))
         (λ _. as_it_was {A = Result Stamp AskFault} (Err StampsSpent))
     ask_in_plain Waiting = as_it_was {A = Result Stamp AskFault} (Err NotIdle)
     ask_in_plain (Inside k) = as_it_was {A = Result Stamp AskFault} (Err NotIdle)
 
     -- a request
 
-    again_plain : (o : Option Unacked) → s.unacked ≡ o → PlainLetters n (again o)
-    again_plain None e = nothing
-    again_plain (Some u) e = let p = ok.unacked u e in one u.to (Privilege u.hop u.last) p.0 (p.1, p.2)
+    again_plain : (o : Option Unacked) → s.unacked ≡ o → ArePlain PlainLetter n (again o)
+    again_plain None e = nil PlainLetter n
+    again_plain (Some u) e = let p = ok.unacked u e in one PlainLetter n u.to (Privilege u.hop u.last) p.0 (p.1, p.2)
 
     heard_plain : (from number j : ℕ) → Small number → Small (heard_from (queueing s from number) j)
     heard_plain from number j small = elim (get_or_after s.heard from j number 0 (heard_from (queueing s from number) j) refl) [
@@ -165,7 +155,7 @@ module _ (n : ℕ) where
         cond_case P (nat_eq from s.holder) (take_holders_request s) (take_others_request from number s)
         (λ _. record { state = ok; letters = again_plain s.unacked refl })
         (λ _. cond_case P (nat_lt (heard_from s from) number) (serving first) (unchanged s tt)
-        (λ _. serving_plain first (record { state = queueing_plain from number lt small; letters = nothing }))
+        (λ _. serving_plain first (record { state = queueing_plain from number lt small; letters = nil PlainLetter n }))
         (λ _. as_it_was {A = Unit {0}} tt))
 
     -- a privilege
@@ -191,8 +181,8 @@ module _ (n : ℕ) where
         let P : Step (Unit {0}) → Type 0 = λ d. PlainStep n d in
         let first : Step (Unit {0}) = told (holding s hop last) from hop in
         cond_case P (nat_lt s.hop hop) (serving first) (told s from hop)
-        (λ _. serving_plain first (record { state = holding_plain hop last p q; letters = one from (Got hop) lt p }))
-        (λ _. record { state = ok; letters = one from (Got hop) lt p })
+        (λ _. serving_plain first (record { state = holding_plain hop last p q; letters = one PlainLetter n from (Got hop) lt p }))
+        (λ _. record { state = ok; letters = one PlainLetter n from (Got hop) lt p })
 
     -- word of an arrival
 
@@ -203,11 +193,11 @@ module _ (n : ℕ) where
         cond_case P (is_unacked s.unacked from hop) first (unchanged s tt)
         (λ _. record {
           state = record { me = ok.me; limit = ok.limit; phase = ok.phase; holder = ok.holder; queue = ok.queue; hop = ok.hop; unacked = λ u e. absurd (none_is_no_some u e); asks = ok.asks; sent = ok.sent; heard = ok.heard; top = ok.top; mine = ok.mine };
-          letters = nothing;
+          letters = nil PlainLetter n;
         })
         (λ _. as_it_was {A = Unit {0}} tt)
 
-    pub deliver_plain : (from : ℕ) (m : RaymondMsg) → from < n → PlainLetter m → PlainStep n (deliver_of from m s)
+    pub deliver_plain : (from : ℕ) (m : RaymondMsg) → from < n → PlainLetter n m → PlainStep n (deliver_of from m s)
     deliver_plain from (Request number) lt small =
         let P : Step (Unit {0}) → Type 0 = λ d. PlainStep n d in
         cond_case P (is_neighbour s from) (take_request from number s) (unchanged s tt)
@@ -248,7 +238,7 @@ module _ (n : ℕ) where
         let P : Quiet Node (Result ℕ EnterFault) → Type 0 = λ d. PlainStep n (quietly d) in
         cond_case P (has_permission s) (enter_granted s) (refused s NotGranted)
         (λ _. cond_case P (nat_lt s.top s.limit) (entered s) (refused s NumbersSpent)
-        (λ e. record { state = entering_plain (lt_true s.top s.limit e); letters = nothing })
+        (λ e. record { state = entering_plain (lt_true s.top s.limit e); letters = nil PlainLetter n })
         (λ _. refused_plain NumbersSpent))
         (λ _. refused_plain NotGranted)
     enter_in_plain (Inside k) = refused_plain NotWaiting
@@ -263,56 +253,35 @@ module _ (n : ℕ) where
     leave_in_plain Waiting = as_it_was {A = Result ℕ LeaveFault} (Err NotInside)
     leave_in_plain (Inside k) =
         let first : Step (Result ℕ LeaveFault) = unchanged (leaving s) (Ok k) in
-        serving_plain first (record { state = leaving_plain; letters = nothing })
+        serving_plain first (record { state = leaving_plain; letters = nil PlainLetter n })
 
     -- tick
 
-    request_again_plain : PlainLetters n (request_again s)
+    request_again_plain : ArePlain PlainLetter n (request_again s)
     request_again_plain =
-        let P : List (ℕ × RaymondMsg) → Type 0 = λ ls. PlainLetters n ls in
+        let P : List (ℕ × RaymondMsg) → Type 0 = λ ls. ArePlain PlainLetter n ls in
         cond_case P (s.asked && not (is_holder s)) ((s.holder, Request s.sent) ∷ []) []
-        (λ _. one s.holder (Request s.sent) ok.holder ok.sent) (λ _. nothing)
+        (λ _. one PlainLetter n s.holder (Request s.sent) ok.holder ok.sent) (λ _. nil PlainLetter n)
 
     pub tick_plain : PlainStep n (tick_of s)
-    tick_plain = record { state = ok; letters = both (again s.unacked) (request_again s) (again_plain s.unacked refl) request_again_plain }
+    tick_plain = record { state = ok; letters = both PlainLetter n (again s.unacked) (request_again s) (again_plain s.unacked refl) request_again_plain }
 
--- a world after a plain step
+-- the world at rest
 
-pub plain_after : {A : Type 0} (w : World Node RaymondMsg) (i : ℕ) (s : Node) (step : Step A) → PlainWorld w → IsNode w i s → PlainStep (length w.nodes) step → PlainWorld (after w i step)
-plain_after w i s step plain at ok =
-    let e : length w.nodes ≡ length (after w i step).nodes = sym (length_set w.nodes i step.state) in record {
-      nodes = λ j t tat. subst (λ n. PlainNode n t) e (elim (get_after w.nodes i j s step.state t at tat) [
-        | inl p ↦ subst (λ x. PlainNode (length w.nodes) x) (sym p.1) ok.state
-        | inr p ↦ plain.nodes j t p.1
-      ]);
-      letters = λ a b m sent. subst (λ n. (a < n) × (b < n) × PlainLetter m) e (elim (in_append (a, b, m) w.sent (sent_by i step.letters) sent) [
-        | inl old ↦ plain.letters a b m old
-        | inr new ↦
-            let r = in_sent_by i a b m step.letters new in
-            let q = ok.letters b m r.1 in
-            (subst (λ x. x < length w.nodes) (sym r.0) (slice_get_within w.nodes i s at), q.0, q.1)
-      ]);
-    }
-
-pub start_plain : (tree : Rooted) (origin limit : ℕ) → IsRooted tree → origin < 2 ^ 64 → limit ≤ 1000000 → PlainWorld (record { nodes = each_below (λ i. start_of tree i origin limit) tree.count; sent = [] })
+pub start_plain : (tree : Rooted) (origin limit : ℕ) → IsRooted tree → origin < 2 ^ 64 → limit ≤ 1000000 → IsPlainWorld PlainNode PlainLetter (started raymond_core tree origin limit)
 start_plain tree origin limit valid small high =
-    let e : length (each_below (λ i. start_of tree i origin limit) tree.count) ≡ tree.count = length_each_below (λ i. start_of tree i origin limit) tree.count in record {
-      nodes = λ i s at.
-          let r = get_each_below (λ k. start_of tree k origin limit) tree.count i s at in
-          let lt : i < tree.count = r.0 in
-          subst (λ n. PlainNode n s) (sym e) (subst (λ x. PlainNode tree.count x) (sym r.1) (record {
-            me = lt;
-            limit = omega arith;
-            phase = tt;
-            holder = valid.toward_node i lt;
-            queue = λ j h. let bad : ⊥ = cc in absurd bad;
-            hop = small;
-            unacked = λ u h. absurd (none_is_no_some u h);
-            asks = omega arith;
-            sent = omega arith;
-            heard = λ j. subst (λ x. Small x) (sym (get_or_replicate 21 j 0)) (omega arith);
-            top = omega arith;
-            mine = omega arith;
-          }));
-      letters = λ a b m sent. absurd sent;
-    }
+    plain_start PlainNode PlainLetter (λ i. start_of tree i origin limit) tree.count
+    (λ i lt. record {
+      me = lt;
+      limit = omega arith;
+      phase = tt;
+      holder = valid.toward_node i lt;
+      queue = λ j h. let bad : ⊥ = cc in absurd bad;
+      hop = small;
+      unacked = λ u h. absurd (none_is_no_some u h);
+      asks = omega arith;
+      sent = omega arith;
+      heard = λ j. subst (λ x. Small x) (sym (get_or_replicate 21 j 0)) (omega arith);
+      top = omega arith;
+      mine = omega arith;
+    })

@@ -1,7 +1,7 @@
 -- The promises on phases, on the last own number and on the limit.
 use Rattle.std.proofs.Common.{ℕ, ◌+◌, ◌≡◌, ◌≢◌, ◌↔◌, Bool, true, false, cond, ◌&&◌, [], Option, Some, None, Result, Ok, Err, nat_eq, nat_lt, refl, sym, ◌∙◌, ap, subst}
 use Rattle.mx_stamps.specs.declared.stamp.Stamp.{Stamp}
-use Rattle.mx_stamps.proofs.Lists.{cond_case, and_true}
+use Rattle.mx_stamps.proofs.Choices.{both_true, cond_case}
 use Rattle.mx_letters.specs.declared.raymond.RaymondMsg.{RaymondMsg}
 use Rattle.mx_letters.specs.declared.raymond.RaymondMsg.TheVariants.{Request, Privilege, Got}
 use Rattle.mx_nodelaws.specs.World.{Quiet}
@@ -13,10 +13,11 @@ use Rattle.mx_nodelaws.specs.declared.faults.AskFault.TheVariants.{NotIdle, Stam
 use Rattle.mx_nodelaws.specs.declared.faults.EnterFault.{EnterFault}
 use Rattle.mx_nodelaws.specs.declared.faults.EnterFault.TheVariants.{NotWaiting, NotGranted, NumbersSpent}
 use Rattle.mx_nodelaws.specs.declared.faults.LeaveFault.{LeaveFault}
+use Rattle.mx_nodelaws.specs.Phases.{is_waiting}
+use Rattle.mx_nodelaws.proofs.Phases.{is_waiting_is, waits_alone}
 use Rattle.mx_raymond.specs.Queue.{head_of}
 use Rattle.mx_raymond.specs.Node.{Node}
-use Rattle.mx_raymond.specs.Step.{Step, is_waiting, has_permission, unchanged, can_pass, passed, assign_to, assign, must_request, requested, make, serving, asking, asked, ask_in, take_holders_request, heard_from, queueing, take_others_request, take_request, holding, told, take_privilege, is_unacked, take_got, is_neighbour, deliver_of, can_enter_of, entered, refused, enter_granted, enter_in, leaving, leave_in, raymond_core}
-use Rattle.mx_raymond.specs.Tests.{waiting_is}
+use Rattle.mx_raymond.specs.Step.{Step, has_permission, unchanged, can_pass, passed, assign_to, assign, must_request, requested, make, serving, asking, asked, ask_in, take_holders_request, heard_from, queueing, take_others_request, take_request, holding, told, take_privilege, is_unacked, take_got, is_neighbour, deliver_of, can_enter_of, entered, refused, enter_granted, enter_in, leaving, leave_in, raymond_core}
 
 -- the two states agree in what the promises speak of
 pub record IsSteady (s new : Node) : Type 0 where
@@ -124,15 +125,6 @@ deliver_steady from (Got hop) s =
 
 -- enter
 
-can_enter_waiting : (p : Phase) (b : Bool) → (is_waiting p && b) ≡ true → p ≡ Waiting
-can_enter_waiting p b h = waiting_is p (and_true (is_waiting p) b h).0
-
-both : (a b : Bool) → a ≡ true → b ≡ true → (a && b) ≡ true
-both a b e f = subst (λ x. (x && b) ≡ true) (sym e) f
-
-waits : (p : Phase) → p ≡ Waiting → is_waiting p ≡ true
-waits p e = ap is_waiting e
-
 -- a step of enter that answers a number has entered the section of this number
 pub record Enters (s : Node) (n : ℕ) (d : Quiet Node (Result ℕ EnterFault)) : Type 0 where
   pub can : has_permission s ≡ true
@@ -148,7 +140,7 @@ enter_ok Waiting s n e h =
     (λ _ k. let f : s.top + 1 ≡ n = cc in record { can = has; phase = ap Inside f; mine = f })
     (λ _ k. let bad : ⊥ = cc in absurd bad))
     (λ _ k. let bad : ⊥ = cc in absurd bad) h in
-    (both (is_waiting s.phase) (has_permission s) (waits s.phase e) r.can, r.phase, r.mine)
+    (both_true (is_waiting s.phase) (has_permission s) (is_waiting_is s.phase e) r.can, r.phase, r.mine)
 enter_ok (Inside m) s n e h = let bad : ⊥ = cc in absurd bad
 
 enter_err : (p : Phase) (s : Node) (f : EnterFault) → (enter_in p s).answer ≡ Err f → (enter_in p s).state ≡ s
@@ -229,7 +221,7 @@ raymond_phases = record {
   deliver_phase = λ from m s. (deliver_steady from m s).phase;
   deliver_mine = λ from m s. (deliver_steady from m s).mine;
   deliver_limit = λ from m s. (deliver_steady from m s).limit;
-  can_enter_waiting = λ s h. can_enter_waiting s.phase (has_permission s) h;
+  can_enter_waiting = λ s h. waits_alone s.phase (has_permission s) h;
   enter_ok = λ s n h. enter_ok s.phase s n refl h;
   enter_err = λ s f h. enter_err s.phase s f h;
   enter_not_waiting = λ s. enter_not_waiting s.phase s;

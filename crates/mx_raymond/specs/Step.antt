@@ -13,6 +13,7 @@ use Rattle.mx_nodelaws.specs.declared.faults.EnterFault.{EnterFault}
 use Rattle.mx_nodelaws.specs.declared.faults.EnterFault.TheVariants.{NotWaiting, NotGranted, NumbersSpent}
 use Rattle.mx_nodelaws.specs.declared.faults.LeaveFault.{LeaveFault}
 use Rattle.mx_nodelaws.specs.declared.faults.LeaveFault.TheVariants.{NotInside}
+use Rattle.mx_nodelaws.specs.Phases.{is_waiting, is_inside}
 use Rattle.mx_trees.specs.Tree.{Rooted, toward_of, are_neighbours}
 use Rattle.mx_raymond.specs.declared.unacked.Unacked.{Unacked}
 use Rattle.mx_raymond.specs.Queue.{is_empty, head_of, rest_of, joined}
@@ -39,16 +40,6 @@ start_of tree me origin limit = record {
   top = 0;
   mine = 0;
 }
-
-abbrev pub is_waiting : Phase → Bool
-is_waiting Idle = false
-is_waiting Waiting = true
-is_waiting (Inside n) = false
-
-abbrev pub is_inside : Phase → Bool
-is_inside Idle = false
-is_inside Waiting = false
-is_inside (Inside n) = true
 
 -- it has the privilege
 abbrev pub is_holder : Node → Bool

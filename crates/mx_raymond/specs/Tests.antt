@@ -1,58 +1,26 @@
 -- What the tests of the step table mean.
 use Rattle.std.proofs.Common.{ℕ, ◌<◌, ◌≡◌, ◌≢◌, ◌⊎◌, inl, inr, Bool, true, false, not, ◌&&◌, ◌||◌, Some, List, [], ◌∷◌, ◌++◌, nat_eq, nat_lt, refl, sym, ◌∙◌, ap, subst, arith}
 use Rattle.std.proofs.lemmas.Bool.Decides.{nat_tests}
-use Rattle.mx_stamps.proofs.Lists.{and_true, not_true, none_is_no_some, cond_case}
+use Rattle.mx_stamps.proofs.Lists.{none_is_no_some}
+use Rattle.mx_stamps.proofs.Choices.{lt_true, eq_true, eq_false, eq_is, not_true, and_true, or_left, or_right, or_cases, cond_case}
 use Rattle.mx_nodelaws.specs.declared.phase.Phase.{Phase}
 use Rattle.mx_nodelaws.specs.declared.phase.Phase.TheVariants.{Idle, Waiting, Inside}
+use Rattle.mx_nodelaws.specs.Phases.{is_inside}
 use Rattle.mx_raymond.specs.Queue.{is_queued, is_empty, head_of, rest_of, joined}
 use Rattle.mx_raymond.specs.Node.{Node}
-use Rattle.mx_raymond.specs.Step.{is_waiting, is_inside, is_holder, is_named, has_permission, can_pass, must_request}
-
-pub lt_true : (a b : ℕ) → nat_lt a b ≡ true → a < b
-lt_true a b h = grind (arith, nat_tests)
-
-pub eq_true : (a b : ℕ) → nat_eq a b ≡ true → a ≡ b
-eq_true a b h = grind (arith, nat_tests)
-
-pub eq_false : (a b : ℕ) → nat_eq a b ≡ false → a ≢ b
-eq_false a b h = grind (arith, nat_tests)
-
--- phases
-
-pub waiting_is : (p : Phase) → is_waiting p ≡ true → p ≡ Waiting
-waiting_is Idle h = let bad : ⊥ = cc in absurd bad
-waiting_is Waiting h = refl
-waiting_is (Inside n) h = let bad : ⊥ = cc in absurd bad
-
-pub not_inside : (p : Phase) (n : ℕ) → is_inside p ≡ false → p ≡ Inside n → ⊥
-not_inside p n h e = let k : false ≡ true = sym h ∙ ap is_inside e in cc
+use Rattle.mx_raymond.specs.Step.{is_holder, is_named, has_permission, can_pass, must_request}
 
 -- the queue
 
-or_case : (a b : Bool) → (a || b) ≡ true → (a ≡ true) ⊎ (b ≡ true)
-or_case true b e = inl refl
-or_case false b e = inr e
-
-or_first : (a b : Bool) → a ≡ true → (a || b) ≡ true
-or_first true b e = refl
-or_first false b e = let bad : ⊥ = cc in absurd bad
-
-pub or_second : (a b : Bool) → b ≡ true → (a || b) ≡ true
-or_second true b e = refl
-or_second false b e = e
-
-eq_self : (a : ℕ) → nat_eq a a ≡ true
-eq_self a = grind (arith, nat_tests)
-
 -- who is in the queue with one name more
 pub queued_pushed : (queue : List ℕ) (name node : ℕ) → is_queued (queue ++ name ∷ []) node ≡ true → (is_queued queue node ≡ true) ⊎ (node ≡ name)
-queued_pushed [] name node h = elim (or_case (nat_eq node name) false h) [
+queued_pushed [] name node h = elim (or_cases (nat_eq node name) false h) [
   | inl e ↦ inr (eq_true node name e)
   | inr bad ↦ inl bad
 ]
-queued_pushed (first ∷ rest) name node h = elim (or_case (nat_eq node first) (is_queued (rest ++ name ∷ []) node) h) [
-  | inl e ↦ inl (or_first (nat_eq node first) (is_queued rest node) e)
-  | inr r ↦ elim (queued_pushed rest name node r) [ inl old ↦ inl (or_second (nat_eq node first) (is_queued rest node) old) | inr e ↦ inr e ]
+queued_pushed (first ∷ rest) name node h = elim (or_cases (nat_eq node first) (is_queued (rest ++ name ∷ []) node) h) [
+  | inl e ↦ inl (or_left (nat_eq node first) (is_queued rest node) e)
+  | inr r ↦ elim (queued_pushed rest name node r) [ inl old ↦ inl (or_right (nat_eq node first) (is_queued rest node) old) | inr e ↦ inr e ]
 ]
 
 pub queued_joined : (queue : List ℕ) (name node : ℕ) → is_queued (joined queue name) node ≡ true → (is_queued queue node ≡ true) ⊎ (node ≡ name)
@@ -63,12 +31,12 @@ queued_joined queue name node =
 -- who is behind the head is in the queue
 pub queued_behind : (queue : List ℕ) (node : ℕ) → is_queued (rest_of queue) node ≡ true → is_queued queue node ≡ true
 queued_behind [] node h = h
-queued_behind (first ∷ rest) node h = or_second (nat_eq node first) (is_queued rest node) h
+queued_behind (first ∷ rest) node h = or_right (nat_eq node first) (is_queued rest node) h
 
 -- the head is in the queue
 pub queued_head : (queue : List ℕ) (node : ℕ) → head_of queue ≡ Some node → is_queued queue node ≡ true
 queued_head [] node h = absurd (none_is_no_some node h)
-queued_head (first ∷ rest) node h = or_first (nat_eq node first) (is_queued rest node) (let e : first ≡ node = cc in subst (λ x. nat_eq node x ≡ true) (sym e) (eq_self node))
+queued_head (first ∷ rest) node h = or_left (nat_eq node first) (is_queued rest node) (let e : first ≡ node = cc in subst (λ x. nat_eq node x ≡ true) (sym e) (eq_is node node refl))
 
 -- the permission and the right to pass the privilege on
 

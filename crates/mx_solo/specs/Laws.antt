@@ -4,7 +4,8 @@ use Rattle.std.proofs.lemmas.Bool.Decides.{nat_tests}
 use Rattle.std.proofs.lemmas.Option.{same_Some, slice_get_within}
 use Rattle.mx_stamps.specs.declared.stamp.Stamp.{Stamp}
 use Rattle.mx_stamps.specs.Lists.{IsIn, greatest}
-use Rattle.mx_stamps.proofs.Lists.{append_nil, cond_case, get_after, get_each_below, length_each_below, length_set, none_is_no_some}
+use Rattle.mx_stamps.proofs.Lists.{append_nil, get_after, get_each_below, length_each_below, length_set, none_is_no_some}
+use Rattle.mx_stamps.proofs.Choices.{lt_true, cond_case}
 use Rattle.mx_nodelaws.specs.World.{World, Quiet, quietly, IsNode, after}
 use Rattle.mx_nodelaws.specs.Core.{KeepsPhases}
 use Rattle.mx_nodelaws.specs.Laws.{KeepsGood}
@@ -15,8 +16,10 @@ use Rattle.mx_nodelaws.specs.declared.faults.AskFault.TheVariants.{NotIdle}
 use Rattle.mx_nodelaws.specs.declared.faults.EnterFault.{EnterFault}
 use Rattle.mx_nodelaws.specs.declared.faults.EnterFault.TheVariants.{NotWaiting, NotGranted, NumbersSpent}
 use Rattle.mx_nodelaws.specs.declared.faults.LeaveFault.{LeaveFault}
+use Rattle.mx_nodelaws.specs.Phases.{is_waiting}
+use Rattle.mx_nodelaws.proofs.Phases.{waiting_not_inside, waiting_is}
 use Rattle.mx_solo.specs.Node.{Node}
-use Rattle.mx_solo.specs.Step.{start_of, ask_in, is_waiting, entering, enter_in, leave_in, solo_core}
+use Rattle.mx_solo.specs.Step.{start_of, ask_in, entering, enter_in, leave_in, solo_core}
 use Rattle.mx_solo.specs.Good.{IsOne, IsGood}
 
 -- promises
@@ -40,11 +43,6 @@ ask_mine : (p : Phase) (s : Node) → ((ask_in p s).state.mine ≡ s.mine) × ((
 ask_mine Idle s = (refl, refl)
 ask_mine Waiting s = (refl, refl)
 ask_mine (Inside n) s = (refl, refl)
-
-waiting_is : (p : Phase) → is_waiting p ≡ true → p ≡ Waiting
-waiting_is Idle h = let bad : ⊥ = cc in absurd bad
-waiting_is Waiting h = refl
-waiting_is (Inside n) h = let bad : ⊥ = cc in absurd bad
 
 -- the two ways in which a waiting node's enter ends
 abbrev accepted : Node → Quiet Node (Result ℕ EnterFault)
@@ -144,9 +142,6 @@ solo_phases count = record {
 
 -- laws
 
-lt_true : (a b : ℕ) → nat_lt a b ≡ true → a < b
-lt_true a b h = grind (arith, nat_tests)
-
 -- a step that sends nothing and keeps the numbers small
 quiet_good : {A : Type 0} (w : World Node ℕ) (i : ℕ) (s : Node) (new : Node) (answer : A) → IsGood w → IsNode w i s → new.me ≡ s.me → (new.mine < 2 ^ 64) × (new.limit < 2 ^ 64) → IsGood (after w i (record { state = new; answer = answer; letters = [] }))
 quiet_good w i s new answer good at me small = record {
@@ -179,9 +174,6 @@ leave_good (Inside n) w i s good at = quiet_good w i s (record s { phase = Idle 
 -- the node of a good world is node 0
 zeroth : (w : World Node ℕ) (i : ℕ) (s : Node) → IsGood w → IsNode w i s → i ≡ 0
 zeroth w i s good at = let lt = slice_get_within w.nodes i s at in let e = good.alone in omega arith
-
-inside_apart : (p : Phase) (n : ℕ) → p ≡ Waiting → p ≡ Inside n → ⊥
-inside_apart p n e h = cc
 
 -- the greatest number of one node is its own
 only_mine : (xs : List Node) (s : Node) → length xs ≡ 1 → slice_get xs 0 ≡ Some s → greatest (λ x. x.mine) xs ≡ s.mine
@@ -218,7 +210,7 @@ solo_laws = record {
       let top = only_mine w.nodes s good.alone (subst (λ k. slice_get w.nodes k ≡ Some s) i0 at) in (
         λ j t tat inside.
             let same = same_Some s t (sym at ∙ subst (λ k. slice_get w.nodes k ≡ Some t) (zeroth w j t good tat ∙ sym i0) tat) in
-            inside_apart s.phase inside.0 waits (ap (λ x. x.phase) same ∙ inside.1),
+            waiting_not_inside s.phase inside.0 waits (ap (λ x. x.phase) same ∙ inside.1),
         subst (λ m. (enter_in s.phase s).answer ≡ cond (nat_lt m s.limit) (Ok (m + 1)) (Err NumbersSpent)) (sym top) (enter_answer s.phase s waits),
       );
 }

@@ -11,6 +11,7 @@ use Rattle.mx_nodelaws.specs.declared.faults.EnterFault.{EnterFault}
 use Rattle.mx_nodelaws.specs.declared.faults.EnterFault.TheVariants.{NotWaiting, NumbersSpent}
 use Rattle.mx_nodelaws.specs.declared.faults.LeaveFault.{LeaveFault}
 use Rattle.mx_nodelaws.specs.declared.faults.LeaveFault.TheVariants.{NotInside}
+use Rattle.mx_nodelaws.specs.Phases.{is_waiting}
 use Rattle.mx_solo.specs.declared.solo.One.{One}
 use Rattle.mx_solo.specs.Node.{Node}
 
@@ -25,11 +26,6 @@ abbrev pub ask_in : Phase → Node → Done Node (Result Stamp AskFault) ℕ
 ask_in Idle s = record { state = record s { phase = Waiting }; answer = Ok (record { number = s.mine; node = s.me }); letters = [] }
 ask_in Waiting s = unchanged s (Err NotIdle)
 ask_in (Inside n) s = unchanged s (Err NotIdle)
-
-abbrev pub is_waiting : Phase → Bool
-is_waiting Idle = false
-is_waiting Waiting = true
-is_waiting (Inside n) = false
 
 abbrev pub entering : Node → Node
 entering s = record s { phase = Inside (s.mine + 1); mine = s.mine + 1 }

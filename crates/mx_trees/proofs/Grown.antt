@@ -3,13 +3,13 @@ use Rattle.std.proofs.Common.{ℕ, ◌+◌, ◌<◌, ◌≤◌, ◌≡◌, ◌�
 use Rattle.std.specs.List.{count_by}
 use Rattle.std.proofs.lemmas.List.{get_or-set_same, get_or-set_other, get_or-replicate, length-set}
 use Rattle.mx_stamps.specs.Lists.{IsIn}
-use Rattle.mx_stamps.proofs.Lists.{dec_eq, and_true, get_or_replicate}
+use Rattle.mx_stamps.proofs.Lists.{dec_eq, get_or_replicate}
+use Rattle.mx_stamps.proofs.Choices.{eq_true, eq_is, eq_not, not_both, both_true, and_true, left_false, right_false, or_left, or_right, or_cases, neither_true}
 use Rattle.mx_trees.specs.declared.growth.Growth.{Growth}
 use Rattle.mx_trees.specs.Paths.{IsPath}
 use Rattle.mx_trees.specs.Edges.{IsLinked}
 use Rattle.mx_trees.specs.Growth.{is_reached, next_of, is_step, is_branch, AreReached, IsGrown, IsCrossing, with_node}
 use Rattle.mx_trees.proofs.Counts.{count_rises, count_set, count_none}
-use Rattle.mx_trees.proofs.Booleans.{not_both, both_true, left_false, right_false, left_true, right_true, either_true, neither_true, same_number, is_same, is_other}
 
 -- a path from i to the root, by the next node
 Way : List (ℕ × ℕ) → ℕ → Growth → ℕ → ℕ → Type 0
@@ -100,32 +100,32 @@ module _ (edges : List (ℕ × ℕ)) (root : ℕ) (g : Growth) (near far : ℕ) 
   step_kept : (i j : ℕ) → is_step g i j ≡ true → is_step (with_node g near far) i j ≡ true
   step_kept i j t =
       let parts = and_true (is_reached g i) (nat_eq (next_of g i) j) t in
-      let same : next_of (with_node g near far) i ≡ j = next_kept i (apart i parts.0) ∙ same_number (next_of g i) j parts.1 in
-      both_true (is_reached (with_node g near far) i) (nat_eq (next_of (with_node g near far) i) j) (kept i parts.0) (is_same (next_of (with_node g near far) i) j same)
+      let same : next_of (with_node g near far) i ≡ j = next_kept i (apart i parts.0) ∙ eq_true (next_of g i) j parts.1 in
+      both_true (is_reached (with_node g near far) i) (nat_eq (next_of (with_node g near far) i) j) (kept i parts.0) (eq_is (next_of (with_node g near far) i) j same)
 
   branch_kept : (e : ℕ × ℕ) → is_branch g e ≡ true → is_branch (with_node g near far) e ≡ true
-  branch_kept e t = elim (either_true (is_step g e.0 e.1) (is_step g e.1 e.0) t) [
-    | inl a ↦ left_true (is_step (with_node g near far) e.0 e.1) (is_step (with_node g near far) e.1 e.0) (step_kept e.0 e.1 a)
-    | inr b ↦ right_true (is_step (with_node g near far) e.0 e.1) (is_step (with_node g near far) e.1 e.0) (step_kept e.1 e.0 b)
+  branch_kept e t = elim (or_cases (is_step g e.0 e.1) (is_step g e.1 e.0) t) [
+    | inl a ↦ or_left (is_step (with_node g near far) e.0 e.1) (is_step (with_node g near far) e.1 e.0) (step_kept e.0 e.1 a)
+    | inr b ↦ or_right (is_step (with_node g near far) e.0 e.1) (is_step (with_node g near far) e.1 e.0) (step_kept e.1 e.0 b)
   ]
 
   no_step : is_step g far near ≡ false
   no_step = left_false (is_reached g far) (nat_eq (next_of g far) near) c.outside
 
   no_step_back : is_step g near far ≡ false
-  no_step_back = right_false (is_reached g near) (nat_eq (next_of g near) far) (is_other (next_of g near) far (apart (next_of g near) (next_reached edges root g h near c.inside)))
+  no_step_back = right_false (is_reached g near) (nat_eq (next_of g near) far) (eq_not (next_of g near) far (apart (next_of g near) (next_reached edges root g h near c.inside)))
 
   new_step : is_step (with_node g near far) far near ≡ true
-  new_step = both_true (is_reached (with_node g near far) far) (nat_eq (next_of (with_node g near far) far) near) far_reached (is_same (next_of (with_node g near far) far) near far_next)
+  new_step = both_true (is_reached (with_node g near far) far) (nat_eq (next_of (with_node g near far) far) near) far_reached (eq_is (next_of (with_node g near far) far) near far_next)
 
   more_branches : count_by (λ e. is_branch g e) edges + 1 ≤ count_by (λ e. is_branch (with_node g near far) e) edges
   more_branches = elim c.linked [
     | inl n ↦ count_rises (λ e. is_branch g e) (λ e. is_branch (with_node g near far) e) branch_kept (far, near)
         (neither_true (is_step g far near) (is_step g near far) no_step no_step_back)
-        (left_true (is_step (with_node g near far) far near) (is_step (with_node g near far) near far) new_step) edges n
+        (or_left (is_step (with_node g near far) far near) (is_step (with_node g near far) near far) new_step) edges n
     | inr n ↦ count_rises (λ e. is_branch g e) (λ e. is_branch (with_node g near far) e) branch_kept (near, far)
         (neither_true (is_step g near far) (is_step g far near) no_step_back no_step)
-        (right_true (is_step (with_node g near far) near far) (is_step (with_node g near far) far near) new_step) edges n
+        (or_right (is_step (with_node g near far) near far) (is_step (with_node g near far) far near) new_step) edges n
   ]
 
   pub more_reached : count_by (λ r. r) (with_node g near far).reached ≡ count_by (λ r. r) g.reached + 1

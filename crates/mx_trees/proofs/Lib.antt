@@ -1,4 +1,3 @@
-pub mod Booleans
 pub mod Paths
 pub mod Counts
 pub mod Listed

@@ -3,8 +3,8 @@ use Rattle.std.proofs.Common.{ℕ, zero, suc, ◌+◌, ◌≡◌, ◌≢◌, ◌
 use Rattle.std.proofs.lemmas.List.{get_or-set_same, get_or-set_other, get_or-replicate, length-set}
 use Rattle.std.proofs.Math.Seq.{take-suc}
 use Rattle.mx_stamps.proofs.Lists.{dec_eq, get_or_replicate, in_left, in_right, in_append}
+use Rattle.mx_stamps.proofs.Choices.{not_both}
 use Rattle.mx_trees.specs.Edges.{IsLinked}
-use Rattle.mx_trees.proofs.Booleans.{not_both}
 
 -- whether place j of row i is marked
 abbrev pub is_marked : List (List Bool) → ℕ → ℕ → Bool

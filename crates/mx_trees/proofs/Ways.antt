@@ -3,14 +3,14 @@
 use Rattle.std.proofs.Common.{ℕ, ◌<◌, ◌≤◌, ◌≡◌, ◌≢◌, ◌↔◌, inl, inr, Bool, true, false, nat_eq, List, [], ◌∷◌, length, slice_index_or, sym, ◌∙◌, ap, subst, arith}
 use Rattle.std.specs.List.{count_by}
 use Rattle.mx_stamps.specs.Lists.{IsIn}
-use Rattle.mx_stamps.proofs.Lists.{dec_eq, and_true}
+use Rattle.mx_stamps.proofs.Lists.{dec_eq}
+use Rattle.mx_stamps.proofs.Choices.{eq_true, and_true, or_cases}
 use Rattle.mx_trees.specs.declared.growth.Growth.{Growth}
 use Rattle.mx_trees.specs.Paths.{IsPath, IsJoined}
 use Rattle.mx_trees.specs.Tree.{IsNear, IsRooted}
 use Rattle.mx_trees.specs.Edges.{IsLinked, IsEdge, IsTree}
 use Rattle.mx_trees.specs.Growth.{is_reached, next_of, is_step, is_branch, IsGrown, IsClosed}
 use Rattle.mx_trees.proofs.Counts.{count_first, count_whole}
-use Rattle.mx_trees.proofs.Booleans.{either_true, same_number}
 use Rattle.mx_trees.proofs.Listed.{each_in}
 use Rattle.mx_trees.proofs.Paths.{along, back_along, path_in, ByNext, second_is_next}
 use Rattle.mx_trees.proofs.Grown.{way_from}
@@ -67,18 +67,18 @@ module _ (n : ℕ) (edges : List (ℕ × ℕ)) (root : ℕ) (g : Growth) (tree :
   step_from : (i j : ℕ) → i ≢ j → is_step g i j ≡ true → (i ≢ root) × (next_of g i ≡ j)
   step_from i j ne t =
       let parts = and_true (is_reached g i) (nat_eq (next_of g i) j) t in
-      let same : next_of g i ≡ j = same_number (next_of g i) j parts.1 in
+      let same : next_of g i ≡ j = eq_true (next_of g i) j parts.1 in
       ((λ e. ne (e ∙ sym h.home ∙ ap (λ (k : ℕ). next_of g k) (sym e) ∙ same)), same)
 
   by_next : ByNext (IsLinked edges) (next_of g) root
   by_next i j l =
       let nodes = two_nodes i j l in
       elim l [
-        | inl m ↦ elim (either_true (is_step g i j) (is_step g j i) (all_branches (i, j) m)) [
+        | inl m ↦ elim (or_cases (is_step g i j) (is_step g j i) (all_branches (i, j) m)) [
           | inl t ↦ inl (step_from i j nodes.2 t)
           | inr t ↦ inr (step_from j i (λ q. nodes.2 (sym q)) t)
         ]
-        | inr m ↦ elim (either_true (is_step g j i) (is_step g i j) (all_branches (j, i) m)) [
+        | inr m ↦ elim (or_cases (is_step g j i) (is_step g i j) (all_branches (j, i) m)) [
           | inl t ↦ inr (step_from j i (λ q. nodes.2 (sym q)) t)
           | inr t ↦ inl (step_from i j nodes.2 t)
         ]

@@ -1,6 +1,6 @@
 use Rattle.std.proofs.Common.{sym, ◌∙◌, arith}
+use Rattle.mx_stamps.proofs.Choices.{not_both}
 use Rattle.mx_trees.specs.Growth.{is_reached}
-use Rattle.mx_trees.proofs.Booleans.{not_both}
 use Rattle.mx_trees.proofs.Ways.{reached_is_joined, joined_is_reached}
 use Rattle.mx_trees.proofs.edges.unjoined.Goals as goal
 
