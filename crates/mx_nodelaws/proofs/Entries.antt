@@ -1,8 +1,8 @@
--- What an accepted entry answers, and the number that it is to be.
-use Rattle.std.proofs.Common.{ℕ, suc, ◌≤◌, ◌+◌, ◌≡◌, Bool, true, false, cond, Ok, Err, refl, arith, if◌then◌else◌}
+-- The number that an accepted entry draws.
+use Rattle.std.proofs.Common.{ℕ, suc, ◌≤◌, ◌+◌, ◌≡◌, Bool, true, false, Ok, Err, refl, arith, if◌then◌else◌}
 use Rattle.mx_stamps.specs.Lists.{greatest}
 use Rattle.mx_stamps.proofs.Lists.{greatest_above, greatest_below}
-use Rattle.mx_nodelaws.specs.World.{World, Quiet, IsNode}
+use Rattle.mx_nodelaws.specs.World.{World, IsNode}
 use Rattle.mx_nodelaws.specs.Raised.{IsReachedBy}
 use Rattle.mx_nodelaws.specs.declared.faults.EnterFault.TheVariants.{NumbersSpent}
 
@@ -10,12 +10,6 @@ use Rattle.mx_nodelaws.specs.declared.faults.EnterFault.TheVariants.{NumbersSpen
 pub drawn : (b : Bool) (m n : ℕ) → (if b then Ok (m + 1) else Err NumbersSpent) ≡ Ok n → n ≡ suc m
 drawn true m n e = let k : m + 1 ≡ n = cc in omega (arith, k)
 drawn false m n e = let bad : ⊥ = cc in absurd bad
-
--- where every permission is there, the limit alone decides the answer
-pub granted_answer : {S A : Type 0} (granted low : Bool) (x y z : Quiet S A) → granted ≡ true → (cond granted (cond low x y) z).answer ≡ cond low x.answer y.answer
-granted_answer true true x y z e = refl
-granted_answer true false x y z e = refl
-granted_answer false low x y z e = let bad : ⊥ = cc in absurd bad
 
 -- a number that some node has reached, and none has gone above, is the greatest
 pub greatest_is : {S M : Type 0} (number : S → ℕ) (w : World S M) (top : ℕ) → ((j : ℕ) (t : S) → IsNode w j t → number t ≤ top) → IsReachedBy number w top → greatest number w.nodes ≡ top

@@ -6,7 +6,7 @@ use Rattle.std.specs.declared.alloc.Global.{Global}
 use Rattle.std.proofs.lemmas.List.{take_more, get_or-map}
 use Rattle.mx_stamps.specs.Lists.{IsIn}
 use Rattle.mx_stamps.proofs.Lists.{in_left, in_right, in_append, none_is_no_some}
-use Rattle.mx_quorums.proofs.RowLemmas.{bool_cases}
+use Rattle.mx_stamps.proofs.Choices.{bool_cases}
 use Rattle.mx_quorums.specs.Lists.{lists_of, list_of, IsListed, IsFirstStranger}
 use Rattle.mx_quorums.specs.Shapes.{IsShifted}
 

@@ -6,11 +6,6 @@ use Rattle.mx_quorums.specs.Rows.{IsMarked, IsMember, BothMark, MarksNodes}
 use Rattle.mx_quorums.specs.Rules.{IsLeast, AllOwn, AllMeet}
 use Rattle.mx_quorums.specs.Family.{IsMeeting}
 
--- a test passes or fails
-pub bool_cases : (b : Bool) → (b ≡ true) ⊎ (b ≡ false)
-bool_cases true = inl refl
-bool_cases false = inr refl
-
 -- a mark stands within the row
 pub marked_within : (row : List Bool) (j : ℕ) → IsMarked row j → j < length row
 marked_within [] j h = let bad : ⊥ = cc in absurd bad

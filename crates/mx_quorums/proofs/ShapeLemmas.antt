@@ -4,8 +4,8 @@ use Rattle.std.proofs.lemmas.Nat.{rows, mod-mul-add, div-mul-add}
 use Rattle.std.proofs.Math.Nat.{mod-eq_of_lt}
 use Rattle.std.proofs.lemmas.Bool.Decides.{nat_tests}
 use Rattle.mx_stamps.specs.Lists.{IsIn}
-use Rattle.mx_stamps.proofs.Lists.{and_true, or_false, dec_eq}
-use Rattle.mx_quorums.proofs.RowLemmas.{bool_cases}
+use Rattle.mx_stamps.proofs.Lists.{dec_eq}
+use Rattle.mx_stamps.proofs.Choices.{bool_cases, and_true, or_false}
 use Rattle.mx_quorums.specs.Family.{Family}
 use Rattle.mx_quorums.specs.Rules.{AllOwn, AllMeet}
 use Rattle.mx_quorums.specs.Shapes.{IsInLine, IsPlaneSize, difference_set, IsShifted}

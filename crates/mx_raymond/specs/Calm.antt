@@ -8,9 +8,9 @@ use Rattle.mx_nodelaws.specs.World.{World, Done, IsNode, WasSent, after}
 use Rattle.mx_nodelaws.specs.declared.phase.Phase.TheVariants.{Inside}
 use Rattle.mx_nodelaws.proofs.Worlds.{after_nothing}
 use Rattle.mx_nodelaws.proofs.Frame.{is_new, is_old, here_after, sent_after, sent_before}
+use Rattle.mx_nodelaws.specs.Calls.{unchanged}
 use Rattle.mx_raymond.specs.declared.unacked.Unacked.{Unacked}
 use Rattle.mx_raymond.specs.Node.{Node}
-use Rattle.mx_raymond.specs.Step.{unchanged}
 use Rattle.mx_raymond.specs.Good.{IsReached, IsLast, HasSeen, IsPrivilegeOk, IsLetterOk, IsHeld, IsUnderWay, IsSafeAt, IsSafe}
 use Rattle.mx_raymond.specs.Frame.{Rises, seen_after, reached_after, last_after, letter_after, safe_after}
 

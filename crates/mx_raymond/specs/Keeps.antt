@@ -17,10 +17,12 @@ use Rattle.mx_nodelaws.specs.declared.faults.LeaveFault.{LeaveFault}
 use Rattle.mx_nodelaws.specs.declared.faults.LeaveFault.TheVariants.{NotInside}
 use Rattle.mx_nodelaws.proofs.Worlds.{after_twice}
 use Rattle.mx_nodelaws.proofs.Frame.{itself}
+use Rattle.mx_nodelaws.specs.Calls.{unchanged, refused}
+use Rattle.mx_nodelaws.proofs.Calls.{ask_cases, enter_cases}
 use Rattle.mx_raymond.specs.declared.unacked.Unacked.{Unacked}
 use Rattle.mx_raymond.specs.Queue.{head_of}
 use Rattle.mx_raymond.specs.Node.{Node}
-use Rattle.mx_raymond.specs.Step.{Step, is_holder, has_permission, unchanged, and_then, can_pass, passed, assign_to, assign, must_request, requested, make, serving, asking, asked, ask_in, again, take_holders_request, heard_from, queueing, take_others_request, take_request, holding, told, take_privilege, is_unacked, take_got, is_neighbour, deliver_of, entered, refused, enter_granted, enter_in, leaving, leave_in, request_again, tick_of}
+use Rattle.mx_raymond.specs.Step.{Step, is_holder, has_permission, and_then, can_pass, passed, assign_to, assign, must_request, requested, make, serving, asking, asked, ask_in, again, take_holders_request, heard_from, queueing, take_others_request, take_request, holding, told, take_privilege, is_unacked, take_got, is_neighbour, deliver_of, entered, enter_in, leaving, leave_in, request_again, tick_of, entering}
 use Rattle.mx_raymond.specs.Good.{IsNodeOk, IsSafe}
 use Rattle.mx_raymond.specs.Tests.{permission_holds, may_pass}
 use Rattle.mx_raymond.specs.Calm.{IsCalm, calm_safe, unchanged_safe}
@@ -107,12 +109,11 @@ module _ (w : World Node RaymondMsg) (i : ℕ) (s : Node) (at : IsNode w i s) (s
 
   pub ask_in_safe : (p : Phase) → s.phase ≡ p → IsSafe (after w i (ask_in p s))
   ask_in_safe Idle e =
-      let P : Step (Result Stamp AskFault) → Type 0 = λ d. IsSafe (after w i d) in
       let first : Step (Result Stamp AskFault) = unchanged (asking s) (Ok (record { number = s.asks + 1; node = s.me })) in
-      cond_case P (nat_lt s.asks 18446744073709551615) (asked s) (unchanged s (Err StampsSpent))
+      ask_cases (λ (x : Node). x.asks) asked (λ d. IsSafe (after w i d)) s
       (λ _. serving_safe w i s at first (calm_safe w i s at first safe
       (quiet_calm w i s at safe (asking s) first.answer refl refl refl refl refl (λ n f. let bad : ⊥ = cc in absurd bad) (λ u f. f))))
-      (λ _. unchanged_safe w i s at {A = Result Stamp AskFault} (Err StampsSpent) safe)
+      (unchanged_safe w i s at {A = Result Stamp AskFault} (Err StampsSpent) safe)
   ask_in_safe Waiting e = unchanged_safe w i s at {A = Result Stamp AskFault} (Err NotIdle) safe
   ask_in_safe (Inside n) e = unchanged_safe w i s at {A = Result Stamp AskFault} (Err NotIdle) safe
 
@@ -198,22 +199,18 @@ module _ (w : World Node RaymondMsg) (i : ℕ) (s : Node) (at : IsNode w i s) (s
   refused_safe : (fault : EnterFault) → IsSafe (after w i (quietly (refused s fault)))
   refused_safe fault = unchanged_safe w i s at {A = Result ℕ EnterFault} (Err fault) safe
 
-  granted_safe : has_permission s ≡ true → IsSafe (after w i (quietly (enter_granted s)))
-  granted_safe has =
-      let P : Quiet Node (Result ℕ EnterFault) → Type 0 = λ d. IsSafe (after w i (quietly d)) in
-      cond_case P (nat_lt s.top s.limit) (entered s) (refused s NumbersSpent)
-      (λ _.
+  entered_safe : has_permission s ≡ true → IsSafe (after w i (quietly (entered s)))
+  entered_safe has =
       let ok : IsNodeOk w safe.highest i s = safe.at.nodes i s at in
       let mine = permission_holds s has ∙ ok.me in
       let h = holds w i s at safe.highest safe.at mine in
-      record { highest = safe.highest; at = entered_kept w i s at safe.highest safe.at {A = Result ℕ EnterFault} (Ok (s.top + 1)) mine h.0 h.1 })
-      (λ _. refused_safe NumbersSpent)
+      record { highest = safe.highest; at = entered_kept w i s at safe.highest safe.at {A = Result ℕ EnterFault} (Ok (s.top + 1)) mine h.0 h.1 }
 
   pub enter_in_safe : (p : Phase) → IsSafe (after w i (quietly (enter_in p s)))
   enter_in_safe Idle = refused_safe NotWaiting
   enter_in_safe Waiting =
-      let P : Quiet Node (Result ℕ EnterFault) → Type 0 = λ d. IsSafe (after w i (quietly d)) in
-      cond_case P (has_permission s) (enter_granted s) (refused s NotGranted) granted_safe (λ _. refused_safe NotGranted)
+      enter_cases has_permission (λ (x : Node). x.top) (λ (x : Node). x.limit) entering (λ d. IsSafe (after w i (quietly d))) s
+      (λ has _. entered_safe has) (refused_safe NumbersSpent) (λ _. refused_safe NotGranted)
   enter_in_safe (Inside n) = refused_safe NotWaiting
 
   -- leave

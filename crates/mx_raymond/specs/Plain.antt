@@ -19,11 +19,13 @@ use Rattle.mx_nodelaws.specs.declared.faults.LeaveFault.TheVariants.{NotInside}
 use Rattle.mx_nodelaws.specs.Laws.{started}
 use Rattle.mx_nodelaws.proofs.Plain.{nil, one, both, plain_start}
 use Rattle.mx_nodelaws.specs.Plain.{Small, ArePlain, IsPlainDone, IsPlainWorld}
+use Rattle.mx_nodelaws.specs.Calls.{unchanged, refused}
+use Rattle.mx_nodelaws.proofs.Calls.{ask_cases, enter_cases}
 use Rattle.mx_trees.specs.Tree.{Rooted, IsRooted}
 use Rattle.mx_raymond.specs.declared.unacked.Unacked.{Unacked}
 use Rattle.mx_raymond.specs.Queue.{head_of}
 use Rattle.mx_raymond.specs.Node.{Node}
-use Rattle.mx_raymond.specs.Step.{Step, start_of, is_holder, has_permission, unchanged, and_then, can_pass, passed, assign_to, assign, must_request, requested, make, serving, asking, asked, ask_in, again, take_holders_request, heard_from, queueing, take_others_request, take_request, holding, told, take_privilege, is_unacked, take_got, is_neighbour, deliver_of, entering, entered, refused, enter_granted, enter_in, leaving, leave_in, request_again, tick_of, raymond_core}
+use Rattle.mx_raymond.specs.Step.{Step, start_of, is_holder, has_permission, and_then, can_pass, passed, assign_to, assign, must_request, requested, make, serving, asking, asked, ask_in, again, take_holders_request, heard_from, queueing, take_others_request, take_request, holding, told, take_privilege, is_unacked, take_got, is_neighbour, deliver_of, entering, entered, enter_in, leaving, leave_in, request_again, tick_of, raymond_core}
 use Rattle.mx_raymond.specs.Good.{PlainLetter, PlainUnacked, PlainNode}
 use Rattle.mx_raymond.specs.Tests.{queued_pushed, queued_joined, queued_behind, queued_head, may_pass, may_request}
 
@@ -112,11 +114,10 @@ module _ (n : ℕ) where
 
     pub ask_in_plain : (p : Phase) → PlainStep n (ask_in p s)
     ask_in_plain Idle =
-        let P : Step (Result Stamp AskFault) → Type 0 = λ d. PlainStep n d in
         let first : Step (Result Stamp AskFault) = unchanged (asking s) (Ok (record { number = s.asks + 1; node = s.me })) in
-        cond_case P (nat_lt s.asks 18446744073709551615) (asked s) (unchanged s (Err StampsSpent))
+        ask_cases (λ (x : Node). x.asks) asked (λ d. PlainStep n d) s
         (λ e. serving_plain first (record { state = asking_plain (lt_true s.asks 18446744073709551615 e); letters = nil PlainLetter n }))
-        (λ _. as_it_was {A = Result Stamp AskFault} (Err StampsSpent))
+        (as_it_was {A = Result Stamp AskFault} (Err StampsSpent))
     ask_in_plain Waiting = as_it_was {A = Result Stamp AskFault} (Err NotIdle)
     ask_in_plain (Inside k) = as_it_was {A = Result Stamp AskFault} (Err NotIdle)
 
@@ -235,12 +236,9 @@ module _ (n : ℕ) where
     pub enter_in_plain : (p : Phase) → PlainStep n (quietly (enter_in p s))
     enter_in_plain Idle = refused_plain NotWaiting
     enter_in_plain Waiting =
-        let P : Quiet Node (Result ℕ EnterFault) → Type 0 = λ d. PlainStep n (quietly d) in
-        cond_case P (has_permission s) (enter_granted s) (refused s NotGranted)
-        (λ _. cond_case P (nat_lt s.top s.limit) (entered s) (refused s NumbersSpent)
-        (λ e. record { state = entering_plain (lt_true s.top s.limit e); letters = nil PlainLetter n })
-        (λ _. refused_plain NumbersSpent))
-        (λ _. refused_plain NotGranted)
+        enter_cases has_permission (λ (x : Node). x.top) (λ (x : Node). x.limit) entering (λ d. PlainStep n (quietly d)) s
+        (λ _ e. record { state = entering_plain (lt_true s.top s.limit e); letters = nil PlainLetter n })
+        (refused_plain NumbersSpent) (λ _. refused_plain NotGranted)
     enter_in_plain (Inside k) = refused_plain NotWaiting
 
     -- leave

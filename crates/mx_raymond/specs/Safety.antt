@@ -14,9 +14,10 @@ use Rattle.mx_nodelaws.specs.declared.faults.EnterFault.TheVariants.{NotGranted,
 use Rattle.mx_nodelaws.proofs.Frame.{was}
 use Rattle.mx_nodelaws.specs.Phases.{is_waiting}
 use Rattle.mx_nodelaws.proofs.Phases.{waiting_not_inside, waiting_is}
-use Rattle.mx_nodelaws.proofs.Entries.{granted_answer, greatest_is}
+use Rattle.mx_nodelaws.proofs.Entries.{greatest_is}
+use Rattle.mx_nodelaws.proofs.Calls.{granted_answer}
 use Rattle.mx_raymond.specs.Node.{Node}
-use Rattle.mx_raymond.specs.Step.{has_permission, can_enter_of, enter_in, enter_of, entered, refused, enter_granted, raymond_core}
+use Rattle.mx_raymond.specs.Step.{has_permission, can_enter_of, enter_in, enter_of, entered, raymond_core, entering}
 use Rattle.mx_raymond.specs.Good.{IsLast, IsNodeOk, IsSafe}
 use Rattle.mx_raymond.specs.Tests.{permission_holds}
 use Rattle.mx_raymond.specs.Moves.{holds}
@@ -28,11 +29,6 @@ one_inside w i j s t good at tat (n, in_s) (m, in_t) =
     let other : t.holder ≡ j = (safe.nodes j t tat).inside_holds m in_t in
     let h = holds w i s at good.highest safe mine in
     sym h.1 ∙ sym (h.0.alone j t tat other)
-
-entered_answer : (p : Phase) (s : Node) → p ≡ Waiting → has_permission s ≡ true → (enter_in p s).answer ≡ cond (nat_lt s.top s.limit) (Ok (s.top + 1)) (Err NumbersSpent)
-entered_answer Waiting s e has = granted_answer (has_permission s) (nat_lt s.top s.limit) (entered s) (refused s NumbersSpent) (refused s NotGranted) has
-entered_answer Idle s e has = let bad : ⊥ = cc in absurd bad
-entered_answer (Inside n) s e has = let bad : ⊥ = cc in absurd bad
 
 pub entry : (w : World Node RaymondMsg) (i : ℕ) (s : Node) → IsSafe w → IsNode w i s → can_enter_of s ≡ true →
     ((j : ℕ) (t : Node) → IsNode w j t → IsInside raymond_core t → ⊥)
@@ -49,5 +45,5 @@ entry w i s good at can =
           let other : t.holder ≡ j = (safe.nodes j t tat).inside_holds inside.0 inside.1 in
           let same : j ≡ i = h.0.alone j t tat other ∙ h.1 in
           waiting_not_inside t.phase inside.0 (ap (λ x. x.phase) (was w i s at j t same tat) ∙ waiting) inside.1,
-      subst (λ g. (enter_of s).answer ≡ cond (nat_lt g s.limit) (Ok (g + 1)) (Err NumbersSpent)) (sym top) (entered_answer s.phase s waiting p.1),
+      subst (λ g. (enter_of s).answer ≡ cond (nat_lt g s.limit) (Ok (g + 1)) (Err NumbersSpent)) (sym top) (granted_answer has_permission (λ (x : Node). x.top) (λ (x : Node). x.limit) entering s.phase s waiting p.1),
     )

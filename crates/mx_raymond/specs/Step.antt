@@ -14,6 +14,7 @@ use Rattle.mx_nodelaws.specs.declared.faults.EnterFault.TheVariants.{NotWaiting,
 use Rattle.mx_nodelaws.specs.declared.faults.LeaveFault.{LeaveFault}
 use Rattle.mx_nodelaws.specs.declared.faults.LeaveFault.TheVariants.{NotInside}
 use Rattle.mx_nodelaws.specs.Phases.{is_waiting, is_inside}
+use Rattle.mx_nodelaws.specs.Calls.{unchanged, ask_by, entered_by, enter_by, leave_by}
 use Rattle.mx_trees.specs.Tree.{Rooted, toward_of, are_neighbours}
 use Rattle.mx_raymond.specs.declared.unacked.Unacked.{Unacked}
 use Rattle.mx_raymond.specs.Queue.{is_empty, head_of, rest_of, joined}
@@ -56,10 +57,6 @@ is_named (Some name) node = nat_eq name node
 
 abbrev pub has_permission : Node → Bool
 has_permission s = is_holder s && is_named (head_of s.queue) s.me
-
--- a refusal, or a letter that no row fits: nothing changes and nothing is sent
-abbrev pub unchanged : {A : Type 0} → Node → A → Step A
-unchanged s answer = record { state = s; answer = answer; letters = [] }
 
 -- a step, and then a second one
 abbrev pub and_then : {A : Type 0} → Step A → (Node → Step (Unit {0})) → Step A
@@ -112,9 +109,7 @@ abbrev pub asked : Node → Step (Result Stamp AskFault)
 asked s = serving (unchanged (asking s) (Ok (record { number = s.asks + 1; node = s.me })))
 
 abbrev pub ask_in : Phase → Node → Step (Result Stamp AskFault)
-ask_in Idle s = if nat_lt s.asks 18446744073709551615 then asked s else unchanged s (Err StampsSpent)
-ask_in Waiting s = unchanged s (Err NotIdle)
-ask_in (Inside n) s = unchanged s (Err NotIdle)
+ask_in p s = ask_by (λ (x : Node). x.asks) asked p s
 
 abbrev pub ask_of : Node → Step (Result Stamp AskFault)
 ask_of s = ask_in s.phase s
@@ -182,18 +177,10 @@ abbrev pub entering : Node → Node
 entering s = record s { phase = Inside (s.top + 1); queue = rest_of s.queue; top = s.top + 1; mine = s.top + 1 }
 
 abbrev pub entered : Node → Quiet Node (Result ℕ EnterFault)
-entered s = record { state = entering s; answer = Ok (s.top + 1) }
-
-abbrev pub refused : Node → EnterFault → Quiet Node (Result ℕ EnterFault)
-refused s fault = record { state = s; answer = Err fault }
-
-abbrev pub enter_granted : Node → Quiet Node (Result ℕ EnterFault)
-enter_granted s = if nat_lt s.top s.limit then entered s else refused s NumbersSpent
+entered s = entered_by (λ (x : Node). x.top) entering s
 
 abbrev pub enter_in : Phase → Node → Quiet Node (Result ℕ EnterFault)
-enter_in Idle s = refused s NotWaiting
-enter_in Waiting s = if has_permission s then enter_granted s else refused s NotGranted
-enter_in (Inside n) s = refused s NotWaiting
+enter_in p s = enter_by has_permission (λ (x : Node). x.top) (λ (x : Node). x.limit) entering p s
 
 abbrev pub enter_of : Node → Quiet Node (Result ℕ EnterFault)
 enter_of s = enter_in s.phase s
@@ -206,9 +193,7 @@ abbrev pub left : Node → ℕ → Step (Result ℕ LeaveFault)
 left s n = serving (unchanged (leaving s) (Ok n))
 
 abbrev pub leave_in : Phase → Node → Step (Result ℕ LeaveFault)
-leave_in Idle s = unchanged s (Err NotInside)
-leave_in Waiting s = unchanged s (Err NotInside)
-leave_in (Inside n) s = left s n
+leave_in p s = leave_by left p s
 
 abbrev pub leave_of : Node → Step (Result ℕ LeaveFault)
 leave_of s = leave_in s.phase s

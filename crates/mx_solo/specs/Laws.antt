@@ -18,8 +18,10 @@ use Rattle.mx_nodelaws.specs.declared.faults.EnterFault.TheVariants.{NotWaiting,
 use Rattle.mx_nodelaws.specs.declared.faults.LeaveFault.{LeaveFault}
 use Rattle.mx_nodelaws.specs.Phases.{is_waiting}
 use Rattle.mx_nodelaws.proofs.Phases.{waiting_not_inside, waiting_is}
+use Rattle.mx_nodelaws.specs.Calls.{refused}
+use Rattle.mx_nodelaws.proofs.Calls.{leave_keeps, leave_ok, leave_inside, leave_err}
 use Rattle.mx_solo.specs.Node.{Node}
-use Rattle.mx_solo.specs.Step.{start_of, ask_in, entering, enter_in, leave_in, solo_core}
+use Rattle.mx_solo.specs.Step.{start_of, ask_in, entering, enter_in, leave_in, solo_core, left}
 use Rattle.mx_solo.specs.Good.{IsOne, IsGood}
 
 -- promises
@@ -44,18 +46,15 @@ ask_mine Idle s = (refl, refl)
 ask_mine Waiting s = (refl, refl)
 ask_mine (Inside n) s = (refl, refl)
 
--- the two ways in which a waiting node's enter ends
+-- how a waiting node enters
 abbrev accepted : Node → Quiet Node (Result ℕ EnterFault)
 accepted s = record { state = entering s; answer = Ok (s.mine + 1) }
-
-abbrev spent : Node → Quiet Node (Result ℕ EnterFault)
-spent s = record { state = s; answer = Err NumbersSpent }
 
 enter_ok : (p : Phase) (s : Node) (n : ℕ) → (enter_in p s).answer ≡ Ok n → (is_waiting p ≡ true) × ((enter_in p s).state.phase ≡ Inside n) × ((enter_in p s).state.mine ≡ n)
 enter_ok Idle s n h = let bad : ⊥ = cc in absurd bad
 enter_ok Waiting s n h =
     let P : Quiet Node (Result ℕ EnterFault) → Type 0 = λ d. d.answer ≡ Ok n → (true ≡ true) × (d.state.phase ≡ Inside n) × (d.state.mine ≡ n) in
-    cond_case P (nat_lt s.mine s.limit) (accepted s) (spent s)
+    cond_case P (nat_lt s.mine s.limit) (accepted s) (refused s NumbersSpent)
     (λ _ k. let e : s.mine + 1 ≡ n = cc in (refl, ap Inside e, e)) (λ _ k. let bad : ⊥ = cc in absurd bad) h
 enter_ok (Inside m) s n h = let bad : ⊥ = cc in absurd bad
 
@@ -63,14 +62,14 @@ enter_err : (p : Phase) (s : Node) (f : EnterFault) → (enter_in p s).answer �
 enter_err Idle s f h = refl
 enter_err Waiting s f h =
     let P : Quiet Node (Result ℕ EnterFault) → Type 0 = λ d. d.answer ≡ Err f → d.state ≡ s in
-    cond_case P (nat_lt s.mine s.limit) (accepted s) (spent s) (λ _ k. let bad : ⊥ = cc in absurd bad) (λ _ k. refl) h
+    cond_case P (nat_lt s.mine s.limit) (accepted s) (refused s NumbersSpent) (λ _ k. let bad : ⊥ = cc in absurd bad) (λ _ k. refl) h
 enter_err (Inside m) s f h = refl
 
 enter_not_waiting : (p : Phase) (s : Node) → ((enter_in p s).answer ≡ Err NotWaiting) ↔ (p ≢ Waiting)
 enter_not_waiting Idle s = (λ h e. cc, λ other. refl)
 enter_not_waiting Waiting s = (
   (let P : Quiet Node (Result ℕ EnterFault) → Type 0 = λ d. d.answer ≡ Err NotWaiting → Waiting ≢ Waiting in
-      cond_case P (nat_lt s.mine s.limit) (accepted s) (spent s) (λ _ k. let bad : ⊥ = cc in absurd bad) (λ _ k. let bad : ⊥ = cc in absurd bad)),
+      cond_case P (nat_lt s.mine s.limit) (accepted s) (refused s NumbersSpent) (λ _ k. let bad : ⊥ = cc in absurd bad) (λ _ k. let bad : ⊥ = cc in absurd bad)),
   λ other. absurd (other refl),
 )
 enter_not_waiting (Inside n) s = (λ h e. cc, λ other. refl)
@@ -79,7 +78,7 @@ enter_not_granted : (p : Phase) (s : Node) → ((enter_in p s).answer ≡ Err No
 enter_not_granted Idle s = (λ h. let bad : ⊥ = cc in absurd bad, λ q. let e = q.0 in let bad : ⊥ = cc in absurd bad)
 enter_not_granted Waiting s = (
   (let P : Quiet Node (Result ℕ EnterFault) → Type 0 = λ d. d.answer ≡ Err NotGranted → (Waiting ≡ Waiting) × (true ≡ false) in
-      cond_case P (nat_lt s.mine s.limit) (accepted s) (spent s) (λ _ k. let bad : ⊥ = cc in absurd bad) (λ _ k. let bad : ⊥ = cc in absurd bad)),
+      cond_case P (nat_lt s.mine s.limit) (accepted s) (refused s NumbersSpent) (λ _ k. let bad : ⊥ = cc in absurd bad) (λ _ k. let bad : ⊥ = cc in absurd bad)),
   λ q. let e = q.1 in let bad : ⊥ = cc in absurd bad,
 )
 enter_not_granted (Inside n) s = (λ h. let bad : ⊥ = cc in absurd bad, λ q. let e = q.0 in let bad : ⊥ = cc in absurd bad)
@@ -88,28 +87,8 @@ enter_limit : (p : Phase) (s : Node) → (enter_in p s).state.limit ≡ s.limit
 enter_limit Idle s = refl
 enter_limit Waiting s =
     let P : Quiet Node (Result ℕ EnterFault) → Type 0 = λ d. d.state.limit ≡ s.limit in
-    cond_case P (nat_lt s.mine s.limit) (accepted s) (spent s) (λ _. refl) (λ _. refl)
+    cond_case P (nat_lt s.mine s.limit) (accepted s) (refused s NumbersSpent) (λ _. refl) (λ _. refl)
 enter_limit (Inside n) s = refl
-
-leave_inside : (p : Phase) (s : Node) (n : ℕ) → ((leave_in p s).answer ≡ Ok n) ↔ (p ≡ Inside n)
-leave_inside Idle s n = (λ h. let bad : ⊥ = cc in absurd bad, λ e. let bad : ⊥ = cc in absurd bad)
-leave_inside Waiting s n = (λ h. let bad : ⊥ = cc in absurd bad, λ e. let bad : ⊥ = cc in absurd bad)
-leave_inside (Inside m) s n = (λ h. let e : m ≡ n = cc in ap Inside e, λ h. let e : m ≡ n = cc in ap (λ x. Ok x) e)
-
-leave_ok : (p : Phase) (s : Node) (n : ℕ) → (leave_in p s).answer ≡ Ok n → (leave_in p s).state.phase ≡ Idle
-leave_ok Idle s n h = let bad : ⊥ = cc in absurd bad
-leave_ok Waiting s n h = let bad : ⊥ = cc in absurd bad
-leave_ok (Inside m) s n h = refl
-
-leave_err : (p : Phase) (s : Node) (f : LeaveFault) → (leave_in p s).answer ≡ Err f → ((leave_in p s).state ≡ s) × ((leave_in p s).letters ≡ [])
-leave_err Idle s f h = (refl, refl)
-leave_err Waiting s f h = (refl, refl)
-leave_err (Inside m) s f h = let bad : ⊥ = cc in absurd bad
-
-leave_mine : (p : Phase) (s : Node) → ((leave_in p s).state.mine ≡ s.mine) × ((leave_in p s).state.limit ≡ s.limit)
-leave_mine Idle s = (refl, refl)
-leave_mine Waiting s = (refl, refl)
-leave_mine (Inside m) s = (refl, refl)
 
 pub solo_phases : (count : ℕ) → KeepsPhases (solo_core count)
 solo_phases count = record {
@@ -130,11 +109,11 @@ solo_phases count = record {
   enter_not_waiting = λ s. enter_not_waiting s.phase s;
   enter_not_granted = λ s. enter_not_granted s.phase s;
   enter_limit = λ s. enter_limit s.phase s;
-  leave_inside = λ s n. leave_inside s.phase s n;
-  leave_ok = λ s n h. leave_ok s.phase s n h;
-  leave_err = λ s f h. leave_err s.phase s f h;
-  leave_mine = λ s. (leave_mine s.phase s).0;
-  leave_limit = λ s. (leave_mine s.phase s).1;
+  leave_inside = λ s n. leave_inside left (λ _ _. refl) s.phase s n;
+  leave_ok = λ s n h. leave_ok left (λ (x : Node). x.phase) s.phase s n (λ _. refl) h;
+  leave_err = λ s f h. leave_err left (λ _ _. refl) s.phase s f h;
+  leave_mine = λ s. leave_keeps left (λ (x : Node). x.mine) s.phase s (λ _. refl);
+  leave_limit = λ s. leave_keeps left (λ (x : Node). x.limit) s.phase s (λ _. refl);
   tick_phase = λ s. refl;
   tick_mine = λ s. refl;
   tick_limit = λ s. refl;
@@ -161,9 +140,9 @@ enter_good Idle w i s good at = quiet_good w i s s (enter_in Idle s).answer good
 enter_good Waiting w i s good at =
     let P : Quiet Node (Result ℕ EnterFault) → Type 0 = λ d. IsGood (after w i (quietly d)) in
     let small = good.mine i s at in
-    cond_case P (nat_lt s.mine s.limit) (accepted s) (spent s)
+    cond_case P (nat_lt s.mine s.limit) (accepted s) (refused s NumbersSpent)
     (λ t. quiet_good w i s (entering s) (accepted s).answer good at refl (let l = lt_true s.mine s.limit t in let h = small.1 in (omega arith, h)))
-    (λ _. quiet_good w i s s (spent s).answer good at refl small)
+    (λ _. quiet_good w i s s (refused s NumbersSpent).answer good at refl small)
 enter_good (Inside n) w i s good at = quiet_good w i s s (enter_in (Inside n) s).answer good at refl (good.mine i s at)
 
 leave_good : (p : Phase) (w : World Node ℕ) (i : ℕ) (s : Node) → IsGood w → IsNode w i s → IsGood (after w i (leave_in p s))
@@ -184,7 +163,7 @@ only_mine (x ∷ y ∷ ys) s e h = absurd (omega (arith, e))
 enter_answer : (p : Phase) (s : Node) → p ≡ Waiting → (enter_in p s).answer ≡ cond (nat_lt s.mine s.limit) (Ok (s.mine + 1)) (Err NumbersSpent)
 enter_answer Idle s e = let bad : ⊥ = cc in absurd bad
 enter_answer Waiting s e =
-    let P : Bool → Type 0 = λ b. (cond b (accepted s) (spent s)).answer ≡ cond b (Ok (s.mine + 1)) (Err NumbersSpent) in
+    let P : Bool → Type 0 = λ b. (cond b (accepted s) (refused s NumbersSpent)).answer ≡ cond b (Ok (s.mine + 1)) (Err NumbersSpent) in
     elim (nat_lt s.mine s.limit) as P [ true ↦ refl | false ↦ refl ]
 enter_answer (Inside n) s e = let bad : ⊥ = cc in absurd bad
 

@@ -12,15 +12,12 @@ use Rattle.mx_nodelaws.specs.declared.faults.EnterFault.TheVariants.{NotWaiting,
 use Rattle.mx_nodelaws.specs.declared.faults.LeaveFault.{LeaveFault}
 use Rattle.mx_nodelaws.specs.declared.faults.LeaveFault.TheVariants.{NotInside}
 use Rattle.mx_nodelaws.specs.Phases.{is_waiting}
+use Rattle.mx_nodelaws.specs.Calls.{unchanged, refused, leave_by}
 use Rattle.mx_solo.specs.declared.solo.One.{One}
 use Rattle.mx_solo.specs.Node.{Node}
 
 abbrev pub start_of : One → ℕ → ℕ → ℕ → Node
 start_of shape me origin limit = record { me = me; limit = limit; phase = Idle; mine = 0 }
-
--- nothing changes and nothing is sent
-abbrev pub unchanged : {A : Type 0} → Node → A → Done Node A ℕ
-unchanged s answer = record { state = s; answer = answer; letters = [] }
 
 abbrev pub ask_in : Phase → Node → Done Node (Result Stamp AskFault) ℕ
 ask_in Idle s = record { state = record s { phase = Waiting }; answer = Ok (record { number = s.mine; node = s.me }); letters = [] }
@@ -31,14 +28,15 @@ abbrev pub entering : Node → Node
 entering s = record s { phase = Inside (s.mine + 1); mine = s.mine + 1 }
 
 abbrev pub enter_in : Phase → Node → Quiet Node (Result ℕ EnterFault)
-enter_in Idle s = record { state = s; answer = Err NotWaiting }
-enter_in Waiting s = if nat_lt s.mine s.limit then record { state = entering s; answer = Ok (s.mine + 1) } else record { state = s; answer = Err NumbersSpent }
-enter_in (Inside n) s = record { state = s; answer = Err NotWaiting }
+enter_in Idle s = refused s NotWaiting
+enter_in Waiting s = if nat_lt s.mine s.limit then record { state = entering s; answer = Ok (s.mine + 1) } else refused s NumbersSpent
+enter_in (Inside n) s = refused s NotWaiting
+
+abbrev pub left : Node → ℕ → Done Node (Result ℕ LeaveFault) ℕ
+left s n = record { state = record s { phase = Idle }; answer = Ok n; letters = [] }
 
 abbrev pub leave_in : Phase → Node → Done Node (Result ℕ LeaveFault) ℕ
-leave_in Idle s = unchanged s (Err NotInside)
-leave_in Waiting s = unchanged s (Err NotInside)
-leave_in (Inside n) s = record { state = record s { phase = Idle }; answer = Ok n; letters = [] }
+leave_in p s = leave_by left p s
 
 -- so many nodes that enter when they like
 abbrev pub solo_core : ℕ → Core One Node ℕ

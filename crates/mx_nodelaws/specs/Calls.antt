@@ -1,0 +1,42 @@
+-- The calls of a node, by its phase.
+use Rattle.std.specs.Prelude.{ℕ, ◌+◌, Bool, [], Result, Ok, Err, nat_lt, if◌then◌else◌}
+use Rattle.mx_stamps.specs.declared.stamp.Stamp.{Stamp}
+use Rattle.mx_nodelaws.specs.World.{Done, Quiet}
+use Rattle.mx_nodelaws.specs.declared.phase.Phase.{Phase}
+use Rattle.mx_nodelaws.specs.declared.phase.Phase.TheVariants.{Idle, Waiting, Inside}
+use Rattle.mx_nodelaws.specs.declared.faults.AskFault.{AskFault}
+use Rattle.mx_nodelaws.specs.declared.faults.AskFault.TheVariants.{NotIdle, StampsSpent}
+use Rattle.mx_nodelaws.specs.declared.faults.EnterFault.{EnterFault}
+use Rattle.mx_nodelaws.specs.declared.faults.EnterFault.TheVariants.{NotWaiting, NotGranted, NumbersSpent}
+use Rattle.mx_nodelaws.specs.declared.faults.LeaveFault.{LeaveFault}
+use Rattle.mx_nodelaws.specs.declared.faults.LeaveFault.TheVariants.{NotInside}
+
+-- a call that is refused: nothing changes and nothing is sent
+abbrev pub unchanged : {S A M : Type 0} → S → A → Done S A M
+unchanged s answer = record { state = s; answer = answer; letters = [] }
+
+abbrev pub refused : {S : Type 0} → S → EnterFault → Quiet S (Result ℕ EnterFault)
+refused s fault = record { state = s; answer = Err fault }
+
+-- ask: a node at rest asks, unless its last number of a request is the greatest
+abbrev pub ask_by : {S M : Type 0} → (S → ℕ) → (S → Done S (Result Stamp AskFault) M) → Phase → S → Done S (Result Stamp AskFault) M
+ask_by last asked Idle s = if nat_lt (last s) 18446744073709551615 then asked s else unchanged s (Err StampsSpent)
+ask_by last asked Waiting s = unchanged s (Err NotIdle)
+ask_by last asked (Inside n) s = unchanged s (Err NotIdle)
+
+-- enter: the section's number is one above the highest that the node knows
+abbrev pub entered_by : {S : Type 0} → (S → ℕ) → (S → S) → S → Quiet S (Result ℕ EnterFault)
+entered_by top entering s = record { state = entering s; answer = Ok (top s + 1) }
+
+-- a waiting node enters where every permission is there, up to the limit
+abbrev pub enter_by : {S : Type 0} → (S → Bool) → (S → ℕ) → (S → ℕ) → (S → S) → Phase → S → Quiet S (Result ℕ EnterFault)
+enter_by granted top limit entering Idle s = refused s NotWaiting
+enter_by granted top limit entering Waiting s =
+    if granted s then (if nat_lt (top s) (limit s) then entered_by top entering s else refused s NumbersSpent) else refused s NotGranted
+enter_by granted top limit entering (Inside n) s = refused s NotWaiting
+
+-- leave: a node that is inside leaves
+abbrev pub leave_by : {S M : Type 0} → (S → ℕ → Done S (Result ℕ LeaveFault) M) → Phase → S → Done S (Result ℕ LeaveFault) M
+leave_by left Idle s = unchanged s (Err NotInside)
+leave_by left Waiting s = unchanged s (Err NotInside)
+leave_by left (Inside n) s = left s n
