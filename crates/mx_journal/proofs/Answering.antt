@@ -1,12 +1,12 @@
 -- What the answers of a journal rule out.
 use Rattle.std.proofs.Common.{ℕ, ◌≡◌, inl, inr, List, Option, Some, None, Result, Ok, Err, IsErrAnd, sym, ◌∙◌, ap, arith}
 use Rattle.mx_stamps.proofs.Lists.{none_is_no_some}
+use Rattle.mx_stamps.proofs.Choices.{compared}
 use Rattle.mx_journal.specs.declared.records.Record.{Record}
 use Rattle.mx_journal.specs.declared.puts.PutFault.{PutFault}
 use Rattle.mx_journal.specs.declared.puts.PutFault.TheVariants.{Memory}
 use Rattle.mx_journal.specs.Records.{Ascending, IsNumbered, IsThere, record_at}
 use Rattle.mx_journal.specs.Agreement.{IsConsistent, IsFirstConflict, IsOther}
-use Rattle.mx_journal.proofs.Choices.{compared}
 use Rattle.mx_journal.proofs.Maps.{ascending_above, none_found}
 
 -- a journal has no record numbered 0

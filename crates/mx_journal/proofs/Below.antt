@@ -1,11 +1,10 @@
 -- The records below a number, and journals without gaps.
 use Rattle.std.proofs.Common.{ℕ, suc, ◌<◌, ◌≤◌, ◌≡◌, ◌≢◌, inl, inr, true, false, List, [], ◌∷◌, ◌++◌, Some, None, nat_lt, nat_eq, refl, sym, ◌∙◌, ap, subst, arith}
 use Rattle.mx_stamps.specs.Lists.{IsIn}
-use Rattle.mx_stamps.proofs.Lists.{cond_case}
+use Rattle.mx_stamps.proofs.Choices.{lt_true, lt_is, lt_not, eq_true, eq_false, eq_not, compared, cond_case, cond_true, cond_false}
 use Rattle.mx_journal.specs.declared.records.Record.{Record}
 use Rattle.mx_journal.specs.Records.{Ascending, IsThere, below, record_at}
 use Rattle.mx_journal.specs.Gapless.{IsGapless, first_missing}
-use Rattle.mx_journal.proofs.Choices.{cond_true, cond_false, compared, lt_true, lt_is, lt_not, eq_true, eq_false, eq_not}
 use Rattle.mx_journal.proofs.Maps.{ascending_above, none_found, none_in}
 
 -- what holds of the first missing number, by whether the first record bears k

@@ -2,11 +2,11 @@
 use Rattle.std.proofs.Common.{ℕ, suc, ◌<◌, ◌≤◌, ◌≡◌, ◌≢◌, ◌⊎◌, inl, inr, cond, List, [], ◌∷◌, ◌++◌, Option, Some, None, nat_lt, nat_eq, refl, sym, ◌∙◌, ap, subst, arith}
 use Rattle.std.proofs.lemmas.Option.{same_Some}
 use Rattle.mx_stamps.specs.Lists.{IsIn}
-use Rattle.mx_stamps.proofs.Lists.{cond_case, none_is_no_some, in_left, in_right}
+use Rattle.mx_stamps.proofs.Lists.{none_is_no_some, in_left, in_right}
+use Rattle.mx_stamps.proofs.Choices.{lt_true, lt_false, eq_true, eq_false, eq_is, eq_not, cond_case, cond_true, cond_false}
 use Rattle.mx_journal.specs.declared.records.Record.{Record}
 use Rattle.mx_journal.specs.Records.{Ascending, IsNumbered, record_at, with_record, with_records}
 use Rattle.mx_journal.specs.Agreement.{AgreesWith, AreAgreeing, IsConsistent, IsSubmap}
-use Rattle.mx_journal.proofs.Choices.{cond_true, cond_false, lt_true, lt_false, eq_true, eq_false, eq_is, eq_not}
 
 -- what holds of a lookup, by whether the first record bears the number
 pub record_at_case : (P : Option Record → Type 0) (n : ℕ) (x : Record) (xs : List Record) → (x.number ≡ n → P (Some x)) → (x.number ≢ n → P (record_at n xs)) → P (record_at n (x ∷ xs))

@@ -6,12 +6,12 @@ use Rattle.std.proofs.lemmas.Bool.Decides.{nat_tests}
 use Rattle.std.proofs.lemmas.Option.{same_Some}
 use Rattle.std.proofs.lemmas.List.{length-append, append_assoc}
 use Rattle.mx_stamps.specs.Lists.{IsIn}
-use Rattle.mx_stamps.proofs.Lists.{append_nil, cond_case, none_is_no_some}
+use Rattle.mx_stamps.proofs.Lists.{append_nil, none_is_no_some, in_at}
+use Rattle.mx_stamps.proofs.Choices.{lt_true, lt_is, lt_not, eq_not, compared, cond_case, cond_true, cond_false}
 use Rattle.mx_journal.specs.declared.records.Record.{Record}
 use Rattle.mx_journal.specs.declared.ranges.Range.{Range}
 use Rattle.mx_journal.specs.Records.{Ascending, record_at, with_record, in_range, top_of}
 use Rattle.mx_journal.specs.Searches.{place}
-use Rattle.mx_journal.proofs.Choices.{cond_true, cond_false, compared, lt_true, lt_is, lt_not, eq_not, in_at}
 use Rattle.mx_journal.proofs.Maps.{ascending_above, found_at, none_found, none_in}
 
 -- an element below the length is read the same with any default

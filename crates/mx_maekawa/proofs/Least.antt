@@ -4,41 +4,10 @@ use Rattle.std.proofs.lemmas.Bool.Decides.{nat_tests}
 use Rattle.std.proofs.lemmas.Option.{same_Some}
 use Rattle.mx_stamps.specs.declared.stamp.Stamp.{Stamp}
 use Rattle.mx_stamps.specs.Stamp.{Before, is_before_of}
-use Rattle.mx_stamps.proofs.Lists.{dec_eq, none_is_no_some, cond_case, and_true}
+use Rattle.mx_stamps.proofs.Lists.{dec_eq, none_is_no_some}
+use Rattle.mx_stamps.proofs.Choices.{not_both, cond_case}
+use Rattle.mx_stamps.proofs.Stamps.{before_true, before_is, never_before_itself, before_both}
 use Rattle.mx_maekawa.specs.ArbiterStep.{lesser, IsLeastOf, least_of}
-use Rattle.mx_maekawa.specs.Places.{eq_true, test_eq, lt_true, both_true, or_cases, true_not_false}
-
-before_test : (a b : Stamp) → is_before_of a b ≡ true → Before a b
-before_test a b h = elim (or_cases (nat_lt a.number b.number) (nat_eq a.number b.number && nat_lt a.node b.node) h) [
-  | inl lt ↦ inl (lt_true a.number b.number lt)
-  | inr p ↦ let q = and_true (nat_eq a.number b.number) (nat_lt a.node b.node) p in inr (eq_true a.number b.number q.0, lt_true a.node b.node q.1)
-]
-
-lt_test : (a b : ℕ) → a < b → nat_lt a b ≡ true
-lt_test a b h = grind (arith, nat_tests)
-
-or_left : (a b : Bool) → a ≡ true → (a || b) ≡ true
-or_left a b h = subst (λ x. (x || b) ≡ true) (sym h) refl
-
-or_right : (a b : Bool) → b ≡ true → (a || b) ≡ true
-or_right true b h = refl
-or_right false b h = h
-
-test_before : (a b : Stamp) → Before a b → is_before_of a b ≡ true
-test_before a b (inl lt) = or_left (nat_lt a.number b.number) (nat_eq a.number b.number && nat_lt a.node b.node) (lt_test a.number b.number lt)
-test_before a b (inr p) =
-    or_right (nat_lt a.number b.number) (nat_eq a.number b.number && nat_lt a.node b.node)
-    (both_true (nat_eq a.number b.number) (nat_lt a.node b.node) (test_eq a.number b.number p.0) (lt_test a.node b.node p.1))
-
-never_before_itself : (a : Stamp) → Before a a → ⊥
-never_before_itself a (inl lt) = omega arith
-never_before_itself a (inr p) = omega (arith, p.1)
-
-before_both : (a b c : Stamp) → Before a b → Before b c → Before a c
-before_both a b c (inl p) (inl q) = inl (omega arith)
-before_both a b c (inl p) (inr q) = inl (omega (arith, q.0))
-before_both a b c (inr p) (inl q) = inl (omega (arith, p.0))
-before_both a b c (inr p) (inr q) = inr (p.0 ∙ q.0, omega (arith, p.1, q.1))
 
 module _ (f : ℕ → Option Stamp) (n : ℕ) where
   -- what holds of the requests below n, and of the next one, holds below n + 1
@@ -76,8 +45,8 @@ module _ (f : ℕ → Option Stamp) (n : ℕ) where
   lesser_is (Some x) None was at = stays_is x was (λ v has _. none_is_no_some v (sym at ∙ has))
   lesser_is (Some x) (Some u) was at =
       cond_case (IsLeastOf f (suc n)) (is_before_of u x) (Some u) (Some x)
-      (λ e. next_is u x was at (before_test u x e))
-      (λ e. stays_is x was (λ v has first. true_not_false (is_before_of u x) (test_before u x (subst (λ y. Before y x) (same_Some v u (sym has ∙ at)) first)) e))
+      (λ e. next_is u x was at (before_true u x e))
+      (λ e. stays_is x was (λ v has first. not_both (is_before_of u x) (before_is u x (subst (λ y. Before y x) (same_Some v u (sym has ∙ at)) first)) e))
 
 pub least_of_is : (f : ℕ → Option Stamp) (n : ℕ) → IsLeastOf f n (least_of f n)
 least_of_is f zero = λ j lt. absurd (omega arith)

@@ -3,21 +3,23 @@ use Rattle.std.proofs.Common.{ℕ, ◌≤◌, ◌+◌, ◌≡◌, inl, inr, true
 use Rattle.mx_stamps.specs.declared.stamp.Stamp.{Stamp}
 use Rattle.mx_stamps.specs.Stamp.{is_before_of, is_same_as}
 use Rattle.mx_stamps.specs.Lists.{IsIn}
-use Rattle.mx_stamps.proofs.Lists.{cond_case, and_true}
+use Rattle.mx_stamps.proofs.Choices.{lt_true, eq_true, and_true, cond_case}
+use Rattle.mx_stamps.proofs.Stamps.{same_stamp}
 use Rattle.mx_letters.specs.declared.maekawa.MaekawaMsg.{MaekawaMsg}
 use Rattle.mx_letters.specs.declared.maekawa.MaekawaMsg.TheVariants.{Locked, Failed, Inquire, Relinquish, Release}
 use Rattle.mx_nodelaws.specs.World.{IsNode, WasSent, after}
+use Rattle.mx_nodelaws.proofs.Frame.{reached_max}
 use Rattle.mx_maekawa.specs.declared.lock.Lock.{Lock}
 use Rattle.mx_maekawa.specs.Node.{Node}
 use Rattle.mx_maekawa.specs.Step.{by_arbiter, seeing}
 use Rattle.mx_maekawa.specs.ArbiterStep.{silent, sending, lock_letter, grant, is_below, fail_least, overtaking, rank_against, rank_by, least_of, others_at, waiting_for, queue, is_for, is_overtaken, take_fresh, take_live, take_request, is_exactly, or_else, waiting_at, unlocking, taking_back, take_relinquish, ended_at, ending, is_up_to, take_release}
 use Rattle.mx_maekawa.specs.Good.{NodeWorld, IsReached, IsNodeOk, IsCalm, IsSound, IsSafe}
 use Rattle.mx_maekawa.specs.ArbiterStep.{Did}
-use Rattle.mx_maekawa.specs.Places.{eq_true, lt_true, same_stamp}
-use Rattle.mx_maekawa.specs.Frame.{IsSendable}
-use Rattle.mx_maekawa.specs.Parts.{reached_max, aside_sound, unlocked_sound, one_letter}
+use Rattle.mx_maekawa.specs.Parts.{aside_sound, one_letter}
 use Rattle.mx_maekawa.specs.Cascades.{now_is, both_sound, grant_sound}
 use Rattle.mx_maekawa.specs.RequesterKeeps.{safe_of, still_safe}
+use Rattle.mx_maekawa.specs.Moves.{IsSendable}
+use Rattle.mx_maekawa.specs.LockParts.{unlocked_sound}
 
 exactly_means : (o : Option Lock) (stamp : Stamp) (g : ℕ) → is_exactly o stamp g ≡ true → (lock : Lock) × (o ≡ Some lock) × (lock.stamp ≡ stamp) × (lock.grant ≡ g)
 exactly_means None stamp g h = let bad : ⊥ = cc in absurd bad
@@ -122,7 +124,7 @@ module _ (w : NodeWorld) (i : ℕ) (s : Node) (good : IsSafe w) (at : IsNode w i
   pub release_safe : (from : ℕ) (stamp : Stamp) (t : ℕ) → stamp.node ≡ from → WasSent w from i (Release stamp t) → IsSafe (after w i (by_arbiter s (take_release stamp t s.arbiter)))
   release_safe from stamp t node sent =
       let a = ending stamp t s.arbiter in
-      let reached : IsReached w (max s.arbiter.last t) = reached_max w s.arbiter.last t ok_s.last_reached (good.sound.letters from i (Release stamp t) sent).reached in
+      let reached : IsReached w (max s.arbiter.last t) = reached_max (λ x. x.requester.mine) w s.arbiter.last t ok_s.last_reached (good.sound.letters from i (Release stamp t) sent).reached in
       cond_case (λ d. IsSafe (after w i (by_arbiter s d))) (is_up_to s.arbiter.lock stamp) (grant (unlocking a)) (silent a)
       (λ e.
       let p = up_to_means s.arbiter.lock stamp e in

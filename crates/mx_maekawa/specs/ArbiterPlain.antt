@@ -3,24 +3,26 @@ use Rattle.std.proofs.Common.{ℕ, zero, suc, ◌<◌, ◌+◌, ◌≡◌, inl, 
 use Rattle.std.proofs.lemmas.Option.{same_Some}
 use Rattle.mx_stamps.specs.declared.stamp.Stamp.{Stamp}
 use Rattle.mx_stamps.specs.Stamp.{is_before_of}
-use Rattle.mx_stamps.proofs.Lists.{none_is_no_some, get_or_after, cond_case}
+use Rattle.mx_stamps.proofs.Lists.{none_is_no_some, get_or_after}
+use Rattle.mx_stamps.proofs.Choices.{lt_true, cond_case}
 use Rattle.mx_letters.specs.declared.maekawa.MaekawaMsg.{MaekawaMsg}
 use Rattle.mx_letters.specs.declared.maekawa.MaekawaMsg.TheVariants.{Locked, Failed, Inquire}
+use Rattle.mx_nodelaws.proofs.Plain.{nil, one, both}
+use Rattle.mx_nodelaws.specs.Plain.{Small, PlainStamp, ArePlain, IsPlainDone}
 use Rattle.mx_maekawa.specs.declared.lock.Lock.{Lock}
 use Rattle.mx_maekawa.specs.Node.{ArbiterState}
 use Rattle.mx_maekawa.specs.ArbiterStep.{others_at, silent, sending, lock_letter, locked, least_of, lesser, grant_to, grant_in, grant, is_below, fail_least, overtaking, rank_against, rank_by, waiting_for, queue, is_for, is_overtaken, take_fresh, take_live, take_request, is_exactly, or_else, waiting_at, unlocking, taking_back, take_relinquish, drop_up_to, ended_at, ending, is_up_to, take_release}
-use Rattle.mx_maekawa.specs.Good.{Small, PlainStamp, PlainLock, PlainArbiter}
+use Rattle.mx_maekawa.specs.Good.{PlainLetter, PlainLock, PlainArbiter}
 use Rattle.mx_maekawa.specs.ArbiterStep.{Did}
-use Rattle.mx_maekawa.specs.Places.{lt_true}
-use Rattle.mx_maekawa.specs.RequesterPlain.{PlainLetters, nil, one, both, set_small}
+use Rattle.mx_maekawa.specs.RequesterPlain.{set_small}
 
-pub record PlainDid (n : ℕ) (d : Did) : Type 0 where
-  pub state : PlainArbiter n d.state
-  pub letters : PlainLetters n d.letters
+-- a step of the arbiter that keeps the layer
+abbrev pub PlainDid : ℕ → Did → Type 0
+PlainDid n did = IsPlainDone PlainArbiter PlainLetter n did
 
 module _ (n : ℕ) where
   quietly_plain : (a : ArbiterState) → PlainArbiter n a → PlainDid n (silent a)
-  quietly_plain a ok = record { state = ok; letters = nil n }
+  quietly_plain a ok = record { state = ok; letters = nil PlainLetter n }
 
   -- the least request
 
@@ -67,7 +69,7 @@ module _ (n : ℕ) where
   locked_plain a u lt plain ok =
       let next : Small (a.granted + 1) = omega arith in record {
         state = record { count = ok.count; lock = λ l h. subst (λ x. PlainLock n x) (same_Some {A = Lock} (record { stamp = u; grant = a.granted + 1; last = a.last }) l h) (record { stamp = plain; grant = next; last = ok.last }); granted = next; waiting = put a.waiting u.node None none_plain ok.waiting; ended = ok.ended; last = ok.last };
-        letters = one n u.node (Locked u (a.granted + 1) a.last) plain.1 (plain, next, ok.last);
+        letters = one PlainLetter n u.node (Locked u (a.granted + 1) a.last) plain.1 (plain, next, ok.last);
       }
 
   grant_to_plain : (o : Option Stamp) (a : ArbiterState) → ((u : Stamp) → o ≡ Some u → PlainStamp n u) → PlainArbiter n a → PlainDid n (grant_to o a)
@@ -85,19 +87,19 @@ module _ (n : ℕ) where
 
   -- Rank
 
-  fail_least_plain : (o : Option Stamp) → ((u : Stamp) → o ≡ Some u → PlainStamp n u) → PlainLetters n (fail_least o)
-  fail_least_plain None was = nil n
-  fail_least_plain (Some u) was = let p = was u refl in one n u.node (Failed u) p.1 p
+  fail_least_plain : (o : Option Stamp) → ((u : Stamp) → o ≡ Some u → PlainStamp n u) → ArePlain PlainLetter n (fail_least o)
+  fail_least_plain None was = nil PlainLetter n
+  fail_least_plain (Some u) was = let p = was u refl in one PlainLetter n u.node (Failed u) p.1 p
 
-  rank_plain : (lock : Lock) (stamp : Stamp) (other : Option Stamp) → PlainLock n lock → PlainStamp n stamp → ((u : Stamp) → other ≡ Some u → PlainStamp n u) → PlainLetters n (rank_by lock stamp other)
+  rank_plain : (lock : Lock) (stamp : Stamp) (other : Option Stamp) → PlainLock n lock → PlainStamp n stamp → ((u : Stamp) → other ≡ Some u → PlainStamp n u) → ArePlain PlainLetter n (rank_by lock stamp other)
   rank_plain lock stamp other l plain was =
-      let P : List (ℕ × MaekawaMsg) → Type 0 = λ ls. PlainLetters n ls in
+      let P : List (ℕ × MaekawaMsg) → Type 0 = λ ls. ArePlain PlainLetter n ls in
       let inquiry : MaekawaMsg = Inquire lock.stamp lock.grant in
       cond_case P (nat_eq lock.stamp.node stamp.node) ((stamp.node, inquiry) ∷ []) (rank_against lock stamp other)
-      (λ _. one n stamp.node inquiry plain.1 (l.stamp, l.grant))
+      (λ _. one PlainLetter n stamp.node inquiry plain.1 (l.stamp, l.grant))
       (λ _. cond_case P (is_before_of lock.stamp stamp || is_below other stamp) ((stamp.node, Failed stamp) ∷ []) (overtaking lock other)
-      (λ _. one n stamp.node (Failed stamp) plain.1 plain)
-      (λ _. both n ((lock.stamp.node, inquiry) ∷ []) (fail_least other) (one n lock.stamp.node inquiry l.stamp.1 (l.stamp, l.grant)) (fail_least_plain other was)))
+      (λ _. one PlainLetter n stamp.node (Failed stamp) plain.1 plain)
+      (λ _. both PlainLetter n ((lock.stamp.node, inquiry) ∷ []) (fail_least other) (one PlainLetter n lock.stamp.node inquiry l.stamp.1 (l.stamp, l.grant)) (fail_least_plain other was)))
 
   -- REQUEST
 
@@ -111,9 +113,9 @@ module _ (n : ℕ) where
       let x = waiting_for a stamp in
       record { state = w; letters = rank_plain lock stamp (least_of (others_at x stamp.node) x.count) (ok.lock lock is) plain (λ u e. least_plain (others_at x stamp.node) x.count u (λ j v k. others_plain x stamp.node j v w k) e) }
 
-  pub lock_letter_plain : (o : Option Lock) → ((lock : Lock) → o ≡ Some lock → PlainLock n lock) → PlainLetters n (lock_letter o)
-  lock_letter_plain None was = nil n
-  lock_letter_plain (Some lock) was = let p = was lock refl in one n lock.stamp.node (Locked lock.stamp lock.grant lock.last) p.stamp.1 (p.stamp, p.grant, p.last)
+  pub lock_letter_plain : (o : Option Lock) → ((lock : Lock) → o ≡ Some lock → PlainLock n lock) → ArePlain PlainLetter n (lock_letter o)
+  lock_letter_plain None was = nil PlainLetter n
+  lock_letter_plain (Some lock) was = let p = was lock refl in one PlainLetter n lock.stamp.node (Locked lock.stamp lock.grant lock.last) p.stamp.1 (p.stamp, p.grant, p.last)
 
   pub request_plain : (stamp : Stamp) (a : ArbiterState) → PlainStamp n stamp → PlainArbiter n a → PlainDid n (take_request stamp a)
   request_plain stamp a plain ok =

@@ -4,20 +4,25 @@ use Rattle.std.proofs.lemmas.Option.{same_Some}
 use Rattle.std.proofs.lemmas.List.{length-set}
 use Rattle.mx_stamps.specs.declared.stamp.Stamp.{Stamp}
 use Rattle.mx_stamps.specs.Lists.{IsIn}
-use Rattle.mx_stamps.proofs.Lists.{dec_eq, get_set_same, none_is_no_some, cond_case}
+use Rattle.mx_stamps.proofs.Lists.{dec_eq, get_set_same, none_is_no_some}
+use Rattle.mx_stamps.proofs.Choices.{cond_case}
 use Rattle.mx_letters.specs.declared.maekawa.MaekawaMsg.{MaekawaMsg}
 use Rattle.mx_nodelaws.specs.World.{Done, IsNode, after}
 use Rattle.mx_nodelaws.proofs.Worlds.{after_nothing, after_twice}
 use Rattle.mx_nodelaws.specs.declared.phase.Phase.TheVariants.{Waiting}
+use Rattle.mx_nodelaws.specs.Phases.{is_busy}
+use Rattle.mx_nodelaws.specs.Calls.{unchanged}
 use Rattle.mx_maekawa.specs.declared.lock.Lock.{Lock}
 use Rattle.mx_maekawa.specs.Node.{RequesterState, Node}
-use Rattle.mx_maekawa.specs.RequesterStep.{unchanged, is_busy, held_at, asked_at, giving, give_asked, give_below, failing, fail}
+use Rattle.mx_maekawa.specs.RequesterStep.{held_at, asked_at, giving, give_asked, give_below, failing, fail}
 use Rattle.mx_maekawa.specs.ArbiterStep.{silent, locked, least_of, waiting_at, grant_to, grant_in, grant}
-use Rattle.mx_maekawa.specs.Step.{still, by_requester, by_arbiter}
+use Rattle.mx_maekawa.specs.Step.{by_requester, by_arbiter}
 use Rattle.mx_maekawa.specs.Good.{NodeWorld, IsCalm, IsSound}
 use Rattle.mx_maekawa.specs.Places.{get_or_other, get_or_set_none, emptied}
-use Rattle.mx_maekawa.specs.Frame.{IsSendable}
-use Rattle.mx_maekawa.specs.Parts.{aside_sound, granted_sound, gave_sound}
+use Rattle.mx_maekawa.specs.Parts.{aside_sound}
+use Rattle.mx_maekawa.specs.Moves.{IsSendable}
+use Rattle.mx_maekawa.specs.LockParts.{granted_sound}
+use Rattle.mx_maekawa.specs.GrantParts.{gave_sound}
 
 -- what giving back keeps
 giving_phase : (o : Option ℕ) (r : RequesterState) (b : ℕ) → (giving o r b).state.phase ≡ r.phase
@@ -58,7 +63,7 @@ module _ (i : ℕ) where
   pub now_is : {A : Type 0} (w : NodeWorld) (s : Node) (done : Done Node A MaekawaMsg) → IsNode w i s → IsNode (after w i done) i done.state
   now_is w s done at = get_set_same w.nodes i s done.state at
 
-  pub same_sound : {A : Type 0} (w : NodeWorld) (s : Node) (answer : A) → IsSound w → IsNode w i s → IsSound (after w i (still s answer))
+  pub same_sound : {A : Type 0} (w : NodeWorld) (s : Node) (answer : A) → IsSound w → IsNode w i s → IsSound (after w i (unchanged s answer))
   same_sound w s answer good at = subst (λ x. IsSound x) (sym (after_nothing w i s answer at)) good
 
   -- one part, and then another

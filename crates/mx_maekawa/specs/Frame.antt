@@ -1,5 +1,5 @@
 -- What a step of one node leaves as it was.
-use Rattle.std.proofs.Common.{ℕ, ◌<◌, ◌≤◌, ◌≡◌, ◌≢◌, ◌⊎◌, inl, inr, true, false, Some, None, slice_get, slice_index_or, sym, ◌∙◌, ap, subst, arith}
+use Rattle.std.proofs.Common.{ℕ, ◌<◌, ◌≤◌, ◌≡◌, ◌≢◌, ◌⊎◌, inl, inr, true, false, Some, None, slice_get, slice_index_or, refl, sym, ◌∙◌, ap, subst, arith}
 use Rattle.std.proofs.lemmas.Option.{same_Some}
 use Rattle.mx_stamps.specs.declared.stamp.Stamp.{Stamp}
 use Rattle.mx_stamps.specs.Lists.{IsIn}
@@ -7,97 +7,23 @@ use Rattle.mx_stamps.proofs.Lists.{dec_eq, get_after, get_set_same, get_set_othe
 use Rattle.mx_letters.specs.declared.maekawa.MaekawaMsg.{MaekawaMsg}
 use Rattle.mx_letters.specs.declared.maekawa.MaekawaMsg.TheVariants.{Request, Locked, Failed, Inquire, Relinquish, Release}
 use Rattle.mx_nodelaws.specs.World.{Done, IsNode, WasSent, after, sent_by}
-use Rattle.mx_nodelaws.proofs.Worlds.{in_sent_by}
+use Rattle.mx_nodelaws.proofs.Frame.{was, is_new, node_cases, each_after, node_after, sent_after, sent_before, still_reached, at_as}
 use Rattle.mx_nodelaws.specs.declared.phase.Phase.TheVariants.{Waiting, Inside}
+use Rattle.mx_nodelaws.specs.Phases.{is_busy}
 use Rattle.mx_maekawa.specs.declared.lock.Lock.{Lock}
 use Rattle.mx_maekawa.specs.Node.{Node}
-use Rattle.mx_maekawa.specs.RequesterStep.{is_busy, held_at, back_at, is_own}
+use Rattle.mx_maekawa.specs.RequesterStep.{held_at, back_at, is_own}
 use Rattle.mx_maekawa.specs.Good.{NodeWorld, IsBusy, IsEnded, IsGiven, IsReached, IsOver, IsLockedFor, IsEntered, IsHeldOk, IsNodeOk, IsLockedOk, IsLetterOk, IsSound}
-
--- the letter that ends a lock has come; `last` has taken in what it tells
-abbrev pub IsToEnd : NodeWorld → ℕ → Stamp → ℕ → ℕ → Type 0
-IsToEnd w i stamp g last = WasSent w stamp.node i (Relinquish stamp g) ⊎ ((later : Stamp) × (t : ℕ) × WasSent w stamp.node i (Release later t) × (stamp.number ≤ later.number) × (t ≤ last))
-
--- what each step of a node keeps, as far as other nodes and letters rest on it
-pub record Moves (w : NodeWorld) (i : ℕ) (s new : Node) : Type 0 where
-  pub own : new.requester.own ≡ s.requester.own
-  pub issued : s.requester.issued ≤ new.requester.issued
-  pub mine : s.requester.mine ≤ new.requester.mine
-  pub ended : (n : ℕ) → IsEnded s.requester n → IsEnded new.requester n
-  pub given : (a : ℕ) (stamp : Stamp) (g : ℕ) → stamp.number ≤ s.requester.issued → IsGiven s.requester a stamp g → IsGiven new.requester a stamp g
-  pub granted : s.arbiter.granted ≤ new.arbiter.granted
-  pub last : s.arbiter.last ≤ new.arbiter.last
-  pub lock : (stamp : Stamp) (g c : ℕ) → IsLockedFor s stamp g c → IsLockedFor new stamp g c ⊎ IsToEnd w i stamp g new.arbiter.last
-
--- a new lock
-pub record IsGranted (s new : Node) (b : ℕ) (stamp : Stamp) (g c : ℕ) : Type 0 where
-  pub node : stamp.node ≡ b
-  pub free : s.arbiter.lock ≡ None
-  pub lock : IsLockedFor new stamp g c
-  pub above : s.arbiter.granted < g
-  pub granted : new.arbiter.granted ≡ g
-  pub last : c ≡ s.arbiter.last
-
--- a grant for the current stamp goes back
-pub record IsGivingBack (i : ℕ) (s new : Node) (a : ℕ) (stamp : Stamp) (g : ℕ) : Type 0 where
-  pub node : stamp.node ≡ i
-  pub waiting : s.requester.phase ≡ Waiting
-  pub number : stamp.number ≡ s.requester.issued
-  pub given : IsGiven new.requester a stamp g
-
-pub record IsReleasing (w : NodeWorld) (i : ℕ) (new : Node) (stamp : Stamp) (t : ℕ) : Type 0 where
-  pub node : stamp.node ≡ i
-  pub ended : IsEnded new.requester stamp.number
-  pub mine : new.requester.mine ≤ t
-  pub reached : IsReached w t
-
--- node i may send this letter to b in the step that makes it `new`
-abbrev pub IsSendable : NodeWorld → ℕ → Node → Node → ℕ → MaekawaMsg → Type 0
-IsSendable w i s new b (Request stamp) = Unit {0}
-IsSendable w i s new b (Locked stamp g c) = WasSent w i b (Locked stamp g c) ⊎ IsGranted s new b stamp g c
-IsSendable w i s new b (Failed stamp) = Unit {0}
-IsSendable w i s new b (Inquire stamp g) = (c : ℕ) × WasSent w i b (Locked stamp g c)
-IsSendable w i s new b (Relinquish stamp g) = IsGivingBack i s new b stamp g
-IsSendable w i s new b (Release stamp t) = IsReleasing w i new stamp t
+use Rattle.mx_maekawa.specs.Moves.{IsToEnd, Moves, IsGranted, IsGivingBack, IsReleasing, IsSendable}
 
 module _ {A : Type 0} (w : NodeWorld) (i : ℕ) (s : Node) (done : Done Node A MaekawaMsg) (good : IsSound w) (at : IsNode w i s) (moves : Moves w i s done.state) (may : (b : ℕ) (m : MaekawaMsg) → IsIn (b, m) done.letters → IsSendable w i s done.state b m) where
-  -- node i before the step is s
-  pub was_s : (j : ℕ) (t : Node) → j ≡ i → IsNode w j t → t ≡ s
-  was_s j t e tat = same_Some t s (sym tat ∙ subst (λ x. slice_get w.nodes x ≡ Some s) (sym e) at)
-
-  at_as : (j : ℕ) → j ≡ i → IsNode w j s
-  at_as j e = subst (λ x. IsNode w x s) (sym e) at
-
-  node_cases : (j : ℕ) (t : Node) → IsNode (after w i done) j t → ((j ≡ i) × (t ≡ done.state)) ⊎ ((j ≢ i) × IsNode w j t)
-  node_cases j t tat = get_after w.nodes i j s done.state t at tat
-
-  -- what all states of a node have, and the step keeps
-  each_after : (P : Node → Type 0) (j : ℕ) → ((t : Node) → IsNode w j t → P t) → (j ≡ i → P s → P done.state) → (t : Node) → IsNode (after w i done) j t → P t
-  each_after P j was keeps t tat = elim (node_cases j t tat) [
-    | inl p ↦ subst P (sym p.1) (keeps p.0 (was s (at_as j p.0)))
-    | inr p ↦ was t p.1
-  ]
-
-  pub node_after : (j : ℕ) (t : Node) → IsNode w j t → (u : Node) × IsNode (after w i done) j u
-  node_after j t tat = elim (dec_eq j i) [
-    | inl e ↦ (done.state, subst (λ x. IsNode (after w i done) x done.state) (sym e) (get_set_same w.nodes i s done.state at))
-    | inr ne ↦ (t, get_set_other w.nodes i j done.state ne ∙ tat)
-  ]
-
   pub reached_after : (n : ℕ) → IsReached w n → IsReached (after w i done) n
-  reached_after n (j, t, tat, le) = elim (dec_eq j i) [
-    | inl e ↦ let same : t.requester.mine ≡ s.requester.mine = ap (λ r. r.requester.mine) (was_s j t e tat) in
-        (i, done.state, get_set_same w.nodes i s done.state at, (let m = moves.mine in omega arith))
-    | inr ne ↦ (j, t, get_set_other w.nodes i j done.state ne ∙ tat, le)
-  ]
-
-  pub sent_old : (a b : ℕ) (m : MaekawaMsg) → WasSent w a b m → WasSent (after w i done) a b m
-  sent_old a b m sent = in_left (a, b, m) w.sent (sent_by i done.letters) sent
+  reached_after n h = still_reached w i s done at (λ x. x.requester.mine) moves.mine n h
 
   sent_cases : (a b : ℕ) (m : MaekawaMsg) → WasSent (after w i done) a b m → WasSent w a b m ⊎ ((a ≡ i) × IsSendable w i s done.state b m)
-  sent_cases a b m sent = elim (in_append (a, b, m) w.sent (sent_by i done.letters) sent) [
+  sent_cases a b m sent = elim (sent_before w i s done at a b m sent) [
     | inl old ↦ inl old
-    | inr new ↦ let r = in_sent_by i a b m done.letters new in inr (r.0, may b m r.1)
+    | inr new ↦ inr (new.0, may b m new.1)
   ]
 
   -- a LOCKED sent is an old one, or that of a new lock
@@ -111,8 +37,8 @@ module _ {A : Type 0} (w : NodeWorld) (i : ℕ) (s : Node) (done : Done Node A M
   ]
 
   over_after : (a b : ℕ) (stamp : Stamp) (g : ℕ) → IsOver w a b stamp g → IsOver (after w i done) a b stamp g
-  over_after a b stamp g (inl sent) = inl (sent_old b a (Relinquish stamp g) sent)
-  over_after a b stamp g (inr (later, t, sent, le)) = inr (later, t, sent_old b a (Release later t) sent, le)
+  over_after a b stamp g (inl sent) = inl (sent_after w i s done at b a (Relinquish stamp g) sent)
+  over_after a b stamp g (inr (later, t, sent, le)) = inr (later, t, sent_after w i s done at b a (Release later t) sent, le)
 
   over_from : (b : ℕ) (stamp : Stamp) (g last : ℕ) → stamp.node ≡ b → IsToEnd w i stamp g last → IsOver w i b stamp g
   over_from b stamp g last node (inl sent) = inl (subst (λ x. WasSent w x i (Relinquish stamp g)) node sent)
@@ -141,7 +67,7 @@ module _ {A : Type 0} (w : NodeWorld) (i : ℕ) (s : Node) (done : Done Node A M
     back = ok.back;
     c = ok.c;
     top = ok.top;
-    lock = each_after (λ x. IsLockedFor x t.requester.ours g ok.c) a ok.lock
+    lock = each_after w i s done at (λ x. IsLockedFor x t.requester.ours g ok.c) a ok.lock
         (λ e was. elim (moves.lock t.requester.ours g ok.c was) [
           | inl stays ↦ stays
           | inr end ↦ absurd (held_lasts j t g done.state.arbiter.last tat busy (subst (λ x. back_at t.requester x < g) e ok.back) (subst (λ x. held_at t.requester x ≡ Some g) e has) end)
@@ -151,7 +77,7 @@ module _ {A : Type 0} (w : NodeWorld) (i : ℕ) (s : Node) (done : Done Node A M
   -- node j, which has entered a section, where it takes the step
   kept_here : (j a : ℕ) (t : Node) (en : IsEntered w j t) → IsNode w j t → j ≡ i → IsGivingBack i s done.state a en.stamp (en.grant_of a) → ⊥
   kept_here j a t en tat e back =
-      let same = was_s j t e tat in
+      let same = was w i s at j t e tat in
       let waiting : t.requester.phase ≡ Waiting = ap (λ x. x.requester.phase) same ∙ back.waiting in
       let ended = en.ended (λ n inside. let bad : Waiting ≡ Inside n = sym waiting ∙ inside in cc) in
       let lt : en.stamp.number < t.requester.issued = ended.1 (ap is_busy waiting) in
@@ -186,7 +112,7 @@ module _ {A : Type 0} (w : NodeWorld) (i : ℕ) (s : Node) (done : Done Node A M
     node = en.node;
     inside = en.inside;
     ended = en.ended;
-    sent = λ a own. let r = en.sent a own in (r.0, sent_old a j (Locked en.stamp (en.grant_of a) r.0) r.1);
+    sent = λ a own. let r = en.sent a own in (r.0, sent_after w i s done at a j (Locked en.stamp (en.grant_of a) r.0) r.1);
     kept = λ a own sent. elim (sent_cases j a (Relinquish en.stamp (en.grant_of a)) sent) [
       | inl old ↦ en.kept a own old
       | inr p ↦ kept_here j a t en tat p.0 p.1
@@ -194,10 +120,10 @@ module _ {A : Type 0} (w : NodeWorld) (i : ℕ) (s : Node) (done : Done Node A M
     released = λ a later u sent le. elim (sent_cases j a (Release later u) sent) [
       | inl old ↦ en.released a later u old le
       | inr p ↦
-          let same : t.requester.mine ≡ s.requester.mine = ap (λ x. x.requester.mine) (was_s j t p.0 tat) in
+          let same : t.requester.mine ≡ s.requester.mine = ap (λ x. x.requester.mine) (was w i s at j t p.0 tat) in
           let k : done.state.requester.mine ≤ u = p.1.mine in let l = moves.mine in omega arith
     ];
-    locked = λ a arbiter own aat. elim (node_cases a arbiter aat) [
+    locked = λ a arbiter own aat. elim (node_cases w i s done at a arbiter aat) [
       | inl p ↦ subst (λ x. ((c : ℕ) × IsLockedFor arbiter en.stamp (en.grant_of x) c) ⊎ (t.requester.mine ≤ arbiter.arbiter.last)) (sym p.0)
           (subst (λ x. ((c : ℕ) × IsLockedFor x en.stamp (en.grant_of i) c) ⊎ (t.requester.mine ≤ x.arbiter.last)) (sym p.1)
           (locked_here j t en (subst (λ x. is_own t.requester x ≡ true) p.0 own)))
@@ -218,8 +144,8 @@ module _ {A : Type 0} (w : NodeWorld) (i : ℕ) (s : Node) (done : Done Node A M
         back_places = ok.back_places;
         held_places = ok.held_places;
         own_few = ok.own_few;
-        own_node = λ a own. let r = ok.own_node a own in node_after a r.0 r.1;
-        meet = λ k u uat. each_after (λ x. (a : ℕ) × (is_own t.requester a ≡ true) × (is_own x.requester a ≡ true)) k (ok.meet k)
+        own_node = λ a own. let r = ok.own_node a own in node_after w i s done at a r.0 r.1;
+        meet = λ k u uat. each_after w i s done at (λ x. (a : ℕ) × (is_own t.requester a ≡ true) × (is_own x.requester a ≡ true)) k (ok.meet k)
             (λ e p. (p.0, p.1, ap (λ x. slice_index_or x p.0 false) moves.own ∙ p.2)) u uat;
         issued = ok.issued;
         ours_node = ok.ours_node;
@@ -227,7 +153,7 @@ module _ {A : Type 0} (w : NodeWorld) (i : ℕ) (s : Node) (done : Done Node A M
         mine_top = ok.mine_top;
         top_reached = reached_after t.requester.top ok.top_reached;
         last_reached = reached_after t.arbiter.last ok.last_reached;
-        lock_last = λ lock has. let r = ok.lock_last lock has in (r.0, sent_old j lock.stamp.node (Locked lock.stamp lock.grant lock.last) r.1);
+        lock_last = λ lock has. let r = ok.lock_last lock has in (r.0, sent_after w i s done at j lock.stamp.node (Locked lock.stamp lock.grant lock.last) r.1);
         held = λ busy a g has. held_after j t a g tat busy has (ok.held busy a g has);
         inside_holds = ok.inside_holds;
         asked_held = ok.asked_held;
@@ -237,13 +163,13 @@ module _ {A : Type 0} (w : NodeWorld) (i : ℕ) (s : Node) (done : Done Node A M
   locked_old : (a b : ℕ) (stamp : Stamp) (g c : ℕ) → IsLockedOk w a b stamp g c → IsLockedOk (after w i done) a b stamp g c
   locked_old a b stamp g c ok = record {
     node = ok.node;
-    granted = each_after (λ x. g ≤ x.arbiter.granted) a ok.granted (λ e le. let l = moves.granted in omega arith);
+    granted = each_after w i s done at (λ x. g ≤ x.arbiter.granted) a ok.granted (λ e le. let l = moves.granted in omega arith);
     reached = reached_after c ok.reached;
     same = λ ob other oc sent. elim (sent_locked a ob other g oc sent) [
       | inl old ↦ ok.same ob other oc old
-      | inr p ↦ let le : g ≤ s.arbiter.granted = ok.granted s (at_as a p.0) in absurd (omega arith)
+      | inr p ↦ let le : g ≤ s.arbiter.granted = ok.granted s (at_as w i s at a p.0) in absurd (omega arith)
     ];
-    ends = each_after (λ x. IsLockedFor x stamp g c ⊎ IsOver (after w i done) a b stamp g) a
+    ends = each_after w i s done at (λ x. IsLockedFor x stamp g c ⊎ IsOver (after w i done) a b stamp g) a
         (λ t tat. elim (ok.ends t tat) [ inl l ↦ inl l | inr o ↦ inr (over_after a b stamp g o) ])
         (λ e was. elim was [
           | inl l ↦ elim (moves.lock stamp g c l) [
@@ -254,13 +180,10 @@ module _ {A : Type 0} (w : NodeWorld) (i : ℕ) (s : Node) (done : Done Node A M
         ]);
   }
 
-  state_is : (t : Node) → IsNode (after w i done) i t → t ≡ done.state
-  state_is t tat = same_Some t done.state (sym tat ∙ get_set_same w.nodes i s done.state at)
-
   locked_new : (b : ℕ) (stamp : Stamp) (g c : ℕ) → IsGranted s done.state b stamp g c → IsLockedOk (after w i done) i b stamp g c
   locked_new b stamp g c new = record {
     node = new.node;
-    granted = λ t tat. let e : t.arbiter.granted ≡ done.state.arbiter.granted = ap (λ x. x.arbiter.granted) (state_is t tat) in let f = new.granted in omega arith;
+    granted = λ t tat. let e : t.arbiter.granted ≡ done.state.arbiter.granted = ap (λ x. x.arbiter.granted) (is_new w i s done at i t refl tat) in let f = new.granted in omega arith;
     reached = subst (λ x. IsReached (after w i done) x) (sym new.last) (reached_after s.arbiter.last (good.nodes i s at).last_reached);
     same = λ ob other oc sent. elim (sent_locked i ob other g oc sent) [
       | inl old ↦ let le : g ≤ s.arbiter.granted = (good.letters i ob (Locked other g oc) old).granted s at in let lt = new.above in absurd (omega arith)
@@ -269,22 +192,22 @@ module _ {A : Type 0} (w : NodeWorld) (i : ℕ) (s : Node) (done : Done Node A M
           let e : record { stamp = other; grant = g; last = oc } ≡ record { stamp = stamp; grant = g; last = c } = same_Some {A = Lock} (record { stamp = other; grant = g; last = oc }) (record { stamp = stamp; grant = g; last = c }) (sym lock ∙ mine) in
           (ap (λ x. x.stamp) e, ap (λ x. x.last) e)
     ];
-    ends = λ t tat. inl (subst (λ x. IsLockedFor x stamp g c) (sym (state_is t tat)) new.lock);
+    ends = λ t tat. inl (subst (λ x. IsLockedFor x stamp g c) (sym (is_new w i s done at i t refl tat)) new.lock);
   }
 
   letter_old : (a b : ℕ) (m : MaekawaMsg) → IsLetterOk w a b m → IsLetterOk (after w i done) a b m
   letter_old a b (Request stamp) ok = tt
   letter_old a b (Locked stamp g c) ok = locked_old a b stamp g c ok
   letter_old a b (Failed stamp) ok = tt
-  letter_old a b (Inquire stamp g) ok = (ok.0, sent_old a b (Locked stamp g ok.0) ok.1)
+  letter_old a b (Inquire stamp g) ok = (ok.0, sent_after w i s done at a b (Locked stamp g ok.0) ok.1)
   letter_old a b (Relinquish stamp g) ok = record {
     node = ok.node;
-    issued = each_after (λ x. stamp.number ≤ x.requester.issued) a ok.issued (λ e le. let l = moves.issued in omega arith);
-    given = each_after (λ x. IsGiven x.requester b stamp g) a ok.given (λ e was. moves.given b stamp g (ok.issued s (at_as a e)) was);
+    issued = each_after w i s done at (λ x. stamp.number ≤ x.requester.issued) a ok.issued (λ e le. let l = moves.issued in omega arith);
+    given = each_after w i s done at (λ x. IsGiven x.requester b stamp g) a ok.given (λ e was. moves.given b stamp g (ok.issued s (at_as w i s at a e)) was);
   }
   letter_old a b (Release stamp t) ok = record {
     node = ok.node;
-    ended = each_after (λ x. IsEnded x.requester stamp.number) a ok.ended (λ e was. moves.ended stamp.number was);
+    ended = each_after w i s done at (λ x. IsEnded x.requester stamp.number) a ok.ended (λ e was. moves.ended stamp.number was);
     reached = reached_after t ok.reached;
   }
 
@@ -293,22 +216,22 @@ module _ {A : Type 0} (w : NodeWorld) (i : ℕ) (s : Node) (done : Done Node A M
   letter_new b (Locked stamp g c) (inl old) = locked_old i b stamp g c (good.letters i b (Locked stamp g c) old)
   letter_new b (Locked stamp g c) (inr new) = locked_new b stamp g c new
   letter_new b (Failed stamp) new = tt
-  letter_new b (Inquire stamp g) new = (new.0, sent_old i b (Locked stamp g new.0) new.1)
+  letter_new b (Inquire stamp g) new = (new.0, sent_after w i s done at i b (Locked stamp g new.0) new.1)
   letter_new b (Relinquish stamp g) new = record {
     node = new.node;
-    issued = λ t tat. let e : t.requester.issued ≡ done.state.requester.issued = ap (λ x. x.requester.issued) (state_is t tat) in let f = new.number in let l = moves.issued in omega arith;
-    given = λ t tat. subst (λ x. IsGiven x.requester b stamp g) (sym (state_is t tat)) new.given;
+    issued = λ t tat. let e : t.requester.issued ≡ done.state.requester.issued = ap (λ x. x.requester.issued) (is_new w i s done at i t refl tat) in let f = new.number in let l = moves.issued in omega arith;
+    given = λ t tat. subst (λ x. IsGiven x.requester b stamp g) (sym (is_new w i s done at i t refl tat)) new.given;
   }
   letter_new b (Release stamp t) new = record {
     node = new.node;
-    ended = λ u uat. subst (λ x. IsEnded x.requester stamp.number) (sym (state_is u uat)) new.ended;
+    ended = λ u uat. subst (λ x. IsEnded x.requester stamp.number) (sym (is_new w i s done at i u refl uat)) new.ended;
     reached = reached_after t new.reached;
   }
 
   -- a step is sound where the node's new state is
   pub sound_after : IsNodeOk (after w i done) i done.state → IsSound (after w i done)
   sound_after node = record {
-    nodes = λ j t tat. elim (node_cases j t tat) [
+    nodes = λ j t tat. elim (node_cases w i s done at j t tat) [
       | inl p ↦ subst (λ x. IsNodeOk (after w i done) x t) (sym p.0) (subst (λ x. IsNodeOk (after w i done) i x) (sym p.1) node)
       | inr p ↦ node_ok_after j t p.1
     ];

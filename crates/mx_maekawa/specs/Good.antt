@@ -6,9 +6,12 @@ use Rattle.mx_letters.specs.declared.maekawa.MaekawaMsg.TheVariants.{Request, Lo
 use Rattle.mx_nodelaws.specs.World.{World, IsNode, WasSent}
 use Rattle.mx_nodelaws.specs.declared.phase.Phase.{Phase}
 use Rattle.mx_nodelaws.specs.declared.phase.Phase.TheVariants.{Idle, Waiting, Inside}
+use Rattle.mx_nodelaws.specs.Phases.{is_busy}
+use Rattle.mx_nodelaws.specs.Plain.{Small, PlainStamp, PlainPhase, IsPlainWorld}
+use Rattle.mx_nodelaws.specs.Raised.{IsReachedBy}
 use Rattle.mx_maekawa.specs.declared.lock.Lock.{Lock}
 use Rattle.mx_maekawa.specs.Node.{RequesterState, ArbiterState, Node}
-use Rattle.mx_maekawa.specs.RequesterStep.{is_busy, is_own, held_at, asked_at, back_at, has_failed}
+use Rattle.mx_maekawa.specs.RequesterStep.{is_own, held_at, asked_at, back_at, has_failed}
 use Rattle.mx_maekawa.specs.ArbiterStep.{waiting_at, ended_at}
 
 abbrev pub NodeWorld : Type 0
@@ -28,7 +31,7 @@ IsGiven r a stamp g = IsEnded r stamp.number ⊎ ((g ≤ back_at r a) ⊎ ((h : 
 
 -- some node has entered a section of this number or a later one
 abbrev pub IsReached : NodeWorld → ℕ → Type 0
-IsReached w n = (j : ℕ) × (t : Node) × (IsNode w j t) × (n ≤ t.requester.mine)
+IsReached w n = IsReachedBy (λ (s : Node). s.requester.mine) w n
 
 -- arbiter a was told that node i's grant is given back, or that its request has ended
 abbrev pub IsOver : NodeWorld → ℕ → ℕ → Stamp → ℕ → Type 0
@@ -52,7 +55,7 @@ pub record IsEntered (w : NodeWorld) (i : ℕ) (s : Node) : Type 0 where
   pub kept : (a : ℕ) → is_own s.requester a ≡ true → WasSent w i a (Relinquish stamp (grant_of a)) → ⊥
   -- each release of the stamp or a later one tells the section's number
   pub released : (a : ℕ) (later : Stamp) (t : ℕ) → WasSent w i a (Release later t) → stamp.number ≤ later.number → s.requester.mine ≤ t
-  -- an arbiter is still locked for it, or was told the section's number
+  -- an arbiter is unchanged locked for it, or was told the section's number
   pub locked : (a : ℕ) (arbiter : Node) → is_own s.requester a ≡ true → IsNode w a arbiter → ((c : ℕ) × IsLockedFor arbiter stamp (grant_of a) c) ⊎ (s.requester.mine ≤ arbiter.arbiter.last)
   -- each later grant of its arbiters tells the section's number
   pub after : (a b : ℕ) (other : Stamp) (g c : ℕ) → is_own s.requester a ≡ true → WasSent w a b (Locked other g c) → grant_of a < g → s.requester.mine ≤ c
@@ -136,14 +139,7 @@ pub record IsSafe (w : NodeWorld) : Type 0 where
   pub sound : IsSound w
   pub calm : (i : ℕ) (s : Node) → IsNode w i s → IsCalm s.requester
 
--- a u64 value
-abbrev pub Small : ℕ → Type 0
-Small x = x < 2 ^ 64
-
--- a stamp of one of n nodes
-abbrev pub PlainStamp : ℕ → Stamp → Type 0
-PlainStamp n stamp = Small stamp.number × (stamp.node < n)
-
+-- each number in a letter is a u64 value, and each name a node
 abbrev pub PlainLetter : ℕ → MaekawaMsg → Type 0
 PlainLetter n (Request stamp) = PlainStamp n stamp
 PlainLetter n (Locked stamp g c) = PlainStamp n stamp × Small g × Small c
@@ -152,11 +148,7 @@ PlainLetter n (Inquire stamp g) = PlainStamp n stamp × Small g
 PlainLetter n (Relinquish stamp g) = PlainStamp n stamp × Small g
 PlainLetter n (Release stamp t) = PlainStamp n stamp × Small t
 
-abbrev pub PlainPhase : Phase → Type 0
-PlainPhase Idle = Unit {0}
-PlainPhase Waiting = Unit {0}
-PlainPhase (Inside n) = Small n
-
+-- the same of a node's parts
 pub record PlainRequester (n : ℕ) (r : RequesterState) : Type 0 where
   pub me : r.me < n
   pub own : (a : ℕ) → is_own r a ≡ true → a < n
@@ -189,11 +181,6 @@ pub record PlainNode (n : ℕ) (s : Node) : Type 0 where
   pub requester : PlainRequester n s.requester
   pub arbiter : PlainArbiter n s.arbiter
 
--- each number is a u64 value, and each name a node
-pub record PlainWorld (w : NodeWorld) : Type 0 where
-  pub nodes : (i : ℕ) (s : Node) → IsNode w i s → PlainNode (length w.nodes) s
-  pub letters : (a b : ℕ) (m : MaekawaMsg) → WasSent w a b m → (a < length w.nodes) × (b < length w.nodes) × PlainLetter (length w.nodes) m
-
 pub record IsGood (w : NodeWorld) : Type 0 where
   pub safe : IsSafe w
-  pub plain : PlainWorld w
+  pub plain : IsPlainWorld PlainNode PlainLetter w

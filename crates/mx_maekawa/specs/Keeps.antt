@@ -3,7 +3,8 @@ use Rattle.std.proofs.Common.{ℕ, ◌+◌, ◌≡◌, inl, inr, Bool, true, fal
 use Rattle.std.proofs.lemmas.Option.{same_Some}
 use Rattle.mx_stamps.specs.declared.stamp.Stamp.{Stamp}
 use Rattle.mx_stamps.specs.Lists.{IsIn}
-use Rattle.mx_stamps.proofs.Lists.{in_append, none_is_no_some, get_or_replicate, cond_case, and_true}
+use Rattle.mx_stamps.proofs.Lists.{in_append, none_is_no_some, get_or_replicate}
+use Rattle.mx_stamps.proofs.Choices.{eq_true, and_true, cond_case}
 use Rattle.mx_letters.specs.declared.maekawa.MaekawaMsg.{MaekawaMsg}
 use Rattle.mx_letters.specs.declared.maekawa.MaekawaMsg.TheVariants.{Request, Locked, Failed, Inquire, Relinquish, Release}
 use Rattle.mx_nodelaws.specs.World.{Done, Quiet, quietly, IsNode, WasSent, after, addressed}
@@ -16,31 +17,30 @@ use Rattle.mx_nodelaws.specs.declared.faults.EnterFault.{EnterFault}
 use Rattle.mx_nodelaws.specs.declared.faults.EnterFault.TheVariants.{NotWaiting, NotGranted, NumbersSpent}
 use Rattle.mx_nodelaws.specs.declared.faults.LeaveFault.{LeaveFault}
 use Rattle.mx_nodelaws.specs.declared.faults.LeaveFault.TheVariants.{NotInside}
+use Rattle.mx_nodelaws.specs.Phases.{is_waiting}
+use Rattle.mx_nodelaws.proofs.Sent.{sent_if}
+use Rattle.mx_nodelaws.specs.Calls.{unchanged}
+use Rattle.mx_nodelaws.proofs.Calls.{ask_cases, enter_cases}
 use Rattle.mx_quorums.specs.Family.{has_of}
 use Rattle.mx_maekawa.specs.Node.{RequesterState, Node}
-use Rattle.mx_maekawa.specs.RequesterStep.{unchanged, is_waiting, is_own, holds, holds_all, to_missing, asking, asked, ask_in, take_locked, take_failed, take_inquire, entering, entered, refused, enter_granted, enter_in, leaving, left, leave_in, request_again}
-use Rattle.mx_maekawa.specs.Step.{still, by_requester, by_arbiter, ask_of, enter_of, leave_of, tick_of, seeing, is_answer, is_call, deliver_of}
+use Rattle.mx_maekawa.specs.RequesterStep.{is_own, holds, holds_all, to_missing, asking, asked, ask_in, take_locked, take_failed, take_inquire, entering, entered, enter_in, leaving, left, leave_in, request_again}
+use Rattle.mx_maekawa.specs.Step.{by_requester, by_arbiter, ask_of, enter_of, leave_of, tick_of, seeing, is_answer, is_call, deliver_of}
 use Rattle.mx_maekawa.specs.ArbiterStep.{lock_letter, take_request, take_relinquish, take_release}
 use Rattle.mx_maekawa.specs.Good.{NodeWorld, IsNodeOk, IsCalm, IsSafe}
-use Rattle.mx_maekawa.specs.Places.{eq_true}
-use Rattle.mx_maekawa.specs.Frame.{IsSendable}
-use Rattle.mx_maekawa.specs.Parts.{asked_sound, entered_sound, left_sound}
 use Rattle.mx_maekawa.specs.Cascades.{sends_sound}
 use Rattle.mx_maekawa.specs.RequesterKeeps.{safe_of, still_safe, locked_safe, failed_safe, inquire_safe}
 use Rattle.mx_maekawa.specs.ArbiterKeeps.{lock_may, request_safe, relinquish_safe, release_safe}
+use Rattle.mx_maekawa.specs.Moves.{IsSendable}
+use Rattle.mx_maekawa.specs.SectionParts.{asked_sound, entered_sound, left_sound}
 
 none_asked : (r : RequesterState) → r.asked ≡ replicate 21 None → IsCalm r
 none_asked r e a g b lt was = absurd (none_is_no_some g (sym (get_or_replicate 21 a None) ∙ sym (ap (λ x. get_or x a None) e) ∙ was))
-
-one_of : (c : Bool) (m n : MaekawaMsg) → cond c (Some m) None ≡ Some n → n ≡ m
-one_of true m n h = sym (same_Some m n h)
-one_of false m n h = absurd (none_is_no_some n h)
 
 module _ (w : NodeWorld) (i : ℕ) (s : Node) (good : IsSafe w) (at : IsNode w i s) where
   ok_s : IsNodeOk w i s
   ok_s = good.sound.nodes i s at
 
-  same : {A : Type 0} (answer : A) → IsSafe (after w i (still s answer))
+  same : {A : Type 0} (answer : A) → IsSafe (after w i (unchanged s answer))
   same {A} answer = still_safe w i s good at {A = A} answer
 
   -- ask
@@ -48,9 +48,9 @@ module _ (w : NodeWorld) (i : ℕ) (s : Node) (good : IsSafe w) (at : IsNode w i
   ask_in_safe : (p : Phase) → s.requester.phase ≡ p → IsSafe (after w i (by_requester s (ask_in p s.requester)))
   ask_in_safe Idle e =
       let r = s.requester in
-      cond_case (λ d. IsSafe (after w i (by_requester s d))) (nat_lt r.highest 18446744073709551615) (asked r) (unchanged r (Err StampsSpent))
+      ask_cases (λ (x : RequesterState). x.highest) asked (λ d. IsSafe (after w i (by_requester s d))) r
       (λ _. safe_of w i s good at {A = Result Stamp AskFault} (by_requester s (asked r)) (asked_sound w i s good.sound at {A = Result Stamp AskFault} (Ok (asking r).ours) e) (none_asked (asking r) refl))
-      (λ _. same {A = Result Stamp AskFault} (Err StampsSpent))
+      (same {A = Result Stamp AskFault} (Err StampsSpent))
   ask_in_safe Waiting e = same {A = Result Stamp AskFault} (Err NotIdle)
   ask_in_safe (Inside n) e = same {A = Result Stamp AskFault} (Err NotIdle)
 
@@ -67,22 +67,22 @@ module _ (w : NodeWorld) (i : ℕ) (s : Node) (good : IsSafe w) (at : IsNode w i
 
   pub deliver_safe : (from : ℕ) (m : MaekawaMsg) → WasSent w from i m → IsSafe (after w i (deliver_of from m s))
   deliver_safe from (Request stamp) sent =
-      cond_case (λ d. IsSafe (after w i d)) (is_call s from stamp) (by_arbiter (seeing s stamp.number) (take_request stamp s.arbiter)) (still s tt)
+      cond_case (λ d. IsSafe (after w i d)) (is_call s from stamp) (by_arbiter (seeing s stamp.number) (take_request stamp s.arbiter)) (unchanged s tt)
       (λ _. request_safe w i s good at stamp) (λ _. same {A = Unit {0}} tt)
   deliver_safe from (Locked stamp g c) sent =
-      cond_case (λ d. IsSafe (after w i d)) (is_answer s from stamp) (by_requester s (take_locked from stamp g c s.requester)) (still s tt)
+      cond_case (λ d. IsSafe (after w i d)) (is_answer s from stamp) (by_requester s (take_locked from stamp g c s.requester)) (unchanged s tt)
       (λ e. let p = answers from stamp e in locked_safe w i s good at from stamp g c p.0 p.1 sent) (λ _. same {A = Unit {0}} tt)
   deliver_safe from (Failed stamp) sent =
-      cond_case (λ d. IsSafe (after w i d)) (is_answer s from stamp) (by_requester s (take_failed from stamp s.requester)) (still s tt)
+      cond_case (λ d. IsSafe (after w i d)) (is_answer s from stamp) (by_requester s (take_failed from stamp s.requester)) (unchanged s tt)
       (λ _. failed_safe w i s good at from stamp) (λ _. same {A = Unit {0}} tt)
   deliver_safe from (Inquire stamp g) sent =
-      cond_case (λ d. IsSafe (after w i d)) (is_answer s from stamp) (by_requester s (take_inquire from stamp g s.requester)) (still s tt)
+      cond_case (λ d. IsSafe (after w i d)) (is_answer s from stamp) (by_requester s (take_inquire from stamp g s.requester)) (unchanged s tt)
       (λ e. let p = answers from stamp e in inquire_safe w i s good at from stamp g p.0 p.1 sent) (λ _. same {A = Unit {0}} tt)
   deliver_safe from (Relinquish stamp g) sent =
-      cond_case (λ d. IsSafe (after w i d)) (is_call s from stamp) (by_arbiter s (take_relinquish stamp g s.arbiter)) (still s tt)
+      cond_case (λ d. IsSafe (after w i d)) (is_call s from stamp) (by_arbiter s (take_relinquish stamp g s.arbiter)) (unchanged s tt)
       (λ e. relinquish_safe w i s good at from stamp g (calls from stamp e) sent) (λ _. same {A = Unit {0}} tt)
   deliver_safe from (Release stamp t) sent =
-      cond_case (λ d. IsSafe (after w i d)) (is_call s from stamp) (by_arbiter s (take_release stamp t s.arbiter)) (still s tt)
+      cond_case (λ d. IsSafe (after w i d)) (is_call s from stamp) (by_arbiter s (take_release stamp t s.arbiter)) (unchanged s tt)
       (λ e. release_safe w i s good at from stamp t (calls from stamp e) sent) (λ _. same {A = Unit {0}} tt)
 
   -- enter
@@ -94,12 +94,9 @@ module _ (w : NodeWorld) (i : ℕ) (s : Node) (good : IsSafe w) (at : IsNode w i
   enter_in_safe Idle e = same {A = Result ℕ EnterFault} (Err NotWaiting)
   enter_in_safe Waiting e =
       let r = s.requester in
-      let P : Quiet RequesterState (Result ℕ EnterFault) → Type 0 = λ d. IsSafe (after w i (enters d)) in
-      cond_case P (holds_all r) (enter_granted r) (refused r NotGranted)
-      (λ all. cond_case P (nat_lt r.top r.limit) (entered r) (refused r NumbersSpent)
-      (λ _. safe_of w i s good at {A = Result ℕ EnterFault} (enters (entered r)) (entered_sound w i s good.sound at {A = Result ℕ EnterFault} (Ok (r.top + 1)) e all) (none_asked (entering r) refl))
-      (λ _. same {A = Result ℕ EnterFault} (Err NumbersSpent)))
-      (λ _. same {A = Result ℕ EnterFault} (Err NotGranted))
+      enter_cases holds_all (λ (x : RequesterState). x.top) (λ (x : RequesterState). x.limit) entering (λ d. IsSafe (after w i (enters d))) r
+      (λ all _. safe_of w i s good at {A = Result ℕ EnterFault} (enters (entered r)) (entered_sound w i s good.sound at {A = Result ℕ EnterFault} (Ok (r.top + 1)) e all) (none_asked (entering r) refl))
+      (same {A = Result ℕ EnterFault} (Err NumbersSpent)) (λ _. same {A = Result ℕ EnterFault} (Err NotGranted))
   enter_in_safe (Inside n) e = same {A = Result ℕ EnterFault} (Err NotWaiting)
 
   pub enter_safe : IsSafe (after w i (quietly (enter_of s)))
@@ -123,7 +120,7 @@ module _ (w : NodeWorld) (i : ℕ) (s : Node) (good : IsSafe w) (at : IsNode w i
       let P : List (ℕ × MaekawaMsg) → Type 0 = λ ls. IsIn {X = ℕ × MaekawaMsg} (b, m) ls → IsSendable w i s s b m in
       cond_case P (is_waiting r.phase) (addressed (to_missing r (Request r.ours)) r.count) []
       (λ _ sent. let p = in_addressed (to_missing r (Request r.ours)) r.count b m sent in
-      subst (λ x. IsSendable w i s s b x) (sym (one_of (is_own r b && not (holds r b)) (Request r.ours) m p.1)) tt)
+      subst (λ x. IsSendable w i s s b x) (sym (sent_if (is_own r b && not (holds r b)) (Request r.ours) m p.1).1) tt)
       (λ _ none. absurd none)
 
   pub tick_safe : IsSafe (after w i (tick_of s))

@@ -2,23 +2,24 @@
 use Rattle.std.proofs.Common.{ℕ, ◌<◌, ◌↔◌, inl, inr, false, List, Option, None, Result, slice_index_or, length, get_or, refl, sym, ◌∙◌, ap, subst, arith}
 use Rattle.mx_stamps.specs.declared.stamp.Stamp.{Stamp}
 use Rattle.mx_stamps.specs.Lists.{IsIn}
-use Rattle.mx_stamps.proofs.Lists.{none_is_no_some, get_or_replicate, get_each_below, has_each_below}
+use Rattle.mx_stamps.proofs.Lists.{none_is_no_some, get_or_replicate, get_each_below, has_each_below, length_replicate}
 use Rattle.mx_letters.specs.declared.maekawa.MaekawaMsg.{MaekawaMsg}
 use Rattle.mx_letters.specs.declared.maekawa.MaekawaMsg.TheVariants.{Request, Locked, Failed, Inquire, Relinquish, Release}
 use Rattle.mx_nodelaws.specs.World.{Done, quietly, IsNode, WasSent, after}
+use Rattle.mx_nodelaws.specs.declared.phase.Phase.TheVariants.{Idle}
 use Rattle.mx_nodelaws.specs.declared.faults.AskFault.{AskFault}
 use Rattle.mx_nodelaws.specs.declared.faults.EnterFault.{EnterFault}
 use Rattle.mx_nodelaws.specs.declared.faults.LeaveFault.{LeaveFault}
+use Rattle.mx_nodelaws.proofs.Plain.{plain_after, plain_by}
 use Rattle.mx_quorums.specs.Family.{Family, IsMeeting}
 use Rattle.mx_maekawa.specs.Node.{Node}
 use Rattle.mx_maekawa.specs.Step.{start_of, ask_of, enter_of, leave_of, tick_of, deliver_of, maekawa_core}
-use Rattle.mx_maekawa.specs.Good.{NodeWorld, IsOver, IsEntered, IsHeldOk, IsNodeOk, IsLetterOk, IsSafe}
+use Rattle.mx_maekawa.specs.Good.{NodeWorld, IsOver, IsEntered, IsHeldOk, IsNodeOk, IsLetterOk, IsSafe, IsGood, PlainLetter, PlainNode}
 use Rattle.mx_nodelaws.specs.Laws.{KeepsGood, started}
-use Rattle.mx_maekawa.specs.Good.{IsGood}
-use Rattle.mx_maekawa.specs.Places.{length_replicate, idle_not_busy, idle_not_inside}
+use Rattle.mx_nodelaws.proofs.Phases.{idle_apart, idle_not_busy}
 use Rattle.mx_maekawa.specs.Safety.{one_inside, entry}
 use Rattle.mx_maekawa.specs.Keeps.{ask_safe, deliver_safe, enter_safe, leave_safe, tick_safe}
-use Rattle.mx_maekawa.specs.Plain.{PlainDone, plain_after, ask_done, deliver_done, enter_done, leave_done, tick_done, start_plain}
+use Rattle.mx_maekawa.specs.Plain.{PlainDone, ask_done, deliver_done, enter_done, leave_done, tick_done, start_plain}
 
 start_ok : (shape : Family) (origin limit : ℕ) → IsMeeting shape → (i : ℕ) → i < shape.count → IsNode (started maekawa_core shape origin limit) i (start_of shape i origin limit) → IsNodeOk (started maekawa_core shape origin limit) i (start_of shape i origin limit)
 start_ok shape origin limit valid i lt at = record {
@@ -33,14 +34,14 @@ start_ok shape origin limit valid i lt at = record {
       let p = valid.meet i j lt r.0 in
       (p.0, p.1, ap (λ x. slice_index_or x.requester.own p.0 false) r.1 ∙ p.2);
   issued = omega arith;
-  ours_node = λ busy. absurd (idle_not_busy busy);
-  ours_number = λ busy. absurd (idle_not_busy busy);
+  ours_node = λ busy. absurd (idle_not_busy Idle refl busy);
+  ours_number = λ busy. absurd (idle_not_busy Idle refl busy);
   mine_top = omega arith;
   top_reached = (i, start_of shape i origin limit, at, omega arith);
   last_reached = (i, start_of shape i origin limit, at, omega arith);
   lock_last = λ lock has. absurd (none_is_no_some lock has);
-  held = λ busy. absurd (idle_not_busy busy);
-  inside_holds = λ n inside. absurd (idle_not_inside n inside);
+  held = λ busy. absurd (idle_not_busy Idle refl busy);
+  inside_holds = λ n inside. absurd (idle_apart n inside);
   asked_held = λ a g was. absurd (none_is_no_some g (sym (get_or_replicate 21 a None) ∙ was));
   entered = λ some. absurd (omega arith);
 }
@@ -135,7 +136,7 @@ module _ (w : NodeWorld) (sent : List (ℕ × ℕ × MaekawaMsg)) (same : (x : �
   }
 
 after_good : {A : Type 0} (w : NodeWorld) (i : ℕ) (s : Node) (done : Done Node A MaekawaMsg) → IsGood w → IsNode w i s → IsSafe (after w i done) → PlainDone {A = A} (length w.nodes) done → IsGood (after w i done)
-after_good {A} w i s done good at safe ok = record { safe = safe; plain = plain_after {A = A} w i s done good.plain at ok }
+after_good {A} w i s done good at safe ok = record { safe = safe; plain = plain_after PlainNode PlainLetter w i s done good.plain at ok }
 
 pub maekawa_laws : KeepsGood maekawa_core IsMeeting IsGood
 maekawa_laws = record {
@@ -145,7 +146,7 @@ maekawa_laws = record {
   after_enter = λ w i s good at. after_good {A = Result ℕ EnterFault} w i s (quietly (enter_of s)) good at (enter_safe w i s good.safe at) (enter_done (length w.nodes) s (good.plain.nodes i s at));
   after_leave = λ w i s good at. after_good {A = Result ℕ LeaveFault} w i s (leave_of s) good at (leave_safe w i s good.safe at) (leave_done (length w.nodes) s (good.plain.nodes i s at));
   after_tick = λ w i s good at. after_good {A = Unit {0}} w i s (tick_of s) good at (tick_safe w i s good.safe at) (tick_done (length w.nodes) s (good.plain.nodes i s at));
-  by_membership = λ w sent same good. record { safe = by_membership w sent same good.safe; plain = record { nodes = good.plain.nodes; letters = λ a b m h. good.plain.letters a b m ((same (a, b, m)).1 h) } };
+  by_membership = λ w sent same good. record { safe = by_membership w sent same good.safe; plain = plain_by PlainNode PlainLetter w sent same good.plain };
   to_nodes = λ w a b m good sent. (good.plain.letters a b m sent).1;
   one_inside = λ w i j s t good. one_inside w i j s t good.safe;
   entry = λ w i s good. entry w i s good.safe;

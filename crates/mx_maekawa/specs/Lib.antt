@@ -5,14 +5,18 @@ pub mod RequesterStep
 pub mod ArbiterStep
 pub mod Step
 pub mod Good
--- Proofs of the laws: Places and Permissions (lemmas), Frame (what any step leaves as it was), Parts and Cascades (what
--- a step is made of), RequesterKeeps, ArbiterKeeps and Keeps (each step keeps a world safe), RequesterPlain,
+-- Proofs of the laws: Places and Tests (lemmas), Moves and Frame (what any step may change, and what it leaves as it
+-- was), Parts, LockParts, GrantParts, SectionParts and Cascades (what a step is made of), RequesterKeeps, ArbiterKeeps and Keeps (each step keeps a world safe), RequesterPlain,
 -- ArbiterPlain and Plain (each number stays a u64 value), Safety (exclusion and numbering), Promises, Laws.
 pub mod Places
-pub mod Permissions
+pub mod Tests
+pub mod Moves
 pub mod Frame
 pub mod Safety
 pub mod Parts
+pub mod LockParts
+pub mod GrantParts
+pub mod SectionParts
 pub mod Cascades
 pub mod RequesterKeeps
 pub mod ArbiterKeeps

@@ -4,40 +4,31 @@ use Rattle.std.proofs.lemmas.Option.{slice_get_within}
 use Rattle.std.proofs.lemmas.List.{length-set}
 use Rattle.mx_stamps.specs.declared.stamp.Stamp.{Stamp}
 use Rattle.mx_stamps.specs.Lists.{each_below}
-use Rattle.mx_stamps.proofs.Lists.{get_after, in_append, none_is_no_some, get_or_replicate, cond_case, get_each_below, length_each_below}
+use Rattle.mx_stamps.proofs.Lists.{get_after, in_append, none_is_no_some, get_or_replicate, get_each_below, length_each_below}
+use Rattle.mx_stamps.proofs.Choices.{cond_case}
 use Rattle.mx_letters.specs.declared.maekawa.MaekawaMsg.{MaekawaMsg}
 use Rattle.mx_letters.specs.declared.maekawa.MaekawaMsg.TheVariants.{Request, Locked, Failed, Inquire, Relinquish, Release}
 use Rattle.mx_nodelaws.specs.World.{Done, quietly, IsNode, after, sent_by}
-use Rattle.mx_nodelaws.proofs.Worlds.{in_sent_by}
+use Rattle.mx_nodelaws.specs.Laws.{started}
+use Rattle.mx_nodelaws.proofs.Plain.{nil, both, plain_start}
 use Rattle.mx_nodelaws.specs.declared.faults.AskFault.{AskFault}
 use Rattle.mx_nodelaws.specs.declared.faults.EnterFault.{EnterFault}
 use Rattle.mx_nodelaws.specs.declared.faults.LeaveFault.{LeaveFault}
+use Rattle.mx_nodelaws.specs.Plain.{Small, IsPlainDone, IsPlainWorld}
+use Rattle.mx_nodelaws.specs.Calls.{unchanged}
 use Rattle.mx_quorums.specs.Family.{Family, IsMeeting}
 use Rattle.mx_maekawa.specs.Node.{RequesterState, ArbiterState, Node}
 use Rattle.mx_maekawa.specs.RequesterStep.{ask_in, take_locked, take_failed, take_inquire, leave_in, request_again}
-use Rattle.mx_maekawa.specs.Step.{still, by_requester, by_arbiter, start_of, ask_of, enter_of, leave_of, tick_of, seeing, is_answer, is_call, deliver_of}
+use Rattle.mx_maekawa.specs.Step.{by_requester, by_arbiter, start_of, ask_of, enter_of, leave_of, tick_of, seeing, is_answer, is_call, deliver_of, maekawa_core}
 use Rattle.mx_maekawa.specs.ArbiterStep.{lock_letter, take_request, take_relinquish, take_release}
 use Rattle.mx_maekawa.specs.Good.{NodeWorld}
-use Rattle.mx_maekawa.specs.Good.{Small, PlainLetter, PlainRequester, PlainNode, PlainWorld}
-use Rattle.mx_maekawa.specs.RequesterPlain.{PlainLetters, PlainDid, nil, both, cleared_small, ask_plain, locked_plain, failed_plain, inquire_plain, enter_plain, leave_plain, again_plain}
+use Rattle.mx_maekawa.specs.Good.{PlainLetter, PlainRequester, PlainNode}
+use Rattle.mx_maekawa.specs.RequesterPlain.{PlainDid, cleared_small, ask_plain, locked_plain, failed_plain, inquire_plain, enter_plain, leave_plain, again_plain}
 use Rattle.mx_maekawa.specs.ArbiterPlain as arbiter
 
-pub record PlainDone {A : Type 0} (n : ℕ) (d : Done Node A MaekawaMsg) : Type 0 where
-  pub state : PlainNode n d.state
-  pub letters : PlainLetters n d.letters
-
-pub plain_after : {A : Type 0} (w : NodeWorld) (i : ℕ) (s : Node) (done : Done Node A MaekawaMsg) → PlainWorld w → IsNode w i s → PlainDone {A = A} (length w.nodes) done → PlainWorld (after w i done)
-plain_after w i s done plain at ok =
-    let e : length w.nodes ≡ length (slice_set w.nodes i done.state) = sym (length-set w.nodes i done.state) in record {
-      nodes = λ j t tat. subst (λ n. PlainNode n t) e (elim (get_after w.nodes i j s done.state t at tat) [
-        | inl p ↦ subst (λ x. PlainNode (length w.nodes) x) (sym p.1) ok.state
-        | inr p ↦ plain.nodes j t p.1
-      ]);
-      letters = λ a b m sent. subst (λ n. (a < n) × (b < n) × PlainLetter n m) e (elim (in_append (a, b, m) w.sent (sent_by i done.letters) sent) [
-        | inl old ↦ plain.letters a b m old
-        | inr new ↦ let r = in_sent_by i a b m done.letters new in let q = ok.letters b m r.1 in let lt = slice_get_within w.nodes i s at in (omega (arith, r.0), q.0, q.1)
-      ]);
-    }
+-- a step that keeps the layer
+abbrev pub PlainDone : {A : Type 0} → ℕ → Done Node A MaekawaMsg → Type 0
+PlainDone n done = IsPlainDone PlainNode PlainLetter n done
 
 module _ (n : ℕ) (s : Node) (ok : PlainNode n s) where
   by_r : {A : Type 0} (d : Done RequesterState A MaekawaMsg) → PlainDid {A = A} n d → PlainDone {A = A} n (by_requester s d)
@@ -46,8 +37,8 @@ module _ (n : ℕ) (s : Node) (ok : PlainNode n s) where
   by_a : (d : Done ArbiterState (Unit {0}) MaekawaMsg) → arbiter.PlainDid n d → PlainDone {A = Unit {0}} n (by_arbiter s d)
   by_a d p = record { state = record { requester = ok.requester; arbiter = p.state }; letters = p.letters }
 
-  ignored : PlainDone {A = Unit {0}} n (still s tt)
-  ignored = record { state = ok; letters = nil n }
+  ignored : PlainDone {A = Unit {0}} n (unchanged s tt)
+  ignored = record { state = ok; letters = nil PlainLetter n }
 
   saw : (number : ℕ) → Small number → PlainRequester n (seeing s number).requester
   saw number small = record { me = ok.requester.me; own = ok.requester.own; count = ok.requester.count; limit = ok.requester.limit; phase = ok.requester.phase; highest = (let k = ok.requester.highest in omega arith); issued = ok.requester.issued; ours = ok.requester.ours; held = ok.requester.held; back = ok.requester.back; asked = ok.requester.asked; top = ok.requester.top; mine = ok.requester.mine }
@@ -57,32 +48,32 @@ module _ (n : ℕ) (s : Node) (ok : PlainNode n s) where
 
   pub deliver_done : (from : ℕ) (m : MaekawaMsg) → from < n → PlainLetter n m → PlainDone {A = Unit {0}} n (deliver_of from m s)
   deliver_done from (Request stamp) lt p =
-      cond_case (λ d. PlainDone {A = Unit {0}} n d) (is_call s from stamp) (by_arbiter (seeing s stamp.number) (take_request stamp s.arbiter)) (still s tt)
+      cond_case (λ d. PlainDone {A = Unit {0}} n d) (is_call s from stamp) (by_arbiter (seeing s stamp.number) (take_request stamp s.arbiter)) (unchanged s tt)
       (λ _. let a = arbiter.request_plain n stamp s.arbiter p ok.arbiter in record { state = record { requester = saw stamp.number p.0; arbiter = a.state }; letters = a.letters }) (λ _. ignored)
   deliver_done from (Locked stamp g c) lt p =
-      cond_case (λ d. PlainDone {A = Unit {0}} n d) (is_answer s from stamp) (by_requester s (take_locked from stamp g c s.requester)) (still s tt)
+      cond_case (λ d. PlainDone {A = Unit {0}} n d) (is_answer s from stamp) (by_requester s (take_locked from stamp g c s.requester)) (unchanged s tt)
       (λ _. by_r {A = Unit {0}} (take_locked from stamp g c s.requester) (locked_plain n from stamp g c s.requester lt p.0 p.1 p.2 ok.requester)) (λ _. ignored)
   deliver_done from (Failed stamp) lt p =
-      cond_case (λ d. PlainDone {A = Unit {0}} n d) (is_answer s from stamp) (by_requester s (take_failed from stamp s.requester)) (still s tt)
+      cond_case (λ d. PlainDone {A = Unit {0}} n d) (is_answer s from stamp) (by_requester s (take_failed from stamp s.requester)) (unchanged s tt)
       (λ _. by_r {A = Unit {0}} (take_failed from stamp s.requester) (failed_plain n from stamp s.requester ok.requester)) (λ _. ignored)
   deliver_done from (Inquire stamp g) lt p =
-      cond_case (λ d. PlainDone {A = Unit {0}} n d) (is_answer s from stamp) (by_requester s (take_inquire from stamp g s.requester)) (still s tt)
+      cond_case (λ d. PlainDone {A = Unit {0}} n d) (is_answer s from stamp) (by_requester s (take_inquire from stamp g s.requester)) (unchanged s tt)
       (λ _. by_r {A = Unit {0}} (take_inquire from stamp g s.requester) (inquire_plain n from stamp g s.requester lt p.0 p.1 ok.requester)) (λ _. ignored)
   deliver_done from (Relinquish stamp g) lt p =
-      cond_case (λ d. PlainDone {A = Unit {0}} n d) (is_call s from stamp) (by_arbiter s (take_relinquish stamp g s.arbiter)) (still s tt)
+      cond_case (λ d. PlainDone {A = Unit {0}} n d) (is_call s from stamp) (by_arbiter s (take_relinquish stamp g s.arbiter)) (unchanged s tt)
       (λ _. by_a (take_relinquish stamp g s.arbiter) (arbiter.relinquish_plain n stamp g s.arbiter p.0 ok.arbiter)) (λ _. ignored)
   deliver_done from (Release stamp t) lt p =
-      cond_case (λ d. PlainDone {A = Unit {0}} n d) (is_call s from stamp) (by_arbiter s (take_release stamp t s.arbiter)) (still s tt)
+      cond_case (λ d. PlainDone {A = Unit {0}} n d) (is_call s from stamp) (by_arbiter s (take_release stamp t s.arbiter)) (unchanged s tt)
       (λ _. by_a (take_release stamp t s.arbiter) (arbiter.release_plain n stamp t s.arbiter p.0 p.1 ok.arbiter)) (λ _. ignored)
 
   pub enter_done : PlainDone {A = Result ℕ EnterFault} n (quietly (enter_of s))
-  enter_done = record { state = record { requester = enter_plain n s.requester.phase s.requester ok.requester; arbiter = ok.arbiter }; letters = nil n }
+  enter_done = record { state = record { requester = enter_plain n s.requester.phase s.requester ok.requester; arbiter = ok.arbiter }; letters = nil PlainLetter n }
 
   pub leave_done : PlainDone {A = Result ℕ LeaveFault} n (leave_of s)
   leave_done = by_r {A = Result ℕ LeaveFault} (leave_in s.requester.phase s.requester) (leave_plain n s.requester.phase s.requester ok.requester)
 
   pub tick_done : PlainDone {A = Unit {0}} n (tick_of s)
-  tick_done = record { state = ok; letters = both n (request_again s.requester) (lock_letter s.arbiter.lock) (again_plain n s.requester ok.requester) (arbiter.lock_letter_plain n s.arbiter.lock ok.arbiter.lock) }
+  tick_done = record { state = ok; letters = both PlainLetter n (request_again s.requester) (lock_letter s.arbiter.lock) (again_plain n s.requester ok.requester) (arbiter.lock_letter_plain n s.arbiter.lock ok.arbiter.lock) }
 
 small_or_zero : (origin k a x : ℕ) → Small origin → get_or (replicate k origin) a 0 ≡ x → Small x
 small_or_zero origin zero a x small h = omega arith
@@ -116,11 +107,6 @@ start_node shape origin limit valid small high i lt = record {
   };
 }
 
-pub start_plain : (shape : Family) (origin limit : ℕ) → IsMeeting shape → origin < 2 ^ 64 → limit ≤ 1000000 → PlainWorld (record { nodes = each_below (λ i. start_of shape i origin limit) shape.count; sent = [] })
-start_plain shape origin limit valid small high =
-    let e : length (each_below (λ i. start_of shape i origin limit) shape.count) ≡ shape.count = length_each_below (λ i. start_of shape i origin limit) shape.count in record {
-      nodes = λ i s at.
-          let r = get_each_below (λ k. start_of shape k origin limit) shape.count i s at in
-          subst (λ n. PlainNode n s) (sym e) (subst (λ x. PlainNode shape.count x) (sym r.1) (start_node shape origin limit valid small high i r.0));
-      letters = λ a b m sent. absurd sent;
-    }
+-- the world at rest
+pub start_plain : (shape : Family) (origin limit : ℕ) → IsMeeting shape → origin < 2 ^ 64 → limit ≤ 1000000 → IsPlainWorld PlainNode PlainLetter (started maekawa_core shape origin limit)
+start_plain shape origin limit valid small high = plain_start PlainNode PlainLetter (λ i. start_of shape i origin limit) shape.count (start_node shape origin limit valid small high)

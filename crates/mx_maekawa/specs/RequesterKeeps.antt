@@ -4,22 +4,28 @@ use Rattle.std.proofs.lemmas.Option.{same_Some}
 use Rattle.std.proofs.lemmas.List.{length-set}
 use Rattle.mx_stamps.specs.declared.stamp.Stamp.{Stamp}
 use Rattle.mx_stamps.specs.Stamp.{is_same_as}
-use Rattle.mx_stamps.proofs.Lists.{dec_eq, get_after, none_is_no_some, get_or_after, cond_case, and_true, not_true}
+use Rattle.mx_stamps.proofs.Lists.{dec_eq, get_after, none_is_no_some, get_or_after}
+use Rattle.mx_stamps.proofs.Choices.{lt_true, lt_false, eq_true, eq_false, eq_is, not_both, not_true, both_true, and_true, cond_case}
+use Rattle.mx_stamps.proofs.Stamps.{same_stamp}
 use Rattle.mx_letters.specs.declared.maekawa.MaekawaMsg.{MaekawaMsg}
 use Rattle.mx_letters.specs.declared.maekawa.MaekawaMsg.TheVariants.{Locked, Inquire, Relinquish, Release}
 use Rattle.mx_nodelaws.specs.World.{Done, IsNode, WasSent, after}
 use Rattle.mx_nodelaws.proofs.Worlds.{after_nothing}
 use Rattle.mx_nodelaws.specs.declared.phase.Phase.TheVariants.{Waiting}
+use Rattle.mx_nodelaws.specs.Phases.{is_busy, is_waiting}
+use Rattle.mx_nodelaws.proofs.Phases.{waiting_is}
+use Rattle.mx_nodelaws.specs.Calls.{unchanged}
 use Rattle.mx_maekawa.specs.Node.{Node}
-use Rattle.mx_maekawa.specs.RequesterStep.{Did, unchanged, saying, is_busy, is_waiting, held_at, asked_at, back_at, has_failed, is_own, holds, has_ended, failing, fail, release_ended, holding, is_current_wait, locked_fresh, locked_current, take_locked, take_failed, has_failed_below, giving_now, remembering, declining, inquired_held, inquired_missing, inquired, take_inquire}
-use Rattle.mx_maekawa.specs.Step.{still, by_requester}
+use Rattle.mx_maekawa.specs.RequesterStep.{Did, saying, held_at, asked_at, back_at, has_failed, is_own, holds, has_ended, failing, fail, release_ended, holding, is_current_wait, locked_fresh, locked_current, take_locked, take_failed, has_failed_below, giving_now, remembering, declining, inquired_held, inquired_missing, inquired, take_inquire}
+use Rattle.mx_maekawa.specs.Step.{by_requester}
 use Rattle.mx_maekawa.specs.Good.{NodeWorld, IsEnded, IsGiven, IsNodeOk, IsCalm, IsSound, IsSafe}
-use Rattle.mx_maekawa.specs.Places.{eq_true, eq_false, test_eq, lt_true, lt_false, both_true, true_not_false, same_stamp, get_or_other, emptied, set_false, waiting_is, none_of}
-use Rattle.mx_maekawa.specs.Permissions.{some_failed, none_failed}
-use Rattle.mx_maekawa.specs.Frame.{IsSendable}
+use Rattle.mx_maekawa.specs.Places.{get_or_other, emptied, set_false}
+use Rattle.mx_maekawa.specs.Tests.{some_failed, none_failed, none_of}
 use Rattle.mx_maekawa.specs.Safety.{held_lock}
-use Rattle.mx_maekawa.specs.Parts.{aside_sound, one_letter, held_sound, gave_sound}
+use Rattle.mx_maekawa.specs.Parts.{aside_sound, one_letter}
 use Rattle.mx_maekawa.specs.Cascades.{give_phase, give_count, now_is, both_sound, failed_sound, failed_calm, sends_sound}
+use Rattle.mx_maekawa.specs.Moves.{IsSendable}
+use Rattle.mx_maekawa.specs.GrantParts.{held_sound, gave_sound}
 
 module _ (w : NodeWorld) (i : ℕ) (s : Node) (good : IsSafe w) (at : IsNode w i s) where
   ok_s : IsNodeOk w i s
@@ -37,7 +43,7 @@ module _ (w : NodeWorld) (i : ℕ) (s : Node) (good : IsSafe w) (at : IsNode w i
     ];
   }
 
-  pub still_safe : {A : Type 0} (answer : A) → IsSafe (after w i (still s answer))
+  pub still_safe : {A : Type 0} (answer : A) → IsSafe (after w i (unchanged s answer))
   still_safe answer = subst (λ x. IsSafe x) (sym (after_nothing w i s answer at)) good
 
   -- one letter
@@ -54,8 +60,8 @@ module _ (w : NodeWorld) (i : ℕ) (s : Node) (good : IsSafe w) (at : IsNode w i
         omega arith,
         λ busy. elim (dec_eq stamp.number r.issued) [
           | inl e ↦
-              let same : is_same_as stamp r.ours ≡ true = both_true (nat_eq stamp.number r.ours.number) (nat_eq stamp.node r.ours.node) (test_eq stamp.number r.ours.number (e ∙ sym (ok_s.ours_number busy))) (test_eq stamp.node r.ours.node (node ∙ sym (ok_s.ours_node busy))) in
-              absurd (true_not_false (is_busy r.phase && is_same_as stamp r.ours) (both_true (is_busy r.phase) (is_same_as stamp r.ours) busy same) (not_true (is_busy r.phase && is_same_as stamp r.ours) p.0))
+              let same : is_same_as stamp r.ours ≡ true = both_true (nat_eq stamp.number r.ours.number) (nat_eq stamp.node r.ours.node) (eq_is stamp.number r.ours.number (e ∙ sym (ok_s.ours_number busy))) (eq_is stamp.node r.ours.node (node ∙ sym (ok_s.ours_node busy))) in
+              absurd (not_both (is_busy r.phase && is_same_as stamp r.ours) (both_true (is_busy r.phase) (is_same_as stamp r.ours) busy same) (not_true (is_busy r.phase && is_same_as stamp r.ours) p.0))
           | inr ne ↦ omega arith
         ],
       )
@@ -142,7 +148,7 @@ module _ (w : NodeWorld) (i : ℕ) (s : Node) (good : IsSafe w) (at : IsNode w i
       let few : a < s.requester.count = ok_s.own_few a own in
       let small : s.requester.count ≤ 21 = ok_s.few in
       let some = some_failed s.requester s.requester.count failed in
-      let none_asked : (b y : ℕ) → asked_at s.requester b ≡ Some y → ⊥ = λ b y was. true_not_false (has_failed s.requester some.0) some.2 (calm_s b y some.0 some.1 was) in
+      let none_asked : (b y : ℕ) → asked_at s.requester b ≡ Some y → ⊥ = λ b y was. not_both (has_failed s.requester some.0) some.2 (calm_s b y some.0 some.1 was) in
       let held = ok_s.held (ap is_busy waiting) a g has in
       safe_of {A = Unit {0}} (by_requester s (saying (giving_now s.requester a g) a (Relinquish stamp g)))
       (subst (λ st. IsSound (after w i (by_requester s (saying (giving_now s.requester a g) a (Relinquish st g))))) (sym same)

@@ -3,10 +3,12 @@ use Rattle.std.proofs.Common.{ℕ, zero, suc, ◌<◌, ◌≤◌, ◌+◌, ◌�
 use Rattle.std.proofs.lemmas.Option.{same_Some}
 use Rattle.mx_stamps.specs.declared.stamp.Stamp.{Stamp}
 use Rattle.mx_stamps.specs.Lists.{IsIn}
-use Rattle.mx_stamps.proofs.Lists.{in_append, none_is_no_some, get_or_after, get_or_replicate, cond_case, and_true}
+use Rattle.mx_stamps.proofs.Lists.{in_append, none_is_no_some, get_or_after, get_or_replicate}
+use Rattle.mx_stamps.proofs.Choices.{lt_true, and_true, cond_case}
 use Rattle.mx_letters.specs.declared.maekawa.MaekawaMsg.{MaekawaMsg}
 use Rattle.mx_letters.specs.declared.maekawa.MaekawaMsg.TheVariants.{Request, Relinquish, Release}
 use Rattle.mx_nodelaws.specs.World.{Quiet, addressed}
+use Rattle.mx_nodelaws.proofs.Plain.{nil, one, both}
 use Rattle.mx_nodelaws.proofs.Worlds.{in_addressed}
 use Rattle.mx_nodelaws.specs.declared.phase.Phase.{Phase}
 use Rattle.mx_nodelaws.specs.declared.phase.Phase.TheVariants.{Idle, Waiting, Inside}
@@ -15,34 +17,21 @@ use Rattle.mx_nodelaws.specs.declared.faults.AskFault.TheVariants.{StampsSpent}
 use Rattle.mx_nodelaws.specs.declared.faults.EnterFault.{EnterFault}
 use Rattle.mx_nodelaws.specs.declared.faults.EnterFault.TheVariants.{NotGranted, NumbersSpent}
 use Rattle.mx_nodelaws.specs.declared.faults.LeaveFault.{LeaveFault}
+use Rattle.mx_nodelaws.specs.Phases.{is_waiting}
+use Rattle.mx_nodelaws.specs.Plain.{Small, PlainStamp, ArePlain, IsPlainDone}
+use Rattle.mx_nodelaws.proofs.Sent.{sent_if}
+use Rattle.mx_nodelaws.specs.Calls.{unchanged}
+use Rattle.mx_nodelaws.proofs.Calls.{ask_cases, enter_cases}
 use Rattle.mx_maekawa.specs.Node.{RequesterState}
-use Rattle.mx_maekawa.specs.RequesterStep.{unchanged, saying, is_waiting, held_at, asked_at, back_at, is_own, holds, holds_all, has_ended, to_own, to_missing, asking, asked, ask_in, giving, give_asked, give_below, failing, fail, release_ended, holding, is_current_wait, locked_fresh, locked_current, take_locked, take_failed, has_failed_below, giving_now, remembering, declining, inquired_held, inquired_missing, inquired, take_inquire, entering, entered, refused, enter_granted, enter_in, leave_in, request_again}
-use Rattle.mx_maekawa.specs.Good.{Small, PlainStamp, PlainLetter, PlainRequester}
+use Rattle.mx_maekawa.specs.RequesterStep.{saying, held_at, asked_at, back_at, is_own, holds, holds_all, has_ended, to_own, to_missing, asking, asked, ask_in, giving, give_asked, give_below, failing, fail, release_ended, holding, is_current_wait, locked_fresh, locked_current, take_locked, take_failed, has_failed_below, giving_now, remembering, declining, inquired_held, inquired_missing, inquired, take_inquire, entering, entered, enter_in, leave_in, request_again}
+use Rattle.mx_maekawa.specs.Good.{PlainLetter, PlainRequester}
 use Rattle.mx_maekawa.specs.RequesterStep.{Did}
-use Rattle.mx_maekawa.specs.Places.{lt_true}
 
-abbrev pub PlainLetters : ℕ → List (ℕ × MaekawaMsg) → Type 0
-PlainLetters n ls = (b : ℕ) (m : MaekawaMsg) → IsIn {X = ℕ × MaekawaMsg} (b, m) ls → (b < n) × PlainLetter n m
-
-pub record PlainDid {A : Type 0} (n : ℕ) (d : Did A) : Type 0 where
-  pub state : PlainRequester n d.state
-  pub letters : PlainLetters n d.letters
-
-given_to : (c : Bool) (m x : MaekawaMsg) → cond c (Some m) None ≡ Some x → (c ≡ true) × (x ≡ m)
-given_to true m x h = (refl, sym (same_Some m x h))
-given_to false m x h = absurd (none_is_no_some x h)
+-- a step of the requester that keeps the layer
+abbrev pub PlainDid : {A : Type 0} → ℕ → Did A → Type 0
+PlainDid n did = IsPlainDone PlainRequester PlainLetter n did
 
 module _ (n : ℕ) where
-  pub nil : PlainLetters n []
-  nil b m none = absurd none
-
-  pub one : (b : ℕ) (m : MaekawaMsg) → b < n → PlainLetter n m → PlainLetters n ((b, m) ∷ [])
-  one b m lt ok c k (inl e) = subst (λ x. (x.0 < n) × PlainLetter n x.1) (sym e) (lt, ok)
-  one b m lt ok c k (inr none) = absurd none
-
-  pub both : (xs ys : List (ℕ × MaekawaMsg)) → PlainLetters n xs → PlainLetters n ys → PlainLetters n (xs ++ ys)
-  both xs ys p q b m sent = elim (in_append (b, m) xs ys sent) [ inl x ↦ p b m x | inr y ↦ q b m y ]
-
   -- numbers at the places of a list
 
   pub set_small : (xs : List ℕ) (b v : ℕ) → Small v → ((a x : ℕ) → get_or xs a 0 ≡ x → Small x) → (a x : ℕ) → get_or (slice_set xs b v) a 0 ≡ x → Small x
@@ -60,30 +49,30 @@ module _ (n : ℕ) where
   -- Fail
 
   giving_plain : (o : Option ℕ) (r : RequesterState) (b : ℕ) → asked_at r b ≡ o → b < n → PlainRequester n r → PlainDid {A = Unit {0}} n (giving o r b)
-  giving_plain None r b is lt ok = record { state = ok; letters = nil }
+  giving_plain None r b is lt ok = record { state = ok; letters = nil PlainLetter n }
   giving_plain (Some g) r b is lt ok =
       let small = ok.asked b g is in record {
         state = record { me = ok.me; own = ok.own; count = ok.count; limit = ok.limit; phase = ok.phase; highest = ok.highest; issued = ok.issued; ours = ok.ours; held = emptied_small r.held b ok.held; back = set_small r.back b g small ok.back; asked = emptied_small r.asked b ok.asked; top = ok.top; mine = ok.mine };
-        letters = one b (Relinquish r.ours g) lt (ok.ours, small);
+        letters = one PlainLetter n b (Relinquish r.ours g) lt (ok.ours, small);
       }
 
   give_plain : (k : ℕ) (r : RequesterState) → k ≤ n → PlainRequester n r → PlainDid {A = Unit {0}} n (give_below k r)
-  give_plain zero r le ok = record { state = ok; letters = nil }
+  give_plain zero r le ok = record { state = ok; letters = nil PlainLetter n }
   give_plain (suc k) r le ok =
       let first = give_plain k r (omega arith) ok in
       let x = (give_below k r).state in
       let second = giving_plain (asked_at x k) x k refl (omega arith) first.state in
-      record { state = second.state; letters = both (give_below k r).letters (give_asked k x).letters first.letters second.letters }
+      record { state = second.state; letters = both PlainLetter n (give_below k r).letters (give_asked k x).letters first.letters second.letters }
 
   fail_plain : (a : ℕ) (r : RequesterState) → PlainRequester n r → PlainDid {A = Unit {0}} n (fail a r)
   fail_plain a r ok = give_plain r.count (failing r a) ok.count (record { me = ok.me; own = ok.own; count = ok.count; limit = ok.limit; phase = ok.phase; highest = ok.highest; issued = ok.issued; ours = ok.ours; held = ok.held; back = ok.back; asked = ok.asked; top = ok.top; mine = ok.mine })
 
   -- ask
 
-  to_own_plain : (r : RequesterState) (m : MaekawaMsg) → PlainRequester n r → PlainLetter n m → PlainLetters n (addressed (to_own r m) r.count)
+  to_own_plain : (r : RequesterState) (m : MaekawaMsg) → PlainRequester n r → PlainLetter n m → ArePlain PlainLetter n (addressed (to_own r m) r.count)
   to_own_plain r m ok plain b x sent =
       let p = in_addressed (to_own r m) r.count b x sent in
-      let q = given_to (is_own r b) m x p.1 in
+      let q = sent_if (is_own r b) m x p.1 in
       (ok.own b q.0, subst (λ y. PlainLetter n y) (sym q.1) plain)
 
   asked_plain : (r : RequesterState) → r.highest < 18446744073709551615 → PlainRequester n r → PlainDid {A = Result Stamp AskFault} n (asked r)
@@ -95,26 +84,26 @@ module _ (n : ℕ) where
 
   pub ask_plain : (p : Phase) (r : RequesterState) → PlainRequester n r → PlainDid {A = Result Stamp AskFault} n (ask_in p r)
   ask_plain Idle r ok =
-      cond_case (λ d. PlainDid {A = Result Stamp AskFault} n d) (nat_lt r.highest 18446744073709551615) (asked r) (unchanged r (Err StampsSpent))
-      (λ e. asked_plain r (lt_true r.highest 18446744073709551615 e) ok) (λ _. record { state = ok; letters = nil })
-  ask_plain Waiting r ok = record { state = ok; letters = nil }
-  ask_plain (Inside k) r ok = record { state = ok; letters = nil }
+      ask_cases (λ (x : RequesterState). x.highest) asked (λ d. PlainDid {A = Result Stamp AskFault} n d) r
+      (λ e. asked_plain r (lt_true r.highest 18446744073709551615 e) ok) (record { state = ok; letters = nil PlainLetter n })
+  ask_plain Waiting r ok = record { state = ok; letters = nil PlainLetter n }
+  ask_plain (Inside k) r ok = record { state = ok; letters = nil PlainLetter n }
 
   -- LOCKED
 
   released_plain : (r : RequesterState) (stamp : Stamp) (a : ℕ) → PlainStamp n stamp → a < n → PlainRequester n r → PlainDid {A = Unit {0}} n (release_ended r stamp a)
   released_plain r stamp a plain lt ok =
       cond_case (λ d. PlainDid {A = Unit {0}} n d) (has_ended r stamp) (saying r a (Release stamp r.top)) (unchanged r tt)
-      (λ _. record { state = ok; letters = one a (Release stamp r.top) lt (plain, ok.top) }) (λ _. record { state = ok; letters = nil })
+      (λ _. record { state = ok; letters = one PlainLetter n a (Release stamp r.top) lt (plain, ok.top) }) (λ _. record { state = ok; letters = nil PlainLetter n })
 
   pub locked_plain : (a : ℕ) (stamp : Stamp) (g c : ℕ) (r : RequesterState) → a < n → PlainStamp n stamp → Small g → Small c → PlainRequester n r → PlainDid {A = Unit {0}} n (take_locked a stamp g c r)
   locked_plain a stamp g c r lt plain small last ok =
       let P : Did (Unit {0}) → Type 0 = λ d. PlainDid {A = Unit {0}} n d in
       cond_case P (is_current_wait r stamp) (locked_current a stamp g c r) (release_ended r stamp a)
-      (λ _. cond_case P (holds r a) (unchanged r tt) (locked_fresh a stamp g c r) (λ _. record { state = ok; letters = nil })
+      (λ _. cond_case P (holds r a) (unchanged r tt) (locked_fresh a stamp g c r) (λ _. record { state = ok; letters = nil PlainLetter n })
       (λ _. cond_case P (nat_lt (back_at r a) g) (unchanged (holding r a g c) tt) (saying r a (Relinquish stamp g))
-      (λ _. record { state = record { me = ok.me; own = ok.own; count = ok.count; limit = ok.limit; phase = ok.phase; highest = ok.highest; issued = ok.issued; ours = ok.ours; held = put_small r.held a g small ok.held; back = ok.back; asked = ok.asked; top = (let k = ok.top in omega arith); mine = ok.mine }; letters = nil })
-      (λ _. record { state = ok; letters = one a (Relinquish stamp g) lt (plain, small) })))
+      (λ _. record { state = record { me = ok.me; own = ok.own; count = ok.count; limit = ok.limit; phase = ok.phase; highest = ok.highest; issued = ok.issued; ours = ok.ours; held = put_small r.held a g small ok.held; back = ok.back; asked = ok.asked; top = (let k = ok.top in omega arith); mine = ok.mine }; letters = nil PlainLetter n })
+      (λ _. record { state = ok; letters = one PlainLetter n a (Relinquish stamp g) lt (plain, small) })))
       (λ _. released_plain r stamp a plain lt ok)
 
   -- FAILED
@@ -122,7 +111,7 @@ module _ (n : ℕ) where
   pub failed_plain : (a : ℕ) (stamp : Stamp) (r : RequesterState) → PlainRequester n r → PlainDid {A = Unit {0}} n (take_failed a stamp r)
   failed_plain a stamp r ok =
       cond_case (λ d. PlainDid {A = Unit {0}} n d) (is_current_wait r stamp && not (holds r a)) (fail a r) (unchanged r tt)
-      (λ _. fail_plain a r ok) (λ _. record { state = ok; letters = nil })
+      (λ _. fail_plain a r ok) (λ _. record { state = ok; letters = nil PlainLetter n })
 
   -- INQUIRE
 
@@ -131,19 +120,19 @@ module _ (n : ℕ) where
       let was : Small (back_at r a) = ok.back a (back_at r a) refl in
       let mid : PlainRequester n (declining r a g) = record { me = ok.me; own = ok.own; count = ok.count; limit = ok.limit; phase = ok.phase; highest = ok.highest; issued = ok.issued; ours = ok.ours; held = ok.held; back = set_small r.back a (max (back_at r a) g) (omega arith) ok.back; asked = ok.asked; top = ok.top; mine = ok.mine } in
       let second = fail_plain a (declining r a g) mid in
-      record { state = second.state; letters = both ((a, Relinquish stamp g) ∷ []) (fail a (declining r a g)).letters (one a (Relinquish stamp g) lt (plain, small)) second.letters }
+      record { state = second.state; letters = both PlainLetter n ((a, Relinquish stamp g) ∷ []) (fail a (declining r a g)).letters (one PlainLetter n a (Relinquish stamp g) lt (plain, small)) second.letters }
 
   held_plain : (a : ℕ) (stamp : Stamp) (g : ℕ) (r : RequesterState) → a < n → PlainStamp n stamp → Small g → PlainRequester n r → PlainDid {A = Unit {0}} n (inquired_held a stamp g r)
   held_plain a stamp g r lt plain small ok =
       cond_case (λ d. PlainDid {A = Unit {0}} n d) (has_failed_below r r.count) (saying (giving_now r a g) a (Relinquish stamp g)) (unchanged (remembering r a g) tt)
-      (λ _. record { state = record { me = ok.me; own = ok.own; count = ok.count; limit = ok.limit; phase = ok.phase; highest = ok.highest; issued = ok.issued; ours = ok.ours; held = emptied_small r.held a ok.held; back = set_small r.back a g small ok.back; asked = ok.asked; top = ok.top; mine = ok.mine }; letters = one a (Relinquish stamp g) lt (plain, small) })
-      (λ _. record { state = record { me = ok.me; own = ok.own; count = ok.count; limit = ok.limit; phase = ok.phase; highest = ok.highest; issued = ok.issued; ours = ok.ours; held = ok.held; back = ok.back; asked = put_small r.asked a g small ok.asked; top = ok.top; mine = ok.mine }; letters = nil })
+      (λ _. record { state = record { me = ok.me; own = ok.own; count = ok.count; limit = ok.limit; phase = ok.phase; highest = ok.highest; issued = ok.issued; ours = ok.ours; held = emptied_small r.held a ok.held; back = set_small r.back a g small ok.back; asked = ok.asked; top = ok.top; mine = ok.mine }; letters = one PlainLetter n a (Relinquish stamp g) lt (plain, small) })
+      (λ _. record { state = record { me = ok.me; own = ok.own; count = ok.count; limit = ok.limit; phase = ok.phase; highest = ok.highest; issued = ok.issued; ours = ok.ours; held = ok.held; back = ok.back; asked = put_small r.asked a g small ok.asked; top = ok.top; mine = ok.mine }; letters = nil PlainLetter n })
 
   inquired_plain : (o : Option ℕ) (a : ℕ) (stamp : Stamp) (g : ℕ) (r : RequesterState) → a < n → PlainStamp n stamp → Small g → PlainRequester n r → PlainDid {A = Unit {0}} n (inquired o a stamp g r)
   inquired_plain None a stamp g r lt plain small ok = missing_plain a stamp g r lt plain small ok
   inquired_plain (Some h) a stamp g r lt plain small ok =
       cond_case (λ d. PlainDid {A = Unit {0}} n d) (nat_eq h g) (inquired_held a stamp g r) (saying r a (Relinquish stamp g))
-      (λ _. held_plain a stamp g r lt plain small ok) (λ _. record { state = ok; letters = one a (Relinquish stamp g) lt (plain, small) })
+      (λ _. held_plain a stamp g r lt plain small ok) (λ _. record { state = ok; letters = one PlainLetter n a (Relinquish stamp g) lt (plain, small) })
 
   pub inquire_plain : (a : ℕ) (stamp : Stamp) (g : ℕ) (r : RequesterState) → a < n → PlainStamp n stamp → Small g → PlainRequester n r → PlainDid {A = Unit {0}} n (take_inquire a stamp g r)
   inquire_plain a stamp g r lt plain small ok =
@@ -160,17 +149,15 @@ module _ (n : ℕ) where
   pub enter_plain : (p : Phase) (r : RequesterState) → PlainRequester n r → PlainRequester n (enter_in p r).state
   enter_plain Idle r ok = ok
   enter_plain Waiting r ok =
-      let P : Quiet RequesterState (Result ℕ EnterFault) → Type 0 = λ d. PlainRequester n d.state in
-      cond_case P (holds_all r) (enter_granted r) (refused r NotGranted)
-      (λ _. cond_case P (nat_lt r.top r.limit) (entered r) (refused r NumbersSpent) (λ e. entering_plain r (lt_true r.top r.limit e) ok) (λ _. ok))
-      (λ _. ok)
+      enter_cases holds_all (λ (x : RequesterState). x.top) (λ (x : RequesterState). x.limit) entering (λ d. PlainRequester n d.state) r
+      (λ _ e. entering_plain r (lt_true r.top r.limit e) ok) ok (λ _. ok)
   enter_plain (Inside k) r ok = ok
 
   -- leave
 
   pub leave_plain : (p : Phase) (r : RequesterState) → PlainRequester n r → PlainDid {A = Result ℕ LeaveFault} n (leave_in p r)
-  leave_plain Idle r ok = record { state = ok; letters = nil }
-  leave_plain Waiting r ok = record { state = ok; letters = nil }
+  leave_plain Idle r ok = record { state = ok; letters = nil PlainLetter n }
+  leave_plain Waiting r ok = record { state = ok; letters = nil PlainLetter n }
   leave_plain (Inside k) r ok = record {
     state = record { me = ok.me; own = ok.own; count = ok.count; limit = ok.limit; phase = tt; highest = ok.highest; issued = ok.issued; ours = ok.ours; held = cleared_small; back = ok.back; asked = cleared_small; top = ok.top; mine = ok.mine };
     letters = to_own_plain r (Release r.ours r.top) ok (ok.ours, ok.top);
@@ -178,11 +165,11 @@ module _ (n : ℕ) where
 
   -- tick
 
-  pub again_plain : (r : RequesterState) → PlainRequester n r → PlainLetters n (request_again r)
+  pub again_plain : (r : RequesterState) → PlainRequester n r → ArePlain PlainLetter n (request_again r)
   again_plain r ok =
-      cond_case (λ ls. PlainLetters n ls) (is_waiting r.phase) (addressed (to_missing r (Request r.ours)) r.count) []
+      cond_case (λ ls. ArePlain PlainLetter n ls) (is_waiting r.phase) (addressed (to_missing r (Request r.ours)) r.count) []
       (λ _ b x sent.
       let p = in_addressed (to_missing r (Request r.ours)) r.count b x sent in
-      let q = given_to (is_own r b && not (holds r b)) (Request r.ours) x p.1 in
+      let q = sent_if (is_own r b && not (holds r b)) (Request r.ours) x p.1 in
       (ok.own b (and_true (is_own r b) (not (holds r b)) q.0).0, subst (λ y. PlainLetter n y) (sym q.1) ok.ours))
-      (λ _. nil)
+      (λ _. nil PlainLetter n)

@@ -13,6 +13,8 @@ use Rattle.mx_nodelaws.specs.declared.faults.EnterFault.{EnterFault}
 use Rattle.mx_nodelaws.specs.declared.faults.EnterFault.TheVariants.{NotWaiting, NotGranted, NumbersSpent}
 use Rattle.mx_nodelaws.specs.declared.faults.LeaveFault.{LeaveFault}
 use Rattle.mx_nodelaws.specs.declared.faults.LeaveFault.TheVariants.{NotInside}
+use Rattle.mx_nodelaws.specs.Phases.{is_busy, is_waiting}
+use Rattle.mx_nodelaws.specs.Calls.{unchanged, ask_by, entered_by, enter_by, leave_by}
 use Rattle.mx_maekawa.specs.Node.{RequesterState}
 
 -- a requester at rest: of its node, its own set, the count, the origin and the limit
@@ -33,17 +35,6 @@ start_requester me own count origin limit = record {
   top = 0;
   mine = 0;
 }
-
--- a node that waits or is inside has a current stamp
-abbrev pub is_busy : Phase → Bool
-is_busy Idle = false
-is_busy Waiting = true
-is_busy (Inside n) = true
-
-abbrev pub is_waiting : Phase → Bool
-is_waiting Idle = false
-is_waiting Waiting = true
-is_waiting (Inside n) = false
 
 -- node a is in the own set
 abbrev pub is_own : RequesterState → ℕ → Bool
@@ -105,10 +96,6 @@ has_ended r stamp = not (is_busy r.phase && is_same_as stamp r.ours) && nat_lt s
 abbrev pub Did : Type 0 → Type 0
 Did A = Done RequesterState A MaekawaMsg
 
--- a refusal, or a letter that no row fits: nothing changes and nothing is sent
-abbrev pub unchanged : {A : Type 0} → RequesterState → A → Did A
-unchanged r answer = record { state = r; answer = answer; letters = [] }
-
 -- one letter to arbiter a
 abbrev pub saying : RequesterState → ℕ → MaekawaMsg → Did (Unit {0})
 saying r a letter = record { state = r; answer = tt; letters = (a, letter) ∷ [] }
@@ -152,9 +139,7 @@ abbrev pub asked : RequesterState → Did (Result Stamp AskFault)
 asked r = record { state = asking r; answer = Ok (asking r).ours; letters = addressed (to_own r (Request (asking r).ours)) r.count }
 
 abbrev pub ask_in : Phase → RequesterState → Did (Result Stamp AskFault)
-ask_in Idle r = if nat_lt r.highest 18446744073709551615 then asked r else unchanged r (Err StampsSpent)
-ask_in Waiting r = unchanged r (Err NotIdle)
-ask_in (Inside n) r = unchanged r (Err NotIdle)
+ask_in p r = ask_by (λ (x : RequesterState). x.highest) asked p r
 
 -- a letter for an ended stamp is answered by a release
 abbrev pub release_ended : RequesterState → Stamp → ℕ → Did (Unit {0})
@@ -211,18 +196,10 @@ abbrev pub entering : RequesterState → RequesterState
 entering r = record r { top = r.top + 1; mine = r.top + 1; phase = Inside (r.top + 1); asked = replicate 21 None }
 
 abbrev pub entered : RequesterState → Quiet RequesterState (Result ℕ EnterFault)
-entered r = record { state = entering r; answer = Ok (r.top + 1) }
-
-abbrev pub refused : RequesterState → EnterFault → Quiet RequesterState (Result ℕ EnterFault)
-refused r fault = record { state = r; answer = Err fault }
-
-abbrev pub enter_granted : RequesterState → Quiet RequesterState (Result ℕ EnterFault)
-enter_granted r = if nat_lt r.top r.limit then entered r else refused r NumbersSpent
+entered r = entered_by (λ (x : RequesterState). x.top) entering r
 
 abbrev pub enter_in : Phase → RequesterState → Quiet RequesterState (Result ℕ EnterFault)
-enter_in Idle r = refused r NotWaiting
-enter_in Waiting r = if holds_all r then enter_granted r else refused r NotGranted
-enter_in (Inside n) r = refused r NotWaiting
+enter_in p r = enter_by holds_all (λ (x : RequesterState). x.top) (λ (x : RequesterState). x.limit) entering p r
 
 -- leave: each arbiter of the own set is released
 abbrev pub leaving : RequesterState → RequesterState
@@ -232,9 +209,7 @@ abbrev pub left : RequesterState → ℕ → Did (Result ℕ LeaveFault)
 left r n = record { state = leaving r; answer = Ok n; letters = addressed (to_own r (Release r.ours r.top)) r.count }
 
 abbrev pub leave_in : Phase → RequesterState → Did (Result ℕ LeaveFault)
-leave_in Idle r = unchanged r (Err NotInside)
-leave_in Waiting r = unchanged r (Err NotInside)
-leave_in (Inside n) r = left r n
+leave_in p r = leave_by left p r
 
 -- tick: a waiting node sends its request again to each arbiter of the own set whose grant is missing
 abbrev pub to_missing : RequesterState → MaekawaMsg → ℕ → Option MaekawaMsg

@@ -2,20 +2,25 @@
 use Rattle.std.proofs.Common.{ℕ, ◌≤◌, ◌+◌, ◌≡◌, ◌≢◌, inl, inr, Bool, true, false, cond, Some, Result, Ok, Err, slice_get, nat_lt, refl, sym, ◌∙◌, ap, subst, arith}
 use Rattle.std.proofs.lemmas.Option.{same_Some}
 use Rattle.mx_stamps.specs.Lists.{greatest}
-use Rattle.mx_stamps.proofs.Lists.{dec_eq, and_true, greatest_below, greatest_above}
+use Rattle.mx_stamps.proofs.Lists.{dec_eq, greatest_below, greatest_above}
+use Rattle.mx_stamps.proofs.Choices.{and_true}
 use Rattle.mx_letters.specs.declared.maekawa.MaekawaMsg.TheVariants.{Locked}
 use Rattle.mx_nodelaws.specs.World.{Quiet, IsNode, WasSent}
 use Rattle.mx_nodelaws.specs.declared.phase.Phase.{Phase}
 use Rattle.mx_nodelaws.specs.declared.phase.Phase.TheVariants.{Waiting, Inside}
 use Rattle.mx_nodelaws.specs.declared.faults.EnterFault.{EnterFault}
 use Rattle.mx_nodelaws.specs.declared.faults.EnterFault.TheVariants.{NotGranted, NumbersSpent}
+use Rattle.mx_nodelaws.proofs.Frame.{was}
+use Rattle.mx_nodelaws.specs.Phases.{is_busy, is_waiting}
+use Rattle.mx_nodelaws.proofs.Phases.{waiting_not_inside, waiting_is}
+use Rattle.mx_nodelaws.proofs.Entries.{greatest_is}
+use Rattle.mx_nodelaws.proofs.Calls.{granted_answer}
 use Rattle.mx_maekawa.specs.declared.lock.Lock.{Lock}
 use Rattle.mx_maekawa.specs.Node.{RequesterState, Node}
-use Rattle.mx_maekawa.specs.RequesterStep.{is_busy, is_waiting, held_at, is_own, holds_all, entered, refused, enter_in, can_enter_of}
+use Rattle.mx_maekawa.specs.RequesterStep.{held_at, is_own, holds_all, entered, enter_in, can_enter_of, entering}
 use Rattle.mx_maekawa.specs.Step.{enter_of}
 use Rattle.mx_maekawa.specs.Good.{NodeWorld, IsBusy, IsLockedFor, IsEntered, IsNodeOk, IsSound, IsSafe}
-use Rattle.mx_maekawa.specs.Places.{waiting_is, waiting_not_inside, some_of}
-use Rattle.mx_maekawa.specs.Permissions.{holds_each}
+use Rattle.mx_maekawa.specs.Tests.{holds_each, some_of}
 
 pub holds_own : (w : NodeWorld) (i : ℕ) (s : Node) → IsNodeOk w i s → holds_all s.requester ≡ true → (a : ℕ) → is_own s.requester a ≡ true → (g : ℕ) × (held_at s.requester a ≡ Some g)
 holds_own w i s ok all a own = some_of (held_at s.requester a) (holds_each s.requester s.requester.count all a (ok.own_few a own) own)
@@ -52,8 +57,7 @@ nobody_inside w i s good at waiting all j t bt (n, inside) =
     let g = holds_own w i s ok all common.0 common.1 in
     let h = ok_t.inside_holds n inside common.0 common.2 in
     let e = same_holder w i j s t common.0 g.0 h.0 good.sound at bt (ap is_busy waiting) (ap is_busy inside) common.1 g.1 h.1 in
-    let same : t ≡ s = same_Some t s (sym bt ∙ subst (λ x. slice_get w.nodes x ≡ Some s) e at) in
-    waiting_not_inside t.requester.phase n (ap (λ x. x.requester.phase) same ∙ waiting) inside
+    waiting_not_inside t.requester.phase n (ap (λ x. x.requester.phase) (was w i s at j t (sym e) bt) ∙ waiting) inside
 
 -- the holder's grant of a common arbiter came after that of an entry
 grant_after : (w : NodeWorld) (i j : ℕ) (s t : Node) (a g c : ℕ) (arbiter : Node) (good : IsSound w) → IsNode w a arbiter → i ≢ j → s.requester.ours.node ≡ i → IsLockedFor arbiter s.requester.ours g c → (en : IsEntered w j t) → is_own t.requester a ≡ true → t.requester.mine ≤ c
@@ -70,12 +74,12 @@ grant_after w i j s t a g c arbiter good aat ne node lock en own =
       | inr f ↦ en.after a s.requester.ours.node s.requester.ours g c own last.1 (omega arith)
     ]
 
--- its `top` is the greatest number of all
-top_greatest : (w : NodeWorld) (i : ℕ) (s : Node) (good : IsSafe w) (at : IsNode w i s) → s.requester.phase ≡ Waiting → holds_all s.requester ≡ true → greatest (λ x. x.requester.mine) w.nodes ≡ s.requester.top
-top_greatest w i s good at waiting all =
+-- no node has entered a section above its `top`
+mine_below : (w : NodeWorld) (i : ℕ) (s : Node) (good : IsSafe w) (at : IsNode w i s) → s.requester.phase ≡ Waiting → holds_all s.requester ≡ true → (j : ℕ) (t : Node) → IsNode w j t → t.requester.mine ≤ s.requester.top
+mine_below w i s good at waiting all j t bt =
     let ok = good.sound.nodes i s at in
-    let below : greatest (λ x. x.requester.mine) w.nodes ≤ s.requester.top = greatest_below (λ x. x.requester.mine) w.nodes s.requester.top (λ j t bt. elim (dec_eq i j) [
-      | inl e ↦ let same : t.requester.mine ≡ s.requester.mine = ap (λ x. x.requester.mine) (same_Some t s (sym bt ∙ subst (λ x. slice_get w.nodes x ≡ Some s) e at)) in let l = ok.mine_top in omega arith
+    elim (dec_eq i j) [
+      | inl e ↦ let same : t.requester.mine ≡ s.requester.mine = ap (λ x. x.requester.mine) (was w i s at j t (sym e) bt) in let l = ok.mine_top in omega arith
       | inr ne ↦ elim (dec_eq t.requester.mine 0) [
         | inl none ↦ omega arith
         | inr some ↦
@@ -87,21 +91,11 @@ top_greatest w i s good at waiting all =
             let l : p.0 ≤ s.requester.top = p.1 in
             omega arith
       ]
-    ]) in
-    let q = ok.top_reached in
-    let up : s.requester.top ≤ q.1.requester.mine = q.3 in
-    let g : q.1.requester.mine ≤ greatest (λ x. x.requester.mine) w.nodes = greatest_above (λ x. x.requester.mine) w.nodes q.0 q.1 q.2 in
-    omega arith
+    ]
 
-chosen : (a c : Bool) (x y z : Quiet RequesterState (Result ℕ EnterFault)) → a ≡ true → (cond a (cond c x y) z).answer ≡ cond c x.answer y.answer
-chosen true true x y z e = refl
-chosen true false x y z e = refl
-chosen false c x y z e = let bad : ⊥ = cc in absurd bad
-
-entered_answer : (r : RequesterState) → r.phase ≡ Waiting → holds_all r ≡ true → (enter_in r.phase r).answer ≡ cond (nat_lt r.top r.limit) (Ok (r.top + 1)) (Err NumbersSpent)
-entered_answer r waiting all =
-    let P : Phase → Type 0 = λ p. (enter_in p r).answer ≡ cond (nat_lt r.top r.limit) (Ok (r.top + 1)) (Err NumbersSpent) in
-    subst P (sym waiting) (chosen (holds_all r) (nat_lt r.top r.limit) (entered r) (refused r NumbersSpent) (refused r NotGranted) all)
+-- its `top` is the greatest number of all
+top_greatest : (w : NodeWorld) (i : ℕ) (s : Node) (good : IsSafe w) (at : IsNode w i s) → s.requester.phase ≡ Waiting → holds_all s.requester ≡ true → greatest (λ x. x.requester.mine) w.nodes ≡ s.requester.top
+top_greatest w i s good at waiting all = greatest_is (λ x. x.requester.mine) w s.requester.top (mine_below w i s good at waiting all) (good.sound.nodes i s at).top_reached
 
 pub entry : (w : NodeWorld) (i : ℕ) (s : Node) → IsSafe w → IsNode w i s → can_enter_of s.requester ≡ true →
     ((j : ℕ) (t : Node) → IsNode w j t → ((n : ℕ) × (t.requester.phase ≡ Inside n)) → ⊥)
@@ -110,5 +104,5 @@ entry w i s good at can =
     let p = and_true (is_waiting s.requester.phase) (holds_all s.requester) can in
     let waiting = waiting_is s.requester.phase p.0 in (
       nobody_inside w i s good at waiting p.1,
-      subst (λ g. (enter_of s).answer ≡ cond (nat_lt g s.requester.limit) (Ok (g + 1)) (Err NumbersSpent)) (sym (top_greatest w i s good at waiting p.1)) (entered_answer s.requester waiting p.1),
+      subst (λ g. (enter_of s).answer ≡ cond (nat_lt g s.requester.limit) (Ok (g + 1)) (Err NumbersSpent)) (sym (top_greatest w i s good at waiting p.1)) (granted_answer holds_all (λ (x : RequesterState). x.top) (λ (x : RequesterState). x.limit) entering s.requester.phase s.requester waiting p.1),
     )

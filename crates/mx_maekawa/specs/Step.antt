@@ -8,14 +8,11 @@ use Rattle.mx_nodelaws.specs.Core.{Core}
 use Rattle.mx_nodelaws.specs.declared.faults.AskFault.{AskFault}
 use Rattle.mx_nodelaws.specs.declared.faults.EnterFault.{EnterFault}
 use Rattle.mx_nodelaws.specs.declared.faults.LeaveFault.{LeaveFault}
+use Rattle.mx_nodelaws.specs.Calls.{unchanged}
 use Rattle.mx_quorums.specs.Family.{Family, row_of, has_of}
 use Rattle.mx_maekawa.specs.Node.{RequesterState, ArbiterState, Node}
 use Rattle.mx_maekawa.specs.RequesterStep.{start_requester, ask_in, take_locked, take_failed, take_inquire, enter_in, leave_in, request_again, can_enter_of, is_own}
 use Rattle.mx_maekawa.specs.ArbiterStep.{start_arbiter, take_request, take_relinquish, take_release, lock_letter}
-
--- a refusal, or a letter that no row fits: nothing changes and nothing is sent
-abbrev pub still : {A : Type 0} → Node → A → Done Node A MaekawaMsg
-still s answer = record { state = s; answer = answer; letters = [] }
 
 -- a step of the requester alone, or of the arbiter alone
 abbrev pub by_requester : {A : Type 0} → Node → Done RequesterState A MaekawaMsg → Done Node A MaekawaMsg
@@ -48,12 +45,12 @@ abbrev pub seeing : Node → ℕ → Node
 seeing s number = record s { requester = record (s.requester) { highest = max s.requester.highest number } }
 
 abbrev pub deliver_of : ℕ → MaekawaMsg → Node → Done Node (Unit {0}) MaekawaMsg
-deliver_of from (Request stamp) s = if is_call s from stamp then by_arbiter (seeing s stamp.number) (take_request stamp s.arbiter) else still s tt
-deliver_of from (Locked stamp g c) s = if is_answer s from stamp then by_requester s (take_locked from stamp g c s.requester) else still s tt
-deliver_of from (Failed stamp) s = if is_answer s from stamp then by_requester s (take_failed from stamp s.requester) else still s tt
-deliver_of from (Inquire stamp g) s = if is_answer s from stamp then by_requester s (take_inquire from stamp g s.requester) else still s tt
-deliver_of from (Relinquish stamp g) s = if is_call s from stamp then by_arbiter s (take_relinquish stamp g s.arbiter) else still s tt
-deliver_of from (Release stamp t) s = if is_call s from stamp then by_arbiter s (take_release stamp t s.arbiter) else still s tt
+deliver_of from (Request stamp) s = if is_call s from stamp then by_arbiter (seeing s stamp.number) (take_request stamp s.arbiter) else unchanged s tt
+deliver_of from (Locked stamp g c) s = if is_answer s from stamp then by_requester s (take_locked from stamp g c s.requester) else unchanged s tt
+deliver_of from (Failed stamp) s = if is_answer s from stamp then by_requester s (take_failed from stamp s.requester) else unchanged s tt
+deliver_of from (Inquire stamp g) s = if is_answer s from stamp then by_requester s (take_inquire from stamp g s.requester) else unchanged s tt
+deliver_of from (Relinquish stamp g) s = if is_call s from stamp then by_arbiter s (take_relinquish stamp g s.arbiter) else unchanged s tt
+deliver_of from (Release stamp t) s = if is_call s from stamp then by_arbiter s (take_release stamp t s.arbiter) else unchanged s tt
 
 abbrev pub enter_of : Node → Quiet Node (Result ℕ EnterFault)
 enter_of s = let did = enter_in s.requester.phase s.requester in record { state = record s { requester = did.state }; answer = did.answer }

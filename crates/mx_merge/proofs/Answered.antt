@@ -1,12 +1,12 @@
 -- What a journal answers are records of its own.
 use Rattle.std.proofs.Common.{ℕ, inl, inr, List, [], ◌∷◌, take}
 use Rattle.mx_stamps.specs.Lists.{IsIn}
-use Rattle.mx_stamps.proofs.Lists.{cond_case}
+use Rattle.mx_stamps.proofs.Lists.{in_first}
+use Rattle.mx_stamps.proofs.Choices.{cond_case}
 use Rattle.mx_journal.specs.declared.records.Record.{Record}
 use Rattle.mx_journal.specs.declared.ranges.Range.{Range}
 use Rattle.mx_journal.specs.Agreement.{IsSubmap}
 use Rattle.mx_merge.specs.Missing.{in_ranges, lies_in}
-use Rattle.mx_merge.proofs.GapLists.{in_first}
 
 pub in_ranges_known : (ranges : List Range) (journal : List Record) → IsSubmap (in_ranges ranges journal) journal
 in_ranges_known ranges [] x h = absurd h

@@ -1,12 +1,12 @@
 -- The list of gaps has every gap, in order, and nothing else; its first eight are the least eight.
 use Rattle.std.proofs.Common.{ℕ, zero, suc, ◌+◌, ◌-◌, ◌<◌, ◌≤◌, ◌≡◌, ◌⊎◌, inl, inr, List, [], ◌∷◌, ◌++◌, take, nat_lt, refl, sym, ap, subst, arith}
 use Rattle.mx_stamps.specs.Lists.{IsIn}
-use Rattle.mx_stamps.proofs.Lists.{cond_case, in_append, in_left, in_right}
+use Rattle.mx_stamps.proofs.Lists.{in_append, in_left, in_right, in_first}
+use Rattle.mx_stamps.proofs.Choices.{lt_true, lt_false, compared, cond_case}
 use Rattle.mx_journal.specs.declared.records.Record.{Record}
 use Rattle.mx_journal.specs.declared.ranges.Range.{Range}
 use Rattle.mx_journal.specs.Records.{Ascending, IsThere}
 use Rattle.mx_journal.specs.Agreement.{IsSubmap}
-use Rattle.mx_journal.proofs.Choices.{compared, lt_true, lt_false}
 use Rattle.mx_journal.proofs.Maps.{ascending_above}
 use Rattle.mx_merge.specs.Missing.{AscendingRanges, IsGap, IsLeftOut, IsListOfGaps, gap_after, gaps_above, gaps_of}
 
@@ -177,12 +177,6 @@ ranges_first : (count k : ℕ) (rs : List Range) → AscendingRanges k rs → As
 ranges_first zero k rs a = tt
 ranges_first (suc count) k [] a = tt
 ranges_first (suc count) k (r ∷ rs) a = (a.0, ranges_first count (r.last + 1) rs a.1)
-
-pub in_first : {X : Type 0} (count : ℕ) (xs : List X) (x : X) → IsIn x (take count xs) → IsIn x xs
-in_first zero xs x h = absurd h
-in_first (suc count) [] x h = absurd h
-in_first (suc count) (y ∷ ys) x (inl e) = inl e
-in_first (suc count) (y ∷ ys) x (inr h) = inr (in_first count ys x h)
 
 -- a range of a list whose ranges ascend is behind all of those before it
 ranges_above : (k : ℕ) (rs : List Range) (q : Range) → AscendingRanges k rs → ((r : Range) → IsIn r rs → r.first ≤ r.last) → IsIn q rs → k ≤ q.first

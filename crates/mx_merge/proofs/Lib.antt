@@ -1,8 +1,7 @@
 -- Joins: the join of agreeing journals is their least upper bound. GapLists: the list of gaps has
 -- each gap and nothing else. Differences: how the least difference is found. Answered: answers are
--- records of the journal. Firsts: lists that are cut, and walks by place.
+-- records of the journal.
 pub mod Joins
 pub mod GapLists
 pub mod Differences
-pub mod Firsts
 pub mod Answered

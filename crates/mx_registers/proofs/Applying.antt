@@ -4,13 +4,13 @@ use Rattle.std.specs.List.{last_or}
 use Rattle.std.proofs.lemmas.Bool.Decides.{nat_tests}
 use Rattle.mx_stamps.specs.Lists.{IsIn}
 use Rattle.mx_stamps.proofs.Lists.{get_each_below}
+use Rattle.mx_stamps.proofs.Choices.{lt_is, cond_true}
 use Rattle.mx_journal.specs.declared.records.Write.{Write}
 use Rattle.mx_journal.specs.declared.records.Record.{Record}
 use Rattle.mx_journal.specs.Drafted.{last_value}
 use Rattle.mx_journal.specs.Gapless.{IsGapless}
 use Rattle.mx_journal.specs.Records.{Ascending, below, record_at, top_of}
 use Rattle.mx_journal.proofs.Below.{below_more, below_none, gapless_first_missing, in_below}
-use Rattle.mx_journal.proofs.Choices.{cond_true, lt_is}
 use Rattle.mx_journal.proofs.Maps.{found_at}
 use Rattle.mx_registers.specs.declared.cells.Cell.{Cell}
 use Rattle.mx_registers.specs.Registers.{AreApplied, after_write, applied, number_by, register_of, registers_of, writes_of, writes_to, written}

@@ -3,17 +3,12 @@ use Rattle.std.proofs.Common.{ℕ, ◌<◌, ◌≤◌, ◌≡◌, inl, inr, true
 use Rattle.std.proofs.lemmas.Option.{same_Some}
 use Rattle.std.proofs.lemmas.Bool.Decides.{nat_tests}
 use Rattle.mx_stamps.specs.Lists.{IsIn}
-use Rattle.mx_stamps.proofs.Lists.{append_append, append_nil, cond_case, in_append, in_left, in_right, none_is_no_some}
+use Rattle.mx_stamps.proofs.Lists.{append_append, append_nil, in_append, in_left, in_right, none_is_no_some}
+use Rattle.mx_stamps.proofs.Choices.{le_true, le_false, cond_case}
 use Rattle.mx_journal.specs.declared.records.Record.{Record}
 use Rattle.mx_journal.specs.Agreement.{IsConsistent, IsSubmap}
 use Rattle.mx_registers.specs.declared.cells.Cell.{Cell}
 use Rattle.mx_registers.specs.Registers.{IsHeld, IsHeldBy, IsLastWrite, after_record, after_records, after_write, blank, number_by, register_of, written}
-
-le_true : (a b : ℕ) → nat_le a b ≡ true → a ≤ b
-le_true a b h = grind (arith, nat_tests)
-
-le_false : (a b : ℕ) → nat_le a b ≡ false → b < a
-le_false a b h = grind (arith, nat_tests)
 
 -- no write is none
 not_both : (o : Option ℕ) (v : ℕ) → o ≡ None → o ≡ Some v → ⊥

@@ -2,10 +2,9 @@
 use Rattle.std.proofs.Common.{ℕ, ◌≡◌, ◌==◌, true, false, cond, List, [], ◌∷◌, Option, Some, None, map, filter, nat_le, nat_eq, refl, sym, ◌∙◌, ap, arith}
 use Rattle.std.specs.List.{last_or}
 use Rattle.std.proofs.lemmas.Bool.Decides.{nat_tests}
-use Rattle.mx_stamps.proofs.Lists.{cond_case}
+use Rattle.mx_stamps.proofs.Choices.{cond_case, cond_true}
 use Rattle.mx_journal.specs.declared.records.Write.{Write}
 use Rattle.mx_journal.specs.Drafted.{last_value}
-use Rattle.mx_journal.proofs.Choices.{cond_true}
 use Rattle.mx_registers.specs.declared.cells.Cell.{Cell}
 use Rattle.mx_registers.specs.Registers.{after_write, number_by}
 use Rattle.mx_registers.specs.Writes.{after_each}

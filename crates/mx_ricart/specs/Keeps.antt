@@ -17,8 +17,10 @@ use Rattle.mx_nodelaws.specs.declared.faults.LeaveFault.{LeaveFault}
 use Rattle.mx_nodelaws.specs.declared.faults.LeaveFault.TheVariants.{NotInside}
 use Rattle.mx_nodelaws.specs.Phases.{is_busy, is_waiting}
 use Rattle.mx_nodelaws.proofs.Phases.{waiting_is}
+use Rattle.mx_nodelaws.specs.Calls.{unchanged, refused}
+use Rattle.mx_nodelaws.proofs.Calls.{ask_cases, enter_cases}
 use Rattle.mx_ricart.specs.Node.{Node}
-use Rattle.mx_ricart.specs.Step.{is_other, has_reply, has_all_replies, unchanged, asked, ask_in, ask_of, seeing, deferring, replied, take_request, counting, take_reply, deliver_of, entered, refused, enter_granted, enter_in, enter_of, leave_in, leave_of, ticked, tick_of}
+use Rattle.mx_ricart.specs.Step.{is_other, has_reply, has_all_replies, asked, ask_in, ask_of, seeing, deferring, replied, take_request, counting, take_reply, deliver_of, entered, enter_in, enter_of, leave_in, leave_of, ticked, tick_of, entering}
 use Rattle.mx_ricart.specs.Good.{IsRequestOk, IsSafe}
 use Rattle.mx_ricart.specs.Tests.{other_is, all_replies}
 use Rattle.mx_ricart.specs.Rows.{unchanged_good, asked_good, deferred_good, replied_good, counted_good, waiting_busy, entered_good, left_good, ticked_good}
@@ -29,8 +31,8 @@ module _ (w : World Node RicartMsg) (i : ℕ) (s : Node) (good : IsSafe w) (at :
 
   ask_in_good : (p : Phase) → IsSafe (after w i (ask_in p s))
   ask_in_good Idle =
-      cond_case (λ d. IsSafe (after w i d)) (nat_lt s.highest 18446744073709551615) (asked s) (unchanged s (Err StampsSpent))
-      (λ _. asked_good w i s good at) (λ _. same_good {A = Result Stamp AskFault} (Err StampsSpent))
+      ask_cases (λ (x : Node). x.highest) asked (λ d. IsSafe (after w i d)) s
+      (λ _. asked_good w i s good at) (same_good {A = Result Stamp AskFault} (Err StampsSpent))
   ask_in_good Waiting = same_good {A = Result Stamp AskFault} (Err NotIdle)
   ask_in_good (Inside n) = same_good {A = Result Stamp AskFault} (Err NotIdle)
 
@@ -67,10 +69,8 @@ module _ (w : World Node RicartMsg) (i : ℕ) (s : Node) (good : IsSafe w) (at :
   enter_in_good : (p : Phase) → s.phase ≡ p → IsSafe (after w i (quietly (enter_in p s)))
   enter_in_good Idle e = refused_good NotWaiting
   enter_in_good Waiting e =
-      cond_case (λ d. IsSafe (after w i (quietly d))) (has_all_replies s) (enter_granted s) (refused s NotGranted)
-      (λ all. cond_case (λ d. IsSafe (after w i (quietly d))) (nat_lt s.top s.limit) (entered s) (refused s NumbersSpent)
-      (λ _. entered_good w i s good at e (all_replies s all)) (λ _. refused_good NumbersSpent))
-      (λ _. refused_good NotGranted)
+      enter_cases has_all_replies (λ (x : Node). x.top) (λ (x : Node). x.limit) entering (λ d. IsSafe (after w i (quietly d))) s
+      (λ all _. entered_good w i s good at e (all_replies s all)) (refused_good NumbersSpent) (λ _. refused_good NotGranted)
   enter_in_good (Inside n) e = refused_good NotWaiting
 
   pub enter_good : IsSafe (after w i (quietly (enter_of s)))

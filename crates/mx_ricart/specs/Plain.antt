@@ -22,8 +22,10 @@ use Rattle.mx_nodelaws.proofs.Plain.{nil, one, plain_start}
 use Rattle.mx_nodelaws.specs.Phases.{is_busy, is_waiting}
 use Rattle.mx_nodelaws.specs.Plain.{Small, PlainStamp, ArePlain, IsPlainDone, IsPlainWorld}
 use Rattle.mx_nodelaws.proofs.Sent.{sent_unless}
+use Rattle.mx_nodelaws.specs.Calls.{unchanged, refused}
+use Rattle.mx_nodelaws.proofs.Calls.{ask_cases, enter_cases}
 use Rattle.mx_ricart.specs.Node.{Node}
-use Rattle.mx_ricart.specs.Step.{IsCount, start_of, is_other, has_reply, deferred_at, has_all_replies, unchanged, asking, asked, ask_in, ask_of, seeing, later_of, deferring, replied, take_request, counting, take_reply, deliver_of, entered, refused, enter_granted, enter_in, enter_of, reply_deferred, left, leave_in, leave_of, ticked, tick_of, ricart_core}
+use Rattle.mx_ricart.specs.Step.{IsCount, start_of, is_other, has_reply, deferred_at, has_all_replies, asking, asked, ask_in, ask_of, seeing, later_of, deferring, replied, take_request, counting, take_reply, deliver_of, entered, enter_in, enter_of, reply_deferred, left, leave_in, leave_of, ticked, tick_of, ricart_core, entering}
 use Rattle.mx_ricart.specs.Good.{PlainLetter, PlainNode}
 use Rattle.mx_ricart.specs.Rows.{sent_reply}
 
@@ -50,8 +52,8 @@ module _ (n : ℕ) (s : Node) (ok : PlainNode n s) where
 
   ask_in_plain : (p : Phase) → PlainDone {A = Result Stamp AskFault} n (ask_in p s)
   ask_in_plain Idle =
-      cond_case (λ d. PlainDone {A = Result Stamp AskFault} n d) (nat_lt s.highest 18446744073709551615) (asked s) (unchanged s (Err StampsSpent))
-      (λ e. asked_plain (lt_true s.highest 18446744073709551615 e)) (λ _. as_was {A = Result Stamp AskFault} (Err StampsSpent))
+      ask_cases (λ (x : Node). x.highest) asked (λ d. PlainDone {A = Result Stamp AskFault} n d) s
+      (λ e. asked_plain (lt_true s.highest 18446744073709551615 e)) (as_was {A = Result Stamp AskFault} (Err StampsSpent))
   ask_in_plain Waiting = as_was {A = Result Stamp AskFault} (Err NotIdle)
   ask_in_plain (Inside k) = as_was {A = Result Stamp AskFault} (Err NotIdle)
 
@@ -118,10 +120,8 @@ module _ (n : ℕ) (s : Node) (ok : PlainNode n s) where
   enter_in_plain : (p : Phase) → PlainDone {A = Result ℕ EnterFault} n (quietly (enter_in p s))
   enter_in_plain Idle = refused_plain NotWaiting
   enter_in_plain Waiting =
-      cond_case (λ d. PlainDone {A = Result ℕ EnterFault} n (quietly d)) (has_all_replies s) (enter_granted s) (refused s NotGranted)
-      (λ _. cond_case (λ d. PlainDone {A = Result ℕ EnterFault} n (quietly d)) (nat_lt s.top s.limit) (entered s) (refused s NumbersSpent)
-      (λ e. entered_plain (lt_true s.top s.limit e)) (λ _. refused_plain NumbersSpent))
-      (λ _. refused_plain NotGranted)
+      enter_cases has_all_replies (λ (x : Node). x.top) (λ (x : Node). x.limit) entering (λ d. PlainDone {A = Result ℕ EnterFault} n (quietly d)) s
+      (λ _ e. entered_plain (lt_true s.top s.limit e)) (refused_plain NumbersSpent) (λ _. refused_plain NotGranted)
   enter_in_plain (Inside k) = refused_plain NotWaiting
 
   pub enter_plain : PlainDone {A = Result ℕ EnterFault} n (quietly (enter_of s))

@@ -19,8 +19,9 @@ use Rattle.mx_nodelaws.proofs.Worlds.{in_addressed, after_nothing}
 use Rattle.mx_nodelaws.specs.Phases.{is_busy}
 use Rattle.mx_nodelaws.proofs.Phases.{waiting_not_inside, idle_not_busy}
 use Rattle.mx_nodelaws.proofs.Sent.{sent_unless}
+use Rattle.mx_nodelaws.specs.Calls.{unchanged}
 use Rattle.mx_ricart.specs.Node.{Node}
-use Rattle.mx_ricart.specs.Step.{has_reply, deferred_at, HasAllReplies, unchanged, asking, request_others, asked, seeing, later_of, deferring, replied, counting, entering, entered, leaving, reply_to, reply_deferred, left, request_missing, ticked}
+use Rattle.mx_ricart.specs.Step.{has_reply, deferred_at, HasAllReplies, asking, request_others, asked, seeing, later_of, deferring, replied, counting, entering, entered, leaving, reply_to, reply_deferred, left, request_missing, ticked}
 use Rattle.mx_ricart.specs.Good.{IsBusy, HasSeen, IsNodeOk, IsRequestOk, IsReplyOk, IsLetterOk, IsSafe}
 use Rattle.mx_ricart.specs.Frame.{Moves, good_after, seen_after, reached_after, other_after}
 

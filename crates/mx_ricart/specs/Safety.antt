@@ -15,9 +15,10 @@ use Rattle.mx_nodelaws.specs.declared.faults.EnterFault.TheVariants.{NotGranted,
 use Rattle.mx_nodelaws.proofs.Frame.{was}
 use Rattle.mx_nodelaws.specs.Phases.{is_busy, is_waiting}
 use Rattle.mx_nodelaws.proofs.Phases.{waiting_not_inside, waiting_is}
-use Rattle.mx_nodelaws.proofs.Entries.{granted_answer, greatest_is}
+use Rattle.mx_nodelaws.proofs.Entries.{greatest_is}
+use Rattle.mx_nodelaws.proofs.Calls.{granted_answer}
 use Rattle.mx_ricart.specs.Node.{Node}
-use Rattle.mx_ricart.specs.Step.{has_reply, HasAllReplies, has_all_replies, can_enter_of, entered, refused, enter_in, enter_of, ricart_core}
+use Rattle.mx_ricart.specs.Step.{has_reply, HasAllReplies, has_all_replies, can_enter_of, entered, enter_in, enter_of, ricart_core, entering}
 use Rattle.mx_ricart.specs.Good.{IsBusy, IsReplyOk, IsSafe}
 use Rattle.mx_ricart.specs.Tests.{all_replies}
 use Rattle.mx_ricart.specs.Rows.{has_of_all}
@@ -67,11 +68,6 @@ module _ (w : World Node RicartMsg) (i : ℕ) (s : Node) (good : IsSafe w) (at :
   top_greatest : greatest_mine ricart_core w ≡ s.top
   top_greatest = greatest_is (λ x. x.mine) w s.top mine_below (good.nodes i s at).top_reached
 
-entered_answer : (p : Phase) (s : Node) → p ≡ Waiting → has_all_replies s ≡ true → (enter_in p s).answer ≡ cond (nat_lt s.top s.limit) (Ok (s.top + 1)) (Err NumbersSpent)
-entered_answer Waiting s e all = granted_answer (has_all_replies s) (nat_lt s.top s.limit) (entered s) (refused s NumbersSpent) (refused s NotGranted) all
-entered_answer Idle s e all = let bad : ⊥ = cc in absurd bad
-entered_answer (Inside n) s e all = let bad : ⊥ = cc in absurd bad
-
 pub entry : (w : World Node RicartMsg) (i : ℕ) (s : Node) → IsSafe w → IsNode w i s → can_enter_of s ≡ true →
     ((j : ℕ) (t : Node) → IsNode w j t → IsInside ricart_core t → ⊥)
     × ((enter_of s).answer ≡ cond (nat_lt (greatest_mine ricart_core w) s.limit) (Ok (greatest_mine ricart_core w + 1)) (Err NumbersSpent))
@@ -80,5 +76,5 @@ entry w i s good at can =
     let waiting = waiting_is s.phase p.0 in
     let all = all_replies s p.1 in (
       nobody_inside w i s good at waiting all,
-      subst (λ g. (enter_of s).answer ≡ cond (nat_lt g s.limit) (Ok (g + 1)) (Err NumbersSpent)) (sym (top_greatest w i s good at waiting all)) (entered_answer s.phase s waiting p.1),
+      subst (λ g. (enter_of s).answer ≡ cond (nat_lt g s.limit) (Ok (g + 1)) (Err NumbersSpent)) (sym (top_greatest w i s good at waiting all)) (granted_answer has_all_replies (λ (x : Node). x.top) (λ (x : Node). x.limit) entering s.phase s waiting p.1),
     )

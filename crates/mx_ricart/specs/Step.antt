@@ -15,6 +15,7 @@ use Rattle.mx_nodelaws.specs.declared.faults.EnterFault.TheVariants.{NotWaiting,
 use Rattle.mx_nodelaws.specs.declared.faults.LeaveFault.{LeaveFault}
 use Rattle.mx_nodelaws.specs.declared.faults.LeaveFault.TheVariants.{NotInside}
 use Rattle.mx_nodelaws.specs.Phases.{is_busy, is_waiting}
+use Rattle.mx_nodelaws.specs.Calls.{unchanged, ask_by, entered_by, enter_by, leave_by}
 use Rattle.mx_ricart.specs.Node.{Node}
 
 -- how many nodes a cluster may have
@@ -60,10 +61,6 @@ has_replies_below s (suc n) = has_replies_below s n && (nat_eq n s.me || has_rep
 abbrev pub has_all_replies : Node → Bool
 has_all_replies s = has_replies_below s s.count
 
--- a refusal, or a letter that no row fits: nothing changes and nothing is sent
-abbrev pub unchanged : {A : Type 0} → Node → A → Done Node A RicartMsg
-unchanged s answer = record { state = s; answer = answer; letters = [] }
-
 -- ask: the clock's next stamp, no reply yet, and a request to every other node
 abbrev pub asking : Node → Node
 asking s = record s { highest = s.highest + 1; ours = record { number = s.highest + 1; node = s.me }; got = replicate 21 false; phase = Waiting }
@@ -75,9 +72,7 @@ abbrev pub asked : Node → Done Node (Result Stamp AskFault) RicartMsg
 asked s = record { state = asking s; answer = Ok (asking s).ours; letters = addressed (request_others (asking s)) s.count }
 
 abbrev pub ask_in : Phase → Node → Done Node (Result Stamp AskFault) RicartMsg
-ask_in Idle s = if nat_lt s.highest 18446744073709551615 then asked s else unchanged s (Err StampsSpent)
-ask_in Waiting s = unchanged s (Err NotIdle)
-ask_in (Inside n) s = unchanged s (Err NotIdle)
+ask_in p s = ask_by (λ (x : Node). x.highest) asked p s
 
 abbrev pub ask_of : Node → Done Node (Result Stamp AskFault) RicartMsg
 ask_of s = ask_in s.phase s
@@ -129,18 +124,10 @@ abbrev pub entering : Node → Node
 entering s = record s { top = s.top + 1; mine = s.top + 1; phase = Inside (s.top + 1) }
 
 abbrev pub entered : Node → Quiet Node (Result ℕ EnterFault)
-entered s = record { state = entering s; answer = Ok (s.top + 1) }
-
-abbrev pub refused : Node → EnterFault → Quiet Node (Result ℕ EnterFault)
-refused s fault = record { state = s; answer = Err fault }
-
-abbrev pub enter_granted : Node → Quiet Node (Result ℕ EnterFault)
-enter_granted s = if nat_lt s.top s.limit then entered s else refused s NumbersSpent
+entered s = entered_by (λ (x : Node). x.top) entering s
 
 abbrev pub enter_in : Phase → Node → Quiet Node (Result ℕ EnterFault)
-enter_in Idle s = refused s NotWaiting
-enter_in Waiting s = if has_all_replies s then enter_granted s else refused s NotGranted
-enter_in (Inside n) s = refused s NotWaiting
+enter_in p s = enter_by has_all_replies (λ (x : Node). x.top) (λ (x : Node). x.limit) entering p s
 
 abbrev pub enter_of : Node → Quiet Node (Result ℕ EnterFault)
 enter_of s = enter_in s.phase s
@@ -160,9 +147,7 @@ abbrev pub left : Node → ℕ → Done Node (Result ℕ LeaveFault) RicartMsg
 left s n = record { state = leaving s; answer = Ok n; letters = addressed (reply_deferred s) s.count }
 
 abbrev pub leave_in : Phase → Node → Done Node (Result ℕ LeaveFault) RicartMsg
-leave_in Idle s = unchanged s (Err NotInside)
-leave_in Waiting s = unchanged s (Err NotInside)
-leave_in (Inside n) s = left s n
+leave_in p s = leave_by left p s
 
 abbrev pub leave_of : Node → Done Node (Result ℕ LeaveFault) RicartMsg
 leave_of s = leave_in s.phase s

@@ -1,8 +1,8 @@
 use Rattle.std.proofs.Common.{suc, ◌≡◌, ◌+◌, ◌-◌, ◌<◌, ◌∙◌, [], ◌∷◌, ◌++◌, length, take, drop, sym, ap, subst, arith}
 use Rattle.std.proofs.lemmas.Bool.Decides.{nat_tests}
 use Rattle.std.proofs.lemmas.List.{drop_all}
+use Rattle.mx_stamps.proofs.Lists.{drop_here}
 use Rattle.mx_journal.specs.Records.{Ascending, in_range}
-use Rattle.mx_journal.proofs.Choices.{drop_here}
 use Rattle.mx_journal.proofs.Maps.{ascending_from}
 use Rattle.mx_journal.proofs.Seeking.{in_range_here, in_range_none, taken_all, taken_enough, taken_more}
 use Rattle.mx_journal.proofs.places.least_from.Goals.{then-entry-range-via-then-entry-range, then-entry-range-via-else-entry-range+then-is_full}

@@ -1,10 +1,9 @@
 use Rattle.std.proofs.Common.{inl, inr, [], ◌∷◌, take, subst, sym, ◌∙◌, ap, arith}
 use Rattle.std.proofs.lemmas.List.{take_all}
 use Rattle.mx_stamps.specs.Lists.{IsIn}
-use Rattle.mx_stamps.proofs.Lists.{in_append}
+use Rattle.mx_stamps.proofs.Lists.{in_append, in_at, take_here}
 use Rattle.mx_journal.specs.declared.records.Record.{Record}
 use Rattle.mx_journal.specs.Agreement.{AgreesWith}
-use Rattle.mx_journal.proofs.Choices.{in_at, take_here}
 use Rattle.mx_journal.proofs.puts.agrees_in.Goals.{else-other-entry-via-then-other-entry+else-not-is, else-other-entry-via-else-other-entry}
 use Rattle.mx_journal.proofs.puts.agrees_in.Goals as goal
 

@@ -1,10 +1,9 @@
 use Rattle.std.proofs.Common.{◌≡◌, inl, inr, [], ◌∷◌, take, subst, ap, refl, arith}
 use Rattle.std.proofs.lemmas.List.{take_all}
 use Rattle.mx_stamps.specs.Lists.{IsIn}
-use Rattle.mx_stamps.proofs.Lists.{in_append}
+use Rattle.mx_stamps.proofs.Lists.{in_append, in_at, take_here}
 use Rattle.mx_journal.specs.declared.records.Record.{Record}
 use Rattle.mx_journal.specs.Records.{IsNumbered}
-use Rattle.mx_journal.proofs.Choices.{in_at, take_here}
 use Rattle.mx_journal.proofs.puts.has_zero.Goals as goal
 
 pub returns-then-entry-eq0-clause-there : goal.returns-then-entry-eq0-clause-there

@@ -1,8 +1,8 @@
 use Rattle.std.proofs.Common.{◌≡◌, ◌+◌, ◌≤◌, ◌∙◌, [], ◌∷◌, Vec, Global, take, vec_len, vec_capacity, sym, ap, subst, arith}
 use Rattle.mx_stamps.specs.Lists.{IsIn}
+use Rattle.mx_stamps.proofs.Lists.{in_at, take_here}
 use Rattle.mx_journal.specs.declared.records.Record.{Record}
 use Rattle.mx_journal.specs.Records.{Ascending, with_record, with_records}
-use Rattle.mx_journal.proofs.Choices.{in_at, take_here}
 use Rattle.mx_journal.proofs.Maps.{ascending_with, with_record_there, with_records-append}
 use Rattle.mx_journal.proofs.puts.insert_all.Goals.{then-not-is_there, else-not-is_there}
 use Rattle.mx_journal.proofs.puts.insert_all.Goals as goal

@@ -1,7 +1,6 @@
 use Rattle.std.proofs.Common.{◌∙◌, Some, [], ◌∷◌, ◌++◌, take, subst, sym, ap, arith}
 use Rattle.std.proofs.lemmas.List.{take_all}
-use Rattle.mx_stamps.proofs.Lists.{in_right}
-use Rattle.mx_journal.proofs.Choices.{in_at, take_here}
+use Rattle.mx_stamps.proofs.Lists.{in_right, in_at, take_here}
 use Rattle.mx_journal.proofs.Disputes.{IsLeastSoFar, so_far_agrees, so_far_opposed, some_says, none_says}
 use Rattle.mx_journal.proofs.puts.least_conflict.Goals.{then-not-agrees_in_both, else-not-agrees_in_both}
 use Rattle.mx_journal.proofs.puts.least_conflict.Goals as goal

@@ -1,9 +1,9 @@
 use Rattle.std.proofs.Common.{◌≡◌, ◌++◌, ◌∷◌, ◌+◌, take, drop, sym, ◌∙◌, ap, subst}
 use Rattle.std.proofs.lemmas.List.{take-append-drop}
+use Rattle.mx_stamps.proofs.Lists.{drop_at, take_at}
 use Rattle.mx_journal.specs.Records.{Ascending}
 use Rattle.mx_journal.specs.Agreement.{AreAgreeing, IsFirstConflict}
 use Rattle.mx_merge.proofs.Differences.{first_opposed, one_more}
-use Rattle.mx_merge.proofs.Firsts.{drop_at, take_at}
 use Rattle.mx_merge.proofs.agreement.first_difference.Goals as goal
 
 pub returns-then-not-agrees_with-clause-some : goal.returns-then-not-agrees_with-clause-some

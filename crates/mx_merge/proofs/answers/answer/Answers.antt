@@ -3,12 +3,11 @@ use Rattle.arrayvec.specs.declared.array_vec.ArrayVec.{ArrayVec}
 use Rattle.std.proofs.lemmas.Bool.Decides.{nat_tests}
 use Rattle.std.proofs.lemmas.Grind.{common_steps}
 use Rattle.std.proofs.lemmas.List.{drop_all, take_all, take-append-le}
-use Rattle.mx_stamps.proofs.Lists.{append_append, append_nil}
-use Rattle.mx_journal.proofs.Choices.{cond_true, cond_false}
+use Rattle.mx_stamps.proofs.Lists.{append_append, append_nil, drop_at}
+use Rattle.mx_stamps.proofs.Choices.{cond_true, cond_false}
 use Rattle.mx_journal.specs.declared.records.Record.{Record}
 use Rattle.mx_journal.specs.Agreement.{IsSubmap}
 use Rattle.mx_merge.specs.Missing.{in_ranges, lies_in}
-use Rattle.mx_merge.proofs.Firsts.{drop_at}
 use Rattle.mx_merge.proofs.Answered.{answered_known}
 use Rattle.mx_merge.proofs.answers.answer.Goals.{then-is_in_some, else-is_in_some}
 use Rattle.mx_merge.proofs.answers.answer.Goals as goal

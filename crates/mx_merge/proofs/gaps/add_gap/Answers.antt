@@ -2,7 +2,7 @@ use Rattle.std.proofs.Common.{nat_lt, ◌≡◌, ◌+◌, ◌++◌, ◌≤◌, �
 use Rattle.std.proofs.lemmas.Bool.Decides.{nat_tests}
 use Rattle.std.proofs.lemmas.List.{take_all, take-append-le}
 use Rattle.mx_stamps.proofs.Lists.{append_nil}
-use Rattle.mx_journal.proofs.Choices.{cond_false, lt_not}
+use Rattle.mx_stamps.proofs.Choices.{lt_not, cond_false}
 use Rattle.mx_merge.specs.Missing.{gap_after}
 use Rattle.mx_merge.proofs.gaps.add_gap.Goals.{else-not-is_full-via-then-not-is_full+else-before-last, else-not-is_full-via-else-not-is_full}
 use Rattle.mx_merge.proofs.gaps.add_gap.Goals as goal

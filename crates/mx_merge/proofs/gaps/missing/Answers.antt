@@ -1,11 +1,10 @@
 use Rattle.std.proofs.Common.{suc, nat_lt, ◌≡◌, ◌+◌, ◌-◌, ◌++◌, ◌∙◌, ◌∷◌, take, drop, sym, ap, subst, arith}
 use Rattle.std.proofs.lemmas.Bool.Decides.{nat_tests}
 use Rattle.std.proofs.lemmas.List.{drop_all}
-use Rattle.mx_stamps.proofs.Lists.{append_append}
+use Rattle.mx_stamps.proofs.Lists.{append_append, drop_at, cut_twice, cut_full}
+use Rattle.mx_stamps.proofs.Choices.{lt_is, lt_not, cond_true, cond_false}
 use Rattle.mx_journal.specs.Records.{Ascending}
-use Rattle.mx_journal.proofs.Choices.{cond_true, cond_false, lt_is, lt_not}
 use Rattle.mx_merge.specs.Missing.{IsListOfGaps, gap_after, gaps_above}
-use Rattle.mx_merge.proofs.Firsts.{cut_full, cut_twice, drop_at}
 use Rattle.mx_merge.proofs.GapLists.{first_gaps}
 use Rattle.mx_merge.proofs.gaps.missing.Goals.{else-loop-place-test, then-loop-place-test+then-number-limit, then-number-limit-via-then-number-limit, then-number-limit-via-else-number-limit+then-is_full}
 use Rattle.mx_merge.proofs.gaps.missing.Goals as goal

@@ -1,7 +1,7 @@
 use Rattle.std.proofs.Common.{◌≡◌, ◌∙◌, subst, List, slice_get, take, sym, ap, arith}
 use Rattle.std.proofs.lemmas.List.{take_all}
 use Rattle.std.proofs.lemmas.Option.{get_or_from_slice_get}
-use Rattle.mx_journal.proofs.Choices.{take_here}
+use Rattle.mx_stamps.proofs.Lists.{take_here}
 use Rattle.mx_registers.specs.declared.cells.Cell.{Cell}
 use Rattle.mx_registers.specs.Registers.{AreApplied, writes_to, registers_of, with_taken}
 use Rattle.mx_registers.proofs.Applying.{gapless_view}

@@ -1,6 +1,6 @@
 use Rattle.std.proofs.Common.{◌≡◌, ◌∙◌, List, slice_get, take, sym, ap, arith}
 use Rattle.std.proofs.lemmas.List.{take_all}
-use Rattle.mx_journal.proofs.Choices.{take_here}
+use Rattle.mx_stamps.proofs.Lists.{take_here}
 use Rattle.mx_registers.specs.declared.cells.Cell.{Cell}
 use Rattle.mx_registers.specs.Registers.{registers_of, with_taken}
 use Rattle.mx_registers.proofs.Taking.{map_registers, same_registers, taken_more, view_held}

@@ -1,7 +1,7 @@
 use Rattle.std.proofs.Common.{◌≡◌, false, not, ◌&&◌, arith, refl, ◌∙◌}
 use Rattle.std.proofs.lemmas.Grind.{common_steps}
 use Rattle.mx_maekawa.specs.RequesterStep.{to_missing, is_own, holds}
-use Rattle.mx_maekawa.proofs.Sent.{failed_more}
+use Rattle.mx_nodelaws.proofs.Sent.{failed_more}
 use Rattle.mx_maekawa.proofs.requester.Requester.send_missing.Goals as goal
 use Rattle.mx_maekawa.proofs.requester.Requester.send_missing.Goals.{in-Some+then-is_own+then-not-holds, in-Some+else-is_own, else-is_own-via-then-is_own+else-not-holds, else-is_own-via-else-is_own, in_default}
 

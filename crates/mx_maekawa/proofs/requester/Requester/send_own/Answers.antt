@@ -1,7 +1,7 @@
 use Rattle.std.proofs.Common.{◌≡◌, false, arith, refl, ◌∙◌}
 use Rattle.std.proofs.lemmas.Grind.{common_steps}
 use Rattle.mx_maekawa.specs.RequesterStep.{to_own, is_own}
-use Rattle.mx_maekawa.proofs.Sent.{failed_more}
+use Rattle.mx_nodelaws.proofs.Sent.{failed_more}
 use Rattle.mx_maekawa.proofs.requester.Requester.send_own.Goals as goal
 use Rattle.mx_maekawa.proofs.requester.Requester.send_own.Goals.{in-Some+then-is_own, in-Some+else-is_own, in_default}
 

@@ -1,10 +1,21 @@
--- What the tests of the permission and of failed arbiters say.
-use Rattle.std.proofs.Common.{ℕ, zero, suc, ◌<◌, ◌≡◌, ◌↔◌, inl, inr, Bool, true, false, not, ◌||◌, refl, sym, ap, subst, arith}
-use Rattle.mx_stamps.proofs.Lists.{dec_eq, and_true, or_false}
+-- What the tests of the step table mean: of the permission, and of failed arbiters.
+use Rattle.std.proofs.Common.{ℕ, Option, Some, None, zero, suc, ◌<◌, ◌≡◌, ◌↔◌, inl, inr, Bool, true, false, not, ◌||◌, refl, sym, ap, subst, arith}
+use Rattle.mx_stamps.proofs.Lists.{dec_eq}
+use Rattle.mx_stamps.proofs.Choices.{not_both, both_true, and_true, or_cases, or_false, neither}
 use Rattle.mx_maekawa.specs.Node.{RequesterState}
-use Rattle.mx_maekawa.specs.RequesterStep.{has_failed, is_own, holds, holds_below, holds_all, has_failed_below}
-use Rattle.mx_maekawa.specs.RequesterStep.{HoldsAll, HasFailed}
-use Rattle.mx_maekawa.specs.Places.{both_true, true_not_false, or_cases, neither}
+use Rattle.mx_maekawa.specs.RequesterStep.{is_some, has_failed, is_own, holds, holds_below, holds_all, has_failed_below, HoldsAll, HasFailed}
+
+-- a number that is held, if there is one
+
+pub some_of : (o : Option ℕ) → is_some o ≡ true → (g : ℕ) × (o ≡ Some g)
+some_of None h = let bad : ⊥ = cc in absurd bad
+some_of (Some g) h = (g, refl)
+
+pub none_of : (o : Option ℕ) → is_some o ≡ false → o ≡ None
+none_of None h = refl
+none_of (Some g) h = let bad : ⊥ = cc in absurd bad
+
+-- the permission
 
 -- each arbiter of the own set below n has granted
 pub holds_each : (r : RequesterState) (n : ℕ) → holds_below r n ≡ true → (a : ℕ) → a < n → is_own r a ≡ true → holds r a ≡ true
@@ -48,7 +59,7 @@ none_failed r (suc n) h b lt =
 
 failed_test : (t : Bool) (r : RequesterState) → has_failed_below r r.count ≡ t → HasFailed r → t ≡ true
 failed_test true r e h = refl
-failed_test false r e (a, lt, failed) = absurd (true_not_false (has_failed r a) failed (none_failed r r.count e a lt))
+failed_test false r e (a, lt, failed) = absurd (not_both (has_failed r a) failed (none_failed r r.count e a lt))
 
 pub has_failed_is : (r : RequesterState) → (has_failed_below r r.count ≡ true) ↔ HasFailed r
 has_failed_is r = (some_failed r r.count, failed_test (has_failed_below r r.count) r refl)
