@@ -100,14 +100,14 @@ module _ (i : ℕ) where
       let first = by_requester s (unchanged {A = Unit {0}} (failing s.requester a) tt) in
       let sound : IsSound (after w i first) = aside_sound w i s good at {A = Unit {0}} tt (slice_set s.requester.failed a true) s.requester.asked s.requester.highest s.arbiter.waiting s.arbiter.ended s.arbiter.last [] ok.asked_held (omega arith) (omega arith) ok.last_reached (λ b m none. absurd none) in
       let second = by_requester first.state (give_below s.requester.count first.state.requester) in
-      both_sound w first second (give_sound s.requester.count (after w i first) first.state sound (now_is w s first at) waiting ok.few)
+      both_sound w first second (give_sound s.requester.count (after w i first) first.state sound (now_is w s first at) waiting ok.placed.few)
 
   -- after Fail no inquiry is remembered
   pub failed_calm : (w : NodeWorld) (s : Node) (n : ℕ) → IsSound w → IsNode w i s → s.requester.phase ≡ Waiting → (r : RequesterState) → n ≡ s.requester.count → s.requester ≡ (give_below n r).state → IsCalm s.requester
   failed_calm w s n good at waiting r count is a g b lt was =
       let ok = good.nodes i s at in
       let own = (ok.held (ap is_busy waiting) a g (ok.asked_held a g was)).own in
-      let few : a < s.requester.count = ok.own_few a own in
+      let few : a < s.requester.count = ok.placed.own_few a own in
       absurd (none_is_no_some g (sym (give_clears n r a (omega arith)) ∙ subst (λ x. asked_at x a ≡ Some g) is was))
 
   grant_to_sound : (w : NodeWorld) (s : Node) (o : Option Stamp) → IsSound w → IsNode w i s → s.arbiter.lock ≡ None → IsSound (after w i (by_arbiter s (grant_to o s.arbiter)))

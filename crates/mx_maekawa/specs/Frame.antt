@@ -1,20 +1,20 @@
 -- What a step of one node leaves as it was.
-use Rattle.std.proofs.Common.{ℕ, ◌<◌, ◌≤◌, ◌≡◌, ◌≢◌, ◌⊎◌, inl, inr, true, false, Some, None, slice_get, slice_index_or, refl, sym, ◌∙◌, ap, subst, arith}
+use Rattle.std.proofs.Common.{ℕ, ◌<◌, ◌≤◌, ◌≡◌, ◌⊎◌, inl, inr, true, false, Some, slice_index_or, refl, sym, ◌∙◌, ap, subst, arith, Bool, List}
 use Rattle.std.proofs.lemmas.Option.{same_Some}
 use Rattle.mx_stamps.specs.declared.stamp.Stamp.{Stamp}
 use Rattle.mx_stamps.specs.Lists.{IsIn}
-use Rattle.mx_stamps.proofs.Lists.{dec_eq, get_after, get_set_same, get_set_other, in_left, in_append, none_is_no_some}
+use Rattle.mx_stamps.proofs.Lists.{none_is_no_some}
 use Rattle.mx_letters.specs.declared.maekawa.MaekawaMsg.{MaekawaMsg}
 use Rattle.mx_letters.specs.declared.maekawa.MaekawaMsg.TheVariants.{Request, Locked, Failed, Inquire, Relinquish, Release}
-use Rattle.mx_nodelaws.specs.World.{Done, IsNode, WasSent, after, sent_by}
+use Rattle.mx_nodelaws.specs.World.{Done, IsNode, WasSent, after}
 use Rattle.mx_nodelaws.proofs.Frame.{was, is_new, node_cases, each_after, node_after, sent_after, sent_before, still_reached, at_as}
 use Rattle.mx_nodelaws.specs.declared.phase.Phase.TheVariants.{Waiting, Inside}
 use Rattle.mx_nodelaws.specs.Phases.{is_busy}
 use Rattle.mx_maekawa.specs.declared.lock.Lock.{Lock}
 use Rattle.mx_maekawa.specs.Node.{Node}
 use Rattle.mx_maekawa.specs.RequesterStep.{held_at, back_at, is_own}
-use Rattle.mx_maekawa.specs.Good.{NodeWorld, IsBusy, IsEnded, IsGiven, IsReached, IsOver, IsLockedFor, IsEntered, IsHeldOk, IsNodeOk, IsLockedOk, IsLetterOk, IsSound}
-use Rattle.mx_maekawa.specs.Moves.{IsToEnd, Moves, IsGranted, IsGivingBack, IsReleasing, IsSendable}
+use Rattle.mx_maekawa.specs.Good.{NodeWorld, IsBusy, IsEnded, IsGiven, IsReached, IsOver, IsLockedFor, IsEntered, IsHeldOk, IsPlaced, IsNodeOk, IsLockedOk, IsLetterOk, IsSound}
+use Rattle.mx_maekawa.specs.Moves.{IsToEnd, Moves, IsGranted, IsGivingBack, IsSendable}
 
 module _ {A : Type 0} (w : NodeWorld) (i : ℕ) (s : Node) (done : Done Node A MaekawaMsg) (good : IsSound w) (at : IsNode w i s) (moves : Moves w i s done.state) (may : (b : ℕ) (m : MaekawaMsg) → IsIn (b, m) done.letters → IsSendable w i s done.state b m) where
   pub reached_after : (n : ℕ) → IsReached w n → IsReached (after w i done) n
@@ -135,18 +135,23 @@ module _ {A : Type 0} (w : NodeWorld) (i : ℕ) (s : Node) (done : Done Node A M
     ];
   }
 
+  placed_after : (j name count : ℕ) (row : List Bool) → IsPlaced w j name count row → IsPlaced (after w i done) j name count row
+  placed_after j name count row ok = record {
+    me = ok.me;
+    few = ok.few;
+    own_few = ok.own_few;
+    own_node = λ a own. let r = ok.own_node a own in node_after w i s done at a r.0 r.1;
+    meet = λ k u uat. each_after w i s done at (λ x. (a : ℕ) × (slice_index_or row a false ≡ true) × (is_own x.requester a ≡ true)) k (ok.meet k)
+        (λ e p. (p.0, p.1, ap (λ x. slice_index_or x p.0 false) moves.own ∙ p.2)) u uat;
+  }
+
   -- the facts of a node's state before the step, in the world after it
   pub node_ok_after : (j : ℕ) (t : Node) → IsNode w j t → IsNodeOk (after w i done) j t
   node_ok_after j t tat =
       let ok = good.nodes j t tat in record {
-        me = ok.me;
-        few = ok.few;
+        placed = placed_after j t.requester.me t.requester.count t.requester.own ok.placed;
         back_places = ok.back_places;
         held_places = ok.held_places;
-        own_few = ok.own_few;
-        own_node = λ a own. let r = ok.own_node a own in node_after w i s done at a r.0 r.1;
-        meet = λ k u uat. each_after w i s done at (λ x. (a : ℕ) × (is_own t.requester a ≡ true) × (is_own x.requester a ≡ true)) k (ok.meet k)
-            (λ e p. (p.0, p.1, ap (λ x. slice_index_or x p.0 false) moves.own ∙ p.2)) u uat;
         issued = ok.issued;
         ours_node = ok.ours_node;
         ours_number = ok.ours_number;

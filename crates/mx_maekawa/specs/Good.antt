@@ -1,11 +1,10 @@
 -- The worlds that are reached from the start.
-use Rattle.std.specs.Prelude.{ℕ, ◌<◌, ◌≤◌, ◌^◌, ◌≡◌, ◌⊎◌, true, false, Some, length}
+use Rattle.std.specs.Prelude.{ℕ, ◌<◌, ◌≤◌, ◌≡◌, ◌⊎◌, true, false, Some, length, Bool, List, slice_index_or}
 use Rattle.mx_stamps.specs.declared.stamp.Stamp.{Stamp}
 use Rattle.mx_letters.specs.declared.maekawa.MaekawaMsg.{MaekawaMsg}
 use Rattle.mx_letters.specs.declared.maekawa.MaekawaMsg.TheVariants.{Request, Locked, Failed, Inquire, Relinquish, Release}
 use Rattle.mx_nodelaws.specs.World.{World, IsNode, WasSent}
-use Rattle.mx_nodelaws.specs.declared.phase.Phase.{Phase}
-use Rattle.mx_nodelaws.specs.declared.phase.Phase.TheVariants.{Idle, Waiting, Inside}
+use Rattle.mx_nodelaws.specs.declared.phase.Phase.TheVariants.{Inside}
 use Rattle.mx_nodelaws.specs.Phases.{is_busy}
 use Rattle.mx_nodelaws.specs.Plain.{Small, PlainStamp, PlainPhase, IsPlainWorld}
 use Rattle.mx_nodelaws.specs.Raised.{IsReachedBy}
@@ -55,7 +54,7 @@ pub record IsEntered (w : NodeWorld) (i : ℕ) (s : Node) : Type 0 where
   pub kept : (a : ℕ) → is_own s.requester a ≡ true → WasSent w i a (Relinquish stamp (grant_of a)) → ⊥
   -- each release of the stamp or a later one tells the section's number
   pub released : (a : ℕ) (later : Stamp) (t : ℕ) → WasSent w i a (Release later t) → stamp.number ≤ later.number → s.requester.mine ≤ t
-  -- an arbiter is unchanged locked for it, or was told the section's number
+  -- an arbiter is still locked for it, or was told the section's number
   pub locked : (a : ℕ) (arbiter : Node) → is_own s.requester a ≡ true → IsNode w a arbiter → ((c : ℕ) × IsLockedFor arbiter stamp (grant_of a) c) ⊎ (s.requester.mine ≤ arbiter.arbiter.last)
   -- each later grant of its arbiters tells the section's number
   pub after : (a b : ℕ) (other : Stamp) (g c : ℕ) → is_own s.requester a ≡ true → WasSent w a b (Locked other g c) → grant_of a < g → s.requester.mine ≤ c
@@ -68,16 +67,19 @@ pub record IsHeldOk (w : NodeWorld) (s : Node) (a g : ℕ) : Type 0 where
   pub top : c ≤ s.requester.top
   pub lock : (arbiter : Node) → IsNode w a arbiter → IsLockedFor arbiter s.requester.ours g c
 
+-- the name of node i, the count, and its own set: each arbiter is a node, and the sets of two nodes meet
+pub record IsPlaced (w : NodeWorld) (i name count : ℕ) (row : List Bool) : Type 0 where
+  pub me : name ≡ i
+  pub few : count ≤ 21
+  pub own_few : (a : ℕ) → slice_index_or row a false ≡ true → a < count
+  pub own_node : (a : ℕ) → slice_index_or row a false ≡ true → (arbiter : Node) × IsNode w a arbiter
+  pub meet : (j : ℕ) (t : Node) → IsNode w j t → (a : ℕ) × (slice_index_or row a false ≡ true) × (is_own t.requester a ≡ true)
+
 -- what holds of each node
 pub record IsNodeOk (w : NodeWorld) (i : ℕ) (s : Node) : Type 0 where
-  pub me : s.requester.me ≡ i
-  pub few : s.requester.count ≤ 21
+  pub placed : IsPlaced w i s.requester.me s.requester.count s.requester.own
   pub back_places : length s.requester.back ≡ 21
   pub held_places : length s.requester.held ≡ 21
-  -- each arbiter of the own set is a node, and the sets of two nodes meet
-  pub own_few : (a : ℕ) → is_own s.requester a ≡ true → a < s.requester.count
-  pub own_node : (a : ℕ) → is_own s.requester a ≡ true → (arbiter : Node) × IsNode w a arbiter
-  pub meet : (j : ℕ) (t : Node) → IsNode w j t → (a : ℕ) × (is_own s.requester a ≡ true) × (is_own t.requester a ≡ true)
   -- a current stamp is the last own one, and the clock has seen it
   pub issued : s.requester.issued ≤ s.requester.highest
   pub ours_node : IsBusy s.requester → s.requester.ours.node ≡ i

@@ -1,26 +1,21 @@
 -- Parts of steps: a grant comes, and a grant goes back, and a world stays sound.
-use Rattle.std.proofs.Common.{ℕ, ◌<◌, ◌≤◌, ◌+◌, ◌≡◌, ◌≢◌, inl, inr, Bool, true, false, cond, List, [], ◌∷◌, Option, Some, None, max, slice_set, slice_index_or, length, get_or, refl, sym, ◌∙◌, ap, subst, arith}
+use Rattle.std.proofs.Common.{ℕ, ◌<◌, ◌≤◌, ◌≡◌, ◌≢◌, inl, inr, Bool, true, List, [], ◌∷◌, Option, Some, None, max, slice_set, length, get_or, refl, sym, ◌∙◌, ap, subst, arith}
 use Rattle.std.proofs.lemmas.Option.{same_Some}
 use Rattle.std.proofs.lemmas.List.{length-set}
-use Rattle.mx_stamps.specs.declared.stamp.Stamp.{Stamp}
 use Rattle.mx_stamps.specs.Lists.{IsIn}
-use Rattle.mx_stamps.proofs.Lists.{dec_eq, get_after, get_set_same, in_left, in_right, in_append, none_is_no_some, get_or_after, get_or_replicate}
+use Rattle.mx_stamps.proofs.Lists.{dec_eq, get_after, none_is_no_some, get_or_after}
 use Rattle.mx_letters.specs.declared.maekawa.MaekawaMsg.{MaekawaMsg}
-use Rattle.mx_letters.specs.declared.maekawa.MaekawaMsg.TheVariants.{Request, Locked, Relinquish, Release}
-use Rattle.mx_nodelaws.specs.World.{Done, IsNode, WasSent, after, addressed}
-use Rattle.mx_nodelaws.proofs.Worlds.{in_addressed}
-use Rattle.mx_nodelaws.specs.declared.phase.Phase.TheVariants.{Idle, Waiting, Inside}
+use Rattle.mx_letters.specs.declared.maekawa.MaekawaMsg.TheVariants.{Locked, Relinquish, Release}
+use Rattle.mx_nodelaws.specs.World.{Done, IsNode, WasSent, after}
+use Rattle.mx_nodelaws.specs.declared.phase.Phase.TheVariants.{Waiting}
 use Rattle.mx_nodelaws.specs.Phases.{is_busy}
 use Rattle.mx_nodelaws.proofs.Phases.{waiting_not_inside}
 use Rattle.mx_nodelaws.proofs.Frame.{reached_max}
-use Rattle.mx_maekawa.specs.declared.lock.Lock.{Lock}
 use Rattle.mx_maekawa.specs.Node.{Node}
-use Rattle.mx_maekawa.specs.RequesterStep.{held_at, back_at, is_own, holds_all, to_own, asking, asked, holding, entering, leaving}
-use Rattle.mx_maekawa.specs.ArbiterStep.{locking}
-use Rattle.mx_maekawa.specs.Good.{NodeWorld, IsBusy, IsEnded, IsGiven, IsReached, IsLockedFor, IsEntered, IsHeldOk, IsNodeOk, IsLockedOk, IsSound}
+use Rattle.mx_maekawa.specs.RequesterStep.{held_at, back_at, is_own, asked, holding}
+use Rattle.mx_maekawa.specs.Good.{NodeWorld, IsBusy, IsGiven, IsLockedFor, IsHeldOk, IsNodeOk, IsLockedOk, IsSound}
 use Rattle.mx_maekawa.specs.Places.{get_or_other, get_or_same}
 use Rattle.mx_maekawa.specs.Frame.{sound_after, node_ok_after, reached_after}
-use Rattle.mx_maekawa.specs.Safety.{holds_own, held_lock}
 use Rattle.mx_maekawa.specs.Parts.{held_as, entered_as, one_letter}
 use Rattle.mx_maekawa.specs.Moves.{Moves, IsGivingBack, IsSendable}
 
@@ -82,13 +77,9 @@ module _ (w : NodeWorld) (i : ℕ) (s : Node) (good : IsSound w) (at : IsNode w 
       let there = lock_there a g c busy sent not_given in
       sound_after w i s done good at moves may
       (record {
-        me = kept.me;
-        few = kept.few;
+        placed = kept.placed;
         back_places = kept.back_places;
         held_places = length-set s.requester.held a (Some g) ∙ kept.held_places;
-        own_few = kept.own_few;
-        own_node = kept.own_node;
-        meet = kept.meet;
         issued = kept.issued;
         ours_node = kept.ours_node;
         ours_number = kept.ours_number;
@@ -158,13 +149,9 @@ module _ (w : NodeWorld) (i : ℕ) (s : Node) (good : IsSound w) (at : IsNode w 
       let kept = node_ok_after w i s done good at moves may i s at in
       sound_after w i s done good at moves may
       (record {
-        me = kept.me;
-        few = kept.few;
+        placed = kept.placed;
         back_places = length-set s.requester.back a x ∙ kept.back_places;
         held_places = places;
-        own_few = kept.own_few;
-        own_node = kept.own_node;
-        meet = kept.meet;
         issued = kept.issued;
         ours_node = kept.ours_node;
         ours_number = kept.ours_number;

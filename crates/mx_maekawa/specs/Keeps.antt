@@ -1,6 +1,5 @@
 -- Each call keeps a world safe.
-use Rattle.std.proofs.Common.{ℕ, ◌+◌, ◌≡◌, inl, inr, Bool, true, false, cond, not, ◌&&◌, List, [], ◌++◌, Some, None, Result, Ok, Err, get_or, replicate, nat_eq, nat_lt, refl, sym, ◌∙◌, ap, subst}
-use Rattle.std.proofs.lemmas.Option.{same_Some}
+use Rattle.std.proofs.Common.{ℕ, ◌+◌, ◌≡◌, inl, inr, true, not, ◌&&◌, List, [], ◌++◌, None, Result, Ok, Err, get_or, replicate, nat_eq, refl, sym, ◌∙◌, ap, subst}
 use Rattle.mx_stamps.specs.declared.stamp.Stamp.{Stamp}
 use Rattle.mx_stamps.specs.Lists.{IsIn}
 use Rattle.mx_stamps.proofs.Lists.{in_append, none_is_no_some, get_or_replicate}
@@ -63,7 +62,7 @@ module _ (w : NodeWorld) (i : ℕ) (s : Node) (good : IsSafe w) (at : IsNode w i
   calls from stamp e = eq_true stamp.node from (and_true (has_of s.quorums from s.requester.me) (nat_eq stamp.node from) e).1
 
   answers : (from : ℕ) (stamp : Stamp) → is_answer s from stamp ≡ true → (is_own s.requester from ≡ true) × (stamp.node ≡ i)
-  answers from stamp e = let p = and_true (is_own s.requester from) (nat_eq stamp.node s.requester.me) e in (p.0, eq_true stamp.node s.requester.me p.1 ∙ ok_s.me)
+  answers from stamp e = let p = and_true (is_own s.requester from) (nat_eq stamp.node s.requester.me) e in (p.0, eq_true stamp.node s.requester.me p.1 ∙ ok_s.placed.me)
 
   pub deliver_safe : (from : ℕ) (m : MaekawaMsg) → WasSent w from i m → IsSafe (after w i (deliver_of from m s))
   deliver_safe from (Request stamp) sent =

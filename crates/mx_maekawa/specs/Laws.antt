@@ -23,16 +23,18 @@ use Rattle.mx_maekawa.specs.Plain.{PlainDone, ask_done, deliver_done, enter_done
 
 start_ok : (shape : Family) (origin limit : ℕ) → IsMeeting shape → (i : ℕ) → i < shape.count → IsNode (started maekawa_core shape origin limit) i (start_of shape i origin limit) → IsNodeOk (started maekawa_core shape origin limit) i (start_of shape i origin limit)
 start_ok shape origin limit valid i lt at = record {
-  me = refl;
-  few = valid.few;
+  placed = record {
+    me = refl;
+    few = valid.few;
+    own_few = λ a own. valid.nodes i a lt own;
+    own_node = λ a own. (start_of shape a origin limit, has_each_below (λ k. start_of shape k origin limit) shape.count a (valid.nodes i a lt own));
+    meet = λ j t tat.
+        let r = get_each_below (λ k. start_of shape k origin limit) shape.count j t tat in
+        let p = valid.meet i j lt r.0 in
+        (p.0, p.1, ap (λ x. slice_index_or x.requester.own p.0 false) r.1 ∙ p.2);
+  };
   back_places = length_replicate {X = ℕ} 21 origin;
   held_places = length_replicate {X = Option ℕ} 21 None;
-  own_few = λ a own. valid.nodes i a lt own;
-  own_node = λ a own. (start_of shape a origin limit, has_each_below (λ k. start_of shape k origin limit) shape.count a (valid.nodes i a lt own));
-  meet = λ j t tat.
-      let r = get_each_below (λ k. start_of shape k origin limit) shape.count j t tat in
-      let p = valid.meet i j lt r.0 in
-      (p.0, p.1, ap (λ x. slice_index_or x.requester.own p.0 false) r.1 ∙ p.2);
   issued = omega arith;
   ours_node = λ busy. absurd (idle_not_busy Idle refl busy);
   ours_number = λ busy. absurd (idle_not_busy Idle refl busy);
@@ -88,13 +90,9 @@ module _ (w : NodeWorld) (sent : List (ℕ × ℕ × MaekawaMsg)) (same : (x : �
 
   node_by : (i : ℕ) (s : Node) → IsNodeOk w i s → IsNodeOk w2 i s
   node_by i s ok = record {
-    me = ok.me;
-    few = ok.few;
+    placed = let p = ok.placed in record { me = p.me; few = p.few; own_few = p.own_few; own_node = p.own_node; meet = p.meet };
     back_places = ok.back_places;
     held_places = ok.held_places;
-    own_few = ok.own_few;
-    own_node = ok.own_node;
-    meet = ok.meet;
     issued = ok.issued;
     ours_node = ok.ours_node;
     ours_number = ok.ours_number;

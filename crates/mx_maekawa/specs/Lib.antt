@@ -6,8 +6,9 @@ pub mod ArbiterStep
 pub mod Step
 pub mod Good
 -- Proofs of the laws: Places and Tests (lemmas), Moves and Frame (what any step may change, and what it leaves as it
--- was), Parts, LockParts, GrantParts, SectionParts and Cascades (what a step is made of), RequesterKeeps, ArbiterKeeps and Keeps (each step keeps a world safe), RequesterPlain,
--- ArbiterPlain and Plain (each number stays a u64 value), Safety (exclusion and numbering), Promises, Laws.
+-- was), Parts, LockParts, GrantParts, SectionParts and Cascades (what a step is made of), RequesterKeeps,
+-- ArbiterKeeps and Keeps (each step keeps a world safe), RequesterPlain, ArbiterPlain and Plain (each number stays a
+-- u64 value), Safety (exclusion and numbering), Promises, Laws.
 pub mod Places
 pub mod Tests
 pub mod Moves

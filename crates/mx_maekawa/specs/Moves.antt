@@ -1,18 +1,12 @@
 -- How a step of one node may change it, and what it may send.
-use Rattle.std.proofs.Common.{ℕ, ◌<◌, ◌≤◌, ◌≡◌, ◌≢◌, ◌⊎◌, inl, inr, true, false, Some, None, slice_get, slice_index_or, sym, ◌∙◌, ap, subst, arith}
-use Rattle.std.proofs.lemmas.Option.{same_Some}
+use Rattle.std.proofs.Common.{ℕ, ◌<◌, ◌≤◌, ◌≡◌, ◌⊎◌, None}
 use Rattle.mx_stamps.specs.declared.stamp.Stamp.{Stamp}
-use Rattle.mx_stamps.specs.Lists.{IsIn}
-use Rattle.mx_stamps.proofs.Lists.{dec_eq, get_after, get_set_same, get_set_other, in_left, in_append, none_is_no_some}
 use Rattle.mx_letters.specs.declared.maekawa.MaekawaMsg.{MaekawaMsg}
 use Rattle.mx_letters.specs.declared.maekawa.MaekawaMsg.TheVariants.{Request, Locked, Failed, Inquire, Relinquish, Release}
-use Rattle.mx_nodelaws.specs.World.{Done, IsNode, WasSent, after, sent_by}
-use Rattle.mx_nodelaws.proofs.Worlds.{in_sent_by}
-use Rattle.mx_nodelaws.specs.declared.phase.Phase.TheVariants.{Waiting, Inside}
-use Rattle.mx_maekawa.specs.declared.lock.Lock.{Lock}
+use Rattle.mx_nodelaws.specs.World.{WasSent}
+use Rattle.mx_nodelaws.specs.declared.phase.Phase.TheVariants.{Waiting}
 use Rattle.mx_maekawa.specs.Node.{Node}
-use Rattle.mx_maekawa.specs.RequesterStep.{held_at, back_at, is_own}
-use Rattle.mx_maekawa.specs.Good.{NodeWorld, IsBusy, IsEnded, IsGiven, IsReached, IsOver, IsLockedFor, IsEntered, IsHeldOk, IsNodeOk, IsLockedOk, IsLetterOk, IsSound}
+use Rattle.mx_maekawa.specs.Good.{NodeWorld, IsEnded, IsGiven, IsReached, IsLockedFor}
 
 -- the letter that ends a lock has come; `last` has taken in what it tells
 abbrev pub IsToEnd : NodeWorld → ℕ → Stamp → ℕ → ℕ → Type 0

@@ -1,23 +1,14 @@
 -- Parts of steps: what no lock and no grant rests on changes, and a world stays sound.
-use Rattle.std.proofs.Common.{ℕ, ◌<◌, ◌≤◌, ◌+◌, ◌≡◌, ◌≢◌, inl, inr, Bool, true, false, cond, List, [], ◌∷◌, Option, Some, None, max, slice_set, slice_index_or, length, get_or, refl, sym, ◌∙◌, ap, subst, arith}
-use Rattle.std.proofs.lemmas.Option.{same_Some}
-use Rattle.std.proofs.lemmas.List.{length-set}
+use Rattle.std.proofs.Common.{ℕ, ◌≤◌, ◌≡◌, inl, inr, Bool, true, false, List, [], ◌∷◌, Option, Some, None, slice_index_or, get_or, refl, sym, ◌∙◌, ap, subst, arith}
 use Rattle.mx_stamps.specs.declared.stamp.Stamp.{Stamp}
 use Rattle.mx_stamps.specs.Lists.{IsIn}
-use Rattle.mx_stamps.proofs.Lists.{dec_eq, get_after, get_set_same, in_left, in_right, in_append, none_is_no_some, get_or_after, get_or_replicate}
 use Rattle.mx_letters.specs.declared.maekawa.MaekawaMsg.{MaekawaMsg}
-use Rattle.mx_letters.specs.declared.maekawa.MaekawaMsg.TheVariants.{Request, Locked, Relinquish, Release}
-use Rattle.mx_nodelaws.specs.World.{Done, IsNode, WasSent, after, addressed}
-use Rattle.mx_nodelaws.proofs.Worlds.{in_addressed}
-use Rattle.mx_nodelaws.specs.declared.phase.Phase.TheVariants.{Idle, Waiting, Inside}
-use Rattle.mx_maekawa.specs.declared.lock.Lock.{Lock}
+use Rattle.mx_nodelaws.specs.World.{Done, IsNode, after}
+use Rattle.mx_nodelaws.specs.declared.phase.Phase.TheVariants.{Inside}
 use Rattle.mx_maekawa.specs.Node.{Node}
-use Rattle.mx_maekawa.specs.RequesterStep.{held_at, back_at, is_own, holds_all, to_own, asking, asked, holding, entering, leaving}
-use Rattle.mx_maekawa.specs.ArbiterStep.{locking}
-use Rattle.mx_maekawa.specs.Good.{NodeWorld, IsBusy, IsEnded, IsGiven, IsReached, IsLockedFor, IsEntered, IsHeldOk, IsNodeOk, IsLockedOk, IsSound}
-use Rattle.mx_maekawa.specs.Places.{get_or_other, get_or_same}
+use Rattle.mx_maekawa.specs.RequesterStep.{held_at, back_at, is_own, asked}
+use Rattle.mx_maekawa.specs.Good.{NodeWorld, IsEnded, IsReached, IsLockedFor, IsEntered, IsHeldOk, IsSound}
 use Rattle.mx_maekawa.specs.Frame.{sound_after, node_ok_after, reached_after}
-use Rattle.mx_maekawa.specs.Safety.{holds_own, held_lock}
 use Rattle.mx_maekawa.specs.Moves.{Moves, IsSendable}
 
 pub held_as : (w : NodeWorld) (s new : Node) (a g : ℕ) → new.requester.own ≡ s.requester.own → back_at new.requester a ≡ back_at s.requester a → s.requester.top ≤ new.requester.top → new.requester.ours ≡ s.requester.ours → IsHeldOk w s a g → IsHeldOk w new a g
@@ -70,13 +61,9 @@ module _ (w : NodeWorld) (i : ℕ) (s : Node) (good : IsSound w) (at : IsNode w 
       let kept = node_ok_after w i s done good at moves may i s at in
       sound_after w i s done good at moves may
       (record {
-        me = kept.me;
-        few = kept.few;
+        placed = kept.placed;
         back_places = kept.back_places;
         held_places = kept.held_places;
-        own_few = kept.own_few;
-        own_node = kept.own_node;
-        meet = kept.meet;
         issued = (let k = kept.issued in omega arith);
         ours_node = kept.ours_node;
         ours_number = kept.ours_number;

@@ -1,13 +1,6 @@
 -- Places of lists that a write leaves, and the one that it changes.
-use Rattle.std.proofs.Common.{ℕ, zero, suc, ◌<◌, ◌≤◌, ◌≡◌, ◌≢◌, ◌⊎◌, inl, inr, Bool, true, false, ◌&&◌, ◌||◌, List, [], ◌∷◌, Option, Some, None, slice_set, length, get_or, replicate, nat_eq, nat_lt, refl, sym, ◌∙◌, ap, subst, arith}
-use Rattle.std.proofs.lemmas.Bool.Decides.{nat_tests}
-use Rattle.std.proofs.lemmas.List.{length-replicate}
-use Rattle.mx_stamps.specs.declared.stamp.Stamp.{Stamp}
-use Rattle.mx_stamps.specs.Stamp.{is_same_as}
-use Rattle.mx_stamps.proofs.Stamps.{same_parts}
+use Rattle.std.proofs.Common.{ℕ, zero, suc, ◌<◌, ◌≡◌, ◌≢◌, inl, inr, Bool, false, List, [], ◌∷◌, Option, Some, None, slice_set, length, get_or, refl, sym, ◌∙◌, ap, subst, arith}
 use Rattle.mx_stamps.proofs.Lists.{dec_eq, none_is_no_some}
-use Rattle.mx_nodelaws.specs.declared.phase.Phase.{Phase}
-use Rattle.mx_nodelaws.specs.declared.phase.Phase.TheVariants.{Idle, Waiting, Inside}
 
 -- places of a list that did not change, and the one that did
 pub get_or_other : {X : Type 0} (xs : List X) (n j : ℕ) (v d : X) → j ≢ n → get_or (slice_set xs n v) j d ≡ get_or xs j d

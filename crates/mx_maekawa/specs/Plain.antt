@@ -1,14 +1,11 @@
 -- Each call keeps each number a u64 value, and each name a node.
-use Rattle.std.proofs.Common.{ℕ, zero, suc, ◌<◌, ◌≤◌, ◌^◌, ◌≡◌, inl, inr, [], None, Result, slice_set, length, get_or, replicate, sym, ◌∙◌, subst, arith}
-use Rattle.std.proofs.lemmas.Option.{slice_get_within}
-use Rattle.std.proofs.lemmas.List.{length-set}
+use Rattle.std.proofs.Common.{ℕ, zero, suc, ◌<◌, ◌≤◌, ◌^◌, ◌≡◌, None, Result, get_or, replicate, sym, ◌∙◌, arith}
 use Rattle.mx_stamps.specs.declared.stamp.Stamp.{Stamp}
-use Rattle.mx_stamps.specs.Lists.{each_below}
-use Rattle.mx_stamps.proofs.Lists.{get_after, in_append, none_is_no_some, get_or_replicate, get_each_below, length_each_below}
+use Rattle.mx_stamps.proofs.Lists.{none_is_no_some, get_or_replicate}
 use Rattle.mx_stamps.proofs.Choices.{cond_case}
 use Rattle.mx_letters.specs.declared.maekawa.MaekawaMsg.{MaekawaMsg}
 use Rattle.mx_letters.specs.declared.maekawa.MaekawaMsg.TheVariants.{Request, Locked, Failed, Inquire, Relinquish, Release}
-use Rattle.mx_nodelaws.specs.World.{Done, quietly, IsNode, after, sent_by}
+use Rattle.mx_nodelaws.specs.World.{Done, quietly}
 use Rattle.mx_nodelaws.specs.Laws.{started}
 use Rattle.mx_nodelaws.proofs.Plain.{nil, both, plain_start}
 use Rattle.mx_nodelaws.specs.declared.faults.AskFault.{AskFault}
@@ -21,7 +18,6 @@ use Rattle.mx_maekawa.specs.Node.{RequesterState, ArbiterState, Node}
 use Rattle.mx_maekawa.specs.RequesterStep.{ask_in, take_locked, take_failed, take_inquire, leave_in, request_again}
 use Rattle.mx_maekawa.specs.Step.{by_requester, by_arbiter, start_of, ask_of, enter_of, leave_of, tick_of, seeing, is_answer, is_call, deliver_of, maekawa_core}
 use Rattle.mx_maekawa.specs.ArbiterStep.{lock_letter, take_request, take_relinquish, take_release}
-use Rattle.mx_maekawa.specs.Good.{NodeWorld}
 use Rattle.mx_maekawa.specs.Good.{PlainLetter, PlainRequester, PlainNode}
 use Rattle.mx_maekawa.specs.RequesterPlain.{PlainDid, cleared_small, ask_plain, locked_plain, failed_plain, inquire_plain, enter_plain, leave_plain, again_plain}
 use Rattle.mx_maekawa.specs.ArbiterPlain as arbiter

@@ -1,24 +1,17 @@
 -- The promises on phases, on the last own number and on the limit.
-use Rattle.std.proofs.Common.{ℕ, zero, suc, ◌+◌, ◌≡◌, ◌≢◌, ◌↔◌, Bool, true, false, cond, not, ◌&&◌, [], Option, Some, None, Result, Ok, Err, nat_eq, nat_lt, refl, ap}
+use Rattle.std.proofs.Common.{ℕ, zero, suc, ◌≡◌, cond, not, ◌&&◌, Option, Some, None, nat_eq, nat_lt, refl, ap}
 use Rattle.mx_stamps.specs.declared.stamp.Stamp.{Stamp}
-use Rattle.mx_stamps.proofs.Choices.{both_true, and_true, cond_case}
+use Rattle.mx_stamps.proofs.Choices.{cond_case}
 use Rattle.mx_letters.specs.declared.maekawa.MaekawaMsg.{MaekawaMsg}
 use Rattle.mx_letters.specs.declared.maekawa.MaekawaMsg.TheVariants.{Request, Locked, Failed, Inquire, Relinquish, Release}
-use Rattle.mx_nodelaws.specs.World.{Done, Quiet}
+use Rattle.mx_nodelaws.specs.World.{Done}
 use Rattle.mx_nodelaws.specs.declared.phase.Phase.{Phase}
-use Rattle.mx_nodelaws.specs.declared.phase.Phase.TheVariants.{Idle, Waiting, Inside}
-use Rattle.mx_nodelaws.specs.declared.faults.AskFault.{AskFault}
-use Rattle.mx_nodelaws.specs.declared.faults.AskFault.TheVariants.{NotIdle, StampsSpent}
-use Rattle.mx_nodelaws.specs.declared.faults.EnterFault.{EnterFault}
-use Rattle.mx_nodelaws.specs.declared.faults.EnterFault.TheVariants.{NotWaiting, NotGranted, NumbersSpent}
-use Rattle.mx_nodelaws.specs.declared.faults.LeaveFault.{LeaveFault}
 use Rattle.mx_maekawa.specs.Node.{RequesterState, Node}
-use Rattle.mx_maekawa.specs.RequesterStep.{saying, held_at, asked_at, back_at, holds, holds_all, has_ended, asked, ask_in, giving, give_below, failing, fail, release_ended, holding, is_current_wait, locked_fresh, locked_current, take_locked, take_failed, has_failed_below, giving_now, remembering, declining, inquired_held, inquired, take_inquire, entered, enter_in, leave_in, can_enter_of, entering, asking, left}
+use Rattle.mx_maekawa.specs.RequesterStep.{saying, held_at, asked_at, back_at, holds, holds_all, has_ended, asked, giving, give_below, failing, fail, release_ended, holding, is_current_wait, locked_fresh, locked_current, take_locked, take_failed, has_failed_below, giving_now, remembering, declining, inquired_held, inquired, take_inquire, entering, asking, left}
 use Rattle.mx_maekawa.specs.Step.{by_requester, by_arbiter, seeing, is_answer, is_call, deliver_of, maekawa_core}
 use Rattle.mx_maekawa.specs.ArbiterStep.{take_request, take_relinquish, take_release}
 use Rattle.mx_nodelaws.specs.Core.{KeepsPhases}
-use Rattle.mx_nodelaws.specs.Phases.{is_waiting}
-use Rattle.mx_nodelaws.proofs.Phases.{waiting_is, waits_alone}
+use Rattle.mx_nodelaws.proofs.Phases.{waits_alone}
 use Rattle.mx_nodelaws.specs.Calls.{unchanged}
 use Rattle.mx_nodelaws.proofs.Calls.{ask_keeps, ask_ok, ask_err, ask_not_idle, enter_keeps, enter_ok, enter_err, enter_not_waiting, enter_not_granted, leave_keeps, leave_ok, leave_inside, leave_err}
 use Rattle.mx_maekawa.specs.RequesterStep.{Did}

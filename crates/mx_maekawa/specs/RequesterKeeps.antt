@@ -125,8 +125,8 @@ module _ (w : NodeWorld) (i : ℕ) (s : Node) (good : IsSafe w) (at : IsNode w i
       let x = max (back_at s.requester a) g in
       let first = by_requester s (saying (declining s.requester a g) a (Relinquish stamp g)) in
       let mid = first.state in
-      let few : a < s.requester.count = ok_s.own_few a own in
-      let small : s.requester.count ≤ 21 = ok_s.few in
+      let few : a < s.requester.count = ok_s.placed.own_few a own in
+      let small : s.requester.count ≤ 21 = ok_s.placed.few in
       let none_held : (h : ℕ) → held_at s.requester a ≡ Some h → ⊥ = λ h has. none_is_no_some h (sym none ∙ has) in
       let sound : IsSound (after w i first) = subst (λ st. IsSound (after w i (by_requester s (saying (declining s.requester a g) a (Relinquish st g))))) (sym same)
       (gave_sound w i s good.sound at {A = Unit {0}} tt a g x s.requester.held s.requester.asked s.requester.failed (omega arith) waiting ok_s.held_places
@@ -145,8 +145,8 @@ module _ (w : NodeWorld) (i : ℕ) (s : Node) (good : IsSafe w) (at : IsNode w i
 
   gave_now_safe : (a : ℕ) (stamp : Stamp) (g : ℕ) → s.requester.phase ≡ Waiting → stamp ≡ s.requester.ours → is_own s.requester a ≡ true → held_at s.requester a ≡ Some g → has_failed_below s.requester s.requester.count ≡ true → IsSafe (after w i (by_requester s (saying (giving_now s.requester a g) a (Relinquish stamp g))))
   gave_now_safe a stamp g waiting same own has failed =
-      let few : a < s.requester.count = ok_s.own_few a own in
-      let small : s.requester.count ≤ 21 = ok_s.few in
+      let few : a < s.requester.count = ok_s.placed.own_few a own in
+      let small : s.requester.count ≤ 21 = ok_s.placed.few in
       let some = some_failed s.requester s.requester.count failed in
       let none_asked : (b y : ℕ) → asked_at s.requester b ≡ Some y → ⊥ = λ b y was. not_both (has_failed s.requester some.0) some.2 (calm_s b y some.0 some.1 was) in
       let held = ok_s.held (ap is_busy waiting) a g has in
@@ -176,7 +176,7 @@ module _ (w : NodeWorld) (i : ℕ) (s : Node) (good : IsSafe w) (at : IsNode w i
   -- a grant that is asked back is no later than the one that is held
   asked_below : (a : ℕ) (stamp : Stamp) (g h : ℕ) → s.requester.phase ≡ Waiting → is_own s.requester a ≡ true → held_at s.requester a ≡ Some h → WasSent w a i (Inquire stamp g) → g ≤ h
   asked_below a stamp g h waiting own has sent =
-      let node = ok_s.own_node a own in
+      let node = ok_s.placed.own_node a own in
       let l = held_lock w i s a h node.0 good.sound at (ap is_busy waiting) has node.1 in
       let last = (good.sound.nodes a node.0 node.1).lock_last (record { stamp = s.requester.ours; grant = h; last = l.0 }) l.2 in
       let e : h ≡ node.0.arbiter.granted = last.0 in

@@ -1,21 +1,17 @@
 -- The requester's rows keep each number a u64 value, and each name a node.
-use Rattle.std.proofs.Common.{ℕ, zero, suc, ◌<◌, ◌≤◌, ◌+◌, ◌≡◌, inl, inr, Bool, true, false, cond, not, ◌&&◌, List, [], ◌∷◌, ◌++◌, Option, Some, None, Result, Err, max, slice_set, get_or, replicate, nat_eq, nat_lt, refl, sym, ◌∙◌, subst, arith}
+use Rattle.std.proofs.Common.{ℕ, zero, suc, ◌<◌, ◌≤◌, ◌+◌, ◌≡◌, inl, inr, not, ◌&&◌, List, [], ◌∷◌, Option, Some, None, Result, max, slice_set, get_or, replicate, nat_eq, nat_lt, refl, sym, ◌∙◌, subst, arith}
 use Rattle.std.proofs.lemmas.Option.{same_Some}
 use Rattle.mx_stamps.specs.declared.stamp.Stamp.{Stamp}
-use Rattle.mx_stamps.specs.Lists.{IsIn}
-use Rattle.mx_stamps.proofs.Lists.{in_append, none_is_no_some, get_or_after, get_or_replicate}
+use Rattle.mx_stamps.proofs.Lists.{none_is_no_some, get_or_after, get_or_replicate}
 use Rattle.mx_stamps.proofs.Choices.{lt_true, and_true, cond_case}
 use Rattle.mx_letters.specs.declared.maekawa.MaekawaMsg.{MaekawaMsg}
 use Rattle.mx_letters.specs.declared.maekawa.MaekawaMsg.TheVariants.{Request, Relinquish, Release}
-use Rattle.mx_nodelaws.specs.World.{Quiet, addressed}
+use Rattle.mx_nodelaws.specs.World.{addressed}
 use Rattle.mx_nodelaws.proofs.Plain.{nil, one, both}
 use Rattle.mx_nodelaws.proofs.Worlds.{in_addressed}
 use Rattle.mx_nodelaws.specs.declared.phase.Phase.{Phase}
 use Rattle.mx_nodelaws.specs.declared.phase.Phase.TheVariants.{Idle, Waiting, Inside}
 use Rattle.mx_nodelaws.specs.declared.faults.AskFault.{AskFault}
-use Rattle.mx_nodelaws.specs.declared.faults.AskFault.TheVariants.{StampsSpent}
-use Rattle.mx_nodelaws.specs.declared.faults.EnterFault.{EnterFault}
-use Rattle.mx_nodelaws.specs.declared.faults.EnterFault.TheVariants.{NotGranted, NumbersSpent}
 use Rattle.mx_nodelaws.specs.declared.faults.LeaveFault.{LeaveFault}
 use Rattle.mx_nodelaws.specs.Phases.{is_waiting}
 use Rattle.mx_nodelaws.specs.Plain.{Small, PlainStamp, ArePlain, IsPlainDone}
@@ -23,7 +19,7 @@ use Rattle.mx_nodelaws.proofs.Sent.{sent_if}
 use Rattle.mx_nodelaws.specs.Calls.{unchanged}
 use Rattle.mx_nodelaws.proofs.Calls.{ask_cases, enter_cases}
 use Rattle.mx_maekawa.specs.Node.{RequesterState}
-use Rattle.mx_maekawa.specs.RequesterStep.{saying, held_at, asked_at, back_at, is_own, holds, holds_all, has_ended, to_own, to_missing, asking, asked, ask_in, giving, give_asked, give_below, failing, fail, release_ended, holding, is_current_wait, locked_fresh, locked_current, take_locked, take_failed, has_failed_below, giving_now, remembering, declining, inquired_held, inquired_missing, inquired, take_inquire, entering, entered, enter_in, leave_in, request_again}
+use Rattle.mx_maekawa.specs.RequesterStep.{saying, held_at, asked_at, back_at, is_own, holds, holds_all, has_ended, to_own, to_missing, asking, asked, ask_in, giving, give_asked, give_below, failing, fail, release_ended, holding, is_current_wait, locked_fresh, locked_current, take_locked, take_failed, has_failed_below, giving_now, remembering, declining, inquired_held, inquired_missing, inquired, take_inquire, entering, enter_in, leave_in, request_again}
 use Rattle.mx_maekawa.specs.Good.{PlainLetter, PlainRequester}
 use Rattle.mx_maekawa.specs.RequesterStep.{Did}
 

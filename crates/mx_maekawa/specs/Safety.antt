@@ -1,15 +1,13 @@
 -- At most one node is inside, and it draws the next number.
-use Rattle.std.proofs.Common.{ℕ, ◌≤◌, ◌+◌, ◌≡◌, ◌≢◌, inl, inr, Bool, true, false, cond, Some, Result, Ok, Err, slice_get, nat_lt, refl, sym, ◌∙◌, ap, subst, arith}
+use Rattle.std.proofs.Common.{ℕ, ◌≤◌, ◌+◌, ◌≡◌, ◌≢◌, inl, inr, true, cond, Some, Ok, Err, nat_lt, sym, ◌∙◌, ap, subst, arith}
 use Rattle.std.proofs.lemmas.Option.{same_Some}
 use Rattle.mx_stamps.specs.Lists.{greatest}
-use Rattle.mx_stamps.proofs.Lists.{dec_eq, greatest_below, greatest_above}
+use Rattle.mx_stamps.proofs.Lists.{dec_eq}
 use Rattle.mx_stamps.proofs.Choices.{and_true}
 use Rattle.mx_letters.specs.declared.maekawa.MaekawaMsg.TheVariants.{Locked}
-use Rattle.mx_nodelaws.specs.World.{Quiet, IsNode, WasSent}
-use Rattle.mx_nodelaws.specs.declared.phase.Phase.{Phase}
+use Rattle.mx_nodelaws.specs.World.{IsNode, WasSent}
 use Rattle.mx_nodelaws.specs.declared.phase.Phase.TheVariants.{Waiting, Inside}
-use Rattle.mx_nodelaws.specs.declared.faults.EnterFault.{EnterFault}
-use Rattle.mx_nodelaws.specs.declared.faults.EnterFault.TheVariants.{NotGranted, NumbersSpent}
+use Rattle.mx_nodelaws.specs.declared.faults.EnterFault.TheVariants.{NumbersSpent}
 use Rattle.mx_nodelaws.proofs.Frame.{was}
 use Rattle.mx_nodelaws.specs.Phases.{is_busy, is_waiting}
 use Rattle.mx_nodelaws.proofs.Phases.{waiting_not_inside, waiting_is}
@@ -17,13 +15,13 @@ use Rattle.mx_nodelaws.proofs.Entries.{greatest_is}
 use Rattle.mx_nodelaws.proofs.Calls.{granted_answer}
 use Rattle.mx_maekawa.specs.declared.lock.Lock.{Lock}
 use Rattle.mx_maekawa.specs.Node.{RequesterState, Node}
-use Rattle.mx_maekawa.specs.RequesterStep.{held_at, is_own, holds_all, entered, enter_in, can_enter_of, entering}
+use Rattle.mx_maekawa.specs.RequesterStep.{held_at, is_own, holds_all, entered, can_enter_of, entering}
 use Rattle.mx_maekawa.specs.Step.{enter_of}
 use Rattle.mx_maekawa.specs.Good.{NodeWorld, IsBusy, IsLockedFor, IsEntered, IsNodeOk, IsSound, IsSafe}
 use Rattle.mx_maekawa.specs.Tests.{holds_each, some_of}
 
 pub holds_own : (w : NodeWorld) (i : ℕ) (s : Node) → IsNodeOk w i s → holds_all s.requester ≡ true → (a : ℕ) → is_own s.requester a ≡ true → (g : ℕ) × (held_at s.requester a ≡ Some g)
-holds_own w i s ok all a own = some_of (held_at s.requester a) (holds_each s.requester s.requester.count all a (ok.own_few a own) own)
+holds_own w i s ok all a own = some_of (held_at s.requester a) (holds_each s.requester s.requester.count all a (ok.placed.own_few a own) own)
 
 -- the lock of an arbiter whose grant is held
 pub held_lock : (w : NodeWorld) (i : ℕ) (s : Node) (a g : ℕ) (arbiter : Node) → IsSound w → IsNode w i s → IsBusy s.requester → held_at s.requester a ≡ Some g → IsNode w a arbiter → (c : ℕ) × (c ≤ s.requester.top) × IsLockedFor arbiter s.requester.ours g c
@@ -34,7 +32,7 @@ same_holder : (w : NodeWorld) (i j : ℕ) (s t : Node) (a g h : ℕ) → IsSound
 same_holder w i j s t a g h good at bt busy_s busy_t own has_s has_t =
     let ok = good.nodes i s at in
     let ok_t = good.nodes j t bt in
-    let node = ok.own_node a own in
+    let node = ok.placed.own_node a own in
     let p = held_lock w i s a g node.0 good at busy_s has_s node.1 in
     let q = held_lock w j t a h node.0 good bt busy_t has_t node.1 in
     let e : record { stamp = s.requester.ours; grant = g; last = p.0 } ≡ record { stamp = t.requester.ours; grant = h; last = q.0 } = same_Some {A = Lock} (record { stamp = s.requester.ours; grant = g; last = p.0 }) (record { stamp = t.requester.ours; grant = h; last = q.0 }) (sym p.2 ∙ q.2) in
@@ -44,7 +42,7 @@ pub one_inside : (w : NodeWorld) (i j : ℕ) (s t : Node) → IsSafe w → IsNod
 one_inside w i j s t good at bt (n, p) (m, q) =
     let ok = good.sound.nodes i s at in
     let ok_t = good.sound.nodes j t bt in
-    let common = ok.meet j t bt in
+    let common = ok.placed.meet j t bt in
     let g = ok.inside_holds n p common.0 common.1 in
     let h = ok_t.inside_holds m q common.0 common.2 in
     same_holder w i j s t common.0 g.0 h.0 good.sound at bt (ap is_busy p) (ap is_busy q) common.1 g.1 h.1
@@ -53,7 +51,7 @@ nobody_inside : (w : NodeWorld) (i : ℕ) (s : Node) (good : IsSafe w) (at : IsN
 nobody_inside w i s good at waiting all j t bt (n, inside) =
     let ok = good.sound.nodes i s at in
     let ok_t = good.sound.nodes j t bt in
-    let common = ok.meet j t bt in
+    let common = ok.placed.meet j t bt in
     let g = holds_own w i s ok all common.0 common.1 in
     let h = ok_t.inside_holds n inside common.0 common.2 in
     let e = same_holder w i j s t common.0 g.0 h.0 good.sound at bt (ap is_busy waiting) (ap is_busy inside) common.1 g.1 h.1 in
@@ -83,9 +81,9 @@ mine_below w i s good at waiting all j t bt =
       | inr ne ↦ elim (dec_eq t.requester.mine 0) [
         | inl none ↦ omega arith
         | inr some ↦
-            let common = ok.meet j t bt in
+            let common = ok.placed.meet j t bt in
             let g = holds_own w i s ok all common.0 common.1 in
-            let node = ok.own_node common.0 common.1 in
+            let node = ok.placed.own_node common.0 common.1 in
             let p = held_lock w i s common.0 g.0 node.0 good.sound at (ap is_busy waiting) g.1 node.1 in
             let k : t.requester.mine ≤ p.0 = grant_after w i j s t common.0 g.0 p.0 node.0 good.sound node.1 ne (ok.ours_node (ap is_busy waiting)) p.2 ((good.sound.nodes j t bt).entered (omega arith)) common.2 in
             let l : p.0 ≤ s.requester.top = p.1 in

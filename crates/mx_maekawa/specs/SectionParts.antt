@@ -1,10 +1,8 @@
 -- Parts of steps: a node asks, enters and leaves, and a world stays sound.
-use Rattle.std.proofs.Common.{ℕ, ◌<◌, ◌≤◌, ◌+◌, ◌≡◌, ◌≢◌, inl, inr, Bool, true, false, cond, List, [], ◌∷◌, Option, Some, None, max, slice_set, slice_index_or, length, get_or, refl, sym, ◌∙◌, ap, subst, arith}
+use Rattle.std.proofs.Common.{ℕ, ◌<◌, ◌≤◌, ◌+◌, ◌≡◌, inl, inr, true, [], Option, Some, None, refl, sym, ◌∙◌, ap, subst, arith}
 use Rattle.std.proofs.lemmas.Option.{same_Some}
-use Rattle.std.proofs.lemmas.List.{length-set}
-use Rattle.mx_stamps.specs.declared.stamp.Stamp.{Stamp}
 use Rattle.mx_stamps.specs.Lists.{IsIn}
-use Rattle.mx_stamps.proofs.Lists.{dec_eq, get_after, get_set_same, in_left, in_right, in_append, none_is_no_some, get_or_after, get_or_replicate, length_replicate}
+use Rattle.mx_stamps.proofs.Lists.{get_set_same, in_left, in_append, none_is_no_some, get_or_replicate, length_replicate}
 use Rattle.mx_letters.specs.declared.maekawa.MaekawaMsg.{MaekawaMsg}
 use Rattle.mx_letters.specs.declared.maekawa.MaekawaMsg.TheVariants.{Request, Locked, Relinquish, Release}
 use Rattle.mx_nodelaws.specs.World.{Done, IsNode, WasSent, after, addressed}
@@ -13,15 +11,12 @@ use Rattle.mx_nodelaws.specs.declared.phase.Phase.TheVariants.{Idle, Waiting, In
 use Rattle.mx_nodelaws.specs.Phases.{is_busy}
 use Rattle.mx_nodelaws.proofs.Phases.{waiting_not_inside, idle_not_busy}
 use Rattle.mx_nodelaws.proofs.Sent.{sent_if}
-use Rattle.mx_maekawa.specs.declared.lock.Lock.{Lock}
 use Rattle.mx_maekawa.specs.Node.{Node}
-use Rattle.mx_maekawa.specs.RequesterStep.{held_at, back_at, is_own, holds_all, to_own, asking, asked, holding, entering, leaving}
-use Rattle.mx_maekawa.specs.ArbiterStep.{locking}
-use Rattle.mx_maekawa.specs.Good.{NodeWorld, IsBusy, IsEnded, IsGiven, IsReached, IsLockedFor, IsEntered, IsHeldOk, IsNodeOk, IsLockedOk, IsSound}
-use Rattle.mx_maekawa.specs.Places.{get_or_other, get_or_same}
-use Rattle.mx_maekawa.specs.Frame.{sound_after, node_ok_after, reached_after}
+use Rattle.mx_maekawa.specs.RequesterStep.{held_at, is_own, holds_all, to_own, asking, entering, leaving}
+use Rattle.mx_maekawa.specs.Good.{NodeWorld, IsBusy, IsLockedFor, IsHeldOk, IsNodeOk, IsSound}
+use Rattle.mx_maekawa.specs.Frame.{sound_after, node_ok_after}
 use Rattle.mx_maekawa.specs.Safety.{holds_own, held_lock}
-use Rattle.mx_maekawa.specs.Parts.{held_as, entered_as, one_letter}
+use Rattle.mx_maekawa.specs.Parts.{held_as, entered_as}
 use Rattle.mx_maekawa.specs.Moves.{Moves, IsReleasing, IsSendable}
 
 -- the grant that is held, 0 where there is none
@@ -64,15 +59,11 @@ module _ (w : NodeWorld) (i : ℕ) (s : Node) (good : IsSound w) (at : IsNode w 
       let no_held : (a g : ℕ) → held_at new.requester a ≡ Some g → ⊥ = λ a g has. none_is_no_some g (sym (get_or_replicate 21 a None) ∙ has) in
       sound_after w i s done good at moves may
       (record {
-        me = kept.me;
-        few = kept.few;
+        placed = kept.placed;
         back_places = kept.back_places;
         held_places = length_replicate {X = Option ℕ} 21 None;
-        own_few = kept.own_few;
-        own_node = kept.own_node;
-        meet = kept.meet;
         issued = omega arith;
-        ours_node = λ busy. kept.me;
+        ours_node = λ busy. kept.placed.me;
         ours_number = λ busy. refl;
         mine_top = kept.mine_top;
         top_reached = kept.top_reached;
@@ -114,13 +105,9 @@ module _ (w : NodeWorld) (i : ℕ) (s : Node) (good : IsSound w) (at : IsNode w 
       let lock : (a : ℕ) (own : is_own s.requester a ≡ true) (t : Node) → IsNode w a t → (c : ℕ) × (c ≤ s.requester.top) × IsLockedFor t s.requester.ours (grant_of a) c = λ a own t tat. held_lock w i s a (grant_of a) t good at busy (has a own) tat in
       sound_after w i s done good at moves may
       (record {
-        me = kept.me;
-        few = kept.few;
+        placed = kept.placed;
         back_places = kept.back_places;
         held_places = kept.held_places;
-        own_few = kept.own_few;
-        own_node = kept.own_node;
-        meet = kept.meet;
         issued = kept.issued;
         ours_node = λ _. kept.ours_node busy;
         ours_number = λ _. number;
@@ -138,7 +125,7 @@ module _ (w : NodeWorld) (i : ℕ) (s : Node) (good : IsSound w) (at : IsNode w 
           inside = λ n inside. (refl, has);
           ended = λ outside. absurd (outside (s.requester.top + 1) refl);
           sent = λ a own.
-              let node = was_ok.own_node a own in
+              let node = was_ok.placed.own_node a own in
               let l = lock a own node.0 node.1 in
               let last = (good.nodes a node.0 node.1).lock_last (record { stamp = s.requester.ours; grant = grant_of a; last = l.0 }) l.2 in
               (l.0, in_left (a, i, Locked s.requester.ours (grant_of a) l.0) w.sent [] (subst (λ x. WasSent w a x (Locked s.requester.ours (grant_of a) l.0)) (was_ok.ours_node busy) last.1));
@@ -155,7 +142,7 @@ module _ (w : NodeWorld) (i : ℕ) (s : Node) (good : IsSound w) (at : IsNode w 
               let k : later.number < s.requester.issued = ((good.letters i a (Release later t) (sound_w i a (Release later t) sent)).ended s at).1 busy in absurd (omega arith);
           locked = λ a t own tat. let ok = kept.held busy a (grant_of a) (has a own) in inl (ok.c, ok.lock t tat);
           after = λ a b other g c own sent lt.
-              let node = was_ok.own_node a own in
+              let node = was_ok.placed.own_node a own in
               let l = lock a own node.0 node.1 in
               let last = (good.nodes a node.0 node.1).lock_last (record { stamp = s.requester.ours; grant = grant_of a; last = l.0 }) l.2 in
               let e : grant_of a ≡ node.0.arbiter.granted = last.0 in
@@ -191,13 +178,9 @@ module _ (w : NodeWorld) (i : ℕ) (s : Node) (good : IsSound w) (at : IsNode w 
       let kept = node_ok_after w i s done good at moves may i s at in
       sound_after w i s done good at moves may
       (record {
-        me = kept.me;
-        few = kept.few;
+        placed = kept.placed;
         back_places = kept.back_places;
         held_places = length_replicate {X = Option ℕ} 21 None;
-        own_few = kept.own_few;
-        own_node = kept.own_node;
-        meet = kept.meet;
         issued = kept.issued;
         ours_node = λ b. absurd (idle_not_busy Idle refl b);
         ours_number = λ b. absurd (idle_not_busy Idle refl b);

@@ -1,5 +1,5 @@
 -- The step table: the rows of the two roles, put together.
-use Rattle.std.specs.Prelude.{ℕ, Bool, ◌&&◌, [], ◌++◌, Result, max, nat_eq, if◌then◌else◌}
+use Rattle.std.specs.Prelude.{ℕ, Bool, ◌&&◌, ◌++◌, Result, max, nat_eq, if◌then◌else◌}
 use Rattle.mx_stamps.specs.declared.stamp.Stamp.{Stamp}
 use Rattle.mx_letters.specs.declared.maekawa.MaekawaMsg.{MaekawaMsg}
 use Rattle.mx_letters.specs.declared.maekawa.MaekawaMsg.TheVariants.{Request, Locked, Failed, Inquire, Relinquish, Release}

@@ -10,9 +10,7 @@ use mx_journal::{Journal, Record};
 /// parts of one map do.
 pub fn agree(journal: &Journal, other: &Journal) -> bool
     ensures agreeing { IsTrue result ↔ AreAgreeing journal.now other.now }
-    ensures submaps {
-        (m : List Record) → IsConsistent m → IsSubmap journal.now m → IsSubmap other.now m → IsTrue result
-    }
+    ensures submaps { (m : List Record) → IsConsistent m → IsSubmap journal.now m → IsSubmap other.now m → IsTrue result }
 {
     first_difference(journal, other).is_none()
 }

@@ -1,5 +1,5 @@
 -- The number that an accepted entry draws.
-use Rattle.std.proofs.Common.{ℕ, suc, ◌≤◌, ◌+◌, ◌≡◌, Bool, true, false, Ok, Err, refl, arith, if◌then◌else◌}
+use Rattle.std.proofs.Common.{ℕ, suc, ◌≤◌, ◌+◌, ◌≡◌, Bool, true, false, Ok, Err, arith, if◌then◌else◌}
 use Rattle.mx_stamps.specs.Lists.{greatest}
 use Rattle.mx_stamps.proofs.Lists.{greatest_above, greatest_below}
 use Rattle.mx_nodelaws.specs.World.{World, IsNode}

@@ -6,7 +6,7 @@ use Rattle.mx_stamps.proofs.Lists.{in_append}
 use Rattle.mx_stamps.proofs.Choices.{lt_true, cond_case}
 use Rattle.mx_letters.specs.declared.raymond.RaymondMsg.{RaymondMsg}
 use Rattle.mx_letters.specs.declared.raymond.RaymondMsg.TheVariants.{Request, Privilege, Got}
-use Rattle.mx_nodelaws.specs.World.{World, Quiet, quietly, IsNode, WasSent, after}
+use Rattle.mx_nodelaws.specs.World.{World, quietly, IsNode, WasSent, after}
 use Rattle.mx_nodelaws.specs.declared.phase.Phase.{Phase}
 use Rattle.mx_nodelaws.specs.declared.phase.Phase.TheVariants.{Idle, Waiting, Inside}
 use Rattle.mx_nodelaws.specs.declared.faults.AskFault.{AskFault}

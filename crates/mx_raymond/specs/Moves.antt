@@ -1,6 +1,6 @@
 -- The three steps that matter to the privilege keep a world safe: it is passed on, it arrives, its
 -- holder enters.
-use Rattle.std.proofs.Common.{ℕ, zero, suc, ◌<◌, ◌≤◌, ◌+◌, ◌≡◌, ◌≢◌, ◌⊎◌, inl, inr, [], ◌∷◌, max, refl, sym, ◌∙◌, ap, subst, arith}
+use Rattle.std.proofs.Common.{ℕ, ◌<◌, ◌≤◌, ◌+◌, ◌≡◌, ◌≢◌, inl, inr, [], ◌∷◌, max, refl, sym, ◌∙◌, ap, subst, arith}
 use Rattle.std.proofs.lemmas.Option.{same_Some, slice_get_within}
 use Rattle.mx_stamps.specs.Lists.{IsIn}
 use Rattle.mx_stamps.proofs.Lists.{dec_eq, in_right}
@@ -13,7 +13,7 @@ use Rattle.mx_nodelaws.proofs.Frame.{itself, is_new, is_old, here_after, sent_af
 use Rattle.mx_raymond.specs.declared.unacked.Unacked.{Unacked}
 use Rattle.mx_raymond.specs.Node.{Node}
 use Rattle.mx_raymond.specs.Step.{passing, passed, holding, told, entering}
-use Rattle.mx_raymond.specs.Good.{IsReached, IsLast, HasSeen, IsNodeOk, IsPrivilegeOk, IsLetterOk, IsHeld, IsUnderWay, IsSafeAt}
+use Rattle.mx_raymond.specs.Good.{IsLast, HasSeen, IsNodeOk, IsPrivilegeOk, IsLetterOk, IsHeld, IsUnderWay, IsSafeAt}
 use Rattle.mx_raymond.specs.Tests.{MayPass}
 use Rattle.mx_raymond.specs.Frame.{Rises, seen_after, reached_after, last_after, safe_after}
 

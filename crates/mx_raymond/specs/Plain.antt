@@ -1,13 +1,12 @@
 -- Each number is a u64 value, and each name a node: what every step keeps, by itself.
-use Rattle.std.proofs.Common.{ℕ, ◌<◌, ◌≤◌, ◌+◌, ◌^◌, ◌≡◌, inl, inr, not, ◌&&◌, List, [], ◌∷◌, ◌++◌, Option, Some, None, Result, Ok, Err, length, nat_eq, nat_lt, refl, sym, subst, arith}
-use Rattle.std.proofs.lemmas.Option.{same_Some, slice_get_within}
+use Rattle.std.proofs.Common.{ℕ, ◌<◌, ◌≤◌, ◌+◌, ◌^◌, ◌≡◌, inl, inr, not, ◌&&◌, List, [], ◌∷◌, Option, Some, None, Result, Ok, Err, nat_eq, nat_lt, refl, sym, subst, arith}
+use Rattle.std.proofs.lemmas.Option.{same_Some}
 use Rattle.mx_stamps.specs.declared.stamp.Stamp.{Stamp}
-use Rattle.mx_stamps.specs.Lists.{IsIn, each_below}
-use Rattle.mx_stamps.proofs.Lists.{get_after, in_append, length_set, none_is_no_some, get_or_after, get_or_replicate, get_each_below, length_each_below}
+use Rattle.mx_stamps.proofs.Lists.{none_is_no_some, get_or_after, get_or_replicate}
 use Rattle.mx_stamps.proofs.Choices.{lt_true, cond_case}
 use Rattle.mx_letters.specs.declared.raymond.RaymondMsg.{RaymondMsg}
 use Rattle.mx_letters.specs.declared.raymond.RaymondMsg.TheVariants.{Request, Privilege, Got}
-use Rattle.mx_nodelaws.specs.World.{World, Quiet, quietly, IsNode, after, sent_by}
+use Rattle.mx_nodelaws.specs.World.{quietly}
 use Rattle.mx_nodelaws.specs.declared.phase.Phase.{Phase}
 use Rattle.mx_nodelaws.specs.declared.phase.Phase.TheVariants.{Idle, Waiting, Inside}
 use Rattle.mx_nodelaws.specs.declared.faults.AskFault.{AskFault}
@@ -25,7 +24,7 @@ use Rattle.mx_trees.specs.Tree.{Rooted, IsRooted}
 use Rattle.mx_raymond.specs.declared.unacked.Unacked.{Unacked}
 use Rattle.mx_raymond.specs.Queue.{head_of}
 use Rattle.mx_raymond.specs.Node.{Node}
-use Rattle.mx_raymond.specs.Step.{Step, start_of, is_holder, has_permission, and_then, can_pass, passed, assign_to, assign, must_request, requested, make, serving, asking, asked, ask_in, again, take_holders_request, heard_from, queueing, take_others_request, take_request, holding, told, take_privilege, is_unacked, take_got, is_neighbour, deliver_of, entering, entered, enter_in, leaving, leave_in, request_again, tick_of, raymond_core}
+use Rattle.mx_raymond.specs.Step.{Step, start_of, is_holder, has_permission, and_then, can_pass, passed, assign_to, assign, must_request, requested, make, serving, asking, asked, ask_in, again, take_holders_request, heard_from, queueing, take_others_request, take_request, holding, told, take_privilege, is_unacked, take_got, is_neighbour, deliver_of, entering, enter_in, leaving, leave_in, request_again, tick_of, raymond_core}
 use Rattle.mx_raymond.specs.Good.{PlainLetter, PlainUnacked, PlainNode}
 use Rattle.mx_raymond.specs.Tests.{queued_pushed, queued_joined, queued_behind, queued_head, may_pass, may_request}
 

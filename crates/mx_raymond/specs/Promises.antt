@@ -1,25 +1,19 @@
 -- The promises on phases, on the last own number and on the limit.
-use Rattle.std.proofs.Common.{ℕ, ◌+◌, ◌≡◌, ◌≢◌, ◌↔◌, Bool, true, false, cond, ◌&&◌, [], Option, Some, None, Result, Ok, Err, nat_eq, nat_lt, refl, sym, ◌∙◌, ap, subst}
+use Rattle.std.proofs.Common.{ℕ, ◌+◌, ◌≡◌, Option, Some, None, Result, Ok, nat_eq, nat_lt, refl, ◌∙◌, ap}
 use Rattle.mx_stamps.specs.declared.stamp.Stamp.{Stamp}
-use Rattle.mx_stamps.proofs.Choices.{both_true, cond_case}
+use Rattle.mx_stamps.proofs.Choices.{cond_case}
 use Rattle.mx_letters.specs.declared.raymond.RaymondMsg.{RaymondMsg}
 use Rattle.mx_letters.specs.declared.raymond.RaymondMsg.TheVariants.{Request, Privilege, Got}
-use Rattle.mx_nodelaws.specs.World.{Quiet}
 use Rattle.mx_nodelaws.specs.Core.{KeepsPhases}
 use Rattle.mx_nodelaws.specs.declared.phase.Phase.{Phase}
-use Rattle.mx_nodelaws.specs.declared.phase.Phase.TheVariants.{Idle, Waiting, Inside}
 use Rattle.mx_nodelaws.specs.declared.faults.AskFault.{AskFault}
-use Rattle.mx_nodelaws.specs.declared.faults.AskFault.TheVariants.{NotIdle, StampsSpent}
-use Rattle.mx_nodelaws.specs.declared.faults.EnterFault.{EnterFault}
-use Rattle.mx_nodelaws.specs.declared.faults.EnterFault.TheVariants.{NotWaiting, NotGranted, NumbersSpent}
 use Rattle.mx_nodelaws.specs.declared.faults.LeaveFault.{LeaveFault}
-use Rattle.mx_nodelaws.specs.Phases.{is_waiting}
-use Rattle.mx_nodelaws.proofs.Phases.{is_waiting_is, waits_alone}
+use Rattle.mx_nodelaws.proofs.Phases.{waits_alone}
 use Rattle.mx_nodelaws.specs.Calls.{unchanged}
 use Rattle.mx_nodelaws.proofs.Calls.{ask_keeps, ask_ok, ask_err, ask_not_idle, enter_keeps, enter_ok, enter_err, enter_not_waiting, enter_not_granted, leave_keeps, leave_ok, leave_inside, leave_err}
 use Rattle.mx_raymond.specs.Queue.{head_of}
 use Rattle.mx_raymond.specs.Node.{Node}
-use Rattle.mx_raymond.specs.Step.{Step, has_permission, can_pass, passed, assign_to, assign, must_request, requested, make, serving, asking, asked, ask_in, take_holders_request, heard_from, queueing, take_others_request, take_request, holding, told, take_privilege, is_unacked, take_got, is_neighbour, deliver_of, can_enter_of, entered, enter_in, leaving, leave_in, raymond_core, entering, left}
+use Rattle.mx_raymond.specs.Step.{Step, has_permission, can_pass, passed, assign_to, assign, must_request, requested, make, serving, asking, asked, take_holders_request, heard_from, queueing, take_others_request, take_request, holding, told, take_privilege, is_unacked, take_got, is_neighbour, deliver_of, leaving, raymond_core, entering, left}
 
 -- the two states agree in what the promises speak of
 pub record IsSteady (s new : Node) : Type 0 where

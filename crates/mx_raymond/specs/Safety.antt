@@ -1,23 +1,18 @@
 -- In a safe world at most one node is inside, and who enters draws the next number.
-use Rattle.std.proofs.Common.{ℕ, ◌≤◌, ◌+◌, ◌≡◌, Bool, true, false, cond, Result, Ok, Err, nat_lt, if◌then◌else◌, refl, sym, ◌∙◌, ap, subst, arith}
-use Rattle.std.proofs.lemmas.Option.{same_Some}
-use Rattle.mx_stamps.proofs.Lists.{greatest_above, greatest_below}
+use Rattle.std.proofs.Common.{ℕ, ◌+◌, ◌≡◌, true, cond, Ok, Err, nat_lt, sym, ◌∙◌, ap, subst}
 use Rattle.mx_stamps.proofs.Choices.{and_true}
 use Rattle.mx_letters.specs.declared.raymond.RaymondMsg.{RaymondMsg}
-use Rattle.mx_nodelaws.specs.World.{World, Quiet, IsNode}
+use Rattle.mx_nodelaws.specs.World.{World, IsNode}
 use Rattle.mx_nodelaws.specs.Core.{IsInside}
 use Rattle.mx_nodelaws.specs.Laws.{greatest_mine}
-use Rattle.mx_nodelaws.specs.declared.phase.Phase.{Phase}
-use Rattle.mx_nodelaws.specs.declared.phase.Phase.TheVariants.{Idle, Waiting, Inside}
-use Rattle.mx_nodelaws.specs.declared.faults.EnterFault.{EnterFault}
-use Rattle.mx_nodelaws.specs.declared.faults.EnterFault.TheVariants.{NotGranted, NumbersSpent}
+use Rattle.mx_nodelaws.specs.declared.faults.EnterFault.TheVariants.{NumbersSpent}
 use Rattle.mx_nodelaws.proofs.Frame.{was}
 use Rattle.mx_nodelaws.specs.Phases.{is_waiting}
 use Rattle.mx_nodelaws.proofs.Phases.{waiting_not_inside, waiting_is}
 use Rattle.mx_nodelaws.proofs.Entries.{greatest_is}
 use Rattle.mx_nodelaws.proofs.Calls.{granted_answer}
 use Rattle.mx_raymond.specs.Node.{Node}
-use Rattle.mx_raymond.specs.Step.{has_permission, can_enter_of, enter_in, enter_of, entered, raymond_core, entering}
+use Rattle.mx_raymond.specs.Step.{has_permission, can_enter_of, enter_of, raymond_core, entering}
 use Rattle.mx_raymond.specs.Good.{IsLast, IsNodeOk, IsSafe}
 use Rattle.mx_raymond.specs.Tests.{permission_holds}
 use Rattle.mx_raymond.specs.Moves.{holds}

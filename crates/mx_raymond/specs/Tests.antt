@@ -1,10 +1,7 @@
 -- What the tests of the step table mean.
-use Rattle.std.proofs.Common.{ℕ, ◌<◌, ◌≡◌, ◌≢◌, ◌⊎◌, inl, inr, Bool, true, false, not, ◌&&◌, ◌||◌, Some, List, [], ◌∷◌, ◌++◌, nat_eq, nat_lt, refl, sym, ◌∙◌, ap, subst, arith}
-use Rattle.std.proofs.lemmas.Bool.Decides.{nat_tests}
+use Rattle.std.proofs.Common.{ℕ, ◌<◌, ◌≡◌, ◌≢◌, ◌⊎◌, inl, inr, true, false, not, ◌&&◌, Some, List, [], ◌∷◌, ◌++◌, nat_eq, nat_lt, refl, sym, subst}
 use Rattle.mx_stamps.proofs.Lists.{none_is_no_some}
 use Rattle.mx_stamps.proofs.Choices.{lt_true, eq_true, eq_false, eq_is, not_true, and_true, or_left, or_right, or_cases, cond_case}
-use Rattle.mx_nodelaws.specs.declared.phase.Phase.{Phase}
-use Rattle.mx_nodelaws.specs.declared.phase.Phase.TheVariants.{Idle, Waiting, Inside}
 use Rattle.mx_nodelaws.specs.Phases.{is_inside}
 use Rattle.mx_raymond.specs.Queue.{is_queued, is_empty, head_of, rest_of, joined}
 use Rattle.mx_raymond.specs.Node.{Node}

@@ -1,5 +1,5 @@
 -- Each call of a node keeps a world safe.
-use Rattle.std.proofs.Common.{ℕ, ◌≡◌, ◌≢◌, not, ◌&&◌, Result, Err, nat_eq, nat_lt, refl, sym, ◌∙◌}
+use Rattle.std.proofs.Common.{ℕ, ◌≡◌, ◌≢◌, not, ◌&&◌, Result, Err, nat_eq, refl, sym, ◌∙◌}
 use Rattle.mx_stamps.specs.declared.stamp.Stamp.{Stamp}
 use Rattle.mx_stamps.specs.Stamp.{is_before_of, is_same_as}
 use Rattle.mx_stamps.proofs.Choices.{eq_true, and_true, cond_case}
@@ -20,7 +20,7 @@ use Rattle.mx_nodelaws.proofs.Phases.{waiting_is}
 use Rattle.mx_nodelaws.specs.Calls.{unchanged, refused}
 use Rattle.mx_nodelaws.proofs.Calls.{ask_cases, enter_cases}
 use Rattle.mx_ricart.specs.Node.{Node}
-use Rattle.mx_ricart.specs.Step.{is_other, has_reply, has_all_replies, asked, ask_in, ask_of, seeing, deferring, replied, take_request, counting, take_reply, deliver_of, entered, enter_in, enter_of, leave_in, leave_of, ticked, tick_of, entering}
+use Rattle.mx_ricart.specs.Step.{is_other, has_reply, has_all_replies, asked, ask_in, ask_of, seeing, deferring, replied, take_request, counting, take_reply, deliver_of, enter_in, enter_of, leave_in, leave_of, ticked, tick_of, entering}
 use Rattle.mx_ricart.specs.Good.{IsRequestOk, IsSafe}
 use Rattle.mx_ricart.specs.Tests.{other_is, all_replies}
 use Rattle.mx_ricart.specs.Rows.{unchanged_good, asked_good, deferred_good, replied_good, counted_good, waiting_busy, entered_good, left_good, ticked_good}

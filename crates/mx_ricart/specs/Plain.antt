@@ -1,5 +1,5 @@
 -- Each call keeps each number a u64 value and each name a node, whatever else holds.
-use Rattle.std.proofs.Common.{ℕ, ◌<◌, ◌≤◌, ◌+◌, ◌^◌, ◌≡◌, inl, inr, Bool, cond, not, ◌&&◌, ◌||◌, Option, Some, None, Result, Err, max, slice_set, get_or, nat_eq, nat_lt, refl, sym, ◌∙◌, subst, arith}
+use Rattle.std.proofs.Common.{ℕ, ◌<◌, ◌≤◌, ◌+◌, ◌^◌, ◌≡◌, inl, inr, Bool, cond, not, ◌&&◌, ◌||◌, Option, Some, None, Result, Err, max, slice_set, get_or, nat_eq, refl, sym, ◌∙◌, subst, arith}
 use Rattle.std.proofs.lemmas.Option.{same_Some}
 use Rattle.mx_stamps.specs.declared.stamp.Stamp.{Stamp}
 use Rattle.mx_stamps.specs.Stamp.{is_before_of, is_same_as}

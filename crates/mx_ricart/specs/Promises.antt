@@ -1,25 +1,18 @@
 -- The promises on phases, for every state.
-use Rattle.std.proofs.Common.{ℕ, ◌+◌, ◌≡◌, ◌≢◌, true, false, not, ◌&&◌, [], Result, Ok, Err, nat_eq, nat_lt, refl, ap}
-use Rattle.mx_stamps.specs.declared.stamp.Stamp.{Stamp}
+use Rattle.std.proofs.Common.{ℕ, ◌≡◌, not, ◌&&◌, nat_eq, refl, ap}
 use Rattle.mx_stamps.specs.Stamp.{is_before_of, is_same_as}
 use Rattle.mx_stamps.proofs.Choices.{cond_case}
 use Rattle.mx_letters.specs.declared.ricart.RicartMsg.{RicartMsg}
 use Rattle.mx_letters.specs.declared.ricart.RicartMsg.TheVariants.{Request, Reply}
-use Rattle.mx_nodelaws.specs.World.{Done, Quiet}
+use Rattle.mx_nodelaws.specs.World.{Done}
 use Rattle.mx_nodelaws.specs.Core.{KeepsPhases}
 use Rattle.mx_nodelaws.specs.declared.phase.Phase.{Phase}
-use Rattle.mx_nodelaws.specs.declared.phase.Phase.TheVariants.{Idle, Waiting, Inside}
-use Rattle.mx_nodelaws.specs.declared.faults.AskFault.{AskFault}
-use Rattle.mx_nodelaws.specs.declared.faults.AskFault.TheVariants.{NotIdle, StampsSpent}
-use Rattle.mx_nodelaws.specs.declared.faults.EnterFault.{EnterFault}
-use Rattle.mx_nodelaws.specs.declared.faults.EnterFault.TheVariants.{NotWaiting, NotGranted, NumbersSpent}
-use Rattle.mx_nodelaws.specs.declared.faults.LeaveFault.{LeaveFault}
 use Rattle.mx_nodelaws.specs.Phases.{is_busy, is_waiting}
 use Rattle.mx_nodelaws.proofs.Phases.{waits_alone}
 use Rattle.mx_nodelaws.specs.Calls.{unchanged}
 use Rattle.mx_nodelaws.proofs.Calls.{ask_keeps, ask_ok, ask_err, ask_not_idle, enter_keeps, enter_ok, enter_err, enter_not_waiting, enter_not_granted, leave_keeps, leave_ok, leave_inside, leave_err}
 use Rattle.mx_ricart.specs.Node.{Node}
-use Rattle.mx_ricart.specs.Step.{is_other, has_reply, has_all_replies, asked, ask_in, seeing, deferring, replied, take_request, counting, take_reply, deliver_of, entered, enter_in, leave_in, ticked, tick_of, ricart_core, entering, asking, left}
+use Rattle.mx_ricart.specs.Step.{is_other, has_reply, has_all_replies, asked, seeing, deferring, replied, take_request, counting, take_reply, deliver_of, ticked, tick_of, ricart_core, entering, asking, left}
 
 -- a delivery
 

@@ -9,16 +9,15 @@ use Rattle.mx_letters.specs.declared.ricart.RicartMsg.TheVariants.{Reply}
 use Rattle.mx_nodelaws.specs.World.{World, IsNode}
 use Rattle.mx_nodelaws.specs.Core.{IsInside}
 use Rattle.mx_nodelaws.specs.Laws.{greatest_mine}
-use Rattle.mx_nodelaws.specs.declared.phase.Phase.{Phase}
-use Rattle.mx_nodelaws.specs.declared.phase.Phase.TheVariants.{Idle, Waiting, Inside}
-use Rattle.mx_nodelaws.specs.declared.faults.EnterFault.TheVariants.{NotGranted, NumbersSpent}
+use Rattle.mx_nodelaws.specs.declared.phase.Phase.TheVariants.{Waiting}
+use Rattle.mx_nodelaws.specs.declared.faults.EnterFault.TheVariants.{NumbersSpent}
 use Rattle.mx_nodelaws.proofs.Frame.{was}
 use Rattle.mx_nodelaws.specs.Phases.{is_busy, is_waiting}
 use Rattle.mx_nodelaws.proofs.Phases.{waiting_not_inside, waiting_is}
 use Rattle.mx_nodelaws.proofs.Entries.{greatest_is}
 use Rattle.mx_nodelaws.proofs.Calls.{granted_answer}
 use Rattle.mx_ricart.specs.Node.{Node}
-use Rattle.mx_ricart.specs.Step.{has_reply, HasAllReplies, has_all_replies, can_enter_of, entered, enter_in, enter_of, ricart_core, entering}
+use Rattle.mx_ricart.specs.Step.{has_reply, HasAllReplies, has_all_replies, can_enter_of, enter_of, ricart_core, entering}
 use Rattle.mx_ricart.specs.Good.{IsBusy, IsReplyOk, IsSafe}
 use Rattle.mx_ricart.specs.Tests.{all_replies}
 use Rattle.mx_ricart.specs.Rows.{has_of_all}

@@ -1,12 +1,11 @@
 -- Two nodes that enter when they like break exclusion, whatever their worlds are said to keep.
-use Rattle.std.proofs.Common.{ℕ, ◌≡◌, ◌<◌, ◌≤◌, ◌^◌, List, [], ◌∷◌, refl, arith}
-use Rattle.mx_nodelaws.specs.World.{World, quietly, after}
-use Rattle.mx_nodelaws.specs.Laws.{KeepsGood, started}
-use Rattle.mx_nodelaws.specs.declared.phase.Phase.{Phase}
+use Rattle.std.proofs.Common.{ℕ, ◌≡◌, [], ◌∷◌, refl, arith}
+use Rattle.mx_nodelaws.specs.World.{World}
+use Rattle.mx_nodelaws.specs.Laws.{KeepsGood}
 use Rattle.mx_nodelaws.specs.declared.phase.Phase.TheVariants.{Idle, Waiting, Inside}
 use Rattle.mx_solo.specs.declared.solo.One.{One}
 use Rattle.mx_solo.specs.Node.{Node}
-use Rattle.mx_solo.specs.Step.{start_of, ask_in, enter_in, solo_core}
+use Rattle.mx_solo.specs.Step.{solo_core}
 use Rattle.mx_solo.specs.Good.{IsOne}
 
 -- node i at rest, waiting, and in its first section

@@ -1,6 +1,5 @@
 -- The promises on phases, for any number of nodes; and the laws, for one.
 use Rattle.std.proofs.Common.{ℕ, ◌<◌, ◌+◌, ◌^◌, ◌≡◌, ◌≢◌, ◌↔◌, inl, inr, Bool, true, false, cond, List, [], ◌∷◌, Some, Result, Ok, Err, length, nat_lt, slice_get, refl, sym, ◌∙◌, ap, subst, arith}
-use Rattle.std.proofs.lemmas.Bool.Decides.{nat_tests}
 use Rattle.std.proofs.lemmas.Option.{same_Some, slice_get_within}
 use Rattle.mx_stamps.specs.declared.stamp.Stamp.{Stamp}
 use Rattle.mx_stamps.specs.Lists.{IsIn, greatest}
@@ -15,7 +14,6 @@ use Rattle.mx_nodelaws.specs.declared.faults.AskFault.{AskFault}
 use Rattle.mx_nodelaws.specs.declared.faults.AskFault.TheVariants.{NotIdle}
 use Rattle.mx_nodelaws.specs.declared.faults.EnterFault.{EnterFault}
 use Rattle.mx_nodelaws.specs.declared.faults.EnterFault.TheVariants.{NotWaiting, NotGranted, NumbersSpent}
-use Rattle.mx_nodelaws.specs.declared.faults.LeaveFault.{LeaveFault}
 use Rattle.mx_nodelaws.specs.Phases.{is_waiting}
 use Rattle.mx_nodelaws.proofs.Phases.{waiting_not_inside, waiting_is}
 use Rattle.mx_nodelaws.specs.Calls.{refused}

@@ -1,5 +1,5 @@
 -- The step table: a node enters when it likes.
-use Rattle.std.specs.Prelude.{ℕ, ◌+◌, Bool, true, false, [], Result, Ok, Err, nat_lt, if◌then◌else◌}
+use Rattle.std.specs.Prelude.{ℕ, ◌+◌, [], Result, Ok, Err, nat_lt, if◌then◌else◌}
 use Rattle.mx_stamps.specs.declared.stamp.Stamp.{Stamp}
 use Rattle.mx_nodelaws.specs.World.{Done, Quiet}
 use Rattle.mx_nodelaws.specs.Core.{Core}
@@ -10,7 +10,6 @@ use Rattle.mx_nodelaws.specs.declared.faults.AskFault.TheVariants.{NotIdle}
 use Rattle.mx_nodelaws.specs.declared.faults.EnterFault.{EnterFault}
 use Rattle.mx_nodelaws.specs.declared.faults.EnterFault.TheVariants.{NotWaiting, NumbersSpent}
 use Rattle.mx_nodelaws.specs.declared.faults.LeaveFault.{LeaveFault}
-use Rattle.mx_nodelaws.specs.declared.faults.LeaveFault.TheVariants.{NotInside}
 use Rattle.mx_nodelaws.specs.Phases.{is_waiting}
 use Rattle.mx_nodelaws.specs.Calls.{unchanged, refused, leave_by}
 use Rattle.mx_solo.specs.declared.solo.One.{One}
