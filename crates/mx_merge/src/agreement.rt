@@ -1,8 +1,9 @@
 //! Whether two journals agree: no number bears differing records.
 
-ghost use Rattle.std.specs.Prelude.{◌↔◌, ◌++◌, List, IsTrue, IsFalse, IfSome, IfNone};
-ghost use Rattle.mx_journal.specs.Agreement.{AgreesWith, AreAgreeing, IsConsistent, IsFirstConflict, IsOpposed, IsSubmap};
+ghost use Rattle.std.specs.Prelude.{◌↔◌, ◌++◌, IsTrue, IsFalse, IfSome, IfNone};
+ghost use Rattle.mx_journal.specs.Agreement.{AgreesWith, AreAgreeing, IsFirstConflict, IsOpposed};
 ghost use Rattle.mx_journal.specs.Records.{Ascending};
+ghost use Rattle.mx_merge.specs.Join.{AreOfOneMap};
 
 use mx_journal::{Journal, Record};
 
@@ -10,7 +11,7 @@ use mx_journal::{Journal, Record};
 /// parts of one map do.
 pub fn agree(journal: &Journal, other: &Journal) -> bool
     ensures agreeing { IsTrue result ↔ AreAgreeing journal.now other.now }
-    ensures submaps { (m : List Record) → IsConsistent m → IsSubmap journal.now m → IsSubmap other.now m → IsTrue result }
+    ensures submaps { AreOfOneMap journal.now other.now → IsTrue result }
 {
     first_difference(journal, other).is_none()
 }

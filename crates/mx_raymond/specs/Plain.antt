@@ -1,6 +1,5 @@
--- Each number is a u64 value, and each name a node: what every step keeps, by itself.
+-- Each call keeps each number a u64 value, and each name a node, whatever else holds.
 use Rattle.std.proofs.Common.{ℕ, ◌<◌, ◌≤◌, ◌+◌, ◌^◌, ◌≡◌, inl, inr, not, ◌&&◌, List, [], ◌∷◌, Option, Some, None, Result, Ok, Err, nat_eq, nat_lt, refl, sym, subst, arith}
-use Rattle.std.proofs.lemmas.Option.{same_Some}
 use Rattle.mx_stamps.specs.declared.stamp.Stamp.{Stamp}
 use Rattle.mx_stamps.proofs.Lists.{none_is_no_some, get_or_after, get_or_replicate}
 use Rattle.mx_stamps.proofs.Choices.{lt_true, cond_case}
@@ -17,251 +16,190 @@ use Rattle.mx_nodelaws.specs.declared.faults.LeaveFault.{LeaveFault}
 use Rattle.mx_nodelaws.specs.declared.faults.LeaveFault.TheVariants.{NotInside}
 use Rattle.mx_nodelaws.specs.Laws.{started}
 use Rattle.mx_nodelaws.proofs.Plain.{nil, one, both, plain_start}
-use Rattle.mx_nodelaws.specs.Plain.{Small, ArePlain, IsPlainDone, IsPlainWorld}
+use Rattle.mx_nodelaws.specs.Plain.{Small, ArePlain, IsPlainWorld}
 use Rattle.mx_nodelaws.specs.Calls.{unchanged, refused}
 use Rattle.mx_nodelaws.proofs.Calls.{ask_cases, enter_cases}
 use Rattle.mx_trees.specs.Tree.{Rooted, IsRooted}
 use Rattle.mx_raymond.specs.declared.unacked.Unacked.{Unacked}
-use Rattle.mx_raymond.specs.Queue.{head_of}
 use Rattle.mx_raymond.specs.Node.{Node}
-use Rattle.mx_raymond.specs.Step.{Step, start_of, is_holder, has_permission, and_then, can_pass, passed, assign_to, assign, must_request, requested, make, serving, asking, asked, ask_in, again, take_holders_request, heard_from, queueing, take_others_request, take_request, holding, told, take_privilege, is_unacked, take_got, is_neighbour, deliver_of, entering, enter_in, leaving, leave_in, request_again, tick_of, raymond_core}
-use Rattle.mx_raymond.specs.Good.{PlainLetter, PlainUnacked, PlainNode}
-use Rattle.mx_raymond.specs.Tests.{queued_pushed, queued_joined, queued_behind, queued_head, may_pass, may_request}
+use Rattle.mx_raymond.specs.Step.{Step, start_of, is_holder, has_permission, serving, asking, asked, ask_in, again, take_holders_request, heard_from, queueing, take_others_request, take_request, holding, told, take_privilege, is_unacked, take_got, is_neighbour, deliver_of, entering, enter_in, leaving, leave_in, request_again, tick_of, raymond_core}
+use Rattle.mx_raymond.specs.Good.{PlainLetter, PlainNode}
+use Rattle.mx_raymond.specs.Tests.{queued_pushed, queued_joined, queued_behind}
+use Rattle.mx_raymond.specs.ServingPlain.{PlainStep, serving_plain}
 
--- a step that keeps the layer
-abbrev pub PlainStep : {A : Type 0} → ℕ → Step A → Type 0
-PlainStep n step = IsPlainDone PlainNode PlainLetter n step
+module _ (n : ℕ) (s : Node) (ok : PlainNode n s) where
+  as_it_was : {A : Type 0} (answer : A) → PlainStep n (unchanged s answer)
+  as_it_was answer = record { state = ok; letters = nil PlainLetter n }
 
-module _ (n : ℕ) where
-  unchanged_plain : {A : Type 0} (s : Node) (answer : A) → PlainNode n s → PlainStep n (unchanged s answer)
-  unchanged_plain s answer ok = record { state = ok; letters = nil PlainLetter n }
+  -- ask
 
-  -- Assign and Make
-
-  passed_plain : (s : Node) (next : ℕ) → next < n → s.hop < 18446744073709551615 → PlainNode n s → PlainStep n (passed s next)
-  passed_plain s next lt low ok = record {
-    state = record {
-      me = ok.me;
-      limit = ok.limit;
-      phase = ok.phase;
-      holder = lt;
-      queue = λ j h. ok.queue j (queued_behind s.queue j h);
-      hop = omega arith;
-      unacked = λ u e. subst (λ x. PlainUnacked n x) (same_Some {A = Unacked} (record { to = next; hop = s.hop + 1; last = s.top }) u e) (lt, omega arith, ok.top);
-      asks = ok.asks;
-      sent = ok.sent;
-      heard = ok.heard;
-      top = ok.top;
-      mine = ok.mine;
-    };
-    letters = one PlainLetter n next (Privilege (s.hop + 1) s.top) lt (omega arith, ok.top);
+  asking_plain : s.asks < 18446744073709551615 → PlainNode n (asking s)
+  asking_plain low = record {
+    me = ok.me;
+    limit = ok.limit;
+    phase = tt;
+    holder = ok.holder;
+    queue = λ j h. elim (queued_pushed s.queue s.me j h) [ inl old ↦ ok.queue j old | inr e ↦ (let k = ok.me in omega arith) ];
+    hop = ok.hop;
+    unacked = ok.unacked;
+    asks = omega arith;
+    sent = ok.sent;
+    heard = ok.heard;
+    top = ok.top;
+    mine = ok.mine;
   }
 
-  assign_to_plain : (o : Option ℕ) (s : Node) → head_of s.queue ≡ o → PlainNode n s → PlainStep n (assign_to o s)
-  assign_to_plain None s e ok = unchanged_plain s tt ok
-  assign_to_plain (Some next) s e ok =
-      let P : Step (Unit {0}) → Type 0 = λ d. PlainStep n d in
-      cond_case P (can_pass s next) (passed s next) (unchanged s tt)
-      (λ can. passed_plain s next (ok.queue next (queued_head s.queue next e)) (may_pass s next can).hop ok)
-      (λ _. unchanged_plain {A = Unit {0}} s tt ok)
+  pub ask_in_plain : (p : Phase) → PlainStep n (ask_in p s)
+  ask_in_plain Idle =
+      let first : Step (Result Stamp AskFault) = unchanged (asking s) (Ok (record { number = s.asks + 1; node = s.me })) in
+      ask_cases (λ (x : Node). x.asks) asked (λ d. PlainStep n d) s
+      (λ e. serving_plain n first (record { state = asking_plain (lt_true s.asks 18446744073709551615 e); letters = nil PlainLetter n }))
+      (as_it_was {A = Result Stamp AskFault} (Err StampsSpent))
+  ask_in_plain Waiting = as_it_was {A = Result Stamp AskFault} (Err NotIdle)
+  ask_in_plain (Inside k) = as_it_was {A = Result Stamp AskFault} (Err NotIdle)
 
-  assign_plain : (s : Node) → PlainNode n s → PlainStep n (assign s)
-  assign_plain s ok = assign_to_plain (head_of s.queue) s refl ok
+  -- a request
 
-  requested_plain : (s : Node) → s.sent < 18446744073709551615 → PlainNode n s → PlainStep n (requested s)
-  requested_plain s low ok = record {
-    state = record { me = ok.me; limit = ok.limit; phase = ok.phase; holder = ok.holder; queue = ok.queue; hop = ok.hop; unacked = ok.unacked; asks = ok.asks; sent = omega arith; heard = ok.heard; top = ok.top; mine = ok.mine };
-    letters = one PlainLetter n s.holder (Request (s.sent + 1)) ok.holder (omega arith);
+  again_plain : (o : Option Unacked) → s.unacked ≡ o → ArePlain PlainLetter n (again o)
+  again_plain None e = nil PlainLetter n
+  again_plain (Some u) e = let p = ok.unacked u e in one PlainLetter n u.to (Privilege u.hop u.last) p.0 (p.1, p.2)
+
+  heard_plain : (from number j : ℕ) → Small number → Small (heard_from (queueing s from number) j)
+  heard_plain from number j small = elim (get_or_after s.heard from j number 0 (heard_from (queueing s from number) j) refl) [
+    | inl p ↦ subst (λ x. Small x) p.1 small
+    | inr old ↦ subst (λ x. Small x) old (ok.heard j)
+  ]
+
+  queueing_plain : (from number : ℕ) → from < n → Small number → PlainNode n (queueing s from number)
+  queueing_plain from number lt small = record {
+    me = ok.me;
+    limit = ok.limit;
+    phase = ok.phase;
+    holder = ok.holder;
+    queue = λ j h. elim (queued_joined s.queue from j h) [ inl old ↦ ok.queue j old | inr e ↦ omega arith ];
+    hop = ok.hop;
+    unacked = ok.unacked;
+    asks = ok.asks;
+    sent = ok.sent;
+    heard = λ j. heard_plain from number j small;
+    top = ok.top;
+    mine = ok.mine;
   }
 
-  make_plain : (s : Node) → PlainNode n s → PlainStep n (make s)
-  make_plain s ok =
+  request_plain : (from number : ℕ) → from < n → Small number → PlainStep n (take_request from number s)
+  request_plain from number lt small =
       let P : Step (Unit {0}) → Type 0 = λ d. PlainStep n d in
-      cond_case P (must_request s) (requested s) (unchanged s tt)
-      (λ must. requested_plain s (may_request s must) ok)
-      (λ _. unchanged_plain {A = Unit {0}} s tt ok)
+      let first : Step (Unit {0}) = unchanged (queueing s from number) tt in
+      cond_case P (nat_eq from s.holder) (take_holders_request s) (take_others_request from number s)
+      (λ _. record { state = ok; letters = again_plain s.unacked refl })
+      (λ _. cond_case P (nat_lt (heard_from s from) number) (serving first) (unchanged s tt)
+      (λ _. serving_plain n first (record { state = queueing_plain from number lt small; letters = nil PlainLetter n }))
+      (λ _. as_it_was {A = Unit {0}} tt))
 
-  then_plain : {A : Type 0} (first : Step A) (second : Node → Step (Unit {0})) → ((s : Node) → PlainNode n s → PlainStep n (second s)) → PlainStep n first → PlainStep n (and_then first second)
-  then_plain first second keeps ok =
-      let next = keeps first.state ok.state in
-      record { state = next.state; letters = both PlainLetter n first.letters (second first.state).letters ok.letters next.letters }
+  -- a privilege
 
-  serving_plain : {A : Type 0} (step : Step A) → PlainStep n step → PlainStep n (serving step)
-  serving_plain step ok = then_plain (and_then step assign) make make_plain (then_plain step assign assign_plain ok)
+  holding_plain : (hop last : ℕ) → Small hop → Small last → PlainNode n (holding s hop last)
+  holding_plain hop last p q = record {
+    me = ok.me;
+    limit = ok.limit;
+    phase = ok.phase;
+    holder = ok.me;
+    queue = ok.queue;
+    hop = p;
+    unacked = λ u e. absurd (none_is_no_some u e);
+    asks = ok.asks;
+    sent = ok.sent;
+    heard = ok.heard;
+    top = (let k = ok.top in omega arith);
+    mine = ok.mine;
+  }
 
-  module _ (s : Node) (ok : PlainNode n s) where
-    as_it_was : {A : Type 0} (answer : A) → PlainStep n (unchanged s answer)
-    as_it_was answer = record { state = ok; letters = nil PlainLetter n }
+  privilege_plain : (from hop last : ℕ) → from < n → Small hop → Small last → PlainStep n (take_privilege from hop last s)
+  privilege_plain from hop last lt p q =
+      let P : Step (Unit {0}) → Type 0 = λ d. PlainStep n d in
+      let first : Step (Unit {0}) = told (holding s hop last) from hop in
+      cond_case P (nat_lt s.hop hop) (serving first) (told s from hop)
+      (λ _. serving_plain n first (record { state = holding_plain hop last p q; letters = one PlainLetter n from (Got hop) lt p }))
+      (λ _. record { state = ok; letters = one PlainLetter n from (Got hop) lt p })
 
-    -- ask
+  -- word of an arrival
 
-    asking_plain : s.asks < 18446744073709551615 → PlainNode n (asking s)
-    asking_plain low = record {
-      me = ok.me;
-      limit = ok.limit;
-      phase = tt;
-      holder = ok.holder;
-      queue = λ j h. elim (queued_pushed s.queue s.me j h) [ inl old ↦ ok.queue j old | inr e ↦ (let k = ok.me in omega arith) ];
-      hop = ok.hop;
-      unacked = ok.unacked;
-      asks = omega arith;
-      sent = ok.sent;
-      heard = ok.heard;
-      top = ok.top;
-      mine = ok.mine;
-    }
+  got_plain : (from hop : ℕ) → PlainStep n (take_got from hop s)
+  got_plain from hop =
+      let P : Step (Unit {0}) → Type 0 = λ d. PlainStep n d in
+      let first : Step (Unit {0}) = unchanged (record s { unacked = None }) tt in
+      cond_case P (is_unacked s.unacked from hop) first (unchanged s tt)
+      (λ _. record {
+        state = record { me = ok.me; limit = ok.limit; phase = ok.phase; holder = ok.holder; queue = ok.queue; hop = ok.hop; unacked = λ u e. absurd (none_is_no_some u e); asks = ok.asks; sent = ok.sent; heard = ok.heard; top = ok.top; mine = ok.mine };
+        letters = nil PlainLetter n;
+      })
+      (λ _. as_it_was {A = Unit {0}} tt)
 
-    pub ask_in_plain : (p : Phase) → PlainStep n (ask_in p s)
-    ask_in_plain Idle =
-        let first : Step (Result Stamp AskFault) = unchanged (asking s) (Ok (record { number = s.asks + 1; node = s.me })) in
-        ask_cases (λ (x : Node). x.asks) asked (λ d. PlainStep n d) s
-        (λ e. serving_plain first (record { state = asking_plain (lt_true s.asks 18446744073709551615 e); letters = nil PlainLetter n }))
-        (as_it_was {A = Result Stamp AskFault} (Err StampsSpent))
-    ask_in_plain Waiting = as_it_was {A = Result Stamp AskFault} (Err NotIdle)
-    ask_in_plain (Inside k) = as_it_was {A = Result Stamp AskFault} (Err NotIdle)
+  pub deliver_plain : (from : ℕ) (m : RaymondMsg) → from < n → PlainLetter n m → PlainStep n (deliver_of from m s)
+  deliver_plain from (Request number) lt small =
+      let P : Step (Unit {0}) → Type 0 = λ d. PlainStep n d in
+      cond_case P (is_neighbour s from) (take_request from number s) (unchanged s tt)
+      (λ _. request_plain from number lt small) (λ _. as_it_was {A = Unit {0}} tt)
+  deliver_plain from (Privilege hop last) lt small =
+      let P : Step (Unit {0}) → Type 0 = λ d. PlainStep n d in
+      cond_case P (is_neighbour s from) (take_privilege from hop last s) (unchanged s tt)
+      (λ _. privilege_plain from hop last lt small.0 small.1) (λ _. as_it_was {A = Unit {0}} tt)
+  deliver_plain from (Got hop) lt small =
+      let P : Step (Unit {0}) → Type 0 = λ d. PlainStep n d in
+      cond_case P (is_neighbour s from) (take_got from hop s) (unchanged s tt)
+      (λ _. got_plain from hop) (λ _. as_it_was {A = Unit {0}} tt)
 
-    -- a request
+  -- enter
 
-    again_plain : (o : Option Unacked) → s.unacked ≡ o → ArePlain PlainLetter n (again o)
-    again_plain None e = nil PlainLetter n
-    again_plain (Some u) e = let p = ok.unacked u e in one PlainLetter n u.to (Privilege u.hop u.last) p.0 (p.1, p.2)
+  entering_plain : s.top < s.limit → PlainNode n (entering s)
+  entering_plain lt = record {
+    me = ok.me;
+    limit = ok.limit;
+    phase = (let k = ok.limit in omega arith);
+    holder = ok.holder;
+    queue = λ j h. ok.queue j (queued_behind s.queue j h);
+    hop = ok.hop;
+    unacked = ok.unacked;
+    asks = ok.asks;
+    sent = ok.sent;
+    heard = ok.heard;
+    top = (let k = ok.limit in omega arith);
+    mine = (let k = ok.limit in omega arith);
+  }
 
-    heard_plain : (from number j : ℕ) → Small number → Small (heard_from (queueing s from number) j)
-    heard_plain from number j small = elim (get_or_after s.heard from j number 0 (heard_from (queueing s from number) j) refl) [
-      | inl p ↦ subst (λ x. Small x) p.1 small
-      | inr old ↦ subst (λ x. Small x) old (ok.heard j)
-    ]
+  refused_plain : (fault : EnterFault) → PlainStep n (quietly (refused s fault))
+  refused_plain fault = as_it_was {A = Result ℕ EnterFault} (Err fault)
 
-    queueing_plain : (from number : ℕ) → from < n → Small number → PlainNode n (queueing s from number)
-    queueing_plain from number lt small = record {
-      me = ok.me;
-      limit = ok.limit;
-      phase = ok.phase;
-      holder = ok.holder;
-      queue = λ j h. elim (queued_joined s.queue from j h) [ inl old ↦ ok.queue j old | inr e ↦ omega arith ];
-      hop = ok.hop;
-      unacked = ok.unacked;
-      asks = ok.asks;
-      sent = ok.sent;
-      heard = λ j. heard_plain from number j small;
-      top = ok.top;
-      mine = ok.mine;
-    }
+  pub enter_in_plain : (p : Phase) → PlainStep n (quietly (enter_in p s))
+  enter_in_plain Idle = refused_plain NotWaiting
+  enter_in_plain Waiting =
+      enter_cases has_permission (λ (x : Node). x.top) (λ (x : Node). x.limit) entering (λ d. PlainStep n (quietly d)) s
+      (λ _ e. record { state = entering_plain (lt_true s.top s.limit e); letters = nil PlainLetter n })
+      (refused_plain NumbersSpent) (λ _. refused_plain NotGranted)
+  enter_in_plain (Inside k) = refused_plain NotWaiting
 
-    request_plain : (from number : ℕ) → from < n → Small number → PlainStep n (take_request from number s)
-    request_plain from number lt small =
-        let P : Step (Unit {0}) → Type 0 = λ d. PlainStep n d in
-        let first : Step (Unit {0}) = unchanged (queueing s from number) tt in
-        cond_case P (nat_eq from s.holder) (take_holders_request s) (take_others_request from number s)
-        (λ _. record { state = ok; letters = again_plain s.unacked refl })
-        (λ _. cond_case P (nat_lt (heard_from s from) number) (serving first) (unchanged s tt)
-        (λ _. serving_plain first (record { state = queueing_plain from number lt small; letters = nil PlainLetter n }))
-        (λ _. as_it_was {A = Unit {0}} tt))
+  -- leave
 
-    -- a privilege
+  leaving_plain : PlainNode n (leaving s)
+  leaving_plain = record { me = ok.me; limit = ok.limit; phase = tt; holder = ok.holder; queue = ok.queue; hop = ok.hop; unacked = ok.unacked; asks = ok.asks; sent = ok.sent; heard = ok.heard; top = ok.top; mine = ok.mine }
 
-    holding_plain : (hop last : ℕ) → Small hop → Small last → PlainNode n (holding s hop last)
-    holding_plain hop last p q = record {
-      me = ok.me;
-      limit = ok.limit;
-      phase = ok.phase;
-      holder = ok.me;
-      queue = ok.queue;
-      hop = p;
-      unacked = λ u e. absurd (none_is_no_some u e);
-      asks = ok.asks;
-      sent = ok.sent;
-      heard = ok.heard;
-      top = (let k = ok.top in omega arith);
-      mine = ok.mine;
-    }
+  pub leave_in_plain : (p : Phase) → PlainStep n (leave_in p s)
+  leave_in_plain Idle = as_it_was {A = Result ℕ LeaveFault} (Err NotInside)
+  leave_in_plain Waiting = as_it_was {A = Result ℕ LeaveFault} (Err NotInside)
+  leave_in_plain (Inside k) =
+      let first : Step (Result ℕ LeaveFault) = unchanged (leaving s) (Ok k) in
+      serving_plain n first (record { state = leaving_plain; letters = nil PlainLetter n })
 
-    privilege_plain : (from hop last : ℕ) → from < n → Small hop → Small last → PlainStep n (take_privilege from hop last s)
-    privilege_plain from hop last lt p q =
-        let P : Step (Unit {0}) → Type 0 = λ d. PlainStep n d in
-        let first : Step (Unit {0}) = told (holding s hop last) from hop in
-        cond_case P (nat_lt s.hop hop) (serving first) (told s from hop)
-        (λ _. serving_plain first (record { state = holding_plain hop last p q; letters = one PlainLetter n from (Got hop) lt p }))
-        (λ _. record { state = ok; letters = one PlainLetter n from (Got hop) lt p })
+  -- tick
 
-    -- word of an arrival
+  request_again_plain : ArePlain PlainLetter n (request_again s)
+  request_again_plain =
+      let P : List (ℕ × RaymondMsg) → Type 0 = λ ls. ArePlain PlainLetter n ls in
+      cond_case P (s.asked && not (is_holder s)) ((s.holder, Request s.sent) ∷ []) []
+      (λ _. one PlainLetter n s.holder (Request s.sent) ok.holder ok.sent) (λ _. nil PlainLetter n)
 
-    got_plain : (from hop : ℕ) → PlainStep n (take_got from hop s)
-    got_plain from hop =
-        let P : Step (Unit {0}) → Type 0 = λ d. PlainStep n d in
-        let first : Step (Unit {0}) = unchanged (record s { unacked = None }) tt in
-        cond_case P (is_unacked s.unacked from hop) first (unchanged s tt)
-        (λ _. record {
-          state = record { me = ok.me; limit = ok.limit; phase = ok.phase; holder = ok.holder; queue = ok.queue; hop = ok.hop; unacked = λ u e. absurd (none_is_no_some u e); asks = ok.asks; sent = ok.sent; heard = ok.heard; top = ok.top; mine = ok.mine };
-          letters = nil PlainLetter n;
-        })
-        (λ _. as_it_was {A = Unit {0}} tt)
-
-    pub deliver_plain : (from : ℕ) (m : RaymondMsg) → from < n → PlainLetter n m → PlainStep n (deliver_of from m s)
-    deliver_plain from (Request number) lt small =
-        let P : Step (Unit {0}) → Type 0 = λ d. PlainStep n d in
-        cond_case P (is_neighbour s from) (take_request from number s) (unchanged s tt)
-        (λ _. request_plain from number lt small) (λ _. as_it_was {A = Unit {0}} tt)
-    deliver_plain from (Privilege hop last) lt small =
-        let P : Step (Unit {0}) → Type 0 = λ d. PlainStep n d in
-        cond_case P (is_neighbour s from) (take_privilege from hop last s) (unchanged s tt)
-        (λ _. privilege_plain from hop last lt small.0 small.1) (λ _. as_it_was {A = Unit {0}} tt)
-    deliver_plain from (Got hop) lt small =
-        let P : Step (Unit {0}) → Type 0 = λ d. PlainStep n d in
-        cond_case P (is_neighbour s from) (take_got from hop s) (unchanged s tt)
-        (λ _. got_plain from hop) (λ _. as_it_was {A = Unit {0}} tt)
-
-    -- enter
-
-    entering_plain : s.top < s.limit → PlainNode n (entering s)
-    entering_plain lt = record {
-      me = ok.me;
-      limit = ok.limit;
-      phase = (let k = ok.limit in omega arith);
-      holder = ok.holder;
-      queue = λ j h. ok.queue j (queued_behind s.queue j h);
-      hop = ok.hop;
-      unacked = ok.unacked;
-      asks = ok.asks;
-      sent = ok.sent;
-      heard = ok.heard;
-      top = (let k = ok.limit in omega arith);
-      mine = (let k = ok.limit in omega arith);
-    }
-
-    refused_plain : (fault : EnterFault) → PlainStep n (quietly (refused s fault))
-    refused_plain fault = as_it_was {A = Result ℕ EnterFault} (Err fault)
-
-    pub enter_in_plain : (p : Phase) → PlainStep n (quietly (enter_in p s))
-    enter_in_plain Idle = refused_plain NotWaiting
-    enter_in_plain Waiting =
-        enter_cases has_permission (λ (x : Node). x.top) (λ (x : Node). x.limit) entering (λ d. PlainStep n (quietly d)) s
-        (λ _ e. record { state = entering_plain (lt_true s.top s.limit e); letters = nil PlainLetter n })
-        (refused_plain NumbersSpent) (λ _. refused_plain NotGranted)
-    enter_in_plain (Inside k) = refused_plain NotWaiting
-
-    -- leave
-
-    leaving_plain : PlainNode n (leaving s)
-    leaving_plain = record { me = ok.me; limit = ok.limit; phase = tt; holder = ok.holder; queue = ok.queue; hop = ok.hop; unacked = ok.unacked; asks = ok.asks; sent = ok.sent; heard = ok.heard; top = ok.top; mine = ok.mine }
-
-    pub leave_in_plain : (p : Phase) → PlainStep n (leave_in p s)
-    leave_in_plain Idle = as_it_was {A = Result ℕ LeaveFault} (Err NotInside)
-    leave_in_plain Waiting = as_it_was {A = Result ℕ LeaveFault} (Err NotInside)
-    leave_in_plain (Inside k) =
-        let first : Step (Result ℕ LeaveFault) = unchanged (leaving s) (Ok k) in
-        serving_plain first (record { state = leaving_plain; letters = nil PlainLetter n })
-
-    -- tick
-
-    request_again_plain : ArePlain PlainLetter n (request_again s)
-    request_again_plain =
-        let P : List (ℕ × RaymondMsg) → Type 0 = λ ls. ArePlain PlainLetter n ls in
-        cond_case P (s.asked && not (is_holder s)) ((s.holder, Request s.sent) ∷ []) []
-        (λ _. one PlainLetter n s.holder (Request s.sent) ok.holder ok.sent) (λ _. nil PlainLetter n)
-
-    pub tick_plain : PlainStep n (tick_of s)
-    tick_plain = record { state = ok; letters = both PlainLetter n (again s.unacked) (request_again s) (again_plain s.unacked refl) request_again_plain }
+  pub tick_plain : PlainStep n (tick_of s)
+  tick_plain = record { state = ok; letters = both PlainLetter n (again s.unacked) (request_again s) (again_plain s.unacked refl) request_again_plain }
 
 -- the world at rest
 

@@ -13,4 +13,4 @@ pub returns-clause-agreeing : goal.returns-clause-agreeing
 returns-clause-agreeing c = exactly c
 
 pub returns-clause-submaps : goal.returns-clause-submaps
-returns-clause-submaps c = λ m consistent left right. (exactly c).1 (parts_agree c.args.journal.now c.args.other.now m consistent left right)
+returns-clause-submaps c = λ h. (exactly c).1 (parts_agree c.args.journal.now c.args.other.now h.0 h.1 h.2 h.3)
