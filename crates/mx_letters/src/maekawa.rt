@@ -18,6 +18,11 @@ pub enum MaekawaMsg {
 }
 
 impl Default for MaekawaMsg {
+    ghost use Rattle.std.specs.Prelude.{◌≡◌};
+    ghost use Rattle.mx_letters.specs.declared.maekawa.MaekawaMsg.TheVariants.{Request};
+
+    ghost is_default = { λ letter. letter ≡ Request (record { number = 0; node = 0 }) };
+
     fn default() -> Self {
         MaekawaMsg::Request(Stamp::default())
     }

@@ -12,6 +12,11 @@ pub enum RaymondMsg {
 }
 
 impl Default for RaymondMsg {
+    ghost use Rattle.std.specs.Prelude.{◌≡◌};
+    ghost use Rattle.mx_letters.specs.declared.raymond.RaymondMsg.TheVariants.{Request};
+
+    ghost is_default = { λ letter. letter ≡ Request 0 };
+
     fn default() -> Self {
         RaymondMsg::Request(0)
     }

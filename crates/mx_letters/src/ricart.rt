@@ -12,6 +12,11 @@ pub enum RicartMsg {
 }
 
 impl Default for RicartMsg {
+    ghost use Rattle.std.specs.Prelude.{◌≡◌};
+    ghost use Rattle.mx_letters.specs.declared.ricart.RicartMsg.TheVariants.{Request};
+
+    ghost is_default = { λ letter. letter ≡ Request (record { number = 0; node = 0 }) };
+
     fn default() -> Self {
         RicartMsg::Request(Stamp::default())
     }
