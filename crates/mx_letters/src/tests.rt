@@ -1,6 +1,6 @@
-//! An outbox at each kind of letter.
+//! An outbox at each kind of letter, and fair fates.
 
-use crate::{MaekawaMsg, OUTBOX_ROOM, Outbox, RaymondMsg, RicartMsg};
+use crate::{Fair, Fate, Fates, MaekawaMsg, OUTBOX_ROOM, Outbox, RaymondMsg, RicartMsg};
 use mx_stamps::NodeId;
 use std::test::Fail;
 
@@ -32,4 +32,16 @@ fn an_empty_letter_is_a_request(rt: HostRuntime) {
     assert!(rt; matches!(RicartMsg::default(), RicartMsg::Request(_)));
     assert!(rt; matches!(MaekawaMsg::default(), MaekawaMsg::Request(_)));
     assert!(rt; matches!(RaymondMsg::default(), RaymondMsg::Request(_)));
+}
+
+fn next_of<F: Fates>(fates: &mut F) -> Fate {
+    fates.fate()
+}
+
+#[test]
+fn fair_fates_always_pass(rt: HostRuntime) {
+    let mut fair = Fair;
+    for _ in 0..100 {
+        assert_eq!(rt; next_of(&mut fair), Fate::Pass);
+    }
 }
