@@ -1,0 +1,5 @@
+-- Ledgers: what a ledger tells after a mark. Marks: what a mark that breaks nothing leaves of a history, and one
+-- that does breaks. Judged: the verdict, item by item.
+pub mod Ledgers
+pub mod Marks
+pub mod Judged

@@ -1,0 +1,60 @@
+-- What judging remembers of the items before, and what it finds at a mark.
+use Rattle.std.specs.Prelude.{ℕ, suc, ◌≡◌, ◌<◌, ◌&&◌, Bool, true, false, not, List, [], ◌∷◌, Option, Some, None, length, nat_eq, slice_index, if◌then◌else◌}
+use Rattle.mx_journal.specs.declared.records.Write.{Write}
+use Rattle.mx_registers.specs.Registers.{applied}
+use Rattle.mx_member.specs.Sections.{Mark, Came, Got, Wrote, Went, Woke, Section, after_mark, after_marks, writes_in}
+use Rattle.mx_member.specs.Serial.{AllClosed}
+use Rattle.mx_explorer.specs.declared.ledger.Ledger.{Ledger}
+use Rattle.mx_explorer.specs.declared.verdict.Clause.{Clause}
+use Rattle.mx_explorer.specs.declared.verdict.Clause.TheVariants.{Overlap, Number, Read}
+
+-- the sections before the newest
+abbrev pub older : List Section → List Section
+older [] = []
+older (s ∷ ss) = ss
+
+-- the node inside the newest section
+abbrev pub holder : List Section → Option ℕ
+holder [] = None
+holder (s ∷ ss) = if s.closed then None else Some s.node
+
+-- these values are what the writes, in order, leave in the 256 registers
+abbrev pub Shows : List Write → List ℕ → Type 0
+Shows writes values = (length values ≡ 256) × ((r : ℕ) → r < 256 → slice_index values r ≡ applied r writes 0)
+
+-- the ledger tells of these sections, of which all but the newest are left
+pub record IsLedgerOf (ss : List Section) (l : Ledger) : Type 0 where
+  pub inside : l.inside ≡ holder ss
+  pub last : l.last ≡ length ss
+  pub left : AllClosed (older ss)
+  pub held : Shows (writes_in ss) l.held
+  pub before : Shows (writes_in (older ss)) l.before
+
+abbrev pub is_node : ℕ → Option ℕ → Bool
+is_node i None = false
+is_node i (Some j) = nat_eq j i
+
+-- what an entry breaks, given who is inside and the number that is next
+abbrev pub at_entry : Option ℕ → ℕ → ℕ → Option Clause
+at_entry None next n = if nat_eq n next then None else Some Number
+at_entry (Some j) next n = Some Overlap
+
+-- what a mark breaks after these sections
+abbrev pub broken_by : List Section → Mark → Option Clause
+broken_by ss (Came i n) = at_entry (holder ss) (suc (length ss)) n
+broken_by ss (Got i register value) =
+    if is_node i (holder ss) && nat_eq value (applied register (writes_in ss) 0) then None else Some Read
+broken_by ss (Wrote i register value) = None
+broken_by ss (Went i receipt) =
+    if is_node i (holder ss) && nat_eq receipt.number (length ss) then None else Some Overlap
+broken_by ss (Woke i) = None
+
+-- what an entry of the trace breaks, by its mark, if it has one
+abbrev pub broken_at : List Section → List Mark → Option Clause
+broken_at ss [] = None
+broken_at ss (m ∷ ms) = broken_by ss m
+
+-- the mark breaks this, or nothing, and then the ledger tells of it too
+abbrev pub Takes : Ledger → List Mark → Option Clause → Ledger → Type 0
+Takes old marks found new =
+    (ss : List Section) → IsLedgerOf ss old → (found ≡ broken_at ss marks) × (found ≡ None → IsLedgerOf (after_marks ss marks) new)

@@ -1,0 +1,34 @@
+-- Sound traces, and where a trace is first broken.
+use Rattle.std.specs.Prelude.{ℕ, suc, ◌≡◌, List, [], ◌∷◌, take}
+use Rattle.mx_registers.specs.Registers.{applied}
+use Rattle.mx_member.specs.Sections.{Mark, Came, Got, Wrote, Went, Woke, Section, after_mark, writes_in}
+use Rattle.mx_member.specs.Serial.{IsInNewest}
+use Rattle.mx_network.specs.declared.outcome.Entry.{Entry}
+use Rattle.mx_network.specs.Trace.{IsExclusive, IsNumbered, marks}
+use Rattle.mx_explorer.specs.declared.verdict.Clause.{Clause}
+use Rattle.mx_explorer.specs.declared.verdict.Clause.TheVariants.{Overlap, Number, Read}
+
+-- after these sections: each value read goes to the node inside the newest one, and is what all writes so
+-- far, in order of entry, leave in the register
+abbrev pub ReadsFit : List Section → List Mark → Type 0
+ReadsFit ss [] = Unit {0}
+ReadsFit ss (Came i n ∷ ms) = ReadsFit (after_mark ss (Came i n)) ms
+ReadsFit ss (Got i register value ∷ ms) =
+    IsInNewest i ss × (value ≡ applied register (writes_in ss) 0) × ReadsFit (after_mark ss (Got i register value)) ms
+ReadsFit ss (Wrote i register value ∷ ms) = ReadsFit (after_mark ss (Wrote i register value)) ms
+ReadsFit ss (Went i receipt ∷ ms) = ReadsFit (after_mark ss (Went i receipt)) ms
+ReadsFit ss (Woke i ∷ ms) = ReadsFit (after_mark ss (Woke i)) ms
+
+-- entries and leavings alternate, the n-th section entered bears n, and each read is serial
+abbrev pub IsSoundTrace : List Entry → Type 0
+IsSoundTrace trace = IsExclusive trace × IsNumbered trace × ReadsFit [] (marks trace)
+
+-- this is the first clause, in their order, that the trace breaks
+abbrev pub Breaks : Clause → List Entry → Type 0
+Breaks Overlap trace = ¬ IsExclusive trace
+Breaks Number trace = IsExclusive trace × ¬ IsNumbered trace
+Breaks Read trace = IsExclusive trace × IsNumbered trace × ¬ ReadsFit [] (marks trace)
+
+-- the items before index k are sound, and with the item at k the clause is broken
+abbrev pub IsFirstBroken : List Entry → ℕ → Clause → Type 0
+IsFirstBroken trace k clause = IsSoundTrace (take k trace) × Breaks clause (take (suc k) trace)
