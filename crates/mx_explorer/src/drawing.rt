@@ -1,0 +1,84 @@
+//! Schedules drawn from a seed.
+
+ghost use Rattle.std.specs.Prelude.{◌≡◌, ◌<◌, ◌≤◌, ◌%◌, IfOk, vec_len};
+ghost use Rattle.mx_stamps.specs.Lists.{IsIn};
+ghost use Rattle.mx_explorer.specs.Drawn.{IsDrawn, after_drawn, after_words, drawn, drawn_list, word};
+ghost use Rattle.mx_explorer.specs.Weather.{generator_of};
+
+use crate::kind::{Kind, kind_of};
+use mx_network::Event;
+use mx_stamps::NodeId;
+use rand_core::SeedableRng;
+use rand_core::utils::NextWord;
+use rand_pcg::Pcg32;
+use std::alloc::{AllocError, Global};
+
+/// A drawn schedule of so many steps, over so many nodes and registers. The generator is `Pcg32`
+/// by `seed_from_u64`. Each step takes a word for the kind of the event and one for each of its
+/// arguments. The word of a delivery is not yet the number of a parcel: see `place`.
+pub fn schedule_of(
+    alloc: Global,
+    seed: u64,
+    steps: u64,
+    nodes: u8,
+    registers: u8,
+) -> Result<Vec<Event>, AllocError>
+    requires nodes { (0 < nodes) × (nodes ≤ 21) }
+    requires registers { 0 < registers }
+    ensures value { IfOk result (λ v. v.items ≡ drawn_list steps nodes registers (generator_of seed)) }
+    ensures count { IfOk result (λ v. vec_len v ≡ steps) }
+    ensures named { IfOk result (λ v. (e : Event) → IsIn e v.items → IsDrawn nodes registers e) }
+{
+    let mut words = Pcg32::seed_from_u64(seed);
+    let mut events = Vec::new(alloc);
+    for _ in 0..steps {
+        events.push(draw(&mut words, nodes, registers))?;
+    }
+    Ok(events)
+}
+
+/// The next event.
+fn draw(words: &mut Pcg32, nodes: u8, registers: u8) -> Event
+    requires nodes { (0 < nodes) × (nodes ≤ 21) }
+    requires registers { 0 < registers }
+    ensures value { result ≡ drawn nodes registers words.old }
+    ensures next { words.new ≡ after_drawn words.old }
+{
+    match kind_of(words.next_word()) {
+        Kind::Ask => Event::Ask(draw_node(words, nodes)),
+        Kind::Enter => Event::Enter(draw_node(words, nodes)),
+        Kind::Read => {
+            let node = draw_node(words, nodes);
+            Event::Read(node, draw_below(words, registers))
+        }
+        Kind::Write => {
+            let node = draw_node(words, nodes);
+            let register = draw_below(words, registers);
+            Event::Write(node, register, u64::from(words.next_word()))
+        }
+        Kind::Leave => Event::Leave(draw_node(words, nodes)),
+        Kind::Tick => Event::Tick(draw_node(words, nodes)),
+        Kind::Want => {
+            let node = draw_node(words, nodes);
+            Event::Want(node, draw_node(words, nodes))
+        }
+        Kind::Restart => Event::Restart(draw_node(words, nodes)),
+        Kind::Deliver => Event::Deliver(u64::from(words.next_word())),
+    }
+}
+
+fn draw_node(words: &mut Pcg32, nodes: u8) -> NodeId
+    requires nodes { (0 < nodes) × (nodes ≤ 21) }
+    ensures value { result ≡ word words.old % nodes }
+    ensures next { words.new ≡ after_words 1 words.old }
+{
+    NodeId::of(draw_below(words, nodes)).unwrap()
+}
+
+fn draw_below(words: &mut Pcg32, count: u8) -> u8
+    requires { 0 < count }
+    ensures value { result ≡ word words.old % count }
+    ensures next { words.new ≡ after_words 1 words.old }
+{
+    (words.next_word() % u32::from(count)) as u8
+}

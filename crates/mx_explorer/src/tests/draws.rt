@@ -1,0 +1,109 @@
+//! Schedules and weather beside what the tests make of words that they draw themselves.
+
+use crate::{Weather, place, schedule_of};
+use mx_letters::{Fate, Fates};
+use mx_network::Event;
+use mx_stamps::NodeId;
+use rand_core::{Rng, SeedableRng};
+use rand_pcg::Pcg32;
+use std::test::Fail;
+
+const NODES: u8 = 5;
+const REGISTERS: u8 = 3;
+
+fn next_of<F: Fates>(fates: &mut F) -> Fate {
+    fates.fate()
+}
+
+#[test]
+fn weather_at_its_bounds(rt: HostRuntime) {
+    let mut clear = Weather::of(1, 0, 0);
+    let mut lossy = Weather::of(1, 256, 0);
+    let mut doubling = Weather::of(1, 0, 256);
+    for _ in 0..1000 {
+        assert_eq!(rt; next_of(&mut clear), Fate::Pass);
+        assert_eq!(rt; next_of(&mut lossy), Fate::Drop);
+        assert_eq!(rt; next_of(&mut doubling), Fate::Twice);
+    }
+}
+
+#[test]
+fn weather_is_that_of_its_seed(rt: HostRuntime) {
+    for seed in 0..10 {
+        let mut weather = Weather::of(seed, 16, 16);
+        let mut words = Pcg32::seed_from_u64(seed);
+        for _ in 0..1000 {
+            let wanted = match words.next_u32() % 256 {
+                0..=15 => Fate::Drop,
+                16..=31 => Fate::Twice,
+                _ => Fate::Pass,
+            };
+            assert_eq!(rt; next_of(&mut weather), wanted);
+        }
+    }
+}
+
+fn wanted_node(words: &mut Pcg32) -> NodeId {
+    let index = words.next_u32() % u32::from(NODES);
+    NodeId::of(index as u8).unwrap_or(NodeId::default())
+}
+
+fn wanted_register(words: &mut Pcg32) -> u8 {
+    (words.next_u32() % u32::from(REGISTERS)) as u8
+}
+
+fn wanted_read(words: &mut Pcg32) -> Event {
+    let node = wanted_node(words);
+    Event::Read(node, wanted_register(words))
+}
+
+fn wanted_write(words: &mut Pcg32) -> Event {
+    let node = wanted_node(words);
+    let register = wanted_register(words);
+    Event::Write(node, register, u64::from(words.next_u32()))
+}
+
+fn wanted_want(words: &mut Pcg32) -> Event {
+    let node = wanted_node(words);
+    Event::Want(node, wanted_node(words))
+}
+
+fn wanted_event(words: &mut Pcg32) -> Event {
+    match words.next_u32() % 16 {
+        0..=1 => Event::Ask(wanted_node(words)),
+        2..=3 => Event::Enter(wanted_node(words)),
+        4 => wanted_read(words),
+        5 => wanted_write(words),
+        6..=7 => Event::Leave(wanted_node(words)),
+        8 => Event::Tick(wanted_node(words)),
+        9 => wanted_want(words),
+        10 => Event::Restart(wanted_node(words)),
+        _ => Event::Deliver(u64::from(words.next_u32())),
+    }
+}
+
+#[test]
+fn schedule_is_that_of_its_seed(rt: HostRuntime) -> Result<(), Fail> {
+    for seed in 0..10 {
+        let events = schedule_of(rt.alloc(), seed, 1000, NODES, REGISTERS)?;
+        assert_eq!(rt; events.len(), 1000);
+        let mut words = Pcg32::seed_from_u64(seed);
+        for event in &events {
+            assert_eq!(rt; *event, wanted_event(&mut words));
+        }
+    }
+    Ok(())
+}
+
+#[test]
+fn a_delivery_is_placed_among_the_newest(rt: HostRuntime) -> Result<(), Fail> {
+    assert_eq!(rt; place(Event::Deliver(7), 0), None);
+    assert_eq!(rt; place(Event::Deliver(7), 1), Some(Event::Deliver(0)));
+    assert_eq!(rt; place(Event::Deliver(7), 5), Some(Event::Deliver(2)));
+    assert_eq!(rt; place(Event::Deliver(63), 64), Some(Event::Deliver(0)));
+    assert_eq!(rt; place(Event::Deliver(64), 1000), Some(Event::Deliver(999)));
+    assert_eq!(rt; place(Event::Deliver(63), 1000), Some(Event::Deliver(936)));
+    let tick = Event::Tick(NodeId::of(2).ok_or("node")?);
+    assert_eq!(rt; place(tick, 0), Some(tick));
+    Ok(())
+}

@@ -1,0 +1,73 @@
+//! The fates of parcels, drawn from a seed.
+
+ghost use Rattle.std.specs.Prelude.{◌≡◌, ◌≢◌, ◌+◌, ◌≤◌, ◌%◌};
+ghost use Rattle.rand_pcg.specs.Pcg.{pcg32};
+ghost use Rattle.mx_explorer.specs.Weather.{Climate, fate_by, generator_of};
+
+use mx_letters::{Fate, Fates};
+use rand_core::SeedableRng;
+use rand_core::utils::NextWord;
+use rand_pcg::Pcg32;
+use std::marker::Model;
+
+/// A network that loses and repeats parcels, by the words of a generator. Each fate takes one
+/// word, of which the lowest byte decides.
+#[derive(Drop)]
+pub struct Weather {
+    words: Pcg32,
+    lost: u16,
+    doubled: u16,
+}
+
+impl Model for Weather {
+    ghost Value = { Climate };
+
+    ghost view = { λ w. record { words = w.words; lost = w.lost; doubled = w.doubled } };
+
+    ghost inverse = { λ c. record { words = c.words; lost = c.lost; doubled = c.doubled } };
+}
+
+impl Weather {
+    /// The weather of a seed, in which `drop` of 256 bytes lose a parcel and `twice` of them repeat
+    /// it. The generator is `Pcg32` by `seed_from_u64`.
+    pub fn of(seed: u64, drop: u16, twice: u16) -> Weather
+        requires { drop + twice ≤ 256 }
+        ensures { result ≡ record { words = generator_of seed; lost = drop; doubled = twice } }
+    {
+        Weather {
+            words: Pcg32::seed_from_u64(seed),
+            lost: drop,
+            doubled: twice,
+        }
+    }
+}
+
+impl Fates for Weather {
+    /// The fate by the next word.
+    fn fate(&mut self) -> Fate
+        ensures value { result ≡ fate_by ((pcg32 self.old.words).0 % 256) self.old.lost self.old.doubled }
+        ensures next { self.new ≡ record self.old { words = (pcg32 self.old.words).1 } }
+        ensures never_lost { self.old.lost ≡ 0 → result ≢ Fate.Drop }
+        ensures never_repeated { self.old.doubled ≡ 0 → result ≢ Fate.Twice }
+        ensures always_lost { self.old.lost ≡ 256 → result ≡ Fate.Drop }
+        ensures always_repeated { self.old.lost ≡ 0 → self.old.doubled ≡ 256 → result ≡ Fate.Twice }
+    {
+        let word = self.words.next_word();
+        fate_of(word, self.lost, self.doubled)
+    }
+}
+
+/// The fate by a word.
+fn fate_of(word: u32, lost: u16, doubled: u16) -> Fate
+    ensures { result ≡ fate_by (word % 256) lost doubled }
+{
+    let byte = word % 256;
+    let lost = u32::from(lost);
+    if byte < lost {
+        Fate::Drop
+    } else if byte < lost + u32::from(doubled) {
+        Fate::Twice
+    } else {
+        Fate::Pass
+    }
+}
