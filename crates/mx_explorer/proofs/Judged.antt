@@ -3,7 +3,7 @@ use Rattle.std.proofs.Common.{ℕ, zero, suc, ◌≡◌, ◌↔◌, ◌+◌, ◌
 use Rattle.std.proofs.lemmas.List.{drop_all}
 use Rattle.mx_stamps.proofs.Lists.{none_is_no_some}
 use Rattle.mx_journal.proofs.Choices.{drop_here}
-use Rattle.mx_member.specs.Sections.{Mark, Came, Got, Wrote, Went, Woke, Section, after_marks}
+use Rattle.mx_member.specs.Sections.{Mark, Section, after_marks}
 use Rattle.mx_member.specs.Serial.{AllClosed, AllFit}
 use Rattle.mx_network.specs.declared.event.Event.{Event}
 use Rattle.mx_network.specs.declared.event.Event.TheVariants.{Enter, Read, Write, Leave, Restart}
@@ -17,7 +17,7 @@ use Rattle.mx_explorer.specs.declared.verdict.Clause.TheVariants.{Overlap, Numbe
 use Rattle.mx_explorer.specs.declared.verdict.Verdict.{Verdict}
 use Rattle.mx_explorer.specs.declared.verdict.Verdict.TheVariants.{Sound, Broken}
 use Rattle.mx_explorer.specs.Verdict.{Breaks, IsFirstBroken, IsSoundTrace}
-use Rattle.mx_explorer.specs.Ledger.{broken_at, broken_by, older}
+use Rattle.mx_explorer.specs.Ledger.{broken_at, older}
 use Rattle.mx_explorer.proofs.Marks.{SoundFrom, BreaksFrom, Passes, breaks_one, broken_behind, fitting_breaks_nothing, mark_breaks, mark_passes, nothing_passes, sound_behind, sound_breaks_none, sound_breaks_nothing}
 
 -- the verdict of items with one more before them
@@ -171,9 +171,10 @@ broken_at_once ss e es c found zero d =
     let ms = mark_of e.event e.outcome in
     let breaks = item_breaks ss ms c (at_most_one e.event e.outcome) found in
     (λ q. (nothing_yet ss, subst (λ x. BreaksFrom x ss (ms ++ [])) (broken_parts 0 0 c d q).1 breaks), λ h. ap (λ x. Broken 0 x) (breaks_one c d ss (ms ++ []) breaks h.1))
-broken_at_once ss e es c found (suc k) d =
-    (λ q. let parts = broken_parts 0 (suc k) c d q in absurd (omega (arith, parts.0)),
-    λ h. absurd (none_is_no_some c (sym (sound_item ss (mark_of e.event e.outcome) (marks (take k es)) h.0) ∙ found)))
+broken_at_once ss e es c found (suc k) d = (
+  λ q. let parts = broken_parts 0 (suc k) c d q in absurd (omega (arith, parts.0)),
+  λ h. absurd (none_is_no_some c (sym (sound_item ss (mark_of e.event e.outcome) (marks (take k es)) h.0) ∙ found)),
+)
 
 exact_at_once : (ss : List Section) (e : Entry) (es : List Entry) (c : Clause) → broken_at ss (mark_of e.event e.outcome) ≡ Some c → IsExact ss (Broken 0 c) (e ∷ es)
 exact_at_once ss e es c found = record {
@@ -216,10 +217,11 @@ serial_is_sound ss (e ∷ es) h f =
 pub whole : (trace : List Entry) (v : Verdict) → judged [] trace ≡ v
     → ((v ≡ Sound) ↔ IsSoundTrace trace) × ((k : ℕ) (c : Clause) → (v ≡ Broken k c) ↔ IsFirstBroken trace k c) × (IsSerial trace → v ≡ Sound)
 whole trace v is =
-    let x = exact [] trace tt in
-    (
+    let x = exact [] trace tt in (
       (λ q. let s = x.sound.0 (is ∙ q) in (s.exclusive, s.numbered, s.serial), λ s. sym is ∙ x.sound.1 (record { exclusive = s.0; numbered = s.1; serial = s.2 })),
-      λ k c. (λ q. let b = (x.broken k c).0 (is ∙ q) in ((b.0.exclusive, b.0.numbered, b.0.serial), whole_breaks c (take (suc k) trace) b.1),
-      λ b. sym is ∙ (x.broken k c).1 (record { exclusive = b.0.0; numbered = b.0.1; serial = b.0.2 }, breaks_whole c (take (suc k) trace) b.1)),
-      λ f. sym is ∙ serial_is_sound [] trace tt f
+      λ k c. (
+        λ q. let b = (x.broken k c).0 (is ∙ q) in ((b.0.exclusive, b.0.numbered, b.0.serial), whole_breaks c (take (suc k) trace) b.1),
+        λ b. sym is ∙ (x.broken k c).1 (record { exclusive = b.0.0; numbered = b.0.1; serial = b.0.2 }, breaks_whole c (take (suc k) trace) b.1),
+      ),
+      λ f. sym is ∙ serial_is_sound [] trace tt f,
     )

@@ -1,7 +1,7 @@
 -- What a ledger tells after a mark.
-use Rattle.std.proofs.Common.{ℕ, zero, suc, ◌≡◌, ◌≢◌, ◌<◌, ◌⊎◌, inl, inr, ◌&&◌, Bool, true, false, cond, not, List, [], ◌∷◌, ◌++◌, Option, Some, None, length, replicate, get_or, slice_set, nat_eq, refl, sym, ◌∙◌, ap, subst, arith, get_or-set_same, get_or-set_other}
+use Rattle.std.proofs.Common.{ℕ, ◌≡◌, ◌<◌, inl, inr, ◌&&◌, Bool, true, false, cond, not, List, [], ◌∷◌, ◌++◌, Some, None, length, replicate, get_or, slice_set, nat_eq, refl, sym, ◌∙◌, ap, subst, arith, get_or-set_same, get_or-set_other}
 use Rattle.std.proofs.lemmas.List.{get_or-replicate, length-replicate, length-set}
-use Rattle.mx_stamps.proofs.Lists.{append_append, dec_eq, and_true}
+use Rattle.mx_stamps.proofs.Lists.{append_append, dec_eq}
 use Rattle.mx_journal.proofs.Choices.{cond_true, cond_false, eq_is, eq_not}
 use Rattle.mx_journal.specs.declared.records.Write.{Write}
 use Rattle.mx_journal.specs.Drafted.{with_write}
@@ -24,17 +24,18 @@ first_ledger = record { inside = refl; last = refl; left = tt; held = shows_blan
 
 -- one write more
 pub shows_more : (ws : List Write) (values : List ℕ) (w : Write) → w.register < 256 → Shows ws values → Shows (ws ++ w ∷ []) (slice_set values w.register w.value)
-shows_more ws values w lt h =
-    (length-set values w.register w.value ∙ h.0,
-    λ r l. elim (dec_eq r w.register) [
-      | inl e ↦
+shows_more ws values w lt h = (
+  length-set values w.register w.value ∙ h.0,
+  λ r l. elim (dec_eq r w.register) [
+    | inl e ↦
         let room : w.register < length values = omega (arith, h.0) in
         ap (λ k. get_or (slice_set values w.register w.value) k 0) e ∙ get_or-set_same values w.register w.value 0 room
         ∙ sym (applied_more r ws w 0 ∙ cond_true (nat_eq w.register r) w.value (applied r ws 0) (eq_is w.register r (sym e)))
-      | inr ne ↦
+    | inr ne ↦
         get_or-set_other values w.register r w.value 0 ne ∙ h.1 r l
         ∙ sym (applied_more r ws w 0 ∙ cond_false (nat_eq w.register r) w.value (applied r ws 0) (eq_not w.register r (λ e. ne (sym e))))
-    ])
+  ],
+)
 
 and_never : (b : Bool) → (b && false) ≡ false
 and_never true = refl
@@ -73,7 +74,7 @@ ledger_written (s ∷ ss) l i r v lt h e =
     let inside : is_node i (holder (s ∷ ss)) ≡ true = ap (is_node i) (sym h.inside) ∙ e in
     let w : Write = record { register = r; value = v } in
     let shown : Shows (writes_in ss ++ (s.draft.writes ++ w ∷ [])) (slice_set l.held r v) =
-        subst (λ ws. Shows ws (slice_set l.held r v)) (append_append (writes_in ss) s.draft.writes (w ∷ [])) (shows_more (writes_in (s ∷ ss)) l.held w lt h.held) in
+    subst (λ ws. Shows ws (slice_set l.held r v)) (append_append (writes_in ss) s.draft.writes (w ∷ [])) (shows_more (writes_in (s ∷ ss)) l.held w lt h.held) in
     subst (λ after. IsLedgerOf after (record l { held = slice_set l.held r v })) (sym (moved i (redrafted (with_write r v)) s ss inside))
     (record { inside = h.inside; last = h.last; left = h.left; held = shown; before = h.before })
 

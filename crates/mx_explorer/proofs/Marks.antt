@@ -1,5 +1,5 @@
 -- What is left to say of a history after a mark that breaks nothing, and what a mark breaks.
-use Rattle.std.proofs.Common.{ℕ, zero, suc, ◌≡◌, ◌↔◌, ◌&&◌, Bool, true, false, cond, not, List, [], ◌∷◌, ◌++◌, Option, Some, None, length, nat_eq, refl, sym, ◌∙◌, ap, subst, arith}
+use Rattle.std.proofs.Common.{ℕ, suc, ◌≡◌, ◌↔◌, ◌&&◌, Bool, true, false, cond, not, List, [], ◌∷◌, ◌++◌, Option, Some, None, length, nat_eq, refl, sym, ◌∙◌, ap, subst}
 use Rattle.std.proofs.lemmas.Option.{same_Some}
 use Rattle.mx_stamps.proofs.Lists.{and_true, none_is_no_some}
 use Rattle.mx_journal.proofs.Choices.{cond_true, eq_true, eq_is}
@@ -7,13 +7,13 @@ use Rattle.mx_journal.specs.declared.receipts.Receipt.{Receipt}
 use Rattle.mx_journal.specs.Drafted.{Drafted, with_read, with_write}
 use Rattle.mx_registers.specs.Registers.{applied}
 use Rattle.mx_member.specs.Member.{fresh}
-use Rattle.mx_member.specs.Sections.{Mark, Came, Got, Wrote, Went, Woke, Section, after_mark, after_marks, at_open, closing, opened, redrafted, writes_in, section_receipt}
-use Rattle.mx_member.specs.Serial.{AllClosed, AllFit, Alternate, Fits, IsInNewest, NumberedFrom}
+use Rattle.mx_member.specs.Sections.{Mark, Came, Got, Wrote, Went, Woke, Section, after_marks, at_open, closing, redrafted, writes_in}
+use Rattle.mx_member.specs.Serial.{AllClosed, Alternate, Fits, IsInNewest, NumberedFrom}
 use Rattle.mx_explorer.specs.declared.verdict.Clause.{Clause}
 use Rattle.mx_explorer.specs.declared.verdict.Clause.TheVariants.{Overlap, Number, Read}
 use Rattle.mx_explorer.specs.Verdict.{ReadsFit}
-use Rattle.mx_explorer.specs.Ledger.{at_entry, broken_at, broken_by, holder, is_node, older}
-use Rattle.mx_explorer.proofs.Ledgers.{at_closed, moved, unmoved}
+use Rattle.mx_explorer.specs.Ledger.{at_entry, broken_by, holder, is_node, older}
+use Rattle.mx_explorer.proofs.Ledgers.{at_closed, moved}
 
 -- the node inside the newest section, with its number
 abbrev pub standing : List Section → Option (ℕ × ℕ)
@@ -151,10 +151,11 @@ redrafting : (i : ℕ) (f : Drafted → Drafted) (ss : List Section) → AllClos
     → ((rest : List Mark) → Alternate (standing ss) rest ↔ Alternate (standing (at_open i (redrafted f) ss)) rest)
     × ((rest : List Mark) → NumberedFrom (suc (length ss)) rest ↔ NumberedFrom (suc (length (at_open i (redrafted f) ss))) rest)
     × AllClosed (older (at_open i (redrafted f) ss))
-redrafting i f ss h =
-    (λ rest. along (λ st. Alternate st rest) (standing ss) (standing (at_open i (redrafted f) ss)) (sym (standing_redrafted i f ss)),
-    λ rest. along (λ n. NumberedFrom (suc n) rest) (length ss) (length (at_open i (redrafted f) ss)) (sym (length_at_open i (redrafted f) ss)),
-    older_at_open i (redrafted f) ss h)
+redrafting i f ss h = (
+  λ rest. along (λ st. Alternate st rest) (standing ss) (standing (at_open i (redrafted f) ss)) (sym (standing_redrafted i f ss)),
+  λ rest. along (λ n. NumberedFrom (suc n) rest) (length ss) (length (at_open i (redrafted f) ss)) (sym (length_at_open i (redrafted f) ss)),
+  older_at_open i (redrafted f) ss h,
+)
 
 -- a mark that breaks nothing
 pub mark_passes : (ss : List Section) (m : Mark) → AllClosed (older ss) → broken_by ss m ≡ None → Passes ss (m ∷ [])
@@ -188,7 +189,7 @@ mark_passes ss (Went i receipt) h e =
     let number = eq_true receipt.number (length ss) fits.1 in
     record {
       exclusive = λ rest. both (along (λ st. Alternate st (Went i receipt ∷ rest)) (standing ss) (Some (i, length ss)) (node_inside i ss fits.0).0)
-        (both (λ p. p.2, λ q. (refl, number, q)) (along (λ st. Alternate st rest) None (standing (at_open i closing ss)) (sym (gone i ss fits.0))));
+          (both (λ p. p.2, λ q. (refl, number, q)) (along (λ st. Alternate st rest) None (standing (at_open i closing ss)) (sym (gone i ss fits.0))));
       numbered = λ rest. along (λ n. NumberedFrom (suc n) rest) (length ss) (length (at_open i closing ss)) (sym (length_at_open i closing ss));
       serial = λ rest. (λ r. r, λ r. r);
       left = older_at_open i closing ss h;
@@ -268,9 +269,10 @@ sound_breaks_none Read ss ms h b = b.2 h.serial
 
 -- a history is as sound, and as broken, behind marks that pass
 pub sound_behind : (ss : List Section) (ms rest : List Mark) → Passes ss ms → SoundFrom ss (ms ++ rest) ↔ SoundFrom (after_marks ss ms) rest
-sound_behind ss ms rest p =
-    (λ h. record { exclusive = (p.exclusive rest).0 h.exclusive; numbered = (p.numbered rest).0 h.numbered; serial = (p.serial rest).0 h.serial },
-    λ h. record { exclusive = (p.exclusive rest).1 h.exclusive; numbered = (p.numbered rest).1 h.numbered; serial = (p.serial rest).1 h.serial })
+sound_behind ss ms rest p = (
+  λ h. record { exclusive = (p.exclusive rest).0 h.exclusive; numbered = (p.numbered rest).0 h.numbered; serial = (p.serial rest).0 h.serial },
+  λ h. record { exclusive = (p.exclusive rest).1 h.exclusive; numbered = (p.numbered rest).1 h.numbered; serial = (p.serial rest).1 h.serial },
+)
 
 pub broken_behind : (c : Clause) (ss : List Section) (ms rest : List Mark) → Passes ss ms → BreaksFrom c ss (ms ++ rest) ↔ BreaksFrom c (after_marks ss ms) rest
 broken_behind Overlap ss ms rest p = (λ b a. b ((p.exclusive rest).1 a), λ b a. b ((p.exclusive rest).0 a))

@@ -1,12 +1,12 @@
 -- Drawn events name nodes and registers that are there.
-use Rattle.std.proofs.Common.{ℕ, zero, suc, ◌≡◌, ◌<◌, ◌%◌, inl, inr, List, [], ◌∷◌, sym, subst, arith}
+use Rattle.std.proofs.Common.{ℕ, zero, suc, ◌<◌, ◌%◌, inl, inr, sym, subst}
 use Rattle.std.proofs.Math.Nat.{mod-lt}
 use Rattle.rand_pcg.specs.Lcg.{Lcg}
 use Rattle.mx_network.specs.declared.event.Event.{Event}
 use Rattle.mx_stamps.specs.Lists.{IsIn}
 use Rattle.mx_explorer.specs.declared.kind.Kind.{Kind}
 use Rattle.mx_explorer.specs.declared.kind.Kind.TheVariants.{Ask, Enter, Read, Write, Leave, Tick, Want, Restart, Deliver}
-use Rattle.mx_explorer.specs.Drawn.{IsDrawn, after_drawn, after_words, drawn, drawn_list, event_of, kind_by, word}
+use Rattle.mx_explorer.specs.Drawn.{IsDrawn, after_drawn, after_words, drawn_list, event_of, kind_by, word}
 
 below : (x n : ℕ) → 0 < n → x % n < n
 below x n pos = mod-lt x pos

@@ -1,8 +1,8 @@
 -- What judging remembers of the items before, and what it finds at a mark.
-use Rattle.std.specs.Prelude.{ℕ, suc, ◌≡◌, ◌<◌, ◌&&◌, Bool, true, false, not, List, [], ◌∷◌, Option, Some, None, length, nat_eq, slice_index, if◌then◌else◌}
+use Rattle.std.specs.Prelude.{ℕ, suc, ◌≡◌, ◌<◌, ◌&&◌, Bool, false, List, [], ◌∷◌, Option, Some, None, length, nat_eq, slice_index, if◌then◌else◌}
 use Rattle.mx_journal.specs.declared.records.Write.{Write}
 use Rattle.mx_registers.specs.Registers.{applied}
-use Rattle.mx_member.specs.Sections.{Mark, Came, Got, Wrote, Went, Woke, Section, after_mark, after_marks, writes_in}
+use Rattle.mx_member.specs.Sections.{Mark, Came, Got, Wrote, Went, Woke, Section, after_marks, writes_in}
 use Rattle.mx_member.specs.Serial.{AllClosed}
 use Rattle.mx_explorer.specs.declared.ledger.Ledger.{Ledger}
 use Rattle.mx_explorer.specs.declared.verdict.Clause.{Clause}

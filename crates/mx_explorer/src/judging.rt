@@ -16,9 +16,7 @@ use mx_network::Entry;
 /// section. No memory is taken; the time is that of one pass.
 pub fn judge(trace: &[Entry]) -> Verdict
     ensures sound { (result ≡ Verdict.Sound) ↔ IsSoundTrace trace.now }
-    ensures broken {
-        (k : ℕ) (c : Clause) → ((result ≡ Verdict.Broken k c) ↔ IsFirstBroken trace.now k c)
-    }
+    ensures broken { (k : ℕ) (c : Clause) → ((result ≡ Verdict.Broken k c) ↔ IsFirstBroken trace.now k c) }
     ensures serial { IsSerial trace.now → result ≡ Verdict.Sound }
 {
     let mut ledger = Ledger::new();

@@ -1,8 +1,7 @@
 //! The fates of parcels, drawn from a seed.
 
 ghost use Rattle.std.specs.Prelude.{◌≡◌, ◌≢◌, ◌+◌, ◌≤◌, ◌%◌};
-ghost use Rattle.rand_pcg.specs.Pcg.{pcg32};
-ghost use Rattle.mx_explorer.specs.Weather.{Climate, fate_by, generator_of};
+ghost use Rattle.mx_explorer.specs.Weather.{Climate, after_fate, fate_by, fate_in, generator_of};
 
 use mx_letters::{Fate, Fates};
 use rand_core::SeedableRng;
@@ -45,8 +44,8 @@ impl Weather {
 impl Fates for Weather {
     /// The fate by the next word.
     fn fate(&mut self) -> Fate
-        ensures value { result ≡ fate_by ((pcg32 self.old.words).0 % 256) self.old.lost self.old.doubled }
-        ensures next { self.new ≡ record self.old { words = (pcg32 self.old.words).1 } }
+        ensures value { result ≡ fate_in self.old }
+        ensures next { self.new ≡ after_fate self.old }
         ensures never_lost { self.old.lost ≡ 0 → result ≢ Fate.Drop }
         ensures never_repeated { self.old.doubled ≡ 0 → result ≢ Fate.Twice }
         ensures always_lost { self.old.lost ≡ 256 → result ≡ Fate.Drop }

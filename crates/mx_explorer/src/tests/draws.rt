@@ -9,6 +9,7 @@ use rand_pcg::Pcg32;
 use std::test::Fail;
 
 const NODES: u8 = 5;
+
 const REGISTERS: u8 = 3;
 
 fn next_of<F: Fates>(fates: &mut F) -> Fate {

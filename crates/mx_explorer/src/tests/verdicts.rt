@@ -72,7 +72,10 @@ fn verdicts_on_short_traces(rt: HostRuntime) -> Result<(), Fail> {
 #[test]
 fn a_leaving_is_of_the_node_inside_with_its_number(rt: HostRuntime) -> Result<(), Fail> {
     let alloc = rt.alloc();
-    let sound = verdict(alloc, [entered(1, 1), left(1, 1), entered(0, 2), left(0, 2)])?;
+    let sound = verdict(
+        alloc,
+        [entered(1, 1), left(1, 1), entered(0, 2), left(0, 2)],
+    )?;
     assert_eq!(rt; sound, Verdict::Sound);
     let another_node = verdict(alloc, [entered(0, 1), left(1, 1)])?;
     assert_eq!(rt; another_node, Verdict::Broken(1, Clause::Overlap));
@@ -143,7 +146,10 @@ fn waking_up_forgets_own_writes(rt: HostRuntime) -> Result<(), Fail> {
     ];
     assert_eq!(rt; verdict(alloc, forgotten)?, Verdict::Sound);
     let remembered = [entered(0, 1), written(0, 0, 8), woken(0), value(0, 0, 8)];
-    assert_eq!(rt; verdict(alloc, remembered)?, Verdict::Broken(3, Clause::Read));
+    assert_eq!(rt;
+        verdict(alloc, remembered)?,
+        Verdict::Broken(3, Clause::Read)
+    );
     // another node's waking up changes nothing
     let another = [entered(0, 1), written(0, 0, 8), woken(1), value(0, 0, 8)];
     assert_eq!(rt; verdict(alloc, another)?, Verdict::Sound);

@@ -1,4 +1,4 @@
-use Rattle.std.proofs.Common.{ℕ, suc, ◌≡◌, ◌+◌, ◌++◌, [], ◌∷◌, refl, sym, ◌∙◌, ap, subst, arith}
+use Rattle.std.proofs.Common.{suc, ◌≡◌, ◌+◌, ◌++◌, [], ◌∷◌, sym, ◌∙◌, ap, subst, arith}
 use Rattle.mx_stamps.specs.Lists.{IsIn}
 use Rattle.mx_stamps.proofs.Lists.{append_append, append_nil}
 use Rattle.mx_explorer.specs.Drawn.{drawn, drawn_list}
@@ -14,11 +14,11 @@ loop-preserved c =
     record {
       count = c.in_ok-push.ensures.len ∙ ap (λ n. n + 1) c.loop.invariant.count;
       value = λ rest is.
-        ap (λ l. l ++ drawn_list rest nodes registers c.draw.new.words) c.in_ok-push.ensures.items
-        ∙ append_append items (c.draw.result ∷ []) (drawn_list rest nodes registers c.draw.new.words)
-        ∙ ap (λ e. items ++ e ∷ drawn_list rest nodes registers c.draw.new.words) c.draw.ensures.value
-        ∙ ap (λ g. items ++ drawn nodes registers c.loop.words ∷ drawn_list rest nodes registers g) c.draw.ensures.next
-        ∙ c.loop.invariant.value (suc rest) (omega (arith, is));
+          ap (λ l. l ++ drawn_list rest nodes registers c.draw.new.words) c.in_ok-push.ensures.items
+          ∙ append_append items (c.draw.result ∷ []) (drawn_list rest nodes registers c.draw.new.words)
+          ∙ ap (λ e. items ++ e ∷ drawn_list rest nodes registers c.draw.new.words) c.draw.ensures.value
+          ∙ ap (λ g. items ++ drawn nodes registers c.loop.words ∷ drawn_list rest nodes registers g) c.draw.ensures.next
+          ∙ c.loop.invariant.value (suc rest) (omega (arith, is));
     }
 
 whole : (c : goal.After-loop) → c.loop.events.items ≡ drawn_list c.args.steps c.args.nodes c.args.registers (generator_of c.args.seed)

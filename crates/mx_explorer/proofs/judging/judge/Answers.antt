@@ -23,9 +23,11 @@ pub loop-index-preserved : goal.loop-index-preserved
 loop-index-preserved c =
     let inv = c.loop-index.invariant in
     let e = c.index-trace-index.result in
-    let taken = c.take.ensures inv.0 inv.1 in
-    (after_marks inv.0 (mark_of e.event e.outcome), taken.1 c.in_default.is,
-    inv.2 ∙ nothing_here inv.0 c.args.trace.now c.loop-index.index e c.loop-index-test.true c.index-trace-index.is (sym taken.0 ∙ c.in_default.is))
+    let taken = c.take.ensures inv.0 inv.1 in (
+      after_marks inv.0 (mark_of e.event e.outcome),
+      taken.1 c.in_default.is,
+      inv.2 ∙ nothing_here inv.0 c.args.trace.now c.loop-index.index e c.loop-index-test.true c.index-trace-index.is (sym taken.0 ∙ c.in_default.is),
+    )
 
 sound : (c : goal.After-loop-index) → judged [] c.args.trace.now ≡ Sound
 sound c =
