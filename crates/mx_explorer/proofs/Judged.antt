@@ -18,7 +18,8 @@ use Rattle.mx_explorer.specs.declared.verdict.Verdict.{Verdict}
 use Rattle.mx_explorer.specs.declared.verdict.Verdict.TheVariants.{Sound, Broken}
 use Rattle.mx_explorer.specs.Verdict.{Breaks, IsFirstBroken, IsSoundTrace}
 use Rattle.mx_explorer.specs.Ledger.{broken_at, older}
-use Rattle.mx_explorer.proofs.Marks.{SoundFrom, BreaksFrom, Passes, breaks_one, broken_behind, fitting_breaks_nothing, mark_breaks, mark_passes, nothing_passes, sound_behind, sound_breaks_none, sound_breaks_nothing}
+use Rattle.mx_explorer.proofs.Marks.{SoundFrom, BreaksFrom, Passes, breaks_one, broken_behind, mark_passes, nothing_passes, sound_behind, sound_breaks_none}
+use Rattle.mx_explorer.proofs.Faults.{fitting_breaks_nothing, mark_breaks, sound_breaks_nothing}
 
 -- the verdict of items with one more before them
 abbrev pub later : Verdict → Verdict

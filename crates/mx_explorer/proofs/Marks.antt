@@ -1,14 +1,12 @@
--- What is left to say of a history after a mark that breaks nothing, and what a mark breaks.
+-- What is left to say of a history after a mark that breaks nothing.
 use Rattle.std.proofs.Common.{ℕ, suc, ◌≡◌, ◌↔◌, ◌&&◌, Bool, true, false, cond, not, List, [], ◌∷◌, ◌++◌, Option, Some, None, length, nat_eq, refl, sym, ◌∙◌, ap, subst}
-use Rattle.std.proofs.lemmas.Option.{same_Some}
-use Rattle.mx_stamps.proofs.Lists.{and_true, none_is_no_some}
-use Rattle.mx_journal.proofs.Choices.{cond_true, eq_true, eq_is}
-use Rattle.mx_journal.specs.declared.receipts.Receipt.{Receipt}
+use Rattle.mx_stamps.proofs.Lists.{and_true}
+use Rattle.mx_journal.proofs.Choices.{eq_true}
 use Rattle.mx_journal.specs.Drafted.{Drafted, with_read, with_write}
 use Rattle.mx_registers.specs.Registers.{applied}
 use Rattle.mx_member.specs.Member.{fresh}
 use Rattle.mx_member.specs.Sections.{Mark, Came, Got, Wrote, Went, Woke, Section, after_marks, at_open, closing, redrafted, writes_in}
-use Rattle.mx_member.specs.Serial.{AllClosed, Alternate, Fits, IsInNewest, NumberedFrom}
+use Rattle.mx_member.specs.Serial.{AllClosed, Alternate, IsInNewest, NumberedFrom}
 use Rattle.mx_explorer.specs.declared.verdict.Clause.{Clause}
 use Rattle.mx_explorer.specs.declared.verdict.Clause.TheVariants.{Overlap, Number, Read}
 use Rattle.mx_explorer.specs.Verdict.{ReadsFit}
@@ -39,7 +37,7 @@ pub record Passes (ss : List Section) (ms : List Mark) : Type 0 where
   pub serial : (rest : List Mark) → ReadsFit ss (ms ++ rest) ↔ ReadsFit (after_marks ss ms) rest
   pub left : AllClosed (older (after_marks ss ms))
 
-pub length_at_open : (i : ℕ) (f : Section → Section) (ss : List Section) → length (at_open i f ss) ≡ length ss
+length_at_open : (i : ℕ) (f : Section → Section) (ss : List Section) → length (at_open i f ss) ≡ length ss
 length_at_open i f [] = refl
 length_at_open i f (s ∷ ss) = elim (nat_eq s.node i && not s.closed) as (λ b. length (cond b (f s ∷ ss) (s ∷ at_open i f ss)) ≡ suc (length ss)) [
   | true ↦ refl
@@ -47,7 +45,7 @@ length_at_open i f (s ∷ ss) = elim (nat_eq s.node i && not s.closed) as (λ b.
 ]
 
 -- all but the newest section are left after a change of the open one
-pub older_at_open : (i : ℕ) (f : Section → Section) (ss : List Section) → AllClosed (older ss) → AllClosed (older (at_open i f ss))
+older_at_open : (i : ℕ) (f : Section → Section) (ss : List Section) → AllClosed (older ss) → AllClosed (older (at_open i f ss))
 older_at_open i f [] h = tt
 older_at_open i f (s ∷ ss) h = elim (nat_eq s.node i && not s.closed) as (λ b. AllClosed (older (cond b (f s ∷ ss) (s ∷ at_open i f ss)))) [
   | true ↦ h
@@ -55,7 +53,7 @@ older_at_open i f (s ∷ ss) h = elim (nat_eq s.node i && not s.closed) as (λ b
 ]
 
 -- what a node does in its section leaves it inside
-pub standing_redrafted : (i : ℕ) (f : Drafted → Drafted) (ss : List Section) → standing (at_open i (redrafted f) ss) ≡ standing ss
+standing_redrafted : (i : ℕ) (f : Drafted → Drafted) (ss : List Section) → standing (at_open i (redrafted f) ss) ≡ standing ss
 standing_redrafted i f [] = refl
 standing_redrafted i f (s ∷ ss) = elim (nat_eq s.node i && not s.closed) as (λ b. standing (cond b (redrafted f s ∷ ss) (s ∷ at_open i (redrafted f) ss)) ≡ standing (s ∷ ss)) [
   | true ↦ refl
@@ -73,16 +71,6 @@ cond_none : (b : Bool) (c : Clause) → cond b None (Some c) ≡ None → b ≡ 
 cond_none true c e = refl
 cond_none false c e = let bad : ⊥ = cc in absurd bad
 
-cond_some : (b : Bool) (c d : Clause) → cond b None (Some c) ≡ Some d → (b ≡ false) × (c ≡ d)
-cond_some true c d e = absurd (none_is_no_some d e)
-cond_some false c d e = (refl, same_Some c d e)
-
-and_is : (a b : Bool) → a ≡ true → b ≡ true → (a && b) ≡ true
-and_is a b x y = ap (λ c. c && b) x ∙ y
-
-true_is_not_false : (b : Bool) → b ≡ true → b ≡ false → ⊥
-true_is_not_false b t f = cc
-
 -- the same by cases of whether the newest section is left
 shut_of : (closed : Bool) (node : ℕ) → cond closed None (Some node) ≡ None → closed ≡ true
 shut_of true node e = refl
@@ -92,25 +80,13 @@ open_of : (closed : Bool) (node i : ℕ) → is_node i (cond closed None (Some n
 open_of true node i e = let bad : ⊥ = cc in absurd bad
 open_of false node i e = (refl, eq_true node i e)
 
-free_of : (closed : Bool) (node i n k : ℕ) (rest : List Mark) → Alternate (cond closed None (Some (node, k))) (Came i n ∷ rest) → cond closed None (Some node) ≡ None
-free_of true node i n k rest a = refl
-free_of false node i n k rest a = absurd a
-
-leaving_of : (closed : Bool) (node i k : ℕ) (receipt : Receipt) (rest : List Mark) → Alternate (cond closed None (Some (node, k))) (Went i receipt ∷ rest) → (is_node i (cond closed None (Some node)) && nat_eq receipt.number k) ≡ true
-leaving_of true node i k receipt rest a = absurd a
-leaving_of false node i k receipt rest a = and_is (nat_eq node i) (nat_eq receipt.number k) (eq_is node i (sym a.0)) (eq_is receipt.number k a.1)
-
-closed_holder : (ss : List Section) → AllClosed ss → holder ss ≡ None
-closed_holder [] h = refl
-closed_holder (s ∷ ss) h = ap (λ b. cond b None (Some s.node)) h.0
-
 -- nobody is inside once node i, which was, has left
 gone : (i : ℕ) (ss : List Section) → is_node i (holder ss) ≡ true → standing (at_open i closing ss) ≡ None
 gone i [] e = refl
 gone i (s ∷ ss) e = ap standing (moved i closing s ss e)
 
 -- who is inside, by the newest section: nobody, then all sections were left
-standing_none : (ss : List Section) → holder ss ≡ None → standing ss ≡ None
+pub standing_none : (ss : List Section) → holder ss ≡ None → standing ss ≡ None
 standing_none [] e = refl
 standing_none (s ∷ ss) e = ap (λ b. cond b None (Some (s.node, suc (length ss)))) (shut_of s.closed s.node e)
 
@@ -119,17 +95,13 @@ all_closed [] h e = tt
 all_closed (s ∷ ss) h e = (shut_of s.closed s.node e, h)
 
 -- node i, then it bears the number of sections so far
-pub node_inside : (i : ℕ) (ss : List Section) → is_node i (holder ss) ≡ true → (standing ss ≡ Some (i, length ss)) × IsInNewest i ss
+node_inside : (i : ℕ) (ss : List Section) → is_node i (holder ss) ≡ true → (standing ss ≡ Some (i, length ss)) × IsInNewest i ss
 node_inside i [] e = let bad : ⊥ = cc in absurd bad
 node_inside i (s ∷ ss) e =
     let o = open_of s.closed s.node i e in
     (ap (λ b. cond b None (Some (s.node, suc (length ss)))) o.0 ∙ ap (λ j. Some (j, suc (length ss))) o.1, (o.1, o.0))
 
-pub inside_newest : (i : ℕ) (ss : List Section) → IsInNewest i ss → is_node i (holder ss) ≡ true
-inside_newest i [] h = absurd h
-inside_newest i (s ∷ ss) h = ap (λ b. is_node i (cond b None (Some s.node))) h.1 ∙ eq_is s.node i h.0
-
-alternate_got : (st : Option (ℕ × ℕ)) (i r v : ℕ) (rest : List Mark) → Alternate st (Got i r v ∷ rest) ↔ Alternate st rest
+pub alternate_got : (st : Option (ℕ × ℕ)) (i r v : ℕ) (rest : List Mark) → Alternate st (Got i r v ∷ rest) ↔ Alternate st rest
 alternate_got None i r v rest = (λ a. a, λ a. a)
 alternate_got (Some p) i r v rest = (λ a. a, λ a. a)
 
@@ -206,49 +178,6 @@ mark_passes ss (Woke i) h e =
 pub nothing_passes : (ss : List Section) → AllClosed (older ss) → Passes ss []
 nothing_passes ss h = record { exclusive = λ rest. (λ a. a, λ a. a); numbered = λ rest. (λ a. a, λ a. a); serial = λ rest. (λ a. a, λ a. a); left = h }
 
--- an entry is into an empty section
-free_at_entry : (i n : ℕ) (ss : List Section) (rest : List Mark) → Alternate (standing ss) (Came i n ∷ rest) → holder ss ≡ None
-free_at_entry i n [] rest a = refl
-free_at_entry i n (s ∷ ss) rest a = free_of s.closed s.node i n (suc (length ss)) rest a
-
--- a leaving is by the node inside, with its number
-leaving_fits : (i : ℕ) (receipt : Receipt) (ss : List Section) (rest : List Mark) → Alternate (standing ss) (Went i receipt ∷ rest) → (is_node i (holder ss) && nat_eq receipt.number (length ss)) ≡ true
-leaving_fits i receipt [] rest a = absurd a
-leaving_fits i receipt (s ∷ ss) rest a = leaving_of s.closed s.node i (suc (length ss)) receipt rest a
-
-reading_fits : (i r v : ℕ) (ss : List Section) → IsInNewest i ss → v ≡ applied r (writes_in ss) 0 → (is_node i (holder ss) && nat_eq v (applied r (writes_in ss) 0)) ≡ true
-reading_fits i r v ss inside value = and_is (is_node i (holder ss)) (nat_eq v (applied r (writes_in ss) 0)) (inside_newest i ss inside) (eq_is v (applied r (writes_in ss) 0) value)
-
--- the first mark of a sound history breaks nothing
-pub sound_breaks_nothing : (ss : List Section) (m : Mark) (rest : List Mark) → SoundFrom ss (m ∷ rest) → broken_by ss m ≡ None
-sound_breaks_nothing ss (Came i n) rest h =
-    ap (λ o. at_entry o (suc (length ss)) n) (free_at_entry i n ss rest h.exclusive) ∙ cond_true (nat_eq n (suc (length ss))) None (Some Number) (eq_is n (suc (length ss)) h.numbered.0)
-sound_breaks_nothing ss (Got i r v) rest h =
-    cond_true (is_node i (holder ss) && nat_eq v (applied r (writes_in ss) 0)) None (Some Read) (reading_fits i r v ss h.serial.0 h.serial.1)
-sound_breaks_nothing ss (Wrote i r v) rest h = refl
-sound_breaks_nothing ss (Went i receipt) rest h =
-    cond_true (is_node i (holder ss) && nat_eq receipt.number (length ss)) None (Some Overlap) (leaving_fits i receipt ss rest h.exclusive)
-sound_breaks_nothing ss (Woke i) rest h = refl
-
--- a mark that breaks a clause
-pub mark_breaks : (ss : List Section) (m : Mark) (c : Clause) → broken_by ss m ≡ Some c → BreaksFrom c ss (m ∷ [])
-mark_breaks ss (Came i n) c e = entry_breaks (holder ss) refl e where
-  entry_breaks : (o : Option ℕ) → holder ss ≡ o → at_entry o (suc (length ss)) n ≡ Some c → BreaksFrom c ss (Came i n ∷ [])
-  entry_breaks None f e =
-      let s = cond_some (nat_eq n (suc (length ss))) Number c e in
-      subst (λ d. BreaksFrom d ss (Came i n ∷ [])) s.1 (subst (λ st. Alternate st (Came i n ∷ [])) (sym (standing_none ss f)) tt, λ p. true_is_not_false (nat_eq n (suc (length ss))) (eq_is n (suc (length ss)) p.0) s.0)
-  entry_breaks (Some j) f e =
-      subst (λ d. BreaksFrom d ss (Came i n ∷ [])) (same_Some Overlap c e) (λ a. none_is_no_some j (sym (free_at_entry i n ss [] a) ∙ f))
-mark_breaks ss (Got i r v) c e =
-    let s = cond_some (is_node i (holder ss) && nat_eq v (applied r (writes_in ss) 0)) Read c e in
-    subst (λ d. BreaksFrom d ss (Got i r v ∷ [])) s.1
-    ((alternate_got (standing ss) i r v []).1 tt, tt, λ p. true_is_not_false (is_node i (holder ss) && nat_eq v (applied r (writes_in ss) 0)) (reading_fits i r v ss p.0 p.1) s.0)
-mark_breaks ss (Wrote i r v) c e = absurd (none_is_no_some c e)
-mark_breaks ss (Went i receipt) c e =
-    let s = cond_some (is_node i (holder ss) && nat_eq receipt.number (length ss)) Overlap c e in
-    subst (λ d. BreaksFrom d ss (Went i receipt ∷ [])) s.1 (λ a. true_is_not_false (is_node i (holder ss) && nat_eq receipt.number (length ss)) (leaving_fits i receipt ss [] a) s.0)
-mark_breaks ss (Woke i) c e = absurd (none_is_no_some c e)
-
 -- only one clause is the first
 pub breaks_one : (c d : Clause) (ss : List Section) (ms : List Mark) → BreaksFrom c ss ms → BreaksFrom d ss ms → c ≡ d
 breaks_one Overlap Overlap ss ms x y = refl
@@ -280,16 +209,3 @@ broken_behind Number ss ms rest p =
     (λ b. ((p.exclusive rest).0 b.0, λ n. b.1 ((p.numbered rest).1 n)), λ b. ((p.exclusive rest).1 b.0, λ n. b.1 ((p.numbered rest).0 n)))
 broken_behind Read ss ms rest p =
     (λ b. ((p.exclusive rest).0 b.0, (p.numbered rest).0 b.1, λ r. b.2 ((p.serial rest).1 r)), λ b. ((p.exclusive rest).1 b.0, (p.numbered rest).1 b.1, λ r. b.2 ((p.serial rest).0 r)))
-
--- a mark that fits its place breaks nothing
-pub fitting_breaks_nothing : (ss : List Section) (m : Mark) → AllClosed (older ss) → Fits ss m → broken_by ss m ≡ None
-fitting_breaks_nothing ss (Came i n) h f =
-    ap (λ o. at_entry o (suc (length ss)) n) (closed_holder ss f.0) ∙ cond_true (nat_eq n (suc (length ss))) None (Some Number) (eq_is n (suc (length ss)) f.1)
-fitting_breaks_nothing ss (Got i r v) h f =
-    cond_true (is_node i (holder ss) && nat_eq v (applied r (writes_in ss) 0)) None (Some Read) (reading_fits i r v ss f.0 f.1)
-fitting_breaks_nothing ss (Wrote i r v) h f = refl
-fitting_breaks_nothing [] (Went i receipt) h f = absurd f
-fitting_breaks_nothing (s ∷ ss) (Went i receipt) h f =
-    cond_true (is_node i (holder (s ∷ ss)) && nat_eq receipt.number (suc (length ss))) None (Some Overlap)
-    (and_is (is_node i (holder (s ∷ ss))) (nat_eq receipt.number (suc (length ss))) (inside_newest i (s ∷ ss) f.0) (eq_is receipt.number (suc (length ss)) (ap (λ (x : Receipt). x.number) f.1)))
-fitting_breaks_nothing ss (Woke i) h f = refl
