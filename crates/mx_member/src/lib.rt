@@ -17,5 +17,5 @@ pub use faults::{CloseFault, DeliverFault, ReadFault, WriteFault};
 pub use member::Member;
 pub use parcel::Parcel;
 
-// cfg
-// mod tests;
+#[cfg(test)]
+mod tests;

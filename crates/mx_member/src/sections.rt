@@ -10,7 +10,7 @@ use crate::faults::{CloseFault, ReadFault, WriteFault};
 use crate::guards::guard_all;
 use crate::member::Member;
 use crate::parcel::Parcel;
-use mx_journal::{Journal, PutFault, Receipt, Record};
+use mx_journal::{Draft, Journal, PutFault, Receipt, Record};
 use mx_letters::Outbox;
 use mx_nodelaws::{Exclusion, Phase};
 use mx_registers::view_below;
@@ -83,7 +83,7 @@ impl<C: Exclusion> Member<C> {
     pub fn restart(&mut self)
         ensures { self.new ≡ restart_of C.core self.old }
     {
-        self.draft.clear();
+        self.draft = Draft::new();
     }
 }
 
