@@ -1,4 +1,5 @@
 pub mod Lists
-pub mod EventLemmas
-pub mod Values
+pub mod EachLemmas
+pub mod TextLemmas
+pub mod NameLemmas
 pub mod PlanLemmas

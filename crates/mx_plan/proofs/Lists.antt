@@ -1,13 +1,13 @@
 -- Lemmas on lists of names and of values.
-use Rattle.std.proofs.Common.{◌≡◌, ◌∙◌, ℕ, ◌+◌, ◌<◌, List, [], ◌∷◌, ◌++◌, ◌||◌, Bool, true, false, cond, not, length, map, ap, sym, refl, arith, rules, Option, Some, None, ◌⊎◌, inl, inr, take, drop, get_or}
-use Rattle.std.specs.List.{list_any, position, prefix_len}
+use Rattle.std.proofs.Common.{◌≡◌, ◌∙◌, ℕ, ◌+◌, ◌<◌, ◌≤◌, List, [], ◌∷◌, ◌++◌, ◌||◌, Bool, true, false, cond, not, length, map, ap, sym, refl, arith, rules, Option, Some, None, ◌⊎◌, inl, inr, take, drop, get_or}
+use Rattle.std.specs.List.{list_all, list_any, position, prefix_len}
 use Rattle.std.specs.Str.{bytes_eq}
-use Rattle.std.proofs.lemmas.List.Folds.{list_any-append}
-use Rattle.std.proofs.lemmas.List.{map-append, take-append-drop, take_more}
+use Rattle.std.proofs.lemmas.List.Folds.{list_all-map, list_all_at, list_any-append}
+use Rattle.std.proofs.lemmas.List.{map-append, take-append-drop, take_all, take_more}
 use Rattle.serde_json.specs.Data.{Data, Items, item, no_items}
 use Rattle.serde_json.specs.View.{view, items_of}
 use Rattle.mx_plan.specs.Text.{Text, has_double}
-use Rattle.mx_plan.specs.Plans.{list_of, text_of}
+use Rattle.mx_plan.specs.Values.{list_of, text_of}
 
 pub list_of-items_of : (ds : List Data) → list_of (items_of ds) ≡ ds
 list_of-items_of [] = refl
@@ -27,6 +27,16 @@ position-map p f xs = rw (prefix_len-map (λ y. not (p y)) f xs, length-map' f x
 pub list_any-map : {X Y : Type 0} (p : Y → Bool) (f : X → Y) (xs : List X) → list_any p (map f xs) ≡ list_any (λ x. p (f x)) xs
 list_any-map p f [] = refl
 list_any-map p f (x ∷ xs) = rw (list_any-map p f xs) refl
+
+-- ---- a loop that tests each element
+
+module _ {X A : Type 0} (p : A → Bool) (f : X → A) (xs : List X) where
+  -- one that fails, and none
+  pub all_stops : (i : ℕ) (d : X) → i < length xs → p (f (get_or xs i d)) ≡ false → list_all p (map f xs) ≡ false
+  all_stops i d h fails = list_all-map p f xs ∙ list_all_at (λ x. p (f x)) xs i d h fails
+
+  pub all_ends : (i : ℕ) → length xs ≤ i → list_all (λ x. p (f x)) (take i xs) ≡ true → list_all p (map f xs) ≡ true
+  all_ends i h so_far = list_all-map p f xs ∙ sym (ap (list_all (λ x. p (f x))) (take_all i xs h)) ∙ so_far
 
 -- one name more
 pub has_double-push : (xs : List Text) (y : Text) → has_double (xs ++ y ∷ []) ≡ (has_double xs || list_any (bytes_eq y) xs)

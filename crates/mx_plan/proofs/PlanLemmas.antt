@@ -1,91 +1,100 @@
--- What the rules of a plan give is a plan.
-use Rattle.std.proofs.Common.{◌≡◌, ◌⊎◌, ◌≤◌, ◌<◌, ◌&&◌, ◌∙◌, ℕ, List, [], ◌∷◌, Bool, true, false, if◌then◌else◌, length, map, nat_le, refl, ap, sym, arith, Option, Some, None, Result, Ok, Err, inl, inr, unwrap_or, codes}
-use Rattle.std.specs.List.{list_all}
-use Rattle.std.specs.Option.{option_map_or}
-use Rattle.std.proofs.lemmas.Bool.Decides.{nat_tests}
+-- What comes of a plan whose places are all as they should be.
+use Rattle.std.proofs.Common.{◌≡◌, ◌⊎◌, ℕ, List, true, length, ap, sym, refl, Result, Ok, Err, inl, inr, codes}
 use Rattle.serde_json.specs.Data.{Data}
-use Rattle.serde_json.specs.Find.{as_str, get}
-use Rattle.mx_stamps.proofs.Lists.{and_true}
-use Rattle.mx_plan.specs.Text.{Text, is_name, has_double, AreNames}
-use Rattle.mx_plan.specs.Fields.{Fields, IsPlan}
-use Rattle.mx_plan.specs.Plans.{Answers, and_then, plan_of, is_ricart, is_object, names_from, names_of, are_names, array_of, text_of, is_name_value, in_range, number_of}
-use Rattle.mx_plan.specs.declared.place.Place.{Place}
+use Rattle.serde_json.specs.Find.{get}
+use Rattle.mx_plan.specs.Text.{Text}
+use Rattle.mx_plan.specs.Fields.{Fields, IsShape}
+use Rattle.mx_plan.specs.Shapes.{Wish}
+use Rattle.mx_plan.specs.Values.{Answers, and_then, is_object, number_of}
+use Rattle.mx_plan.specs.NameLists.{names_of}
+use Rattle.mx_plan.specs.Plans.{Draft, IsOutcome, IsShapeOutcome, ShapeAnswers, algorithm_of, draft_of, in_range, origin_of, wish_of}
 use Rattle.mx_plan.specs.declared.place.Place.TheVariants as place
-use Rattle.mx_plan.specs.declared.place.PlanFault.{PlanFault}
-use Rattle.mx_plan.specs.declared.place.PlanFault.TheVariants.{NotPlan, DoubleName, Memory}
-use Rattle.mx_plan.proofs.Lists.{length-map'}
+use Rattle.mx_plan.specs.declared.shape.Shape.{Shape}
+use Rattle.mx_plan.specs.declared.algorithm.Algorithm.{Algorithm}
+use Rattle.mx_plan.specs.declared.faults.PlanFault.{PlanFault}
+use Rattle.mx_plan.specs.declared.faults.PlanFault.TheVariants.{NotJson, NotPlan, DoubleName, UnknownName, BadShape, Memory}
 
--- the texts of names are names
-formed_option : (s : Option Text) → option_map_or is_name s false ≡ true → is_name (unwrap_or s []) ≡ true
-formed_option (Some t) h = h
-formed_option None h = let bad : ⊥ = cc in absurd bad
+-- an answer that is no fault is what the rules give
+answered : {T : Type 0} (wanted : Result T PlanFault) (x : T) → Answers wanted (Ok x) → wanted ≡ Ok x
+answered wanted x (inl is) = sym is
+answered wanted x (inr h) = let bad : ⊥ = cc in absurd bad
 
-formed_one : (d : Data) → is_name_value d ≡ true → is_name (text_of d) ≡ true
-unfolding is_name_value
-formed_one d h = formed_option (as_str d) h
+-- what all places but those of the shape say
+pub record Head : Type 0 where
+  pub algorithm : Algorithm
+  pub nodes : List Text
+  pub registers : List Text
+  pub sections : ℕ
+  pub origin : ℕ
 
-formed : (ds : List Data) → list_all is_name_value ds ≡ true → list_all is_name (map text_of ds) ≡ true
-formed [] h = refl
-formed (d ∷ ds) h =
-    let both = and_true (is_name_value d) (list_all is_name_value ds) h in
-    rw (formed_one d both.0, formed ds both.1) refl
+-- a value says so
+pub record Says (d : Data) (h : Head) : Type 0 where
+  pub object : is_object d ≡ true
+  pub algorithm : algorithm_of d ≡ Ok h.algorithm
+  pub nodes : Answers (names_of 21 place.Nodes (get (codes "nodes") d)) (Ok h.nodes)
+  pub registers : Answers (names_of 32 place.Registers (get (codes "registers") d)) (Ok h.registers)
+  pub sections : in_range place.Sections (number_of (get (codes "sections") d)) ≡ Ok h.sections
+  pub origin : origin_of (get (codes "origin") d) ≡ Ok h.origin
 
--- which way the two tests went
-chosen : (p : Place) (a b : Bool) (texts names : List Text)
-    → (if a then (if b then Err (DoubleName p) else Ok texts) else Err (NotPlan p)) ≡ Ok names
-    → (a ≡ true) × (b ≡ false) × (texts ≡ names)
-chosen p true true texts names h = let bad : ⊥ = cc in absurd bad
-chosen p true false texts names h = (refl, refl, cc)
-chosen p false b texts names h = let bad : ⊥ = cc in absurd bad
+drafted : Head → Wish → Draft
+drafted h wish =
+    record { nodes = h.nodes; registers = h.registers; sections = h.sections; origin = h.origin; wish = wish }
 
-names_are : (most : ℕ) (p : Place) (ds : List Data) (names : List Text)
-    → names_from most p ds ≡ Ok names → AreNames most names
-names_are most p ds names is =
-    let way = chosen p (are_names most ds) (has_double (map text_of ds)) (map text_of ds) names is in
-    let some = and_true (nat_le 1 (length ds)) (nat_le (length ds) most && list_all is_name_value ds) way.0 in
-    let few = and_true (nat_le (length ds) most) (list_all is_name_value ds) some.1 in
-    let same : length (map text_of ds) ≡ length ds = length-map' text_of ds in
-    let len : length names ≡ length ds = sym (ap length way.2) ∙ same in
-    record {
-      some = grind (arith, nat_tests, some.0, len);
-      few = grind (arith, nat_tests, few.0, len);
-      formed = sym (ap (list_all is_name) way.2) ∙ formed ds few.1;
-      distinct = sym (ap has_double way.2) ∙ way.1;
-    }
+wished : Head → Data → Result Wish PlanFault
+wished h d = wish_of h.algorithm h.nodes d
 
--- the names at a place, as they were read
-names_read : (most : ℕ) (p : Place) (d : Option Data) (names : List Text)
-    → Answers (names_of most p d) (Ok names) → AreNames most names
-names_read most p d names (inl is) = go (array_of d) (sym is)
-  where
-    go : (ds : Option (List Data)) → option_map_or (names_from most p) ds (Err (NotPlan p)) ≡ Ok names → AreNames most names
-    go (Some ds) h = names_are most p ds names h
-    go None h = let bad : ⊥ = cc in absurd bad
-names_read most p d names (inr h) = let bad : ⊥ = cc in absurd bad
+-- then the shape decides
+shape_decides : (d : Data) (h : Head) → Says d h → draft_of d ≡ and_then (wished h d) (λ wish. Ok (drafted h wish))
+unfolding drafted wished
+shape_decides d h says =
+    rw (
+      says.object,
+      says.algorithm,
+      answered _ h.nodes says.nodes,
+      answered _ h.registers says.registers,
+      says.sections,
+      says.origin,
+    )
+    refl
 
--- a number that was read is in its range
-sections_read : (p : Place) (o : Option ℕ) (n : ℕ) → Ok n ≡ in_range p o → (1 ≤ n) × (n ≤ 1000000)
-sections_read p None n is = let bad : ⊥ = cc in absurd bad
-sections_read p (Some m) n is = go (nat_le 1 m && nat_le m 1000000) refl is
-  where
-    go : (b : Bool) → (nat_le 1 m && nat_le m 1000000) ≡ b → Ok n ≡ (if b then Ok m else Err (NotPlan p)) → (1 ≤ n) × (n ≤ 1000000)
-    go true e h =
-        let both = and_true (nat_le 1 m) (nat_le m 1000000) e in
-        let same : n ≡ m = cc in
-        (grind (arith, nat_tests, both.0, same), grind (arith, nat_tests, both.1, same))
-    go false e h = let bad : ⊥ = cc in absurd bad
+refused : (h : Head) (w : Result Wish PlanFault) (e : PlanFault)
+    → IsShapeOutcome (length h.nodes) w (Err e) → IsOutcome (and_then w (λ wish. Ok (drafted h wish))) (Err e)
+unfolding drafted
+refused h (Ok wish) (BadShape fault) is = is
+refused h (Ok wish) NotJson is = absurd is
+refused h (Ok wish) (NotPlan p) is = absurd is
+refused h (Ok wish) (DoubleName p) is = absurd is
+refused h (Ok wish) (UnknownName p) is = absurd is
+refused h (Ok wish) Memory is = absurd is
+refused h (Err wanted) e is = is
 
--- what the four places give is a plan
-pub plan_read : (d : Data) (p : Fields)
-    → Answers (names_of 21 place.Nodes (get (codes "nodes") d)) (Ok p.nodes)
-    → Answers (names_of 32 place.Registers (get (codes "registers") d)) (Ok p.registers)
-    → Ok p.sections ≡ in_range place.Sections (number_of (get (codes "sections") d))
-    → IsPlan p
-plan_read d p nodes registers sections =
-    let range = sections_read place.Sections (number_of (get (codes "sections") d)) p.sections sections in
-    record {
-      nodes = names_read 21 place.Nodes (get (codes "nodes") d) p.nodes nodes;
-      registers = names_read 32 place.Registers (get (codes "registers") d) p.registers registers;
-      some_sections = range.0;
-      few_sections = range.1;
-    }
+pub shape_refused : (d : Data) (h : Head) (e : PlanFault) → Says d h
+    → ShapeAnswers (length h.nodes) (wish_of h.algorithm h.nodes d) (Err e)
+    → IsOutcome (draft_of d) (Err e) ⊎ (◌≡◌ {A = Result Fields PlanFault} (Err e) (Err Memory))
+unfolding wished
+shape_refused d h e says (inl is) = inl (rw (shape_decides d h says) (refused h (wished h d) e is))
+shape_refused d h e says (inr is) = let memory : e ≡ Memory = cc in inr (ap Err memory)
+
+-- the plan of a head and a shape
+abbrev pub plan_of : Head → Shape → Fields
+plan_of h shape =
+    record { nodes = h.nodes; registers = h.registers; sections = h.sections; origin = h.origin; shape = shape }
+
+given : (h : Head) (w : Result Wish PlanFault) (shape : Shape)
+    → IsShapeOutcome (length h.nodes) w (Ok shape) → IsOutcome (and_then w (λ wish. Ok (drafted h wish))) (Ok (plan_of h shape))
+unfolding drafted
+given h (Ok wish) shape is = record { nodes = refl; registers = refl; sections = refl; origin = refl; shape = is.0 }
+given h (Err wanted) shape is = absurd is
+
+pub shape_given : (d : Data) (h : Head) (shape : Shape) → Says d h
+    → ShapeAnswers (length h.nodes) (wish_of h.algorithm h.nodes d) (Ok shape)
+    → IsOutcome (draft_of d) (Ok (plan_of h shape))
+unfolding wished
+shape_given d h shape says (inl is) = rw (shape_decides d h says) (given h (wished h d) shape is)
+shape_given d h shape says (inr is) = let bad : ⊥ = cc in absurd bad
+
+-- a shape that is given is a shape of the nodes
+pub shape_valid : (n : ℕ) (w : Result Wish PlanFault) (shape : Shape) → ShapeAnswers n w (Ok shape) → IsShape n shape
+shape_valid n (Ok wish) shape (inl is) = is.1
+shape_valid n (Err wanted) shape (inl is) = absurd is
+shape_valid n w shape (inr is) = let bad : ⊥ = cc in absurd bad

@@ -1,16 +1,15 @@
 -- The events that a JSON value lists.
-use Rattle.std.specs.Prelude.{◌≡◌, ◌⊎◌, Vec, ℕ, ◌+◌, List, [], ◌∷◌, length, nat_lt, codes, if◌then◌else◌, Option, Some, None, Result, Ok, Err, option_and_then, position}
+use Rattle.std.specs.Prelude.{ℕ, List, [], ◌∷◌, length, nat_lt, codes, if◌then◌else◌, Option, Some, None, Result, Ok, Err, option_and_then, position}
 use Rattle.std.specs.Option.{option_map_or}
 use Rattle.std.specs.Str.{bytes_eq}
-use Rattle.std.specs.declared.alloc.Global.{Global}
 use Rattle.serde_json.specs.Data.{Data}
 use Rattle.serde_json.specs.Find.{as_str, as_number, as_u64}
 use Rattle.mx_plan.specs.Text.{Text, is_name}
 use Rattle.mx_plan.specs.Fields.{Fields, node_of}
-use Rattle.mx_plan.specs.Plans.{and_then, elements, of_text}
+use Rattle.mx_plan.specs.Values.{Gives, each_from, elements, of_text}
 use Rattle.mx_plan.specs.declared.place.Place.TheVariants as place
-use Rattle.mx_plan.specs.declared.place.PlanFault.{PlanFault}
-use Rattle.mx_plan.specs.declared.place.PlanFault.TheVariants.{NotPlan, UnknownName, Memory}
+use Rattle.mx_plan.specs.declared.faults.PlanFault.{PlanFault}
+use Rattle.mx_plan.specs.declared.faults.PlanFault.TheVariants.{NotPlan, UnknownName}
 use Rattle.mx_network.specs.declared.event.Event.{Event}
 use Rattle.mx_network.specs.declared.event.Event.TheVariants.{Ask, Enter, Leave, Tick, Restart, Deliver}
 use Rattle.mx_plan.specs.declared.event_reader.Act.{Act}
@@ -60,20 +59,14 @@ module _ (p : Fields) (k : ℕ) where
   event_of d = option_map_or listed (elements d) (misfit k)
 
 -- the events from the k-th on
-unfoldable pub events_from : Fields → ℕ → List Data → Result (List Event) PlanFault
-events_from p k [] = Ok []
-events_from p k (d ∷ ds) = and_then (event_of p k d) (λ e. and_then (events_from p (k + 1) ds) (λ es. Ok (e ∷ es)))
+abbrev pub events_from : Fields → ℕ → List Data → Result (List Event) PlanFault
+events_from p = each_from (event_of p)
 
 abbrev pub few : Fields → List Data → Result (List Event) PlanFault
 few p ds = if nat_lt 1000000 (length ds) then Err (NotPlan (place.Event 1000000)) else events_from p 0 ds
 
 abbrev pub events_of : Fields → Data → Result (List Event) PlanFault
 events_of p d = option_map_or (few p) (elements d) (Err (NotPlan place.Events))
-
--- the events are what the rules give, or memory ran out
-abbrev pub Gives : Result (List Event) PlanFault → Result (Vec Event Global) PlanFault → Type 0
-Gives wanted (Ok events) = wanted ≡ Ok events.items
-Gives wanted (Err e) = (wanted ≡ Err e) ⊎ (e ≡ Memory)
 
 -- the events that a text lists
 abbrev pub events_at : Fields → List ℕ → Result (List Event) PlanFault

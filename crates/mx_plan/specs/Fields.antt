@@ -1,15 +1,25 @@
 -- What a plan says.
-use Rattle.std.specs.Prelude.{◌≤◌, ℕ, List, Option}
+use Rattle.std.specs.Prelude.{◌≡◌, ◌≤◌, ℕ, List, Option, length, position}
 use Rattle.std.specs.Str.{bytes_eq}
-use Rattle.std.specs.Prelude.{position}
+use Rattle.mx_quorums.specs.Family.{IsMeeting, IsWithin}
+use Rattle.mx_trees.specs.Tree.{IsRooted}
 use Rattle.mx_plan.specs.Text.{Text, AreNames}
+use Rattle.mx_plan.specs.declared.shape.Shape.{Shape}
+use Rattle.mx_plan.specs.declared.shape.Shape.TheVariants.{Ricart, Maekawa, Raymond}
 
--- the names of nodes and registers, in order; the last section number; where stamps start
+-- the names of nodes and registers, in order; the last section number; where stamps start; the shape
 pub record Fields : Type 0 where
   pub nodes : List Text
   pub registers : List Text
   pub sections : ℕ
   pub origin : ℕ
+  pub shape : Shape
+
+-- a shape over exactly n nodes: their number, a family of meeting sets, or a rooted tree
+abbrev pub IsShape : ℕ → Shape → Type 0
+IsShape n (Ricart count) = count ≡ n
+IsShape n (Maekawa family) = IsMeeting family × IsWithin family × (family.count ≡ n)
+IsShape n (Raymond tree) = IsRooted tree × (tree.count ≡ n)
 
 -- what every plan keeps
 pub record IsPlan (p : Fields) : Type 0 where
@@ -17,6 +27,7 @@ pub record IsPlan (p : Fields) : Type 0 where
   pub registers : AreNames 32 p.registers
   pub some_sections : 1 ≤ p.sections
   pub few_sections : p.sections ≤ 1000000
+  pub shape : IsShape (length p.nodes) p.shape
 
 -- the number of a node's name
 abbrev pub node_of : Fields → Text → Option ℕ

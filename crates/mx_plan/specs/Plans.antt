@@ -1,81 +1,38 @@
 -- The plan that a text is.
-use Rattle.std.specs.Prelude.{◌≡◌, ◌⊎◌, ◌&&◌, ◌||◌, ◌==◌, ◌^◌, ℕ, List, [], ◌∷◌, Bool, true, false, not, length, map, nat_le, codes, is_some, if◌then◌else◌, Option, Some, None, Result, Ok, Err, option_map, option_and_then, unwrap_or}
-use Rattle.std.specs.List.{list_all}
+use Rattle.std.specs.Prelude.{◌≡◌, ◌⊎◌, ◌&&◌, ℕ, List, Bool, not, length, nat_le, codes, if◌then◌else◌, Option, Some, None, Result, Ok, Err, option_and_then}
 use Rattle.std.specs.Option.{option_map_or}
-use Rattle.std.specs.Str.{bytes_eq, is_utf8}
-use Rattle.serde_json.specs.Data.{Data, Items, no_items, item}
-use Rattle.serde_json.specs.Find.{get, as_str, as_array, as_number, as_object, as_u64}
-use Rattle.serde_json.specs.Read.{read}
-use Rattle.mx_plan.specs.Text.{Text, is_name, has_double}
+use Rattle.std.specs.Str.{bytes_eq}
+use Rattle.serde_json.specs.Data.{Data}
+use Rattle.serde_json.specs.Find.{get, as_str}
+use Rattle.mx_plan.specs.Text.{Text}
+use Rattle.mx_plan.specs.Fields.{Fields, IsShape}
+use Rattle.mx_plan.specs.Shapes.{Wish, all_others, tree, IsShapeOf, IsRefusalOf}
+use Rattle.mx_plan.specs.Values.{and_then, of_text, is_object, number_of}
+use Rattle.mx_plan.specs.NameLists.{names_of}
+use Rattle.mx_plan.specs.QuorumMembers.{quorums_of}
+use Rattle.mx_plan.specs.TreeMembers.{edges_of, holder_of}
 use Rattle.mx_plan.specs.declared.place.Place.{Place}
 use Rattle.mx_plan.specs.declared.place.Place.TheVariants as place
-use Rattle.mx_plan.specs.declared.place.PlanFault.{PlanFault}
-use Rattle.mx_plan.specs.declared.place.PlanFault.TheVariants.{NotJson, NotPlan, DoubleName, Memory}
-use Rattle.mx_plan.specs.Fields.{Fields}
+use Rattle.mx_plan.specs.declared.shape.Shape.{Shape}
+use Rattle.mx_plan.specs.declared.algorithm.Algorithm.{Algorithm}
+use Rattle.mx_plan.specs.declared.algorithm.Algorithm.TheVariants.{Ricart, Maekawa, Raymond}
+use Rattle.mx_plan.specs.declared.faults.PlanFault.{PlanFault}
+use Rattle.mx_plan.specs.declared.faults.PlanFault.TheVariants.{NotJson, NotPlan, DoubleName, UnknownName, BadShape, Memory}
 
--- the answer is what the rules give, or memory ran out
-abbrev pub Answers : {T : Type 0} → Result T PlanFault → Result T PlanFault → Type 0
-Answers wanted r = (r ≡ wanted) ⊎ (r ≡ Err Memory)
+-- ---- the members
 
--- the value that a text of JSON has, in UTF-8
-unfoldable pub value_of : List ℕ → Option Data
-value_of text = if is_utf8 text then read text else None
+-- the algorithm that a word names
+abbrev pub algorithm_named : Text → Result Algorithm PlanFault
+algorithm_named word =
+    if bytes_eq word (codes "ricart") then Ok Ricart
+    else if bytes_eq word (codes "maekawa") then Ok Maekawa
+    else if bytes_eq word (codes "raymond") then Ok Raymond
+    else Err (NotPlan place.Algorithm)
 
--- what a text is read as, by what its value is read as
-abbrev pub of_text : {T : Type 0} → (Data → Result T PlanFault) → List ℕ → Result T PlanFault
-of_text f text = option_map_or f (value_of text) (Err NotJson)
-
--- goes on where the first step answered
-abbrev pub and_then : {A B : Type 0} → Result A PlanFault → (A → Result B PlanFault) → Result B PlanFault
-and_then (Ok a) f = f a
-and_then (Err e) f = Err e
-
--- ---- arrays
-
--- the items of an array, as a list
-abbrev pub list_of : Items → List Data
-list_of no_items = []
-list_of (item d ds) = d ∷ list_of ds
-
--- the elements of a value that is an array
-abbrev pub elements : Data → Option (List Data)
-elements d = option_map list_of (as_array d)
-
--- the elements of a member that is there and an array
-abbrev pub array_of : Option Data → Option (List Data)
-array_of d = option_and_then elements d
-
--- ---- names
-
--- the text of a string, empty where the value is none
-abbrev pub text_of : Data → Text
-text_of d = unwrap_or (as_str d) []
-
--- a string that is a name
-unfoldable pub is_name_value : Data → Bool
-is_name_value d = option_map_or is_name (as_str d) false
-
--- 1 to `most` values, each a name
-abbrev pub are_names : ℕ → List Data → Bool
-are_names most ds = nat_le 1 (length ds) && (nat_le (length ds) most && list_all is_name_value ds)
-
--- the names, where no two are equal
-abbrev pub distinct_names : Place → List Text → Result (List Text) PlanFault
-distinct_names p names = if has_double names then Err (DoubleName p) else Ok names
-
--- the names that the elements of an array are
-abbrev pub names_from : ℕ → Place → List Data → Result (List Text) PlanFault
-names_from most p ds = if are_names most ds then distinct_names p (map text_of ds) else Err (NotPlan p)
-
--- the names that a member lists
-abbrev pub names_of : ℕ → Place → Option Data → Result (List Text) PlanFault
-names_of most p d = option_map_or (names_from most p) (array_of d) (Err (NotPlan p))
-
--- ---- numbers
-
--- a member that is there and a whole number
-abbrev pub number_of : Option Data → Option ℕ
-number_of d = option_and_then as_u64 (option_and_then as_number d)
+-- the algorithm that a plan asks for
+abbrev pub algorithm_of : Data → Result Algorithm PlanFault
+algorithm_of d =
+    option_map_or algorithm_named (option_and_then as_str (get (codes "algorithm") d)) (Err (NotPlan place.Algorithm))
 
 -- the number, where it is one from 1 to 1000000
 abbrev pub in_range : Place → Option ℕ → Result ℕ PlanFault
@@ -87,27 +44,70 @@ abbrev pub origin_of : Option Data → Result ℕ PlanFault
 origin_of None = Ok 0
 origin_of (Some d) = option_map_or (λ n. Ok n) (number_of (Some d)) (Err (NotPlan place.Origin))
 
--- ---- plans
+-- the tree of the members `edges` and `holder`
+abbrev pub tree_of : List Text → Data → Result Wish PlanFault
+tree_of nodes d =
+    and_then (edges_of nodes (get (codes "edges") d))
+    (λ edges. and_then (holder_of nodes (get (codes "holder") d))
+    (λ holder. Ok (tree edges holder)))
 
--- the value is an object
-abbrev pub is_object : Data → Bool
-is_object d = is_some (as_object d)
+-- the shape that a plan for an algorithm asks for
+abbrev pub wish_of : Algorithm → List Text → Data → Result Wish PlanFault
+wish_of Ricart nodes d = Ok all_others
+wish_of Maekawa nodes d = quorums_of nodes (get (codes "quorums") d)
+wish_of Raymond nodes d = tree_of nodes d
 
--- its algorithm is Ricart and Agrawala's
-abbrev pub is_ricart : Data → Bool
-is_ricart d = option_map_or (λ s. bytes_eq s (codes "ricart")) (option_and_then as_str (get (codes "algorithm") d)) false
+-- ---- whole plans
 
--- the plan that a value is: the first place that fails decides
-abbrev pub plan_of : Data → Result Fields PlanFault
-plan_of d =
+-- what a plan asks for
+pub record Draft : Type 0 where
+  pub nodes : List Text
+  pub registers : List Text
+  pub sections : ℕ
+  pub origin : ℕ
+  pub wish : Wish
+
+-- what a value asks for: the first place that fails decides
+abbrev pub draft_of : Data → Result Draft PlanFault
+draft_of d =
     if not (is_object d) then Err (NotPlan place.Plan)
-    else if not (is_ricart d) then Err (NotPlan place.Algorithm)
-    else and_then (names_of 21 place.Nodes (get (codes "nodes") d))
+    else and_then (algorithm_of d)
+    (λ algorithm. and_then (names_of 21 place.Nodes (get (codes "nodes") d))
     (λ nodes. and_then (names_of 32 place.Registers (get (codes "registers") d))
     (λ registers. and_then (in_range place.Sections (number_of (get (codes "sections") d)))
     (λ sections. and_then (origin_of (get (codes "origin") d))
-    (λ origin. Ok (record { nodes = nodes; registers = registers; sections = sections; origin = origin })))))
+    (λ origin. and_then (wish_of algorithm nodes d)
+    (λ wish. Ok (record { nodes = nodes; registers = registers; sections = sections; origin = origin; wish = wish })))))))
 
--- the plan that a text is
-abbrev pub plan_at : List ℕ → Result Fields PlanFault
-plan_at = of_text plan_of
+-- what a text asks for
+abbrev pub draft_at : List ℕ → Result Draft PlanFault
+draft_at = of_text draft_of
+
+-- the plan has what was asked for
+pub record IsPlanOf (draft : Draft) (p : Fields) : Type 0 where
+  pub nodes : p.nodes ≡ draft.nodes
+  pub registers : p.registers ≡ draft.registers
+  pub sections : p.sections ≡ draft.sections
+  pub origin : p.origin ≡ draft.origin
+  pub shape : IsShapeOf (length draft.nodes) draft.wish p.shape
+
+-- what comes of a text: the plan that it asks for; where it asks for none, why; where its nodes have no
+-- such shape, the first rule that is broken
+abbrev pub IsOutcome : Result Draft PlanFault → Result Fields PlanFault → Type 0
+IsOutcome (Ok draft) (Ok plan) = IsPlanOf draft plan
+IsOutcome (Ok draft) (Err (BadShape fault)) = IsRefusalOf (length draft.nodes) draft.wish fault
+IsOutcome (Ok draft) (Err _) = ⊥
+IsOutcome (Err wanted) (Ok plan) = ⊥
+IsOutcome (Err wanted) (Err fault) = fault ≡ wanted
+
+-- what comes of a shape that is asked for, in the same way; it is a shape of n nodes
+abbrev pub IsShapeOutcome : ℕ → Result Wish PlanFault → Result Shape PlanFault → Type 0
+IsShapeOutcome n (Ok wish) (Ok shape) = IsShapeOf n wish shape × IsShape n shape
+IsShapeOutcome n (Ok wish) (Err (BadShape fault)) = IsRefusalOf n wish fault
+IsShapeOutcome n (Ok wish) (Err _) = ⊥
+IsShapeOutcome n (Err wanted) (Ok shape) = ⊥
+IsShapeOutcome n (Err wanted) (Err fault) = fault ≡ wanted
+
+-- or memory ran out
+abbrev pub ShapeAnswers : ℕ → Result Wish PlanFault → Result Shape PlanFault → Type 0
+ShapeAnswers n wanted r = IsShapeOutcome n wanted r ⊎ (r ≡ Err Memory)

@@ -2,12 +2,14 @@
 
 ghost use Rattle.std.specs.Prelude.{◌≡◌, map};
 ghost use Rattle.serde_json.specs.View.{view};
+ghost use Rattle.mx_plan.specs.Values.{Gives};
 ghost use Rattle.mx_plan.specs.Events as spec;
 
+use crate::faults::PlanFault;
 use crate::names::is_name;
-use crate::place::{Place, PlanFault};
+use crate::place::Place;
 use crate::plan::Plan;
-use crate::plan_reader::{elements, parse};
+use crate::values::{elements, parse};
 use mx_network::Event;
 use mx_stamps::NodeId;
 use serde_json::Value;
@@ -30,14 +32,14 @@ const MAX_EVENTS: usize = 1_000_000;
 /// of `"deliver"` and a parcel's number. Each event is checked first for its form and then for its
 /// name; a longer list is refused at event 1,000,000.
 pub fn read_events(alloc: Global, text: &[u8], plan: &Plan) -> Result<Vec<Event>, PlanFault>
-    ensures { spec.Gives (spec.events_at plan.now text.now) result }
+    ensures { Gives (spec.events_at plan.now text.now) result }
 {
     let value = parse(alloc, text)?;
     events_in(alloc, &value, plan)
 }
 
 fn events_in(alloc: Global, value: &Value, plan: &Plan) -> Result<Vec<Event>, PlanFault>
-    ensures { spec.Gives (spec.events_of plan.now (view value.now)) result }
+    ensures { Gives (spec.events_of plan.now (view value.now)) result }
 {
     match elements(value) {
         None => Err(PlanFault::NotPlan(Place::Events)),
@@ -49,7 +51,7 @@ fn events_in(alloc: Global, value: &Value, plan: &Plan) -> Result<Vec<Event>, Pl
 }
 
 fn each_event(alloc: Global, values: &[Value], plan: &Plan) -> Result<Vec<Event>, PlanFault>
-    ensures { spec.Gives (spec.events_from plan.now 0 (map view values.now)) result }
+    ensures { Gives (spec.events_from plan.now 0 (map view values.now)) result }
 {
     let mut events = Vec::new(alloc);
     for (k, value) in values.iter().enumerate() {

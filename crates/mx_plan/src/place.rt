@@ -1,6 +1,9 @@
-//! Why a text is no plan, or no list of events.
+//! The places of plans and of lists of events.
 
-use std::alloc::AllocError;
+ghost use Rattle.std.specs.Prelude.{Some};
+ghost use Rattle.mx_plan.specs.FaultTexts.{place_text};
+
+use std::fmt;
 
 /// Where in a plan or in a list of events a fault stands. The places of a plan are checked in this
 /// order.
@@ -13,34 +16,34 @@ pub enum Place {
     Registers,
     Sections,
     Origin,
+    /// The sets of arbiters, in a plan for Maekawa's algorithm.
+    Quorums,
+    /// The edges of the tree, in a plan for Raymond's algorithm.
+    Edges,
+    /// The holder of the privilege at the start, in a plan for Raymond's algorithm.
+    Holder,
     /// The list of events itself, which is an array.
     Events,
     /// One event, counted from 0.
     Event(u64),
 }
 
-/// Why a text is refused.
-#[derive(Clone, Copy, Debug, PartialEq, Eq)]
-pub enum PlanFault {
-    /// It is not JSON, or not in UTF-8, or it nests deeper than 128.
-    NotJson,
-    /// What stands at this place is missing or of another form.
-    NotPlan(Place),
-    /// A name stands there twice.
-    DoubleName(Place),
-    /// A name stands there that the plan does not have.
-    UnknownName(Place),
-    /// A growth was refused. It can come at any point of the reading.
-    Memory,
-}
+impl fmt::Display for Place {
+    ghost output = { λ p. Some (place_text p) };
 
-impl From<AllocError> for PlanFault {
-    ghost use Rattle.std.specs.Prelude.{◌≡◌};
-    ghost use Rattle.mx_plan.specs.declared.place.PlanFault.TheVariants.{Memory};
-
-    ghost from_gives = { λ _ e. e ≡ Memory };
-
-    fn from(_e: AllocError) -> PlanFault {
-        PlanFault::Memory
+    fn fmt<W: fmt::Write>(&self, f: &mut fmt::Formatter<W>) -> fmt::Result {
+        match self {
+            Place::Plan => write!(f, "plan"),
+            Place::Algorithm => write!(f, "algorithm"),
+            Place::Nodes => write!(f, "nodes"),
+            Place::Registers => write!(f, "registers"),
+            Place::Sections => write!(f, "sections"),
+            Place::Origin => write!(f, "origin"),
+            Place::Quorums => write!(f, "quorums"),
+            Place::Edges => write!(f, "edges"),
+            Place::Holder => write!(f, "holder"),
+            Place::Events => write!(f, "events"),
+            Place::Event(k) => write!(f, "event {k}"),
+        }
     }
 }

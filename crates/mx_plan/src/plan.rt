@@ -1,21 +1,23 @@
-//! A plan for Ricart and Agrawala's algorithm.
+//! A plan.
 
 ghost use Rattle.std.specs.Prelude.{◌≡◌, ◌<◌, ◌≤◌, IfSome, length, option_map, slice_get};
-ghost use Rattle.mx_plan.specs.Fields.{node_of, register_of};
+ghost use Rattle.mx_plan.specs.Fields.{node_of, register_of, IsShape};
 
 use crate::names::Names;
-use mx_ricart::Count;
+use crate::shape::Shape;
 use mx_stamps::NodeId;
 use std::marker::Model;
 
 /// What a cluster is made of: the names of its nodes, 1 to 21, and of the registers that they
-/// guard, 1 to 32, the greatest section number and the number at which stamps start.
+/// guard, 1 to 32, the greatest section number, the number at which stamps, grants and hops start,
+/// and the shape of the nodes: the arbiter sets or the tree are over exactly these nodes.
 #[derive(Drop)]
 pub struct Plan {
     pub(crate) nodes: Names,
     pub(crate) registers: Names,
     pub(crate) sections: u64,
     pub(crate) origin: u64,
+    pub(crate) shape: Shape,
 }
 
 impl Model for Plan {
@@ -28,6 +30,7 @@ impl Model for Plan {
       registers = p.registers;
       sections = p.sections;
       origin = p.origin;
+      shape = p.shape;
     } };
 
     ghost invariant = { λ p. IsPlan (record {
@@ -35,15 +38,17 @@ impl Model for Plan {
       registers = p.registers;
       sections = p.sections;
       origin = p.origin;
+      shape = p.shape;
     }) };
 }
 
 impl Plan {
-    /// The shape of the cluster: how many nodes it has.
-    pub fn shape(&self) -> Count
-        ensures value { result ≡ length self.now.nodes }
+    /// The shape of the cluster, over exactly its nodes.
+    pub fn shape(&self) -> &Shape
+        ensures value { result.now ≡ self.now.shape }
+        ensures valid { IsShape (length self.now.nodes) result.now }
     {
-        Count::of(self.nodes()).unwrap()
+        &self.shape
     }
 
     /// How many nodes the cluster has.
@@ -73,7 +78,7 @@ impl Plan {
         self.sections
     }
 
-    /// The number at which stamps start.
+    /// The number at which stamps, grants and hops start.
     pub fn origin(&self) -> u64
         ensures value { result ≡ self.now.origin }
     {

@@ -1,0 +1,160 @@
+//! Why a text is no plan, or no list of events.
+
+ghost use Rattle.std.specs.Prelude.{Some};
+ghost use Rattle.mx_plan.specs.FaultTexts.{quorum_text, tree_text, shape_text, fault_text};
+
+use crate::place::Place;
+use mx_quorums::QuorumFault;
+use mx_trees::TreeFault;
+use std::alloc::{AllocError, AllocFailed};
+use std::error::Error;
+use std::fmt;
+
+/// Why the nodes of a plan have no such shape. Its numbers are of nodes and of edges in the order
+/// of the plan.
+#[derive(Clone, Copy, Debug, PartialEq, Eq)]
+pub enum ShapeFault {
+    Quorum(QuorumFault),
+    Tree(TreeFault),
+}
+
+/// Why a text is refused.
+#[derive(Clone, Copy, Debug, PartialEq, Eq)]
+pub enum PlanFault {
+    /// It is not JSON, or not in UTF-8, or it nests deeper than 128.
+    NotJson,
+    /// What stands at this place is missing or of another form.
+    NotPlan(Place),
+    /// A name stands there twice.
+    DoubleName(Place),
+    /// A well-formed name stands there that the plan does not have.
+    UnknownName(Place),
+    /// All places are as they should be, but the nodes have no such shape.
+    BadShape(ShapeFault),
+    /// A growth was refused. It can come at any point of the reading.
+    Memory,
+}
+
+impl From<AllocError> for PlanFault {
+    ghost use Rattle.std.specs.Prelude.{◌≡◌};
+    ghost use Rattle.mx_plan.specs.declared.faults.PlanFault.TheVariants.{Memory};
+
+    ghost from_gives = { λ _ e. e ≡ Memory };
+
+    fn from(_e: AllocError) -> PlanFault {
+        PlanFault::Memory
+    }
+}
+
+impl<T: Drop> From<AllocFailed<T>> for PlanFault {
+    ghost use Rattle.std.specs.Prelude.{◌≡◌};
+    ghost use Rattle.mx_plan.specs.declared.faults.PlanFault.TheVariants.{Memory};
+
+    ghost from_gives = { λ _ e. e ≡ Memory };
+
+    fn from(_e: AllocFailed<T>) -> PlanFault {
+        PlanFault::Memory
+    }
+}
+
+impl From<QuorumFault> for ShapeFault {
+    ghost use Rattle.std.specs.Prelude.{◌≡◌};
+    ghost use Rattle.mx_plan.specs.declared.faults.ShapeFault.TheVariants.{Quorum};
+
+    ghost from_gives = { λ fault e. e ≡ Quorum fault };
+
+    fn from(fault: QuorumFault) -> ShapeFault {
+        ShapeFault::Quorum(fault)
+    }
+}
+
+impl From<TreeFault> for ShapeFault {
+    ghost use Rattle.std.specs.Prelude.{◌≡◌};
+    ghost use Rattle.mx_plan.specs.declared.faults.ShapeFault.TheVariants.{Tree};
+
+    ghost from_gives = { λ fault e. e ≡ Tree fault };
+
+    fn from(fault: TreeFault) -> ShapeFault {
+        ShapeFault::Tree(fault)
+    }
+}
+
+impl From<ShapeFault> for PlanFault {
+    ghost use Rattle.std.specs.Prelude.{◌≡◌};
+    ghost use Rattle.mx_plan.specs.declared.faults.PlanFault.TheVariants.{BadShape};
+
+    ghost from_gives = { λ fault e. e ≡ BadShape fault };
+
+    fn from(fault: ShapeFault) -> PlanFault {
+        PlanFault::BadShape(fault)
+    }
+}
+
+/// A fault of arbiter sets, as a fault line names it.
+#[derive(Clone, Copy)]
+struct QuorumText(QuorumFault);
+
+impl fmt::Display for QuorumText {
+    ghost output = { λ t. Some (quorum_text t.0) };
+
+    fn fmt<W: fmt::Write>(&self, f: &mut fmt::Formatter<W>) -> fmt::Result {
+        match self.0 {
+            QuorumFault::NoNodes => write!(f, "no nodes"),
+            QuorumFault::TooMany => write!(f, "too many"),
+            QuorumFault::EmptySet(i) => write!(f, "empty set {i}"),
+            QuorumFault::Stranger(i, j) => write!(f, "stranger {i} {j}"),
+            QuorumFault::NotOwnMember(i) => write!(f, "not own member {i}"),
+            QuorumFault::Apart(i, j) => write!(f, "apart {i} {j}"),
+            QuorumFault::NoPlane(n) => write!(f, "no plane {n}"),
+        }
+    }
+}
+
+/// A fault of a tree, as a fault line names it.
+#[derive(Clone, Copy)]
+struct TreeText(TreeFault);
+
+impl fmt::Display for TreeText {
+    ghost output = { λ t. Some (tree_text t.0) };
+
+    fn fmt<W: fmt::Write>(&self, f: &mut fmt::Formatter<W>) -> fmt::Result {
+        match self.0 {
+            TreeFault::NoNodes => write!(f, "no nodes"),
+            TreeFault::TooMany => write!(f, "too many"),
+            TreeFault::BadEdge(k) => write!(f, "bad edge {k}"),
+            TreeFault::WrongCount => write!(f, "wrong count"),
+            TreeFault::NotJoined(i) => write!(f, "not joined {i}"),
+            TreeFault::BadHolder => write!(f, "bad holder"),
+        }
+    }
+}
+
+impl fmt::Display for ShapeFault {
+    ghost output = { λ e. Some (shape_text e) };
+
+    fn fmt<W: fmt::Write>(&self, f: &mut fmt::Formatter<W>) -> fmt::Result {
+        match self {
+            ShapeFault::Quorum(fault) => write!(f, "{}", QuorumText(*fault)),
+            ShapeFault::Tree(fault) => write!(f, "{}", TreeText(*fault)),
+        }
+    }
+}
+
+impl fmt::Display for PlanFault {
+    ghost output = { λ e. Some (fault_text e) };
+
+    fn fmt<W: fmt::Write>(&self, f: &mut fmt::Formatter<W>) -> fmt::Result {
+        match self {
+            PlanFault::NotJson => write!(f, "not json"),
+            PlanFault::NotPlan(place) => write!(f, "bad plan: {place}"),
+            PlanFault::DoubleName(place) => write!(f, "double name: {place}"),
+            PlanFault::UnknownName(place) => write!(f, "unknown name: {place}"),
+            PlanFault::BadShape(fault) => write!(f, "bad shape: {fault}"),
+            PlanFault::Memory => write!(f, "out of memory"),
+        }
+    }
+}
+
+impl Error for ShapeFault {}
+
+impl Error for PlanFault {}

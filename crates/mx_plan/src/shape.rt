@@ -1,0 +1,65 @@
+//! The shape of a cluster.
+
+ghost use Rattle.std.specs.Prelude.{◌≡◌, ◌*◌, ◌<◌, ◌≤◌, length};
+ghost use Rattle.mx_quorums.specs.Lists.{lists_of};
+ghost use Rattle.mx_plan.specs.Shapes.{IsShaped};
+ghost use Rattle.mx_plan.specs.Shapes as wish;
+
+use crate::faults::ShapeFault;
+use mx_quorums::Quorums;
+use mx_ricart::Count;
+use mx_trees::Tree;
+
+/// How the nodes of a cluster are bound to one another, by the algorithm that they run.
+#[derive(Clone, Copy, Debug, PartialEq, Eq)]
+pub enum Shape {
+    /// Each node asks all others: how many there are.
+    Ricart(Count),
+    /// Each node asks its arbiters: their sets, of which any two meet.
+    Maekawa(Quorums),
+    /// The privilege moves along the edges of a tree with a holder.
+    Raymond(Tree),
+}
+
+impl Shape {
+    /// All of n nodes.
+    pub(crate) fn all_others(n: u8) -> Shape
+        requires some { 0 < n }
+        requires few { n ≤ 21 }
+        ensures { result ≡ Shape.Ricart n }
+    {
+        Shape::Ricart(Count::of(n).unwrap())
+    }
+
+    /// The plane of n nodes.
+    pub(crate) fn plane(n: u8) -> Result<Shape, ShapeFault>
+        ensures { IsShaped n wish.plane result }
+    {
+        Ok(Shape::Maekawa(Quorums::plane(n)?))
+    }
+
+    /// The grid of n nodes that has these rows and columns.
+    pub(crate) fn grid(n: u8, rows: u8, cols: u8) -> Result<Shape, ShapeFault>
+        requires some { 0 < n }
+        requires few { n ≤ 21 }
+        requires size { rows * cols ≡ n }
+        ensures { IsShaped n (wish.grid rows cols) result }
+    {
+        Ok(Shape::Maekawa(Quorums::grid(rows, cols)?))
+    }
+
+    /// The family of these sets, one for each of n nodes.
+    pub(crate) fn listed(n: u8, sets: &[Vec<u8>]) -> Result<Shape, ShapeFault>
+        requires { length sets.now ≡ n }
+        ensures { IsShaped n (wish.listed (lists_of sets.now)) result }
+    {
+        Ok(Shape::Maekawa(Quorums::listed(sets)?))
+    }
+
+    /// The tree of n nodes with these edges and this holder.
+    pub(crate) fn tree(n: u8, edges: &[(u8, u8)], holder: u8) -> Result<Shape, ShapeFault>
+        ensures { IsShaped n (wish.tree edges.now holder) result }
+    {
+        Ok(Shape::Raymond(Tree::of(n, edges, holder)?))
+    }
+}

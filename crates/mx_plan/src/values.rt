@@ -1,0 +1,68 @@
+//! Steps of reading a JSON value.
+
+ghost use Rattle.std.specs.Prelude.{◌≡◌, ◌⊎◌, Some, None, IfOk, IfErr, map, option_map};
+ghost use Rattle.serde_json.specs.View.{view};
+ghost use Rattle.mx_plan.specs.Values as spec;
+
+use crate::faults::PlanFault;
+use serde_json::Value;
+use std::alloc::Global;
+
+/// The value of a text.
+#[tactic(auto, unfolding(crate::specs::Values::value_of))]
+pub fn parse(alloc: Global, text: &[u8]) -> Result<Value, PlanFault>
+    ensures ok { IfOk result (λ v. spec.value_of text.now ≡ Some (view v)) }
+    ensures err { IfErr result (λ e. (e ≡ PlanFault.Memory)
+        ⊎ ((e ≡ PlanFault.NotJson) × (spec.value_of text.now ≡ None))) }
+{
+    match Value::from_slice(alloc, text) {
+        Ok(value) => Ok(value),
+        Err(e) if e.is_memory() => Err(PlanFault::Memory),
+        Err(_) => Err(PlanFault::NotJson),
+    }
+}
+
+/// The elements of an array.
+pub fn elements(value: &Value) -> Option<&[Value]>
+    ensures { option_map (λ vs. map view vs.now) result ≡ spec.elements (view value.now) }
+{
+    match value.as_array() {
+        Some(list) => Some(list.as_slice()),
+        None => None,
+    }
+}
+
+/// The elements of a member that is an array.
+pub fn array_in<'a>(value: Option<&'a Value>) -> Option<&'a [Value]>
+    ensures { option_map (λ vs. map view vs.now) result
+        ≡ spec.array_of (option_map (λ v. view v.now) value.entry) }
+{
+    match value {
+        Some(value) => elements(value),
+        None => None,
+    }
+}
+
+/// The elements of an array, none where the value is no array.
+pub fn list_in(value: &Value) -> &[Value]
+    ensures { map view result.now ≡ spec.list_in (view value.now) }
+{
+    match elements(value) {
+        Some(list) => list,
+        None => &[],
+    }
+}
+
+/// The text of a string, or an empty one.
+pub fn text_in(value: &Value) -> &str
+    ensures { result.now ≡ spec.text_of (view value.now) }
+{
+    value.as_str().unwrap_or("")
+}
+
+/// A member that is there and a whole number.
+pub fn number_in(value: Option<&Value>) -> Option<u64>
+    ensures { result ≡ spec.number_of (option_map (λ v. view v.now) value.entry) }
+{
+    value.and_then(Value::as_u64)
+}
