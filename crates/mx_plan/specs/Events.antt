@@ -1,19 +1,19 @@
 -- The events that a JSON value lists.
-use Rattle.std.specs.Prelude.{ℕ, List, [], ◌∷◌, length, nat_lt, codes, if◌then◌else◌, Option, Some, None, Result, Ok, Err, option_and_then, position}
+use Rattle.std.specs.Prelude.{◌&&◌, ℕ, List, [], ◌∷◌, length, nat_lt, codes, if◌then◌else◌, Option, Some, None, Result, Ok, Err}
 use Rattle.std.specs.Option.{option_map_or}
 use Rattle.std.specs.Str.{bytes_eq}
 use Rattle.serde_json.specs.Data.{Data}
-use Rattle.serde_json.specs.Find.{as_str, as_number, as_u64}
-use Rattle.mx_plan.specs.Text.{Text, is_name}
-use Rattle.mx_plan.specs.Fields.{Fields, node_of}
-use Rattle.mx_plan.specs.Values.{Gives, each_from, elements, of_text}
+use Rattle.mx_plan.specs.Text.{Text}
+use Rattle.mx_plan.specs.Fields.{Fields}
+use Rattle.mx_plan.specs.Values.{and_then, each_from, elements, list_in, number_of, of_text, text_of}
+use Rattle.mx_plan.specs.NameLists.{is_name_value, number_in}
 use Rattle.mx_plan.specs.declared.place.Place.TheVariants as place
 use Rattle.mx_plan.specs.declared.faults.PlanFault.{PlanFault}
-use Rattle.mx_plan.specs.declared.faults.PlanFault.TheVariants.{NotPlan, UnknownName}
+use Rattle.mx_plan.specs.declared.faults.PlanFault.TheVariants.{NotPlan}
 use Rattle.mx_network.specs.declared.event.Event.{Event}
-use Rattle.mx_network.specs.declared.event.Event.TheVariants.{Ask, Enter, Leave, Tick, Restart, Deliver}
-use Rattle.mx_plan.specs.declared.event_reader.Act.{Act}
-use Rattle.mx_plan.specs.declared.event_reader.Act.TheVariants as act
+use Rattle.mx_network.specs.declared.event.Event.TheVariants.{Ask, Enter, Read, Write, Leave, Tick, Want, Deliver, Restart}
+use Rattle.mx_plan.specs.declared.act.Act.{Act}
+use Rattle.mx_plan.specs.declared.act.Act.TheVariants as act
 
 -- the act that a word names
 abbrev pub act_of : Text → Option Act
@@ -31,32 +31,73 @@ by_node act.Leave n = Leave n
 by_node act.Tick n = Tick n
 by_node act.Restart n = Restart n
 
-abbrev pub misfit : ℕ → Result Event PlanFault
+-- the k-th event has no such form
+abbrev pub misfit : {T : Type 0} → ℕ → Result T PlanFault
 misfit k = Err (NotPlan (place.Event k))
 
+-- ["deliver",K]
 abbrev pub delivery : ℕ → Data → Result Event PlanFault
-delivery k d = option_map_or (λ n. Ok (Deliver n)) (option_and_then as_u64 (as_number d)) (misfit k)
+delivery k v = option_map_or (λ number. Ok (Deliver number)) (number_of (Some v)) (misfit k)
 
+-- the k-th event, in a plan's names
 module _ (p : Fields) (k : ℕ) where
-  abbrev pub named : Act → Text → Result Event PlanFault
-  named a name = option_map_or (λ n. Ok (by_node a n)) (node_of p name) (Err (UnknownName (place.Event k)))
+  -- the node, or the register, of a name
+  abbrev pub node_in : Data → Result ℕ PlanFault
+  node_in d = number_in (place.Event k) p.nodes d
 
+  abbrev pub register_in : Data → Result ℕ PlanFault
+  register_in d = number_in (place.Event k) p.registers d
+
+  -- ["ask",N] and the like
   abbrev pub acting : Act → Data → Result Event PlanFault
-  acting a d = option_map_or (λ name. if is_name name then named a name else misfit k) (as_str d) (misfit k)
+  acting a n = if is_name_value n then and_then (node_in n) (λ i. Ok (by_node a i)) else misfit k
 
-  abbrev pub worded : Text → Data → Result Event PlanFault
-  worded w d = if bytes_eq w (codes "deliver") then delivery k d
-      else option_map_or (λ a. acting a d) (act_of w) (misfit k)
+  -- ["read",N,R]
+  abbrev pub reading : Data → Data → Result Event PlanFault
+  reading n r =
+      if is_name_value n && is_name_value r
+      then and_then (node_in n) (λ i. and_then (register_in r) (λ j. Ok (Read i j)))
+      else misfit k
 
-  abbrev pub pair : Data → Data → Result Event PlanFault
-  pair w d = option_map_or (λ word. worded word d) (as_str w) (misfit k)
+  -- ["want",N,M]
+  abbrev pub wanting : Data → Data → Result Event PlanFault
+  wanting n m =
+      if is_name_value n && is_name_value m
+      then and_then (node_in n) (λ i. and_then (node_in m) (λ j. Ok (Want i j)))
+      else misfit k
+
+  -- ["write",N,R,V], where the value is a number
+  abbrev pub writing_of : Data → Data → ℕ → Result Event PlanFault
+  writing_of n r value =
+      if is_name_value n && is_name_value r
+      then and_then (node_in n) (λ i. and_then (register_in r) (λ j. Ok (Write i j value)))
+      else misfit k
+
+  abbrev pub writing : Data → Data → Data → Result Event PlanFault
+  writing n r v = option_map_or (writing_of n r) (number_of (Some v)) (misfit k)
+
+  -- a word and what follows it
+  abbrev pub with_one : Text → Data → Result Event PlanFault
+  with_one w a =
+      if bytes_eq w (codes "deliver") then delivery k a else option_map_or (λ act. acting act a) (act_of w) (misfit k)
+
+  abbrev pub with_two : Text → Data → Data → Result Event PlanFault
+  with_two w a b =
+      if bytes_eq w (codes "read") then reading a b
+      else if bytes_eq w (codes "want") then wanting a b
+      else misfit k
+
+  abbrev pub with_three : Text → Data → Data → Data → Result Event PlanFault
+  with_three w a b c = if bytes_eq w (codes "write") then writing a b c else misfit k
 
   abbrev pub listed : List Data → Result Event PlanFault
-  listed (w ∷ d ∷ []) = pair w d
+  listed (w ∷ a ∷ []) = with_one (text_of w) a
+  listed (w ∷ a ∷ b ∷ []) = with_two (text_of w) a b
+  listed (w ∷ a ∷ b ∷ c ∷ []) = with_three (text_of w) a b c
   listed _ = misfit k
 
   unfoldable pub event_of : Data → Result Event PlanFault
-  event_of d = option_map_or listed (elements d) (misfit k)
+  event_of d = listed (list_in d)
 
 -- the events from the k-th on
 abbrev pub events_from : Fields → ℕ → List Data → Result (List Event) PlanFault

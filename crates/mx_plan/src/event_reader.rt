@@ -5,32 +5,25 @@ ghost use Rattle.serde_json.specs.View.{view};
 ghost use Rattle.mx_plan.specs.Values.{Gives};
 ghost use Rattle.mx_plan.specs.Events as spec;
 
+use crate::act::{Act, act_of};
 use crate::faults::PlanFault;
-use crate::names::is_name;
+use crate::name_reader::is_name_value;
 use crate::place::Place;
 use crate::plan::Plan;
-use crate::values::{elements, parse};
+use crate::values::{elements, list_in, parse, text_in};
 use mx_network::Event;
 use mx_stamps::NodeId;
 use serde_json::Value;
 use std::alloc::Global;
 
-/// What one node does alone.
-#[derive(Clone, Copy, Debug, PartialEq, Eq)]
-pub enum Act {
-    Ask,
-    Enter,
-    Leave,
-    Tick,
-    Restart,
-}
-
 /// How many events a text lists at the most.
-const MAX_EVENTS: usize = 1_000_000;
+const MOST_EVENTS: usize = 1_000_000;
 
-/// Reads a list of at most 1,000,000 events: arrays of a word and of a name of the plan's nodes, or
-/// of `"deliver"` and a parcel's number. Each event is checked first for its form and then for its
-/// name; a longer list is refused at event 1,000,000.
+/// Reads a list of at most 1,000,000 events. Each is an array of a word and of names of the plan's
+/// nodes and registers, and of whole numbers of 64 bits: `["ask",N]`, `["enter",N]`, `["read",N,R]`,
+/// `["write",N,R,V]`, `["leave",N]`, `["tick",N]`, `["want",N,M]`, `["deliver",K]` and `["restart",N]`.
+/// Each event is checked first for its form and then for its names; a longer list is refused at
+/// event 1,000,000, before its events are looked at.
 pub fn read_events(alloc: Global, text: &[u8], plan: &Plan) -> Result<Vec<Event>, PlanFault>
     ensures { Gives (spec.events_at plan.now text.now) result }
 {
@@ -43,8 +36,8 @@ fn events_in(alloc: Global, value: &Value, plan: &Plan) -> Result<Vec<Event>, Pl
 {
     match elements(value) {
         None => Err(PlanFault::NotPlan(Place::Events)),
-        Some(values) if values.len() > MAX_EVENTS => Err(PlanFault::NotPlan(Place::Event(
-            MAX_EVENTS as u64,
+        Some(values) if values.len() > MOST_EVENTS => Err(PlanFault::NotPlan(Place::Event(
+            MOST_EVENTS as u64,
         ))),
         Some(values) => each_event(alloc, values, plan),
     }
@@ -63,90 +56,139 @@ fn each_event(alloc: Global, values: &[Value], plan: &Plan) -> Result<Vec<Event>
     Ok(events)
 }
 
+/// The k-th event, by how many values it lists.
 #[tactic(auto, unfolding(crate::specs::Events::event_of))]
 fn event_in(plan: &Plan, value: &Value, k: u64) -> Result<Event, PlanFault>
     ensures { result ≡ spec.event_of plan.now k (view value.now) }
 {
-    match elements(value) {
-        Some([word, argument]) => pair_event(plan, word, argument, k),
+    match list_in(value) {
+        [word, a] => with_one(plan, text_in(word), a, k),
+        [word, a, b] => with_two(plan, text_in(word), a, b, k),
+        [word, a, b, c] => with_three(plan, text_in(word), a, b, c, k),
         _ => Err(PlanFault::NotPlan(Place::Event(k))),
     }
 }
 
-fn pair_event(plan: &Plan, word: &Value, argument: &Value, k: u64) -> Result<Event, PlanFault>
-    ensures { result ≡ spec.pair plan.now k (view word.now) (view argument.now) }
-{
-    match word.as_str() {
-        Some(word) => worded_event(plan, word, argument, k),
-        None => Err(PlanFault::NotPlan(Place::Event(k))),
-    }
-}
-
-fn worded_event(plan: &Plan, word: &str, argument: &Value, k: u64) -> Result<Event, PlanFault>
-    ensures { result ≡ spec.worded plan.now k word.now (view argument.now) }
+fn with_one(plan: &Plan, word: &str, a: &Value, k: u64) -> Result<Event, PlanFault>
+    ensures { result ≡ spec.with_one plan.now k word.now (view a.now) }
 {
     if word == "deliver" {
-        return delivery(argument, k);
+        return delivery(a, k);
     }
     match act_of(word) {
-        Some(act) => acting(plan, act, argument, k),
+        Some(act) => acting(plan, act, a, k),
         None => Err(PlanFault::NotPlan(Place::Event(k))),
     }
 }
 
-fn delivery(argument: &Value, k: u64) -> Result<Event, PlanFault>
-    ensures { result ≡ spec.delivery k (view argument.now) }
+fn with_two(plan: &Plan, word: &str, a: &Value, b: &Value, k: u64) -> Result<Event, PlanFault>
+    ensures { result ≡ spec.with_two plan.now k word.now (view a.now) (view b.now) }
 {
-    match argument.as_u64() {
+    if word == "read" {
+        reading(plan, a, b, k)
+    } else if word == "want" {
+        wanting(plan, a, b, k)
+    } else {
+        Err(PlanFault::NotPlan(Place::Event(k)))
+    }
+}
+
+fn with_three(
+    plan: &Plan,
+    word: &str,
+    a: &Value,
+    b: &Value,
+    c: &Value,
+    k: u64,
+) -> Result<Event, PlanFault>
+    ensures { result
+        ≡ spec.with_three plan.now k word.now (view a.now) (view b.now) (view c.now) }
+{
+    if word == "write" {
+        writing(plan, a, b, c, k)
+    } else {
+        Err(PlanFault::NotPlan(Place::Event(k)))
+    }
+}
+
+fn delivery(number: &Value, k: u64) -> Result<Event, PlanFault>
+    ensures { result ≡ spec.delivery k (view number.now) }
+{
+    match number.as_u64() {
         Some(number) => Ok(Event::Deliver(number)),
         None => Err(PlanFault::NotPlan(Place::Event(k))),
     }
 }
 
-fn acting(plan: &Plan, act: Act, argument: &Value, k: u64) -> Result<Event, PlanFault>
-    ensures { result ≡ spec.acting plan.now k act (view argument.now) }
+fn acting(plan: &Plan, act: Act, node: &Value, k: u64) -> Result<Event, PlanFault>
+    ensures { result ≡ spec.acting plan.now k act (view node.now) }
 {
-    match argument.as_str() {
-        Some(name) if is_name(name) => named(plan, act, name, k),
-        _ => Err(PlanFault::NotPlan(Place::Event(k))),
+    if !is_name_value(node) {
+        return Err(PlanFault::NotPlan(Place::Event(k)));
     }
+    let node = node_in(plan, node, k)?;
+    Ok(act.by_node(node))
 }
 
-fn named(plan: &Plan, act: Act, name: &str, k: u64) -> Result<Event, PlanFault>
-    ensures { result ≡ spec.named plan.now k act name.now }
+fn reading(plan: &Plan, node: &Value, register: &Value, k: u64) -> Result<Event, PlanFault>
+    ensures { result ≡ spec.reading plan.now k (view node.now) (view register.now) }
 {
-    match plan.node(name) {
-        Some(node) => Ok(by_node(act, node)),
+    if !is_name_value(node) || !is_name_value(register) {
+        return Err(PlanFault::NotPlan(Place::Event(k)));
+    }
+    let node = node_in(plan, node, k)?;
+    let register = register_in(plan, register, k)?;
+    Ok(Event::Read(node, register))
+}
+
+fn wanting(plan: &Plan, node: &Value, other: &Value, k: u64) -> Result<Event, PlanFault>
+    ensures { result ≡ spec.wanting plan.now k (view node.now) (view other.now) }
+{
+    if !is_name_value(node) || !is_name_value(other) {
+        return Err(PlanFault::NotPlan(Place::Event(k)));
+    }
+    let node = node_in(plan, node, k)?;
+    let other = node_in(plan, other, k)?;
+    Ok(Event::Want(node, other))
+}
+
+fn writing(
+    plan: &Plan,
+    node: &Value,
+    register: &Value,
+    value: &Value,
+    k: u64,
+) -> Result<Event, PlanFault>
+    ensures { result
+        ≡ spec.writing plan.now k (view node.now) (view register.now) (view value.now) }
+{
+    let Some(value) = value.as_u64() else {
+        return Err(PlanFault::NotPlan(Place::Event(k)));
+    };
+    if !is_name_value(node) || !is_name_value(register) {
+        return Err(PlanFault::NotPlan(Place::Event(k)));
+    }
+    let node = node_in(plan, node, k)?;
+    let register = register_in(plan, register, k)?;
+    Ok(Event::Write(node, register, value))
+}
+
+/// The node of a name.
+fn node_in(plan: &Plan, name: &Value, k: u64) -> Result<NodeId, PlanFault>
+    ensures { result ≡ spec.node_in plan.now k (view name.now) }
+{
+    match plan.node(text_in(name)) {
+        Some(node) => Ok(node),
         None => Err(PlanFault::UnknownName(Place::Event(k))),
     }
 }
 
-fn by_node(act: Act, node: NodeId) -> Event
-    ensures { result ≡ spec.by_node act node }
+/// The register of a name.
+fn register_in(plan: &Plan, name: &Value, k: u64) -> Result<u8, PlanFault>
+    ensures { result ≡ spec.register_in plan.now k (view name.now) }
 {
-    match act {
-        Act::Ask => Event::Ask(node),
-        Act::Enter => Event::Enter(node),
-        Act::Leave => Event::Leave(node),
-        Act::Tick => Event::Tick(node),
-        Act::Restart => Event::Restart(node),
-    }
-}
-
-fn act_of(word: &str) -> Option<Act>
-    ensures { result ≡ spec.act_of word.now }
-{
-    if word == "ask" {
-        Some(Act::Ask)
-    } else if word == "enter" {
-        Some(Act::Enter)
-    } else if word == "leave" {
-        Some(Act::Leave)
-    } else if word == "tick" {
-        Some(Act::Tick)
-    } else if word == "restart" {
-        Some(Act::Restart)
-    } else {
-        None
+    match plan.register(text_in(name)) {
+        Some(register) => Ok(register),
+        None => Err(PlanFault::UnknownName(Place::Event(k))),
     }
 }

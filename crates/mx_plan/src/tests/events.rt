@@ -9,56 +9,124 @@ use std::test::Fail;
 
 /// One event of each kind.
 const EVENTS: &str =
-    "[[\"ask\",\"a\"],[\"enter\",\"b\"],[\"leave\",\"c\"],[\"tick\",\"a\"],[\"deliver\",18446744073709551615],[\"restart\",\"b\"]]";
+    "[[\"ask\",\"a\"],[\"enter\",\"b\"],[\"read\",\"b\",\"count\"],[\"write\",\"c\",\"count\",18446744073709551615],[\"leave\",\"c\"],[\"tick\",\"a\"],[\"want\",\"b\",\"a\"],[\"deliver\",18446744073709551615],[\"restart\",\"b\"]]";
 
 /// Why the text lists no events.
 fn events_fault(alloc: Global, text: &str) -> Result<Option<PlanFault>, Fail> {
-    let plan = plan_of(alloc, &[FIRST])?;
+    let plan = plan_of(alloc, FIRST, "")?;
     Ok(read_events(alloc, text.as_bytes(), &plan).err())
 }
 
 #[test]
 fn each_event_is_read(rt: HostRuntime) -> Result<(), Fail> {
-    let plan = plan_of(rt.alloc(), &[FIRST])?;
+    let plan = plan_of(rt.alloc(), FIRST, "")?;
     let events = read_events(rt.alloc(), EVENTS.as_bytes(), &plan)?;
     let a = NodeId::of(0).ok_or("node")?;
     let b = NodeId::of(1).ok_or("node")?;
     let c = NodeId::of(2).ok_or("node")?;
-    assert_eq!(rt; events.len(), 6);
+    assert_eq!(rt; events.len(), 9);
     assert_eq!(rt; events[0], Event::Ask(a));
     assert_eq!(rt; events[1], Event::Enter(b));
-    assert_eq!(rt; events[2], Event::Leave(c));
-    assert_eq!(rt; events[3], Event::Tick(a));
-    assert_eq!(rt; events[4], Event::Deliver(18446744073709551615));
-    assert_eq!(rt; events[5], Event::Restart(b));
+    assert_eq!(rt; events[2], Event::Read(b, 0));
+    assert_eq!(rt; events[3], Event::Write(c, 0, 18446744073709551615));
+    assert_eq!(rt; events[4], Event::Leave(c));
+    assert_eq!(rt; events[5], Event::Tick(a));
+    assert_eq!(rt; events[6], Event::Want(b, a));
+    assert_eq!(rt; events[7], Event::Deliver(18446744073709551615));
+    assert_eq!(rt; events[8], Event::Restart(b));
     Ok(())
 }
 
-/// Events that are refused, and why.
-fn bad_events() -> [(&'static str, PlanFault); 6] {
-    [
-        ("{}", PlanFault::NotPlan(Place::Events)),
-        (
-            "[[\"tick\",\"a\"],[\"cancel\",\"z\"]]",
-            PlanFault::NotPlan(Place::Event(1)),
-        ),
-        (
-            "[[\"read\",\"a\",\"count\"]]",
-            PlanFault::NotPlan(Place::Event(0)),
-        ),
-        ("[[\"ask\",\"a b\"]]", PlanFault::NotPlan(Place::Event(0))),
-        ("[[\"deliver\",\"a\"]]", PlanFault::NotPlan(Place::Event(0))),
-        (
-            "[[\"ask\",\"z\"],[\"ask\"]]",
-            PlanFault::UnknownName(Place::Event(0)),
-        ),
-    ]
-}
+/// Lists of one event that is of no such form.
+const MISFITS: [&str; 18] = [
+    "[\"ask\"]",
+    "[[]]",
+    "[[1,\"a\"]]",
+    "[[\"cancel\",\"a\"]]",
+    "[[\"ask\",\"a b\"]]",
+    "[[\"ask\",\"a\",\"b\"]]",
+    "[[\"deliver\",\"a\"]]",
+    "[[\"deliver\",-1]]",
+    "[[\"deliver\",1,2]]",
+    "[[\"read\",\"a\"]]",
+    "[[\"read\",\"z\",0]]",
+    "[[\"read\",\"a\",\"count\",1]]",
+    "[[\"want\",\"z\",\"\"]]",
+    "[[\"want\",\"a\"]]",
+    "[[\"write\",\"a\",\"count\"]]",
+    "[[\"write\",\"a\",\"count\",\"1\"]]",
+    "[[\"write\",\"a\",\"count\",1.0]]",
+    "[[\"write\",\"z\",\"count\",18446744073709551616]]",
+];
+
+/// Lists of one event with a name that the plan does not have, or not in this place.
+const STRANGERS: [&str; 7] = [
+    "[[\"ask\",\"z\"]]",
+    "[[\"ask\",\"count\"]]",
+    "[[\"read\",\"a\",\"z\"]]",
+    "[[\"read\",\"z\",\"count\"]]",
+    "[[\"read\",\"count\",\"a\"]]",
+    "[[\"want\",\"a\",\"z\"]]",
+    "[[\"write\",\"a\",\"b\",0]]",
+];
 
 #[test]
 fn events_are_refused_in_order(rt: HostRuntime) -> Result<(), Fail> {
-    for (text, fault) in bad_events() {
-        assert_eq!(rt; events_fault(rt.alloc(), text)?, Some(fault), "{text}");
+    let alloc = rt.alloc();
+    for text in &MISFITS {
+        let fault = events_fault(alloc, *text)?;
+        assert_eq!(rt; fault, Some(PlanFault::NotPlan(Place::Event(0))), "{text}");
     }
+    for text in &STRANGERS {
+        let fault = events_fault(alloc, *text)?;
+        assert_eq!(rt;
+            fault,
+            Some(PlanFault::UnknownName(Place::Event(0))),
+            "{text}"
+        );
+    }
+    assert_eq!(rt;
+        events_fault(alloc, "{}")?,
+        Some(PlanFault::NotPlan(Place::Events))
+    );
+    assert_eq!(rt;
+        events_fault(alloc, "[[\"tick\",\"a\"],[\"ask\"],[\"ask\",\"z\"]]")?,
+        Some(PlanFault::NotPlan(Place::Event(1)))
+    );
+    assert_eq!(rt;
+        events_fault(alloc, "[[\"ask\",\"z\"],[\"ask\"]]")?,
+        Some(PlanFault::UnknownName(Place::Event(0)))
+    );
+    Ok(())
+}
+
+/// A list of this many zeros.
+fn zeros(alloc: Global, count: usize) -> Result<Vec<u8>, Fail> {
+    let mut text = Vec::with_capacity(alloc, 3_000_000)?;
+    text.push(b'[')?;
+    for k in 0..count {
+        if k > 0 {
+            text.push(b',')?;
+        }
+        text.push(b'0')?;
+    }
+    text.push(b']')?;
+    Ok(text)
+}
+
+#[test]
+fn a_long_list_is_refused_before_its_events(rt: HostRuntime) -> Result<(), Fail> {
+    let alloc = rt.alloc();
+    let plan = plan_of(alloc, FIRST, "")?;
+    let long = zeros(alloc, 1_000_001)?;
+    assert_eq!(rt;
+        read_events(alloc, long.as_slice(), &plan).err(),
+        Some(PlanFault::NotPlan(Place::Event(1_000_000)))
+    );
+    let full = zeros(alloc, 1_000_000)?;
+    assert_eq!(rt;
+        read_events(alloc, full.as_slice(), &plan).err(),
+        Some(PlanFault::NotPlan(Place::Event(0)))
+    );
     Ok(())
 }

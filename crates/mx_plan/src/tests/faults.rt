@@ -11,10 +11,22 @@ const WORKED: [Case; 8] = [
     ("[]", "bad plan: plan"),
     ("{}", "bad plan: algorithm"),
     ("{\"algorithm\":\"lamport\"}", "bad plan: algorithm"),
-    ("{\"algorithm\":\"ricart\",\"nodes\":[\"a\",\"a\"],\"registers\":[\"count\"],\"sections\":10}", "double name: nodes"),
-    ("{\"algorithm\":\"ricart\",\"nodes\":[\"a\",\"b\",\"c\"],\"registers\":[\"count\"],\"sections\":0}", "bad plan: sections"),
-    ("{\"algorithm\":\"raymond\",\"nodes\":[\"a\",\"b\"],\"registers\":[\"count\"],\"sections\":10,\"edges\":[[\"a\",\"c\"]],\"holder\":\"a\"}", "unknown name: edges"),
-    ("{\"algorithm\":\"maekawa\",\"nodes\":[\"a\",\"b\",\"c\",\"d\",\"e\",\"f\",\"g\",\"h\"],\"registers\":[\"count\"],\"sections\":10,\"quorums\":{\"kind\":\"plane\"}}", "bad shape: no plane 8"),
+    (
+        "{\"algorithm\":\"ricart\",\"nodes\":[\"a\",\"a\"],\"registers\":[\"count\"],\"sections\":10}",
+        "double name: nodes",
+    ),
+    (
+        "{\"algorithm\":\"ricart\",\"nodes\":[\"a\",\"b\",\"c\"],\"registers\":[\"count\"],\"sections\":0}",
+        "bad plan: sections",
+    ),
+    (
+        "{\"algorithm\":\"raymond\",\"nodes\":[\"a\",\"b\"],\"registers\":[\"count\"],\"sections\":10,\"edges\":[[\"a\",\"c\"]],\"holder\":\"a\"}",
+        "unknown name: edges",
+    ),
+    (
+        "{\"algorithm\":\"maekawa\",\"nodes\":[\"a\",\"b\",\"c\",\"d\",\"e\",\"f\",\"g\",\"h\"],\"registers\":[\"count\"],\"sections\":10,\"quorums\":{\"kind\":\"plane\"}}",
+        "bad shape: no plane 8",
+    ),
 ];
 
 #[test]
@@ -60,8 +72,14 @@ const LISTS: [Case; 12] = [
     ("[\"a\"]}", "bad plan: registers"),
     ("[\"a\"],\"registers\":[]}", "bad plan: registers"),
     ("[\"a\"],\"registers\":[\"é\"]}", "bad plan: registers"),
-    ("[\"a\"],\"registers\":[\"r\",\"r\"]}", "double name: registers"),
-    ("[\"abcdefghijklmnop\"],\"registers\":[\"A_-9\",\"a_-9\"]}", "bad plan: sections"),
+    (
+        "[\"a\"],\"registers\":[\"r\",\"r\"]}",
+        "double name: registers",
+    ),
+    (
+        "[\"abcdefghijklmnop\"],\"registers\":[\"A_-9\",\"a_-9\"]}",
+        "bad plan: sections",
+    ),
 ];
 
 /// What a plan of three nodes says of its quorums.
@@ -70,15 +88,39 @@ const QUORUMS: [Case; 13] = [
     ("{}}", "bad plan: quorums"),
     ("{\"kind\":\"square\"}}", "bad plan: quorums"),
     ("{\"kind\":\"grid\",\"rows\":3}}", "bad plan: quorums"),
-    ("{\"kind\":\"grid\",\"rows\":2,\"cols\":2}}", "bad plan: quorums"),
-    ("{\"kind\":\"grid\",\"rows\":0,\"cols\":3}}", "bad plan: quorums"),
-    ("{\"kind\":\"grid\",\"rows\":7378697629483820647,\"cols\":5}}", "bad plan: quorums"),
+    (
+        "{\"kind\":\"grid\",\"rows\":2,\"cols\":2}}",
+        "bad plan: quorums",
+    ),
+    (
+        "{\"kind\":\"grid\",\"rows\":0,\"cols\":3}}",
+        "bad plan: quorums",
+    ),
+    (
+        "{\"kind\":\"grid\",\"rows\":7378697629483820647,\"cols\":5}}",
+        "bad plan: quorums",
+    ),
     ("{\"kind\":\"listed\"}}", "bad plan: quorums"),
-    ("{\"kind\":\"listed\",\"sets\":[[\"a\"],[\"a\",\"b\"]]}}", "bad plan: quorums"),
-    ("{\"kind\":\"listed\",\"sets\":[[\"a\"],[\"z\"],\"c\"]}}", "bad plan: quorums"),
-    ("{\"kind\":\"listed\",\"sets\":[[\"z\"],[\"a\"],[\"a b\"]]}}", "bad plan: quorums"),
-    ("{\"kind\":\"listed\",\"sets\":[[\"a\"],[\"b\"],[\"c\",\"z\"]]}}", "unknown name: quorums"),
-    ("{\"kind\":\"listed\",\"sets\":[[],[\"b\",\"z\"],[\"c\"]]}}", "unknown name: quorums"),
+    (
+        "{\"kind\":\"listed\",\"sets\":[[\"a\"],[\"a\",\"b\"]]}}",
+        "bad plan: quorums",
+    ),
+    (
+        "{\"kind\":\"listed\",\"sets\":[[\"a\"],[\"z\"],\"c\"]}}",
+        "bad plan: quorums",
+    ),
+    (
+        "{\"kind\":\"listed\",\"sets\":[[\"z\"],[\"a\"],[\"a b\"]]}}",
+        "bad plan: quorums",
+    ),
+    (
+        "{\"kind\":\"listed\",\"sets\":[[\"a\"],[\"b\"],[\"c\",\"z\"]]}}",
+        "unknown name: quorums",
+    ),
+    (
+        "{\"kind\":\"listed\",\"sets\":[[],[\"b\",\"z\"],[\"c\"]]}}",
+        "unknown name: quorums",
+    ),
 ];
 
 /// The edges of a plan of three nodes, and its holder.
@@ -87,7 +129,10 @@ const TREES: [Case; 12] = [
     ("[\"ab\"],\"holder\":\"a\"}", "bad plan: edges"),
     ("[[\"a\"]],\"holder\":\"a\"}", "bad plan: edges"),
     ("[[\"a\",\"b\",\"c\"]],\"holder\":\"a\"}", "bad plan: edges"),
-    ("[[\"a\",\"z\"],[\"a\",0]],\"holder\":\"a\"}", "bad plan: edges"),
+    (
+        "[[\"a\",\"z\"],[\"a\",0]],\"holder\":\"a\"}",
+        "bad plan: edges",
+    ),
     ("[[\"a\",\"b c\"]],\"holder\":\"a\"}", "bad plan: edges"),
     ("[[\"z\",\"a\"]],\"holder\":\"y\"}", "unknown name: edges"),
     ("[[\"a\",\"a\"]]}", "bad plan: holder"),

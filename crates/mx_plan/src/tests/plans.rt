@@ -53,7 +53,10 @@ const NUMBERS: [Case; 12] = [
     ("\"sections\":1,\"origin\":1.0}", "bad plan: origin"),
     ("\"sections\":1,\"origin\":1e0}", "bad plan: origin"),
     ("\"sections\":1,\"origin\":-0}", "bad plan: origin"),
-    ("\"sections\":1,\"origin\":18446744073709551616}", "bad plan: origin"),
+    (
+        "\"sections\":1,\"origin\":18446744073709551616}",
+        "bad plan: origin",
+    ),
     ("\"sections\":1,\"origin\":1e400}", "not json"),
 ];
 
@@ -76,8 +79,7 @@ fn names(alloc: Global, count: u8) -> Result<String, AllocError> {
 fn sized(alloc: Global, nodes: u8, registers: u8) -> Result<String, AllocError> {
     let nodes = names(alloc, nodes)?;
     let registers = names(alloc, registers)?;
-    format!(
-        in alloc;
+    format!(in alloc;
         "{{\"algorithm\":\"ricart\",\"nodes\":[{nodes}],\"registers\":[{registers}],\"sections\":1}}"
     )
 }

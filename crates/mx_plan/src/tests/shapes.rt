@@ -47,7 +47,8 @@ fn toward(tree: &Tree, i: u8) -> Option<u8> {
 fn listed_sets_are_read(rt: HostRuntime) -> Result<(), Fail> {
     let plan = plan_of(
         rt.alloc(),
-        MAEKAWA, "{\"kind\":\"listed\",\"sets\":[[\"a\",\"b\"],[\"b\",\"c\",\"b\"],[\"c\",\"a\"]]}}",
+        MAEKAWA,
+        "{\"kind\":\"listed\",\"sets\":[[\"a\",\"b\"],[\"b\",\"c\",\"b\"],[\"c\",\"a\"]]}}",
     )?;
     let quorums = quorums(&plan).ok_or("quorums")?;
     assert_eq!(rt; quorums.nodes(), 3);
@@ -61,7 +62,8 @@ fn listed_sets_are_read(rt: HostRuntime) -> Result<(), Fail> {
 fn plane_of_seven_is_read(rt: HostRuntime) -> Result<(), Fail> {
     let plan = plan_of(
         rt.alloc(),
-        "{\"algorithm\":\"maekawa\",\"nodes\":[\"a\",\"b\",\"c\",\"d\",\"e\",\"f\",\"g\"],", "\"registers\":[\"r\"],\"sections\":10,\"quorums\":{\"kind\":\"plane\"}}",
+        "{\"algorithm\":\"maekawa\",\"nodes\":[\"a\",\"b\",\"c\",\"d\",\"e\",\"f\",\"g\"],",
+        "\"registers\":[\"r\"],\"sections\":10,\"quorums\":{\"kind\":\"plane\"}}",
     )?;
     let quorums = quorums(&plan).ok_or("quorums")?;
     assert_eq!(rt; quorums.nodes(), 7);
@@ -74,7 +76,8 @@ fn plane_of_seven_is_read(rt: HostRuntime) -> Result<(), Fail> {
 fn grid_of_two_rows_is_read(rt: HostRuntime) -> Result<(), Fail> {
     let plan = plan_of(
         rt.alloc(),
-        "{\"algorithm\":\"maekawa\",\"nodes\":[\"a\",\"b\",\"c\",\"d\",\"e\",\"f\"],", "\"registers\":[\"r\"],\"sections\":10,\"quorums\":{\"kind\":\"grid\",\"rows\":2,\"cols\":3}}",
+        "{\"algorithm\":\"maekawa\",\"nodes\":[\"a\",\"b\",\"c\",\"d\",\"e\",\"f\"],",
+        "\"registers\":[\"r\"],\"sections\":10,\"quorums\":{\"kind\":\"grid\",\"rows\":2,\"cols\":3}}",
     )?;
     let quorums = quorums(&plan).ok_or("quorums")?;
     assert_eq!(rt; quorums.nodes(), 6);
@@ -87,7 +90,8 @@ fn grid_of_two_rows_is_read(rt: HostRuntime) -> Result<(), Fail> {
 fn line_is_read(rt: HostRuntime) -> Result<(), Fail> {
     let plan = plan_of(
         rt.alloc(),
-        RAYMOND, "[[\"a\",\"b\"],[\"b\",\"c\"]],\"holder\":\"a\"}",
+        RAYMOND,
+        "[[\"a\",\"b\"],[\"b\",\"c\"]],\"holder\":\"a\"}",
     )?;
     let tree = tree(&plan).ok_or("tree")?;
     assert_eq!(rt; tree.nodes(), 3);
@@ -101,17 +105,35 @@ fn line_is_read(rt: HostRuntime) -> Result<(), Fail> {
 /// Quorums that three nodes cannot have.
 const QUORUMS: [Case; 4] = [
     ("{\"kind\":\"plane\"}}", "bad shape: no plane 3"),
-    ("{\"kind\":\"listed\",\"sets\":[[\"a\"],[],[]]}}", "bad shape: empty set 1"),
-    ("{\"kind\":\"listed\",\"sets\":[[\"a\",\"b\"],[\"c\"],[\"c\",\"a\"]]}}", "bad shape: not own member 1"),
-    ("{\"kind\":\"listed\",\"sets\":[[\"a\",\"b\"],[\"b\"],[\"c\"]]}}", "bad shape: apart 0 2"),
+    (
+        "{\"kind\":\"listed\",\"sets\":[[\"a\"],[],[]]}}",
+        "bad shape: empty set 1",
+    ),
+    (
+        "{\"kind\":\"listed\",\"sets\":[[\"a\",\"b\"],[\"c\"],[\"c\",\"a\"]]}}",
+        "bad shape: not own member 1",
+    ),
+    (
+        "{\"kind\":\"listed\",\"sets\":[[\"a\",\"b\"],[\"b\"],[\"c\"]]}}",
+        "bad shape: apart 0 2",
+    ),
 ];
 
 /// Edges that are no tree of three nodes.
 const TREES: [Case; 4] = [
-    ("[[\"a\",\"b\"],[\"c\",\"c\"]],\"holder\":\"a\"}", "bad shape: bad edge 1"),
+    (
+        "[[\"a\",\"b\"],[\"c\",\"c\"]],\"holder\":\"a\"}",
+        "bad shape: bad edge 1",
+    ),
     ("[],\"holder\":\"a\"}", "bad shape: wrong count"),
-    ("[[\"a\",\"b\"],[\"b\",\"c\"],[\"c\",\"a\"]],\"holder\":\"a\"}", "bad shape: wrong count"),
-    ("[[\"a\",\"b\"],[\"a\",\"b\"]],\"holder\":\"a\"}", "bad shape: not joined 2"),
+    (
+        "[[\"a\",\"b\"],[\"b\",\"c\"],[\"c\",\"a\"]],\"holder\":\"a\"}",
+        "bad shape: wrong count",
+    ),
+    (
+        "[[\"a\",\"b\"],[\"a\",\"b\"]],\"holder\":\"a\"}",
+        "bad shape: not joined 2",
+    ),
 ];
 
 #[test]
