@@ -1,11 +1,11 @@
 -- Lemmas on lists of names and of values.
-use Rattle.std.proofs.Common.{◌≡◌, ◌∙◌, ℕ, ◌+◌, ◌<◌, ◌≤◌, List, [], ◌∷◌, ◌++◌, ◌||◌, Bool, true, false, cond, not, length, map, ap, sym, refl, arith, rules, Option, Some, None, ◌⊎◌, inl, inr, take, drop, get_or}
+use Rattle.std.proofs.Common.{◌≡◌, ◌∙◌, ℕ, ◌+◌, ◌<◌, ◌≤◌, List, [], ◌∷◌, ◌++◌, ◌||◌, Bool, true, false, not, length, map, ap, sym, refl, arith, ◌⊎◌, inl, inr, take, drop, get_or}
 use Rattle.std.specs.List.{list_all, list_any, position, prefix_len}
 use Rattle.std.specs.Str.{bytes_eq}
 use Rattle.std.proofs.lemmas.List.Folds.{list_all-map, list_all_at, list_any-append}
 use Rattle.std.proofs.lemmas.List.{map-append, take-append-drop, take_all, take_more}
-use Rattle.serde_json.specs.Data.{Data, Items, item, no_items}
-use Rattle.serde_json.specs.View.{view, items_of}
+use Rattle.serde_json.specs.Data.{Data}
+use Rattle.serde_json.specs.View.{items_of}
 use Rattle.mx_plan.specs.Text.{Text, has_double}
 use Rattle.mx_plan.specs.Values.{list_of, text_of}
 

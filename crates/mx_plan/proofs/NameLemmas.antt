@@ -1,5 +1,5 @@
 -- The names that the rules give are names.
-use Rattle.std.proofs.Common.{◌≡◌, ◌⊎◌, ◌≤◌, ◌<◌, ◌&&◌, ◌∙◌, ℕ, List, [], ◌∷◌, Bool, true, false, if◌then◌else◌, length, map, nat_le, refl, ap, sym, arith, Option, Some, None, Result, Ok, Err, inl, inr, unwrap_or, IfOk}
+use Rattle.std.proofs.Common.{◌≡◌, ◌&&◌, ◌∙◌, ℕ, List, [], ◌∷◌, Bool, true, false, if◌then◌else◌, length, map, nat_le, refl, ap, sym, arith, Option, Some, None, Result, Ok, Err, inl, inr, unwrap_or, IfOk}
 use Rattle.std.specs.List.{list_all}
 use Rattle.std.specs.Option.{option_map_or}
 use Rattle.std.proofs.lemmas.Bool.Decides.{nat_tests}
@@ -11,7 +11,7 @@ use Rattle.mx_plan.specs.Values.{Answers, text_of}
 use Rattle.mx_plan.specs.NameLists.{names_from, are_names, distinct_names, is_name_value}
 use Rattle.mx_plan.specs.declared.place.Place.{Place}
 use Rattle.mx_plan.specs.declared.faults.PlanFault.{PlanFault}
-use Rattle.mx_plan.specs.declared.faults.PlanFault.TheVariants.{NotPlan, DoubleName, Memory}
+use Rattle.mx_plan.specs.declared.faults.PlanFault.TheVariants.{NotPlan, DoubleName}
 use Rattle.mx_plan.proofs.Lists.{length-map'}
 
 -- the texts of names are names

@@ -1,5 +1,5 @@
 -- The plan that a text is.
-use Rattle.std.specs.Prelude.{◌≡◌, ◌⊎◌, ◌&&◌, ℕ, List, Bool, not, length, nat_le, codes, if◌then◌else◌, Option, Some, None, Result, Ok, Err, option_and_then}
+use Rattle.std.specs.Prelude.{◌≡◌, ◌⊎◌, ◌&&◌, ℕ, List, not, length, nat_le, codes, if◌then◌else◌, Option, Some, None, Result, Ok, Err, option_and_then}
 use Rattle.std.specs.Option.{option_map_or}
 use Rattle.std.specs.Str.{bytes_eq}
 use Rattle.serde_json.specs.Data.{Data}
@@ -17,7 +17,7 @@ use Rattle.mx_plan.specs.declared.shape.Shape.{Shape}
 use Rattle.mx_plan.specs.declared.algorithm.Algorithm.{Algorithm}
 use Rattle.mx_plan.specs.declared.algorithm.Algorithm.TheVariants.{Ricart, Maekawa, Raymond}
 use Rattle.mx_plan.specs.declared.faults.PlanFault.{PlanFault}
-use Rattle.mx_plan.specs.declared.faults.PlanFault.TheVariants.{NotJson, NotPlan, DoubleName, UnknownName, BadShape, Memory}
+use Rattle.mx_plan.specs.declared.faults.PlanFault.TheVariants.{NotPlan, BadShape, Memory}
 
 -- ---- the members
 

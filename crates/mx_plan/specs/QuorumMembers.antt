@@ -1,5 +1,5 @@
 -- The sets of arbiters that a plan asks for.
-use Rattle.std.specs.Prelude.{◌≡◌, ◌⊎◌, ◌&&◌, ◌*◌, ◌==◌, ℕ, List, length, codes, if◌then◌else◌, Bool, Option, Some, None, Result, Ok, Err, Vec, option_and_then}
+use Rattle.std.specs.Prelude.{◌≡◌, ◌⊎◌, ◌&&◌, ◌*◌, ◌==◌, ℕ, List, length, codes, if◌then◌else◌, Bool, Option, Some, Result, Ok, Err, Vec, option_and_then}
 use Rattle.std.specs.List.{list_all}
 use Rattle.std.specs.Option.{option_map_or}
 use Rattle.std.specs.Str.{bytes_eq}

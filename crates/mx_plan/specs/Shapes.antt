@@ -1,5 +1,5 @@
 -- The shape that a plan asks for, and what comes of it.
-use Rattle.std.specs.Prelude.{◌≡◌, ◌⊎◌, ◌*◌, ℕ, List, Result, Ok, Err, MatchResult}
+use Rattle.std.specs.Prelude.{◌≡◌, ◌*◌, ℕ, List, Result, MatchResult}
 use Rattle.mx_quorums.specs.Lists.{AreMeeting, IsFamilyOf, IsFirstFault}
 use Rattle.mx_quorums.specs.Shapes.{IsGrid, IsPlaneSize, IsPlane}
 use Rattle.mx_quorums.specs.declared.fault.QuorumFault.TheVariants.{NoPlane}

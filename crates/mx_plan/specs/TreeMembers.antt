@@ -4,7 +4,7 @@ use Rattle.std.specs.List.{list_all}
 use Rattle.std.specs.Option.{option_map_or}
 use Rattle.serde_json.specs.Data.{Data}
 use Rattle.mx_plan.specs.Text.{Text}
-use Rattle.mx_plan.specs.Values.{and_then, each, array_of, list_in, elements}
+use Rattle.mx_plan.specs.Values.{and_then, each, array_of, list_in}
 use Rattle.mx_plan.specs.NameLists.{is_name_value, number_in}
 use Rattle.mx_plan.specs.declared.place.Place.TheVariants as place
 use Rattle.mx_plan.specs.declared.faults.PlanFault.{PlanFault}

@@ -1,4 +1,4 @@
-use Rattle.std.proofs.Common.{◌≡◌, ◌∙◌, ap, sym, inl, refl, rules, arith, Ok, Err, append-nil, map, get_or, ◌++◌, ◌∷◌, [], ◌+◌}
+use Rattle.std.proofs.Common.{◌≡◌, ◌∙◌, ap, sym, rules, Ok, Err, append-nil, map, get_or, ◌++◌, ◌∷◌, [], ◌+◌}
 use Rattle.serde_json.specs.View.{view}
 use Rattle.mx_plan.specs.Events.{event_of, events_from}
 use Rattle.mx_plan.proofs.EachLemmas.{after, rest, rest_end, rest_err, rest_ok}

@@ -1,10 +1,10 @@
-use Rattle.std.proofs.Common.{◌≡◌, ◌∙◌, ◌<◌, ◌++◌, [], ◌∷◌, ap, ap₂, sym, rules, arith, inl, refl, get_or, take, true, false, not}
+use Rattle.std.proofs.Common.{◌≡◌, ◌∙◌, ◌++◌, [], ◌∷◌, ap, ap₂, sym, arith, inl, refl, get_or, true, false, not}
 use Rattle.std.specs.List.{list_any}
 use Rattle.std.specs.Str.{bytes_eq}
 use Rattle.serde_json.specs.View.{view}
 use Rattle.mx_plan.specs.Text.{has_double}
 use Rattle.mx_plan.specs.Values.{text_of}
-use Rattle.mx_plan.proofs.Lists.{double_at, has_double-push, texts, texts_more}
+use Rattle.mx_plan.proofs.Lists.{double_at, has_double-push, texts_more}
 use Rattle.mx_plan.proofs.name_reader.distinct_names.Goals as goal
 
 pub returns-then-not-branch : goal.returns-then-not-branch

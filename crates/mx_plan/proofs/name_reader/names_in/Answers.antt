@@ -1,8 +1,4 @@
-use Rattle.std.proofs.Common.{◌≡◌, ◌∙◌, sym, ap, refl, rules, true, map, Result, Ok, Err, IfOk, inl, inr}
-use Rattle.mx_plan.specs.Text.{Text, AreNames}
-use Rattle.mx_plan.specs.Values.{Answers}
-use Rattle.mx_plan.specs.NameLists.{are_names, distinct_names, names_from}
-use Rattle.mx_plan.specs.declared.faults.PlanFault.{PlanFault}
+use Rattle.std.proofs.Common.{◌∙◌, sym, map}
 use Rattle.serde_json.specs.View.{view}
 use Rattle.mx_plan.proofs.NameLemmas.{names_found}
 use Rattle.mx_plan.proofs.name_reader.names_in.Goals as goal

@@ -1,10 +1,6 @@
-use Rattle.std.proofs.Common.{◌≡◌, ◌∙◌, ◌⊎◌, ap, sym, inl, inr, rules, Ok, Err, false, true, length}
+use Rattle.std.proofs.Common.{sym, inl, rules}
 use Rattle.std.proofs.lemmas.Result.{err_from_is_err_and}
-use Rattle.serde_json.specs.Data.{Data}
 use Rattle.serde_json.specs.View.{view}
-use Rattle.mx_plan.specs.Fields.{Fields, IsPlan}
-use Rattle.mx_plan.specs.Plans.{IsOutcome, draft_of, wish_of}
-use Rattle.mx_plan.specs.declared.faults.PlanFault.TheVariants.{Memory}
 use Rattle.mx_plan.proofs.PlanLemmas.{Head, Says, shape_given, shape_refused, shape_valid}
 use Rattle.mx_plan.proofs.plan_reader.plan_in.Goals as goal
 

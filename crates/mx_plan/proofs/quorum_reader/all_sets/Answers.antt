@@ -1,4 +1,4 @@
-use Rattle.std.proofs.Common.{◌≡◌, ◌∙◌, ap, sym, inl, inr, rules, arith, Ok, Err, append-nil, length, length-append, map, get_or, ◌++◌, ◌∷◌, [], ◌+◌, ◌⊎◌}
+use Rattle.std.proofs.Common.{◌≡◌, ◌∙◌, ap, sym, inl, inr, rules, arith, Ok, Err, append-nil, length, length-append, map, get_or, ◌++◌, ◌∷◌, [], ◌+◌}
 use Rattle.std.proofs.lemmas.List.{map-append}
 use Rattle.serde_json.specs.View.{view}
 use Rattle.mx_quorums.specs.Lists.{lists_of}
@@ -6,7 +6,6 @@ use Rattle.mx_plan.specs.Values.{each}
 use Rattle.mx_plan.specs.NameLists.{number_in}
 use Rattle.mx_plan.specs.QuorumMembers.{set_of}
 use Rattle.mx_plan.specs.declared.place.Place.TheVariants as place
-use Rattle.mx_plan.specs.declared.faults.PlanFault.TheVariants.{Memory}
 use Rattle.mx_plan.proofs.EachLemmas.{after, rest, rest_end, rest_err, rest_ok}
 use Rattle.mx_plan.proofs.quorum_reader.all_sets.Goals as goal
 
