@@ -1,23 +1,23 @@
 -- Events that were read name nodes of the plan.
-use Rattle.std.proofs.Common.{◌≡◌, ◌∙◌, ◌<◌, ◌+◌, ℕ, Bool, true, false, List, [], ◌∷◌, Option, Some, None, Result, Ok, Err, length, subst, sym, refl, nat_lt}
-use Rattle.std.specs.Prelude.{codes, if◌then◌else◌, option_and_then, position}
+use Rattle.std.proofs.Common.{◌≡◌, ◌<◌, ◌+◌, ℕ, Bool, true, false, List, [], ◌∷◌, Option, Some, None, Result, Ok, Err, length, subst, refl, nat_lt}
+use Rattle.std.specs.Prelude.{◌&&◌, codes, if◌then◌else◌, position}
 use Rattle.std.specs.Option.{option_map_or}
 use Rattle.std.specs.Str.{bytes_eq}
 use Rattle.std.proofs.lemmas.List.Quantifiers.{position-Some}
 use Rattle.serde_json.specs.Data.{Data}
-use Rattle.serde_json.specs.Find.{as_str, as_number, as_u64}
 use Rattle.mx_network.specs.declared.event.Event.{Event}
-use Rattle.mx_network.specs.declared.event.Event.TheVariants.{Deliver}
-use Rattle.mx_plan.specs.Text.{Text, is_name}
-use Rattle.mx_plan.specs.Fields.{Fields, node_of}
-use Rattle.mx_plan.specs.Plans.{and_then, elements, value_of}
-use Rattle.mx_plan.specs.Events.{act_of, acting, by_node, delivery, event_of, events_at, events_from, events_of, few, listed, misfit, named, pair, worded}
-use Rattle.mx_plan.specs.declared.event_reader.Act.{Act}
-use Rattle.mx_plan.specs.declared.event_reader.Act.TheVariants as act
+use Rattle.mx_network.specs.declared.event.Event.TheVariants.{Deliver, Read, Want, Write}
+use Rattle.mx_plan.specs.Text.{Text}
+use Rattle.mx_plan.specs.Fields.{Fields}
+use Rattle.mx_plan.specs.NameLists.{is_name_value}
+use Rattle.mx_plan.specs.Values.{and_then, each_from, elements, list_in, number_of, text_of, value_of}
+use Rattle.mx_plan.specs.Events.{act_of, acting, by_node, delivery, event_of, events_at, events_of, few, listed, misfit, node_in, reading, register_in, wanting, with_one, with_three, with_two, writing, writing_of}
+use Rattle.mx_plan.specs.declared.act.Act.{Act}
+use Rattle.mx_plan.specs.declared.act.Act.TheVariants as act
 use Rattle.mx_plan.specs.declared.place.Place.TheVariants as place
-use Rattle.mx_plan.specs.declared.place.PlanFault.{PlanFault}
-use Rattle.mx_plan.specs.declared.place.PlanFault.TheVariants.{NotJson, NotPlan, UnknownName}
-use Rattle.mx_program.specs.Report.{NamesNode, AllNameNodes}
+use Rattle.mx_plan.specs.declared.faults.PlanFault.{PlanFault}
+use Rattle.mx_plan.specs.declared.faults.PlanFault.TheVariants.{NotJson, NotPlan, UnknownName}
+use Rattle.mx_program.specs.Runs.{NamesNodes, AllNameNodes}
 
 no_Ok : {A : Type 0} (f : PlanFault) (x : A) → ◌≡◌ {A = Result A PlanFault} (Err f) (Ok x) → ⊥
 no_Ok f x e = cc
@@ -25,7 +25,7 @@ no_Ok f x e = cc
 same_Ok : {A : Type 0} (x y : A) → ◌≡◌ {A = Result A PlanFault} (Ok x) (Ok y) → x ≡ y
 same_Ok x y e = cc
 
-by_node_names : (n : ℕ) (a : Act) (i : ℕ) → i < n → NamesNode n (by_node a i)
+by_node_names : (n : ℕ) (a : Act) (i : ℕ) → i < n → NamesNodes n (by_node a i)
 by_node_names n act.Ask i lt = lt
 by_node_names n act.Enter i lt = lt
 by_node_names n act.Leave i lt = lt
@@ -33,68 +33,105 @@ by_node_names n act.Tick i lt = lt
 by_node_names n act.Restart i lt = lt
 
 module _ (p : Fields) (k : ℕ) (e : Event) where
-  to_named : (a : Act) (name : Text) (o : Option ℕ) → node_of p name ≡ o → option_map_or (λ n. Ok (by_node a n)) o (Err (UnknownName (place.Event k))) ≡ Ok e → NamesNode (length p.nodes) e
-  to_named a name None is h = absurd (no_Ok _ e h)
-  to_named a name (Some i) is h = subst (NamesNode (length p.nodes)) (same_Ok (by_node a i) e h) (by_node_names (length p.nodes) a i (position-Some (bytes_eq name) p.nodes i [] is).0)
+  abbrev Named : Type 0
+  Named = NamesNodes (length p.nodes) e
 
-  to_name : (a : Act) (name : Text) (b : Bool) → (if b then named p k a name else misfit k) ≡ Ok e → NamesNode (length p.nodes) e
-  to_name a name true h = to_named a name (node_of p name) refl h
-  to_name a name false h = absurd (no_Ok _ e h)
+  found : (name : Text) (o : Option ℕ) → position (bytes_eq name) p.nodes ≡ o → (make : ℕ → Result Event PlanFault) → ((i : ℕ) → i < length p.nodes → make i ≡ Ok e → Named)
+      → and_then (option_map_or (λ n. Ok n) o (Err (UnknownName (place.Event k)))) make ≡ Ok e → Named
+  found name None is make h eq = absurd (no_Ok _ e eq)
+  found name (Some i) is make h eq = h i (position-Some (bytes_eq name) p.nodes i [] is).0 eq
 
-  to_acting : (a : Act) (o : Option Text) → option_map_or (λ name. if is_name name then named p k a name else misfit k) o (misfit k) ≡ Ok e → NamesNode (length p.nodes) e
-  to_acting a None h = absurd (no_Ok _ e h)
-  to_acting a (Some name) h = to_name a name (is_name name) h
+  -- a name that is read is that of a node of the plan
+  with_node : (d : Data) (make : ℕ → Result Event PlanFault) → ((i : ℕ) → i < length p.nodes → make i ≡ Ok e → Named) → and_then (node_in p k d) make ≡ Ok e → Named
+  with_node d make h eq = found (text_of d) (position (bytes_eq (text_of d)) p.nodes) refl make h eq
 
-  to_act : (d : Data) (o : Option Act) → option_map_or (λ a. acting p k a d) o (misfit k) ≡ Ok e → NamesNode (length p.nodes) e
-  to_act d None h = absurd (no_Ok _ e h)
-  to_act d (Some a) h = to_acting a (as_str d) h
+  with_register : (r : Result ℕ PlanFault) (make : ℕ → Event) → ((j : ℕ) → NamesNodes (length p.nodes) (make j)) → and_then r (λ j. Ok (make j)) ≡ Ok e → Named
+  with_register (Err f) make h eq = absurd (no_Ok f e eq)
+  with_register (Ok j) make h eq = subst (NamesNodes (length p.nodes)) (same_Ok (make j) e eq) (h j)
 
-  to_delivery : (o : Option ℕ) → option_map_or (λ n. Ok (Deliver n)) o (misfit k) ≡ Ok e → NamesNode (length p.nodes) e
-  to_delivery None h = absurd (no_Ok _ e h)
-  to_delivery (Some n) h = subst (NamesNode (length p.nodes)) (same_Ok (Deliver n) e h) tt
+  acting_named : (a : Act) (n : Data) (b : Bool) → (if b then and_then (node_in p k n) (λ i. Ok (by_node a i)) else misfit k) ≡ Ok e → Named
+  acting_named a n false eq = absurd (no_Ok _ e eq)
+  acting_named a n true eq =
+      with_node n (λ i. Ok (by_node a i)) (λ i lt h. subst (NamesNodes (length p.nodes)) (same_Ok (by_node a i) e h) (by_node_names (length p.nodes) a i lt)) eq
 
-  to_worded : (w : Text) (d : Data) (b : Bool) → (if b then delivery k d else option_map_or (λ a. acting p k a d) (act_of w) (misfit k)) ≡ Ok e → NamesNode (length p.nodes) e
-  to_worded w d true h = to_delivery (option_and_then as_u64 (as_number d)) h
-  to_worded w d false h = to_act d (act_of w) h
+  reading_named : (n r : Data) (b : Bool) → (if b then and_then (node_in p k n) (λ i. and_then (register_in p k r) (λ j. Ok (Read i j))) else misfit k) ≡ Ok e → Named
+  reading_named n r false eq = absurd (no_Ok _ e eq)
+  reading_named n r true eq =
+      with_node n (λ i. and_then (register_in p k r) (λ j. Ok (Read i j))) (λ i lt h. with_register (register_in p k r) (Read i) (λ j. lt) h) eq
 
-  to_pair : (d : Data) (o : Option Text) → option_map_or (λ word. worded p k word d) o (misfit k) ≡ Ok e → NamesNode (length p.nodes) e
-  to_pair d None h = absurd (no_Ok _ e h)
-  to_pair d (Some w) h = to_worded w d (bytes_eq w (codes "deliver")) h
+  wanted : (i : ℕ) → i < length p.nodes → (j : ℕ) → j < length p.nodes → ◌≡◌ {A = Result Event PlanFault} (Ok (Want i j)) (Ok e) → Named
+  wanted i lt j less h = subst (NamesNodes (length p.nodes)) (same_Ok (Want i j) e h) (lt, less)
 
-  to_listed : (ds : List Data) → listed p k ds ≡ Ok e → NamesNode (length p.nodes) e
-  to_listed [] h = absurd (no_Ok _ e h)
-  to_listed (w ∷ []) h = absurd (no_Ok _ e h)
-  to_listed (w ∷ d ∷ []) h = to_pair d (as_str w) h
-  to_listed (w ∷ d ∷ x ∷ ds) h = absurd (no_Ok _ e h)
+  wanting_named : (n m : Data) (b : Bool) → (if b then and_then (node_in p k n) (λ i. and_then (node_in p k m) (λ j. Ok (Want i j))) else misfit k) ≡ Ok e → Named
+  wanting_named n m false eq = absurd (no_Ok _ e eq)
+  wanting_named n m true eq =
+      with_node n (λ i. and_then (node_in p k m) (λ j. Ok (Want i j))) (λ i lt h. with_node m (λ j. Ok (Want i j)) (wanted i lt) h) eq
 
-  to_elements : (o : Option (List Data)) → option_map_or (listed p k) o (misfit k) ≡ Ok e → NamesNode (length p.nodes) e
-  to_elements None h = absurd (no_Ok _ e h)
-  to_elements (Some ds) h = to_listed ds h
+  writing_named : (n r : Data) (value : ℕ) (b : Bool) → (if b then and_then (node_in p k n) (λ i. and_then (register_in p k r) (λ j. Ok (Write i j value))) else misfit k) ≡ Ok e → Named
+  writing_named n r value false eq = absurd (no_Ok _ e eq)
+  writing_named n r value true eq =
+      with_node n (λ i. and_then (register_in p k r) (λ j. Ok (Write i j value))) (λ i lt h. with_register (register_in p k r) (λ j. Write i j value) (λ j. lt) h) eq
 
-  event_named : (d : Data) → event_of p k d ≡ Ok e → NamesNode (length p.nodes) e
+  value_named : (n r : Data) (o : Option ℕ) → option_map_or (writing_of p k n r) o (misfit k) ≡ Ok e → Named
+  value_named n r None eq = absurd (no_Ok _ e eq)
+  value_named n r (Some value) eq = writing_named n r value (is_name_value n && is_name_value r) eq
+
+  delivery_named : (o : Option ℕ) → option_map_or (λ number. Ok (Deliver number)) o (misfit k) ≡ Ok e → Named
+  delivery_named None eq = absurd (no_Ok _ e eq)
+  delivery_named (Some number) eq = subst (NamesNodes (length p.nodes)) (same_Ok (Deliver number) e eq) tt
+
+  act_named : (n : Data) (o : Option Act) → option_map_or (λ a. acting p k a n) o (misfit k) ≡ Ok e → Named
+  act_named n None eq = absurd (no_Ok _ e eq)
+  act_named n (Some a) eq = acting_named a n (is_name_value n) eq
+
+  one_named : (w : Text) (a : Data) (b : Bool) → (if b then delivery k a else option_map_or (λ act. acting p k act a) (act_of w) (misfit k)) ≡ Ok e → Named
+  one_named w a true eq = delivery_named (number_of (Some a)) eq
+  one_named w a false eq = act_named a (act_of w) eq
+
+  want_named : (a b : Data) (c : Bool) → (if c then wanting p k a b else misfit k) ≡ Ok e → Named
+  want_named a b true eq = wanting_named a b (is_name_value a && is_name_value b) eq
+  want_named a b false eq = absurd (no_Ok _ e eq)
+
+  two_named : (w : Text) (a b : Data) (c : Bool) → (if c then reading p k a b else if bytes_eq w (codes "want") then wanting p k a b else misfit k) ≡ Ok e → Named
+  two_named w a b true eq = reading_named a b (is_name_value a && is_name_value b) eq
+  two_named w a b false eq = want_named a b (bytes_eq w (codes "want")) eq
+
+  three_named : (a b c : Data) (t : Bool) → (if t then writing p k a b c else misfit k) ≡ Ok e → Named
+  three_named a b c true eq = value_named a b (number_of (Some c)) eq
+  three_named a b c false eq = absurd (no_Ok _ e eq)
+
+  listed_named : (ds : List Data) → listed p k ds ≡ Ok e → Named
+  listed_named [] eq = absurd (no_Ok _ e eq)
+  listed_named (w ∷ []) eq = absurd (no_Ok _ e eq)
+  listed_named (w ∷ a ∷ []) eq = one_named (text_of w) a (bytes_eq (text_of w) (codes "deliver")) eq
+  listed_named (w ∷ a ∷ b ∷ []) eq = two_named (text_of w) a b (bytes_eq (text_of w) (codes "read")) eq
+  listed_named (w ∷ a ∷ b ∷ c ∷ []) eq = three_named a b c (bytes_eq (text_of w) (codes "write")) eq
+  listed_named (w ∷ a ∷ b ∷ c ∷ d ∷ ds) eq = absurd (no_Ok _ e eq)
+
+  event_named : (d : Data) → event_of p k d ≡ Ok e → Named
   unfolding event_of
-  event_named d h = to_elements (elements d) h
+  event_named d eq = listed_named (list_in d) eq
 
 module _ (p : Fields) (es : List Event) where
-  to_rest : (e : Event) (q : Result (List Event) PlanFault) → NamesNode (length p.nodes) e → ((more : List Event) → q ≡ Ok more → AllNameNodes (length p.nodes) more)
+  to_rest : (e : Event) (q : Result (List Event) PlanFault) → NamesNodes (length p.nodes) e → ((more : List Event) → q ≡ Ok more → AllNameNodes (length p.nodes) more)
       → and_then q (λ more. Ok (e ∷ more)) ≡ Ok es → AllNameNodes (length p.nodes) es
   to_rest e (Err f) one all h = absurd (no_Ok f es h)
   to_rest e (Ok more) one all h = subst (AllNameNodes (length p.nodes)) (same_Ok (e ∷ more) es h) (one, all more refl)
 
-  to_first : (r : Result Event PlanFault) (q : Result (List Event) PlanFault) → ((e : Event) → r ≡ Ok e → NamesNode (length p.nodes) e)
+  to_first : (r : Result Event PlanFault) (q : Result (List Event) PlanFault) → ((e : Event) → r ≡ Ok e → NamesNodes (length p.nodes) e)
       → ((more : List Event) → q ≡ Ok more → AllNameNodes (length p.nodes) more)
       → and_then r (λ e. and_then q (λ more. Ok (e ∷ more))) ≡ Ok es → AllNameNodes (length p.nodes) es
   to_first (Err f) q one all h = absurd (no_Ok f es h)
   to_first (Ok e) q one all h = to_rest e q (one e refl) all h
 
-events_named_from : (p : Fields) (k : ℕ) (ds : List Data) (es : List Event) → events_from p k ds ≡ Ok es → AllNameNodes (length p.nodes) es
-unfolding events_from
+events_named_from : (p : Fields) (k : ℕ) (ds : List Data) (es : List Event) → each_from (event_of p) k ds ≡ Ok es → AllNameNodes (length p.nodes) es
+unfolding each_from
 events_named_from p k [] es h = subst (AllNameNodes (length p.nodes)) (same_Ok [] es h) tt
 events_named_from p k (d ∷ ds) es h =
-    to_first p es (event_of p k d) (events_from p (k + 1) ds) (λ e. event_named p k e d) (events_named_from p (k + 1) ds) h
+    to_first p es (event_of p k d) (each_from (event_of p) (k + 1) ds) (λ e. event_named p k e d) (events_named_from p (k + 1) ds) h
 
 module _ (p : Fields) (es : List Event) where
-  to_few : (ds : List Data) (b : Bool) → (if b then Err (NotPlan (place.Event 1000000)) else events_from p 0 ds) ≡ Ok es → AllNameNodes (length p.nodes) es
+  to_few : (ds : List Data) (b : Bool) → (if b then Err (NotPlan (place.Event 1000000)) else each_from (event_of p) 0 ds) ≡ Ok es → AllNameNodes (length p.nodes) es
   to_few ds true h = absurd (no_Ok _ es h)
   to_few ds false h = events_named_from p 0 ds es h
 

@@ -1,19 +1,21 @@
 -- The texts of events, one after another.
-use Rattle.std.proofs.Common.{◌≡◌, ◌∙◌, ℕ, zero, suc, add-one, ◌+◌, ◌<◌, ◌≤◌, Bool, true, false, List, [], ◌∷◌, ◌++◌, length, take, drop, get_or, slice_get, slice_set, ap, ap₂, sym, refl, append_assoc, append-nil, Result, Ok, Err, Option, Some, None, subst, inl, inr, ◌⊎◌, OnOk, arith}
+use Rattle.std.proofs.Common.{◌≡◌, ◌∙◌, ℕ, zero, suc, add-one, ◌+◌, ◌<◌, ◌≤◌, Bool, true, false, List, [], ◌∷◌, ◌++◌, length, take, drop, get_or, slice_get, slice_set, ap, ap₂, sym, refl, append_assoc, append-nil, Result, Ok, Err, Option, Some, None, subst, drop-cons, inl, inr, ◌⊎◌, OnOk, arith}
+use Rattle.std.specs.Prelude.{IsErrAnd}
 use Rattle.std.specs.Bool.{⊤}
 use Rattle.std.specs.declared.alloc.AllocError.{AllocError}
 use Rattle.std.specs.Io.KnownBytes.{Appends, Keeps}
 use Rattle.std.specs.List.{concat}
-use Rattle.std.proofs.lemmas.List.{at_drop_all, at_drop_more, drop_at, take_at, take_all, length-append}
+use Rattle.std.proofs.lemmas.List.{at_drop_all, at_drop_more, drop_at, take_at, take_all, drop_all, length-append}
 use Rattle.std.proofs.lemmas.List.Folds.{concat-append}
 use Rattle.std.proofs.lemmas.Option.{same_Some, slice_get_cases}
 use Rattle.mx_stamps.proofs.Lists.{append_nil, length_set, length_each_below, none_is_no_some}
-use Rattle.mx_letters.specs.declared.ricart.RicartMsg.{RicartMsg}
 use Rattle.mx_nodelaws.specs.World.{sent_by}
-use Rattle.mx_nodelaws.specs.declared.acts.Act.{Act}
-use Rattle.mx_ricart.specs.Node.{Node}
-use Rattle.mx_ricart.specs.Step.{ricart_core}
-use Rattle.mx_network.specs.Step.{Group, step_of, at_part, at_state, part_of, grown, answer_of, NamesNoNode}
+use Rattle.mx_nodelaws.specs.Core.{Core}
+use Rattle.mx_member.specs.declared.acts.Act.{Act}
+use Rattle.mx_member.specs.declared.parcel.Parcel.{Parcel}
+use Rattle.mx_member.specs.Member.{MemberState}
+use Rattle.mx_member.specs.Steps.{start_of}
+use Rattle.mx_network.specs.Step.{Group, step_of, at_part, at_member, part_of, grown, answer_of, NamesNoNode}
 use Rattle.mx_network.specs.declared.event.Event.{Event}
 use Rattle.mx_network.specs.declared.event.Event.TheVariants as event
 use Rattle.mx_network.specs.declared.outcome.Outcome.{Outcome}
@@ -27,8 +29,11 @@ use Rattle.mx_program.specs.declared.faults.Fault.{Fault}
 use Rattle.mx_program.specs.declared.faults.Fault.TheVariants.{NoParcel}
 use Rattle.mx_program.specs.declared.output.PutFault.{PutFault}
 use Rattle.mx_program.specs.declared.output.PutFault.TheVariants as put_fault
-use Rattle.mx_program.specs.Texts.{event_line, parcel_line, parcel_lines}
-use Rattle.mx_program.specs.Report.{Report, Nodes, nodes_of, after_texts, ends_with, event_lines, text_of, stepped, run_from, NamesNode, AllNameNodes}
+use Rattle.mx_program.specs.EventTexts.{event_line}
+use Rattle.mx_program.specs.Lines.{each_text, texts_from}
+use Rattle.mx_program.specs.ParcelTexts.{parcel_lines}
+use Rattle.mx_program.specs.ClosingTexts.{closing_text}
+use Rattle.mx_program.specs.Runs.{Report, at_rest, after_texts, ends_with, event_lines, text_of, stepped, run_from, NamesNodes, AllNameNodes}
 use Rattle.mx_program.specs.Ran.{Held, AppendsSome, Ran, StopsAt, stop_of}
 
 -- ---- bytes that are appended in turn
@@ -70,43 +75,51 @@ none_some a b texts p = (0, Appends-keeps a a b [] (Appends-nil a) p)
 
 -- ---- one event
 
+pub err_is : {T E : Type 0} (r : Result T E) (s : E) → IsErrAnd r (λ e. e ≡ s) → r ≡ Err s
+err_is (Ok t) s h = absurd h
+err_is (Err e) s h = ap Err h
+
 same_Ok : {A E : Type 0} (x y : A) → ◌≡◌ {A = Result A E} (Ok x) (Ok y) → x ≡ y
 same_Ok x y e = cc
 
 not_Ok : {A : Type 0} (f : StepFault) (x : A) → ◌≡◌ {A = Result A StepFault} (Err f) (Ok x) → ⊥
 not_Ok f x e = cc
 
-module _ (g new : Nodes) (e : Event) where
-  at_state_Ok : (i : ℕ) (a : Act RicartMsg) (o : Option Node) → at_state ricart_core g e i a o ≡ Ok new
-      → (length new.nodes ≡ length g.nodes) × (length g.sent ≤ length new.sent)
-  at_state_Ok i a None h = absurd (not_Ok _ _ h)
-  at_state_Ok i a (Some s) h =
-      let is : grown g e i (answer_of ricart_core a s) ≡ new = same_Ok _ _ h in
-      let longer : length (grown g e i (answer_of ricart_core a s)).sent ≡ length new.sent = ap (λ (q : Nodes). length q.sent) is in
-      let more = sent_by i (answer_of ricart_core a s).letters in (
-        ap (λ (q : Nodes). length q.nodes) (sym is) ∙ length_set g.nodes i (answer_of ricart_core a s).state,
+module _ {H S M : Type 0} (core : Core H S M) (g new : Group S M) (e : Event) where
+  at_member_Ok : (i : ℕ) (a : Act M) (o : Option (MemberState S)) → at_member core g e i a o ≡ Ok new
+      → (length new.members ≡ length g.members) × (length g.sent ≤ length new.sent)
+  at_member_Ok i a None h = absurd (not_Ok _ _ h)
+  at_member_Ok i a (Some m) h =
+      let is : grown g e i (answer_of core a m) ≡ new = same_Ok _ _ h in
+      let longer : length (grown g e i (answer_of core a m)).sent ≡ length new.sent = ap (λ (q : Group S M). length q.sent) is in
+      let more = sent_by i (answer_of core a m).letters in (
+        ap (λ (q : Group S M). length q.members) (sym is) ∙ length_set g.members i (answer_of core a m).state,
         omega (arith, longer, length-append g.sent more),
       )
 
-  at_part_Ok : (o : Result (ℕ × Act RicartMsg) StepFault) → at_part ricart_core g e o ≡ Ok new
-      → (length new.nodes ≡ length g.nodes) × (length g.sent ≤ length new.sent)
+  at_part_Ok : (o : Result (ℕ × Act M) StepFault) → at_part core g e o ≡ Ok new
+      → (length new.members ≡ length g.members) × (length g.sent ≤ length new.sent)
   at_part_Ok (Err f) h = absurd (not_Ok _ _ h)
-  at_part_Ok (Ok p) h = at_state_Ok p.0 p.1 (slice_get g.nodes p.0) h
+  at_part_Ok (Ok p) h = at_member_Ok p.0 p.1 (slice_get g.members p.0) h
 
-  -- an event leaves as many nodes, and no fewer parcels
-  pub grows : step_of ricart_core g e ≡ Ok new → (length new.nodes ≡ length g.nodes) × (length g.sent ≤ length new.sent)
-  grows h = at_part_Ok (part_of g.sent e) h
+  -- an event leaves as many members, and no fewer parcels
+  pub grows : step_of core g e ≡ Ok new → (length new.members ≡ length g.members) × (length g.sent ≤ length new.sent)
+  grows h = at_part_Ok (part_of (length g.members) g.sent e) h
 
--- an event of a node of the plan
-pub has_node : (g : Nodes) (e : Event) → NamesNode (length g.nodes) e → NamesNoNode g e → ⊥
-has_node g (event.Ask i) lt le = absurd (omega (arith, lt, le))
-has_node g (event.Enter i) lt le = absurd (omega (arith, lt, le))
-has_node g (event.Leave i) lt le = absurd (omega (arith, lt, le))
-has_node g (event.Tick i) lt le = absurd (omega (arith, lt, le))
-has_node g (event.Restart i) lt le = absurd (omega (arith, lt, le))
-has_node g (event.Deliver k) lt le = le
+-- an event of nodes of the plan
+pub has_nodes : {S M : Type 0} (g : Group S M) (e : Event) → NamesNodes (length g.members) e → NamesNoNode g e → ⊥
+has_nodes g (event.Ask i) lt le = absurd (omega (arith, lt, le))
+has_nodes g (event.Enter i) lt le = absurd (omega (arith, lt, le))
+has_nodes g (event.Read i register) lt le = absurd (omega (arith, lt, le))
+has_nodes g (event.Write i register value) lt le = absurd (omega (arith, lt, le))
+has_nodes g (event.Leave i) lt le = absurd (omega (arith, lt, le))
+has_nodes g (event.Tick i) lt le = absurd (omega (arith, lt, le))
+has_nodes g (event.Want i j) lt (inl le) = let h = lt.0 in absurd (omega (arith, h, le))
+has_nodes g (event.Want i j) lt (inr le) = let h = lt.1 in absurd (omega (arith, h, le))
+has_nodes g (event.Restart i) lt le = absurd (omega (arith, lt, le))
+has_nodes g (event.Deliver k) lt le = le
 
-pub named_at : (n : ℕ) (es : List Event) (k : ℕ) (d : Event) → AllNameNodes n es → k < length es → NamesNode n (get_or es k d)
+pub named_at : (n : ℕ) (es : List Event) (k : ℕ) (d : Event) → AllNameNodes n es → k < length es → NamesNodes n (get_or es k d)
 named_at n [] k d all lt = absurd (omega (arith, lt))
 named_at n (e ∷ es) zero d all lt = all.0
 named_at n (e ∷ es) (suc k) d all lt = named_at n es k d all.1 (omega (arith, lt))
@@ -116,61 +129,80 @@ drop_get [] k x h = absurd (none_is_no_some x h)
 drop_get (y ∷ ys) zero x h = ap (λ z. z ∷ ys) (same_Some y x h)
 drop_get (y ∷ ys) (suc k) x h = drop_get ys k x h
 
--- the k-th parcel is there
-pub parcel_there : (sent : List (ℕ × ℕ × RicartMsg)) (k : ℕ) → slice_get sent k ≡ None → k < length sent → ⊥
-parcel_there sent k none lt = elim (slice_get_cases sent k).1 [
-  | inl p ↦ absurd (none_is_no_some p.0 (sym none ∙ p.2))
+-- one more of a list
+pub each_more : {X : Type 0} (f : X → Text) (xs : List X) (k : ℕ) (d : X) (t t' : Text) → k < length xs
+    → t' ≡ t ++ f (get_or xs k d) → t ++ each_text f (drop k xs) ≡ t' ++ each_text f (drop (k + 1) xs)
+each_more f xs k d t t' lt e =
+    ap (λ l. t ++ each_text f l) (drop-cons xs k d lt ∙ ap (λ n. get_or xs k d ∷ drop n xs) (sym (add-one k)))
+    ∙ sym (append_assoc t (f (get_or xs k d)) (each_text f (drop (k + 1) xs)))
+    ∙ ap (λ l. l ++ each_text f (drop (k + 1) xs)) (sym e)
+
+-- all of a list
+pub each_end : {X : Type 0} (f : X → Text) (xs : List X) (k : ℕ) (t : Text) → length xs ≤ k → t ++ each_text f (drop k xs) ≡ t
+each_end f xs k t le = ap (λ l. t ++ each_text f l) (drop_all k xs le) ∙ append_nil t
+
+-- one more of a list whose texts tell the place
+pub place_more : {X : Type 0} (f : ℕ → X → Text) (xs : List X) (k : ℕ) (x : X) (t t' : Text) → slice_get xs k ≡ Some x
+    → t' ≡ t ++ f k x → t ++ texts_from f k (drop k xs) ≡ t' ++ texts_from f (k + 1) (drop (k + 1) xs)
+place_more f xs k x t t' h e =
+    ap (λ l. t ++ texts_from f k l) (drop_get xs k x h ∙ ap (λ n. x ∷ drop n xs) (sym (add-one k)))
+    ∙ sym (append_assoc t (f k x) (texts_from f (k + 1) (drop (k + 1) xs)))
+    ∙ ap (λ l. l ++ texts_from f (k + 1) (drop (k + 1) xs)) (sym e)
+
+pub place_written : {X : Type 0} (f : ℕ → X → Text) (xs : List X) (k : ℕ) (r : Result ⊤ AllocError) (x : X) (t t' : Text) → slice_get xs k ≡ Some x
+    → OnOk r (t' ≡ t ++ f k x) → OnOk r (t ++ texts_from f k (drop k xs) ≡ t' ++ texts_from f (k + 1) (drop (k + 1) xs))
+place_written f xs k (Ok u) x t t' h e = place_more f xs k x t t' h e
+place_written f xs k (Err e) x t t' h h' = tt
+
+pub place_end : {X : Type 0} (f : ℕ → X → Text) (xs : List X) (k : ℕ) (t : Text) → length xs ≤ k → t ++ texts_from f k (drop k xs) ≡ t
+place_end f xs k t le = ap (λ l. t ++ texts_from f k l) (drop_all k xs le) ∙ append_nil t
+
+-- what stands at a place of a list
+pub is_there : {X : Type 0} (xs : List X) (k : ℕ) → slice_get xs k ≡ None → k < length xs → ⊥
+is_there xs k none lt = elim (slice_get_cases xs k).1 [
+  | inl q ↦ absurd (none_is_no_some q.0 (sym none ∙ q.2))
   | inr q ↦ absurd (omega (arith, lt, q.0))
 ]
 
--- the line of one more parcel
-pub parcel_more : (p : Fields) (sent : List (ℕ × ℕ × RicartMsg)) (k : ℕ) (x : ℕ × ℕ × RicartMsg) (t t' : Text) → slice_get sent k ≡ Some x
-    → t' ≡ t ++ parcel_line p k x → t ++ parcel_lines p k (drop k sent) ≡ t' ++ parcel_lines p (k + 1) (drop (k + 1) sent)
-parcel_more p sent k x t t' h e =
-    ap (λ l. t ++ parcel_lines p k l) (drop_get sent k x h ∙ ap (λ n. x ∷ drop n sent) (sym (add-one k)))
-    ∙ sym (append_assoc t (parcel_line p k x) (parcel_lines p (k + 1) (drop (k + 1) sent)))
-    ∙ ap (λ l. l ++ parcel_lines p (k + 1) (drop (k + 1) sent)) (sym e)
-
-pub parcel_written : (r : Result ⊤ AllocError) (p : Fields) (sent : List (ℕ × ℕ × RicartMsg)) (k : ℕ) (x : ℕ × ℕ × RicartMsg) (t t' : Text) → slice_get sent k ≡ Some x
-    → OnOk r (t' ≡ t ++ parcel_line p k x) → OnOk r (t ++ parcel_lines p k (drop k sent) ≡ t' ++ parcel_lines p (k + 1) (drop (k + 1) sent))
-parcel_written (Ok u) p sent k x t t' h e = parcel_more p sent k x t t' h e
-parcel_written (Err f) p sent k x t t' h e = tt
-
 -- the text of one event, from what was appended to an empty one
-pub text_is : (p : Fields) (k n : ℕ) (old new : Nodes) (e : Event) (o : Outcome) (t0 t1 t2 : Text)
+pub text_is : {H S M : Type 0} (core : Core H S M) (letter : Fields → M → Text) (p : Fields) (k n : ℕ) (old new : Group S M) (e : Event) (o : Outcome) (t0 t1 t2 : Text)
     → new.trace ≡ old.trace ++ (record { event = e; outcome = o }) ∷ [] → n ≡ length old.sent → t0 ≡ []
-    → t1 ≡ t0 ++ event_line p k e o → t2 ≡ t1 ++ parcel_lines p n (drop n new.sent) → t2 ≡ text_of p k old new
-text_is p k n old new e o t0 t1 t2 trace count empty line parcels =
+    → t1 ≡ t0 ++ event_line p k e o → t2 ≡ t1 ++ parcel_lines letter p n (drop n new.sent) → t2 ≡ text_of core letter p k old new
+text_is core letter p k n old new e o t0 t1 t2 trace count empty line parcels =
     let lines : event_lines p k (drop (length old.trace) new.trace) ≡ event_line p k e o =
     ap (event_lines p k) (ap (drop (length old.trace)) trace ∙ drop_at old.trace _ (length old.trace) refl) ∙ append_nil (event_line p k e o) in
-    parcels ∙ ap₂ (λ (l : Text) (m : ℕ). l ++ parcel_lines p m (drop m new.sent)) (line ∙ ap (λ (l : Text). l ++ event_line p k e o) empty ∙ sym lines) count
+    parcels ∙ ap₂ (λ (l : Text) (m : ℕ). l ++ parcel_lines letter p m (drop m new.sent)) (line ∙ ap (λ (l : Text). l ++ event_line p k e o) empty ∙ sym lines) count
 
 -- ---- a run
 
 pub after_after : (a b : List Text) (r : Report) → after_texts a (after_texts b r) ≡ after_texts (a ++ b) r
 after_after a b r = ap (λ l. let q : Report = record { texts = l; end = r.end } in q) (sym (append_assoc a b r.texts))
 
-module _ (p : Fields) (es : List Event) where
+-- what is left after all events
+abbrev pub closing : {H S M : Type 0} → Core H S M → Fields → Group S M → Report
+closing core p g = record { texts = closing_text core p g ∷ []; end = None }
+
+module _ {H S M : Type 0} (core : Core H S M) (letter : Fields → M → Text) (p : Fields) (es : List Event) where
   -- the report of the events from the k-th on
-  abbrev pub rest : ℕ → Nodes → Report
-  rest k g = run_from p k g (drop k es)
+  abbrev pub rest : ℕ → Group S M → Report
+  rest k g = run_from core letter p k g (drop k es)
 
-  rest_one : (k : ℕ) (g : Nodes) (d : Event) → k < length es
-      → rest k g ≡ stepped p k g (step_of ricart_core g (get_or es k d)) (λ new. rest (k + 1) new)
+  rest_one : (k : ℕ) (g : Group S M) (d : Event) → k < length es
+      → rest k g ≡ stepped core letter p k g (step_of core g (get_or es k d)) (λ new. rest (k + 1) new)
   unfolding run_from
-  rest_one k g d h = at_drop_more (run_from p k g) es k d h
+  rest_one k g d h = at_drop_more (run_from core letter p k g) es k d h
 
-  pub rest_ok : (k : ℕ) (g new : Nodes) (d : Event) → k < length es → step_of ricart_core g (get_or es k d) ≡ Ok new
-      → rest k g ≡ after_texts (text_of p k g new ∷ []) (rest (k + 1) new)
-  rest_ok k g new d h is = rest_one k g d h ∙ ap (λ r. stepped p k g r (λ new. rest (k + 1) new)) is
+  pub rest_ok : (k : ℕ) (g new : Group S M) (d : Event) → k < length es → step_of core g (get_or es k d) ≡ Ok new
+      → rest k g ≡ after_texts (text_of core letter p k g new ∷ []) (rest (k + 1) new)
+  rest_ok k g new d h is = rest_one k g d h ∙ ap (λ r. stepped core letter p k g r (λ new. rest (k + 1) new)) is
 
-  pub rest_err : (k : ℕ) (g : Nodes) (f : StepFault) (d : Event) → k < length es → step_of ricart_core g (get_or es k d) ≡ Err f
+  pub rest_err : (k : ℕ) (g : Group S M) (f : StepFault) (d : Event) → k < length es → step_of core g (get_or es k d) ≡ Err f
       → rest k g ≡ ends_with (Some (NoParcel k))
-  rest_err k g f d h is = rest_one k g d h ∙ ap (λ r. stepped p k g r (λ new. rest (k + 1) new)) is
+  rest_err k g f d h is = rest_one k g d h ∙ ap (λ r. stepped core letter p k g r (λ new. rest (k + 1) new)) is
 
-  pub rest_end : (k : ℕ) (g : Nodes) → length es ≤ k → rest k g ≡ ends_with None
+  pub rest_end : (k : ℕ) (g : Group S M) → length es ≤ k → rest k g ≡ closing core p g
   unfolding run_from
-  rest_end k g h = at_drop_all (run_from p k g) es k h
+  rest_end k g h = at_drop_all (run_from core letter p k g) es k h
 
 -- what was done so far is some of the whole
 pub done_some : (a b : Held) (r more : Report) (done : List Text) → r ≡ after_texts done more → Appends a b (concat done) → AppendsSome a b r.texts
@@ -184,14 +216,14 @@ ran_to t a b r done end e h =
     (ap (λ (q : Report). q.end) e, subst (λ (l : List Text). Appends a b (concat l)) (sym (ap (λ (q : Report). q.texts) e ∙ append_nil done)) h)
 
 -- a run that stops at an event
-pub stopped_at : (t : Bool) (a b : Held) (p : Fields) (es : List Event) (k : ℕ) (g : Nodes) (d : Event) (s : Stop) (done : List Text)
-    → k < length es → rest p es 0 (nodes_of p) ≡ after_texts done (rest p es k g) → Appends a b (concat done)
-    → StopsAt k (step_of ricart_core g (get_or es k d)) s → Ran t a b (rest p es 0 (nodes_of p)) (Err s)
-stopped_at t a b p es k g d s done lt so_far h (inl memory) =
-    subst (λ (x : Stop). Ran t a b (rest p es 0 (nodes_of p)) (Err x)) (sym memory) (done_some a b _ (rest p es k g) done so_far h)
-stopped_at t a b p es k g d s done lt so_far h (inr none) =
-    subst (λ (x : Stop). Ran t a b (rest p es 0 (nodes_of p)) (Err x)) (sym none.0)
-    (ran_to t a b _ done (Some (NoParcel k)) (so_far ∙ ap (after_texts done) (rest_err p es k g step_fault.NoParcel d lt none.1)) h)
+pub stopped_at : {H S M : Type 0} (core : Core H S M) (letter : Fields → M → Text) (t : Bool) (a b : Held) (p : Fields) (es : List Event) (r : Report) (k : ℕ) (g : Group S M) (d : Event)
+    (s : Stop) (done : List Text) → k < length es → r ≡ after_texts done (rest core letter p es k g) → Appends a b (concat done)
+    → StopsAt k (step_of core g (get_or es k d)) s → Ran t a b r (Err s)
+stopped_at core letter t a b p es r k g d s done lt so_far h (inl memory) =
+    subst (λ (x : Stop). Ran t a b r (Err x)) (sym memory) (done_some a b r (rest core letter p es k g) done so_far h)
+stopped_at core letter t a b p es r k g d s done lt so_far h (inr none) =
+    subst (λ (x : Stop). Ran t a b r (Err x)) (sym none.0)
+    (ran_to t a b r done (Some (NoParcel k)) (so_far ∙ ap (after_texts done) (rest_err core letter p es k g step_fault.NoParcel d lt none.1)) h)
 
 pub is_false : (b : Bool) → (b ≡ true → ⊥) → b ≡ false
 is_false true h = absurd (h refl)
@@ -208,6 +240,7 @@ stopped_by t u a b c r more done put_fault.Refused so_far h same is takes =
     (sym is ∙ is_false u (λ e. refused_not_memory (takes e)), some_keeps a b c r.texts (done_some a b r more done so_far h) same)
 stopped_by t u a b c r more done put_fault.Memory so_far h same is takes = some_keeps a b c r.texts (done_some a b r more done so_far h) same
 
--- a cluster at rest has the nodes of its plan
-pub nodes_at_rest : (p : Fields) (g : Nodes) → g ≡ nodes_of p → length g.nodes ≡ length p.nodes
-nodes_at_rest p g e = ap (λ (q : Nodes). length q.nodes) e ∙ length_each_below (λ i. ricart_core.start (length p.nodes) i p.origin p.sections) (length p.nodes)
+-- a cluster at rest has the members of its shape
+pub members_at_rest : {H S M : Type 0} (core : Core H S M) (p : Fields) (shape : H) (n : ℕ) (g : Group S M) → g ≡ at_rest core p shape → core.count shape ≡ n → length g.members ≡ n
+members_at_rest {H} {S} {M} core p shape n g e count =
+    ap (λ (q : Group S M). length q.members) e ∙ length_each_below (λ i. start_of core shape i p.origin p.sections (length p.registers)) (core.count shape) ∙ count

@@ -1,5 +1,5 @@
 -- What a command leaves in the two outputs, and with which status.
-use Rattle.std.specs.Prelude.{◌≡◌, ◌⊎◌, ◌&&◌, ℕ, List, [], Bool, true, false, Option, Some, None, ⊤, Result, Ok, Err, Vec, take}
+use Rattle.std.specs.Prelude.{◌≡◌, ◌⊎◌, ◌&&◌, ℕ, List, [], Bool, true, false, Option, Some, None, ⊤, Result, Ok, Err, Vec, take, IfSome}
 use Rattle.std.specs.Io.KnownBytes.{Appends, Keeps}
 use Rattle.std.specs.List.{concat}
 use Rattle.std.specs.Option.{option_map_or}
@@ -7,7 +7,12 @@ use Rattle.std.specs.declared.alloc.Global.{Global}
 use Rattle.mx_network.specs.declared.faults.StepFault.{StepFault}
 use Rattle.mx_network.specs.declared.faults.StepFault.TheVariants as step_fault
 use Rattle.mx_plan.specs.Text.{Text}
-use Rattle.mx_plan.specs.declared.place.PlanFault.{PlanFault}
+use Rattle.mx_plan.specs.Fields.{Fields}
+use Rattle.mx_plan.specs.Plans.{IsOutcome, draft_at}
+use Rattle.mx_plan.specs.declared.faults.PlanFault.{PlanFault}
+use Rattle.mx_plan.specs.declared.faults.PlanFault.TheVariants as plan_fault
+use Rattle.mx_explorer.specs.declared.verdict.Verdict.{Verdict}
+use Rattle.mx_explorer.specs.declared.verdict.Verdict.TheVariants.{Sound, Broken}
 use Rattle.mx_program.specs.declared.faults.Fault.{Fault}
 use Rattle.mx_program.specs.declared.faults.Fault.TheVariants.{CannotRead, NoParcel}
 use Rattle.mx_program.specs.declared.faults.Named.{Named}
@@ -16,8 +21,9 @@ use Rattle.mx_program.specs.declared.output.PutFault.{PutFault}
 use Rattle.mx_program.specs.declared.output.PutFault.TheVariants as put_fault
 use Rattle.mx_program.specs.declared.faults.Stop.TheVariants as stop
 use Rattle.mx_program.specs.Told.{Telling}
-use Rattle.mx_program.specs.Texts.{fault_line, memory_line}
-use Rattle.mx_program.specs.Report.{Report, fault_of}
+use Rattle.mx_program.specs.FaultLines.{fault_line, memory_line}
+use Rattle.mx_program.specs.Runs.{Report}
+use Rattle.mx_program.specs.Report.{Script, HoldsOfReport, fault_of, script_of}
 
 -- what an output holds, where that is known
 abbrev pub Held : Type 0
@@ -61,12 +67,30 @@ pub record IsRefused (takes_all : Bool) (r : Report) (out out' err err' : Held) 
   pub silent : Keeps err err'
 
 -- a replay of this report, by outputs that both take all bytes or not
-abbrev pub Replays : Bool → Text × Text → Report → Held → Held → Held → Held → ℕ → Type 0
-Replays takes_all names r out out' err err' status =
+abbrev pub Prints : Bool → Text × Text → Report → Held → Held → Held → Held → ℕ → Type 0
+Prints takes_all names r out out' err err' status =
     PrintsWhole names r out out' err err' status ⊎ RunsOut r out out' err err' status
     ⊎ IsRefused takes_all r out out' err err' status
 
--- the statuses of a replay
+-- memory ran out before anything was printed
+pub record FailsAtOnce (out out' err err' : Held) (status : ℕ) : Type 0 where
+  pub status_is : status ≡ 5
+  pub silent : Keeps out out'
+  pub told : MayTell err err'
+
+-- a replay of what is told of two names, where enough is told: it is that of a report of these texts, or
+-- memory ran out before there was one
+abbrev pub Replays : Bool → (Text → Option Telling) → Text × Text → Held → Held → Held → Held → ℕ → Type 0
+Replays takes_all told names out out' err err' status = IfSome (script_of told names) (λ script.
+    FailsAtOnce out out' err err' status
+    ⊎ HoldsOfReport script (λ r. Prints takes_all names r out out' err err' status))
+
+-- the status of a verdict
+abbrev pub verdict_status : Verdict → ℕ
+verdict_status Sound = 0
+verdict_status (Broken k clause) = 4
+
+-- the statuses of a replay: the verdict of a cluster's trace is never broken
 abbrev pub IsRunStatus : ℕ → Type 0
 IsRunStatus status = (status ≡ 0) ⊎ (status ≡ 1) ⊎ (status ≡ 5)
 
@@ -101,22 +125,24 @@ abbrev pub refusal_of : PlanFault → Stop
 refusal_of fault = option_map_or stop.Fault (fault_of fault) stop.Memory
 
 -- the texts of a report were written, and the run ended as the report does, or earlier
-abbrev pub Ran : Bool → Held → Held → Report → Result ⊤ Stop → Type 0
-Ran takes_all old new r (Ok u) = (r.end ≡ None) × Appends old new (concat r.texts)
+abbrev pub Ran : Bool → Held → Held → Report → Result Verdict Stop → Type 0
+Ran takes_all old new r (Ok verdict) = (r.end ≡ None) × Appends old new (concat r.texts)
 Ran takes_all old new r (Err (stop.Fault fault)) = (r.end ≡ Some fault) × Appends old new (concat r.texts)
 Ran takes_all old new r (Err stop.Writer) = (takes_all ≡ false) × AppendsSome old new r.texts
 Ran takes_all old new r (Err stop.Memory) = AppendsSome old new r.texts
 
+-- the same of a report of these texts, or memory ran out before there was one
+abbrev pub RanOn : Bool → Held → Held → Script → Result Verdict Stop → Type 0
+RanOn takes_all old new script result =
+    ((result ≡ Err stop.Memory) × Keeps old new) ⊎ HoldsOfReport script (λ r. Ran takes_all old new r result)
+
+-- the same of what is told of two names, where enough is told
+abbrev pub RanOf : Bool → Held → Held → (Text → Option Telling) → Text × Text → Result Verdict Stop → Type 0
+RanOf takes_all old new told names result = IfSome (script_of told names) (λ script. RanOn takes_all old new script result)
+
 -- an event did not happen: there is no such parcel, or memory ran out
 abbrev pub StopsAt : {G : Type 0} → ℕ → Result G StepFault → Stop → Type 0
 StopsAt k wanted end = (end ≡ stop.Memory) ⊎ ((end ≡ stop.Fault (NoParcel k)) × (wanted ≡ Err step_fault.NoParcel))
-
--- what was read, or why it is refused, or that memory ran out
-abbrev pub Gets : {T : Type 0} → Result T PlanFault → Result T Stop → Type 0
-Gets wanted (Ok t) = wanted ≡ Ok t
-Gets wanted (Err (stop.Fault fault)) = (refused : PlanFault) × (wanted ≡ Err refused) × (fault_of refused ≡ Some fault)
-Gets wanted (Err stop.Writer) = ⊥
-Gets wanted (Err stop.Memory) = ⊤
 
 -- the bytes that a source tells of a name
 abbrev pub Fetches : Named → Telling → Result (Vec ℕ Global) Stop → Type 0

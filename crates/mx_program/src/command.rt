@@ -1,25 +1,27 @@
 //! The command: from words, named bytes and two outputs to a status.
 
-ghost use Rattle.std.specs.Prelude.{◌≡◌, ◌≢◌, ◌⊎◌, ◌&&◌, true, IsSome, IfSome, IfErr, OnOk, OnErr};
+ghost use Rattle.std.specs.Prelude.{◌≡◌, ◌≢◌, ◌⊎◌, ◌↔◌, ◌&&◌, true, Err, IsSome, IsTrue, IfSome, IfOk, IfErr, OnOk, OnErr};
 ghost use Rattle.std.specs.Io.KnownBytes.{Appends, Keeps};
 ghost use Rattle.clap.specs.Words.{kind_of};
 ghost use Rattle.mx_program.specs.Words.{texts_of, names_of, replay_of, AskHelp, AreWrong};
-ghost use Rattle.mx_program.specs.Texts.{fault_line};
-ghost use Rattle.mx_program.specs.Report.{report_of};
-ghost use Rattle.mx_program.specs.Ran.{MayTell, Ran, Replays, IsRunStatus, Helps, Scolds, TellsFault};
+ghost use Rattle.mx_program.specs.FaultLines.{fault_line};
+ghost use Rattle.mx_program.specs.Ran.{MayTell, RanOf, Replays, IsRunStatus, Helps, Scolds, TellsFault, verdict_status};
 
-use crate::faults::{Fault, FaultLine, Stop};
+use crate::faults::{Fault, Stop};
 use crate::output::{Output, PutFault};
 use crate::replay::replay;
 use crate::source::Source;
+use crate::texts::faults::FaultLine;
 use crate::words::{Names, asked};
 use clap::error::ErrorKind;
+use mx_explorer::Verdict;
 use std::alloc::Global;
 use std::fmt::Display;
 
 /// Runs the words of a command line, without the program's name, and answers the status: 0 where
 /// all went well or help was asked for, 1 where a plan, its events, a file or an output is at
-/// fault, 2 where the words are no command, 5 where memory ran out.
+/// fault, 2 where the words are no command, 4 where the verdict is that the trace is broken, 5 where
+/// memory ran out.
 pub fn command<S: Source, O: Output, E: Output>(
     alloc: Global,
     words: &[&str],
@@ -28,9 +30,8 @@ pub fn command<S: Source, O: Output, E: Output>(
     err: &mut E,
 ) -> u8
     ensures replay { IfSome (replay_of (texts_of words.entry.now)) (λ names.
-        IfSome (report_of (S.told source.old) names) (λ report.
-        Replays (O.takes_all out.old && E.takes_all err.old) names report
-        (O.written out.old) (O.written out.new) (E.written err.old) (E.written err.new) result)) }
+        Replays (O.takes_all out.old && E.takes_all err.old) (S.told source.old) names
+        (O.written out.old) (O.written out.new) (E.written err.old) (E.written err.new) result) }
     ensures replay_status { IsSome (replay_of (texts_of words.entry.now)) → IsRunStatus result }
     ensures help { AskHelp (texts_of words.entry.now) →
         Helps (O.takes_all out.old) (E.written err.old) (E.written err.new) result }
@@ -67,13 +68,13 @@ fn run_replay<S: Source, O: Output, E: Output>(
     out: &mut O,
     err: &mut E,
 ) -> u8
-    ensures replay { IfSome (report_of (S.told source.old) (names_of names.now)) (λ report.
-        Replays (O.takes_all out.old && E.takes_all err.old) (names_of names.now) report
-        (O.written out.old) (O.written out.new) (E.written err.old) (E.written err.new) result) }
+    ensures replay { Replays (O.takes_all out.old && E.takes_all err.old)
+        (S.told source.old) (names_of names.now)
+        (O.written out.old) (O.written out.new) (E.written err.old) (E.written err.new) result }
     ensures status { IsRunStatus result }
 {
     match replay_and_flush(alloc, names, source, out) {
-        Ok(()) => 0,
+        Ok(verdict) => verdict_status(verdict),
         Err(Stop::Fault(fault)) => tell(alloc, fault, names, err),
         Err(Stop::Writer) => 1,
         Err(Stop::Memory) => tell_memory(err),
@@ -85,13 +86,35 @@ fn replay_and_flush<S: Source, O: Output>(
     names: &Names<'_>,
     source: &mut S,
     out: &mut O,
-) -> Result<(), Stop>
-    ensures { IfSome (report_of (S.told source.old) (names_of names.now)) (λ report.
-        Ran (O.takes_all out.old) (O.written out.old) (O.written out.new) report result) }
+) -> Result<Verdict, Stop>
+    ensures ran { RanOf (O.takes_all out.old) (O.written out.old) (O.written out.new)
+        (S.told source.old) (names_of names.now) result }
+    ensures sound { IfOk result (λ verdict. verdict ≡ Verdict.Sound) }
 {
     let ended = replay(alloc, names, source, out);
-    out.flush()?;
+    let flushed = out.flush();
+    if is_memory(&ended) {
+        return ended;
+    }
+    flushed?;
     ended
+}
+
+/// Whether memory ran out.
+fn is_memory(ended: &Result<Verdict, Stop>) -> bool
+    ensures { IsTrue result ↔ (ended.now ≡ Err Stop.Memory) }
+{
+    matches!(ended, Err(Stop::Memory))
+}
+
+/// The status of a verdict.
+fn verdict_status(verdict: Verdict) -> u8
+    ensures { result ≡ verdict_status verdict }
+{
+    match verdict {
+        Verdict::Sound => 0,
+        Verdict::Broken(_, _) => 4,
+    }
 }
 
 /// Writes the line of a fault.

@@ -2,10 +2,12 @@
 //! `command` is proved over any source of named bytes and any two outputs.
 #![tactic(auto)]
 
+mod closing;
 mod command;
 mod faults;
 mod output;
 mod replay;
+mod run;
 mod source;
 mod streams;
 mod texts;
@@ -19,7 +21,7 @@ use std::process::ExitCode;
 use std::{env, io};
 
 /// Runs the words of the process. An `Err` is want of memory, or words that are no text.
-fn run(rt: &HostRuntime) -> io::Result<u8> {
+fn run_words(rt: &HostRuntime) -> io::Result<u8> {
     let alloc = rt.alloc();
     let given: Vec<String> = env::args(rt)?.skip(1).collect(alloc)?;
     let mut words = Vec::new(alloc);
@@ -33,7 +35,7 @@ fn run(rt: &HostRuntime) -> io::Result<u8> {
 }
 
 fn main(rt: HostRuntime) -> ExitCode {
-    match run(&rt) {
+    match run_words(&rt) {
         Ok(status) => ExitCode::from(status),
         Err(e) => {
             let mut err = Stream(rt.stderr());

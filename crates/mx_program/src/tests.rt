@@ -1,9 +1,11 @@
-//! Replays of worked examples, each fault line with its status, and the command line.
+//! Replays of worked examples, and the command line.
 
+mod faults;
 mod maekawa;
+mod merging;
 mod raymond;
-mod rehearsal;
 mod ricart;
+mod shown;
 
 use crate::command::command;
 use crate::output::{Output, PutFault};
@@ -28,6 +30,17 @@ const LINES: &str = "0 ask a: asked 1
 4 deliver 3: delivered
 5 enter a: entered 1
 6 leave a: left 1 writes 0
+a: idle, mine 1, records 1, gapless 1, count=0
+b: idle, mine 0, records 0, gapless 0, count=0
+c: idle, mine 0, records 0, gapless 0, count=0
+verdict sound
+";
+
+const TICK_LINES: &str = "0 tick b: sent 0
+a: idle, mine 0, records 0, gapless 0, count=0
+b: idle, mine 0, records 0, gapless 0, count=0
+c: idle, mine 0, records 0, gapless 0, count=0
+verdict sound
 ";
 
 /// What a command left.
@@ -65,55 +78,6 @@ fn first_replay(rt: HostRuntime) -> Result<(), Fail> {
 }
 
 #[test]
-fn plan_and_event_faults(rt: HostRuntime) -> Result<(), Fail> {
-    let same_names =
-        "{\"algorithm\":\"ricart\",\"nodes\":[\"a\",\"a\"],\"registers\":[\"count\"],\"sections\":10}";
-    let no_sections =
-        "{\"algorithm\":\"ricart\",\"nodes\":[\"a\",\"b\",\"c\"],\"registers\":[\"count\"],\"sections\":0}";
-    let faults = [
-        ("{", EVENTS, "mx: not json\n"),
-        ("[]", EVENTS, "mx: bad plan: plan\n"),
-        ("{}", EVENTS, "mx: bad plan: algorithm\n"),
-        (same_names, EVENTS, "mx: double name: nodes\n"),
-        (no_sections, EVENTS, "mx: bad plan: sections\n"),
-        (PLAN, "{", "mx: not json\n"),
-        (PLAN, "{}", "mx: bad plan: events\n"),
-        (PLAN, "[[\"ask\",\"z\"]]", "mx: unknown name: event 0\n"),
-        (PLAN, "[[\"ask\"]]", "mx: bad plan: event 0\n"),
-        (PLAN, "[[\"deliver\",0]]", "mx: no parcel: event 0\n"),
-    ];
-    for (plan, events, line) in &faults {
-        let ran = replayed(rt.alloc(), plan, events);
-        assert_eq!(rt; ran.status, 1, "at {line}");
-        assert!(rt; ran.err.as_slice() == line.as_bytes(), "at {line}");
-        assert!(rt; ran.out.is_empty(), "at {line}");
-    }
-    Ok(())
-}
-
-#[test]
-fn lines_before_the_missing_parcel_stay(rt: HostRuntime) -> Result<(), Fail> {
-    let ran = replayed(rt.alloc(), PLAN, "[[\"tick\",\"b\"],[\"deliver\",7]]");
-    assert_eq!(rt; ran.status, 1);
-    assert!(rt; ran.out.as_slice() == "0 tick b: sent 0\n".as_bytes());
-    assert!(rt; ran.err.as_slice() == "mx: no parcel: event 1\n".as_bytes());
-    Ok(())
-}
-
-#[test]
-fn a_missing_file_is_named(rt: HostRuntime) -> Result<(), Fail> {
-    let no_plan = run_words(rt.alloc(), &["replay", "p", "e"], &[]);
-    assert_eq!(rt; no_plan.status, 1);
-    assert!(rt; no_plan.err.as_slice() == "mx: cannot read p\n".as_bytes());
-    let no_events = run_words(rt.alloc(), &["replay", "p", "e"], &[("p", PLAN.as_bytes())]);
-    assert_eq!(rt; no_events.status, 1);
-    assert!(rt; no_events.err.as_slice() == "mx: cannot read e\n".as_bytes());
-    let bad_plan = run_words(rt.alloc(), &["replay", "p", "e"], &[("p", "[]".as_bytes())]);
-    assert!(rt; bad_plan.err.as_slice() == "mx: bad plan: plan\n".as_bytes());
-    Ok(())
-}
-
-#[test]
 fn double_dash(rt: HostRuntime) -> Result<(), Fail> {
     let both = format!(in rt.alloc(); "{PLAN}\n{EVENTS}\n")?;
     let one = run_words(rt.alloc(), &["replay", "-", "-"], &[("-", both.as_bytes())]);
@@ -125,7 +89,7 @@ fn double_dash(rt: HostRuntime) -> Result<(), Fail> {
         &["replay", "-", "-"],
         &[("-", spread.as_bytes())],
     );
-    assert!(rt; more.out.as_slice() == "0 tick b: sent 0\n".as_bytes());
+    assert!(rt; more.out.as_slice() == TICK_LINES.as_bytes());
     let none = run_words(rt.alloc(), &["replay", "-", "-"], &[("-", PLAN.as_bytes())]);
     assert_eq!(rt; none.status, 1);
     assert!(rt; none.err.as_slice() == "mx: not json\n".as_bytes());

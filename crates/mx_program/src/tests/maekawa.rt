@@ -1,321 +1,224 @@
-//! Worked examples of Maekawa's algorithm (1985), in clusters.
+//! Worked examples of Maekawa's algorithm (1985), event by event and letter by letter.
+//! The same examples stand as files in `examples/`.
 
-use super::rehearsal::{asked, gives, node, rehearse};
-use mx_letters::MaekawaMsg;
-use mx_maekawa::Maekawa;
-use mx_network::{Cause, Cluster, Event, Outcome};
-use mx_quorums::Quorums;
-use mx_stamps::{NodeId, Stamp};
-use std::alloc::Global;
+use super::shown::shows;
 use std::test::Fail;
-
-/// Three nodes, each an arbiter of itself and of the node before it.
-fn pairs(alloc: Global, origin: u64) -> Result<Cluster<Maekawa>, Fail> {
-    let sets = [
-        vec![in alloc; 0u8, 1]?,
-        vec![in alloc; 1u8, 2]?,
-        vec![in alloc; 2u8, 0]?,
-    ];
-    let shape = Quorums::listed(&sets)?;
-    Ok(Cluster::start(alloc, &shape, origin, 1000, 1)?)
-}
-
-/// Three nodes, each an arbiter of all.
-fn row_of_three(alloc: Global) -> Result<Cluster<Maekawa>, Fail> {
-    let shape = Quorums::grid(1, 3)?;
-    Ok(Cluster::start(alloc, &shape, 0, 1000, 1)?)
-}
-
-fn alone(alloc: Global) -> Result<Cluster<Maekawa>, Fail> {
-    let sets = [vec![in alloc; 0u8]?];
-    let shape = Quorums::listed(&sets)?;
-    Ok(Cluster::start(alloc, &shape, 0, 1000, 1)?)
-}
-
-fn request(number: u64, node: NodeId) -> MaekawaMsg {
-    MaekawaMsg::Request(Stamp { number, node })
-}
-
-fn locked(number: u64, node: NodeId, grant: u64, last: u64) -> MaekawaMsg {
-    MaekawaMsg::Locked(Stamp { number, node }, grant, last)
-}
-
-fn failed(number: u64, node: NodeId) -> MaekawaMsg {
-    MaekawaMsg::Failed(Stamp { number, node })
-}
-
-fn inquire(number: u64, node: NodeId, grant: u64) -> MaekawaMsg {
-    MaekawaMsg::Inquire(Stamp { number, node }, grant)
-}
-
-fn relinquish(number: u64, node: NodeId, grant: u64) -> MaekawaMsg {
-    MaekawaMsg::Relinquish(Stamp { number, node }, grant)
-}
-
-fn release(number: u64, node: NodeId, top: u64) -> MaekawaMsg {
-    MaekawaMsg::Release(Stamp { number, node }, top)
-}
 
 #[test]
 fn old_grant_given_back(rt: HostRuntime) -> Result<(), Fail> {
-    let (a, b, c) = (node(0)?, node(1)?, node(2)?);
-    let mut cluster = pairs(rt.alloc(), 0)?;
-    rehearse(
-        &mut cluster,
-        &[
-            gives(
-                Event::Ask(b),
-                asked(1, b),
-                &[(b, b, request(1, b)), (b, c, request(1, b))],
-            ),
-            gives(
-                Event::Ask(a),
-                asked(1, a),
-                &[(a, a, request(1, a)), (a, b, request(1, a))],
-            ),
-            gives(
-                Event::Deliver(0),
-                Outcome::Delivered,
-                &[(b, b, locked(1, b, 1, 0))],
-            ),
-            gives(
-                Event::Deliver(3),
-                Outcome::Delivered,
-                &[(b, b, inquire(1, b, 1))],
-            ),
-            gives(
-                Event::Deliver(5),
-                Outcome::Delivered,
-                &[(b, b, relinquish(1, b, 1))],
-            ),
-            gives(
-                Event::Deliver(6),
-                Outcome::Delivered,
-                &[(b, a, locked(1, a, 2, 0))],
-            ),
-            gives(
-                Event::Deliver(1),
-                Outcome::Delivered,
-                &[(c, b, locked(1, b, 1, 0))],
-            ),
-            gives(Event::Deliver(8), Outcome::Delivered, &[]),
-            gives(
-                Event::Deliver(4),
-                Outcome::Delivered,
-                &[(b, b, relinquish(1, b, 1))],
-            ),
-            gives(Event::Enter(b), Outcome::Refused(Cause::NotGranted), &[]),
-            gives(
-                Event::Deliver(2),
-                Outcome::Delivered,
-                &[(a, a, locked(1, a, 1, 0))],
-            ),
-            gives(Event::Deliver(10), Outcome::Delivered, &[]),
-            gives(Event::Deliver(7), Outcome::Delivered, &[]),
-            gives(Event::Enter(a), Outcome::Entered(1), &[]),
-            gives(Event::Deliver(9), Outcome::Delivered, &[]),
-            gives(
-                Event::Leave(a),
-                Outcome::Left(1),
-                &[(a, a, release(1, a, 1)), (a, b, release(1, a, 1))],
-            ),
-            gives(
-                Event::Deliver(12),
-                Outcome::Delivered,
-                &[(b, b, locked(1, b, 3, 1))],
-            ),
-            gives(Event::Deliver(13), Outcome::Delivered, &[]),
-            gives(Event::Enter(b), Outcome::Entered(2), &[]),
-        ],
-    )?;
-    assert_eq!(rt; cluster.sent(), 14);
-    Ok(())
+    let plan =
+        "{\"algorithm\":\"maekawa\",\"nodes\":[\"a\",\"b\",\"c\"],\"registers\":[\"count\"],\"sections\":1000,\"quorums\":{\"kind\":\"listed\",\"sets\":[[\"a\",\"b\"],[\"b\",\"c\"],[\"c\",\"a\"]]}}";
+    let events = "[[\"ask\",\"b\"],
+ [\"ask\",\"a\"],
+ [\"deliver\",0],
+ [\"deliver\",3],
+ [\"deliver\",5],
+ [\"deliver\",6],
+ [\"deliver\",1],
+ [\"deliver\",8],
+ [\"deliver\",4],
+ [\"enter\",\"b\"],
+ [\"deliver\",2],
+ [\"deliver\",10],
+ [\"deliver\",7],
+ [\"enter\",\"a\"],
+ [\"deliver\",9],
+ [\"leave\",\"a\"],
+ [\"deliver\",12],
+ [\"deliver\",13],
+ [\"enter\",\"b\"]]";
+    let lines = "0 ask b: asked 1
+  #0 b>b request 1.b
+  #1 b>c request 1.b
+1 ask a: asked 1
+  #2 a>a request 1.a
+  #3 a>b request 1.a
+2 deliver 0: delivered
+  #4 b>b locked 1.b grant 1 last 0
+3 deliver 3: delivered
+  #5 b>b inquire 1.b grant 1
+4 deliver 5: delivered
+  #6 b>b relinquish 1.b grant 1
+5 deliver 6: delivered
+  #7 b>a locked 1.a grant 2 last 0
+6 deliver 1: delivered
+  #8 c>b locked 1.b grant 1 last 0
+7 deliver 8: delivered
+8 deliver 4: delivered
+  #9 b>b relinquish 1.b grant 1
+9 enter b: refused not granted
+10 deliver 2: delivered
+  #10 a>a locked 1.a grant 1 last 0
+11 deliver 10: delivered
+12 deliver 7: delivered
+13 enter a: entered 1
+14 deliver 9: delivered
+15 leave a: left 1 writes 0
+  #11 a>a release 1.a top 1
+  #12 a>b release 1.a top 1
+16 deliver 12: delivered
+  #13 b>b locked 1.b grant 3 last 1
+17 deliver 13: delivered
+18 enter b: entered 2
+a: idle, mine 1, records 1, gapless 1, count=0
+b: inside 2, mine 2, records 0, gapless 0, count=0
+c: idle, mine 0, records 0, gapless 0, count=0
+verdict sound
+";
+    shows(rt.alloc(), plan, events, lines)
 }
 
 #[test]
 fn lost_release_answered(rt: HostRuntime) -> Result<(), Fail> {
-    let (a, b) = (node(0)?, node(1)?);
-    let mut cluster = pairs(rt.alloc(), 0)?;
-    rehearse(
-        &mut cluster,
-        &[
-            gives(
-                Event::Ask(a),
-                asked(1, a),
-                &[(a, a, request(1, a)), (a, b, request(1, a))],
-            ),
-            gives(
-                Event::Deliver(0),
-                Outcome::Delivered,
-                &[(a, a, locked(1, a, 1, 0))],
-            ),
-            gives(
-                Event::Deliver(1),
-                Outcome::Delivered,
-                &[(b, a, locked(1, a, 1, 0))],
-            ),
-            gives(Event::Deliver(2), Outcome::Delivered, &[]),
-            gives(Event::Deliver(3), Outcome::Delivered, &[]),
-            gives(Event::Enter(a), Outcome::Entered(1), &[]),
-            gives(
-                Event::Leave(a),
-                Outcome::Left(1),
-                &[(a, a, release(1, a, 1)), (a, b, release(1, a, 1))],
-            ),
-            gives(Event::Deliver(4), Outcome::Delivered, &[]),
-            gives(
-                Event::Ask(a),
-                asked(2, a),
-                &[(a, a, request(2, a)), (a, b, request(2, a))],
-            ),
-            gives(
-                Event::Deliver(6),
-                Outcome::Delivered,
-                &[(a, a, locked(2, a, 2, 1))],
-            ),
-            gives(
-                Event::Deliver(7),
-                Outcome::Delivered,
-                &[(b, a, inquire(1, a, 1))],
-            ),
-            gives(
-                Event::Deliver(9),
-                Outcome::Delivered,
-                &[(a, b, release(1, a, 1))],
-            ),
-            gives(
-                Event::Deliver(10),
-                Outcome::Delivered,
-                &[(b, a, locked(2, a, 2, 1))],
-            ),
-            gives(Event::Deliver(8), Outcome::Delivered, &[]),
-            gives(Event::Deliver(11), Outcome::Delivered, &[]),
-            gives(Event::Enter(a), Outcome::Entered(2), &[]),
-        ],
-    )?;
-    assert_eq!(rt; cluster.sent(), 12);
-    Ok(())
+    let plan =
+        "{\"algorithm\":\"maekawa\",\"nodes\":[\"a\",\"b\",\"c\"],\"registers\":[\"count\"],\"sections\":1000,\"quorums\":{\"kind\":\"listed\",\"sets\":[[\"a\",\"b\"],[\"b\",\"c\"],[\"c\",\"a\"]]}}";
+    let events = "[[\"ask\",\"a\"],
+ [\"deliver\",0],
+ [\"deliver\",1],
+ [\"deliver\",2],
+ [\"deliver\",3],
+ [\"enter\",\"a\"],
+ [\"leave\",\"a\"],
+ [\"deliver\",4],
+ [\"ask\",\"a\"],
+ [\"deliver\",6],
+ [\"deliver\",7],
+ [\"deliver\",9],
+ [\"deliver\",10],
+ [\"deliver\",8],
+ [\"deliver\",11],
+ [\"enter\",\"a\"]]";
+    let lines = "0 ask a: asked 1
+  #0 a>a request 1.a
+  #1 a>b request 1.a
+1 deliver 0: delivered
+  #2 a>a locked 1.a grant 1 last 0
+2 deliver 1: delivered
+  #3 b>a locked 1.a grant 1 last 0
+3 deliver 2: delivered
+4 deliver 3: delivered
+5 enter a: entered 1
+6 leave a: left 1 writes 0
+  #4 a>a release 1.a top 1
+  #5 a>b release 1.a top 1
+7 deliver 4: delivered
+8 ask a: asked 2
+  #6 a>a request 2.a
+  #7 a>b request 2.a
+9 deliver 6: delivered
+  #8 a>a locked 2.a grant 2 last 1
+10 deliver 7: delivered
+  #9 b>a inquire 1.a grant 1
+11 deliver 9: delivered
+  #10 a>b release 1.a top 1
+12 deliver 10: delivered
+  #11 b>a locked 2.a grant 2 last 1
+13 deliver 8: delivered
+14 deliver 11: delivered
+15 enter a: entered 2
+a: inside 2, mine 2, records 1, gapless 1, count=0
+b: idle, mine 0, records 0, gapless 0, count=0
+c: idle, mine 0, records 0, gapless 0, count=0
+verdict sound
+";
+    shows(rt.alloc(), plan, events, lines)
 }
 
 #[test]
 fn remembered_inquiry_overtaken(rt: HostRuntime) -> Result<(), Fail> {
-    let (a, b, c) = (node(0)?, node(1)?, node(2)?);
-    let mut cluster = row_of_three(rt.alloc())?;
-    rehearse(
-        &mut cluster,
-        &[
-            gives(
-                Event::Ask(c),
-                asked(1, c),
-                &[
-                    (c, a, request(1, c)),
-                    (c, b, request(1, c)),
-                    (c, c, request(1, c)),
-                ],
-            ),
-            gives(
-                Event::Ask(b),
-                asked(1, b),
-                &[
-                    (b, a, request(1, b)),
-                    (b, b, request(1, b)),
-                    (b, c, request(1, b)),
-                ],
-            ),
-            gives(
-                Event::Ask(a),
-                asked(1, a),
-                &[
-                    (a, a, request(1, a)),
-                    (a, b, request(1, a)),
-                    (a, c, request(1, a)),
-                ],
-            ),
-            gives(
-                Event::Deliver(0),
-                Outcome::Delivered,
-                &[(a, c, locked(1, c, 1, 0))],
-            ),
-            gives(Event::Deliver(9), Outcome::Delivered, &[]),
-            gives(
-                Event::Deliver(3),
-                Outcome::Delivered,
-                &[(a, c, inquire(1, c, 1))],
-            ),
-            gives(Event::Deliver(10), Outcome::Delivered, &[]),
-            gives(
-                Event::Deliver(6),
-                Outcome::Delivered,
-                &[(a, c, inquire(1, c, 1)), (a, b, failed(1, b))],
-            ),
-            gives(
-                Event::Deliver(5),
-                Outcome::Delivered,
-                &[(c, b, locked(1, b, 1, 0))],
-            ),
-            gives(
-                Event::Deliver(2),
-                Outcome::Delivered,
-                &[(c, c, failed(1, c))],
-            ),
-            gives(
-                Event::Deliver(14),
-                Outcome::Delivered,
-                &[(c, a, relinquish(1, c, 1))],
-            ),
-            gives(
-                Event::Deliver(15),
-                Outcome::Delivered,
-                &[(a, a, locked(1, a, 2, 0))],
-            ),
-            gives(
-                Event::Deliver(11),
-                Outcome::Delivered,
-                &[(c, a, relinquish(1, c, 1))],
-            ),
-            gives(Event::Deliver(17), Outcome::Delivered, &[]),
-            gives(Event::Enter(c), Outcome::Refused(Cause::NotGranted), &[]),
-        ],
-    )?;
-    assert_eq!(rt; cluster.sent(), 18);
-    Ok(())
+    let plan =
+        "{\"algorithm\":\"maekawa\",\"nodes\":[\"a\",\"b\",\"c\"],\"registers\":[\"count\"],\"sections\":1000,\"quorums\":{\"kind\":\"grid\",\"rows\":1,\"cols\":3}}";
+    let events = "[[\"ask\",\"c\"],
+ [\"ask\",\"b\"],
+ [\"ask\",\"a\"],
+ [\"deliver\",0],
+ [\"deliver\",9],
+ [\"deliver\",3],
+ [\"deliver\",10],
+ [\"deliver\",6],
+ [\"deliver\",5],
+ [\"deliver\",2],
+ [\"deliver\",14],
+ [\"deliver\",15],
+ [\"deliver\",11],
+ [\"deliver\",17],
+ [\"enter\",\"c\"]]";
+    let lines = "0 ask c: asked 1
+  #0 c>a request 1.c
+  #1 c>b request 1.c
+  #2 c>c request 1.c
+1 ask b: asked 1
+  #3 b>a request 1.b
+  #4 b>b request 1.b
+  #5 b>c request 1.b
+2 ask a: asked 1
+  #6 a>a request 1.a
+  #7 a>b request 1.a
+  #8 a>c request 1.a
+3 deliver 0: delivered
+  #9 a>c locked 1.c grant 1 last 0
+4 deliver 9: delivered
+5 deliver 3: delivered
+  #10 a>c inquire 1.c grant 1
+6 deliver 10: delivered
+7 deliver 6: delivered
+  #11 a>c inquire 1.c grant 1
+  #12 a>b failed 1.b
+8 deliver 5: delivered
+  #13 c>b locked 1.b grant 1 last 0
+9 deliver 2: delivered
+  #14 c>c failed 1.c
+10 deliver 14: delivered
+  #15 c>a relinquish 1.c grant 1
+11 deliver 15: delivered
+  #16 a>a locked 1.a grant 2 last 0
+12 deliver 11: delivered
+  #17 c>a relinquish 1.c grant 1
+13 deliver 17: delivered
+14 enter c: refused not granted
+a: waiting, mine 0, records 0, gapless 0, count=0
+b: waiting, mine 0, records 0, gapless 0, count=0
+c: waiting, mine 0, records 0, gapless 0, count=0
+verdict sound
+";
+    shows(rt.alloc(), plan, events, lines)
 }
 
 #[test]
 fn single_node(rt: HostRuntime) -> Result<(), Fail> {
-    let a = node(0)?;
-    let mut cluster = alone(rt.alloc())?;
-    rehearse(
-        &mut cluster,
-        &[
-            gives(Event::Ask(a), asked(1, a), &[(a, a, request(1, a))]),
-            gives(Event::Enter(a), Outcome::Refused(Cause::NotGranted), &[]),
-            gives(
-                Event::Deliver(0),
-                Outcome::Delivered,
-                &[(a, a, locked(1, a, 1, 0))],
-            ),
-            gives(Event::Deliver(1), Outcome::Delivered, &[]),
-            gives(Event::Enter(a), Outcome::Entered(1), &[]),
-            gives(
-                Event::Leave(a),
-                Outcome::Left(1),
-                &[(a, a, release(1, a, 1))],
-            ),
-        ],
-    )?;
-    assert_eq!(rt; cluster.sent(), 3);
-    Ok(())
+    let plan =
+        "{\"algorithm\":\"maekawa\",\"nodes\":[\"a\"],\"registers\":[\"count\"],\"sections\":1000,\"quorums\":{\"kind\":\"listed\",\"sets\":[[\"a\"]]}}";
+    let events = "[[\"ask\",\"a\"],
+ [\"enter\",\"a\"],
+ [\"deliver\",0],
+ [\"deliver\",1],
+ [\"enter\",\"a\"],
+ [\"leave\",\"a\"]]";
+    let lines = "0 ask a: asked 1
+  #0 a>a request 1.a
+1 enter a: refused not granted
+2 deliver 0: delivered
+  #1 a>a locked 1.a grant 1 last 0
+3 deliver 1: delivered
+4 enter a: entered 1
+5 leave a: left 1 writes 0
+  #2 a>a release 1.a top 1
+a: idle, mine 1, records 1, gapless 1, count=0
+verdict sound
+";
+    shows(rt.alloc(), plan, events, lines)
 }
 
 #[test]
 fn counters_spent(rt: HostRuntime) -> Result<(), Fail> {
-    let a = node(0)?;
-    let mut cluster = pairs(rt.alloc(), u64::MAX)?;
-    rehearse(
-        &mut cluster,
-        &[gives(Event::Ask(a), Outcome::Refused(Cause::StampsSpent), &[])],
-    )?;
-    assert_eq!(rt; cluster.sent(), 0);
-    Ok(())
+    let plan =
+        "{\"algorithm\":\"maekawa\",\"nodes\":[\"a\",\"b\",\"c\"],\"registers\":[\"count\"],\"sections\":1000,\"quorums\":{\"kind\":\"listed\",\"sets\":[[\"a\",\"b\"],[\"b\",\"c\"],[\"c\",\"a\"]]},\"origin\":18446744073709551615}";
+    let events = "[[\"ask\",\"a\"]]";
+    let lines = "0 ask a: refused stamps spent
+a: idle, mine 0, records 0, gapless 0, count=0
+b: idle, mine 0, records 0, gapless 0, count=0
+c: idle, mine 0, records 0, gapless 0, count=0
+verdict sound
+";
+    shows(rt.alloc(), plan, events, lines)
 }

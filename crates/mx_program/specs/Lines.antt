@@ -1,0 +1,16 @@
+-- Texts of lists.
+use Rattle.std.specs.Prelude.{ℕ, ◌+◌, List, [], ◌∷◌, ◌++◌}
+use Rattle.mx_plan.specs.Text.{Text}
+
+abbrev pub line_feed : Text
+line_feed = 10 ∷ []
+
+-- the texts of all of a list
+abbrev pub each_text : {X : Type 0} → (X → Text) → List X → Text
+each_text f [] = []
+each_text f (x ∷ xs) = f x ++ each_text f xs
+
+-- the same, where a text tells the place too, the first of which is the k-th
+abbrev pub texts_from : {X : Type 0} → (ℕ → X → Text) → ℕ → List X → Text
+texts_from f k [] = []
+texts_from f k (x ∷ xs) = f k x ++ texts_from f (k + 1) xs
