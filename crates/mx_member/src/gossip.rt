@@ -31,7 +31,7 @@ impl<C: Exclusion> Member<C> {
         }
     }
 
-    /// Takes a parcel of another node. A letter goes to the core; a want is answered by records,
+    /// Takes a parcel of a node of the cluster, itself too. A letter goes to the core; a want is answered by records,
     /// where there are any in its ranges; of records the journal takes all or none.
     pub fn deliver(
         &mut self,

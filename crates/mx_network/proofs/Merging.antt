@@ -3,7 +3,7 @@ use Rattle.std.proofs.Common.{ℕ, ◌<◌, ◌+◌, ◌≡◌, inl, inr, List, 
 use Rattle.std.proofs.lemmas.List.{take_more}
 use Rattle.std.proofs.lemmas.Option.{same_Some}
 use Rattle.mx_stamps.specs.Lists.{IsIn}
-use Rattle.mx_stamps.proofs.Lists.{in_append, none_is_no_some}
+use Rattle.mx_stamps.proofs.Lists.{in_append, in_left, in_right, none_is_no_some}
 use Rattle.mx_journal.specs.declared.records.Record.{Record}
 use Rattle.mx_journal.specs.Agreement.{AreAgreeing, IsSubmap}
 use Rattle.mx_merge.specs.Join.{IsLeastUpperBound}
@@ -13,12 +13,9 @@ use Rattle.mx_member.specs.Member.{MemberState}
 use Rattle.mx_member.specs.World.{IsMember}
 use Rattle.mx_member.proofs.SectionLists.{submaps_agree}
 use Rattle.mx_network.specs.Kept.{IsKept}
+use Rattle.mx_network.specs.Merged.{IsAboveAll, IsBelowEach}
 use Rattle.mx_network.specs.Sections.{journal_of, sections}
 use Rattle.mx_network.specs.Step.{Group}
-
--- the journals of these nodes are in the one merged so far
-abbrev pub AreMerged : {S : Type 0} → List (MemberState S) → List ℕ → List Record → Type 0
-AreMerged {S} members nodes all = (i : ℕ) (m : MemberState S) → IsIn i nodes → IsMember members i m → IsSubmap m.journal all
 
 -- of a list cut behind its k-th element, the members are those of the shorter cut and that element
 cut : (nodes : List ℕ) (k n i : ℕ) (P : Type 0) → k < length nodes → n ≡ get_or nodes k n → IsIn i (take (k + 1) nodes) → (IsIn i (take k nodes) → P) → (i ≡ n → P) → P
@@ -30,18 +27,32 @@ cut nodes k n i P lt is h before here =
     ]
 
 -- one more is merged
-pub merged_more : {S : Type 0} (members : List (MemberState S)) (nodes : List ℕ) (k n : ℕ) (m : MemberState S) (all new journal : List Record) → AreMerged members (take k nodes) all → IsMember members n m → journal ≡ m.journal → IsLeastUpperBound all journal new → k < length nodes → n ≡ get_or nodes k n → AreMerged members (take (k + 1) nodes) new
+pub merged_more : {S : Type 0} (members : List (MemberState S)) (nodes : List ℕ) (k n : ℕ) (m : MemberState S) (all new journal : List Record) → IsAboveAll members (take k nodes) all → IsMember members n m → journal ≡ m.journal → IsLeastUpperBound all journal new → k < length nodes → n ≡ get_or nodes k n → IsAboveAll members (take (k + 1) nodes) new
 merged_more {S} members nodes k n m all new journal merged at same join lt is i t h tat x there =
     cut nodes k n i (IsIn x new) lt is h
     (λ a. join.left x (merged i t a tat x there))
     (λ e. join.right x (subst (λ l. IsIn x l) (sym same) (subst (λ (y : MemberState S). IsIn x y.journal) (same_Some t m (sym tat ∙ ap (λ j. slice_get members j) e ∙ at)) there)))
 
 -- a node that isn't there adds nothing
-pub merged_same : {S : Type 0} (members : List (MemberState S)) (nodes : List ℕ) (k n : ℕ) (all : List Record) → AreMerged members (take k nodes) all → slice_get members n ≡ None → k < length nodes → n ≡ get_or nodes k n → AreMerged members (take (k + 1) nodes) all
+pub merged_same : {S : Type 0} (members : List (MemberState S)) (nodes : List ℕ) (k n : ℕ) (all : List Record) → IsAboveAll members (take k nodes) all → slice_get members n ≡ None → k < length nodes → n ≡ get_or nodes k n → IsAboveAll members (take (k + 1) nodes) all
 merged_same members nodes k n all merged none lt is i t h tat x there =
     cut nodes k n i (IsIn x all) lt is h
     (λ a. merged i t a tat x there)
     (λ e. absurd (none_is_no_some t (sym none ∙ ap (λ j. slice_get members j) (sym e) ∙ tat)))
+
+-- what is above the journals of one node more is above those before it
+above_fewer : {S : Type 0} (members : List (MemberState S)) (nodes : List ℕ) (k n : ℕ) (journal : List Record) → k < length nodes → n ≡ get_or nodes k n → IsAboveAll members (take (k + 1) nodes) journal → IsAboveAll members (take k nodes) journal
+above_fewer members nodes k n journal lt is above i m h at =
+    above i m (subst (λ l. IsIn i l) (sym (take_more nodes k n lt)) (in_left i (take k nodes) (get_or nodes k n ∷ []) h)) at
+
+-- so the least is still the least, with one more merged, or where a node isn't there
+pub least_more : {S : Type 0} (members : List (MemberState S)) (nodes : List ℕ) (k n : ℕ) (m : MemberState S) (all new journal : List Record) → IsBelowEach members (take k nodes) all → IsMember members n m → journal ≡ m.journal → IsLeastUpperBound all journal new → k < length nodes → n ≡ get_or nodes k n → IsBelowEach members (take (k + 1) nodes) new
+least_more members nodes k n m all new journal below at same join lt is other above =
+    join.least other (below other (above_fewer members nodes k n other lt is above))
+    (λ x h. above n m (subst (λ l. IsIn n l) (sym (take_more nodes k n lt)) (in_right n (take k nodes) (get_or nodes k n ∷ []) (inl is))) at x (subst (λ l. IsIn x l) same h))
+
+pub least_same : {S : Type 0} (members : List (MemberState S)) (nodes : List ℕ) (k n : ℕ) (all : List Record) → IsBelowEach members (take k nodes) all → k < length nodes → n ≡ get_or nodes k n → IsBelowEach members (take (k + 1) nodes) all
+least_same members nodes k n all below lt is other above = below other (above_fewer members nodes k n other lt is above)
 
 -- what is merged so far agrees with each member's journal
 pub mergeable : {H S M : Type 0} (core : Core H S M) (Good : World S M → Type 0) (g : Group S M) (all journal : List Record) (n : ℕ) (m : MemberState S) → IsKept core Good g → IsSubmap all (journal_of g.trace) → IsMember g.members n m → journal ≡ m.journal → AreAgreeing all journal

@@ -1,8 +1,9 @@
 -- Trace: exclusion and numbering, said of a trace alone. Sections: the sections of a trace, their
 -- journal and their order. Outcome: the outcome that an answer is. Step: one event of a cluster.
--- Kept: what every cluster keeps.
+-- Merged: journals of members, merged. Kept: what every cluster keeps.
 pub mod Trace
 pub mod Sections
 pub mod Outcome
 pub mod Step
+pub mod Merged
 pub mod Kept

@@ -1,14 +1,16 @@
 //! The cluster.
 
 ghost use Rattle.std.specs.Prelude.{◌≡◌, ◌≤◌, ◌<◌, ◌↔◌, ℕ, [], ◌∷◌, ◌++◌, length, OnOk, OnErr, IfOk, IfErr, IfSome, MatchOption, slice_get, take};
-ghost use Rattle.mx_stamps.specs.Lists.{IsIn, each_below};
+ghost use Rattle.mx_stamps.specs.Lists.{each_below};
 ghost use Rattle.mx_journal.specs.Agreement.{AreAgreeing, IsSubmap};
 ghost use Rattle.mx_journal.specs.Records.{Ascending, with_records};
 ghost use Rattle.mx_merge.specs.Join.{IsLeastUpperBound};
 ghost use Rattle.mx_member.specs.Member.{MemberState};
 ghost use Rattle.mx_member.specs.Steps.{start_of};
 ghost use Rattle.mx_member.specs.World.{IsMember};
-ghost use Rattle.mx_network.specs.Sections.{IsSerial, ShowsInOrder, journal_of};
+ghost use Rattle.mx_member.specs.Serial.{ReadSerially};
+ghost use Rattle.mx_network.specs.Merged.{IsAboveAll, IsBelowEach};
+ghost use Rattle.mx_network.specs.Sections.{IsSerial, ShowsInOrder, journal_of, sections};
 ghost use Rattle.mx_network.specs.Step.{step_of, IsInsideAt, IsFaultOf, NamesNoNode, NamesNoParcel, RunsTo};
 ghost use Rattle.mx_network.specs.Trace.{IsExclusive, IsNumbered};
 
@@ -109,7 +111,7 @@ impl<C: Exclusion> Cluster<C> {
         ensures numbered { IsNumbered self.new.trace }
         ensures serial { IsSerial self.new.trace }
     {
-        // what a cluster keeps is known from where a field is used
+        // for the prover: what a cluster keeps is known from where a field is used
         let _ = &self.trace;
         for (index, event) in events.iter().enumerate() {
             if let Err(fault) = self.step(*event) {
@@ -156,6 +158,7 @@ impl<C: Exclusion> Cluster<C> {
         ensures exclusive { IsExclusive result.now }
         ensures numbered { IsNumbered result.now }
         ensures serial { IsSerial result.now }
+        ensures receipts { ReadSerially (sections result.now) }
         ensures alone { (i j : ℕ) → IsInsideAt C.core self.now i → IsInsideAt C.core self.now j → j ≡ i }
         ensures agreed { (i j : ℕ) (m k : MemberState C) → IsMember self.now.members i m
             → IsMember self.now.members j k → AreAgreeing m.journal k.journal }
@@ -166,15 +169,16 @@ impl<C: Exclusion> Cluster<C> {
         &self.trace
     }
 
-    /// What the journals of these nodes know together: each merged, in turn, into an empty one. They
-    /// never conflict, so that memory alone can be wanting. A node that isn't there adds nothing.
+    /// What the journals of these nodes know together: each merged, in turn, into an empty one, which
+    /// gives their least upper bound. They never conflict, so that memory alone can be wanting. A
+    /// node that isn't there adds nothing.
     pub fn merged(&self, alloc: Global, nodes: &[NodeId]) -> Result<Journal, AllocError>
-        ensures all { IfOk result (λ journal. (i : ℕ) (m : MemberState C) → IsIn i nodes.now
-            → IsMember self.now.members i m → IsSubmap m.journal journal) }
+        ensures all { IfOk result (IsAboveAll self.now.members nodes.now) }
+        ensures least { IfOk result (IsBelowEach self.now.members nodes.now) }
         ensures sections { IfOk result (λ journal. IsSubmap journal (journal_of self.now.trace)) }
-        ensures in_order { IfOk result (λ journal. ShowsInOrder self.now.trace journal) }
+        ensures in_order { IfOk result (ShowsInOrder self.now.trace) }
     {
-        // what a cluster keeps is known from where a field is used
+        // for the prover: what a cluster keeps is known from where a field is used
         let _ = &self.trace;
         let mut all = Journal::new(alloc);
         for node in nodes {
@@ -195,6 +199,7 @@ fn add_journal(all: &mut Journal, journal: &Journal) -> Result<(), AllocError>
 {
     match merge(all, journal) {
         Ok(_) => Ok(()),
+        // they agree, so this is no conflict
         Err(_) => Err(AllocError),
     }
 }

@@ -5,10 +5,11 @@ use Rattle.mx_journal.specs.Agreement.{IsSubmap}
 use Rattle.mx_journal.specs.Records.{Ascending}
 use Rattle.mx_member.proofs.SectionWrites.{gapless_shows}
 use Rattle.mx_network.specs.Kept.{IsKept}
+use Rattle.mx_network.specs.Merged.{IsAboveAll, IsBelowEach}
 use Rattle.mx_network.specs.Sections.{journal_of, sections}
 use Rattle.mx_network.specs.Step.{Group}
 use Rattle.mx_network.proofs.Finding.{none_at, some_at}
-use Rattle.mx_network.proofs.Merging.{AreMerged, mergeable, merged_more, merged_same, merged_within}
+use Rattle.mx_network.proofs.Merging.{least_more, least_same, mergeable, merged_more, merged_same, merged_within}
 use Rattle.mx_network.proofs.cluster.Cluster.merged.Goals as goal
 use Rattle.mx_network.proofs.cluster.Cluster.merged.Goals.{in-Some+in_ok-add_journal, in_default}
 
@@ -34,22 +35,30 @@ loop-node-preserved g c =
             sections = subst (λ (l : List Record). IsSubmap l (journal_of c.args.self.now.trace)) (sym w.all-is)
                 (merged_within g.C.Exclusion.core g.C.Exclusion.Good c.args.self.now c.loop-node.all _ w.journal.result.now c.get.result w.in-Some.member.now kept c.loop-node.invariant.sections at w.journal.ensures new.above);
             ordered = subst (λ (l : List Record). Ascending 1 l) (sym w.all-is) new.ordered;
-            all = subst (λ (l : List Record). AreMerged c.args.self.now.members (take (c.loop-node.node-index + 1) c.args.nodes.now) l) (sym w.all-is)
+            all = subst (λ (l : List Record). IsAboveAll c.args.self.now.members (take (c.loop-node.node-index + 1) c.args.nodes.now) l) (sym w.all-is)
                 (merged_more c.args.self.now.members c.args.nodes.now c.loop-node.node-index c.get.result w.in-Some.member.now c.loop-node.all _ w.journal.result.now c.loop-node.invariant.all at w.journal.ensures new.above c.loop-node-test.true here);
+            least = subst (λ (l : List Record). IsBelowEach c.args.self.now.members (take (c.loop-node.node-index + 1) c.args.nodes.now) l) (sym w.all-is)
+                (least_more c.args.self.now.members c.args.nodes.now c.loop-node.node-index c.get.result w.in-Some.member.now c.loop-node.all _ w.journal.result.now c.loop-node.invariant.least at w.journal.ensures new.above c.loop-node-test.true here);
           }
           )
       | in_default w ↦ record {
         sections = subst (λ (l : List Record). IsSubmap l (journal_of c.args.self.now.trace)) (sym w.all-is) c.loop-node.invariant.sections;
         ordered = subst (λ (l : List Record). Ascending 1 l) (sym w.all-is) c.loop-node.invariant.ordered;
-        all = subst (λ (l : List Record). AreMerged c.args.self.now.members (take (c.loop-node.node-index + 1) c.args.nodes.now) l) (sym w.all-is)
+        all = subst (λ (l : List Record). IsAboveAll c.args.self.now.members (take (c.loop-node.node-index + 1) c.args.nodes.now) l) (sym w.all-is)
             (merged_same c.args.self.now.members c.args.nodes.now c.loop-node.node-index c.get.result c.loop-node.all c.loop-node.invariant.all
             (none_at c.deref.result.now c.args.self.now.members c.get.result (c.deref.ensures.value ∙ members) w.in_default.ensures.lookup.0) c.loop-node-test.true here);
+        least = subst (λ (l : List Record). IsBelowEach c.args.self.now.members (take (c.loop-node.node-index + 1) c.args.nodes.now) l) (sym w.all-is)
+            (least_same c.args.self.now.members c.args.nodes.now c.loop-node.node-index c.get.result c.loop-node.all c.loop-node.invariant.least c.loop-node-test.true here);
       }
     ]
 
 pub returns-clause-all : goal.returns-clause-all
 returns-clause-all g c =
-    subst (λ (l : List ℕ). AreMerged c.args.self.now.members l c.loop-node.all) (take_all c.loop-node.node-index c.args.nodes.now c.loop-node-test.false) c.loop-node.invariant.all
+    subst (λ (l : List ℕ). IsAboveAll c.args.self.now.members l c.loop-node.all) (take_all c.loop-node.node-index c.args.nodes.now c.loop-node-test.false) c.loop-node.invariant.all
+
+pub returns-clause-least : goal.returns-clause-least
+returns-clause-least g c =
+    subst (λ (l : List ℕ). IsBelowEach c.args.self.now.members l c.loop-node.all) (take_all c.loop-node.node-index c.args.nodes.now c.loop-node-test.false) c.loop-node.invariant.least
 
 pub returns-clause-in_order : goal.returns-clause-in_order
 returns-clause-in_order g c k count gapless top =

@@ -1,5 +1,6 @@
 use Rattle.std.proofs.Common.{sym, subst}
-use Rattle.mx_network.specs.Sections.{IsSerial}
+use Rattle.mx_member.specs.Serial.{ReadSerially}
+use Rattle.mx_network.specs.Sections.{IsSerial, sections}
 use Rattle.mx_network.specs.Trace.{IsExclusive, IsNumbered}
 use Rattle.mx_network.proofs.Headline.{agreed, exclusive, journal_ordered, journals_of, numbered, one_alone}
 use Rattle.mx_network.proofs.cluster.Cluster.trace.Goals as goal
@@ -12,6 +13,9 @@ returns-clause-numbered g c = subst (λ t. IsNumbered t) (sym c.deref.ensures.va
 
 pub returns-clause-serial : goal.returns-clause-serial
 returns-clause-serial g c = subst (λ t. IsSerial t) (sym c.deref.ensures.value) c.self.invariant.1.serial
+
+pub returns-clause-receipts : goal.returns-clause-receipts
+returns-clause-receipts g c = subst (λ t. ReadSerially (sections t)) (sym c.deref.ensures.value) c.self.invariant.1.sound.serial
 
 pub returns-clause-alone : goal.returns-clause-alone
 returns-clause-alone g c = rw (← c.self.view_is) (λ i j a b. one_alone g.C.Exclusion.core g.C.Exclusion.IsShape g.C.Exclusion.Good g.met.C.Exclusion.laws _ c.self.invariant.1 i j a b)
