@@ -7,12 +7,14 @@ ghost use Rattle.mx_program.specs.Words.{texts_of, names_of, replay_of, AskHelp,
 ghost use Rattle.mx_program.specs.FaultLines.{fault_line};
 ghost use Rattle.mx_program.specs.Ran.{MayTell, RanOf, Replays, IsRunStatus, Helps, Scolds, TellsFault, verdict_status};
 
+use crate::check::check;
+use crate::explore::explore;
 use crate::faults::{Fault, Stop};
 use crate::output::{Output, PutFault};
 use crate::replay::replay;
 use crate::source::Source;
 use crate::texts::faults::FaultLine;
-use crate::words::{Names, asked};
+use crate::words::{Names, Request, Wish, asked};
 use clap::error::ErrorKind;
 use mx_explorer::Verdict;
 use std::alloc::Global;
@@ -39,13 +41,15 @@ pub fn command<S: Source, O: Output, E: Output>(
         Scolds (O.written out.old) (O.written out.new) (E.written err.old) (E.written err.new) result }
 {
     match asked(alloc, words) {
-        Ok(Some(names)) => run_replay(alloc, &names, source, out, err),
+        Ok(Some(Request::Check(plan))) => run_check(alloc, plan, source, out, err),
+        Ok(Some(Request::Replay(names))) => run_replay(alloc, &names, source, out, err),
+        Ok(Some(Request::Explore(wish))) => run_explore(alloc, &wish, source, out, err),
         Ok(None) => 2,
         Err(e) => refuse(alloc, &e, out, err),
     }
 }
 
-/// What is written where the words ask for no replay.
+/// What is written where the words ask for no such thing.
 fn refuse<O: Output, E: Output>(alloc: Global, e: &clap::Error, out: &mut O, err: &mut E) -> u8
     ensures memory { kind_of e.now ≡ ErrorKind.OutOfMemory → (result ≡ 5)
         × Keeps (O.written out.old) (O.written out.new) × MayTell (E.written err.old) (E.written err.new) }
@@ -58,6 +62,48 @@ fn refuse<O: Output, E: Output>(alloc: Global, e: &clap::Error, out: &mut O, err
         ErrorKind::OutOfMemory => tell_memory(err),
         ErrorKind::DisplayHelp => help(alloc, e, out, err),
         _ => scold(alloc, e, err),
+    }
+}
+
+fn run_check<S: Source, O: Output, E: Output>(
+    alloc: Global,
+    plan: &str,
+    source: &mut S,
+    out: &mut O,
+    err: &mut E,
+) -> u8
+    ensures { IsRunStatus result }
+{
+    match check(alloc, plan, source, out) {
+        Ok(()) => 0,
+        Err(stop) => stop_status(alloc, stop, plan, err),
+    }
+}
+
+fn run_explore<S: Source, O: Output, E: Output>(
+    alloc: Global,
+    wish: &Wish<'_>,
+    source: &mut S,
+    out: &mut O,
+    err: &mut E,
+) -> u8
+    ensures { IsRunStatus result }
+{
+    match explore(alloc, wish, source, out) {
+        Ok(verdict) => verdict_status(verdict),
+        Err(stop) => stop_status(alloc, stop, wish.plan, err),
+    }
+}
+
+/// Writes why a command on a plan ended early.
+fn stop_status<E: Output>(alloc: Global, stop: Stop, plan: &str, err: &mut E) -> u8
+    ensures { (result ≡ 1) ⊎ (result ≡ 5) }
+{
+    let names = Names { plan, events: plan };
+    match stop {
+        Stop::Fault(fault) => tell(alloc, fault, &names, err),
+        Stop::Writer => 1,
+        Stop::Memory => tell_memory(err),
     }
 }
 

@@ -2,9 +2,12 @@
 //! `command` is proved over any source of named bytes and any two outputs.
 #![tactic(auto)]
 
+mod check;
 mod closing;
 mod command;
+mod explore;
 mod faults;
+mod help;
 mod output;
 mod replay;
 mod run;

@@ -46,7 +46,7 @@ fn are_dashes(names: &Names<'_>) -> bool
     names.plan == "-" && names.events == "-"
 }
 
-fn fetch<S: Source>(
+pub(crate) fn fetch<S: Source>(
     alloc: Global,
     source: &mut S,
     name: &str,

@@ -1,5 +1,6 @@
 //! Replays of worked examples, and the command line.
 
+mod exploring;
 mod faults;
 mod maekawa;
 mod merging;
@@ -117,15 +118,24 @@ fn words_that_are_no_command(rt: HostRuntime) -> Result<(), Fail> {
 
 #[test]
 fn help_tells_what_to_write(rt: HostRuntime) -> Result<(), Fail> {
-    let lines: [&[&str]; 2] = [&["--help"], &["replay", "--help"]];
-    for words in &lines {
+    let lines: [(&[&str], &str); 4] = [
+        (&["--help"], EVENTS),
+        (&["replay", "--help"], EVENTS),
+        (&["check", "--help"], "toward"),
+        (
+            &["explore", "--help"],
+            "mx explore plan.json --seed 1 --steps 1000",
+        ),
+    ];
+    for (words, example) in &lines {
         let ran = run_words(rt.alloc(), words, &[]);
         assert_eq!(rt; ran.status, 0);
         assert!(rt; ran.err.is_empty());
         let text = std::str::from_utf8(ran.out.as_slice()).ok().ok_or("text")?;
         assert!(rt; text.contains("Usage: mx"));
         assert!(rt; text.contains(PLAN));
-        assert!(rt; text.contains(EVENTS));
+        assert!(rt; text.contains(example));
+        assert!(rt; text.contains("docs/FORMATS.md"));
     }
     Ok(())
 }

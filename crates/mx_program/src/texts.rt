@@ -5,3 +5,4 @@ pub(crate) mod events;
 pub(crate) mod faults;
 pub(crate) mod letters;
 pub(crate) mod parcels;
+pub(crate) mod plans;

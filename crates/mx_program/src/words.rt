@@ -1,11 +1,16 @@
 //! The command line.
 
-ghost use Rattle.std.specs.Prelude.{◌≡◌, [], IfOk, IfErr, option_map};
-ghost use Rattle.clap.specs.Words.{app_of, fault_of, found_of, rows_of, subcommand_rows_of, HasKind};
-ghost use Rattle.mx_program.specs.Words.{mx_app, replay_of, pair_of, pair_of_rows, texts_of, names_of};
+ghost use Rattle.std.specs.Prelude.{◌≡◌, [], IfOk, IfErr, None, false, option_map};
+ghost use Rattle.clap.specs.Words.{app_of, fault_of, found_of, rows_of, rule_of, subcommand_rows_of, HasKind};
+ghost use Rattle.mx_program.specs.Words.{HasNoGlobals, check_app, events_rule, explore_app, mx_app, names_of, pair_of, pair_of_rows, plan_rule, replay_app, replay_names, replay_of, seed_rule, steps_rule, texts_of};
 
+use crate::help;
+use clap::builder::ValueParser;
 use clap::{Arg, ArgMatches, Command, Error};
 use std::alloc::{AllocError, Global};
+
+/// The most steps that an exploration takes.
+const MOST_STEPS: u64 = 1_000_000;
 
 /// The names of a plan and of its events.
 #[derive(Clone, Copy, Debug, PartialEq, Eq)]
@@ -14,63 +19,127 @@ pub struct Names<'a> {
     pub events: &'a str,
 }
 
-const ABOUT: &str =
-    "Replays events of a cluster of nodes that guard shared registers by distributed mutual exclusion";
+/// What is to be explored: the name of a plan, the seed of the schedule and its length.
+#[derive(Clone, Copy, Debug, PartialEq, Eq)]
+pub struct Wish<'a> {
+    pub plan: &'a str,
+    pub seed: u64,
+    pub steps: u64,
+}
 
-const REPLAY_ABOUT: &str = "Prints what comes of each event, and each parcel that it sends";
+/// What a command line asks for.
+#[derive(Clone, Copy, Debug, PartialEq, Eq)]
+pub enum Request<'a> {
+    /// What a plan of this name says.
+    Check(&'a str),
+    Replay(Names<'a>),
+    Explore(Wish<'a>),
+}
 
-const HELP: &str =
-    "Example: a cluster of three nodes by the algorithm of Ricart and Agrawala, and the events of one section.
+fn plan_arg<'a>(alloc: Global) -> Arg<'a>
+    ensures rule { rule_of result ≡ plan_rule }
+    ensures local { result.global ≡ false }
+{
+    Arg::new(alloc, "PLAN")
+        .help("The file of the plan, or - for standard input")
+        .required(true)
+}
 
-  plan.json    {\"algorithm\":\"ricart\",\"nodes\":[\"a\",\"b\",\"c\"],\"registers\":[\"count\"],\"sections\":10}
-  events.json  [[\"ask\",\"a\"],[\"deliver\",0],[\"deliver\",1],[\"deliver\",2],[\"deliver\",3],[\"enter\",\"a\"],[\"leave\",\"a\"]]
+fn events_arg<'a>(alloc: Global) -> Arg<'a>
+    ensures rule { rule_of result ≡ events_rule }
+    ensures local { result.global ≡ false }
+{
+    Arg::new(alloc, "EVENTS")
+        .help("The file of the events, or - for standard input")
+        .required(true)
+}
 
-  mx replay plan.json events.json
+fn seed_arg<'a>(alloc: Global) -> Arg<'a>
+    ensures rule { rule_of result ≡ seed_rule }
+    ensures local { result.global ≡ false }
+{
+    Arg::new(alloc, "seed")
+        .long("seed")
+        .help("The seed of the schedule, a whole number of 64 bits")
+        .value_parser(ValueParser::Unsigned(0, u64::MAX))
+        .required(true)
+}
 
-A plan has 1 to 21 nodes, 1 to 32 registers, the greatest section number (1 to 1000000), and may have
-an origin, the number at which stamps start. Events are [\"ask\",NODE], [\"enter\",NODE], [\"leave\",NODE],
-[\"tick\",NODE], [\"restart\",NODE] and [\"deliver\",K], where K counts the parcels sent so far from 0.
-For each event a line tells what came of it, and for each parcel that it sent, from whom to whom it goes
-and what it says. A name - is standard input. Where both are -, its first line is the plan and the rest
-is the events.
+fn steps_arg<'a>(alloc: Global) -> Arg<'a>
+    ensures rule { rule_of result ≡ steps_rule }
+    ensures local { result.global ≡ false }
+{
+    Arg::new(alloc, "steps")
+        .long("steps")
+        .help("How many steps the schedule has, 0 to 1000000")
+        .value_parser(ValueParser::Unsigned(0, MOST_STEPS))
+        .required(true)
+}
 
-Status: 0 all events replayed; 1 a plan, its events, a file or an output at fault; 2 no such command;
-5 out of memory.";
+fn check_command<'a>(alloc: Global) -> Result<Command<'a>, AllocError>
+    ensures app { IfOk result (λ command. app_of command ≡ check_app) }
+    ensures local { IfOk result HasNoGlobals }
+{
+    let begun = Command::new(alloc, "check")
+        .about(help::CHECK)
+        .after_help(help::CHECK_EXAMPLE);
+    let whole = begun.arg(plan_arg(alloc))?;
+    Ok(whole)
+}
+
+fn replay_command<'a>(alloc: Global) -> Result<Command<'a>, AllocError>
+    ensures app { IfOk result (λ command. app_of command ≡ replay_app) }
+    ensures local { IfOk result HasNoGlobals }
+{
+    let begun = Command::new(alloc, "replay")
+        .about(help::REPLAY)
+        .after_help(help::REPLAY_EXAMPLE);
+    let with_plan = begun.arg(plan_arg(alloc))?;
+    let whole = with_plan.arg(events_arg(alloc))?;
+    Ok(whole)
+}
+
+fn explore_command<'a>(alloc: Global) -> Result<Command<'a>, AllocError>
+    ensures app { IfOk result (λ command. app_of command ≡ explore_app) }
+    ensures local { IfOk result HasNoGlobals }
+{
+    let begun = Command::new(alloc, "explore")
+        .about(help::EXPLORE)
+        .after_help(help::EXPLORE_EXAMPLE);
+    let with_plan = begun.arg(plan_arg(alloc))?;
+    let with_seed = with_plan.arg(seed_arg(alloc))?;
+    let whole = with_seed.arg(steps_arg(alloc))?;
+    Ok(whole)
+}
 
 /// The commands that are read.
 fn mx_command<'a>(alloc: Global) -> Result<Command<'a>, AllocError>
     ensures { IfOk result (λ command. app_of command ≡ mx_app) }
 {
-    let plan = Arg::new(alloc, "PLAN")
-        .help("The file of the plan, or - for standard input")
-        .required(true);
-    let events = Arg::new(alloc, "EVENTS")
-        .help("The file of the events, or - for standard input")
-        .required(true);
-    let replay = Command::new(alloc, "replay")
-        .about(REPLAY_ABOUT)
-        .after_help(HELP)
-        .arg(plan)?
-        .arg(events)?;
-    let mx = Command::new(alloc, "mx")
+    let begun = Command::new(alloc, "mx")
         .bin_name("mx")?
-        .about(ABOUT)
-        .after_help(HELP)
+        .about(help::MX)
+        .after_help(help::MX_EXAMPLE)
         .no_binary_name(true)
         .subcommand_required(true)
         .disable_help_subcommand(true);
-    let mx = mx.subcommand(replay)?;
-    Ok(mx)
+    let check = check_command(alloc)?;
+    let replay = replay_command(alloc)?;
+    let explore = explore_command(alloc)?;
+    let with_check = begun.subcommand(check)?;
+    let with_replay = with_check.subcommand(replay)?;
+    let whole = with_replay.subcommand(explore)?;
+    Ok(whole)
 }
 
-/// The names after `replay`. No other command is known.
-pub(crate) fn asked<'a>(alloc: Global, words: &'a [&'a str]) -> Result<Option<Names<'a>>, Error>
+/// What the words ask for.
+pub(crate) fn asked<'a>(alloc: Global, words: &'a [&'a str]) -> Result<Option<Request<'a>>, Error>
     ensures read { IfOk result (λ _. fault_of mx_app (texts_of words.entry.now) ≡ []) }
-    ensures ok { IfOk result (λ names. option_map names_of names ≡ replay_of (texts_of words.entry.now)) }
+    ensures ok { IfOk result (λ request. replay_names request ≡ replay_of (texts_of words.entry.now)) }
     ensures err { IfErr result (HasKind (fault_of mx_app (texts_of words.entry.now))) }
 {
     let matches = matches_of(alloc, words)?;
-    Ok(replay_in(&matches))
+    Ok(request_in(&matches))
 }
 
 fn matches_of<'a>(alloc: Global, words: &'a [&'a str]) -> Result<ArgMatches<'a>, Error>
@@ -82,12 +151,39 @@ fn matches_of<'a>(alloc: Global, words: &'a [&'a str]) -> Result<ArgMatches<'a>,
     command.try_get_matches_from(words)
 }
 
-fn replay_in<'a>(matches: &ArgMatches<'a>) -> Option<Names<'a>>
-    ensures { option_map names_of result ≡ pair_of (subcommand_rows_of matches.now) }
+fn request_in<'a>(matches: &ArgMatches<'a>) -> Option<Request<'a>>
+    ensures { replay_names result ≡ pair_of (subcommand_rows_of matches.now) }
 {
     match matches.subcommand() {
-        Some((name, inner)) if name == "replay" => names_in(inner),
+        Some((name, inner)) if name == "replay" => replay_in(inner),
+        Some((name, inner)) if name == "check" => check_in(inner),
+        Some((name, inner)) if name == "explore" => explore_in(inner),
         _ => None,
+    }
+}
+
+fn check_in<'a>(matches: &ArgMatches<'a>) -> Option<Request<'a>>
+    ensures { replay_names result ≡ None }
+{
+    let plan = matches.get_str("PLAN")?;
+    Some(Request::Check(plan))
+}
+
+fn explore_in<'a>(matches: &ArgMatches<'a>) -> Option<Request<'a>>
+    ensures { replay_names result ≡ None }
+{
+    let plan = matches.get_str("PLAN")?;
+    let seed = matches.get_one::<u64>("seed")?;
+    let steps = matches.get_one::<u64>("steps")?;
+    Some(Request::Explore(Wish { plan, seed, steps }))
+}
+
+fn replay_in<'a>(matches: &ArgMatches<'a>) -> Option<Request<'a>>
+    ensures { replay_names result ≡ pair_of_rows (rows_of (found_of matches.now)) }
+{
+    match names_in(matches) {
+        Some(names) => Some(Request::Replay(names)),
+        None => None,
     }
 }
 
