@@ -13,7 +13,10 @@ impl Exclusion for Maekawa {
 
     type Shape = Quorums;
 
+    ghost use Rattle.std.specs.Prelude.{◌≡◌, ◌↔◌, IsTrue};
+    ghost use Rattle.mx_nodelaws.specs.declared.phase.Phase.TheVariants.{Waiting};
     ghost use Rattle.mx_quorums.specs.Family.{IsMeeting};
+    ghost use Rattle.mx_maekawa.specs.RequesterStep.{HoldsAll, can_enter_of};
     ghost use Rattle.mx_maekawa.specs.Step.{maekawa_core};
     ghost use Rattle.mx_maekawa.specs.Good.{IsGood};
     ghost use Rattle.mx_maekawa.specs.Promises.{maekawa_phases};
@@ -83,7 +86,10 @@ impl Exclusion for Maekawa {
         }
     }
 
-    fn can_enter(&self) -> bool {
+    fn can_enter(&self) -> bool
+        ensures value { result ≡ can_enter_of self.now.requester }
+        ensures granted { IsTrue result ↔ ((self.now.requester.phase ≡ Waiting) × HoldsAll self.now.requester) }
+    {
         self.requester.can_enter()
     }
 

@@ -42,6 +42,7 @@ impl Requester {
     ghost use Rattle.std.specs.Prelude.{◌≡◌, ◌≤◌, ◌↔◌, [], length, max, IsTrue};
     ghost use Rattle.mx_nodelaws.specs.Core.{BearsNumber};
     ghost use Rattle.mx_nodelaws.specs.World.{addressed};
+    ghost use Rattle.mx_nodelaws.specs.declared.phase.Phase.TheVariants.{Waiting};
     ghost use Rattle.mx_maekawa.specs.RequesterStep.{start_requester, is_own, holds, HoldsAll, holds_all, to_own, ask_in, can_enter_of, enter_in, leave_in, to_missing, request_again};
 
     /// A requester at rest.
@@ -183,7 +184,8 @@ impl Requester {
 
     /// Whether we wait, and a grant of each arbiter of the own set is held.
     pub(crate) fn can_enter(&self) -> bool
-        ensures { result ≡ can_enter_of self.now }
+        ensures value { result ≡ can_enter_of self.now }
+        ensures granted { IsTrue result ↔ ((self.now.phase ≡ Waiting) × HoldsAll self.now) }
     {
         matches!(self.phase, Phase::Waiting) && self.holds_all()
     }
