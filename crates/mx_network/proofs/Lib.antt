@@ -1,6 +1,6 @@
 -- Marks: what items tell. EventParts: the part of an event. Happening: an event by whether its node is
 -- there. Finding: what a look at a place finds. Refusals: which events can't happen. Keeps: each event keeps what a cluster keeps. Headline:
--- what the promise says of a cluster. Merging: merging its journals.
+-- what the promise says of a cluster. Merging: merging its journals. Shown: what is accepted and refused.
 pub mod Marks
 pub mod EventParts
 pub mod Happening
@@ -9,3 +9,4 @@ pub mod Refusals
 pub mod Keeps
 pub mod Headline
 pub mod Merging
+pub mod Shown

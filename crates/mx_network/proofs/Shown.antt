@@ -1,0 +1,61 @@
+-- A small trace that shows what the definitions on sections and journals accept and refuse.
+use Rattle.std.proofs.Common.{ℕ, ◌≤◌, ◌≡◌, inl, inr, true, List, [], ◌∷◌, Some, refl, sym, subst, arith}
+use Rattle.mx_stamps.specs.Lists.{IsIn}
+use Rattle.mx_journal.specs.declared.records.Record.{Record}
+use Rattle.mx_journal.specs.declared.receipts.Read.{Read}
+use Rattle.mx_journal.specs.Agreement.{IsSubmap}
+use Rattle.mx_journal.specs.Gapless.{IsGapless}
+use Rattle.mx_merge.specs.Join.{IsLeastUpperBound}
+use Rattle.mx_member.specs.Serial.{IsSerialRead, ReadSerially}
+use Rattle.mx_member.proofs.SectionLists.{journal_ascends}
+use Rattle.mx_member.proofs.SectionWrites.{gapless_shows}
+use Rattle.mx_network.specs.declared.event.Event.TheVariants as event
+use Rattle.mx_network.specs.declared.outcome.Outcome.TheVariants.{Entered, Written, Left}
+use Rattle.mx_network.specs.declared.outcome.Entry.{Entry}
+use Rattle.mx_network.specs.Sections.{ShowsInOrder, journal_of, sections}
+
+-- the record of section 1 by node 0, which gave register 0 this value
+abbrev wrote : ℕ → Record
+wrote value = record { number = 1; node = 0; writes = record { items = record { register = 0; value = value } ∷ [] } }
+
+-- node 0 enters, writes 7, and leaves
+abbrev one_section : List Entry
+one_section =
+    record { event = event.Enter 0; outcome = Entered 1 } ∷ record { event = event.Write 0 0 7; outcome = Written } ∷
+    record {
+      event = event.Leave 0;
+      outcome = Left (record { number = 1; node = 0; reads = record { items = [] }; writes = record { items = record { register = 0; value = 7 } ∷ [] } });
+    } ∷ []
+
+pub its_journal : journal_of one_section ≡ wrote 7 ∷ []
+its_journal = refl
+
+-- its journal shows the writes in order
+pub shown : ShowsInOrder one_section (journal_of one_section)
+shown k count gapless top = gapless_shows k (sections one_section) (journal_of one_section) (journal_ascends (sections one_section)) (λ x h. h) gapless top count
+
+-- one with another value does not
+pub not_shown : ShowsInOrder one_section (wrote 9 ∷ []) → ⊥
+not_shown h =
+    let all : IsGapless 1 (wrote 9 ∷ []) = λ n low high. (wrote 9, inl refl, omega (arith, low, high)) in
+    let e = h 1 1 all (omega arith) 0 (record { value = 9; by = Some 1 }) refl in
+    absurd (omega (arith, e))
+
+-- a section that read what nobody wrote
+pub unwritten_read : ReadSerially (record { node = 0; draft = record { reads = record { register = 0; value = 5; after = 0 } ∷ []; writes = [] }; closed = true } ∷ []) → ⊥
+unwritten_read h = let e = (h.0 (record { register = 0; value = 5; after = 0 }) (inl refl)).1 in absurd (omega (arith, e))
+
+-- and one that read its own write
+pub own_read : ReadSerially (record { node = 0; draft = record { reads = record { register = 0; value = 7; after = 1 } ∷ []; writes = record { register = 0; value = 7 } ∷ [] }; closed = true } ∷ [])
+own_read = ((λ x h. one x h), tt)
+  where
+    one : (x : Read) → IsIn x (record { register = 0; value = 7; after = 1 } ∷ []) → IsSerialRead [] (record { register = 0; value = 7 } ∷ []) x
+    one x (inl e) = subst (λ (y : Read). IsSerialRead [] (record { register = 0; value = 7 } ∷ []) y) (sym e) (omega arith, refl)
+    one x (inr bad) = absurd bad
+
+-- a record is in no empty journal, and no join of two empty ones has it
+pub not_below : IsSubmap (wrote 7 ∷ []) [] → ⊥
+not_below h = h (wrote 7) (inl refl)
+
+pub no_join : IsLeastUpperBound [] [] (wrote 7 ∷ []) → ⊥
+no_join h = h.least [] (λ x k. k) (λ x k. k) (wrote 7) (inl refl)
