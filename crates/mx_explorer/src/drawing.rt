@@ -1,22 +1,35 @@
 //! Schedules drawn from a seed.
 
-ghost use Rattle.std.specs.Prelude.{◌≡◌, ◌<◌, ◌≤◌, ◌%◌, IfOk, vec_len};
+ghost use Rattle.std.specs.Prelude.{◌≡◌, ◌<◌, ◌≤◌, ◌%◌, IfOk, length, vec_len};
 ghost use Rattle.mx_stamps.specs.Lists.{IsIn};
 ghost use Rattle.mx_explorer.specs.Drawn.{IsDrawn, after_drawn, after_words, drawn, drawn_list, word};
 ghost use Rattle.mx_explorer.specs.Weather.{generator_of};
 
 use crate::kind::{Kind, kind_of};
 use mx_network::Event;
+use mx_plan::Plan;
 use mx_stamps::NodeId;
 use rand_core::SeedableRng;
 use rand_core::utils::NextWord;
 use rand_pcg::Pcg32;
 use std::alloc::{AllocError, Global};
 
-/// A drawn schedule of so many steps, over so many nodes and registers. The generator is `Pcg32`
-/// by `seed_from_u64`. Each step takes a word for the kind of the event and one for each of its
-/// arguments. The word of a delivery is not yet the number of a parcel: see `place`.
-pub fn schedule_of(
+/// A drawn schedule of so many steps, over the nodes and registers of a plan. The generator is
+/// `Pcg32` by `seed_from_u64`. Each step takes a word for the kind of the event and one for each of
+/// its arguments. The word of a delivery is not yet the number of a parcel: see `place`. Its only
+/// fault is want of memory.
+pub fn schedule(alloc: Global, seed: u64, steps: u64, plan: &Plan) -> Result<Vec<Event>, AllocError>
+    ensures value { IfOk result (λ v. v.items
+        ≡ drawn_list steps (length plan.now.nodes) (length plan.now.registers) (generator_of seed)) }
+    ensures count { IfOk result (λ v. vec_len v ≡ steps) }
+    ensures named { IfOk result (λ v. (e : Event) → IsIn e v.items
+        → IsDrawn (length plan.now.nodes) (length plan.now.registers) e) }
+{
+    schedule_over(alloc, seed, steps, plan.nodes(), plan.registers())
+}
+
+/// A drawn schedule over so many nodes and registers.
+fn schedule_over(
     alloc: Global,
     seed: u64,
     steps: u64,

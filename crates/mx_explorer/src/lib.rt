@@ -9,7 +9,7 @@ mod placing;
 mod verdict;
 mod weather;
 
-pub use drawing::schedule_of;
+pub use drawing::schedule;
 pub use judging::judge;
 pub use placing::place;
 pub use verdict::{Clause, Verdict};

@@ -18,7 +18,7 @@ kept fault = Err fault
 pub left : {P : Type 0} (receipt : Receipt) → P → (closed receipt ≡ Err NotInside) ↔ (P → ⊥)
 left receipt p = ((λ e. absurd (let bad : ⊥ = cc in bad)), (λ h. absurd (h p)))
 
-memory_apart : (r : Result Receipt CloseFault) → r ≡ Err Memory → r ≡ Err NotInside → ⊥
+pub memory_apart : (r : Result Receipt CloseFault) → r ≡ Err Memory → r ≡ Err NotInside → ⊥
 memory_apart r m e = let q = sym m ∙ e in let bad : ⊥ = cc in bad
 
 -- and who is refused memory too

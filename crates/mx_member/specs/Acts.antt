@@ -2,7 +2,7 @@
 use Rattle.std.specs.Prelude.{ℕ, ◌<◌, ◌↔◌, ◌++◌, List, []}
 use Rattle.mx_stamps.specs.Lists.{IsIn}
 use Rattle.mx_nodelaws.specs.World.{Done, quietly, sent_by}
-use Rattle.mx_nodelaws.specs.Core.{Core}
+use Rattle.mx_nodelaws.specs.Core.{Core, IsInside}
 use Rattle.mx_nodelaws.specs.Acts.{answering}
 use Rattle.mx_member.specs.declared.acts.Act.{Act}
 use Rattle.mx_member.specs.declared.acts.Act.TheVariants as act
@@ -37,16 +37,16 @@ IsDoable (act.Deliver from parcel) m = IsTakeable from parcel m
 IsDoable act.Restart m = Unit {0}
 
 -- the act may need memory: a record joins the journal
-abbrev pub NeedsMemory : {M : Type 0} → Act M → Type 0
-NeedsMemory act.Ask = ⊥
-NeedsMemory act.Enter = ⊥
-NeedsMemory (act.Read register) = ⊥
-NeedsMemory (act.Write register value) = ⊥
-NeedsMemory act.Leave = Unit {0}
-NeedsMemory act.Tick = ⊥
-NeedsMemory (act.Want to) = ⊥
-NeedsMemory (act.Deliver from parcel) = BringsRecords parcel
-NeedsMemory act.Restart = ⊥
+abbrev pub NeedsMemory : {H S M : Type 0} → Core H S M → Act M → MemberState S → Type 0
+NeedsMemory core act.Ask m = ⊥
+NeedsMemory core act.Enter m = ⊥
+NeedsMemory core (act.Read register) m = ⊥
+NeedsMemory core (act.Write register value) m = ⊥
+NeedsMemory core act.Leave m = IsInside core m.core
+NeedsMemory core act.Tick m = ⊥
+NeedsMemory core (act.Want to) m = ⊥
+NeedsMemory core (act.Deliver from parcel) m = BringsRecords parcel
+NeedsMemory core act.Restart m = ⊥
 
 -- node i of so many may do this: a parcel that it takes was sent to it, a want goes to a node
 abbrev pub Arrives : {M : Type 0} → ℕ → List (ℕ × ℕ × Parcel M) → ℕ → Act M → Type 0

@@ -56,7 +56,7 @@ pub fn perform<C: Exclusion>(
     ensures state { IfOk result (λ answer. member.new ≡ (act_of C.core act member.old).state) }
     ensures answer { IfOk result (λ answer. answer ≡ (act_of C.core act member.old).answer) }
     ensures letters { IfOk result (λ answer. out.new ≡ (act_of C.core act member.old).letters) }
-    ensures memory { OnErr result (NeedsMemory act) }
+    ensures memory { OnErr result (NeedsMemory C.core act member.old) }
     ensures err { OnErr result (member.new ≡ member.old) }
     ensures quiet { OnErr result (out.new ≡ []) }
 {

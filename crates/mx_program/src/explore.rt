@@ -10,7 +10,7 @@ use crate::source::Source;
 use crate::texts::closing::VerdictLine;
 use crate::texts::plans::ExploredLine;
 use crate::words::Wish;
-use mx_explorer::{Verdict, judge, place, schedule_of};
+use mx_explorer::{Verdict, judge, place, schedule};
 use mx_maekawa::Maekawa;
 use mx_network::{Cluster, Entry, Event, Outcome, StepFault};
 use mx_nodelaws::Exclusion;
@@ -31,7 +31,7 @@ pub(crate) fn explore<S: Source, O: Output>(
 {
     let bytes = fetch(alloc, source, wish.plan, Named::Plan)?;
     let plan = read_plan(alloc, bytes.as_slice())?;
-    let events = schedule_of(alloc, wish.seed, wish.steps, plan.nodes(), plan.registers())?;
+    let events = schedule(alloc, wish.seed, wish.steps, &plan)?;
     let mut text = String::new(alloc);
     let verdict = explore_by(alloc, &plan, events.as_slice(), &mut text)?;
     out.put(text.as_bytes())?;

@@ -1,15 +1,21 @@
 //! Schedules and weather beside what the tests make of words that they draw themselves.
 
-use crate::{Weather, place, schedule_of};
+use crate::{Weather, place, schedule};
 use mx_letters::{Fate, Fates};
 use mx_network::Event;
+use mx_plan::read_plan;
 use mx_stamps::NodeId;
 use rand_core::{Rng, SeedableRng};
 use rand_pcg::Pcg32;
 use std::test::Fail;
 
+const PLAN: &[u8] =
+    b"{\"algorithm\":\"ricart\",\"nodes\":[\"a\",\"b\",\"c\",\"d\",\"e\"],\"registers\":[\"r\",\"s\",\"t\"],\"sections\":10}";
+
+/// The nodes of that plan.
 const NODES: u8 = 5;
 
+/// Its registers.
 const REGISTERS: u8 = 3;
 
 fn next_of<F: Fates>(fates: &mut F) -> Fate {
@@ -85,8 +91,9 @@ fn wanted_event(words: &mut Pcg32) -> Event {
 
 #[test]
 fn schedule_is_that_of_its_seed(rt: HostRuntime) -> Result<(), Fail> {
+    let plan = read_plan(rt.alloc(), PLAN)?;
     for seed in 0..10 {
-        let events = schedule_of(rt.alloc(), seed, 1000, NODES, REGISTERS)?;
+        let events = schedule(rt.alloc(), seed, 1000, &plan)?;
         assert_eq!(rt; events.len(), 1000);
         let mut words = Pcg32::seed_from_u64(seed);
         for event in &events {

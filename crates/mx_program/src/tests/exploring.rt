@@ -58,19 +58,36 @@ meet b c: c
     )
 }
 
+/// The seeds that are explored with each algorithm.
+const SEEDS: [&str; 10] = ["0", "1", "2", "3", "4", "5", "6", "7", "8", "9"];
+
 #[test]
 fn explored_traces_are_sound(rt: HostRuntime) -> Result<(), Fail> {
     for plan in [PLAN, PAIRS, LINE_OF_THREE] {
-        for seed in ["0", "1", "2"] {
-            let words = ["explore", "p", "--seed", seed, "--steps", "200"];
-            let ran = run_words(rt.alloc(), &words, &[("p", plan.as_bytes())]);
+        for seed in SEEDS {
+            let words = ["explore", "p", "--seed", seed, "--steps", "2000"];
+            let files = [("p", plan.as_bytes())];
+            let ran = run_words(rt.alloc(), &words, &files);
             assert_eq!(rt; ran.status, 0);
             let text = std::str::from_utf8(ran.out.as_slice()).ok().ok_or("text")?;
-            assert!(rt; text.starts_with("explored 200, entered "));
+            assert!(rt; text.starts_with("explored 2000, entered "));
+            assert!(rt; !text.starts_with("explored 2000, entered 0,"));
             assert!(rt; text.ends_with("\nverdict sound\n"));
+            let again = run_words(rt.alloc(), &words, &files);
+            assert!(rt; again.out.as_slice() == ran.out.as_slice());
         }
     }
     Ok(())
+}
+
+#[test]
+fn seeds_draw_other_schedules(rt: HostRuntime) {
+    let files = [("p", PLAN.as_bytes())];
+    let one = ["explore", "p", "--seed", "1", "--steps", "2000"];
+    let two = ["explore", "p", "--seed", "2", "--steps", "2000"];
+    let first = run_words(rt.alloc(), &one, &files);
+    let second = run_words(rt.alloc(), &two, &files);
+    assert!(rt; first.out.as_slice() != second.out.as_slice());
 }
 
 #[test]

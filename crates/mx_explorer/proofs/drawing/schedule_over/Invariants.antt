@@ -1,7 +1,7 @@
 use Rattle.std.proofs.Common.{ℕ, ◌≡◌, ◌+◌, ◌++◌, vec_len}
 use Rattle.mx_explorer.specs.Drawn.{drawn_list}
 use Rattle.mx_explorer.specs.Weather.{generator_of}
-use Rattle.mx_explorer.proofs.drawing.schedule_of.Given as goal
+use Rattle.mx_explorer.proofs.drawing.schedule_over.Given as goal
 
 -- with the events of the steps to come, the list is whole
 abbrev pub invariant-loop : goal.invariant-loop

@@ -4,7 +4,7 @@ use Rattle.mx_stamps.proofs.Lists.{append_append, append_nil}
 use Rattle.mx_explorer.specs.Drawn.{drawn, drawn_list}
 use Rattle.mx_explorer.specs.Weather.{generator_of}
 use Rattle.mx_explorer.proofs.Schedules.{all_drawn}
-use Rattle.mx_explorer.proofs.drawing.schedule_of.Goals as goal
+use Rattle.mx_explorer.proofs.drawing.schedule_over.Goals as goal
 
 pub loop-preserved : goal.loop-preserved
 loop-preserved c =

@@ -1,0 +1,98 @@
+"""Draws events in which something happens, for `bench/replay`.
+
+Usage: walk.py PLAN EVENTS COUNT SEED. Writes the file of events and prints how many parcels are sent
+and how many sections entered. Most events deliver a letter that is on its way; one in fifty letters is
+lost, and one event in fifty repeats an old one. A node that is idle asks, one that may enter enters, one
+that is inside writes and then leaves; where nothing is on its way, nodes tick.
+"""
+import json
+import os
+import random
+import sys
+
+sys.path.insert(0, os.path.join(os.path.dirname(os.path.dirname(os.path.abspath(__file__))), "examples"))
+from oracle import cores
+
+LOST = 0.02
+REPEATED = 0.02
+DELIVERED = 0.80
+
+
+class Walk:
+    """A cluster, the letters that it sent and the events so far."""
+
+    def __init__(self, plan, seed):
+        self.draw = random.Random(seed)
+        self.names, self.nodes = plan["nodes"], cores(plan)
+        self.sent, self.flying, self.events = [], [], []
+        self.entered, self.has_written = 0, set()
+
+    def happen(self, node, *event):
+        """Notes an event and posts the letters that the node has put out."""
+        self.events.append(event)
+        for to, letter in node.out:
+            self.flying.append(len(self.sent))
+            self.sent.append((node.me, to, letter))
+        node.out = []
+
+    def deliver(self, number):
+        sender, to, letter = self.sent[number]
+        self.nodes[to].deliver(sender, letter)
+        self.happen(self.nodes[to], "deliver", number)
+
+    def deliver_some(self):
+        """Takes a letter that is on its way, wherever it stands, and delivers or loses it."""
+        at = self.draw.randrange(len(self.flying))
+        self.flying[at], self.flying[-1] = self.flying[-1], self.flying[at]
+        number = self.flying.pop()
+        if self.draw.random() >= LOST:
+            self.deliver(number)
+
+    def act(self, node):
+        """What this node does next by itself."""
+        name = self.names[node.me]
+        if node.phase == "idle":
+            node.ask()
+            self.happen(node, "ask", name)
+        elif node.phase == "inside":
+            self.be_inside(node, name)
+        elif node.permitted():
+            node.enter()
+            self.entered += 1
+            self.happen(node, "enter", name)
+        elif not self.flying:
+            node.tick()
+            self.happen(node, "tick", name)
+
+    def be_inside(self, node, name):
+        if node.me in self.has_written:
+            self.has_written.discard(node.me)
+            node.leave()
+            self.happen(node, "leave", name)
+        else:
+            self.has_written.add(node.me)
+            self.happen(node, "write", name, "count", self.entered)
+
+    def step(self):
+        chance = self.draw.random()
+        if self.flying and chance < DELIVERED:
+            self.deliver_some()
+        elif self.sent and DELIVERED <= chance < DELIVERED + REPEATED:
+            self.deliver(self.draw.randrange(max(0, len(self.sent) - 100), len(self.sent)))
+        else:
+            self.act(self.draw.choice(self.nodes))
+
+
+def main():
+    plan_file, events_file, count, seed = sys.argv[1:]
+    with open(plan_file) as file:
+        walk = Walk(json.load(file), int(seed))
+    while len(walk.events) < int(count):
+        walk.step()
+    with open(events_file, "w") as file:
+        file.write("[" + ",\n".join(json.dumps(event, separators=(",", ":")) for event in walk.events) + "]\n")
+    print(len(walk.sent), walk.entered)
+
+
+if __name__ == "__main__":
+    main()
