@@ -1,299 +1,796 @@
 """A second implementation of `mx replay`, written from the step tables alone, to compare printouts with.
 
 Usage: examples/oracle.py PLAN EVENTS, for a plan and events that are well-formed.
-"""
-import json, sys
-U64 = (1 << 64) - 1
 
-def below(s, t):  # stamp order: number, then node
-    return (s[0], s[1]) < (t[0], t[1])
+From the bottom up: letters, which nodes send to each other; cores, one class for each algorithm, which
+take the letters and say when their node may enter the section; members, which are a core with the journal
+of the sections that were left and a draft of the present one; and the replay of events, which prints.
+
+Nodes are their places in the plan, counted from 0. A stamp is a request's number and node, and stamps are
+in the order of their numbers, then of their nodes.
+"""
+import json
+import sys
+from collections import namedtuple
+
+GREATEST = (1 << 64) - 1  # what a counter can't pass
+
+IDLE = "idle"
+WAITING = "waiting"
+INSIDE = "inside"
+
+MOST_READS = 8  # in one section
+MOST_WRITES = 8
+MOST_RANGES = 8  # in one want
+MOST_RECORDS = 4  # in one answer to a want
+
+PLANES = {7: (0, 1, 3), 13: (0, 1, 3, 9), 21: (0, 1, 4, 14, 16)}
+
+
+# Letters. Of the numbers in them, top and last are the greatest section number that the sender knows.
+
+Stamp = namedtuple("Stamp", "number node")  # tells requests apart, and puts them in order
+
+Request = namedtuple("Request", "stamp")  # asks for the section (Ricart and Agrawala, Maekawa)
+Reply = namedtuple("Reply", "stamp top")  # permits a request (Ricart and Agrawala)
+
+Locked = namedtuple("Locked", "stamp grant last")  # gives an arbiter's lock to a request (Maekawa)
+Failed = namedtuple("Failed", "stamp")  # another request comes before this one at the arbiter
+Inquire = namedtuple("Inquire", "stamp grant")  # asks whether a granted lock can be given back
+Relinquish = namedtuple("Relinquish", "stamp grant")  # gives a lock back, and its request still waits
+Release = namedtuple("Release", "stamp top")  # gives a lock back for good
+
+TreeRequest = namedtuple("TreeRequest", "number")  # asks for the privilege; counted by node (Raymond)
+Privilege = namedtuple("Privilege", "hop last")  # hands the privilege to a neighbour
+Got = namedtuple("Got", "hop")  # acknowledges a privilege
+
+Want = namedtuple("Want", "ranges")  # asks for records; a range is its first and last section number
+Records = namedtuple("Records", "records")  # brings them, as pairs of a section number and its writes
+
+TEXTS = {
+    Request: "request {stamp}",
+    Reply: "reply {stamp} top {top}",
+    Locked: "locked {stamp} grant {grant} last {last}",
+    Failed: "failed {stamp}",
+    Inquire: "inquire {stamp} grant {grant}",
+    Relinquish: "relinquish {stamp} grant {grant}",
+    Release: "release {stamp} top {top}",
+    TreeRequest: "request {number}",
+    Privilege: "privilege {hop} last {last}",
+    Got: "got {hop}",
+}
+
+
+def text(letter, names):
+    """A letter as it is printed, given the names of the nodes."""
+    if isinstance(letter, Want):
+        return "want" + "".join(f" {first}..{last}" for first, last in letter.ranges)
+    if isinstance(letter, Records):
+        return "records" + "".join(f" {number}" for number, _ in letter.records)
+    fields = letter._asdict()
+    if "stamp" in fields:
+        fields["stamp"] = f"{letter.stamp.number}.{names[letter.stamp.node]}"
+    return TEXTS[type(letter)].format(**fields)
+
+
+# Cores.
+
 
 class Core:
-    def __init__(self, me, n, limit):
-        self.me, self.n, self.limit = me, n, limit
-        self.phase, self.top, self.mine = "idle", 0, 0
-        self.out = []
-    def send(self, to, *letter): self.out.append((to, letter))
+    """What the algorithms have in common: a node's phase, its numbers, and the letters it puts out.
+
+    An algorithm adds permitted, request (what a node sends that begins to wait), leave, tick and deliver.
+    """
+
+    def __init__(self, me, plan, highest):
+        self.me = me
+        self.limit = plan["sections"]
+        self.phase = IDLE
+        self.highest = highest  # the greatest number of a request that this node made or heard of
+        self.top = 0  # the greatest section number that this node knows
+        self.mine = 0  # the number of the latest section that this node entered
+        self.out = []  # pairs of an addressee and a letter; whoever posts them puts an empty list here
+
+    def send(self, addressee, letter):
+        self.out.append((addressee, letter))
+
+    def ask(self):
+        """Asks for the section."""
+        if self.phase != IDLE:
+            return "refused not idle"
+        if self.highest == GREATEST:
+            return "refused stamps spent"
+        self.highest += 1
+        self.phase = WAITING
+        self.request()
+        return f"asked {self.highest}"
+
     def enter(self):
-        if self.phase != "waiting": return "refused not waiting"
-        if not self.permitted(): return "refused not granted"
-        if self.top >= self.limit: return "refused numbers spent"
-        self.top += 1; self.mine = self.top; self.phase = "inside"; self.entered()
-        return f"entered {self.top}"
-    def entered(self): pass
+        """Enters the section under the number after the greatest known, where that is permitted."""
+        if self.phase != WAITING:
+            return "refused not waiting"
+        if not self.permitted():
+            return "refused not granted"
+        if self.top >= self.limit:
+            return "refused numbers spent"
+        self.top += 1
+        self.mine = self.top
+        self.phase = INSIDE
+        self.entered()
+        return f"entered {self.mine}"
+
+    def entered(self):
+        """What an algorithm does on entering; nothing, unless it says so."""
+
 
 class Ricart(Core):
+    """Ricart and Agrawala (1981): who asks needs a reply from every other node."""
+
     def __init__(self, me, plan):
-        super().__init__(me, len(plan["nodes"]), plan["sections"])
-        self.highest = plan.get("origin", 0); self.ours = None; self.got = set(); self.deferred = {}
-    def others(self): return [j for j in range(self.n) if j != self.me]
-    def permitted(self): return all(j in self.got for j in self.others())
-    def ask(self):
-        if self.phase != "idle": return "refused not idle"
-        if self.highest == U64: return "refused stamps spent"
-        self.highest += 1; self.ours = (self.highest, self.me); self.got = set(); self.phase = "waiting"
-        for j in self.others(): self.send(j, "request", self.ours)
-        return f"asked {self.ours[0]}"
-    def deliver(self, j, letter):
-        if j == self.me: return
-        if letter[0] == "request":
-            s = letter[1]
-            if s[1] != j: return
-            self.highest = max(self.highest, s[0])
-            if self.phase in ("waiting", "inside") and below(self.ours, s):
-                d = self.deferred.get(j); self.deferred[j] = s if d is None or below(d, s) else d
-            else: self.send(j, "reply", s, self.top)
-        else:
-            _, s, t = letter
-            if self.phase == "waiting" and s == self.ours and j not in self.got:
-                self.got.add(j); self.top = max(self.top, t)
+        origin = plan.get("origin", 0)
+        super().__init__(me, plan, origin)
+        self.others = [node for node in range(len(plan["nodes"])) if node != me]
+        self.ours = Stamp(origin, me)  # the latest request; before the first, a stamp that none has
+        self.replied = set()
+        self.deferred = {}  # by node, the stamp to reply to on leaving
+
+    def permitted(self):
+        return self.replied.issuperset(self.others)
+
+    def request(self):
+        self.ours = Stamp(self.highest, self.me)
+        self.replied = set()
+        self.send_request(self.others)
+
+    def send_request(self, nodes):
+        request = Request(self.ours)
+        for node in nodes:
+            self.send(node, request)
+
     def leave(self):
-        self.phase = "idle"
-        for j in sorted(self.deferred): self.send(j, "reply", self.deferred[j], self.top)
+        self.phase = IDLE
+        for node in sorted(self.deferred):
+            self.send(node, Reply(self.deferred[node], self.top))
         self.deferred = {}
+
     def tick(self):
-        if self.phase == "waiting":
-            for j in self.others():
-                if j not in self.got: self.send(j, "request", self.ours)
+        """Asks once more those that have not replied."""
+        if self.phase == WAITING:
+            self.send_request([node for node in self.others if node not in self.replied])
+
+    def deliver(self, sender, letter):
+        if sender == self.me:
+            return
+        if isinstance(letter, Request):
+            self.take_request(sender, letter.stamp)
+        else:
+            self.take_reply(sender, letter)
+
+    def take_request(self, sender, stamp):
+        """Replies to a request, or defers the reply where our own request comes before it."""
+        if stamp.node != sender:
+            return
+        self.highest = max(self.highest, stamp.number)
+        if self.phase != IDLE and self.ours < stamp:
+            self.deferred[sender] = max(stamp, self.deferred.get(sender, stamp))
+        else:
+            self.send(sender, Reply(stamp, self.top))
+
+    def take_reply(self, sender, reply):
+        """Counts a node's first reply to our present request."""
+        if self.phase == WAITING and reply.stamp == self.ours and sender not in self.replied:
+            self.replied.add(sender)
+            self.top = max(self.top, reply.top)
+
+
+class Arbiter:
+    """The half of Maekawa's algorithm that locks this node for one request at a time."""
+
+    def __init__(self, plan, send):
+        origin = plan.get("origin", 0)
+        self.send = send
+        self.lock = None  # the letter Locked that holds the lock
+        self.granted = origin  # the number of the latest grant
+        self.waiting = {}  # by node, the request that waits for the lock
+        self.ended = [origin] * len(plan["nodes"])  # by node, the greatest number it released
+        self.last = 0  # the greatest section number that this arbiter was told
+        self.handlers = {
+            Request: self.take_request,
+            Relinquish: self.take_relinquish,
+            Release: self.take_release,
+        }
+
+    def deliver(self, sender, letter):
+        self.handlers[type(letter)](sender, letter)
+
+    def tick(self):
+        """Sends the lock once more to the node that has it."""
+        if self.lock is not None:
+            self.send(self.lock.stamp.node, self.lock)
+
+    def has_locked(self, node):
+        return self.lock is not None and self.lock.stamp.node == node
+
+    def grant(self):
+        """Gives the lock, which is free, to the first request that waits."""
+        if self.waiting and self.granted < GREATEST:
+            first = min(self.waiting.values())
+            del self.waiting[first.node]
+            self.granted += 1
+            self.lock = Locked(first, self.granted, self.last)
+            self.send(first.node, self.lock)
+
+    def take_request(self, sender, request):
+        """Lets a request wait, unless it is over, has the lock or is older than another of its node."""
+        stamp = request.stamp
+        if stamp.number <= self.ended[sender]:
+            return
+        if self.has_locked(sender) and stamp <= self.lock.stamp:
+            if stamp == self.lock.stamp:
+                self.send(sender, self.lock)
+            return
+        if stamp < self.waiting.get(sender, stamp):
+            return
+        self.waiting[sender] = stamp
+        if self.lock is None:
+            self.grant()
+        else:
+            self.rank(stamp)
+
+    def rank(self, stamp):
+        """Fails a request that came while the lock is held, or inquires for the lock on its behalf."""
+        holder = self.lock.stamp
+        others = [other for node, other in self.waiting.items() if node != stamp.node]
+        first = min(others, default=None)
+        inquiry = Inquire(holder, self.lock.grant)
+        if holder.node == stamp.node:
+            self.send(holder.node, inquiry)
+        elif holder < stamp or (first is not None and first < stamp):
+            self.send(stamp.node, Failed(stamp))
+        else:
+            self.send(holder.node, inquiry)
+            if first is not None:
+                self.send(first.node, Failed(first))
+
+    def take_relinquish(self, sender, letter):
+        """Takes the lock back; its request waits again, unless its node has made another since."""
+        if self.lock is not None and (self.lock.stamp, self.lock.grant) == (letter.stamp, letter.grant):
+            self.lock = None
+            self.waiting.setdefault(sender, letter.stamp)
+            self.grant()
+
+    def take_release(self, sender, release):
+        """Forgets the sender's requests up to the released one, and takes the lock back from them."""
+        stamp = release.stamp
+        self.last = max(self.last, release.top)
+        self.ended[sender] = max(self.ended[sender], stamp.number)
+        if sender in self.waiting and self.waiting[sender] <= stamp:
+            del self.waiting[sender]
+        if self.has_locked(sender) and self.lock.stamp <= stamp:
+            self.lock = None
+            self.grant()
+
 
 class Maekawa(Core):
+    """Maekawa (1985): who asks needs the locks of all arbiters in its set, and sets meet.
+
+    Each node is an arbiter too.
+    """
+
     def __init__(self, me, plan, sets):
-        n = len(plan["nodes"]); super().__init__(me, n, plan["sections"])
-        o = plan.get("origin", 0)
-        self.sets = sets; self.own = sorted(sets[me])
-        self.highest = o; self.issued = o; self.ours = None
-        self.held = {}; self.back = {a: o for a in range(n)}; self.failed = set(); self.asked = {}
-        self.lock = None; self.granted = o; self.waiting = {}; self.ended = {j: o for j in range(n)}; self.last = 0
-    def permitted(self): return all(a in self.held for a in self.own)
-    def is_ended(self, s): return s[1] == self.me and s[0] <= self.issued and not (self.phase != "idle" and s == self.ours)
-    def ask(self):
-        if self.phase != "idle": return "refused not idle"
-        if self.highest == U64: return "refused stamps spent"
-        self.highest += 1; self.issued = self.highest; self.ours = (self.highest, self.me)
-        self.held, self.failed, self.asked = {}, set(), {}
-        self.phase = "waiting"
-        for a in self.own: self.send(a, "request", self.ours)
-        return f"asked {self.ours[0]}"
-    def entered(self): self.asked = {}
+        origin = plan.get("origin", 0)
+        super().__init__(me, plan, origin)
+        self.sets = sets
+        self.arbiters = sorted(sets[me])
+        self.arbiter = Arbiter(plan, self.send)
+        self.ours = Stamp(origin, me)  # the latest request; before the first, a stamp that none has
+        self.held = {}  # by arbiter, the grant under which we have its lock
+        self.given_back = [origin] * len(plan["nodes"])  # by arbiter, the greatest grant given back
+        self.failed = set()  # arbiters at which another request comes before ours
+        self.inquired = {}  # by arbiter, a grant that it inquired for, to give back should we fail
+        self.handlers = {
+            Locked: self.take_locked,
+            Failed: self.take_failed,
+            Inquire: self.take_inquire,
+        }
+
+    def permitted(self):
+        return all(arbiter in self.held for arbiter in self.arbiters)
+
+    def request(self):
+        self.ours = Stamp(self.highest, self.me)
+        self.forget_answers()
+        self.send_all(self.arbiters, Request(self.ours))
+
+    def forget_answers(self):
+        self.held = {}
+        self.failed = set()
+        self.inquired = {}
+
+    def send_all(self, arbiters, letter):
+        for arbiter in arbiters:
+            self.send(arbiter, letter)
+
+    def entered(self):
+        self.inquired = {}
+
     def leave(self):
-        self.phase = "idle"
-        for a in self.own: self.send(a, "release", self.ours, self.top)
-        self.held, self.failed, self.asked = {}, set(), {}
+        self.phase = IDLE
+        self.send_all(self.arbiters, Release(self.ours, self.top))
+        self.forget_answers()
+
     def tick(self):
-        if self.phase == "waiting":
-            for a in self.own:
-                if a not in self.held: self.send(a, "request", self.ours)
-        if self.lock: s, g, c = self.lock; self.send(s[1], "locked", s, g, c)
-    def fail(self, a):
-        self.failed.add(a)
-        for b in sorted(self.asked):
-            g = self.asked[b]; self.send(b, "relinquish", self.ours, g)
-            self.back[b] = g; self.held.pop(b, None); self.failed.add(b)
-        self.asked = {}
-    def grant(self):
-        if self.lock is None and self.waiting and self.granted < U64:
-            u = min(self.waiting.values()); del self.waiting[u[1]]
-            self.granted += 1; self.lock = (u, self.granted, self.last)
-            self.send(u[1], "locked", u, self.granted, self.last)
-    def rank(self, s):
-        j = s[1]; t, g, c = self.lock
-        others = [x for k, x in self.waiting.items() if k != j]
-        if t[1] == j: self.send(j, "inquire", t, g)
-        elif below(t, s) or any(below(x, s) for x in others): self.send(j, "failed", s)
+        """Asks once more for the locks that are missing; the own arbiter repeats the lock it gave."""
+        if self.phase == WAITING:
+            missing = [arbiter for arbiter in self.arbiters if arbiter not in self.held]
+            self.send_all(missing, Request(self.ours))
+        self.arbiter.tick()
+
+    def deliver(self, sender, letter):
+        """Takes an arbiter's answer to this node, or hands a letter to the own arbiter."""
+        handler = self.handlers.get(type(letter))
+        if handler is not None:
+            if sender in self.sets[self.me] and letter.stamp.node == self.me:
+                handler(sender, letter)
+        elif self.me in self.sets[sender] and letter.stamp.node == sender:
+            if isinstance(letter, Request):
+                self.highest = max(self.highest, letter.stamp.number)
+            self.arbiter.deliver(sender, letter)
+
+    def waits_with(self, stamp):
+        return self.phase == WAITING and stamp == self.ours
+
+    def release_ended(self, arbiter, stamp):
+        """Releases a lock once more that was given to a request of ours which is over."""
+        is_present = self.phase != IDLE and stamp == self.ours
+        if stamp.number <= self.ours.number and not is_present:
+            self.send(arbiter, Release(stamp, self.top))
+
+    def give_back(self, arbiter, grant):
+        """Gives a grant back while we wait; this arbiter then has another request before ours."""
+        self.send(arbiter, Relinquish(self.ours, grant))
+        self.given_back[arbiter] = max(self.given_back[arbiter], grant)
+        self.held.pop(arbiter, None)
+        self.inquired.pop(arbiter, None)
+        self.failed.add(arbiter)
+
+    def fail(self, arbiter):
+        """Notes that we failed at an arbiter, and gives back each lock that was inquired for."""
+        self.failed.add(arbiter)
+        for inquirer in sorted(self.inquired):
+            self.give_back(inquirer, self.inquired[inquirer])
+
+    def take_locked(self, arbiter, letter):
+        """Takes a lock; a grant that was given back before it came is given back again."""
+        if not self.waits_with(letter.stamp):
+            self.release_ended(arbiter, letter.stamp)
+            return
+        if arbiter in self.held:
+            return
+        if letter.grant <= self.given_back[arbiter]:
+            self.send(arbiter, Relinquish(letter.stamp, letter.grant))
+            return
+        self.held[arbiter] = letter.grant
+        self.failed.discard(arbiter)
+        self.top = max(self.top, letter.last)
+
+    def take_failed(self, arbiter, letter):
+        if self.waits_with(letter.stamp) and arbiter not in self.held:
+            self.fail(arbiter)
+
+    def take_inquire(self, arbiter, letter):
+        """Gives a lock back where we have failed somewhere; else remembers the inquiry."""
+        if not self.waits_with(letter.stamp):
+            self.release_ended(arbiter, letter.stamp)
+            return
+        held = self.held.get(arbiter)
+        if held is None:
+            self.give_back(arbiter, letter.grant)
+            self.fail(arbiter)
+        elif held != letter.grant:
+            self.send(arbiter, Relinquish(letter.stamp, letter.grant))
+        elif self.failed:
+            self.give_back(arbiter, letter.grant)
         else:
-            self.send(t[1], "inquire", t, g)
-            if others: u = min(others); self.send(u[1], "failed", u)
-    def deliver(self, j, letter):
-        kind, s = letter[0], letter[1]
-        if kind in ("locked", "failed", "inquire"):
-            if j not in self.sets[self.me] or s[1] != self.me: return
-            getattr(self, "on_" + kind)(j, s, *letter[2:])
-        else:
-            if self.me not in self.sets[j] or s[1] != j: return
-            getattr(self, "on_" + kind)(j, s, *letter[2:])
-    def on_locked(self, a, s, g, c):
-        if self.phase == "waiting" and s == self.ours and a not in self.held:
-            if g > self.back[a]: self.held[a] = g; self.failed.discard(a); self.top = max(self.top, c)
-            else: self.send(a, "relinquish", s, g)
-        elif self.is_ended(s): self.send(a, "release", s, self.top)
-    def on_failed(self, a, s):
-        if self.phase == "waiting" and s == self.ours and a not in self.held: self.fail(a)
-    def on_inquire(self, a, s, g):
-        if self.phase == "waiting" and s == self.ours:
-            h = self.held.get(a)
-            if h == g and self.failed: self.send(a, "relinquish", s, g); self.back[a] = g; del self.held[a]; self.failed.add(a); self.asked.pop(a, None)
-            elif h == g: self.asked[a] = g
-            elif h is None: self.send(a, "relinquish", s, g); self.back[a] = max(self.back[a], g); self.fail(a)
-            else: self.send(a, "relinquish", s, g)
-        elif self.is_ended(s): self.send(a, "release", s, self.top)
-    def on_request(self, j, s):
-        self.highest = max(self.highest, s[0])
-        if s[0] <= self.ended[j]: return
-        if self.lock and self.lock[0] == s: self.send(j, "locked", *self.lock); return
-        if self.lock and self.lock[0][1] == j and below(s, self.lock[0]): return
-        if j in self.waiting and below(s, self.waiting[j]): return
-        self.waiting[j] = s
-        if self.lock is None: self.grant()
-        else: self.rank(s)
-    def on_relinquish(self, j, s, g):
-        if self.lock and self.lock[0] == s and self.lock[1] == g:
-            self.lock = None; self.waiting.setdefault(j, s); self.grant()
-    def on_release(self, j, s, t):
-        self.last = max(self.last, t); self.ended[j] = max(self.ended[j], s[0])
-        if j in self.waiting and not below(s, self.waiting[j]): del self.waiting[j]
-        if self.lock and self.lock[0][1] == j and not below(s, self.lock[0]): self.lock = None; self.grant()
+            self.inquired[arbiter] = letter.grant
+
 
 class Raymond(Core):
-    def __init__(self, me, plan, near, holder):
-        super().__init__(me, len(plan["nodes"]), plan["sections"])
-        self.near = near; self.holder = self.toward(me, near, holder)
-        self.queue = []; self.asked = False; self.hop = plan.get("origin", 0); self.unacked = None
-        self.asks = self.sent = 0; self.heard = {j: 0 for j in range(self.n)}
-    @staticmethod
-    def toward(me, near, holder):
-        if me == holder: return me
-        seen, todo = {holder: holder}, [holder]
-        for x in todo:
-            for y in near[x]:
-                if y not in seen: seen[y] = x; todo.append(y)
-        return seen[me]
-    def permitted(self): return self.holder == self.me and self.queue[:1] == [self.me]
-    def assign(self):
-        if self.holder == self.me and self.phase != "inside" and self.queue and self.queue[0] != self.me and self.hop < U64:
-            j = self.queue.pop(0); self.holder = j; self.asked = False; self.hop += 1
-            self.unacked = (j, self.hop, self.top); self.send(j, "privilege", self.hop, self.top)
-    def make(self):
-        if self.holder != self.me and self.queue and not self.asked and self.sent < U64:
-            self.sent += 1; self.send(self.holder, "request", self.sent); self.asked = True
-    def ask(self):
-        if self.phase != "idle": return "refused not idle"
-        if self.asks == U64: return "refused stamps spent"
-        self.asks += 1; self.queue.append(self.me); self.phase = "waiting"; self.assign(); self.make()
-        return f"asked {self.asks}"
-    def entered(self): self.queue.remove(self.me)
-    def leave(self): self.phase = "idle"; self.assign(); self.make()
+    """Raymond (1989): one privilege goes along the edges of a tree; who asks needs it.
+
+    Each node knows which neighbour lies on the way to the privilege, and queues who asked it.
+    """
+
+    def __init__(self, me, plan, neighbours, holder):
+        super().__init__(me, plan, 0)
+        self.neighbours = neighbours
+        self.holder = holder  # the neighbour on the way to the privilege, or this node
+        self.queue = []  # this node and neighbours, in the order in which they asked
+        self.has_asked = False  # whether the holder has been asked
+        self.requests = 0  # how many requests this node has sent to neighbours
+        self.heard = dict.fromkeys(neighbours, 0)  # by neighbour, the greatest number of its requests
+        self.hop = plan.get("origin", 0)  # the latest hop of the privilege that this node knows
+        self.unacknowledged = None  # a neighbour and the privilege sent to it
+
+    def permitted(self):
+        return self.holder == self.me and self.queue[:1] == [self.me]
+
+    def request(self):
+        self.queue.append(self.me)
+        self.go_on()
+
+    def go_on(self):
+        """Passes the privilege on or asks for it, as the queue demands."""
+        self.pass_privilege()
+        self.ask_holder()
+
+    def pass_privilege(self):
+        """Sends the privilege to the first in the queue, where this node has it and doesn't need it."""
+        if self.holder != self.me or self.phase == INSIDE or self.hop == GREATEST:
+            return
+        if self.queue and self.queue[0] != self.me:
+            self.holder = self.queue.pop(0)
+            self.has_asked = False
+            self.hop += 1
+            self.unacknowledged = (self.holder, Privilege(self.hop, self.top))
+            self.repeat_privilege()
+
+    def ask_holder(self):
+        """Asks for the privilege, where someone in the queue needs it and that has not been done."""
+        if self.holder != self.me and self.queue and not self.has_asked and self.requests < GREATEST:
+            self.requests += 1
+            self.has_asked = True
+            self.send(self.holder, TreeRequest(self.requests))
+
+    def entered(self):
+        self.queue.remove(self.me)
+
+    def leave(self):
+        self.phase = IDLE
+        self.go_on()
+
     def tick(self):
-        if self.unacked: j, h, c = self.unacked; self.send(j, "privilege", h, c)
-        if self.asked and self.holder != self.me: self.send(self.holder, "request", self.sent)
-    def deliver(self, j, letter):
-        if j not in self.near[self.me]: return
-        if letter[0] == "request":
-            r = letter[1]
-            if j == self.holder:
-                if self.unacked: k, h, c = self.unacked; self.send(k, "privilege", h, c)
-            elif r > self.heard[j]:
-                self.heard[j] = r
-                if j not in self.queue: self.queue.append(j)
-                self.assign(); self.make()
-        elif letter[0] == "privilege":
-            _, h, c = letter; self.send(j, "got", h)
-            if h > self.hop:
-                self.hop = h; self.holder = self.me; self.asked = False; self.unacked = None
-                self.top = max(self.top, c); self.assign(); self.make()
+        """Sends once more what is unacknowledged or unanswered."""
+        self.repeat_privilege()
+        if self.has_asked and self.holder != self.me:
+            self.send(self.holder, TreeRequest(self.requests))
+
+    def repeat_privilege(self):
+        if self.unacknowledged is not None:
+            self.send(*self.unacknowledged)
+
+    def deliver(self, sender, letter):
+        if sender not in self.neighbours:
+            return
+        if isinstance(letter, TreeRequest):
+            self.take_request(sender, letter.number)
+        elif isinstance(letter, Privilege):
+            self.take_privilege(sender, letter)
         else:
-            if self.unacked and self.unacked[:2] == (j, letter[1]): self.unacked = None
+            self.take_got(sender, letter)
+
+    def take_request(self, sender, number):
+        """Queues a neighbour on a new request; one that was sent the privilege is sent it once more."""
+        if sender == self.holder:
+            self.repeat_privilege()
+        elif number > self.heard[sender]:
+            self.heard[sender] = number
+            if sender not in self.queue:
+                self.queue.append(sender)
+            self.go_on()
+
+    def take_privilege(self, sender, letter):
+        """Acknowledges a privilege, and has it where its hop is a new one."""
+        self.send(sender, Got(letter.hop))
+        if letter.hop > self.hop:
+            self.hop = letter.hop
+            self.holder = self.me
+            self.has_asked = False
+            self.unacknowledged = None
+            self.top = max(self.top, letter.last)
+            self.go_on()
+
+    def take_got(self, sender, letter):
+        if self.unacknowledged is not None:
+            addressee, privilege = self.unacknowledged
+            if (addressee, privilege.hop) == (sender, letter.hop):
+                self.unacknowledged = None
+
+
+# Plans.
+
 
 def cores(plan):
-    N = plan["nodes"]; n = len(N); a = plan["algorithm"]
-    if a == "ricart": return [Ricart(i, plan) for i in range(n)]
-    if a == "maekawa":
-        q = plan["quorums"]
-        if q["kind"] == "plane":
-            d = {7: (0, 1, 3), 13: (0, 1, 3, 9), 21: (0, 1, 4, 14, 16)}[n]; sets = [{(i + k) % n for k in d} for i in range(n)]
-        elif q["kind"] == "grid":
-            C = q["cols"]; sets = [{j for j in range(n) if j // C == i // C or j % C == i % C} for i in range(n)]
-        else: sets = [{N.index(x) for x in s} for s in q["sets"]]
-        return [Maekawa(i, plan, sets) for i in range(n)]
-    near = [set() for _ in range(n)]
-    for x, y in plan["edges"]: x, y = N.index(x), N.index(y); near[x].add(y); near[y].add(x)
-    return [Raymond(i, plan, near, N.index(plan["holder"])) for i in range(n)]
+    """The cores of a plan's nodes, in their order."""
+    nodes = range(len(plan["nodes"]))
+    if plan["algorithm"] == "ricart":
+        return [Ricart(node, plan) for node in nodes]
+    if plan["algorithm"] == "maekawa":
+        sets = arbiter_sets(plan)
+        return [Maekawa(node, plan, sets) for node in nodes]
+    neighbours = tree(plan)
+    towards = ways(neighbours, plan["nodes"].index(plan["holder"]))
+    return [Raymond(node, plan, neighbours[node], towards[node]) for node in nodes]
+
+
+def arbiter_sets(plan):
+    """For each node, the set of its arbiters."""
+    names = plan["nodes"]
+    count = len(names)
+    quorums = plan["quorums"]
+    if quorums["kind"] == "plane":
+        return [{(node + offset) % count for offset in PLANES[count]} for node in range(count)]
+    if quorums["kind"] == "grid":
+        return [row_and_column(node, count, quorums["cols"]) for node in range(count)]
+    return [{names.index(name) for name in listed} for listed in quorums["sets"]]
+
+
+def row_and_column(node, count, columns):
+    """The nodes of a grid that stand in the same row or the same column as this one."""
+    row, column = divmod(node, columns)
+    return {other for other in range(count) if other // columns == row or other % columns == column}
+
+
+def tree(plan):
+    """For each node, the set of its neighbours."""
+    names = plan["nodes"]
+    neighbours = [set() for _ in names]
+    for one, other in plan["edges"]:
+        neighbours[names.index(one)].add(names.index(other))
+        neighbours[names.index(other)].add(names.index(one))
+    return neighbours
+
+
+def ways(neighbours, holder):
+    """For each node, its neighbour on the way to the holder; for the holder itself, the holder."""
+    towards = {holder: holder}
+    reached = [holder]
+    for node in reached:
+        for neighbour in neighbours[node] - towards.keys():
+            towards[neighbour] = node
+            reached.append(neighbour)
+    return towards
+
+
+# Members.
+
+
+class Journal:
+    """The writes of the sections that were left, as far as a node knows them."""
+
+    def __init__(self):
+        self.writes = {}  # by the section's number, pairs of a register and a value
+
+    def __len__(self):
+        return len(self.writes)
+
+    def add(self, number, writes):
+        """Adds a section's record, unless there is one."""
+        self.writes.setdefault(number, tuple(writes))
+
+    def value(self, register, end):
+        """What the sections below this end left in a register; 0 where none wrote it."""
+        value = 0
+        for number in sorted(self.writes):
+            if number < end:
+                value = last_written(self.writes[number], register, value)
+        return value
+
+    def gapless(self):
+        """How many sections there are from the first on without a gap."""
+        number = 0
+        while number + 1 in self.writes:
+            number += 1
+        return number
+
+    def gaps(self, limit):
+        """The ranges of sections up to this limit that are missing."""
+        gaps = []
+        first = 1
+        for number in sorted(self.writes) + [limit + 1]:
+            last = min(number - 1, limit)
+            if first <= last:
+                gaps.append((first, last))
+            first = number + 1
+        return gaps
+
+    def within(self, ranges):
+        """The records in these ranges."""
+        return [
+            (number, self.writes[number])
+            for number in sorted(self.writes)
+            if any(first <= number <= last for first, last in ranges)
+        ]
+
+
+def last_written(writes, register, otherwise):
+    """The value of the last of these writes to a register."""
+    for written, value in reversed(writes):
+        if written == register:
+            return value
+    return otherwise
+
 
 class Member:
-    def __init__(self, core): self.core = core; self.journal = {}; self.reads = []; self.writes = []
+    """A node: its core, its journal, and a draft of the section it is inside, which is empty elsewhere.
 
-def fold(journal, r, below_n=None):
-    v = 0
-    for n in sorted(journal):
-        if below_n is None or n < below_n:
-            for q, x in journal[n]:
-                if q == r: v = x
-    return v
+    What happens to it gives the outcome to print, or None where that is the number of letters sent.
+    """
+
+    def __init__(self, core):
+        self.core = core
+        self.journal = Journal()
+        self.empty_draft()
+
+    def empty_draft(self):
+        self.reads = 0
+        self.writes = []
+
+    def ask(self):
+        return self.core.ask()
+
+    def enter(self):
+        return self.core.enter()
+
+    def read(self, register):
+        """Reads a register: the draft's write, else what all earlier sections left."""
+        if self.core.phase != INSIDE:
+            return "refused not inside"
+        gap = self.journal.gapless() + 1
+        if gap < self.core.mine:
+            return f"refused gap {gap}"
+        if self.reads == MOST_READS:
+            return "refused full"
+        self.reads += 1
+        value = last_written(self.writes, register, None)
+        if value is None:
+            value = self.journal.value(register, self.core.mine)
+        return f"value {value}"
+
+    def write(self, register, value):
+        if self.core.phase != INSIDE:
+            return "refused not inside"
+        if len(self.writes) == MOST_WRITES:
+            return "refused full"
+        self.writes.append((register, value))
+        return "written"
+
+    def leave(self):
+        """Makes the draft a record, and leaves."""
+        if self.core.phase != INSIDE:
+            return "refused not inside"
+        self.journal.add(self.core.mine, self.writes)
+        outcome = f"left {self.core.mine} writes {len(self.writes)}"
+        self.empty_draft()
+        self.core.leave()
+        return outcome
+
+    def tick(self):
+        self.core.tick()
+
+    def want(self, node):
+        """Asks a node for records that are missing here."""
+        gaps = self.journal.gaps(self.core.limit)[:MOST_RANGES]
+        if gaps:
+            self.core.send(node, Want(tuple(gaps)))
+
+    def restart(self):
+        self.empty_draft()
+        return "woken"
+
+    def deliver(self, sender, letter):
+        """Takes a letter: one about records itself, else by its core."""
+        if isinstance(letter, Want):
+            records = self.journal.within(letter.ranges)[:MOST_RECORDS]
+            if records:
+                self.core.send(sender, Records(tuple(records)))
+        elif isinstance(letter, Records):
+            for number, writes in letter.records:
+                self.journal.add(number, writes)
+        else:
+            self.core.deliver(sender, letter)
+        return "delivered"
+
+    def closing(self, name, registers):
+        """The line that says how this node stands at the end."""
+        phase = self.core.phase
+        if phase == INSIDE:
+            phase = f"inside {self.core.mine}"
+        end = self.core.limit + 1
+        values = [f"{register}={self.journal.value(register, end)}" for register in registers]
+        counts = f"mine {self.core.mine}, records {len(self.journal)}, gapless {self.journal.gapless()}"
+        return f"{name}: " + ", ".join([phase, counts] + values)
+
+
+# Replays.
+
+
+ACTS = {
+    "ask": Member.ask,
+    "enter": Member.enter,
+    "read": Member.read,
+    "write": Member.write,
+    "leave": Member.leave,
+    "tick": Member.tick,
+    "want": Member.want,
+    "restart": Member.restart,
+}
+
+
+class Replay:
+    """A cluster to which events happen, and all parcels that it sent."""
+
+    def __init__(self, plan, put):
+        self.names = plan["nodes"]
+        self.registers = plan["registers"]
+        self.members = [Member(core) for core in cores(plan)]
+        self.parcels = []  # of each, its sender, addressee and letter
+        self.put = put  # takes a line
+
+    def deliver(self, number):
+        """Brings a parcel to its addressee; gives that and the outcome."""
+        sender, addressee, letter = self.parcels[number]
+        member = self.members[addressee]
+        return member, member.deliver(sender, letter)
+
+    def act(self, kind, name, *words):
+        """Lets a node do something by itself; gives it and the outcome."""
+        if kind == "want":
+            words = [self.names.index(word) for word in words]
+        member = self.members[self.names.index(name)]
+        return member, ACTS[kind](member, *words)
+
+    def happen(self, index, event):
+        """Lets an event happen, prints it and posts the letters that it put out."""
+        if event[0] == "deliver":
+            member, outcome = self.deliver(event[1])
+        else:
+            member, outcome = self.act(*event)
+        letters = member.core.out
+        member.core.out = []
+        if outcome is None:
+            outcome = f"sent {len(letters)}"
+        self.put(f"{index} {' '.join(map(str, event))}: {outcome}")
+        for addressee, letter in letters:
+            self.post(member.core.me, addressee, letter)
+
+    def post(self, sender, addressee, letter):
+        """Prints a parcel and keeps it to be delivered."""
+        way = f"{self.names[sender]}>{self.names[addressee]}"
+        self.put(f"  #{len(self.parcels)} {way} {text(letter, self.names)}")
+        self.parcels.append((sender, addressee, letter))
+
+    def close(self):
+        """Prints how the nodes stand, and the verdict."""
+        for name, member in zip(self.names, self.members):
+            self.put(member.closing(name, self.registers))
+        self.put("verdict sound")
+
 
 def replay(plan, events, put):
-    N, R = plan["nodes"], plan["registers"]
-    ms = [Member(c) for c in cores(plan)]; sent = []
-    for k, e in enumerate(events):
-        w = e[0]; first = len(sent); out = []
-        if w == "deliver":
-            if e[1] >= len(sent): return f"mx: no parcel: event {k}"
-            a, i, p = sent[e[1]]
-        else: i = N.index(e[1])
-        m = ms[i]; c = m.core
-        if w == "ask": o = c.ask()
-        elif w == "enter":
-            o = c.enter()
-            if o.startswith("entered"): m.reads, m.writes = [], []
-        elif w in ("read", "write"):
-            r = R.index(e[2])
-            if c.phase != "inside": o = "refused not inside"
-            elif w == "write":
-                if len(m.writes) == 8: o = "refused full"
-                else: m.writes.append((r, e[3])); o = "written"
-            else:
-                gap = next((x for x in range(1, c.mine) if x not in m.journal), None)
-                if gap: o = f"refused gap {gap}"
-                elif len(m.reads) == 8: o = "refused full"
-                else:
-                    own = [x for q, x in m.writes if q == r]
-                    v = own[-1] if own else fold(m.journal, r, c.mine); m.reads.append((r, v, len(m.writes))); o = f"value {v}"
-        elif w == "leave":
-            if c.phase != "inside": o = "refused not inside"
-            else:
-                m.journal.setdefault(c.mine, list(m.writes)); o = f"left {c.mine} writes {len(m.writes)}"
-                m.reads, m.writes = [], []; c.leave()
-        elif w == "tick": c.tick(); o = None
-        elif w == "want":
-            gaps, x, L = [], 1, plan["sections"]
-            for nbr in sorted(m.journal) + [L + 1]:
-                if x <= min(nbr - 1, L): gaps.append((x, min(nbr - 1, L)))
-                x = nbr + 1
-            if gaps[:8]: out = [(N.index(e[2]), ("want", tuple(gaps[:8])))]
-            o = None
-        elif w == "deliver":
-            o = "delivered"
-            if p[0] == "want":
-                hit = [x for x in sorted(m.journal) if any(f <= x <= l for f, l in p[1])][:4]
-                if hit: out = [(a, ("records", tuple((x, tuple(m.journal[x])) for x in hit)))]
-            elif p[0] == "records":
-                for x, ws in p[1]: m.journal.setdefault(x, list(ws))
-            else: c.deliver(a, p)
-        else: m.reads, m.writes = [], []; o = "woken"
-        out = out + c.out; c.out = []
-        if o is None: o = f"sent {len(out)}"
-        put(f"{k} " + " ".join(str(x) for x in e) + f": {o}")
-        for to, p2 in out:
-            sent.append((i, to, p2)); put(f"  #{len(sent)-1} {N[i]}>{N[to]} {text(p2, N)}")
-    for i, m in enumerate(ms):
-        c = m.core; ph = f"inside {c.mine}" if c.phase == "inside" else c.phase
-        g = 0
-        while g + 1 in m.journal: g += 1
-        put(f"{N[i]}: {ph}, mine {c.mine}, records {len(m.journal)}, gapless {g}" + "".join(f", {x}={fold(m.journal, r)}" for r, x in enumerate(R)))
-    put("verdict sound")
+    """Lets all events happen and puts each line that is printed; gives the fault, where there is one."""
+    cluster = Replay(plan, put)
+    for index, event in enumerate(events):
+        if event[0] == "deliver" and event[1] >= len(cluster.parcels):
+            return f"mx: no parcel: event {index}"
+        cluster.happen(index, event)
+    cluster.close()
+    return None
 
-def text(p, N):
-    k = p[0]; st = lambda s: f"{s[0]}.{N[s[1]]}"
-    if k == "want": return "want" + "".join(f" {f}..{l}" for f, l in p[1])
-    if k == "records": return "records" + "".join(f" {x}" for x, _ in p[1])
-    if k == "request" and not isinstance(p[1], tuple): return f"request {p[1]}"
-    if k == "privilege": return f"privilege {p[1]} last {p[2]}"
-    if k == "got": return f"got {p[1]}"
-    if k in ("request", "failed"): return f"{k} {st(p[1])}"
-    if k in ("reply", "release"): return f"{k} {st(p[1])} top {p[2]}"
-    if k == "locked": return f"locked {st(p[1])} grant {p[2]} last {p[3]}"
-    return f"{k} {st(p[1])} grant {p[2]}"
+
+def load(path):
+    with open(path) as file:
+        return json.load(file)
+
+
+def main():
+    lines = []
+    fault = replay(load(sys.argv[1]), load(sys.argv[2]), lines.append)
+    sys.stdout.write("".join(line + "\n" for line in lines))
+    if fault is not None:
+        sys.stderr.write(fault + "\n")
+        sys.exit(1)
+
 
 if __name__ == "__main__":
-    lines = []
-    fault = replay(json.load(open(sys.argv[1])), json.load(open(sys.argv[2])), lines.append)
-    sys.stdout.write("".join(x + "\n" for x in lines))
-    if fault: sys.stderr.write(fault + "\n"); sys.exit(1)
+    main()

@@ -24,16 +24,18 @@ fn each_event_is_read(rt: HostRuntime) -> Result<(), Fail> {
     let a = NodeId::of(0).ok_or("node")?;
     let b = NodeId::of(1).ok_or("node")?;
     let c = NodeId::of(2).ok_or("node")?;
-    assert_eq!(rt; events.len(), 9);
-    assert_eq!(rt; events[0], Event::Ask(a));
-    assert_eq!(rt; events[1], Event::Enter(b));
-    assert_eq!(rt; events[2], Event::Read(b, 0));
-    assert_eq!(rt; events[3], Event::Write(c, 0, 18446744073709551615));
-    assert_eq!(rt; events[4], Event::Leave(c));
-    assert_eq!(rt; events[5], Event::Tick(a));
-    assert_eq!(rt; events[6], Event::Want(b, a));
-    assert_eq!(rt; events[7], Event::Deliver(18446744073709551615));
-    assert_eq!(rt; events[8], Event::Restart(b));
+    let wanted = [
+        Event::Ask(a),
+        Event::Enter(b),
+        Event::Read(b, 0),
+        Event::Write(c, 0, 18446744073709551615),
+        Event::Leave(c),
+        Event::Tick(a),
+        Event::Want(b, a),
+        Event::Deliver(18446744073709551615),
+        Event::Restart(b),
+    ];
+    assert!(rt; events.as_slice() == wanted);
     Ok(())
 }
 

@@ -13,10 +13,22 @@ fn first_replay_is_read(rt: HostRuntime) -> Result<(), Fail> {
     assert_eq!(rt; plan.registers(), 1);
     assert_eq!(rt; plan.sections(), 10);
     assert_eq!(rt; plan.origin(), 0);
+    Ok(())
+}
+
+#[test]
+fn names_stand_in_their_order(rt: HostRuntime) -> Result<(), Fail> {
+    let plan = plan_of(rt.alloc(), FIRST, "")?;
     assert_eq!(rt; plan.node_name(2), Some("c"));
     assert_eq!(rt; plan.node_name(3), None);
     assert_eq!(rt; plan.register_name(0), Some("count"));
     assert_eq!(rt; plan.register_name(1), None);
+    Ok(())
+}
+
+#[test]
+fn names_are_looked_up(rt: HostRuntime) -> Result<(), Fail> {
+    let plan = plan_of(rt.alloc(), FIRST, "")?;
     assert_eq!(rt; plan.node("b").ok_or("node")?.get(), 1);
     assert!(rt; plan.node("z").is_none());
     assert_eq!(rt; plan.register("count"), Some(0));
@@ -91,9 +103,19 @@ fn lists_have_their_bounds(rt: HostRuntime) -> Result<(), Fail> {
     assert_eq!(rt; full.nodes(), 21);
     assert_eq!(rt; full.registers(), 32);
     assert_eq!(rt; full.node_name(20), Some("n20"));
-    let nodes = refusal(alloc, sized(alloc, 22, 32)?.as_str())?;
-    assert_eq!(rt; nodes.as_str(), "bad plan: nodes");
-    let registers = refusal(alloc, sized(alloc, 21, 33)?.as_str())?;
-    assert_eq!(rt; registers.as_str(), "bad plan: registers");
+    Ok(())
+}
+
+#[test]
+fn longer_lists_are_refused(rt: HostRuntime) -> Result<(), Fail> {
+    let alloc = rt.alloc();
+    let cases = [
+        (22, 32, "bad plan: nodes"),
+        (21, 33, "bad plan: registers"),
+    ];
+    for (nodes, registers, fault) in cases {
+        let text = sized(alloc, nodes, registers)?;
+        assert_eq!(rt; refusal(alloc, text.as_str())?.as_str(), fault);
+    }
     Ok(())
 }
