@@ -35,7 +35,7 @@ fn each_event_is_read(rt: HostRuntime) -> Result<(), Fail> {
         Event::Deliver(18446744073709551615),
         Event::Restart(b),
     ];
-    assert!(rt; events.as_slice() == wanted);
+    assert!(rt; events.as_slice() == wanted.as_slice());
     Ok(())
 }
 
