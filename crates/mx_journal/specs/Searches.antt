@@ -1,4 +1,4 @@
--- What the private searches answer.
+-- What searches answer.
 use Rattle.std.specs.Prelude.{ℕ, suc, min, List, [], ◌∷◌, Option, Some, None, nat_lt, if◌then◌else◌}
 use Rattle.mx_journal.specs.declared.records.Record.{Record}
 

@@ -4,8 +4,9 @@ ghost use Rattle.std.specs.Prelude.{ℕ, ◌≡◌, ◌+◌, ◌≤◌, ◌<◌,
 ghost use Rattle.mx_journal.specs.Agreement.{AreAgreeing, IsConsistent, IsFirstConflict, IsOther};
 ghost use Rattle.mx_journal.specs.Gapless.{IsGapless, first_missing};
 ghost use Rattle.mx_journal.specs.Records.{Ascending, IsNumbered, IsThere, in_range, record_at, top_of, with_record, with_records};
+ghost use Rattle.mx_journal.specs.Searches.{place};
 
-use crate::places::{find, gapless_in, insert, least_in, top_in};
+use crate::places::{find, gapless_in, insert, least_in, place_of, top_in};
 use crate::puts::{Put, PutFault, has_zero, insert_all, least_conflict};
 use crate::ranges::Range;
 use crate::records::Record;
@@ -123,6 +124,14 @@ impl Journal {
         ensures { slice_get self.now place ≡ Some result.now }
     {
         &self.records[place]
+    }
+
+    /// How many records bear a lower number: the place of the first that doesn't.
+    pub fn place_of(&self, number: u64) -> usize
+        ensures value { result ≡ place number self.now }
+        ensures bound { result ≤ length self.now }
+    {
+        place_of(&self.records, number)
     }
 
     /// How many records it has.

@@ -60,19 +60,23 @@ pub(crate) fn top_in(records: &[Record]) -> u64
     }
 }
 
-/// The greatest number up to which none is missing.
+/// The greatest number up to which none is missing. Up to it each record stands where its number
+/// says, and none behind it does, so halves are searched.
 pub(crate) fn gapless_in(records: &[Record]) -> u64
     requires { Ascending 1 records.now }
     ensures { result + 1 ≡ first_missing 1 records.now }
 {
-    let mut number = 0;
-    for entry in records {
-        if entry.number - number > 1 {
-            return number;
+    let mut low = 0;
+    let mut high = records.len();
+    while low < high {
+        let middle = low + (high - low) / 2;
+        if records[middle].number == middle as u64 + 1 {
+            low = middle + 1;
+        } else {
+            high = middle;
         }
-        number = entry.number;
     }
-    number
+    low as u64
 }
 
 /// Whether a record bears the number.

@@ -47,6 +47,20 @@ fn puts_and_gets(rt: HostRuntime) -> Result<(), Fail> {
 }
 
 #[test]
+fn numbers_have_their_place(rt: HostRuntime) -> Result<(), Fail> {
+    let mut journal = Journal::new(rt.alloc());
+    for number in [5, 1, 2, 9] {
+        assert_eq!(rt; journal.put(entry(number, &[])?), Ok(Put::New));
+    }
+    assert_eq!(rt; journal.place_of(0), 0);
+    assert_eq!(rt; journal.place_of(2), 1);
+    assert_eq!(rt; journal.place_of(3), 2);
+    assert_eq!(rt; journal.place_of(10), 4);
+    assert_eq!(rt; journal.gapless_to(), 2);
+    Ok(())
+}
+
+#[test]
 fn put_all_or_none(rt: HostRuntime) -> Result<(), Fail> {
     let mut journal = Journal::new(rt.alloc());
     assert_eq!(rt; journal.put_all(&[entry(1, &[1])?, entry(2, &[2])?]), Ok(2));

@@ -1,7 +1,8 @@
 -- Joins: the join of agreeing journals is their least upper bound. GapLists: the list of gaps has
 -- each gap and nothing else. Differences: how the least difference is found. Answered: answers are
--- records of the journal.
+-- records of the journal. Skipping: what a search may leave out.
 pub mod Joins
 pub mod GapLists
 pub mod Differences
 pub mod Answered
+pub mod Skipping

@@ -1,6 +1,8 @@
 //! What a journal answers to those who lack records.
 
-ghost use Rattle.std.specs.Prelude.{◌≡◌, IsTrue, take};
+ghost use Rattle.std.specs.Prelude.{◌≡◌, ◌≤◌, IsTrue, take};
+ghost use Rattle.mx_stamps.specs.Lists.{IsIn};
+ghost use Rattle.mx_journal.specs.declared.ranges.Range.{Range};
 ghost use Rattle.mx_journal.specs.Agreement.{IsSubmap};
 ghost use Rattle.mx_merge.specs.Missing.{in_ranges, lies_in};
 
@@ -17,7 +19,7 @@ pub fn answer(journal: &Journal, ranges: &[Range]) -> ArrayVec<Record, RECORDS_A
     ensures known { IsSubmap result.items journal.now }
 {
     let mut found = ArrayVec::new();
-    for place in 0..journal.len() {
+    for place in journal.place_of(least_first(ranges))..journal.len() {
         if found.is_full() {
             return found;
         }
@@ -27,6 +29,17 @@ pub fn answer(journal: &Journal, ranges: &[Range]) -> ArrayVec<Record, RECORDS_A
         }
     }
     found
+}
+
+/// A number below which no range begins.
+fn least_first(ranges: &[Range]) -> u64
+    ensures { (range : Range) → IsIn range ranges.now → result ≤ range.first }
+{
+    let mut least = u64::MAX;
+    for range in ranges {
+        least = least.min(range.first);
+    }
+    least
 }
 
 /// Whether the number lies in some range.

@@ -15,9 +15,11 @@ pub fn missing(journal: &Journal, limit: u64) -> ArrayVec<Range, RANGES_AT_ONCE>
     ensures gaps { IsListOfGaps 8 limit journal.now result.items }
     ensures value { result.items ≡ take 8 (gaps_of limit journal.now) }
 {
+    // up to here nothing is missing
+    let known = journal.gapless_to();
     let mut gaps = ArrayVec::new();
-    let mut last = 0;
-    for place in 0..journal.len() {
+    let mut last = known;
+    for place in known as usize..journal.len() {
         let number = journal.record(place).number;
         if number > limit || gaps.is_full() {
             break;

@@ -109,10 +109,7 @@ fn lists_have_their_bounds(rt: HostRuntime) -> Result<(), Fail> {
 #[test]
 fn longer_lists_are_refused(rt: HostRuntime) -> Result<(), Fail> {
     let alloc = rt.alloc();
-    let cases = [
-        (22, 32, "bad plan: nodes"),
-        (21, 33, "bad plan: registers"),
-    ];
+    let cases = [(22, 32, "bad plan: nodes"), (21, 33, "bad plan: registers")];
     for (nodes, registers, fault) in cases {
         let text = sized(alloc, nodes, registers)?;
         assert_eq!(rt; refusal(alloc, text.as_str())?.as_str(), fault);

@@ -1,4 +1,4 @@
-use Rattle.std.proofs.Common.{true, false, Global, ◌≡◌, ◌+◌, ◌≤◌, ◌++◌, ◌∙◌, [], ◌∷◌, length, take, drop, sym, ap, subst, arith}
+use Rattle.std.proofs.Common.{true, false, Global, ◌≡◌, ◌+◌, ◌≤◌, ◌++◌, ◌∙◌, List, [], ◌∷◌, length, take, drop, sym, ap, subst, arith}
 use Rattle.arrayvec.specs.declared.array_vec.ArrayVec.{ArrayVec}
 use Rattle.std.proofs.lemmas.Bool.Decides.{nat_tests}
 use Rattle.std.proofs.lemmas.Grind.{common_steps}
@@ -9,6 +9,7 @@ use Rattle.mx_journal.specs.declared.records.Record.{Record}
 use Rattle.mx_journal.specs.Agreement.{IsSubmap}
 use Rattle.mx_merge.specs.Missing.{in_ranges, lies_in}
 use Rattle.mx_merge.proofs.Answered.{answered_known}
+use Rattle.mx_merge.proofs.Skipping.{ranges_skipped}
 use Rattle.mx_merge.proofs.answers.answer.Goals.{then-is_in_some, else-is_in_some}
 use Rattle.mx_merge.proofs.answers.answer.Goals as goal
 
@@ -22,6 +23,18 @@ returns-then-is_full-clause-value c =
 pub returns-then-is_full-clause-known : goal.returns-then-is_full-clause-known
 returns-then-is_full-clause-known c =
     subst (λ l. IsSubmap l c.args.journal.now) (sym (returns-then-is_full-clause-value c)) (answered_known 4 c.args.ranges.now c.args.journal.now)
+
+pub loop-place-init : goal.loop-place-init
+loop-place-init c =
+    let start = c.place_of-place.result in
+    let same : in_ranges c.args.ranges.now (drop start c.args.journal.now) ≡ in_ranges c.args.ranges.now c.args.journal.now =
+    ap (λ k. in_ranges c.args.ranges.now (drop k c.args.journal.now)) c.place_of-place.ensures.value
+    ∙ ranges_skipped c.args.ranges.now c.least_first.result c.args.journal.now c.least_first.ensures in
+    let none : c.new-found.result.items ≡ [] = c.new-found.ensures in
+    record {
+      same = ap (λ l. take 4 (l ++ in_ranges c.args.ranges.now (drop start c.args.journal.now))) none ∙ ap (λ l. take 4 l) same;
+      room = subst (λ (l : List Record). length l ≤ 4) (sym none) (omega arith);
+    }
 
 pub loop-place-preserved : goal.loop-place-preserved
 loop-place-preserved c =

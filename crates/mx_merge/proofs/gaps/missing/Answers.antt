@@ -5,9 +5,24 @@ use Rattle.mx_stamps.proofs.Lists.{append_append, drop_at, cut_twice, cut_full}
 use Rattle.mx_stamps.proofs.Choices.{lt_is, lt_not, cond_true, cond_false}
 use Rattle.mx_journal.specs.Records.{Ascending}
 use Rattle.mx_merge.specs.Missing.{IsListOfGaps, gap_after, gaps_above}
+use Rattle.mx_journal.specs.Gapless.{first_missing}
 use Rattle.mx_merge.proofs.GapLists.{first_gaps}
+use Rattle.mx_merge.proofs.Skipping.{ascending_skipped, gaps_skipped}
 use Rattle.mx_merge.proofs.gaps.missing.Goals.{else-loop-place-test, then-loop-place-test+then-number-limit, then-number-limit-via-then-number-limit, then-number-limit-via-else-number-limit+then-is_full}
 use Rattle.mx_merge.proofs.gaps.missing.Goals as goal
+
+pub loop-place-init : goal.loop-place-init
+loop-place-init c =
+    let journal = c.args.journal.now in
+    let known = c.gapless_to-known.result in
+    let first : first_missing 1 journal ≡ 1 + known = sym c.gapless_to-known.ensures.value ∙ (let q : known + 1 ≡ 1 + known = omega arith in q) in
+    let whole : 0 + known ≡ known = omega arith in
+    let same : gaps_above known c.args.limit (drop known journal) ≡ gaps_above 0 c.args.limit journal =
+    ap (λ n. gaps_above n c.args.limit (drop known journal)) (sym whole) ∙ gaps_skipped 0 known c.args.limit journal c.len-place-end.ensures.ordered first in
+    record {
+      same = ap (λ l. take 8 (l ++ gaps_above known c.args.limit (drop known journal))) c.new-gaps.ensures ∙ ap (λ l. take 8 l) same;
+      ascending = subst (λ n. Ascending (suc n) (drop known journal)) whole (ascending_skipped 0 known journal c.len-place-end.ensures.ordered first);
+    }
 
 pub overflow_sub-number : goal.overflow_sub-number
 overflow_sub-number c =
