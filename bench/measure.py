@@ -1,7 +1,7 @@
 """Runs the built program and says how long it took and how much memory it had at the most.
 
 What a child is charged with starts at what its parent had, so whoever calls this stays small: events
-are drawn by a process of their own.
+are drawn by a process of its own.
 """
 import os
 import subprocess
@@ -16,31 +16,30 @@ def build():
     subprocess.run([os.path.join(ROOT, "mx"), "--help"], check=True, stdout=subprocess.DEVNULL)
 
 
-def run(words, printed):
-    """Seconds and megabytes of one run, which has to end well; its output goes to this file."""
+def run(words, printed, wanted=0):
+    """Seconds and megabytes of one run, which has to end with this status; its output goes to this file."""
     with open(printed, "w") as out:
         begun = time.monotonic()
-        child = subprocess.Popen([PROGRAM, *words], stdout=out)
+        child = subprocess.Popen([PROGRAM, *words], stdout=out, stderr=subprocess.DEVNULL)
         _, status, usage = os.wait4(child.pid, 0)
         took = time.monotonic() - begun
-    if status != 0:
+    if os.waitstatus_to_exitcode(status) != wanted:
         raise SystemExit("mx %s: status %d" % (" ".join(words), os.waitstatus_to_exitcode(status)))
     return took, usage.ru_maxrss / 1024
 
 
-def row(cells, widths=(9, 5, 9, 9, 9, 7, 10, 10, 7)):
+def row(cells):
     """A row of a table in Markdown."""
-    print("| " + " | ".join(str(cell).rjust(width) for cell, width in zip(cells, widths)) + " |", flush=True)
+    print("| " + " | ".join(str(cell) for cell in cells) + " |", flush=True)
 
 
-def table(first):
-    """The head of the table; its first column of numbers is named by the benchmark."""
-    cells = ("Algorithm", "Nodes", first, "Parcels", "Sections", "Time", "Events/s", "Parcels/s", "Memory")
-    row(cells)
-    print("|---|" + "---:|" * (len(cells) - 1), flush=True)
+def table(*columns):
+    """The head of a table: what ran, then these columns of numbers."""
+    row(("Algorithm", "Nodes") + columns)
+    print("|---|" + "---:|" * (len(columns) + 1), flush=True)
 
 
-def add(algorithm, size, events, parcels, sections, took, memory):
-    """The row of one run."""
-    row((algorithm, size, events, parcels, sections, "%.2f s" % took,
-         round(events / took), round(parcels / took), "%d MB" % memory))
+def rates(events, parcels, took, memory):
+    """The cells of one run."""
+    return ("%.2f s" % took, "{:,}".format(round(events / took)), "{:,}".format(round(parcels / took)),
+            "%d MB" % memory)
