@@ -1,5 +1,5 @@
 -- Who is not inside does not leave, and who leaves may need memory.
-use Rattle.std.proofs.Common.{ℕ, ◌≡◌, [], Err, refl, sym, ◌∙◌, ap, subst}
+use Rattle.std.proofs.Common.{ℕ, ◌≡◌, inl, inr, [], Err, refl, sym, ◌∙◌, ap, subst}
 use Rattle.mx_nodelaws.specs.World.{Done}
 use Rattle.mx_nodelaws.specs.Core.{Core, IsInside}
 use Rattle.mx_nodelaws.specs.declared.phase.Phase.{Phase}
@@ -13,6 +13,7 @@ use Rattle.mx_member.specs.declared.parcel.Parcel.{Parcel}
 use Rattle.mx_member.specs.Member.{MemberState}
 use Rattle.mx_member.specs.Steps.{leave_at}
 use Rattle.mx_member.specs.Acts.{NeedsMemory, act_of}
+use Rattle.mx_member.proofs.Phases.{inside_or_not}
 
 module _ {H S M : Type 0} (core : Core H S M) (m : MemberState S) where
   -- nothing changes, and nothing is sent
@@ -29,10 +30,6 @@ module _ {H S M : Type 0} (core : Core H S M) (m : MemberState S) where
       ap (λ b. act_of core b m) is
       ∙ ap (λ d. record { state = d.state; answer = answer.Left d.answer; letters = d.letters }) (at (core.phase m.core) (λ n e. out (n, e)))
 
-  inside_at : (p : Phase) → core.phase m.core ≡ p → ((IsInside core m.core → ⊥) → ⊥) → IsInside core m.core
-  inside_at Idle is not = absurd (not (λ i. let q = sym is ∙ i.1 in let bad : ⊥ = cc in bad))
-  inside_at Waiting is not = absurd (not (λ i. let q = sym is ∙ i.1 in let bad : ⊥ = cc in bad))
-  inside_at (Inside n) is not = (n, is)
-
   pub needs_memory : (a : Act M) → a ≡ act.Leave → ((IsInside core m.core → ⊥) → ⊥) → NeedsMemory core a m
-  needs_memory a is not = subst (λ (b : Act M). NeedsMemory core b m) (sym is) (inside_at (core.phase m.core) refl not)
+  needs_memory a is not =
+      subst (λ (b : Act M). NeedsMemory core b m) (sym is) (elim (inside_or_not (core.phase m.core)) [ inl i ↦ i | inr out ↦ absurd (not (λ i. out i.0 i.1)) ])

@@ -75,7 +75,7 @@ fn write_alone(
     Ok(())
 }
 
-/// Node 0 of two, inside section 3, of which node 1 knows that two sections came before it.
+/// Node 0 of two, inside section 3: node 1 has told it of two sections before.
 fn inside_the_third(alloc: Global, one: NodeId) -> Result<Member<Ricart>, Fail> {
     let mut member = started(alloc, 2, 1)?;
     let mut out = Outbox::new();
