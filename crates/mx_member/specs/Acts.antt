@@ -1,9 +1,8 @@
 -- What a member does, what each act gives, and when it may be done.
 use Rattle.std.specs.Prelude.{ℕ, ◌<◌, ◌↔◌, ◌++◌, List, []}
 use Rattle.mx_stamps.specs.Lists.{IsIn}
-use Rattle.mx_nodelaws.specs.World.{Done, quietly, sent_by}
+use Rattle.mx_nodelaws.specs.World.{Done, answering, quietly, sent_by}
 use Rattle.mx_nodelaws.specs.Core.{Core, IsInside}
-use Rattle.mx_nodelaws.specs.Acts.{answering}
 use Rattle.mx_member.specs.declared.acts.Act.{Act}
 use Rattle.mx_member.specs.declared.acts.Act.TheVariants as act
 use Rattle.mx_member.specs.declared.acts.Answer.{Answer}

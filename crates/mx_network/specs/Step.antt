@@ -1,9 +1,8 @@
 -- One event of a cluster.
 use Rattle.std.specs.Prelude.{ℕ, ◌≡◌, ◌≤◌, ◌⊎◌, List, [], ◌∷◌, ◌++◌, Option, Some, None, Result, Ok, Err, Vec, IsOk, slice_get, slice_set, length, nat_lt, if◌then◌else◌}
 use Rattle.std.specs.declared.alloc.Global.{Global}
-use Rattle.mx_nodelaws.specs.World.{Done, sent_by}
+use Rattle.mx_nodelaws.specs.World.{Done, answering, sent_by}
 use Rattle.mx_nodelaws.specs.Core.{Core, IsInside}
-use Rattle.mx_nodelaws.specs.Acts.{answering}
 use Rattle.mx_member.specs.declared.acts.Act.{Act}
 use Rattle.mx_member.specs.declared.acts.Act.TheVariants as act
 use Rattle.mx_member.specs.declared.parcel.Parcel.{Parcel}
