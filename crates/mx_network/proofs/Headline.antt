@@ -16,6 +16,7 @@ use Rattle.mx_network.specs.Kept.{IsKept}
 use Rattle.mx_network.specs.Sections.{IsSerial, ShowsInOrder, journal_of, sections}
 use Rattle.mx_network.specs.Step.{Group, IsInsideAt}
 use Rattle.mx_network.specs.Trace.{IsExclusive, IsNumbered, marks}
+use Rattle.mx_network.proofs.KeptSound.{kept_sound}
 
 pub exclusive : (trace : List Entry) → IsSerial trace → IsExclusive trace
 exclusive trace serial = alternate_if_fit (marks trace) serial
@@ -31,17 +32,17 @@ module _ {H S M : Type 0} (core : Core H S M) (IsShape : H → Type 0) (Good : W
   pub one_alone : (i j : ℕ) → IsInsideAt core g i → IsInsideAt core g j → j ≡ i
   one_alone i j a b =
       let state : MemberState S → S = λ m. m.core in
-      laws.one_inside (core_part g.members g.sent) j i b.0.core a.0.core kept.sound.good
+      laws.one_inside (core_part g.members g.sent) j i b.0.core a.0.core (kept_sound core Good g kept).good
       (get_map state g.members j b.0 b.1) (get_map state g.members i a.0 a.1) b.2 a.2
 
 module _ {H S M : Type 0} (core : Core H S M) (Good : World S M → Type 0) (g : Group S M) (kept : IsKept core Good g) where
   -- any two journals agree
   pub agreed : (i j : ℕ) (m k : MemberState S) → IsMember g.members i m → IsMember g.members j k → AreAgreeing m.journal k.journal
-  agreed = journals_agree core Good (sections g.trace) g.members g.sent kept.sound
+  agreed = journals_agree core Good (sections g.trace) g.members g.sent (kept_sound core Good g kept)
 
   -- each journal is a sub-map of the section journal
   pub of_sections : (i : ℕ) (m : MemberState S) → IsMember g.members i m → IsSubmap m.journal (journal_of g.trace)
-  of_sections = kept.sound.journals
+  of_sections = (kept_sound core Good g kept).journals
 
   -- said of the trace that is handed out
   pub journals_of : (trace : List Entry) → trace ≡ g.trace → (i : ℕ) (m : MemberState S) → IsMember g.members i m → IsSubmap m.journal (journal_of trace)
@@ -49,4 +50,4 @@ module _ {H S M : Type 0} (core : Core H S M) (Good : World S M → Type 0) (g :
 
   -- a journal without gaps shows the writes of the first sections, in order of entry
   pub shows_in_order : (i : ℕ) (m : MemberState S) → IsMember g.members i m → ShowsInOrder g.trace m.journal
-  shows_in_order i m at k count gapless top = member_shows core Good (sections g.trace) g.members g.sent kept.sound i k count m at gapless top
+  shows_in_order i m at k count gapless top = member_shows core Good (sections g.trace) g.members g.sent (kept_sound core Good g kept) i k count m at gapless top

@@ -16,6 +16,7 @@ use Rattle.mx_network.specs.Kept.{IsKept}
 use Rattle.mx_network.specs.Merged.{IsAboveAll, IsBelowEach}
 use Rattle.mx_network.specs.Sections.{journal_of, sections}
 use Rattle.mx_network.specs.Step.{Group}
+use Rattle.mx_network.proofs.KeptSound.{kept_sound}
 
 -- of a list cut behind its k-th element, the members are those of the shorter cut and that element
 cut : (nodes : List ℕ) (k n i : ℕ) (P : Type 0) → k < length nodes → n ≡ get_or nodes k n → IsIn i (take (k + 1) nodes) → (IsIn i (take k nodes) → P) → (i ≡ n → P) → P
@@ -57,8 +58,8 @@ least_same members nodes k n all below lt is other above = below other (above_fe
 -- what is merged so far agrees with each member's journal
 pub mergeable : {H S M : Type 0} (core : Core H S M) (Good : World S M → Type 0) (g : Group S M) (all journal : List Record) (n : ℕ) (m : MemberState S) → IsKept core Good g → IsSubmap all (journal_of g.trace) → IsMember g.members n m → journal ≡ m.journal → AreAgreeing all journal
 mergeable core Good g all journal n m kept low at same =
-    submaps_agree (sections g.trace) all journal low (λ x h. kept.sound.journals n m at x (subst (λ l. IsIn x l) same h))
+    submaps_agree (sections g.trace) all journal low (λ x h. (kept_sound core Good g kept).journals n m at x (subst (λ l. IsIn x l) same h))
 
 pub merged_within : {H S M : Type 0} (core : Core H S M) (Good : World S M → Type 0) (g : Group S M) (all new journal : List Record) (n : ℕ) (m : MemberState S) → IsKept core Good g → IsSubmap all (journal_of g.trace) → IsMember g.members n m → journal ≡ m.journal → IsLeastUpperBound all journal new → IsSubmap new (journal_of g.trace)
 merged_within core Good g all new journal n m kept low at same join =
-    join.least (journal_of g.trace) low (λ x h. kept.sound.journals n m at x (subst (λ l. IsIn x l) same h))
+    join.least (journal_of g.trace) low (λ x h. (kept_sound core Good g kept).journals n m at x (subst (λ l. IsIn x l) same h))

@@ -15,7 +15,7 @@ pub returns-clause-serial : goal.returns-clause-serial
 returns-clause-serial g c = subst (λ t. IsSerial t) (sym c.deref.ensures.value) c.self.invariant.1.serial
 
 pub returns-clause-receipts : goal.returns-clause-receipts
-returns-clause-receipts g c = subst (λ t. ReadSerially (sections t)) (sym c.deref.ensures.value) c.self.invariant.1.sound.serial
+returns-clause-receipts g c = subst (λ t. ReadSerially (sections t)) (sym c.deref.ensures.value) c.self.invariant.1.run.sound.serial
 
 pub returns-clause-alone : goal.returns-clause-alone
 returns-clause-alone g c = rw (← c.self.view_is) (λ i j a b. one_alone g.C.Exclusion.core g.C.Exclusion.IsShape g.C.Exclusion.Good g.met.C.Exclusion.laws _ c.self.invariant.1 i j a b)
