@@ -1,6 +1,6 @@
 -- What every world keeps. ActsKept: each act of one member. AtRest: the world at rest.
 -- Histories: whole histories. Consequences: the journals of a sound world. HeldReads: what serial
--- reads show. Shown: small histories that the definitions accept and refuse. Running: worlds whose nodes
+-- reads show. Inside: who is inside, by the sections. Refused: refused acts. Shown: small histories that the definitions accept and refuse. Running: worlds whose nodes
 -- hold their own receipts. RunningTells: what they tell. RunningStays: what stays. Joining: the join of
 -- all journals. Owners: where the sections are known. Sharing: nodes shared out among threads.
 -- The others are the way there, lowest first. Phases: phases. CorePart: the core part of worlds.
@@ -27,6 +27,8 @@ pub mod AtRest
 pub mod Histories
 pub mod Consequences
 pub mod HeldReads
+pub mod Inside
+pub mod Refused
 pub mod Shown
 pub mod ReceiptLists
 pub mod OwnReceipts

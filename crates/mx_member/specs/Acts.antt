@@ -1,5 +1,5 @@
 -- What a member does, what each act gives, and when it may be done.
-use Rattle.std.specs.Prelude.{ℕ, ◌<◌, ◌↔◌, ◌++◌, List, []}
+use Rattle.std.specs.Prelude.{ℕ, ◌<◌, ◌↔◌, ◌++◌, List, [], Err}
 use Rattle.mx_stamps.specs.Lists.{IsIn}
 use Rattle.mx_nodelaws.specs.World.{Done, answering, quietly, sent_by}
 use Rattle.mx_nodelaws.specs.Core.{Core}
@@ -46,6 +46,15 @@ NeedsMemory core act.Tick m = ⊥
 NeedsMemory core (act.Want to) m = ⊥
 NeedsMemory core (act.Deliver from parcel) m = BringsRecords parcel
 NeedsMemory core act.Restart m = ⊥
+
+-- the answer is a refusal
+abbrev pub IsRefusal : Answer → Type 0
+IsRefusal (answer.Asked (Err fault)) = Unit {0}
+IsRefusal (answer.Entered (Err fault)) = Unit {0}
+IsRefusal (answer.Read (Err fault)) = Unit {0}
+IsRefusal (answer.Written (Err fault)) = Unit {0}
+IsRefusal (answer.Left (Err fault)) = Unit {0}
+IsRefusal _ = ⊥
 
 -- node i of so many may do this: a parcel that it takes was sent to it, a want goes to a node
 abbrev pub Arrives : {M : Type 0} → ℕ → List (ℕ × ℕ × Parcel M) → ℕ → Act M → Type 0

@@ -1,20 +1,22 @@
 -- What the promise says of a cluster, from what every cluster keeps.
-use Rattle.std.proofs.Common.{ℕ, ◌≡◌, List, [], sym, subst}
+use Rattle.std.proofs.Common.{ℕ, ◌≡◌, ◌↔◌, List, [], sym, subst}
 use Rattle.mx_journal.specs.Agreement.{AreAgreeing, IsSubmap}
 use Rattle.mx_journal.specs.Records.{Ascending}
 use Rattle.mx_nodelaws.specs.World.{World}
 use Rattle.mx_nodelaws.specs.Core.{Core}
 use Rattle.mx_nodelaws.specs.Laws.{KeepsGood}
 use Rattle.mx_member.specs.Member.{MemberState}
+use Rattle.mx_member.specs.Serial.{AllClosed, IsInSection}
 use Rattle.mx_member.specs.World.{IsMember, core_part}
 use Rattle.mx_member.proofs.Consequences.{journals_agree, member_shows}
 use Rattle.mx_member.proofs.CorePart.{get_map}
 use Rattle.mx_member.proofs.Histories.{alternate_if_fit, numbered_if_fit}
+use Rattle.mx_member.proofs.Inside.{in_section, nobody_in, section_in}
 use Rattle.mx_member.proofs.SectionLists.{journal_ascends}
 use Rattle.mx_network.specs.declared.outcome.Entry.{Entry}
 use Rattle.mx_network.specs.Kept.{IsKept}
 use Rattle.mx_network.specs.Sections.{IsSerial, ShowsInOrder, journal_of, sections}
-use Rattle.mx_network.specs.Step.{Group, IsInsideAt}
+use Rattle.mx_network.specs.Step.{Group, IsInsideAt, IsInsideWith}
 use Rattle.mx_network.specs.Trace.{IsExclusive, IsNumbered, marks}
 use Rattle.mx_network.proofs.KeptSound.{kept_sound}
 
@@ -51,3 +53,19 @@ module _ {H S M : Type 0} (core : Core H S M) (Good : World S M → Type 0) (g :
   -- a journal without gaps shows the writes of the first sections, in order of entry
   pub shows_in_order : (i : ℕ) (m : MemberState S) → IsMember g.members i m → ShowsInOrder g.trace m.journal
   shows_in_order i m at k count gapless top = member_shows core Good (sections g.trace) g.members g.sent (kept_sound core Good g kept) i k count m at gapless top
+
+  -- a node is inside exactly in the newest section, while that is open
+  pub inside_is : (trace : List Entry) → trace ≡ g.trace → (i n : ℕ) → IsInsideWith core g i n ↔ IsInSection i n (sections trace)
+  inside_is trace is i n =
+      subst (λ (t : List Entry). IsInsideWith core g i n ↔ IsInSection i n (sections t)) (sym is) (
+        (λ h. in_section core Good (sections g.trace) g.members g.sent (kept_sound core Good g kept) i n h.0 h.1 h.2),
+        (λ h. section_in core Good (sections g.trace) g.members g.sent (kept_sound core Good g kept) i n h),
+      )
+
+  -- nobody is inside exactly where all sections were left
+  pub nobody_is : (trace : List Entry) → trace ≡ g.trace → ((i : ℕ) → IsInsideAt core g i → ⊥) ↔ AllClosed (sections trace)
+  nobody_is trace is =
+      subst (λ (t : List Entry). ((i : ℕ) → IsInsideAt core g i → ⊥) ↔ AllClosed (sections t)) (sym is) (
+        (λ none. (kept_sound core Good g kept).nobody (λ i m at inside. none i (m, at, inside))),
+        (λ closed i h. nobody_in core Good (sections g.trace) g.members g.sent (kept_sound core Good g kept) closed i h.0 h.1 h.2),
+      )
