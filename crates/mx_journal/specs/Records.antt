@@ -33,6 +33,10 @@ abbrev pub with_records : List Record → List Record → List Record
 with_records [] journal = journal
 with_records (r ∷ rs) journal = with_records rs (with_record r journal)
 
+-- some record of the list bears a number that none of the journal bears
+abbrev pub BringsNew : List Record → List Record → Type 0
+BringsNew list journal = (x : Record) × IsIn x list × (record_at x.number journal ≡ None)
+
 -- the records numbered below n
 abbrev pub below : ℕ → List Record → List Record
 below n [] = []

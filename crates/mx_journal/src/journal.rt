@@ -1,13 +1,13 @@
 //! The journal of a node: the records that it knows, by their numbers.
 
 ghost use Rattle.std.specs.Prelude.{ℕ, ◌≡◌, ◌+◌, ◌≤◌, ◌<◌, ◌↔◌, ◌++◌, ◌⊎◌, [], List, Some, None, Ok, Err, IsOk, IsTrue, IfOk, OnErr, MatchOption, length, slice_get, take};
-ghost use Rattle.mx_journal.specs.Agreement.{AreAgreeing, IsConsistent, IsFirstConflict, IsOther};
+ghost use Rattle.mx_journal.specs.Agreement.{AreAgreeing, IsConsistent, IsFirstConflict, IsOther, IsSubmap};
 ghost use Rattle.mx_journal.specs.Gapless.{IsGapless, first_missing};
 ghost use Rattle.mx_journal.specs.Records.{Ascending, IsNumbered, IsThere, in_range, record_at, top_of, with_record, with_records};
 ghost use Rattle.mx_journal.specs.Searches.{place};
 
 use crate::places::{find, gapless_in, insert, least_in, place_of, top_in};
-use crate::puts::{Put, PutFault, has_zero, insert_all, least_conflict};
+use crate::puts::{Put, PutFault, are_there, has_zero, insert_all, least_conflict};
 use crate::ranges::Range;
 use crate::records::Record;
 use arrayvec::ArrayVec;
@@ -99,13 +99,17 @@ impl Journal {
     }
 
     /// Takes the records of an agreeing journal too, and answers how many were new. Memory is asked
-    /// for once, before anything changes.
+    /// for once, before anything changes, and only where there is something new.
     pub fn join(&mut self, other: &Journal) -> Result<u64, AllocError>
         requires { AreAgreeing self.old other.now }
         ensures ok { IfOk result (λ k. (self.new ≡ with_records other.now self.old)
             × (length self.new ≡ length self.old + k)) }
+        ensures contained { IsSubmap other.now self.old → IsOk result }
         ensures err { OnErr result (self.new ≡ self.old) }
     {
+        if are_there(&self.records, &other.records) {
+            return Ok(0);
+        }
         self.records.reserve(other.records.len())?;
         Ok(insert_all(&mut self.records, &other.records))
     }

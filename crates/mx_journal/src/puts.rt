@@ -4,7 +4,7 @@ ghost use Rattle.std.specs.Prelude.{◌≡◌, ◌+◌, ◌≤◌, ◌↔◌, �
 ghost use Rattle.mx_stamps.specs.Lists.{IsIn};
 ghost use Rattle.mx_journal.specs.Agreement.{AgreesWith, IsConsistent, IsFirstConflict, IsOpposed};
 ghost use Rattle.mx_journal.specs.Searches.{lower_of};
-ghost use Rattle.mx_journal.specs.Records.{Ascending, IsNumbered, IsThere, with_records};
+ghost use Rattle.mx_journal.specs.Records.{Ascending, BringsNew, IsNumbered, IsThere, with_records};
 
 use crate::places::{find, insert, is_there};
 use crate::records::Record;
@@ -132,6 +132,20 @@ fn lower(least: Option<u64>, number: u64) -> u64
         Some(other) => other.min(number),
         None => number,
     }
+}
+
+/// Whether each number of the list is borne already, so that the list brings nothing new.
+pub(crate) fn are_there(records: &[Record], list: &[Record]) -> bool
+    requires { Ascending 1 records.now }
+    ensures there { IsTrue result → with_records list.now records.now ≡ records.now }
+    ensures missing { IsFalse result → BringsNew list.now records.now }
+{
+    for entry in list {
+        if !is_there(records, entry.number) {
+            return false;
+        }
+    }
+    true
 }
 
 /// Puts each record of the list that is not there yet, and answers how many were not.

@@ -31,7 +31,7 @@ abbrev AreSerial : List Section → Drafted → Type 0
 AreSerial ss draft = (x : Read) → IsIn x draft.reads → IsSerialRead (writes_in ss) draft.writes x
 
 -- some member is inside, or none is
-someone : {H S M : Type 0} (core : Core H S M) (members : List (MemberState S)) →
+pub someone : {H S M : Type 0} (core : Core H S M) (members : List (MemberState S)) →
     ((j : ℕ) × (t : MemberState S) × IsMember members j t × IsInside core t.core) ⊎ ((j : ℕ) (t : MemberState S) → IsMember members j t → IsInside core t.core → ⊥)
 someone core [] = inr (λ j t at h. none_is_no_some t at)
 someone {S} core (m ∷ ms) = elim (inside_or_not (core.phase m.core)) [

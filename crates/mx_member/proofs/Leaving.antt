@@ -1,5 +1,5 @@
--- Who is not inside does not leave, and who leaves may need memory.
-use Rattle.std.proofs.Common.{ℕ, ◌≡◌, inl, inr, [], Err, refl, sym, ◌∙◌, ap, subst}
+-- Who is not inside does not leave, and who leaves needs memory where its record is lacking.
+use Rattle.std.proofs.Common.{ℕ, ◌≡◌, [], Err, refl, sym, ◌∙◌, ap, subst}
 use Rattle.mx_nodelaws.specs.World.{Done}
 use Rattle.mx_nodelaws.specs.Core.{Core, IsInside}
 use Rattle.mx_nodelaws.specs.declared.phase.Phase.{Phase}
@@ -11,9 +11,8 @@ use Rattle.mx_member.specs.declared.acts.Answer.{Answer}
 use Rattle.mx_member.specs.declared.acts.Answer.TheVariants as answer
 use Rattle.mx_member.specs.declared.parcel.Parcel.{Parcel}
 use Rattle.mx_member.specs.Member.{MemberState}
-use Rattle.mx_member.specs.Steps.{leave_at}
+use Rattle.mx_member.specs.Steps.{LacksItsRecord, leave_at}
 use Rattle.mx_member.specs.Acts.{NeedsMemory, act_of}
-use Rattle.mx_member.proofs.Phases.{inside_or_not}
 
 module _ {H S M : Type 0} (core : Core H S M) (m : MemberState S) where
   -- nothing changes, and nothing is sent
@@ -30,6 +29,5 @@ module _ {H S M : Type 0} (core : Core H S M) (m : MemberState S) where
       ap (λ b. act_of core b m) is
       ∙ ap (λ d. record { state = d.state; answer = answer.Left d.answer; letters = d.letters }) (at (core.phase m.core) (λ n e. out (n, e)))
 
-  pub needs_memory : (a : Act M) → a ≡ act.Leave → ((IsInside core m.core → ⊥) → ⊥) → NeedsMemory core a m
-  needs_memory a is not =
-      subst (λ (b : Act M). NeedsMemory core b m) (sym is) (elim (inside_or_not (core.phase m.core)) [ inl i ↦ i | inr out ↦ absurd (not (λ i. out i.0 i.1)) ])
+  pub needs_memory : (a : Act M) → a ≡ act.Leave → LacksItsRecord core m → NeedsMemory core a m
+  needs_memory a is lacks = subst (λ (b : Act M). NeedsMemory core b m) (sym is) lacks

@@ -1,11 +1,14 @@
 -- What every world keeps. ActsKept: each act of one member. AtRest: the world at rest.
 -- Histories: whole histories. Consequences: the journals of a sound world. HeldReads: what serial
--- reads show. Shown: small histories that the definitions accept and refuse.
+-- reads show. Inside: who is inside, by the sections. Refused: refused acts. Shown: small histories that the definitions accept and refuse. Running: worlds whose nodes
+-- hold their own receipts. RunningTells: what they tell. RunningStays: what stays. Joining: the join of
+-- all journals. Owners: where the sections are known. Sharing: nodes shared out among threads.
 -- The others are the way there, lowest first. Phases: phases. CorePart: the core part of worlds.
 -- SectionLists: sections and their journal. SectionWrites: what the sections wrote.
 -- SerialReads: reads in a draft that grows. Moments: an act of one member, and what it has to show.
 -- CoreSteps: what the laws of a core say of it. PlainSteps: acts of which no section tells.
 -- EntrySteps: entering and leaving. DraftSteps: acts inside a section. CallsKept: each call.
+-- ReceiptLists, OwnReceipts, ReceiptActs, ReceiptHistory: receipts of sections, and of one node.
 -- Guarded, Choosing, Keeping, Sending, Refusing, Delivering, Leaving: what the calls of a member do,
 -- over plain variables.
 pub mod Phases
@@ -24,7 +27,19 @@ pub mod AtRest
 pub mod Histories
 pub mod Consequences
 pub mod HeldReads
+pub mod Inside
+pub mod Refused
 pub mod Shown
+pub mod ReceiptLists
+pub mod OwnReceipts
+pub mod ReceiptActs
+pub mod ReceiptHistory
+pub mod Running
+pub mod RunningTells
+pub mod Joining
+pub mod RunningStays
+pub mod Owners
+pub mod Sharing
 pub mod Guarded
 pub mod Choosing
 pub mod Keeping

@@ -1,16 +1,15 @@
 -- What a member does, what each act gives, and when it may be done.
-use Rattle.std.specs.Prelude.{ℕ, ◌<◌, ◌↔◌, ◌++◌, List, []}
+use Rattle.std.specs.Prelude.{ℕ, ◌<◌, ◌↔◌, ◌++◌, List, [], Err}
 use Rattle.mx_stamps.specs.Lists.{IsIn}
-use Rattle.mx_nodelaws.specs.World.{Done, quietly, sent_by}
-use Rattle.mx_nodelaws.specs.Core.{Core, IsInside}
-use Rattle.mx_nodelaws.specs.Acts.{answering}
+use Rattle.mx_nodelaws.specs.World.{Done, answering, quietly, sent_by}
+use Rattle.mx_nodelaws.specs.Core.{Core}
 use Rattle.mx_member.specs.declared.acts.Act.{Act}
 use Rattle.mx_member.specs.declared.acts.Act.TheVariants as act
 use Rattle.mx_member.specs.declared.acts.Answer.{Answer}
 use Rattle.mx_member.specs.declared.acts.Answer.TheVariants as answer
 use Rattle.mx_member.specs.declared.parcel.Parcel.{Parcel}
 use Rattle.mx_member.specs.Member.{BringsRecords, MemberState}
-use Rattle.mx_member.specs.Steps.{IsTakeable, ask_of, enter_of, read_of, write_of, leave_of, tick_of, want_of, take_of, restart_of}
+use Rattle.mx_member.specs.Steps.{IsTakeable, LacksItsRecord, ask_of, enter_of, read_of, write_of, leave_of, tick_of, want_of, take_of, restart_of}
 
 -- what an act makes of a member
 abbrev pub act_of : {H S M : Type 0} → Core H S M → Act M → MemberState S → Done (MemberState S) Answer (Parcel M)
@@ -36,17 +35,26 @@ IsDoable (act.Want to) m = Unit {0}
 IsDoable (act.Deliver from parcel) m = IsTakeable from parcel m
 IsDoable act.Restart m = Unit {0}
 
--- the act may need memory: a record joins the journal
+-- the act may need memory: a record joins the journal, in which none bears its number
 abbrev pub NeedsMemory : {H S M : Type 0} → Core H S M → Act M → MemberState S → Type 0
 NeedsMemory core act.Ask m = ⊥
 NeedsMemory core act.Enter m = ⊥
 NeedsMemory core (act.Read register) m = ⊥
 NeedsMemory core (act.Write register value) m = ⊥
-NeedsMemory core act.Leave m = IsInside core m.core
+NeedsMemory core act.Leave m = LacksItsRecord core m
 NeedsMemory core act.Tick m = ⊥
 NeedsMemory core (act.Want to) m = ⊥
 NeedsMemory core (act.Deliver from parcel) m = BringsRecords parcel
 NeedsMemory core act.Restart m = ⊥
+
+-- the answer is a refusal
+abbrev pub IsRefusal : Answer → Type 0
+IsRefusal (answer.Asked (Err fault)) = Unit {0}
+IsRefusal (answer.Entered (Err fault)) = Unit {0}
+IsRefusal (answer.Read (Err fault)) = Unit {0}
+IsRefusal (answer.Written (Err fault)) = Unit {0}
+IsRefusal (answer.Left (Err fault)) = Unit {0}
+IsRefusal _ = ⊥
 
 -- node i of so many may do this: a parcel that it takes was sent to it, a want goes to a node
 abbrev pub Arrives : {M : Type 0} → ℕ → List (ℕ × ℕ × Parcel M) → ℕ → Act M → Type 0

@@ -2,6 +2,7 @@
 -- Faults: what a journal's refusal is at a member.
 -- Sections: the sections of a history. Serial: what a history must be to be serial.
 -- World: whole worlds, and what each of them keeps.
+-- Receipts: the receipts of sections that were left. Running: nodes with their own receipts. Shared: views of them.
 pub mod Member
 pub mod Steps
 pub mod Acts
@@ -9,3 +10,6 @@ pub mod Faults
 pub mod Sections
 pub mod Serial
 pub mod World
+pub mod Receipts
+pub mod Running
+pub mod Shared

@@ -15,6 +15,10 @@ abbrev pub IsInNewest : ℕ → List Section → Type 0
 IsInNewest i [] = ⊥
 IsInNewest i (s ∷ ss) = (s.node ≡ i) × (s.closed ≡ false)
 
+-- node i is inside the newest section, and n is its number: how many sections there are
+abbrev pub IsInSection : ℕ → ℕ → List Section → Type 0
+IsInSection i n ss = IsInNewest i ss × (n ≡ length ss)
+
 -- what a mark must be after these sections. An entry finds all of them left, and bears the next number.
 -- A read is of the node inside, and its value is what all writes so far, in order of entry, leave in the register.
 -- A write is of the node inside. A receipt is the newest section's, of the node inside

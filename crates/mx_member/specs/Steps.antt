@@ -1,5 +1,5 @@
 -- What each call makes of a member.
-use Rattle.std.specs.Prelude.{ℕ, ◌≡◌, ◌<◌, ◌++◌, ◌⊎◌, List, [], ◌∷◌, Result, Ok, Err, length, nat_lt, nat_le, take, unwrap_or, if◌then◌else◌}
+use Rattle.std.specs.Prelude.{ℕ, ◌≡◌, ◌<◌, ◌++◌, ◌⊎◌, List, [], ◌∷◌, None, Result, Ok, Err, length, nat_lt, nat_le, take, unwrap_or, if◌then◌else◌}
 use Rattle.mx_stamps.specs.declared.stamp.Stamp.{Stamp}
 use Rattle.mx_nodelaws.specs.World.{Done, Quiet}
 use Rattle.mx_nodelaws.specs.Core.{Core}
@@ -15,7 +15,7 @@ use Rattle.mx_journal.specs.declared.receipts.Receipt.{Receipt}
 use Rattle.mx_journal.specs.Agreement.{IsConsistent, IsFirstConflict}
 use Rattle.mx_journal.specs.Drafted.{last_value, with_read, with_write, receipt_of, record_of}
 use Rattle.mx_journal.specs.Gapless.{first_missing}
-use Rattle.mx_journal.specs.Records.{IsNumbered, IsThere, below, with_record, with_records}
+use Rattle.mx_journal.specs.Records.{IsNumbered, IsThere, below, record_at, with_record, with_records}
 use Rattle.mx_merge.specs.Missing.{gaps_of, in_ranges}
 use Rattle.mx_registers.specs.Registers.{register_of}
 use Rattle.mx_member.specs.declared.parcel.Parcel.{Parcel}
@@ -118,6 +118,10 @@ module _ {H S M : Type 0} (core : Core H S M) where
     answer = Ok (receipt_of n m.setting.me m.draft);
     letters = guarded (core.leave m.core).letters;
   }
+
+  -- it is inside, and no record of its journal bears the number of its section
+  abbrev pub LacksItsRecord : MemberState S → Type 0
+  LacksItsRecord m = (n : ℕ) × (core.phase m.core ≡ Inside n) × (record_at n m.journal ≡ None)
 
   abbrev pub leave_at : MemberState S → Phase → Done (MemberState S) (Result Receipt LeaveFault) (Parcel M)
   leave_at m Idle = record { state = m; answer = Err leave.NotInside; letters = [] }

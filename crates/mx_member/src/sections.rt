@@ -1,10 +1,10 @@
 //! What a member does in its section: reads, writes, leaving; and waking up again.
 
-ghost use Rattle.std.specs.Prelude.{◌≡◌, ◌≤◌, ◌<◌, ◌↔◌, [], Err, IfOk, Ok, OnErr, OnOk};
-ghost use Rattle.mx_journal.specs.Records.{below, with_record};
+ghost use Rattle.std.specs.Prelude.{◌≡◌, ◌≤◌, ◌<◌, ◌↔◌, [], Err, IfOk, Ok, None, OnErr, OnOk};
+ghost use Rattle.mx_journal.specs.Records.{below, record_at, with_record};
 ghost use Rattle.mx_nodelaws.specs.Core.{IsInside};
 ghost use Rattle.mx_registers.specs.Registers.{register_of};
-ghost use Rattle.mx_member.specs.Steps.{leave_of, read_of, restart_of, write_of};
+ghost use Rattle.mx_member.specs.Steps.{LacksItsRecord, leave_of, read_of, restart_of, write_of};
 
 use crate::faults::{CloseFault, ReadFault, WriteFault};
 use crate::guards::guard_all;
@@ -56,11 +56,12 @@ impl<C: Exclusion> Member<C> {
     }
 
     /// Leaves the section. Its record joins the journal, unless a forged one bears its number
-    /// already, which stays. Memory is asked for before anything changes.
+    /// already: that one stays, and no memory is needed. Memory is asked for before anything changes.
     pub fn leave(&mut self, out: &mut Outbox<Parcel<C::Msg>>) -> Result<Receipt, CloseFault>
         requires { out.old ≡ [] }
         ensures not_inside { (result ≡ Err CloseFault.NotInside)
             ↔ (IsInside C.core self.old.core → ⊥) }
+        ensures memory { (result ≡ Err CloseFault.Memory) → LacksItsRecord C.core self.old }
         ensures state { OnOk result (self.new ≡ (leave_of C.core self.old).state) }
         ensures answer { IfOk result (λ receipt.
             (leave_of C.core self.old).answer ≡ Ok receipt) }
@@ -102,8 +103,9 @@ fn value_below(journal: &Journal, registers: u8, number: u64, register: u8) -> u
 fn keep(journal: &mut Journal, entry: Record) -> Result<(), CloseFault>
     requires { 0 < entry.number }
     ensures ok { OnOk result (journal.new ≡ with_record entry journal.old) }
-    ensures err { OnErr result ((result ≡ Err CloseFault.Memory)
-        × (journal.new ≡ journal.old)) }
+    ensures memory { OnErr result (result ≡ Err CloseFault.Memory) }
+    ensures missing { OnErr result (record_at entry.number journal.old ≡ None) }
+    ensures err { OnErr result (journal.new ≡ journal.old) }
 {
     // the order of the journal is known from its length
     let _ = journal.len();

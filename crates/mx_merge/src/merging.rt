@@ -1,7 +1,7 @@
 //! Merging one journal into another.
 
 ghost use Rattle.std.specs.Prelude.{ℕ, ◌≡◌, ◌+◌, ◌↔◌, ◌++◌, ◌⊎◌, Err, IsOk, IfOk, OnOk, OnErr, length};
-ghost use Rattle.mx_journal.specs.Agreement.{AreAgreeing, IsFirstConflict};
+ghost use Rattle.mx_journal.specs.Agreement.{AreAgreeing, IsFirstConflict, IsSubmap};
 ghost use Rattle.mx_journal.specs.Records.{Ascending, with_records};
 ghost use Rattle.mx_merge.specs.Join.{IsLeastUpperBound};
 
@@ -31,8 +31,8 @@ impl From<AllocError> for MergeFault {
 }
 
 /// Takes the other journal's records into the journal, and answers how many were new. `Conflict`
-/// names the least number at which the two differ; `Memory` comes only where they agree. At a
-/// fault the journal stays as it was.
+/// names the least number at which the two differ; `Memory` comes only where they agree and
+/// something is new. At a fault the journal stays as it was.
 pub fn merge(journal: &mut Journal, other: &Journal) -> Result<u64, MergeFault>
     ensures conflict { (n : ℕ) → (result ≡ Err (MergeFault.Conflict n))
         ↔ IsFirstConflict n (journal.old ++ other.now) }
@@ -42,6 +42,7 @@ pub fn merge(journal: &mut Journal, other: &Journal) -> Result<u64, MergeFault>
         × (length journal.new ≡ length journal.old + k)) }
     ensures join { OnOk result (IsLeastUpperBound journal.old other.now journal.new) }
     ensures ordered { Ascending 1 journal.new }
+    ensures contained { IsSubmap other.now journal.old → IsOk result }
     ensures err { OnErr result (journal.new ≡ journal.old) }
 {
     if let Some(number) = first_difference(journal, other) {

@@ -1,21 +1,24 @@
 -- What the promise says of a cluster, from what every cluster keeps.
-use Rattle.std.proofs.Common.{ℕ, ◌≡◌, List, [], sym, subst}
+use Rattle.std.proofs.Common.{ℕ, ◌≡◌, ◌↔◌, List, [], sym, subst}
 use Rattle.mx_journal.specs.Agreement.{AreAgreeing, IsSubmap}
 use Rattle.mx_journal.specs.Records.{Ascending}
 use Rattle.mx_nodelaws.specs.World.{World}
 use Rattle.mx_nodelaws.specs.Core.{Core}
 use Rattle.mx_nodelaws.specs.Laws.{KeepsGood}
 use Rattle.mx_member.specs.Member.{MemberState}
+use Rattle.mx_member.specs.Serial.{AllClosed, IsInSection}
 use Rattle.mx_member.specs.World.{IsMember, core_part}
 use Rattle.mx_member.proofs.Consequences.{journals_agree, member_shows}
 use Rattle.mx_member.proofs.CorePart.{get_map}
 use Rattle.mx_member.proofs.Histories.{alternate_if_fit, numbered_if_fit}
+use Rattle.mx_member.proofs.Inside.{in_section, nobody_in, section_in}
 use Rattle.mx_member.proofs.SectionLists.{journal_ascends}
 use Rattle.mx_network.specs.declared.outcome.Entry.{Entry}
 use Rattle.mx_network.specs.Kept.{IsKept}
 use Rattle.mx_network.specs.Sections.{IsSerial, ShowsInOrder, journal_of, sections}
-use Rattle.mx_network.specs.Step.{Group, IsInsideAt}
+use Rattle.mx_network.specs.Step.{Group, IsInsideAt, IsInsideWith}
 use Rattle.mx_network.specs.Trace.{IsExclusive, IsNumbered, marks}
+use Rattle.mx_network.proofs.KeptSound.{kept_sound}
 
 pub exclusive : (trace : List Entry) → IsSerial trace → IsExclusive trace
 exclusive trace serial = alternate_if_fit (marks trace) serial
@@ -31,17 +34,17 @@ module _ {H S M : Type 0} (core : Core H S M) (IsShape : H → Type 0) (Good : W
   pub one_alone : (i j : ℕ) → IsInsideAt core g i → IsInsideAt core g j → j ≡ i
   one_alone i j a b =
       let state : MemberState S → S = λ m. m.core in
-      laws.one_inside (core_part g.members g.sent) j i b.0.core a.0.core kept.sound.good
+      laws.one_inside (core_part g.members g.sent) j i b.0.core a.0.core (kept_sound core Good g kept).good
       (get_map state g.members j b.0 b.1) (get_map state g.members i a.0 a.1) b.2 a.2
 
 module _ {H S M : Type 0} (core : Core H S M) (Good : World S M → Type 0) (g : Group S M) (kept : IsKept core Good g) where
   -- any two journals agree
   pub agreed : (i j : ℕ) (m k : MemberState S) → IsMember g.members i m → IsMember g.members j k → AreAgreeing m.journal k.journal
-  agreed = journals_agree core Good (sections g.trace) g.members g.sent kept.sound
+  agreed = journals_agree core Good (sections g.trace) g.members g.sent (kept_sound core Good g kept)
 
   -- each journal is a sub-map of the section journal
   pub of_sections : (i : ℕ) (m : MemberState S) → IsMember g.members i m → IsSubmap m.journal (journal_of g.trace)
-  of_sections = kept.sound.journals
+  of_sections = (kept_sound core Good g kept).journals
 
   -- said of the trace that is handed out
   pub journals_of : (trace : List Entry) → trace ≡ g.trace → (i : ℕ) (m : MemberState S) → IsMember g.members i m → IsSubmap m.journal (journal_of trace)
@@ -49,4 +52,20 @@ module _ {H S M : Type 0} (core : Core H S M) (Good : World S M → Type 0) (g :
 
   -- a journal without gaps shows the writes of the first sections, in order of entry
   pub shows_in_order : (i : ℕ) (m : MemberState S) → IsMember g.members i m → ShowsInOrder g.trace m.journal
-  shows_in_order i m at k count gapless top = member_shows core Good (sections g.trace) g.members g.sent kept.sound i k count m at gapless top
+  shows_in_order i m at k count gapless top = member_shows core Good (sections g.trace) g.members g.sent (kept_sound core Good g kept) i k count m at gapless top
+
+  -- a node is inside exactly in the newest section, while that is open
+  pub inside_is : (trace : List Entry) → trace ≡ g.trace → (i n : ℕ) → IsInsideWith core g i n ↔ IsInSection i n (sections trace)
+  inside_is trace is i n =
+      subst (λ (t : List Entry). IsInsideWith core g i n ↔ IsInSection i n (sections t)) (sym is) (
+        (λ h. in_section core Good (sections g.trace) g.members g.sent (kept_sound core Good g kept) i n h.0 h.1 h.2),
+        (λ h. section_in core Good (sections g.trace) g.members g.sent (kept_sound core Good g kept) i n h),
+      )
+
+  -- nobody is inside exactly where all sections were left
+  pub nobody_is : (trace : List Entry) → trace ≡ g.trace → ((i : ℕ) → IsInsideAt core g i → ⊥) ↔ AllClosed (sections trace)
+  nobody_is trace is =
+      subst (λ (t : List Entry). ((i : ℕ) → IsInsideAt core g i → ⊥) ↔ AllClosed (sections t)) (sym is) (
+        (λ none. (kept_sound core Good g kept).nobody (λ i m at inside. none i (m, at, inside))),
+        (λ closed i h. nobody_in core Good (sections g.trace) g.members g.sent (kept_sound core Good g kept) closed i h.0 h.1 h.2),
+      )

@@ -9,12 +9,12 @@ use Rattle.mx_member.specs.declared.parcel.Parcel.{Parcel}
 use Rattle.mx_member.specs.Acts.{act_of}
 use Rattle.mx_member.specs.Member.{MemberState}
 use Rattle.mx_member.specs.Sections.{Mark, after_marks, told}
+use Rattle.mx_member.specs.Running.{IsRun, owners}
 use Rattle.mx_member.specs.Serial.{AllFit}
 use Rattle.mx_member.specs.Steps.{start_of}
-use Rattle.mx_member.specs.World.{IsSound}
-use Rattle.mx_member.proofs.ActsKept.{act_kept, doable}
-use Rattle.mx_member.proofs.AtRest.{at_start}
-use Rattle.mx_member.proofs.Histories.{history_kept}
+use Rattle.mx_member.proofs.ActsKept.{doable}
+use Rattle.mx_member.proofs.Histories.{AllFit-append, after_marks-append}
+use Rattle.mx_member.proofs.Owners.{owners_at_start, owners_kept}
 use Rattle.mx_network.specs.declared.event.Event.{Event}
 use Rattle.mx_network.specs.declared.outcome.Outcome.{Outcome}
 use Rattle.mx_network.specs.declared.outcome.Entry.{Entry}
@@ -25,16 +25,16 @@ use Rattle.mx_network.specs.Sections.{sections}
 use Rattle.mx_network.specs.Step.{Group, answer_of, part_of, grown, at_member, at_part, step_of, IsDoableAt, RunsTo}
 use Rattle.mx_network.specs.Trace.{marks}
 use Rattle.mx_network.proofs.Marks.{marks-snoc}
+use Rattle.mx_network.proofs.KeptSound.{kept_sound}
 use Rattle.mx_network.proofs.EventParts.{arrives, err_no_ok, same_Ok, tells}
 
 module _ {H S M : Type 0} (core : Core H S M) (IsShape : H → Type 0) (Good : World S M → Type 0) (phases : KeepsPhases core) (laws : KeepsGood core IsShape Good) where
   -- a trace that tells of these marks too
-  told_more : (g : Group S M) (trace : List Entry) (ms : List Mark) (members : List (MemberState S)) (sent : List (ℕ × ℕ × Parcel M)) → marks trace ≡ marks g.trace ++ ms → IsKept core Good g → AllFit (sections g.trace) ms → IsSound core Good (after_marks (sections g.trace) ms) members sent → IsKept core Good (record { members = members; sent = sent; trace = trace })
-  told_more g trace ms members sent is kept fit sound =
-      let h = history_kept core Good [] (marks g.trace) ms members sent kept.serial fit sound in
+  told_more : (g : Group S M) (trace : List Entry) (ms : List Mark) (members : List (MemberState S)) (sent : List (ℕ × ℕ × Parcel M)) → marks trace ≡ marks g.trace ++ ms → IsKept core Good g → AllFit (sections g.trace) ms → IsRun core Good (after_marks (sections g.trace) ms) (owners (after_marks (sections g.trace) ms) members) sent → IsKept core Good (record { members = members; sent = sent; trace = trace })
+  told_more g trace ms members sent is kept fit run =
       record {
-        sound = subst (λ l. IsSound core Good (after_marks [] l) members sent) (sym is) h.1;
-        serial = subst (λ l. AllFit [] l) (sym is) h.0;
+        run = subst (λ ss. IsRun core Good ss (owners ss members) sent) (sym (ap (λ l. after_marks [] l) is ∙ after_marks-append [] (marks g.trace) ms)) run;
+        serial = subst (λ l. AllFit [] l) (sym is) (AllFit-append [] (marks g.trace) ms kept.serial fit);
       }
 
   -- a member's act, as the part of an event
@@ -42,8 +42,8 @@ module _ {H S M : Type 0} (core : Core H S M) (IsShape : H → Type 0) (Good : W
   grown_kept g e p m part at kept =
       let done = act_of core p.1 m in
       let ms : List Mark = told p.0 p.1 done.answer in
-      let k = act_kept core IsShape Good phases laws (sections g.trace) g.members g.sent (g.sent ++ sent_by p.0 done.letters) p.0 p.1 m
-      kept.sound at (arrives (length g.members) g.sent e p part) (λ x. ((λ h. h), (λ h. h))) in
+      let k = owners_kept core IsShape Good phases laws (sections g.trace) g.members g.sent (g.sent ++ sent_by p.0 done.letters) p.0 p.1 m
+      kept.run at (arrives (length g.members) g.sent e p part) (λ x. ((λ h. h), (λ h. h))) in
       told_more g (grown g e p.0 (answer_of core p.1 m)).trace ms (grown g e p.0 (answer_of core p.1 m)).members (grown g e p.0 (answer_of core p.1 m)).sent
       (marks-snoc g.trace e (answer_of core p.1 m).answer ∙ ap (λ l. marks g.trace ++ l) (tells core m (length g.members) g.sent e p part)) kept k.0 k.1
 
@@ -66,7 +66,7 @@ module _ {H S M : Type 0} (core : Core H S M) (IsShape : H → Type 0) (Good : W
 
   -- whoever an event is of can do it: no parcel that was sent meets a stranger or a conflict
   pub all_doable : (g : Group S M) (e : Event) → IsKept core Good g → IsDoableAt g e
-  all_doable g e kept p m part at = doable core Good (sections g.trace) g.members g.sent p.0 p.1 m kept.sound at (arrives (length g.members) g.sent e p part)
+  all_doable g e kept p m part at = doable core Good (sections g.trace) g.members g.sent p.0 p.1 m (kept_sound core Good g kept) at (arrives (length g.members) g.sent e p part)
 
   -- a cluster at rest, by its parts
   pub started_parts : (shape : H) (origin limit registers : ℕ) (members : List (MemberState S)) (sent : List (ℕ × ℕ × Parcel M)) (trace : List Entry) → members ≡ each_below (λ i. start_of core shape i origin limit registers) (core.count shape) → sent ≡ [] → trace ≡ [] → IsShape shape → origin < 2 ^ 64 → 0 < limit → limit ≤ 1000000 → IsKept core Good (record { members = members; sent = sent; trace = trace })
@@ -74,7 +74,7 @@ module _ {H S M : Type 0} (core : Core H S M) (IsShape : H → Type 0) (Good : W
       subst (λ ms. IsKept core Good (record { members = ms; sent = sent; trace = trace })) (sym a)
       (subst (λ ss. IsKept core Good (record { members = each_below (λ i. start_of core shape i origin limit registers) (core.count shape); sent = ss; trace = trace })) (sym b)
       (subst (λ ts. IsKept core Good (record { members = each_below (λ i. start_of core shape i origin limit registers) (core.count shape); sent = []; trace = ts })) (sym c)
-      (record { sound = at_start core IsShape Good phases laws shape origin limit registers valid d e f; serial = tt })))
+      (record { run = owners_at_start core IsShape Good phases laws shape origin limit registers valid d e f; serial = tt })))
 
 -- a run of one event more
 pub RunsTo-snoc : {H S M : Type 0} (core : Core H S M) (g mid new : Group S M) (es : List Event) (e : Event) → RunsTo core g es mid → step_of core mid e ≡ Ok new → RunsTo core g (es ++ e ∷ []) new

@@ -16,6 +16,7 @@ use Rattle.mx_network.specs.declared.faults.StepFault.TheVariants.{NoNode, NoPar
 use Rattle.mx_network.specs.Kept.{IsKept}
 use Rattle.mx_network.specs.Step.{Group, answer_of, delivery_of, grown, at_member, at_part, step_of, IsFaultOf, NamesNoNode, NamesNoParcel}
 use Rattle.mx_network.proofs.EventParts.{err_no_ok}
+use Rattle.mx_network.proofs.KeptSound.{kept_sound}
 
 past_end : {X : Type 0} (xs : List X) (k : ℕ) → slice_get xs k ≡ None → length xs ≤ k
 past_end xs k was = elim (slice_get_cases xs k).1 [ inl p ↦ absurd (none_is_no_some p.0 (sym was ∙ p.2)) | inr q ↦ q.0 ]
@@ -60,7 +61,7 @@ module _ {H S M : Type 0} (core : Core H S M) (Good : World S M → Type 0) wher
   delivers : (g : Group S M) (k : ℕ) → IsKept core Good g → (o : Option (ℕ × ℕ × Parcel M)) → slice_get g.sent k ≡ o → Class core g (event.Deliver k)
   delivers g k kept None was = inr (inl (past_end g.sent k was, λ none. none, ap (λ o. at_part core g (event.Deliver k) (delivery_of o)) was))
   delivers g k kept (Some p) was =
-      let lt = (kept.sound.between p.0 p.1 p.2 (in_get g.sent k p was)).1 in
+      let lt = ((kept_sound core Good g kept).between p.0 p.1 p.2 (in_get g.sent k p was)).1 in
       elim (at_node g (event.Deliver k) p.1 (act.Deliver p.0 p.2)) [
         | inl q ↦ absurd (omega (arith, q.0, lt))
         | inr q ↦ inr (inr (λ none. none, λ le. absurd (omega (arith, le, slice_get_within g.sent k p was)), q.1, ap (λ o. at_part core g (event.Deliver k) (delivery_of o)) was ∙ q.2))

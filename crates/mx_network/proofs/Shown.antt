@@ -1,5 +1,5 @@
 -- A small trace that shows what the definitions on sections and journals accept and refuse.
-use Rattle.std.proofs.Common.{ℕ, ◌≤◌, ◌≡◌, inl, inr, true, List, [], ◌∷◌, Some, refl, sym, subst, arith}
+use Rattle.std.proofs.Common.{ℕ, ◌≡◌, inl, inr, true, List, [], ◌∷◌, Some, refl, sym, subst, arith}
 use Rattle.mx_stamps.specs.Lists.{IsIn}
 use Rattle.mx_journal.specs.declared.records.Record.{Record}
 use Rattle.mx_journal.specs.declared.receipts.Read.{Read}

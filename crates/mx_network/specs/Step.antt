@@ -1,9 +1,9 @@
 -- One event of a cluster.
 use Rattle.std.specs.Prelude.{ℕ, ◌≡◌, ◌≤◌, ◌⊎◌, List, [], ◌∷◌, ◌++◌, Option, Some, None, Result, Ok, Err, Vec, IsOk, slice_get, slice_set, length, nat_lt, if◌then◌else◌}
 use Rattle.std.specs.declared.alloc.Global.{Global}
-use Rattle.mx_nodelaws.specs.World.{Done, sent_by}
+use Rattle.mx_nodelaws.specs.World.{Done, answering, sent_by}
 use Rattle.mx_nodelaws.specs.Core.{Core, IsInside}
-use Rattle.mx_nodelaws.specs.Acts.{answering}
+use Rattle.mx_nodelaws.specs.declared.phase.Phase.TheVariants.{Inside}
 use Rattle.mx_member.specs.declared.acts.Act.{Act}
 use Rattle.mx_member.specs.declared.acts.Act.TheVariants as act
 use Rattle.mx_member.specs.declared.parcel.Parcel.{Parcel}
@@ -96,6 +96,15 @@ NamesNoParcel g _ = ⊥
 -- node i of the cluster is inside
 abbrev pub IsInsideAt : {H S M : Type 0} → Core H S M → Group S M → ℕ → Type 0
 IsInsideAt {H} {S} core g i = (m : MemberState S) × (slice_get g.members i ≡ Some m) × IsInside core m.core
+
+-- and is in section n
+abbrev pub IsInsideWith : {H S M : Type 0} → Core H S M → Group S M → ℕ → ℕ → Type 0
+IsInsideWith {H} {S} core g i n = (m : MemberState S) × (slice_get g.members i ≡ Some m) × (core.phase m.core ≡ Inside n)
+
+-- the members, and the parcels that were sent, are as before
+pub record IsUnchanged {S M : Type 0} (old new : Group S M) : Type 0 where
+  pub members : new.members ≡ old.members
+  pub sent : new.sent ≡ old.sent
 
 -- these events, one after another, lead from one cluster to another
 abbrev pub RunsTo : {H S M : Type 0} → Core H S M → Group S M → List Event → Group S M → Type 0

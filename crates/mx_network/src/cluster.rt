@@ -3,25 +3,24 @@
 ghost use Rattle.std.specs.Prelude.{◌≡◌, ◌≤◌, ◌<◌, ◌↔◌, ℕ, [], ◌∷◌, ◌++◌, length, OnOk, OnErr, IfOk, IfErr, IfSome, MatchOption, slice_get, take};
 ghost use Rattle.mx_stamps.specs.Lists.{each_below};
 ghost use Rattle.mx_journal.specs.Agreement.{AreAgreeing, IsSubmap};
-ghost use Rattle.mx_journal.specs.Records.{Ascending, with_records};
-ghost use Rattle.mx_merge.specs.Join.{IsLeastUpperBound};
+ghost use Rattle.mx_journal.specs.Records.{Ascending};
 ghost use Rattle.mx_member.specs.Member.{MemberState};
 ghost use Rattle.mx_member.specs.Steps.{start_of};
 ghost use Rattle.mx_member.specs.World.{IsMember};
-ghost use Rattle.mx_member.specs.Serial.{ReadSerially};
-ghost use Rattle.mx_network.specs.Merged.{IsAboveAll, IsBelowEach};
+ghost use Rattle.mx_member.specs.Serial.{AllClosed, IsInSection, ReadSerially};
+ghost use Rattle.mx_network.specs.Merged.{IsAboveAll, IsBelowEach, IsOfAll};
 ghost use Rattle.mx_network.specs.Sections.{IsSerial, ShowsInOrder, journal_of, sections};
-ghost use Rattle.mx_network.specs.Step.{step_of, IsInsideAt, IsFaultOf, NamesNoNode, NamesNoParcel, RunsTo};
+ghost use Rattle.mx_network.specs.Step.{step_of, IsInsideAt, IsInsideWith, IsFaultOf, IsUnchanged, NamesNoNode, NamesNoParcel, RunsTo};
 ghost use Rattle.mx_network.specs.Trace.{IsExclusive, IsNumbered};
 
 use crate::event::Event;
 use crate::faults::{RunFault, StepFault};
-use crate::outcome::{Entry, Outcome};
+use crate::outcome::{Cause, Entry, Outcome};
 use crate::parts::{happen, start_members};
 use mx_journal::Journal;
 use mx_letters::Outbox;
 use mx_member::{Member, Parcel};
-use mx_merge::merge;
+use mx_merge::{MergeFault, merge};
 use mx_nodelaws::Exclusion;
 use mx_stamps::NodeId;
 use std::alloc::{AllocError, Global};
@@ -80,8 +79,8 @@ impl<C: Exclusion> Cluster<C> {
         })
     }
 
-    /// One event. An event that its node refuses has happened too, and stands in the trace. `Memory`
-    /// comes only where the event would else have happened.
+    /// One event. An event that its node refuses has happened too, and stands in the trace, but changes
+    /// no member and sends nothing. `Memory` comes only where the event would else have happened.
     pub fn step(&mut self, event: Event) -> Result<Outcome, StepFault>
         ensures ok { OnOk result (step_of C.core self.old event ≡ Ok self.new) }
         ensures outcome { IfOk result (λ outcome. self.new.trace ≡ self.old.trace ++ (record { event = event; outcome = outcome }) ∷ []) }
@@ -89,6 +88,8 @@ impl<C: Exclusion> Cluster<C> {
         ensures no_node { (result ≡ Err StepFault.NoNode) ↔ NamesNoNode self.old event }
         ensures no_parcel { (result ≡ Err StepFault.NoParcel) ↔ NamesNoParcel self.old event }
         ensures err { OnErr result (self.new ≡ self.old) }
+        ensures refused { (cause : Cause) → (result ≡ Ok (Outcome.Refused cause))
+            → IsUnchanged self.old self.new }
         ensures exclusive { IsExclusive self.new.trace }
         ensures numbered { IsNumbered self.new.trace }
         ensures serial { IsSerial self.new.trace }
@@ -152,7 +153,8 @@ impl<C: Exclusion> Cluster<C> {
     /// What happened, in order. At every moment of every run, entries and leavings alternate, each
     /// leaving by the node and with the number of the entry before it; the n-th entry bears the
     /// number n; each value read is what the sections before and the own writes leave, and each
-    /// receipt is that of its section. At most one node is inside, and any two journals agree.
+    /// receipt is that of its section. At most one node is inside: that of the newest section, while it is
+    /// open. Any two journals agree.
     pub fn trace(&self) -> &[Entry]
         ensures value { result.now ≡ self.now.trace }
         ensures exclusive { IsExclusive result.now }
@@ -160,6 +162,10 @@ impl<C: Exclusion> Cluster<C> {
         ensures serial { IsSerial result.now }
         ensures receipts { ReadSerially (sections result.now) }
         ensures alone { (i j : ℕ) → IsInsideAt C.core self.now i → IsInsideAt C.core self.now j → j ≡ i }
+        ensures inside { (i n : ℕ) → IsInsideWith C.core self.now i n
+            ↔ IsInSection i n (sections result.now) }
+        ensures nobody { ((i : ℕ) → IsInsideAt C.core self.now i → ⊥)
+            ↔ AllClosed (sections result.now) }
         ensures agreed { (i j : ℕ) (m k : MemberState C) → IsMember self.now.members i m
             → IsMember self.now.members j k → AreAgreeing m.journal k.journal }
         ensures journals { (i : ℕ) (m : MemberState C) → IsMember self.now.members i m
@@ -171,35 +177,24 @@ impl<C: Exclusion> Cluster<C> {
 
     /// What the journals of these nodes know together: each merged, in turn, into an empty one, which
     /// gives their least upper bound. They never conflict, so that memory alone can be wanting. A
-    /// node that isn't there adds nothing.
-    pub fn merged(&self, alloc: Global, nodes: &[NodeId]) -> Result<Journal, AllocError>
+    /// node that isn't there adds nothing. Those of all nodes are the journal of the sections.
+    pub fn merged(&self, alloc: Global, nodes: &[NodeId]) -> Result<Journal, MergeFault>
         ensures all { IfOk result (IsAboveAll self.now.members nodes.now) }
         ensures least { IfOk result (IsBelowEach self.now.members nodes.now) }
         ensures sections { IfOk result (λ journal. IsSubmap journal (journal_of self.now.trace)) }
+        ensures whole { IsOfAll self.now.members nodes.now
+            → IfOk result (λ journal. journal ≡ journal_of self.now.trace) }
         ensures in_order { IfOk result (ShowsInOrder self.now.trace) }
+        ensures conflict { (n : ℕ) → (result ≡ Err (MergeFault.Conflict n)) → ⊥ }
     {
         // for the prover: what a cluster keeps is known from where a field is used
         let _ = &self.trace;
         let mut all = Journal::new(alloc);
         for node in nodes {
             if let Some(member) = self.members.get(node.get() as usize) {
-                add_journal(&mut all, member.journal())?;
+                merge(&mut all, member.journal())?;
             }
         }
         Ok(all)
-    }
-}
-
-/// Merges a journal that agrees with the other.
-fn add_journal(all: &mut Journal, journal: &Journal) -> Result<(), AllocError>
-    requires { AreAgreeing all.old journal.now }
-    ensures ok { OnOk result (all.new ≡ with_records journal.now all.old) }
-    ensures ordered { OnOk result (Ascending 1 all.new) }
-    ensures above { OnOk result (IsLeastUpperBound all.old journal.now all.new) }
-{
-    match merge(all, journal) {
-        Ok(_) => Ok(()),
-        // they agree, so this is no conflict
-        Err(_) => Err(AllocError),
     }
 }

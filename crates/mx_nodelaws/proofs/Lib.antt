@@ -1,9 +1,7 @@
--- Worlds: letters of steps, and steps one after the other. Steps: the step law for any act. Frame:
--- what a step of one node leaves as it was. Phases: phases apart. Calls: the promises of calls by
--- phase. Entries: the number of an entry. Sent: letters in ascending order of addressee. Plain: the
--- layer of u64 values.
+-- Worlds: letters of steps, and steps one after the other. Frame: what a step of one node leaves as
+-- it was. Phases: phases apart. Calls: the promises of calls by phase. Entries: the number of an
+-- entry. Sent: letters in ascending order of addressee. Plain: the layer of u64 values.
 pub mod Worlds
-pub mod Steps
 pub mod Frame
 pub mod Phases
 pub mod Calls

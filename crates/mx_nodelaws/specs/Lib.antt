@@ -1,10 +1,9 @@
 -- World: the core part of a world and of its steps. Core: a step table and the promises on phases.
--- Laws: the start, step, exclusion and numbering laws. Acts: what one node does. Phases, Calls, Plain
--- and Raised: what the algorithms share, of phases, of calls by phase, of u64 values, of what is reached.
+-- Laws: the start, step, exclusion and numbering laws. Phases, Calls, Plain and Raised: what the
+-- algorithms share, of phases, of calls by phase, of u64 values, of what is reached.
 pub mod World
 pub mod Core
 pub mod Laws
-pub mod Acts
 pub mod Phases
 pub mod Calls
 pub mod Plain

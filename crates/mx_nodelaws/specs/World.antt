@@ -16,6 +16,10 @@ pub record Quiet (S A : Type 0) : Type 0 where
 abbrev pub quietly : {S A M : Type 0} → Quiet S A → Done S A M
 quietly step = record { state = step.state; answer = step.answer; letters = [] }
 
+-- the same step with another answer
+abbrev pub answering : {S A B M : Type 0} → Done S A M → B → Done S B M
+answering done b = record { state = done.state; answer = b; letters = done.letters }
+
 -- the state of each node, in order, and each letter ever sent, with its sender and its addressee
 pub record World (S M : Type 0) : Type 0 where
   pub nodes : List S

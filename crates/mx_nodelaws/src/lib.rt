@@ -1,13 +1,11 @@
-//! What an exclusion algorithm is to the code above it: its calls, its acts, and the laws that it
-//! proves. Whatever implements `Exclusion` gets the theorem of the cluster.
+//! What an exclusion algorithm is to the code above it: its calls, and the laws that it proves.
+//! Whatever implements `Exclusion` gets the theorem of the cluster.
 #![tactic(auto)]
 
-mod acts;
 mod exclusion;
 mod faults;
 mod phase;
 
-pub use acts::{Act, Answer, perform};
 pub use exclusion::Exclusion;
 pub use faults::{AskFault, EnterFault, LeaveFault};
 pub use phase::Phase;

@@ -1,7 +1,6 @@
 use Rattle.std.proofs.Common.{Err, sym, ap, ◌∙◌}
 use Rattle.mx_member.specs.declared.faults.CloseFault.{CloseFault}
 use Rattle.mx_member.proofs.Leaving.{needs_memory, not_inside}
-use Rattle.mx_member.proofs.Refusing.{memory_apart}
 use Rattle.mx_member.proofs.acts.perform.Goals as goal
 
 pub returns-in-Err-NotInside-clause-state : goal.returns-in-Err-NotInside-clause-state
@@ -25,5 +24,4 @@ returns-in-Err-NotInside-clause-letters g c =
 pub returns-in-Err-Memory-clause-memory : goal.returns-in-Err-Memory-clause-memory
 returns-in-Err-Memory-clause-memory g c =
     let memory = c.in-Err-Memory.is ∙ ap (λ (f : CloseFault). Err f) c.in-Err-Memory.field-0-is in
-    needs_memory g.C.Exclusion.core c.args.member.now c.args.act c.in-Leave.is
-    (λ out. memory_apart c.leave.result memory (c.leave.ensures.not_inside.1 out))
+    needs_memory g.C.Exclusion.core c.args.member.now c.args.act c.in-Leave.is (c.leave.ensures.memory memory)

@@ -6,7 +6,7 @@ use Rattle.mx_journal.proofs.Answering.{one_first}
 use Rattle.mx_merge.specs.declared.merging.MergeFault.{MergeFault}
 use Rattle.mx_merge.specs.declared.merging.MergeFault.TheVariants.{Conflict, Memory}
 use Rattle.mx_merge.specs.Join.{IsLeastUpperBound}
-use Rattle.mx_merge.proofs.Differences.{no_conflict}
+use Rattle.mx_merge.proofs.Differences.{contained_agrees, no_conflict}
 use Rattle.mx_merge.proofs.Joins.{join_ascends, join_is_least}
 use Rattle.mx_merge.proofs.merging.merge.Goals as goal
 
@@ -29,6 +29,11 @@ returns-in-Some-clause-agreed c =
       λ h. elim h [ inl e ↦ let bad : ⊥ = cc in absurd bad | inr e ↦ let bad : ⊥ = cc in absurd bad ],
       λ h. absurd (no_conflict c.in-Some.number c.args.journal.now c.args.other.now order.0 order.1 h c.in-Some.ensures.some),
     )
+
+pub returns-in-Some-clause-contained : goal.returns-in-Some-clause-contained
+returns-in-Some-clause-contained c = λ contained.
+    let order = c.first_difference.ensures.ordered in
+    absurd (no_conflict c.in-Some.number c.args.journal.now c.args.other.now order.0 order.1 (contained_agrees c.args.journal.now c.args.other.now order.0 contained) c.in-Some.ensures.some)
 
 pub returns-in_err-join-clause-conflict : goal.returns-in_err-join-clause-conflict
 returns-in_err-join-clause-conflict c = λ n.

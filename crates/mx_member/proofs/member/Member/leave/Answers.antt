@@ -4,7 +4,7 @@ use Rattle.mx_member.proofs.member.Member.leave.Goals as goal
 
 pub returns-in_err-keep-clause-not_inside : goal.returns-in_err-keep-clause-not_inside
 returns-in_err-keep-clause-not_inside g c =
-    not_left c.from_residual.result c.in_err-keep.field-0.0 (is_err c.from_residual.result c.in_err-keep.field-0.0 c.from_residual.ensures.1) c.in_err-keep.ensures.err.0
+    not_left c.from_residual.result c.in_err-keep.field-0.0 (is_err c.from_residual.result c.in_err-keep.field-0.0 c.from_residual.ensures.1) c.in_err-keep.ensures.memory
     (c.in-Inside.number, ap (λ m. g.C.Exclusion.core.phase m.core) (sym c.self.view_is) ∙ sym c.phase.ensures.value ∙ c.in-Inside.is)
 
 pub returns-clause-not_inside : goal.returns-clause-not_inside

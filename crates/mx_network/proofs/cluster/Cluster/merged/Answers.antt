@@ -1,7 +1,7 @@
 use Rattle.std.proofs.Common.{ℕ, ◌≡◌, List, ◌+◌, get_or, take, subst, sym, ap, ◌∙◌}
 use Rattle.std.proofs.lemmas.List.{take_all}
 use Rattle.mx_journal.specs.declared.records.Record.{Record}
-use Rattle.mx_journal.specs.Agreement.{IsSubmap}
+use Rattle.mx_journal.specs.Agreement.{AreAgreeing, IsSubmap}
 use Rattle.mx_journal.specs.Records.{Ascending}
 use Rattle.mx_member.proofs.SectionWrites.{gapless_shows}
 use Rattle.mx_network.specs.Kept.{IsKept}
@@ -9,18 +9,17 @@ use Rattle.mx_network.specs.Merged.{IsAboveAll, IsBelowEach}
 use Rattle.mx_network.specs.Sections.{journal_of, sections}
 use Rattle.mx_network.specs.Step.{Group}
 use Rattle.mx_network.proofs.Finding.{none_at, some_at}
-use Rattle.mx_network.proofs.Merging.{least_more, least_same, mergeable, merged_more, merged_same, merged_within}
+use Rattle.mx_network.proofs.Merging.{least_more, least_same, mergeable, merged_more, merged_same, merged_whole, merged_within, no_conflict}
 use Rattle.mx_network.proofs.cluster.Cluster.merged.Goals as goal
-use Rattle.mx_network.proofs.cluster.Cluster.merged.Goals.{in-Some+in_ok-add_journal, in_default}
+use Rattle.mx_network.proofs.cluster.Cluster.merged.Goals.{in-Some+in_ok-merge, in_default}
 
-pub add_journal-requires : goal.add_journal-requires
-add_journal-requires g c =
+pub returns-in_err-merge-clause-conflict : goal.returns-in_err-merge-clause-conflict
+returns-in_err-merge-clause-conflict g c = λ n.
     let kept = subst (λ (x : Group g.row.C.Denot g.row.C-Msg.Denot). IsKept g.C.Exclusion.core g.C.Exclusion.Good x) c.self.view_is c.self.invariant.1 in
     let members = ap (λ (x : Group g.row.C.Denot g.row.C-Msg.Denot). x.members) c.self.view_is in
-    mergeable g.C.Exclusion.core g.C.Exclusion.Good c.args.self.now c.loop-node.all c.journal.result.now c.get.result c.in-Some.member.now
-    kept c.loop-node.invariant.sections
-    (some_at c.deref.result.now c.args.self.now.members c.get.result c.in-Some.member.now (c.deref.ensures.value ∙ members) c.in-Some.ensures.lookup.0 c.in-Some.ensures.lookup.1)
-    c.journal.ensures
+    let at = some_at c.deref.result.now c.args.self.now.members c.get.result c.in-Some.member.now (c.deref.ensures.value ∙ members) c.in-Some.ensures.lookup.0 c.in-Some.ensures.lookup.1 in
+    let agree : AreAgreeing c.loop-node.all c.journal.result.now = mergeable g.C.Exclusion.core g.C.Exclusion.Good c.args.self.now c.loop-node.all c.journal.result.now c.get.result c.in-Some.member.now kept c.loop-node.invariant.sections at c.journal.ensures in
+    no_conflict c.in_err-merge.field-0.0 c.from_residual.result n (c.in_err-merge.ensures.agreed.1 agree) c.from_residual.ensures.1
 
 pub loop-node-preserved : goal.loop-node-preserved
 loop-node-preserved g c =
@@ -29,16 +28,16 @@ loop-node-preserved g c =
     let here : c.get.result ≡ get_or c.args.nodes.now c.loop-node.node-index c.get.result =
     subst (λ (n : ℕ). n ≡ get_or c.args.nodes.now c.loop-node.node-index n) (sym c.get.ensures.value) c.node-item.is in
     elim c.match-get.branch [
-      | in-Some+in_ok-add_journal w ↦ (
+      | in-Some+in_ok-merge w ↦ (
           let at = some_at c.deref.result.now c.args.self.now.members c.get.result w.in-Some.member.now (c.deref.ensures.value ∙ members) w.in-Some.ensures.lookup.0 w.in-Some.ensures.lookup.1 in
-          let new = w.in_ok-add_journal.ensures in record {
+          let new = w.in_ok-merge.ensures in record {
             sections = subst (λ (l : List Record). IsSubmap l (journal_of c.args.self.now.trace)) (sym w.all-is)
-                (merged_within g.C.Exclusion.core g.C.Exclusion.Good c.args.self.now c.loop-node.all _ w.journal.result.now c.get.result w.in-Some.member.now kept c.loop-node.invariant.sections at w.journal.ensures new.above);
+                (merged_within g.C.Exclusion.core g.C.Exclusion.Good c.args.self.now c.loop-node.all _ w.journal.result.now c.get.result w.in-Some.member.now kept c.loop-node.invariant.sections at w.journal.ensures new.join);
             ordered = subst (λ (l : List Record). Ascending 1 l) (sym w.all-is) new.ordered;
             all = subst (λ (l : List Record). IsAboveAll c.args.self.now.members (take (c.loop-node.node-index + 1) c.args.nodes.now) l) (sym w.all-is)
-                (merged_more c.args.self.now.members c.args.nodes.now c.loop-node.node-index c.get.result w.in-Some.member.now c.loop-node.all _ w.journal.result.now c.loop-node.invariant.all at w.journal.ensures new.above c.loop-node-test.true here);
+                (merged_more c.args.self.now.members c.args.nodes.now c.loop-node.node-index c.get.result w.in-Some.member.now c.loop-node.all _ w.journal.result.now c.loop-node.invariant.all at w.journal.ensures new.join c.loop-node-test.true here);
             least = subst (λ (l : List Record). IsBelowEach c.args.self.now.members (take (c.loop-node.node-index + 1) c.args.nodes.now) l) (sym w.all-is)
-                (least_more c.args.self.now.members c.args.nodes.now c.loop-node.node-index c.get.result w.in-Some.member.now c.loop-node.all _ w.journal.result.now c.loop-node.invariant.least at w.journal.ensures new.above c.loop-node-test.true here);
+                (least_more c.args.self.now.members c.args.nodes.now c.loop-node.node-index c.get.result w.in-Some.member.now c.loop-node.all _ w.journal.result.now c.loop-node.invariant.least at w.journal.ensures new.join c.loop-node-test.true here);
           }
           )
       | in_default w ↦ record {
@@ -63,3 +62,8 @@ returns-clause-least g c =
 pub returns-clause-in_order : goal.returns-clause-in_order
 returns-clause-in_order g c k count gapless top =
     gapless_shows k (sections c.args.self.now.trace) c.loop-node.all c.loop-node.invariant.ordered c.loop-node.invariant.sections gapless top count
+
+pub returns-clause-whole : goal.returns-clause-whole
+returns-clause-whole g c every =
+    let kept = subst (λ (x : Group g.row.C.Denot g.row.C-Msg.Denot). IsKept g.C.Exclusion.core g.C.Exclusion.Good x) c.self.view_is c.self.invariant.1 in
+    merged_whole g.C.Exclusion.core g.C.Exclusion.Good c.args.self.now c.args.nodes.now c.loop-node.all kept c.loop-node.invariant.ordered c.loop-node.invariant.sections (returns-clause-all g c) every

@@ -1,0 +1,44 @@
+-- Receipts of sections that were left: all of them, those of one node, and how they stand one behind another.
+use Rattle.std.specs.Prelude.{ℕ, suc, ◌≡◌, ◌++◌, List, [], ◌∷◌, Ok, length, nat_eq, if◌then◌else◌}
+use Rattle.mx_stamps.specs.Lists.{IsIn}
+use Rattle.mx_journal.specs.declared.records.Record.{Record}
+use Rattle.mx_journal.specs.declared.records.Write.{Write}
+use Rattle.mx_journal.specs.declared.receipts.Read.{Read}
+use Rattle.mx_journal.specs.declared.receipts.Receipt.{Receipt}
+use Rattle.mx_journal.specs.Drafted.{record_of}
+use Rattle.mx_member.specs.declared.acts.Answer.{Answer}
+use Rattle.mx_member.specs.declared.acts.Answer.TheVariants as answer
+use Rattle.mx_member.specs.Sections.{Section, section_receipt}
+use Rattle.mx_member.specs.Serial.{IsSerialRead}
+
+-- the receipt that an answer hands out, if it is one to an accepted leave
+abbrev pub closed_by : Answer → List Receipt
+closed_by (answer.Left (Ok receipt)) = receipt ∷ []
+closed_by _ = []
+
+-- the receipts of the sections that were left, the newest first
+abbrev pub receipts_in : List Section → List Receipt
+receipts_in [] = []
+receipts_in (s ∷ ss) = if s.closed then section_receipt (suc (length ss)) s ∷ receipts_in ss else receipts_in ss
+
+-- those of node i among receipts with the newest first, in order
+abbrev pub own_in : ℕ → List Receipt → List Receipt
+own_in i [] = []
+own_in i (r ∷ rs) = if nat_eq r.node i then own_in i rs ++ r ∷ [] else own_in i rs
+
+-- the writes of receipts with the newest first, in order
+abbrev pub receipt_writes : List Receipt → List Write
+receipt_writes [] = []
+receipt_writes (r ∷ rs) = receipt_writes rs ++ r.writes.items
+
+-- their records, in order
+abbrev pub records_of : List Receipt → List Record
+records_of [] = []
+records_of (r ∷ rs) = records_of rs ++ record_of r ∷ []
+
+-- receipts with the newest first stand one behind another: they bear the numbers from 1 on, and each read of
+-- each of them has the value that the writes of those before it and its own first writes leave in the register
+abbrev pub StandInOrder : List Receipt → Type 0
+StandInOrder [] = Unit {0}
+StandInOrder (r ∷ rs) =
+    (r.number ≡ suc (length rs)) × ((x : Read) → IsIn x r.reads.items → IsSerialRead (receipt_writes rs) r.writes.items x) × StandInOrder rs

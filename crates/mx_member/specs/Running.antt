@@ -1,0 +1,110 @@
+-- Nodes that each hold their own receipts, and what a running world of them keeps.
+use Rattle.std.specs.Prelude.{ℕ, suc, ◌≡◌, ◌<◌, ◌≤◌, ◌↔◌, ◌+◌, ◌++◌, List, [], ◌∷◌, Some, length, map, slice_get}
+use Rattle.mx_stamps.specs.Lists.{IsIn}
+use Rattle.mx_journal.specs.declared.records.Record.{Record}
+use Rattle.mx_journal.specs.declared.receipts.Read.{Read}
+use Rattle.mx_journal.specs.declared.receipts.Receipt.{Receipt}
+use Rattle.mx_journal.specs.Agreement.{IsSubmap}
+use Rattle.mx_journal.specs.Drafted.{record_of}
+use Rattle.mx_journal.specs.Records.{IsThere, record_at}
+use Rattle.mx_registers.specs.Registers.{AreApplied, registers_of, writes_to}
+use Rattle.mx_nodelaws.specs.World.{World}
+use Rattle.mx_nodelaws.specs.Core.{Core}
+use Rattle.mx_member.specs.declared.acts.Act.{Act}
+use Rattle.mx_member.specs.declared.parcel.Parcel.{Parcel}
+use Rattle.mx_member.specs.Acts.{act_of}
+use Rattle.mx_member.specs.Member.{MemberState}
+use Rattle.mx_member.specs.Receipts.{StandInOrder, closed_by, own_in, receipts_in}
+use Rattle.mx_member.specs.Sections.{Section}
+use Rattle.mx_member.specs.Serial.{IsSerialRead}
+use Rattle.mx_member.specs.Steps.{start_of}
+use Rattle.mx_member.specs.World.{IsSound}
+
+-- a node: its member, and the receipts of the sections that it left, in order
+pub record Owned (S : Type 0) : Type 0 where
+  pub member : MemberState S
+  pub receipts : List Receipt
+
+abbrev pub members_of : {S : Type 0} → List (Owned S) → List (MemberState S)
+members_of nodes = map (λ o. o.member) nodes
+
+-- node i is this one
+abbrev pub IsNode : {S : Type 0} → List (Owned S) → ℕ → Owned S → Type 0
+IsNode nodes i o = slice_get nodes i ≡ Some o
+
+-- a node at rest, which left no section yet
+abbrev pub owned_start : {H S M : Type 0} → Core H S M → H → ℕ → ℕ → ℕ → ℕ → Owned S
+owned_start core shape me origin limit registers = record { member = start_of core shape me origin limit registers; receipts = [] }
+
+-- what an act makes of a node: the receipt that a leave answers joins its own
+abbrev pub owned_after : {H S M : Type 0} → Core H S M → Act M → Owned S → Owned S
+owned_after core a o = record { member = (act_of core a o.member).state; receipts = o.receipts ++ closed_by (act_of core a o.member).answer }
+
+-- members from node i on, each with its own of these receipts
+abbrev pub owners_from : {S : Type 0} → ℕ → List Receipt → List (MemberState S) → List (Owned S)
+owners_from i rs [] = []
+owners_from i rs (m ∷ ms) = record { member = m; receipts = own_in i rs } ∷ owners_from (suc i) rs ms
+
+-- members, each with the receipts of its own sections that were left
+abbrev pub owners : {S : Type 0} → List Section → List (MemberState S) → List (Owned S)
+owners ss members = owners_from 0 (receipts_in ss) members
+
+-- a sound world in which the nodes' receipts are those of the sections that were left
+pub record IsRun {H S M : Type 0} (core : Core H S M) (Good : World S M → Type 0) (ss : List Section) (nodes : List (Owned S)) (sent : List (ℕ × ℕ × Parcel M)) : Type 0 where
+  pub sound : IsSound core Good ss (members_of nodes) sent
+  -- each node's receipts are those of its own sections that were left, in order
+  pub own : (i : ℕ) (o : Owned S) → IsNode nodes i o → o.receipts ≡ own_in i (receipts_in ss)
+  -- each section that was left was a node's
+  pub placed : (r : Receipt) → IsIn r (receipts_in ss) → r.node < length nodes
+  -- each node has the records of its own receipts
+  pub recorded : (i : ℕ) (o : Owned S) (r : Receipt) → IsNode nodes i o → IsIn r o.receipts → IsIn (record_of r) o.member.journal
+
+-- the same where nobody sees the sections
+pub record IsRunning {H S M : Type 0} (core : Core H S M) (Good : World S M → Type 0) (nodes : List (Owned S)) (sent : List (ℕ × ℕ × Parcel M)) : Type 0 where
+  pub sections : List Section
+  pub run : IsRun core Good sections nodes sent
+
+-- and where nobody sees the parcels either
+abbrev pub HaveRun : {H S M : Type 0} → Core H S M → (World S M → Type 0) → List (Owned S) → Type 0
+HaveRun {H} {S} {M} core Good nodes = (sent : List (ℕ × ℕ × Parcel M)) × IsRunning core Good nodes sent
+
+-- these receipts, the newest first, are all that the nodes hold, and stand one behind another
+pub record IsHistory {S : Type 0} (nodes : List (Owned S)) (rs : List Receipt) : Type 0 where
+  pub ordered : StandInOrder rs
+  pub placed : (r : Receipt) → IsIn r rs → r.node < length nodes
+  pub own : (i : ℕ) (o : Owned S) → IsNode nodes i o → o.receipts ≡ own_in i rs
+
+-- how many receipts all nodes hold
+abbrev pub receipt_count : {S : Type 0} → List (Owned S) → ℕ
+receipt_count [] = 0
+receipt_count (o ∷ os) = length o.receipts + receipt_count os
+
+-- this receipt is the k-th, from 0 on, that node i holds
+abbrev pub IsReceiptAt : {S : Type 0} → List (Owned S) → ℕ → ℕ → Receipt → Type 0
+IsReceiptAt {S} nodes i k r = (o : Owned S) × IsNode nodes i o × (slice_get o.receipts k ≡ Some r)
+
+-- the journal is above those of all nodes
+abbrev pub IsAboveNodes : {S : Type 0} → List (Owned S) → List Record → Type 0
+IsAboveNodes {S} nodes journal = (i : ℕ) (o : Owned S) → IsNode nodes i o → IsSubmap o.member.journal journal
+
+-- and is the least such: the join of all journals
+pub record IsJoinOfNodes {S : Type 0} (nodes : List (Owned S)) (journal : List Record) : Type 0 where
+  pub above : IsAboveNodes nodes journal
+  pub least : (other : List Record) → IsAboveNodes nodes other → IsSubmap journal other
+
+-- the receipts of all nodes, and a journal, tell of sections that stand one behind another
+pub record IsAccount {S : Type 0} (nodes : List (Owned S)) (journal : List Record) : Type 0 where
+  -- each receipt is its node's, and bears one of the numbers from 1 to how many there are
+  pub within : (i k : ℕ) (r : Receipt) → IsReceiptAt nodes i k r → (r.node ≡ i) × (1 ≤ r.number) × (r.number ≤ receipt_count nodes)
+  -- each of these numbers is borne, at one place alone
+  pub each : (n : ℕ) → 1 ≤ n → n ≤ receipt_count nodes → (i : ℕ) × (k : ℕ) × (r : Receipt) × IsReceiptAt nodes i k r × (r.number ≡ n)
+  pub once : (i k j l : ℕ) (r s : Receipt) → IsReceiptAt nodes i k r → IsReceiptAt nodes j l s → r.number ≡ s.number → (i ≡ j) × (k ≡ l) × (r ≡ s)
+  -- a node's later receipts bear greater numbers
+  pub ascends : (i k l : ℕ) (r s : Receipt) → IsReceiptAt nodes i k r → IsReceiptAt nodes i l s → k < l → r.number < s.number
+  -- the journal has these numbers, and at each of them the record of the receipt that bears it
+  pub keys : (n : ℕ) → IsThere n journal ↔ ((1 ≤ n) × (n ≤ receipt_count nodes))
+  pub records : (i k : ℕ) (r : Receipt) → IsReceiptAt nodes i k r → record_at r.number journal ≡ Some (record_of r)
+  -- each value read is what the writes of the sections before, in order, and the section's own first ones leave
+  pub reads : (i k n : ℕ) (r : Receipt) (x : Read) → IsReceiptAt nodes i k r → r.number ≡ suc n → IsIn x r.reads.items → IsSerialRead (writes_to n journal) r.writes.items x
+  -- and each register of the journal what the writes of all sections, in order, leave
+  pub shows : (count : ℕ) → AreApplied (writes_to (receipt_count nodes) journal) (registers_of count journal)
