@@ -8,6 +8,8 @@ mod acts;
 #[cfg(test)]
 mod clusters;
 #[cfg(test)]
+mod exploring;
+#[cfg(test)]
 mod given;
 #[cfg(test)]
 mod journals;
@@ -15,6 +17,8 @@ mod journals;
 mod members;
 #[cfg(test)]
 mod merging;
+#[cfg(test)]
+mod plans;
 #[cfg(test)]
 mod registers;
 #[cfg(test)]
@@ -27,3 +31,5 @@ mod stamps;
 mod texts;
 #[cfg(test)]
 mod told;
+#[cfg(test)]
+mod verdicts;
