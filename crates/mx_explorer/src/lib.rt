@@ -14,6 +14,3 @@ pub use judging::judge;
 pub use placing::place;
 pub use verdict::{Clause, Verdict};
 pub use weather::Weather;
-
-#[cfg(test)]
-mod tests;

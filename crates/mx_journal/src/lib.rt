@@ -16,6 +16,3 @@ pub use puts::{Put, PutFault};
 pub use ranges::Range;
 pub use receipts::{Read, Receipt};
 pub use records::{Record, Write};
-
-#[cfg(test)]
-mod tests;

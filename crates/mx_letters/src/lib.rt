@@ -13,6 +13,3 @@ pub use maekawa::MaekawaMsg;
 pub use outbox::{OUTBOX_ROOM, Outbox};
 pub use raymond::RaymondMsg;
 pub use ricart::RicartMsg;
-
-#[cfg(test)]
-mod tests;

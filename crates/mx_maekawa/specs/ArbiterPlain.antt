@@ -5,6 +5,7 @@ use Rattle.mx_stamps.specs.declared.stamp.Stamp.{Stamp}
 use Rattle.mx_stamps.specs.Stamp.{is_before_of}
 use Rattle.mx_stamps.proofs.Lists.{none_is_no_some, get_or_after}
 use Rattle.mx_stamps.proofs.Choices.{lt_true, cond_case}
+use Rattle.mx_stamps.specs.Numbers.{last_number}
 use Rattle.mx_letters.specs.declared.maekawa.MaekawaMsg.{MaekawaMsg}
 use Rattle.mx_letters.specs.declared.maekawa.MaekawaMsg.TheVariants.{Locked, Failed, Inquire}
 use Rattle.mx_nodelaws.proofs.Plain.{nil, one, both}
@@ -65,7 +66,7 @@ module _ (n : ℕ) where
 
   -- Grant
 
-  locked_plain : (a : ArbiterState) (u : Stamp) → a.granted < 18446744073709551615 → PlainStamp n u → PlainArbiter n a → PlainDid n (locked a u)
+  locked_plain : (a : ArbiterState) (u : Stamp) → a.granted < last_number → PlainStamp n u → PlainArbiter n a → PlainDid n (locked a u)
   locked_plain a u lt plain ok =
       let next : Small (a.granted + 1) = omega arith in record {
         state = record { count = ok.count; lock = λ l h. subst (λ x. PlainLock n x) (same_Some {A = Lock} (record { stamp = u; grant = a.granted + 1; last = a.last }) l h) (record { stamp = plain; grant = next; last = ok.last }); granted = next; waiting = put a.waiting u.node None none_plain ok.waiting; ended = ok.ended; last = ok.last };
@@ -75,8 +76,8 @@ module _ (n : ℕ) where
   grant_to_plain : (o : Option Stamp) (a : ArbiterState) → ((u : Stamp) → o ≡ Some u → PlainStamp n u) → PlainArbiter n a → PlainDid n (grant_to o a)
   grant_to_plain None a plain ok = quietly_plain a ok
   grant_to_plain (Some u) a plain ok =
-      cond_case (λ d. PlainDid n d) (nat_lt a.granted 18446744073709551615) (locked a u) (silent a)
-      (λ e. locked_plain a u (lt_true a.granted 18446744073709551615 e) (plain u refl) ok) (λ _. quietly_plain a ok)
+      cond_case (λ d. PlainDid n d) (nat_lt a.granted last_number) (locked a u) (silent a)
+      (λ e. locked_plain a u (lt_true a.granted last_number e) (plain u refl) ok) (λ _. quietly_plain a ok)
 
   grant_in_plain : (o : Option Lock) (a : ArbiterState) → PlainArbiter n a → PlainDid n (grant_in o a)
   grant_in_plain None a ok = grant_to_plain (least_of (waiting_at a) a.count) a (λ u h. least_plain (waiting_at a) a.count u ok.waiting h) ok

@@ -2,6 +2,7 @@
 use Rattle.std.specs.Prelude.{ℕ, zero, suc, ◌+◌, ◌<◌, ◌≡◌, Bool, false, ◌||◌, ◌&&◌, List, [], ◌∷◌, Option, Some, None, max, nat_lt, nat_eq, if◌then◌else◌, slice_index_or, slice_set, replicate}
 use Rattle.mx_stamps.specs.declared.stamp.Stamp.{Stamp}
 use Rattle.mx_stamps.specs.Stamp.{Before, is_before_of, is_same_as}
+use Rattle.mx_stamps.specs.Numbers.{last_number}
 use Rattle.mx_letters.specs.declared.maekawa.MaekawaMsg.{MaekawaMsg}
 use Rattle.mx_letters.specs.declared.maekawa.MaekawaMsg.TheVariants.{Locked, Failed, Inquire}
 use Rattle.mx_nodelaws.specs.World.{Done}
@@ -65,7 +66,7 @@ locked a u = sending (locking a u) ((u.node, Locked u (a.granted + 1) a.last) �
 
 abbrev pub grant_to : Option Stamp → ArbiterState → Did
 grant_to None a = silent a
-grant_to (Some u) a = if nat_lt a.granted 18446744073709551615 then locked a u else silent a
+grant_to (Some u) a = if nat_lt a.granted last_number then locked a u else silent a
 
 abbrev pub grant_in : Option Lock → ArbiterState → Did
 grant_in None a = grant_to (least_of (waiting_at a) a.count) a

@@ -6,6 +6,7 @@ use Rattle.mx_stamps.specs.declared.stamp.Stamp.{Stamp}
 use Rattle.mx_stamps.specs.Lists.{IsIn}
 use Rattle.mx_stamps.proofs.Lists.{dec_eq, get_set_same, none_is_no_some}
 use Rattle.mx_stamps.proofs.Choices.{cond_case}
+use Rattle.mx_stamps.specs.Numbers.{last_number}
 use Rattle.mx_letters.specs.declared.maekawa.MaekawaMsg.{MaekawaMsg}
 use Rattle.mx_nodelaws.specs.World.{Done, IsNode, after}
 use Rattle.mx_nodelaws.proofs.Worlds.{after_nothing, after_twice}
@@ -113,7 +114,7 @@ module _ (i : ℕ) where
   grant_to_sound : (w : NodeWorld) (s : Node) (o : Option Stamp) → IsSound w → IsNode w i s → s.arbiter.lock ≡ None → IsSound (after w i (by_arbiter s (grant_to o s.arbiter)))
   grant_to_sound w s None good at free = same_sound {A = Unit {0}} w s tt good at
   grant_to_sound w s (Some u) good at free =
-      cond_case (λ d. IsSound (after w i (by_arbiter s d))) (nat_lt s.arbiter.granted 18446744073709551615) (locked s.arbiter u) (silent s.arbiter)
+      cond_case (λ d. IsSound (after w i (by_arbiter s d))) (nat_lt s.arbiter.granted last_number) (locked s.arbiter u) (silent s.arbiter)
       (λ _. granted_sound w i s good at {A = Unit {0}} tt u free) (λ _. same_sound {A = Unit {0}} w s tt good at)
 
   grant_in_sound : (w : NodeWorld) (s : Node) (o : Option Lock) → IsSound w → IsNode w i s → s.arbiter.lock ≡ o → IsSound (after w i (by_arbiter s (grant_in o s.arbiter)))

@@ -4,6 +4,7 @@ use Rattle.std.proofs.lemmas.Option.{same_Some}
 use Rattle.mx_stamps.specs.declared.stamp.Stamp.{Stamp}
 use Rattle.mx_stamps.proofs.Lists.{none_is_no_some, get_or_after, get_or_replicate}
 use Rattle.mx_stamps.proofs.Choices.{lt_true, and_true, cond_case}
+use Rattle.mx_stamps.specs.Numbers.{last_number}
 use Rattle.mx_letters.specs.declared.maekawa.MaekawaMsg.{MaekawaMsg}
 use Rattle.mx_letters.specs.declared.maekawa.MaekawaMsg.TheVariants.{Request, Relinquish, Release}
 use Rattle.mx_nodelaws.specs.World.{addressed}
@@ -71,7 +72,7 @@ module _ (n : ℕ) where
       let q = sent_if (is_own r b) m x p.1 in
       (ok.own b q.0, subst (λ y. PlainLetter n y) (sym q.1) plain)
 
-  asked_plain : (r : RequesterState) → r.highest < 18446744073709551615 → PlainRequester n r → PlainDid {A = Result Stamp AskFault} n (asked r)
+  asked_plain : (r : RequesterState) → r.highest < last_number → PlainRequester n r → PlainDid {A = Result Stamp AskFault} n (asked r)
   asked_plain r lt ok =
       let ours : PlainStamp n (asking r).ours = (omega arith, ok.me) in record {
         state = record { me = ok.me; own = ok.own; count = ok.count; limit = ok.limit; phase = tt; highest = omega arith; issued = omega arith; ours = ours; held = cleared_small; back = ok.back; asked = cleared_small; top = ok.top; mine = ok.mine };
@@ -81,7 +82,7 @@ module _ (n : ℕ) where
   pub ask_plain : (p : Phase) (r : RequesterState) → PlainRequester n r → PlainDid {A = Result Stamp AskFault} n (ask_in p r)
   ask_plain Idle r ok =
       ask_cases (λ (x : RequesterState). x.highest) asked (λ d. PlainDid {A = Result Stamp AskFault} n d) r
-      (λ e. asked_plain r (lt_true r.highest 18446744073709551615 e) ok) (record { state = ok; letters = nil PlainLetter n })
+      (λ e. asked_plain r (lt_true r.highest last_number e) ok) (record { state = ok; letters = nil PlainLetter n })
   ask_plain Waiting r ok = record { state = ok; letters = nil PlainLetter n }
   ask_plain (Inside k) r ok = record { state = ok; letters = nil PlainLetter n }
 

@@ -22,6 +22,3 @@ mod requester;
 mod waiting;
 
 pub use maekawa::Maekawa;
-
-#[cfg(test)]
-mod tests;

@@ -16,6 +16,3 @@ pub use acts::{Act, Answer, perform};
 pub use faults::{CloseFault, DeliverFault, ReadFault, WriteFault};
 pub use member::Member;
 pub use parcel::Parcel;
-
-#[cfg(test)]
-mod tests;

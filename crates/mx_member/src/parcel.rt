@@ -16,6 +16,11 @@ pub enum Parcel<M> {
 }
 
 impl<M> Default for Parcel<M> {
+    ghost use Rattle.std.specs.Prelude.{◌≡◌, []};
+    ghost use Rattle.mx_member.specs.declared.parcel.Parcel.TheVariants.{Want};
+
+    ghost is_default = { λ parcel. parcel ≡ Want (record { items = [] }) };
+
     /// A want of nothing.
     fn default() -> Self {
         Parcel::Want(ArrayVec::new())

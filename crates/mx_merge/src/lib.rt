@@ -11,6 +11,3 @@ pub use agreement::agree;
 pub use answers::answer;
 pub use gaps::missing;
 pub use merging::{MergeFault, merge};
-
-#[cfg(test)]
-mod tests;

@@ -2,6 +2,7 @@
 use Rattle.std.proofs.Common.{ℕ, ◌+◌, ◌≡◌, ◌≢◌, ◌↔◌, Bool, true, false, cond, ◌&&◌, [], Result, Ok, Err, nat_lt, refl, sym, ◌∙◌, ap, if◌then◌else◌}
 use Rattle.mx_stamps.specs.declared.stamp.Stamp.{Stamp}
 use Rattle.mx_stamps.proofs.Choices.{cond_case}
+use Rattle.mx_stamps.specs.Numbers.{last_number}
 use Rattle.mx_nodelaws.specs.World.{Done, Quiet}
 use Rattle.mx_nodelaws.specs.Phases.{is_waiting}
 use Rattle.mx_nodelaws.specs.Calls.{unchanged, refused, ask_by, entered_by, enter_by, leave_by}
@@ -18,8 +19,8 @@ ok_no_err : {A E : Type 0} (r : Result A E) (x : A) (f : E) → r ≡ Ok x → r
 ok_no_err {A} {E} r x f e h = let bad : ◌≡◌ {A = Result A E} (Ok x) (Err f) = sym e ∙ h in cc
 
 module _ {S M : Type 0} (last : S → ℕ) (asked : S → Done S (Result Stamp AskFault) M) where
-  pub ask_cases : (P : Done S (Result Stamp AskFault) M → Type 0) (s : S) → (nat_lt (last s) 18446744073709551615 ≡ true → P (asked s)) → P (unchanged s (Err StampsSpent)) → P (ask_by last asked Idle s)
-  ask_cases P s low spent = cond_case P (nat_lt (last s) 18446744073709551615) (asked s) (unchanged s (Err StampsSpent)) low (λ _. spent)
+  pub ask_cases : (P : Done S (Result Stamp AskFault) M → Type 0) (s : S) → (nat_lt (last s) last_number ≡ true → P (asked s)) → P (unchanged s (Err StampsSpent)) → P (ask_by last asked Idle s)
+  ask_cases P s low spent = cond_case P (nat_lt (last s) last_number) (asked s) (unchanged s (Err StampsSpent)) low (λ _. spent)
 
   -- what asking keeps is kept, whatever the answer is
   pub ask_keeps : {X : Type 0} (part : S → X) (p : Phase) (s : S) → part (asked s).state ≡ part s → part (ask_by last asked p s).state ≡ part s

@@ -1,6 +1,7 @@
 -- The calls of a node, by its phase.
 use Rattle.std.specs.Prelude.{ℕ, ◌+◌, Bool, [], Result, Ok, Err, nat_lt, if◌then◌else◌}
 use Rattle.mx_stamps.specs.declared.stamp.Stamp.{Stamp}
+use Rattle.mx_stamps.specs.Numbers.{last_number}
 use Rattle.mx_nodelaws.specs.World.{Done, Quiet}
 use Rattle.mx_nodelaws.specs.declared.phase.Phase.{Phase}
 use Rattle.mx_nodelaws.specs.declared.phase.Phase.TheVariants.{Idle, Waiting, Inside}
@@ -20,7 +21,7 @@ refused s fault = record { state = s; answer = Err fault }
 
 -- ask: a node at rest asks, unless its last number of a request is the greatest
 abbrev pub ask_by : {S M : Type 0} → (S → ℕ) → (S → Done S (Result Stamp AskFault) M) → Phase → S → Done S (Result Stamp AskFault) M
-ask_by last asked Idle s = if nat_lt (last s) 18446744073709551615 then asked s else unchanged s (Err StampsSpent)
+ask_by last asked Idle s = if nat_lt (last s) last_number then asked s else unchanged s (Err StampsSpent)
 ask_by last asked Waiting s = unchanged s (Err NotIdle)
 ask_by last asked (Inside n) s = unchanged s (Err NotIdle)
 

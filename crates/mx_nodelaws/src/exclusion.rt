@@ -10,6 +10,7 @@ use mx_stamps::{NodeId, Stamp};
 /// A node of an exclusion algorithm. Its step table is `core`; each call equals the table in state,
 /// answer and letters in order. The laws below the calls are what a cluster rests on.
 pub trait Exclusion: Drop {
+    ghost use Rattle.mx_stamps.specs.declared.node_id.TheConstants.{MAX_NODES};
     ghost use Rattle.mx_nodelaws.specs.World.{World};
     ghost use Rattle.mx_nodelaws.specs.Core.{Core, KeepsPhases, BearsNumber};
     ghost use Rattle.mx_nodelaws.specs.Laws.{KeepsGood};
@@ -35,7 +36,7 @@ pub trait Exclusion: Drop {
         ensures value { result ≡ core.count shape.now }
         ensures valid { IsShape shape.now }
         ensures low { 0 < result }
-        ensures high { result ≤ 21 };
+        ensures high { result ≤ MAX_NODES };
 
     /// A node at rest. `origin` is where its numbers of requests start, and `limit` the greatest
     /// section number.

@@ -22,6 +22,3 @@ pub use place::Place;
 pub use plan::Plan;
 pub use plan_reader::read_plan;
 pub use shape::Shape;
-
-#[cfg(test)]
-mod tests;

@@ -3,7 +3,6 @@
 mod exploring;
 mod faults;
 mod maekawa;
-mod merging;
 mod raymond;
 mod ricart;
 mod shown;

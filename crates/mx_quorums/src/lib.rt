@@ -10,6 +10,3 @@ mod shifts;
 
 pub use fault::QuorumFault;
 pub use quorums::Quorums;
-
-#[cfg(test)]
-mod tests;

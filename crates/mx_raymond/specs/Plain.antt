@@ -3,6 +3,7 @@ use Rattle.std.proofs.Common.{ℕ, ◌<◌, ◌≤◌, ◌+◌, ◌^◌, ◌≡�
 use Rattle.mx_stamps.specs.declared.stamp.Stamp.{Stamp}
 use Rattle.mx_stamps.proofs.Lists.{none_is_no_some, get_or_after, get_or_replicate}
 use Rattle.mx_stamps.proofs.Choices.{lt_true, cond_case}
+use Rattle.mx_stamps.specs.Numbers.{last_number}
 use Rattle.mx_letters.specs.declared.raymond.RaymondMsg.{RaymondMsg}
 use Rattle.mx_letters.specs.declared.raymond.RaymondMsg.TheVariants.{Request, Privilege, Got}
 use Rattle.mx_nodelaws.specs.World.{quietly}
@@ -33,7 +34,7 @@ module _ (n : ℕ) (s : Node) (ok : PlainNode n s) where
 
   -- ask
 
-  asking_plain : s.asks < 18446744073709551615 → PlainNode n (asking s)
+  asking_plain : s.asks < last_number → PlainNode n (asking s)
   asking_plain low = record {
     me = ok.me;
     limit = ok.limit;
@@ -53,7 +54,7 @@ module _ (n : ℕ) (s : Node) (ok : PlainNode n s) where
   ask_in_plain Idle =
       let first : Step (Result Stamp AskFault) = unchanged (asking s) (Ok (record { number = s.asks + 1; node = s.me })) in
       ask_cases (λ (x : Node). x.asks) asked (λ d. PlainStep n d) s
-      (λ e. serving_plain n first (record { state = asking_plain (lt_true s.asks 18446744073709551615 e); letters = nil PlainLetter n }))
+      (λ e. serving_plain n first (record { state = asking_plain (lt_true s.asks last_number e); letters = nil PlainLetter n }))
       (as_it_was {A = Result Stamp AskFault} (Err StampsSpent))
   ask_in_plain Waiting = as_it_was {A = Result Stamp AskFault} (Err NotIdle)
   ask_in_plain (Inside k) = as_it_was {A = Result Stamp AskFault} (Err NotIdle)

@@ -2,6 +2,7 @@
 use Rattle.std.proofs.Common.{ℕ, ◌<◌, ◌+◌, ◌≡◌, Option, Some, None, refl, subst, arith}
 use Rattle.std.proofs.lemmas.Option.{same_Some}
 use Rattle.mx_stamps.proofs.Choices.{cond_case}
+use Rattle.mx_stamps.specs.Numbers.{last_number}
 use Rattle.mx_letters.specs.declared.raymond.RaymondMsg.TheVariants.{Request, Privilege}
 use Rattle.mx_nodelaws.proofs.Plain.{nil, one, both}
 use Rattle.mx_nodelaws.specs.Plain.{IsPlainDone}
@@ -21,7 +22,7 @@ module _ (n : ℕ) where
   unchanged_plain : {A : Type 0} (s : Node) (answer : A) → PlainNode n s → PlainStep n (unchanged s answer)
   unchanged_plain s answer ok = record { state = ok; letters = nil PlainLetter n }
 
-  passed_plain : (s : Node) (next : ℕ) → next < n → s.hop < 18446744073709551615 → PlainNode n s → PlainStep n (passed s next)
+  passed_plain : (s : Node) (next : ℕ) → next < n → s.hop < last_number → PlainNode n s → PlainStep n (passed s next)
   passed_plain s next lt low ok = record {
     state = record {
       me = ok.me;
@@ -51,7 +52,7 @@ module _ (n : ℕ) where
   assign_plain : (s : Node) → PlainNode n s → PlainStep n (assign s)
   assign_plain s ok = assign_to_plain (head_of s.queue) s refl ok
 
-  requested_plain : (s : Node) → s.sent < 18446744073709551615 → PlainNode n s → PlainStep n (requested s)
+  requested_plain : (s : Node) → s.sent < last_number → PlainNode n s → PlainStep n (requested s)
   requested_plain s low ok = record {
     state = record { me = ok.me; limit = ok.limit; phase = ok.phase; holder = ok.holder; queue = ok.queue; hop = ok.hop; unacked = ok.unacked; asks = ok.asks; sent = omega arith; heard = ok.heard; top = ok.top; mine = ok.mine };
     letters = one PlainLetter n s.holder (Request (s.sent + 1)) ok.holder (omega arith);

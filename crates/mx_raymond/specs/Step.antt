@@ -1,6 +1,7 @@
 -- The step table: what each call makes of a node, what it answers and what it sends.
 use Rattle.std.specs.Prelude.{ℕ, ◌+◌, ◌≡◌, Bool, true, false, ◌&&◌, not, List, [], ◌∷◌, ◌++◌, Option, Some, None, Result, Ok, max, nat_lt, nat_eq, if◌then◌else◌, slice_index_or, slice_set, replicate}
 use Rattle.mx_stamps.specs.declared.stamp.Stamp.{Stamp}
+use Rattle.mx_stamps.specs.Numbers.{last_number}
 use Rattle.mx_letters.specs.declared.raymond.RaymondMsg.{RaymondMsg}
 use Rattle.mx_letters.specs.declared.raymond.RaymondMsg.TheVariants.{Request, Privilege, Got}
 use Rattle.mx_nodelaws.specs.World.{Done, Quiet}
@@ -66,7 +67,7 @@ and_then first second = record {
 -- Assign: who has the privilege and is not inside passes it on to the first that wants it, if that
 -- is another node
 abbrev pub can_pass : Node → ℕ → Bool
-can_pass s next = is_holder s && (not (is_inside s.phase) && (not (nat_eq next s.me) && nat_lt s.hop 18446744073709551615))
+can_pass s next = is_holder s && (not (is_inside s.phase) && (not (nat_eq next s.me) && nat_lt s.hop last_number))
 
 abbrev pub passing : Node → ℕ → Node
 passing s next = record s { holder = next; queue = rest_of s.queue; asked = false; hop = s.hop + 1; unacked = Some (record { to = next; hop = s.hop + 1; last = s.top }) }
@@ -83,7 +84,7 @@ assign s = assign_to (head_of s.queue) s
 
 -- Make: who wants the privilege and does not have it asks its holder, once
 abbrev pub must_request : Node → Bool
-must_request s = not (is_holder s) && (not (is_empty s.queue) && (not s.asked && nat_lt s.sent 18446744073709551615))
+must_request s = not (is_holder s) && (not (is_empty s.queue) && (not s.asked && nat_lt s.sent last_number))
 
 abbrev pub requesting : Node → Node
 requesting s = record s { asked = true; sent = s.sent + 1 }

@@ -2,6 +2,7 @@
 use Rattle.std.proofs.Common.{ℕ, ◌<◌, ◌≡◌, ◌≢◌, ◌⊎◌, inl, inr, true, false, not, ◌&&◌, Some, List, [], ◌∷◌, ◌++◌, nat_eq, nat_lt, refl, sym, subst}
 use Rattle.mx_stamps.proofs.Lists.{none_is_no_some}
 use Rattle.mx_stamps.proofs.Choices.{lt_true, eq_true, eq_false, eq_is, not_true, and_true, or_left, or_right, or_cases, cond_case}
+use Rattle.mx_stamps.specs.Numbers.{last_number}
 use Rattle.mx_nodelaws.specs.Phases.{is_inside}
 use Rattle.mx_raymond.specs.Queue.{is_queued, is_empty, head_of, rest_of, joined}
 use Rattle.mx_raymond.specs.Node.{Node}
@@ -44,22 +45,22 @@ pub record MayPass (s : Node) (next : ℕ) : Type 0 where
   pub holder : s.holder ≡ s.me
   pub outside : is_inside s.phase ≡ false
   pub other : next ≢ s.me
-  pub hop : s.hop < 18446744073709551615
+  pub hop : s.hop < last_number
 
 pub may_pass : (s : Node) (next : ℕ) → can_pass s next ≡ true → MayPass s next
 may_pass s next h =
-    let a = and_true (is_holder s) (not (is_inside s.phase) && (not (nat_eq next s.me) && nat_lt s.hop 18446744073709551615)) h in
-    let b = and_true (not (is_inside s.phase)) (not (nat_eq next s.me) && nat_lt s.hop 18446744073709551615) a.1 in
-    let c = and_true (not (nat_eq next s.me)) (nat_lt s.hop 18446744073709551615) b.1 in
+    let a = and_true (is_holder s) (not (is_inside s.phase) && (not (nat_eq next s.me) && nat_lt s.hop last_number)) h in
+    let b = and_true (not (is_inside s.phase)) (not (nat_eq next s.me) && nat_lt s.hop last_number) a.1 in
+    let c = and_true (not (nat_eq next s.me)) (nat_lt s.hop last_number) b.1 in
     record {
       holder = eq_true s.holder s.me a.0;
       outside = not_true (is_inside s.phase) b.0;
       other = eq_false next s.me (not_true (nat_eq next s.me) c.0);
-      hop = lt_true s.hop 18446744073709551615 c.1;
+      hop = lt_true s.hop last_number c.1;
     }
 
-pub may_request : (s : Node) → must_request s ≡ true → s.sent < 18446744073709551615
+pub may_request : (s : Node) → must_request s ≡ true → s.sent < last_number
 may_request s h =
-    let a = and_true (not (is_holder s)) (not (is_empty s.queue) && (not s.asked && nat_lt s.sent 18446744073709551615)) h in
-    let b = and_true (not (is_empty s.queue)) (not s.asked && nat_lt s.sent 18446744073709551615) a.1 in
-    lt_true s.sent 18446744073709551615 (and_true (not s.asked) (nat_lt s.sent 18446744073709551615) b.1).1
+    let a = and_true (not (is_holder s)) (not (is_empty s.queue) && (not s.asked && nat_lt s.sent last_number)) h in
+    let b = and_true (not (is_empty s.queue)) (not s.asked && nat_lt s.sent last_number) a.1 in
+    lt_true s.sent last_number (and_true (not s.asked) (nat_lt s.sent last_number) b.1).1

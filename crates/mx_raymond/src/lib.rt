@@ -19,6 +19,3 @@ mod unacked;
 
 pub use mx_trees::{Tree, TreeFault};
 pub use raymond::Raymond;
-
-#[cfg(test)]
-mod tests;

@@ -8,6 +8,3 @@ mod views;
 pub use cells::Cell;
 pub use registers::View;
 pub use views::{view, view_below, view_of};
-
-#[cfg(test)]
-mod tests;

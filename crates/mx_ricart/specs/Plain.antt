@@ -5,6 +5,7 @@ use Rattle.mx_stamps.specs.declared.stamp.Stamp.{Stamp}
 use Rattle.mx_stamps.specs.Stamp.{is_before_of, is_same_as}
 use Rattle.mx_stamps.proofs.Lists.{get_or_after, get_or_replicate, none_is_no_some}
 use Rattle.mx_stamps.proofs.Choices.{lt_true, cond_case}
+use Rattle.mx_stamps.specs.Numbers.{last_number}
 use Rattle.mx_letters.specs.declared.ricart.RicartMsg.{RicartMsg}
 use Rattle.mx_letters.specs.declared.ricart.RicartMsg.TheVariants.{Request, Reply}
 use Rattle.mx_nodelaws.specs.World.{Done, quietly, addressed}
@@ -44,7 +45,7 @@ module _ (n : ℕ) (s : Node) (ok : PlainNode n s) where
       let few = ok.count in
       (omega (arith, r.0), subst (λ x. PlainLetter n x) (sym (sent_unless (skips b) (Request stamp) m r.1).1) plain)
 
-  asked_plain : s.highest < 18446744073709551615 → PlainDone {A = Result Stamp AskFault} n (asked s)
+  asked_plain : s.highest < last_number → PlainDone {A = Result Stamp AskFault} n (asked s)
   asked_plain lt = record {
     state = record { me = ok.me; count = ok.count; limit = ok.limit; phase = tt; highest = omega arith; ours = (omega arith, ok.me); waits = ok.waits; top = ok.top; mine = ok.mine };
     letters = requests_plain (asking s).ours (omega arith, ok.me) (λ j. nat_eq j s.me);
@@ -53,7 +54,7 @@ module _ (n : ℕ) (s : Node) (ok : PlainNode n s) where
   ask_in_plain : (p : Phase) → PlainDone {A = Result Stamp AskFault} n (ask_in p s)
   ask_in_plain Idle =
       ask_cases (λ (x : Node). x.highest) asked (λ d. PlainDone {A = Result Stamp AskFault} n d) s
-      (λ e. asked_plain (lt_true s.highest 18446744073709551615 e)) (as_was {A = Result Stamp AskFault} (Err StampsSpent))
+      (λ e. asked_plain (lt_true s.highest last_number e)) (as_was {A = Result Stamp AskFault} (Err StampsSpent))
   ask_in_plain Waiting = as_was {A = Result Stamp AskFault} (Err NotIdle)
   ask_in_plain (Inside k) = as_was {A = Result Stamp AskFault} (Err NotIdle)
 

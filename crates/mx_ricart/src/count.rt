@@ -13,12 +13,13 @@ pub struct Count {
 
 impl Model for Count {
     ghost use Rattle.std.specs.Prelude.{ℕ, ◌<◌, ◌≤◌};
+    ghost use Rattle.mx_stamps.specs.declared.node_id.TheConstants.{MAX_NODES};
 
     ghost Value = { ℕ };
 
     ghost view = { λ c. c.nodes };
 
-    ghost invariant = { λ c. (0 < c.nodes) × (c.nodes ≤ 21) };
+    ghost invariant = { λ c. (0 < c.nodes) × (c.nodes ≤ MAX_NODES) };
 
     ghost inverse = { λ n. record { nodes = n } };
 }
@@ -26,7 +27,7 @@ impl Model for Count {
 impl Count {
     /// This many nodes, where a cluster may have so many.
     pub fn of(nodes: u8) -> Option<Count>
-        ensures some { IsSome result ↔ ((0 < nodes) × (nodes ≤ 21)) }
+        ensures some { IsSome result ↔ ((0 < nodes) × (nodes ≤ MAX_NODES)) }
         ensures value { IfSome result (λ c. c ≡ nodes) }
     {
         if nodes > 0 && nodes <= MAX_NODES {
@@ -40,7 +41,7 @@ impl Count {
     pub fn get(self) -> u8
         ensures value { result ≡ self }
         ensures low { 0 < result }
-        ensures high { result ≤ 21 }
+        ensures high { result ≤ MAX_NODES }
     {
         self.nodes
     }

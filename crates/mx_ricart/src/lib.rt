@@ -17,6 +17,3 @@ mod ricart;
 
 pub use count::Count;
 pub use ricart::Ricart;
-
-#[cfg(test)]
-mod tests;

@@ -6,6 +6,3 @@
 mod solo;
 
 pub use solo::{One, Solo};
-
-#[cfg(test)]
-mod tests;

@@ -1,6 +1,7 @@
 //! The clock that draws the numbers of stamps.
 
 ghost use Rattle.std.specs.Prelude.{◌≡◌, ◌+◌, ◌<◌, ◌↔◌, IsNone, IfNone, IfSome, max};
+ghost use Rattle.mx_stamps.specs.Numbers.{last_number};
 
 use crate::node_id::NodeId;
 use crate::stamp::Stamp;
@@ -47,7 +48,7 @@ impl Clock {
     /// Draws the next stamp of a node: its number is above all that the clock has seen. There is
     /// none after 18446744073709551615.
     pub fn next(&mut self, node: NodeId) -> Option<Stamp>
-        ensures spent { IsNone result ↔ (self.old ≡ 18446744073709551615) }
+        ensures spent { IsNone result ↔ (self.old ≡ last_number) }
         ensures value { IfSome result (λ stamp. stamp ≡ record { number = self.old + 1; node = node }) }
         ensures raised { IfSome result (λ stamp. self.new ≡ stamp.number) }
         ensures same { IfNone result (self.new ≡ self.old) }

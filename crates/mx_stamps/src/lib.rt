@@ -8,6 +8,3 @@ mod stamp;
 pub use clock::Clock;
 pub use node_id::{MAX_NODES, NodeId};
 pub use stamp::Stamp;
-
-#[cfg(test)]
-mod tests;

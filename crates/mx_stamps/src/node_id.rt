@@ -15,12 +15,13 @@ pub struct NodeId {
 
 impl Model for NodeId {
     ghost use Rattle.std.specs.Prelude.{ℕ, ◌<◌};
+    ghost use Rattle.mx_stamps.specs.declared.node_id.TheConstants.{MAX_NODES};
 
     ghost Value = { ℕ };
 
     ghost view = { λ n. n.index };
 
-    ghost invariant = { λ n. n.index < 21 };
+    ghost invariant = { λ n. n.index < MAX_NODES };
 
     ghost inverse = { λ n. record { index = n } };
 }
@@ -28,7 +29,7 @@ impl Model for NodeId {
 impl NodeId {
     /// The node of this number, where there is one in any cluster.
     pub fn of(index: u8) -> Option<NodeId>
-        ensures some { IsSome result ↔ (index < 21) }
+        ensures some { IsSome result ↔ (index < MAX_NODES) }
         ensures value { IfSome result (λ n. n ≡ index) }
     {
         if index < MAX_NODES {
@@ -41,7 +42,7 @@ impl NodeId {
     /// Its number.
     pub fn get(self) -> u8
         ensures value { result ≡ self }
-        ensures bound { result < 21 }
+        ensures bound { result < MAX_NODES }
     {
         self.index
     }

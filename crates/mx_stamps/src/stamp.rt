@@ -8,10 +8,29 @@ use std::cmp::Ordering;
 
 /// The stamp of a request: a number from its node's clock, and that node. Stamps are ordered by
 /// number, and then by node (Lamport 1978); `Ord` is that order.
-#[derive(Clone, Copy, Debug, Default, PartialEq, Eq, PartialOrd, Ord, Hash)]
+#[derive(Clone, Copy, Debug, Default, Eq, PartialOrd, Ord, Hash)]
 pub struct Stamp {
     pub number: u64,
     pub node: NodeId,
+}
+
+impl PartialEq for Stamp {
+    ghost use Rattle.std.specs.Prelude.{◌≡◌, ◌↔◌, IsTrue};
+    ghost use Rattle.std.proofs.Common.{rules};
+    ghost use Rattle.std.specs.Cmp.Rules.{comparing};
+    ghost use Rattle.mx_stamps.specs.Stamp.{is_same_as};
+
+    ghost eq = { λ a b. is_same_as a b };
+
+    ghost laws = { Prim.search (comparing, rules) };
+
+    /// Whether both are the same stamp.
+    fn eq(&self, other: &Stamp) -> bool
+        ensures value { result ≡ is_same_as self.now other.now }
+        ensures same { IsTrue result ↔ (self.now ≡ other.now) }
+    {
+        self.is(other)
+    }
 }
 
 impl Stamp {

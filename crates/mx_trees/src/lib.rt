@@ -8,6 +8,3 @@ mod tree;
 
 pub use fault::TreeFault;
 pub use tree::Tree;
-
-#[cfg(test)]
-mod tests;

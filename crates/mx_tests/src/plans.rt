@@ -1,12 +1,10 @@
-//! Plans for each algorithm, each fault of plans and of events, and hostile texts.
+//! Plans and events, each with what it is read as, or with its fault.
 
 mod events;
 mod faults;
-mod hostile;
-mod plans;
 mod shapes;
 
-use crate::{Plan, read_plan};
+use mx_plan::{Plan, read_plan};
 use std::alloc::{AllocError, Global};
 use std::process::Abort;
 use std::test::Fail;

@@ -1,10 +1,11 @@
 //! Events of each kind, and why lists of events are refused.
 
 use super::{FIRST, plan_of};
-use crate::{Place, PlanFault, read_events};
+use crate::given::node;
 use mx_network::Event;
-use mx_stamps::NodeId;
+use mx_plan::{Place, PlanFault, read_events};
 use std::alloc::Global;
+use std::process::Abort;
 use std::test::Fail;
 
 /// One event of each kind.
@@ -21,9 +22,7 @@ fn events_fault(alloc: Global, text: &str) -> Result<Option<PlanFault>, Fail> {
 fn each_event_is_read(rt: HostRuntime) -> Result<(), Fail> {
     let plan = plan_of(rt.alloc(), FIRST, "")?;
     let events = read_events(rt.alloc(), EVENTS.as_bytes(), &plan)?;
-    let a = NodeId::of(0).ok_or("node")?;
-    let b = NodeId::of(1).ok_or("node")?;
-    let c = NodeId::of(2).ok_or("node")?;
+    let (a, b, c) = (node(0), node(1), node(2));
     let wanted = [
         Event::Ask(a),
         Event::Enter(b),
@@ -72,33 +71,41 @@ const STRANGERS: [&str; 7] = [
     "[[\"write\",\"a\",\"b\",0]]",
 ];
 
+/// Lists of events, and the fault that each has.
+const OTHERS: [(&str, PlanFault); 3] = [
+    ("{}", PlanFault::NotPlan(Place::Events)),
+    (
+        "[[\"tick\",\"a\"],[\"ask\"],[\"ask\",\"z\"]]",
+        PlanFault::NotPlan(Place::Event(1)),
+    ),
+    (
+        "[[\"ask\",\"z\"],[\"ask\"]]",
+        PlanFault::UnknownName(Place::Event(0)),
+    ),
+];
+
+/// Each of these lists has this fault.
+fn assert_faulty(
+    rt: &impl Abort,
+    alloc: Global,
+    texts: &[&str],
+    fault: PlanFault,
+) -> Result<(), Fail> {
+    for text in texts {
+        assert_eq!(rt; events_fault(alloc, *text)?, Some(fault), "{text}");
+    }
+    Ok(())
+}
+
 #[test]
 fn events_are_refused_in_order(rt: HostRuntime) -> Result<(), Fail> {
     let alloc = rt.alloc();
-    for text in &MISFITS {
-        let fault = events_fault(alloc, *text)?;
-        assert_eq!(rt; fault, Some(PlanFault::NotPlan(Place::Event(0))), "{text}");
+    let first = Place::Event(0);
+    assert_faulty(&rt, alloc, &MISFITS, PlanFault::NotPlan(first))?;
+    assert_faulty(&rt, alloc, &STRANGERS, PlanFault::UnknownName(first))?;
+    for (text, fault) in &OTHERS {
+        assert_eq!(rt; events_fault(alloc, *text)?, Some(*fault), "{text}");
     }
-    for text in &STRANGERS {
-        let fault = events_fault(alloc, *text)?;
-        assert_eq!(rt;
-            fault,
-            Some(PlanFault::UnknownName(Place::Event(0))),
-            "{text}"
-        );
-    }
-    assert_eq!(rt;
-        events_fault(alloc, "{}")?,
-        Some(PlanFault::NotPlan(Place::Events))
-    );
-    assert_eq!(rt;
-        events_fault(alloc, "[[\"tick\",\"a\"],[\"ask\"],[\"ask\",\"z\"]]")?,
-        Some(PlanFault::NotPlan(Place::Event(1)))
-    );
-    assert_eq!(rt;
-        events_fault(alloc, "[[\"ask\",\"z\"],[\"ask\"]]")?,
-        Some(PlanFault::UnknownName(Place::Event(0)))
-    );
     Ok(())
 }
 
@@ -118,17 +125,15 @@ fn zeros(alloc: Global, count: usize) -> Result<Vec<u8>, Fail> {
 
 #[test]
 fn a_long_list_is_refused_before_its_events(rt: HostRuntime) -> Result<(), Fail> {
-    let alloc = rt.alloc();
-    let plan = plan_of(alloc, FIRST, "")?;
-    let long = zeros(alloc, 1_000_001)?;
-    assert_eq!(rt;
-        read_events(alloc, long.as_slice(), &plan).err(),
-        Some(PlanFault::NotPlan(Place::Event(1_000_000)))
-    );
-    let full = zeros(alloc, 1_000_000)?;
-    assert_eq!(rt;
-        read_events(alloc, full.as_slice(), &plan).err(),
-        Some(PlanFault::NotPlan(Place::Event(0)))
-    );
+    let plan = plan_of(rt.alloc(), FIRST, "")?;
+    for (count, event) in [(1_000_001, 1_000_000), (1_000_000, 0)] {
+        let text = zeros(rt.alloc(), count)?;
+        let fault = read_events(rt.alloc(), text.as_slice(), &plan).err();
+        assert_eq!(rt;
+            fault,
+            Some(PlanFault::NotPlan(Place::Event(event))),
+            "{count}"
+        );
+    }
     Ok(())
 }

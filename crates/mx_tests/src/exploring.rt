@@ -1,7 +1,8 @@
 //! Schedules and weather beside what the tests make of words that they draw themselves.
 
-use crate::{Weather, place, schedule};
-use mx_letters::{Fate, Fates};
+use crate::given::node;
+use mx_explorer::{Weather, place, schedule};
+use mx_letters::{Fair, Fate, Fates};
 use mx_network::Event;
 use mx_plan::read_plan;
 use mx_stamps::NodeId;
@@ -28,6 +29,7 @@ fn weather_at_its_bounds(rt: HostRuntime) {
     let mut lossy = Weather::of(1, 256, 0);
     let mut doubling = Weather::of(1, 0, 256);
     for _ in 0..1000 {
+        assert_eq!(rt; next_of(&mut Fair), Fate::Pass);
         assert_eq!(rt; next_of(&mut clear), Fate::Pass);
         assert_eq!(rt; next_of(&mut lossy), Fate::Drop);
         assert_eq!(rt; next_of(&mut doubling), Fate::Twice);
@@ -52,7 +54,7 @@ fn weather_is_that_of_its_seed(rt: HostRuntime) {
 
 fn wanted_node(words: &mut Pcg32) -> NodeId {
     let index = words.next_u32() % u32::from(NODES);
-    NodeId::of(index as u8).unwrap_or(NodeId::default())
+    node(index as u8)
 }
 
 fn wanted_register(words: &mut Pcg32) -> u8 {
@@ -103,15 +105,22 @@ fn schedule_is_that_of_its_seed(rt: HostRuntime) -> Result<(), Fail> {
     Ok(())
 }
 
+/// The word of a delivery, how many parcels were sent, and the parcel that is delivered.
+const PLACED: [(u64, u64, Option<u64>); 6] = [
+    (7, 0, None),
+    (7, 1, Some(0)),
+    (7, 5, Some(2)),
+    (63, 64, Some(0)),
+    (64, 1000, Some(999)),
+    (63, 1000, Some(936)),
+];
+
 #[test]
-fn a_delivery_is_placed_among_the_newest(rt: HostRuntime) -> Result<(), Fail> {
-    assert_eq!(rt; place(Event::Deliver(7), 0), None);
-    assert_eq!(rt; place(Event::Deliver(7), 1), Some(Event::Deliver(0)));
-    assert_eq!(rt; place(Event::Deliver(7), 5), Some(Event::Deliver(2)));
-    assert_eq!(rt; place(Event::Deliver(63), 64), Some(Event::Deliver(0)));
-    assert_eq!(rt; place(Event::Deliver(64), 1000), Some(Event::Deliver(999)));
-    assert_eq!(rt; place(Event::Deliver(63), 1000), Some(Event::Deliver(936)));
-    let tick = Event::Tick(NodeId::of(2).ok_or("node")?);
-    assert_eq!(rt; place(tick, 0), Some(tick));
-    Ok(())
+fn a_delivery_is_placed_among_the_newest(rt: HostRuntime) {
+    for (word, sent, parcel) in &PLACED {
+        let placed = place(Event::Deliver(*word), *sent);
+        assert_eq!(rt; placed, parcel.map(Event::Deliver), "{word} of {sent}");
+    }
+    let placed = place(Event::Tick(node(2)), 0);
+    assert_eq!(rt; placed, Some(Event::Tick(node(2))));
 }

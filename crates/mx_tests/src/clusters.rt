@@ -1,0 +1,60 @@
+//! Clusters: events that can't happen, and a section that is full.
+
+use crate::given::node;
+use crate::told::{Told, assert_steps};
+use mx_network::{Cause, Cluster, Event, StepFault};
+use mx_ricart::{Count, Ricart};
+use mx_solo::{One, Solo};
+use mx_stamps::{Clock, NodeId, Stamp};
+use std::alloc::{AllocError, Global};
+use std::test::Fail;
+
+#[test]
+fn step_faults_and_clock(rt: HostRuntime) -> Result<(), Fail> {
+    let shape = Count::of(2).ok_or("count")?;
+    let mut cluster: Cluster<Ricart> = Cluster::start(rt.alloc(), &shape, 0, 1000, 1)?;
+    let cases = [
+        (Event::Ask(node(2)), StepFault::NoNode),
+        (Event::Want(node(0), node(2)), StepFault::NoNode),
+        (Event::Deliver(0), StepFault::NoParcel),
+    ];
+    for (event, fault) in &cases {
+        assert_eq!(rt; cluster.step(*event), Err(*fault));
+        assert!(rt; cluster.trace().is_empty());
+    }
+    let mut clock = Clock::at(5);
+    clock.see(3);
+    let (number, node) = (6, node(2));
+    assert_eq!(rt; clock.next(node), Some(Stamp { number, node }));
+    Ok(())
+}
+
+/// A section with eight writes, eight reads, and more than there is room for.
+fn crowded(alloc: Global, a: NodeId) -> Result<Vec<(Event, Told)>, AllocError> {
+    let mut steps = Vec::new(alloc);
+    steps.push((Event::Ask(a), Told::Asked(0)))?;
+    steps.push((Event::Enter(a), Told::Entered(1)))?;
+    for register in 0..8 {
+        steps.push((Event::Write(a, register, 1), Told::Written))?;
+        steps.push((Event::Read(a, register), Told::Value(1)))?;
+    }
+    let more = [
+        (Event::Write(a, 0, 2), Told::Refused(Cause::Full)),
+        (Event::Read(a, 0), Told::Refused(Cause::Full)),
+        (Event::Read(a, 32), Told::Refused(Cause::NoRegister)),
+        (Event::Write(a, 32, 1), Told::Refused(Cause::NoRegister)),
+        (Event::Leave(a), Told::Left(1)),
+        (Event::Read(a, 0), Told::Refused(Cause::NotInside)),
+    ];
+    for step in more {
+        steps.push(step)?;
+    }
+    Ok(steps)
+}
+
+#[test]
+fn a_section_has_room_for_eight_of_each(rt: HostRuntime) -> Result<(), Fail> {
+    let mut cluster: Cluster<Solo> = Cluster::start(rt.alloc(), &One, 0, 2, 32)?;
+    let steps = crowded(rt.alloc(), node(0))?;
+    assert_steps(&rt, rt.alloc(), &mut cluster, &[node(0)], steps.as_slice())
+}

@@ -1,0 +1,54 @@
+//! Nodes, records and journals that tests are given.
+
+ghost use Rattle.std.specs.Prelude.{◌≡◌, ◌<◌};
+
+use arrayvec::ArrayVec;
+use mx_journal::{Journal, Record, Write};
+use mx_stamps::NodeId;
+use std::alloc::{AllocError, Global};
+use std::test::Fail;
+
+/// The node of this number.
+pub(crate) fn node(index: u8) -> NodeId
+    requires { index < 21 }
+    ensures { result ≡ index }
+{
+    NodeId::of(index).unwrap()
+}
+
+/// A record by node 0 of at most eight writes, each a register and a value.
+pub(crate) fn entry(number: u64, writes: &[(u8, u64)]) -> Record {
+    let mut kept = ArrayVec::new();
+    for (register, value) in writes {
+        let write = Write {
+            register: *register,
+            value: *value,
+        };
+        if !kept.is_full() {
+            kept.push(write);
+        }
+    }
+    Record {
+        number,
+        node: node(0),
+        writes: kept,
+    }
+}
+
+/// Records of these numbers, each with one write of a value to register 0.
+pub(crate) fn entries(alloc: Global, pairs: &[(u64, u64)]) -> Result<Vec<Record>, AllocError> {
+    let mut list = Vec::new(alloc);
+    for (number, value) in pairs {
+        list.push(entry(*number, &[(0, *value)]))?;
+    }
+    Ok(list)
+}
+
+/// A journal of these numbers, of which number n writes n.
+pub(crate) fn journal_of(alloc: Global, numbers: &[u64]) -> Result<Journal, Fail> {
+    let mut journal = Journal::new(alloc);
+    for number in numbers {
+        journal.put(entry(*number, &[(0, *number)]))?;
+    }
+    Ok(journal)
+}

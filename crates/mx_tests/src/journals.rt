@@ -1,0 +1,132 @@
+//! Journals: what they take, what they refuse, what they lack, and how they merge.
+
+use crate::given::{entries, entry, journal_of};
+use mx_journal::{Draft, Full, Journal, Put, PutFault, Range};
+use mx_merge::{MergeFault, agree, answer, merge, missing};
+use std::process::Abort;
+use std::test::Fail;
+
+/// Numbers and values of records that are put together, the answer, and how many the journal has
+/// then.
+type Puts = (&'static [(u64, u64)], Result<u64, PutFault>, usize);
+
+const PUTS: [Puts; 5] = [
+    (&[(1, 1), (2, 2)], Ok(2), 2),
+    (&[(3, 3), (2, 9)], Err(PutFault::Conflict(2)), 2),
+    (&[(2, 9), (0, 0)], Err(PutFault::ZeroNumber), 2),
+    (&[(4, 1), (4, 2)], Err(PutFault::Conflict(4)), 2),
+    (&[(3, 3), (3, 3), (1, 1)], Ok(1), 3),
+];
+
+#[test]
+fn put_all_or_none(rt: HostRuntime) -> Result<(), Fail> {
+    let mut journal = Journal::new(rt.alloc());
+    for (pairs, answer, len) in &PUTS {
+        let list = entries(rt.alloc(), *pairs)?;
+        assert_eq!(rt; journal.put_all(list.as_slice()), *answer, "{pairs:?}");
+        assert_eq!(rt; journal.len(), *len, "{pairs:?}");
+    }
+    for (first, last, numbers) in [(2, 9, [2, 3].as_slice()), (3, 2, [].as_slice())] {
+        let found = journal.records_in(Range { first, last });
+        assert_eq!(rt; found.len(), numbers.len(), "{first} to {last}");
+        for (record, number) in found.as_slice().iter().zip(numbers) {
+            assert_eq!(rt; record.number, *number, "{first} to {last}");
+        }
+    }
+    Ok(())
+}
+
+/// What `missing` answers up to a limit: the ends of its ranges.
+type Gaps = (u64, &'static [(u64, u64)]);
+
+/// Each of these limits has these gaps.
+fn assert_gaps(rt: &impl Abort, journal: &Journal, cases: &[Gaps]) {
+    for (limit, gaps) in cases {
+        let found = missing(journal, *limit);
+        assert_eq!(rt; found.len(), gaps.len(), "up to {limit}");
+        for (range, gap) in found.as_slice().iter().zip(*gaps) {
+            assert_eq!(rt; (range.first, range.last), *gap, "up to {limit}");
+        }
+    }
+}
+
+/// How many records a journal has, the greatest number, and the last below the first gap.
+fn extent(journal: &Journal) -> (usize, u64, u64) {
+    (journal.len(), journal.top(), journal.gapless_to())
+}
+
+const KEPT: [Gaps; 2] = [(6, &[(4, 4), (6, 6)]), (0, &[])];
+
+#[test]
+fn merge_and_missing(rt: HostRuntime) -> Result<(), Fail> {
+    let mut journal = journal_of(rt.alloc(), &[1, 2, 5])?;
+    let other = journal_of(rt.alloc(), &[2, 3])?;
+    assert!(rt; agree(&journal, &other));
+    assert_eq!(rt; merge(&mut journal, &other), Ok(1));
+    assert_eq!(rt; extent(&journal), (4, 5, 3));
+    assert_gaps(&rt, &journal, &KEPT);
+    let found = answer(&journal, &[Range { first: 2, last: 4 }]);
+    assert_eq!(rt; found.len(), 2);
+    assert!(rt; found[0].is(&entry(2, &[(0, 2)])));
+    assert!(rt; found[1].is(&entry(3, &[(0, 3)])));
+    Ok(())
+}
+
+#[test]
+fn conflicts_change_nothing(rt: HostRuntime) -> Result<(), Fail> {
+    let mut journal = journal_of(rt.alloc(), &[1, 2, 3, 5])?;
+    let mut other = journal_of(rt.alloc(), &[1])?;
+    other.put(entry(2, &[(0, 9)]))?;
+    assert!(rt; !agree(&journal, &other));
+    assert_eq!(rt; merge(&mut journal, &other), Err(MergeFault::Conflict(2)));
+    assert_eq!(rt; journal.put(entry(2, &[(0, 2)])), Ok(Put::Same));
+    assert_eq!(rt; journal.put(entry(0, &[])), Err(PutFault::ZeroNumber));
+    assert_eq!(rt; extent(&journal), (4, 5, 3));
+    Ok(())
+}
+
+/// Puts the numbers up to 1000 that leave this rest when they are halved.
+fn put_halves(rt: &impl Abort, journal: &mut Journal, rest: u64) {
+    for number in 1..=1000 {
+        if number % 2 == rest {
+            let record = entry(number, &[(0, number)]);
+            assert_eq!(rt; journal.put(record), Ok(Put::New), "{number}");
+        }
+    }
+}
+
+const ODD: [Gaps; 1] = [(
+    16,
+    &[
+        (2, 2),
+        (4, 4),
+        (6, 6),
+        (8, 8),
+        (10, 10),
+        (12, 12),
+        (14, 14),
+        (16, 16),
+    ],
+)];
+
+const NONE: [Gaps; 1] = [(1000, &[])];
+
+#[test]
+fn odd_then_even_numbers(rt: HostRuntime) {
+    let mut journal = Journal::new(rt.alloc());
+    put_halves(&rt, &mut journal, 1);
+    assert_eq!(rt; extent(&journal), (500, 999, 1));
+    assert_gaps(&rt, &journal, &ODD);
+    put_halves(&rt, &mut journal, 0);
+    assert_eq!(rt; extent(&journal), (1000, 1000, 1000));
+    assert_gaps(&rt, &journal, &NONE);
+}
+
+#[test]
+fn a_ninth_write_is_refused(rt: HostRuntime) {
+    let mut draft = Draft::new();
+    for value in 0..8 {
+        assert_eq!(rt; draft.write(1, value), Ok(()), "{value}");
+    }
+    assert_eq!(rt; draft.write(1, 8), Err(Full));
+}

@@ -1,0 +1,35 @@
+//! Tests across the crates, of what no contract says: worked examples where no printout shows what
+//! they must give, the texts of faults, calls at size, and draws beside words that are drawn here.
+
+#![tactic(auto)]
+
+#[cfg(test)]
+mod acts;
+#[cfg(test)]
+mod clusters;
+#[cfg(test)]
+mod exploring;
+#[cfg(test)]
+mod given;
+#[cfg(test)]
+mod journals;
+#[cfg(test)]
+mod members;
+#[cfg(test)]
+mod merging;
+#[cfg(test)]
+mod plans;
+#[cfg(test)]
+mod registers;
+#[cfg(test)]
+mod shapes;
+#[cfg(test)]
+mod sizes;
+#[cfg(test)]
+mod stamps;
+#[cfg(test)]
+mod texts;
+#[cfg(test)]
+mod told;
+#[cfg(test)]
+mod verdicts;

@@ -1,0 +1,91 @@
+//! Views of registers, of records in different orders.
+
+use crate::given::entry;
+use mx_journal::{Journal, Put, Record};
+use mx_registers::{View, view, view_below, view_of};
+use std::alloc::{AllocError, Global};
+use std::process::Abort;
+use std::test::Fail;
+
+/// The writes of sections 1 to 5.
+const WRITES: [&[(u8, u64)]; 5] = [
+    &[(0, 5)],
+    &[(0, 7), (1, 1)],
+    &[],
+    &[(0, 2), (0, 3)],
+    &[(1, 9)],
+];
+
+/// The record of one of those sections.
+fn section(number: u8) -> Record {
+    match WRITES.get(number.wrapping_sub(1) as usize) {
+        Some(writes) => entry(u64::from(number), *writes),
+        None => entry(0, &[]),
+    }
+}
+
+/// For each register its value, and the section that wrote it.
+type Cells = &'static [(Option<u64>, Option<u64>)];
+
+/// What all of those sections leave in three registers.
+const LEFT: Cells = &[
+    (Some(3), Some(4)),
+    (Some(9), Some(5)),
+    (Some(0), None),
+    (None, None),
+];
+
+/// These registers hold that.
+fn assert_shows(rt: &impl Abort, view: &View, cells: Cells) {
+    for (register, (value, by)) in (0..).zip(cells) {
+        assert_eq!(rt; view.value(register), *value, "{register}");
+        assert_eq!(rt; view.written_by(register), *by, "{register}");
+    }
+}
+
+/// Sections in which order they come.
+const ORDERS: [&[u8]; 3] = [&[1, 2, 3, 4, 5], &[5, 4, 4, 2, 1, 3], &[4, 2, 5, 1]];
+
+/// The records of these sections.
+fn sections(alloc: Global, numbers: &[u8]) -> Result<Vec<Record>, AllocError> {
+    let mut list = Vec::new(alloc);
+    for number in numbers {
+        list.push(section(*number))?;
+    }
+    Ok(list)
+}
+
+#[test]
+fn views_ignore_order(rt: HostRuntime) -> Result<(), Fail> {
+    for numbers in &ORDERS {
+        let list = sections(rt.alloc(), *numbers)?;
+        let mut taken = View::new(3);
+        for record in &list {
+            taken.take(record);
+        }
+        assert_shows(&rt, &taken, LEFT);
+        assert_shows(&rt, &view_of(list.as_slice(), 3), LEFT);
+    }
+    Ok(())
+}
+
+/// A section, and what it finds in three registers.
+const FOUND: [(u64, Cells); 4] = [
+    (1, &[(Some(0), None), (Some(0), None)]),
+    (2, &[(Some(5), Some(1)), (Some(0), None)]),
+    (5, &[(Some(3), Some(4)), (Some(1), Some(2))]),
+    (6, LEFT),
+];
+
+#[test]
+fn a_section_finds_those_below_it(rt: HostRuntime) -> Result<(), Fail> {
+    let mut journal = Journal::new(rt.alloc());
+    for number in [5, 4, 2, 1] {
+        assert_eq!(rt; journal.put(section(number)), Ok(Put::New));
+    }
+    for (number, cells) in &FOUND {
+        assert_shows(&rt, &view_below(&journal, 3, *number), *cells);
+    }
+    assert_shows(&rt, &view(&journal, 3), LEFT);
+    Ok(())
+}

@@ -1,0 +1,121 @@
+//! Arbiter sets and trees: those that the worked numbers name, and each fault.
+
+ghost use Rattle.std.specs.Prelude.{◌<◌};
+
+use crate::given::node;
+use mx_quorums::{QuorumFault, Quorums};
+use mx_trees::{Tree, TreeFault};
+use std::alloc::{AllocError, Global};
+use std::process::Abort;
+use std::test::Fail;
+
+/// Vectors of these lists.
+fn lists(alloc: Global, sets: &[&[u8]]) -> Result<Vec<Vec<u8>>, AllocError> {
+    let mut lists = Vec::new(alloc);
+    for set in sets {
+        lists.push(set.to_vec(alloc)?)?;
+    }
+    Ok(lists)
+}
+
+/// Exactly these nodes are in the set of node i.
+pub(crate) fn assert_set(rt: &impl Abort, quorums: &Quorums, i: u8, members: &[u8])
+    requires { i < 21 }
+{
+    for j in 0..21 {
+        let has = quorums.has(node(i), node(j));
+        assert_eq!(rt; has, members.contains(&j), "{j} in the set of {i}");
+    }
+}
+
+/// Node 0.
+const ALONE: &[u8] = &[0];
+
+/// Lists, and why they are no arbiter sets.
+const LISTED: [(&[&[u8]], QuorumFault); 7] = [
+    (&[&[0, 1], &[1], &[2]], QuorumFault::Apart(0, 2)),
+    (&[], QuorumFault::NoNodes),
+    (&[ALONE; 22], QuorumFault::TooMany),
+    (&[&[9], &[], &[]], QuorumFault::EmptySet(1)),
+    (&[&[1], &[1, 200, 2]], QuorumFault::Stranger(1, 200)),
+    (&[&[0, 1], &[0]], QuorumFault::NotOwnMember(1)),
+    (&[&[0, 1], &[1], &[0, 2], &[3]], QuorumFault::Apart(0, 3)),
+];
+
+/// The number of nodes, the edges and the holder of no tree.
+type NoTree = (u8, &'static [(u8, u8)], u8, TreeFault);
+
+const NO_TREES: [NoTree; 8] = [
+    (3, &[(0, 1), (0, 1)], 0, TreeFault::NotJoined(2)),
+    (3, &[(0, 1), (1, 2)], 3, TreeFault::BadHolder),
+    (0, &[], 0, TreeFault::NoNodes),
+    (22, &[(0, 0)], 0, TreeFault::TooMany),
+    (3, &[(0, 1), (1, 3), (2, 2)], 9, TreeFault::BadEdge(1)),
+    (3, &[(0, 1), (2, 2)], 0, TreeFault::BadEdge(1)),
+    (3, &[(0, 1)], 0, TreeFault::WrongCount),
+    (3, &[(0, 1), (1, 2), (2, 0)], 9, TreeFault::WrongCount),
+];
+
+#[test]
+fn shapes_checked(rt: HostRuntime) -> Result<(), Fail> {
+    for (sets, fault) in &LISTED {
+        let sets = lists(rt.alloc(), *sets)?;
+        assert_eq!(rt; Quorums::listed(&sets).err(), Some(*fault));
+    }
+    for (nodes, edges, holder, fault) in &NO_TREES {
+        assert_eq!(rt; Tree::of(*nodes, *edges, *holder).err(), Some(*fault));
+    }
+    assert_eq!(rt; Quorums::plane(8).err(), Some(QuorumFault::NoPlane(8)));
+    assert_eq!(rt; Quorums::grid(5, 5).err(), Some(QuorumFault::TooMany));
+    assert_eq!(rt; Quorums::grid(0, 3).err(), Some(QuorumFault::NoNodes));
+    Ok(())
+}
+
+#[test]
+fn planes_and_grids_have_their_sets(rt: HostRuntime) -> Result<(), Fail> {
+    let plane = Quorums::plane(13)?;
+    assert_set(&rt, &plane, 0, &[0, 1, 3, 9]);
+    assert_set(&rt, &plane, 1, &[1, 2, 4, 10]);
+    if plane.nodes() != 13 {
+        return Err("thirteen nodes")?;
+    }
+    for (j, common) in [(1, 1), (2, 3), (4, 0)] {
+        assert_eq!(rt; plane.meeting(node(0), node(j)).get(), common, "{j}");
+    }
+    assert_set(&rt, &Quorums::grid(2, 2)?, 0, &[0, 1, 2]);
+    Ok(())
+}
+
+#[test]
+fn a_member_listed_twice_counts_once(rt: HostRuntime) -> Result<(), Fail> {
+    let sets = lists(rt.alloc(), &[&[1, 0, 1], &[1]])?;
+    let quorums = Quorums::listed(&sets)?;
+    for (i, members) in [
+        (0, [0, 1].as_slice()),
+        (1, [1].as_slice()),
+        (2, [].as_slice()),
+    ] {
+        assert_set(&rt, &quorums, i, members);
+    }
+    Ok(())
+}
+
+/// The edges and the holder of a tree of four nodes, and the next node from each to the holder.
+const TREES: [(&[(u8, u8)], u8, [u8; 4]); 3] = [
+    (&[(2, 3), (1, 0), (2, 1)], 3, [1, 2, 3, 3]),
+    (&[(0, 1), (0, 2), (0, 3)], 2, [2, 0, 2, 0]),
+    (&[(3, 0), (0, 2), (2, 1)], 0, [0, 2, 0, 0]),
+];
+
+#[test]
+fn trees_lead_to_their_holder(rt: HostRuntime) -> Result<(), Fail> {
+    for (edges, holder, next) in &TREES {
+        let tree = Tree::of(4, *edges, *holder)?;
+        for (i, to) in (0..4).zip(next) {
+            if i < tree.nodes() {
+                assert_eq!(rt; tree.toward(node(i)).get(), *to, "{edges:?} from {i}");
+            }
+        }
+    }
+    Ok(())
+}

@@ -1,0 +1,37 @@
+//! The order of stamps, by pairs of them.
+
+use crate::given::node;
+use mx_stamps::Stamp;
+use std::cmp::Ordering;
+
+/// Two stamps, each a number and a node, and how the first stands to the second.
+const PAIRS: [((u64, u8), (u64, u8), Ordering); 6] = [
+    ((1, 2), (2, 0), Ordering::Less),
+    ((2, 0), (2, 1), Ordering::Less),
+    ((2, 1), (2, 0), Ordering::Greater),
+    ((3, 0), (2, 20), Ordering::Greater),
+    ((2, 1), (2, 1), Ordering::Equal),
+    ((0, 0), (u64::MAX, 0), Ordering::Less),
+];
+
+/// The stamp of this number at one of the nodes 0 to 20.
+fn stamp(parts: (u64, u8)) -> Stamp {
+    Stamp {
+        number: parts.0,
+        node: node(parts.1 % 21),
+    }
+}
+
+#[test]
+fn number_counts_before_node(rt: HostRuntime) {
+    for (first, second, order) in &PAIRS {
+        let (a, b) = (stamp(*first), stamp(*second));
+        assert_eq!(rt; a.compare(&b), *order, "{first:?} {second:?}");
+        assert_eq!(rt;
+            a.is_before(&b),
+            *order == Ordering::Less,
+            "{first:?} {second:?}"
+        );
+        assert_eq!(rt; a == b, *order == Ordering::Equal, "{first:?} {second:?}");
+    }
+}

@@ -1,0 +1,95 @@
+//! What comes of events, in short, and tables of events with what comes of them.
+
+use mx_journal::{Journal, Receipt};
+use mx_merge::{agree, merge};
+use mx_network::{Cause, Cluster, Event, Outcome};
+use mx_nodelaws::Exclusion;
+use mx_stamps::NodeId;
+use std::alloc::Global;
+use std::process::Abort;
+use std::test::Fail;
+
+/// An outcome, of a stamp its number, and of a receipt its number.
+#[derive(Clone, Copy, Debug, PartialEq, Eq)]
+pub(crate) enum Told {
+    Asked(u64),
+    Entered(u64),
+    Value(u64),
+    Written,
+    Left(u64),
+    Sent(u64),
+    Delivered,
+    Woken,
+    Refused(Cause),
+}
+
+/// The outcome in short.
+fn told_of(outcome: &Outcome) -> Told {
+    match outcome {
+        Outcome::Asked(stamp) => Told::Asked(stamp.number),
+        Outcome::Entered(number) => Told::Entered(*number),
+        Outcome::Value(value) => Told::Value(*value),
+        Outcome::Written => Told::Written,
+        Outcome::Left(receipt) => Told::Left(receipt.number),
+        Outcome::Sent(count) => Told::Sent(*count),
+        Outcome::Delivered => Told::Delivered,
+        Outcome::Woken => Told::Woken,
+        Outcome::Refused(cause) => Told::Refused(*cause),
+    }
+}
+
+/// How many sections have been left, where so many had been before this.
+fn left_after(left: u64, told: Told) -> u64 {
+    match told {
+        Told::Left(number) => number,
+        _ => left,
+    }
+}
+
+/// Of these events comes this; and after each the journals of these nodes merge into that of the
+/// sections left so far.
+pub(crate) fn assert_steps<C: Exclusion>(
+    rt: &impl Abort,
+    alloc: Global,
+    cluster: &mut Cluster<C>,
+    nodes: &[NodeId],
+    steps: &[(Event, Told)],
+) -> Result<(), Fail> {
+    let mut left = 0;
+    for (event, told) in steps {
+        let outcome = cluster.step(*event)?;
+        assert_eq!(rt; told_of(&outcome), *told, "{event:?}");
+        left = left_after(left, *told);
+        assert_merged(rt, alloc, cluster, nodes, left)?;
+    }
+    Ok(())
+}
+
+/// The journals of these nodes, each in turn merged into an empty one, are that of so many sections;
+/// and so is what the cluster merges.
+fn assert_merged<C: Exclusion>(
+    rt: &impl Abort,
+    alloc: Global,
+    cluster: &Cluster<C>,
+    nodes: &[NodeId],
+    sections: u64,
+) -> Result<(), Fail> {
+    let mut all = Journal::new(alloc);
+    for node in nodes {
+        let member = cluster.member(*node).ok_or("member")?;
+        merge(&mut all, member.journal())?;
+    }
+    let merged = cluster.merged(alloc, nodes)?;
+    assert!(rt; agree(&all, &merged));
+    assert_eq!(rt; (all.len() as u64, all.gapless_to()), (sections, sections));
+    assert_eq!(rt; merged.len(), all.len());
+    Ok(())
+}
+
+/// The receipt of the last event, which left a section.
+pub(crate) fn last_receipt<C: Exclusion>(cluster: &Cluster<C>) -> Option<&Receipt> {
+    match &cluster.trace().last()?.outcome {
+        Outcome::Left(receipt) => Some(receipt),
+        _ => None,
+    }
+}

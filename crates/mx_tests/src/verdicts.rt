@@ -1,0 +1,205 @@
+//! Verdicts of short traces.
+
+use crate::given::node;
+use mx_explorer::{Clause, Verdict, judge};
+use mx_journal::Draft;
+use mx_network::{Cause, Entry, Event, Outcome};
+use std::alloc::{AllocError, Global};
+use std::test::Fail;
+
+/// An item of a trace: the node, and what it did. A register and its value, or a number, follow.
+#[derive(Clone, Copy, Debug)]
+enum Did {
+    Entered(u8, u64),
+    Value(u8, u8, u64),
+    Written(u8, u8, u64),
+    Left(u8, u64),
+    Woken(u8),
+    /// The node was not let in.
+    Refused(u8),
+    /// An outcome that is not its event's.
+    Mispaired(u8),
+}
+
+use Did::{Entered, Left, Mispaired, Refused, Value, Woken, Written};
+
+/// The event, and what came of it.
+fn item(did: Did) -> Entry {
+    let (event, outcome) = match did {
+        Entered(index, number) => (Event::Enter(node(index % 21)), Outcome::Entered(number)),
+        Value(index, register, value) => {
+            (
+                Event::Read(node(index % 21), register),
+                Outcome::Value(value),
+            )
+        }
+        Written(index, register, value) => {
+            (
+                Event::Write(node(index % 21), register, value),
+                Outcome::Written,
+            )
+        }
+        Left(index, number) => {
+            let receipt = Draft::new().close(number, node(index % 21));
+            (Event::Leave(node(index % 21)), Outcome::Left(receipt))
+        }
+        Woken(index) => (Event::Restart(node(index % 21)), Outcome::Woken),
+        Refused(index) => {
+            (
+                Event::Enter(node(index % 21)),
+                Outcome::Refused(Cause::NotGranted),
+            )
+        }
+        Mispaired(index) => (Event::Tick(node(index % 21)), Outcome::Entered(9)),
+    };
+    Entry { event, outcome }
+}
+
+/// A trace of these items.
+fn trace(alloc: Global, items: &[Did]) -> Result<Vec<Entry>, AllocError> {
+    let mut trace = Vec::new(alloc);
+    for did in items {
+        trace.push(item(*did))?;
+    }
+    Ok(trace)
+}
+
+/// Short traces, and the verdict of each.
+const SHORT: [(&[Did], Verdict); 4] = [
+    (&[], Verdict::Sound),
+    (
+        &[Entered(0, 1), Entered(1, 2)],
+        Verdict::Broken(1, Clause::Overlap),
+    ),
+    (&[Entered(0, 2)], Verdict::Broken(0, Clause::Number)),
+    (
+        &[Entered(0, 1), Value(0, 0, 7)],
+        Verdict::Broken(1, Clause::Read),
+    ),
+];
+
+/// A leaving is of the node inside, with its number; entries bear the next number; at one item the
+/// overlap comes before the number.
+const SECTIONS: [(&[Did], Verdict); 7] = [
+    (
+        &[Entered(1, 1), Left(1, 1), Entered(0, 2), Left(0, 2)],
+        Verdict::Sound,
+    ),
+    (
+        &[Entered(0, 1), Left(1, 1)],
+        Verdict::Broken(1, Clause::Overlap),
+    ),
+    (
+        &[Entered(0, 1), Left(0, 2)],
+        Verdict::Broken(1, Clause::Overlap),
+    ),
+    (
+        &[Entered(0, 1), Left(0, 1), Left(0, 1)],
+        Verdict::Broken(2, Clause::Overlap),
+    ),
+    (
+        &[Entered(0, 1), Left(0, 1), Entered(0, 1)],
+        Verdict::Broken(2, Clause::Number),
+    ),
+    (
+        &[Entered(0, 1), Left(0, 1), Entered(0, 3)],
+        Verdict::Broken(2, Clause::Number),
+    ),
+    (
+        &[Entered(0, 1), Entered(1, 7)],
+        Verdict::Broken(1, Clause::Overlap),
+    ),
+];
+
+/// Reads see what the sections before leave, and the own writes until the node wakes up again.
+/// What is written outside counts for nothing.
+const READS: [(&[Did], Verdict); 8] = [
+    (
+        &[
+            Entered(0, 1),
+            Written(0, 3, 5),
+            Written(0, 3, 6),
+            Left(0, 1),
+            Entered(1, 2),
+            Value(1, 3, 6),
+            Value(1, 4, 0),
+            Written(1, 3, 9),
+            Value(1, 3, 9),
+        ],
+        Verdict::Sound,
+    ),
+    (
+        &[
+            Entered(0, 1),
+            Written(0, 3, 5),
+            Left(0, 1),
+            Entered(1, 2),
+            Value(1, 3, 0),
+        ],
+        Verdict::Broken(4, Clause::Read),
+    ),
+    (
+        &[Entered(0, 1), Left(0, 1), Value(0, 0, 0)],
+        Verdict::Broken(2, Clause::Read),
+    ),
+    (
+        &[Entered(0, 1), Value(1, 0, 0)],
+        Verdict::Broken(1, Clause::Read),
+    ),
+    (
+        &[
+            Entered(0, 1),
+            Written(0, 0, 5),
+            Left(0, 1),
+            Entered(0, 2),
+            Written(0, 0, 8),
+            Woken(0),
+            Value(0, 0, 5),
+            Left(0, 2),
+            Entered(1, 3),
+            Value(1, 0, 5),
+        ],
+        Verdict::Sound,
+    ),
+    (
+        &[Entered(0, 1), Written(0, 0, 8), Woken(0), Value(0, 0, 8)],
+        Verdict::Broken(3, Clause::Read),
+    ),
+    (
+        &[Entered(0, 1), Written(0, 0, 8), Woken(1), Value(0, 0, 8)],
+        Verdict::Sound,
+    ),
+    (
+        &[
+            Written(1, 0, 3),
+            Entered(0, 1),
+            Written(1, 0, 4),
+            Value(0, 0, 0),
+            Left(0, 1),
+            Written(0, 0, 5),
+            Entered(1, 2),
+            Value(1, 0, 0),
+        ],
+        Verdict::Sound,
+    ),
+];
+
+/// Refusals count for nothing, nor does an outcome that is not its event's.
+const OTHERS: [(&[Did], Verdict); 1] = [(
+    &[Entered(0, 1), Refused(1), Mispaired(1), Left(0, 1)],
+    Verdict::Sound,
+)];
+
+/// All of these.
+const TABLES: [&[(&[Did], Verdict)]; 4] = [&SHORT, &SECTIONS, &READS, &OTHERS];
+
+#[test]
+fn verdicts_on_short_traces(rt: HostRuntime) -> Result<(), Fail> {
+    for table in &TABLES {
+        for (items, verdict) in *table {
+            let trace = trace(rt.alloc(), *items)?;
+            assert_eq!(rt; judge(trace.as_slice()), *verdict, "{items:?}");
+        }
+    }
+    Ok(())
+}
