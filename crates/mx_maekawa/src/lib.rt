@@ -3,7 +3,9 @@
 //! the grants of all. An arbiter has one grant out at a time; where a request comes that stands
 //! before the granted one it asks its grant back, and who cannot enter yet gives it back.
 //!
-//! Added to the publication, since letters may be lost, repeated and reordered, and sections bear numbers:
+//! Added to the publication, since letters may be lost, repeated and reordered, and sections bear numbers
+//! (each row of `specs/RequesterStep.antt` and `specs/ArbiterStep.antt` says which part of it is
+//! published and which is added):
 //! each letter repeats the stamp that it is about, and grants are numbered, so that a grant that was
 //! given back does not count again; a letter about an ended stamp is answered by a release; a waiting
 //! node asks again, and a lock is told again; a waiting request that is overtaken is failed; releases

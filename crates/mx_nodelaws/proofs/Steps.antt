@@ -1,4 +1,5 @@
--- The step law for any act of any node, and in the shape that threads need.
+-- The step law for any act of any node; and the same for letters that are listed in any order, as
+-- threads need it.
 use Rattle.std.proofs.Common.{ℕ, ◌≡◌, List, Some, slice_get, slice_set, sym, subst}
 use Rattle.mx_nodelaws.specs.World.{World, after, IsNode}
 use Rattle.mx_nodelaws.specs.Core.{Core, KeepsPhases}
@@ -19,7 +20,7 @@ module _ {H S M : Type 0} (core : Core H S M) (IsShape : H → Type 0) (Good : W
   act_kept w i (act.Deliver from m) s good at arrives = laws.after_deliver w i s from m good at arrives
   act_kept w i act.Restart s good at arrives = subst (λ x. Good x) (sym (after_nothing w i s answer.Woken at)) good
 
-  -- however what was sent is laid out
+  -- the same, in whatever order the letters sent are listed
   pub grown_kept : (nodes : List S) (sent grown : List (ℕ × ℕ × M)) (i : ℕ) (a : Act M) (s : S) → Good (record { nodes = nodes; sent = sent }) → slice_get nodes i ≡ Some s → Arrives sent i a → Grows sent i (act_of core a s).letters grown → Good (record { nodes = slice_set nodes i (act_of core a s).state; sent = grown })
   grown_kept nodes sent grown i a s good at arrives grows =
       let w : World S M = record { nodes = nodes; sent = sent } in

@@ -12,7 +12,7 @@ use Rattle.mx_nodelaws.specs.declared.acts.Answer.TheVariants as answer
 abbrev pub answering : {S A B M : Type 0} → Done S A M → B → Done S B M
 answering done b = record { state = done.state; answer = b; letters = done.letters }
 
--- what an act gives: a restart keeps the core
+-- what an act gives; a restart changes nothing in a core
 abbrev pub act_of : {H S M : Type 0} → Core H S M → Act M → S → Done S Answer M
 act_of core act.Ask s = answering (core.ask s) (answer.Asked (core.ask s).answer)
 act_of core act.Enter s = record { state = (core.enter s).state; answer = answer.Entered (core.enter s).answer; letters = [] }
@@ -21,7 +21,7 @@ act_of core act.Tick s = answering (core.tick s) answer.Ticked
 act_of core (act.Deliver from m) s = answering (core.deliver from m s) answer.Delivered
 act_of core act.Restart s = record { state = s; answer = answer.Woken; letters = [] }
 
--- node i may do this: a letter that it takes was sent to it
+-- node i may do this act: a letter that is delivered was sent to it
 abbrev pub Arrives : {M : Type 0} → List (ℕ × ℕ × M) → ℕ → Act M → Type 0
 Arrives sent i act.Ask = Unit {0}
 Arrives sent i act.Enter = Unit {0}

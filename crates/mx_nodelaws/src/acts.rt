@@ -32,7 +32,7 @@ pub enum Answer {
     Woken,
 }
 
-/// One act of a node.
+/// Does one act of a node.
 pub fn perform<C: Exclusion>(node: &mut C, act: Act<C::Msg>, out: &mut Outbox<C::Msg>) -> Answer
     requires { out.old ≡ [] }
     ensures state { node.new ≡ (act_of C.core act node.old).state }

@@ -24,7 +24,7 @@ impl Model for Count {
 }
 
 impl Count {
-    /// This many nodes, where a cluster may have so many.
+    /// This number of nodes. None where it is 0 or above 21.
     pub fn of(nodes: u8) -> Option<Count>
         ensures some { IsSome result ↔ ((0 < nodes) × (nodes ≤ 21)) }
         ensures value { IfSome result (λ c. c ≡ nodes) }
@@ -36,7 +36,7 @@ impl Count {
         }
     }
 
-    /// How many.
+    /// The number of nodes.
     pub fn get(self) -> u8
         ensures value { result ≡ self }
         ensures low { 0 < result }

@@ -2,7 +2,8 @@
 //! who wants the section sends a stamped request to every other node, and enters with the replies
 //! of all. A node with an earlier request of its own puts its reply off until it has left.
 //!
-//! Added to the publication, since letters may be lost, repeated and reordered, and sections bear numbers:
+//! Added to the publication, since letters may be lost, repeated and reordered, and sections bear numbers
+//! (each row of `specs/Step.antt` says which part of it is published and which is added):
 //! a reply repeats the stamp that it answers, so that a late one for an older request does not count;
 //! a waiting node asks again, and a request is answered again; a reply carries the highest section
 //! number that its sender knows, so that who enters draws the next one.

@@ -1,3 +1,3 @@
--- Stamp: the stamp order. Lists: what is said of lists throughout.
+-- Stamp: the stamp order. Lists: words on lists that all crates use.
 pub mod Stamp
 pub mod Lists
