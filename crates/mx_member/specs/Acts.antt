@@ -48,7 +48,8 @@ NeedsMemory core (act.Want to) m = ⊥
 NeedsMemory core (act.Deliver from parcel) m = BringsRecords parcel
 NeedsMemory core act.Restart m = ⊥
 
--- node i of so many may do this: a parcel that it takes was sent to it, a want goes to a node
+-- node i may do this act, in a cluster of this many nodes: a parcel that is delivered was sent to it, and
+-- a want goes to a node
 abbrev pub Arrives : {M : Type 0} → ℕ → List (ℕ × ℕ × Parcel M) → ℕ → Act M → Type 0
 Arrives nodes sent i act.Ask = Unit {0}
 Arrives nodes sent i act.Enter = Unit {0}

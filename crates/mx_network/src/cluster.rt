@@ -33,9 +33,9 @@ pub struct Cluster<C: Exclusion> {
     members: Vec<Member<C>>,
     sent: Vec<(NodeId, NodeId, Parcel<C::Msg>)>,
     trace: Vec<Entry>,
-    /// Empty between events.
+    /// The parcels of the event that happens now. Empty between events.
     out: Outbox<Parcel<C::Msg>>,
-    /// Always None: that a member's size is bounded is known from this field.
+    /// Always None. The prover knows from this field that a member's size is bounded.
     size: Option<Member<C>>,
 }
 
@@ -80,8 +80,8 @@ impl<C: Exclusion> Cluster<C> {
         })
     }
 
-    /// One event. An event that its node refuses has happened too, and stands in the trace. `Memory`
-    /// comes only where the event would else have happened.
+    /// Does one event. An event that its node refuses has happened too, and stands in the trace.
+    /// `Memory` comes only for an event that would have happened with more memory.
     pub fn step(&mut self, event: Event) -> Result<Outcome, StepFault>
         ensures ok { OnOk result (step_of C.core self.old event ≡ Ok self.new) }
         ensures outcome { IfOk result (λ outcome. self.new.trace ≡ self.old.trace ++ (record { event = event; outcome = outcome }) ∷ []) }
@@ -102,7 +102,7 @@ impl<C: Exclusion> Cluster<C> {
         )
     }
 
-    /// Some events, up to the first that can't happen.
+    /// Does these events in order, up to the first that can't happen.
     pub fn run(&mut self, events: &[Event]) -> Result<(), RunFault>
         ensures ok { OnOk result (RunsTo C.core self.old events.now self.new) }
         ensures err { IfErr result (λ fault. (fault.index < length events.now) × RunsTo C.core self.old (take fault.index events.now) self.new) }
@@ -170,8 +170,8 @@ impl<C: Exclusion> Cluster<C> {
     }
 
     /// What the journals of these nodes know together: each merged, in turn, into an empty one, which
-    /// gives their least upper bound. They never conflict, so that memory alone can be wanting. A
-    /// node that isn't there adds nothing.
+    /// gives their least upper bound. They never conflict, so that the only fault is that memory
+    /// runs out. A node that isn't there adds nothing.
     pub fn merged(&self, alloc: Global, nodes: &[NodeId]) -> Result<Journal, AllocError>
         ensures all { IfOk result (IsAboveAll self.now.members nodes.now) }
         ensures least { IfOk result (IsBelowEach self.now.members nodes.now) }
