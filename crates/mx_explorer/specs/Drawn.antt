@@ -7,7 +7,7 @@ use Rattle.mx_network.specs.declared.event.Event.TheVariants as event
 use Rattle.mx_explorer.specs.declared.kind.Kind.{Kind}
 use Rattle.mx_explorer.specs.declared.kind.Kind.TheVariants.{Ask, Enter, Read, Write, Leave, Tick, Want, Restart, Deliver}
 
--- the event names nodes below `nodes` and registers below `registers`
+-- the event names only nodes below `nodes` and registers below `registers`
 abbrev pub IsDrawn : ℕ → ℕ → Event → Type 0
 IsDrawn nodes registers (event.Ask i) = i < nodes
 IsDrawn nodes registers (event.Enter i) = i < nodes
@@ -19,7 +19,7 @@ IsDrawn nodes registers (event.Want i j) = (i < nodes) × (j < nodes)
 IsDrawn nodes registers (event.Deliver word) = Unit {0}
 IsDrawn nodes registers (event.Restart i) = i < nodes
 
--- the kind by a number below 16
+-- the kind of event that a number below 16 stands for
 abbrev pub kind_by : ℕ → Kind
 kind_by n =
     if nat_lt n 2 then Ask
@@ -32,7 +32,7 @@ kind_by n =
     else if nat_lt n 11 then Restart
     else Deliver
 
--- the next word, and the generator after so many words
+-- the next word of a generator, and the generator after this many words
 abbrev pub word : Lcg → ℕ
 word g = (pcg32 g).0
 
@@ -52,7 +52,7 @@ event_of Want nodes registers g = event.Want (word g % nodes) (word (after_words
 event_of Restart nodes registers g = event.Restart (word g % nodes)
 event_of Deliver nodes registers g = event.Deliver (word g)
 
--- how many arguments it takes
+-- how many arguments an event of this kind has
 abbrev pub arguments : Kind → ℕ
 arguments Read = 2
 arguments Write = 3
@@ -66,7 +66,7 @@ drawn nodes registers g = event_of (kind_by (word g % 16)) nodes registers (afte
 abbrev pub after_drawn : Lcg → Lcg
 after_drawn g = after_words (suc (arguments (kind_by (word g % 16)))) g
 
--- the events of so many steps
+-- the events of this many steps
 abbrev pub drawn_list : ℕ → ℕ → ℕ → Lcg → List Event
 drawn_list zero nodes registers g = []
 drawn_list (suc steps) nodes registers g = drawn nodes registers g ∷ drawn_list steps nodes registers (after_drawn g)

@@ -1,4 +1,4 @@
--- What judging remembers of the items before, and what it finds at a mark.
+-- What the judge remembers of the items before, and what it finds at a mark.
 use Rattle.std.specs.Prelude.{ℕ, suc, ◌≡◌, ◌<◌, ◌&&◌, Bool, false, List, [], ◌∷◌, Option, Some, None, length, nat_eq, slice_index, if◌then◌else◌}
 use Rattle.mx_journal.specs.declared.records.Write.{Write}
 use Rattle.mx_registers.specs.Registers.{applied}
@@ -22,7 +22,7 @@ holder (s ∷ ss) = if s.closed then None else Some s.node
 abbrev pub Shows : List Write → List ℕ → Type 0
 Shows writes values = (length values ≡ 256) × ((r : ℕ) → r < 256 → slice_index values r ≡ applied r writes 0)
 
--- the ledger tells of these sections, of which all but the newest are left
+-- the ledger describes these sections, and all but the newest have been left
 pub record IsLedgerOf (ss : List Section) (l : Ledger) : Type 0 where
   pub inside : l.inside ≡ holder ss
   pub last : l.last ≡ length ss
@@ -34,7 +34,7 @@ abbrev pub is_node : ℕ → Option ℕ → Bool
 is_node i None = false
 is_node i (Some j) = nat_eq j i
 
--- what an entry breaks, given who is inside and the number that is next
+-- what an entry into a section breaks, given who is inside and the number that is next
 abbrev pub at_entry : Option ℕ → ℕ → ℕ → Option Clause
 at_entry None next n = if nat_eq n next then None else Some Number
 at_entry (Some j) next n = Some Overlap
@@ -49,12 +49,13 @@ broken_by ss (Went i receipt) =
     if is_node i (holder ss) && nat_eq receipt.number (length ss) then None else Some Overlap
 broken_by ss (Woke i) = None
 
--- what an entry of the trace breaks, by its mark, if it has one
+-- what an item of the trace breaks, by its mark; an item without a mark breaks nothing
 abbrev pub broken_at : List Section → List Mark → Option Clause
 broken_at ss [] = None
 broken_at ss (m ∷ ms) = broken_by ss m
 
--- the mark breaks this, or nothing, and then the ledger tells of it too
+-- after a mark: `found` is the clause that it breaks; where it breaks none, the new ledger describes the
+-- sections after it
 abbrev pub Takes : Ledger → List Mark → Option Clause → Ledger → Type 0
 Takes old marks found new =
     (ss : List Section) → IsLedgerOf ss old → (found ≡ broken_at ss marks) × (found ≡ None → IsLedgerOf (after_marks ss marks) new)

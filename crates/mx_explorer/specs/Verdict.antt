@@ -8,8 +8,8 @@ use Rattle.mx_network.specs.Trace.{IsExclusive, IsNumbered, marks}
 use Rattle.mx_explorer.specs.declared.verdict.Clause.{Clause}
 use Rattle.mx_explorer.specs.declared.verdict.Clause.TheVariants.{Overlap, Number, Read}
 
--- after these sections: each value read goes to the node inside the newest one, and is what all writes so
--- far, in order of entry, leave in the register
+-- in this history, which follows these sections, each value is read by the node inside the newest section,
+-- and is what all writes so far, in order of entry, leave in the register
 abbrev pub ReadsFit : List Section → List Mark → Type 0
 ReadsFit ss [] = Unit {0}
 ReadsFit ss (Came i n ∷ ms) = ReadsFit (after_mark ss (Came i n)) ms
@@ -23,12 +23,12 @@ ReadsFit ss (Woke i ∷ ms) = ReadsFit (after_mark ss (Woke i)) ms
 abbrev pub IsSoundTrace : List Entry → Type 0
 IsSoundTrace trace = IsExclusive trace × IsNumbered trace × ReadsFit [] (marks trace)
 
--- this is the first clause, in their order, that the trace breaks
+-- the trace breaks this clause, and none of those before it (the order is overlap, number, read)
 abbrev pub Breaks : Clause → List Entry → Type 0
 Breaks Overlap trace = ¬ IsExclusive trace
 Breaks Number trace = IsExclusive trace × ¬ IsNumbered trace
 Breaks Read trace = IsExclusive trace × IsNumbered trace × ¬ ReadsFit [] (marks trace)
 
--- the items before index k are sound, and with the item at k the clause is broken
+-- the trace up to index k, without it, is sound, and with the item at k it breaks the clause
 abbrev pub IsFirstBroken : List Entry → ℕ → Clause → Type 0
 IsFirstBroken trace k clause = IsSoundTrace (take k trace) × Breaks clause (take (suc k) trace)

@@ -14,10 +14,10 @@ use rand_core::utils::NextWord;
 use rand_pcg::Pcg32;
 use std::alloc::{AllocError, Global};
 
-/// A drawn schedule of so many steps, over the nodes and registers of a plan. The generator is
+/// A drawn schedule of this many steps, over the nodes and registers of a plan. The generator is
 /// `Pcg32` by `seed_from_u64`. Each step takes a word for the kind of the event and one for each of
 /// its arguments. The word of a delivery is not yet the number of a parcel: see `place`. Its only
-/// fault is want of memory.
+/// fault is that memory runs out.
 pub fn schedule(alloc: Global, seed: u64, steps: u64, plan: &Plan) -> Result<Vec<Event>, AllocError>
     ensures value { IfOk result (λ v. v.items
         ≡ drawn_list steps (length plan.now.nodes) (length plan.now.registers) (generator_of seed)) }
@@ -28,7 +28,7 @@ pub fn schedule(alloc: Global, seed: u64, steps: u64, plan: &Plan) -> Result<Vec
     schedule_over(alloc, seed, steps, plan.nodes(), plan.registers())
 }
 
-/// A drawn schedule over so many nodes and registers.
+/// A drawn schedule over this many nodes and registers.
 fn schedule_over(
     alloc: Global,
     seed: u64,

@@ -9,11 +9,11 @@ use crate::verdict::{Clause, Verdict};
 use mx_network::Entry;
 
 /// Judges a trace, whoever made it. Entries and leavings have to alternate, each leaving by the
-/// node and with the number of the entry before it; the n-th section entered has to bear n; and a
-/// value has to be read by the node inside, and be what the sections before and the node's own
-/// writes leave, those since it entered or last woke up. The node of an item is that of its event;
-/// of a receipt the number alone counts. A write of a node that is not inside counts for no
-/// section. No memory is taken; the time is that of one pass.
+/// node and with the number of the entry before it. The n-th section entered has to bear n. A value
+/// has to be read by the node inside, and has to be what the sections before it leave, followed by
+/// the node's own writes since it entered or last woke up. The node of an item is that of its event;
+/// of a receipt only the number is looked at. A write of a node that is not inside is passed over.
+/// No memory is taken; the trace is gone through once.
 pub fn judge(trace: &[Entry]) -> Verdict
     ensures sound { (result ≡ Verdict.Sound) ↔ IsSoundTrace trace.now }
     ensures broken { (k : ℕ) (c : Clause) → ((result ≡ Verdict.Broken k c) ↔ IsFirstBroken trace.now k c) }

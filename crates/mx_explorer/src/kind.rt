@@ -17,7 +17,7 @@ pub(crate) enum Kind {
     Deliver,
 }
 
-/// The kind by a word: deliveries are the most frequent.
+/// The kind of event that a word stands for. Deliveries are the most frequent.
 pub(crate) fn kind_of(word: u32) -> Kind
     ensures { result ≡ kind_by (word % 16) }
 {

@@ -1,4 +1,4 @@
-//! What judging remembers of the items before.
+//! What the judge remembers of the items before.
 
 ghost use Rattle.std.specs.Prelude.{◌≡◌, ◌∷◌, [], None, Option};
 ghost use Rattle.mx_member.specs.Sections.{Came, Got, Wrote, Went, Woke};
@@ -13,18 +13,22 @@ use mx_stamps::NodeId;
 /// How many registers an event can name.
 const REGISTERS: usize = 256;
 
-/// Who is inside, the number of the newest section, and what the registers hold: before that
-/// section, and with its own writes.
+/// What the judge remembers: who is inside, the number of the newest section, and what the registers
+/// hold.
 #[derive(Drop)]
 pub(crate) struct Ledger {
+    /// The node inside the newest section, until that is left.
     inside: Option<NodeId>,
+    /// The number of the newest section, 0 before the first.
     last: u64,
+    /// What the registers hold after the sections before the newest.
     before: [u64; REGISTERS],
+    /// The same with the writes of the newest section.
     held: [u64; REGISTERS],
 }
 
 impl Ledger {
-    /// Before the first item.
+    /// The ledger before the first item.
     pub(crate) fn new() -> Ledger
         ensures { IsLedgerOf [] result }
     {
@@ -36,7 +40,7 @@ impl Ledger {
         }
     }
 
-    /// Takes an item in, or tells which clause it breaks.
+    /// Takes an item in, or answers the clause that it breaks.
     pub(crate) fn take(&mut self, entry: &Entry) -> Option<Clause>
         ensures { Takes self.old (mark_of entry.now.event entry.now.outcome) result self.new }
     {

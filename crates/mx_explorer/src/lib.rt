@@ -1,4 +1,4 @@
-//! Judges traces, draws schedules and makes weather.
+//! Judges traces, draws schedules of events, and draws the fates of parcels (the weather).
 #![tactic(auto)]
 
 mod drawing;

@@ -1,14 +1,15 @@
-//! What is said of a trace.
+//! The verdict of a trace, and the clauses that a trace can break.
 
-/// What an entry of a trace can break.
+/// What an item of a trace can break.
 #[derive(Clone, Copy, Debug, PartialEq, Eq)]
 pub enum Clause {
-    /// A node entered while one was inside, or one left that was not inside with that number.
+    /// A node entered while another or the same was inside; or a node left that was not inside, or that
+    /// was inside with another number.
     Overlap,
     /// The n-th section entered does not bear n.
     Number,
-    /// A value was read by a node that is not inside, or is not the one that the sections before
-    /// and the own writes leave.
+    /// A value was read by a node that is not inside; or it is not the value that the sections before
+    /// and the node's own writes leave.
     Read,
 }
 

@@ -42,7 +42,7 @@ impl Weather {
 }
 
 impl Fates for Weather {
-    /// The fate by the next word.
+    /// The fate that the next word stands for.
     fn fate(&mut self) -> Fate
         ensures value { result ≡ fate_in self.old }
         ensures next { self.new ≡ after_fate self.old }
@@ -56,7 +56,7 @@ impl Fates for Weather {
     }
 }
 
-/// The fate by a word.
+/// The fate that a word stands for.
 fn fate_of(word: u32, lost: u16, doubled: u16) -> Fate
     ensures { result ≡ fate_by (word % 256) lost doubled }
 {

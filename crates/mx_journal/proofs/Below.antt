@@ -73,13 +73,13 @@ below_more m k (y ∷ ys) a l was =
     ])
     (λ _ h. absurd (omega arith)) was
 
--- it is k at the least
+-- the first missing number is at least k
 pub first_missing_above : (k : ℕ) (xs : List Record) → k ≤ first_missing k xs
 first_missing_above k [] = omega arith
 first_missing_above k (y ∷ ys) =
     first_missing_case (λ q. k ≤ q) k y ys (λ _. let l = first_missing_above (suc k) ys in omega arith) (λ _. omega arith)
 
--- and past all records at the most
+-- and at most the number behind all records
 pub first_missing_within : (k : ℕ) (xs : List Record) → first_missing k xs ≤ k + length xs
 first_missing_within k [] = omega arith
 first_missing_within k (y ∷ ys) =
@@ -92,7 +92,7 @@ number_at k (y ∷ ys) zero x a l is = let e : x.number ≡ y.number = ap (λ (z
 number_at k (y ∷ ys) (suc i) x a l is =
     let rest = number_at (suc y.number) ys i x a.1 (omega arith) is in let b = a.0 in omega arith
 
--- a record that stands where its number says: nothing up to it is missing
+-- where a record stands at the place that its number says, nothing up to it is missing
 pub none_missing_up_to : (k : ℕ) (xs : List Record) (i : ℕ) (x : Record) → Ascending k xs → i < length xs → x ≡ get_or xs i x → x.number ≡ k + i → k + i + 1 ≤ first_missing k xs
 none_missing_up_to k [] i x a l is e = absurd (omega arith)
 none_missing_up_to k (y ∷ ys) zero x a l is e =
@@ -105,7 +105,7 @@ none_missing_up_to k (y ∷ ys) (suc i) x a l is e =
     (λ here. let rest = none_missing_up_to (suc k) ys i x (subst (λ q. Ascending (suc q) ys) here a.1) (omega arith) is (omega arith) in omega arith)
     (λ gone. absurd (gone (omega arith)))
 
--- one that does not: something up to there is missing
+-- where it does not, something up to there is missing
 pub some_missing_before : (k : ℕ) (xs : List Record) (i : ℕ) (x : Record) → Ascending k xs → i < length xs → x ≡ get_or xs i x → x.number ≢ k + i → first_missing k xs ≤ k + i
 some_missing_before k [] i x a l is e = absurd (omega arith)
 some_missing_before k (y ∷ ys) zero x a l is e =

@@ -76,7 +76,7 @@ first_left n xs rs a h = (
   ],
 )
 
--- both, of the answer as a whole
+-- both facts, of the answer as a whole
 pub some_says : (least : Option ℕ) (xs rs : List Record) → Ascending 1 xs → IsLeastSoFar least rs (xs ++ rs) → IfSome least (λ n. IsFirstConflict n (xs ++ rs))
 some_says None xs rs a h = tt
 some_says (Some n) xs rs a h = first_left n xs rs a h

@@ -13,7 +13,7 @@ pub record_at_case : (P : Option Record → Type 0) (n : ℕ) (x : Record) (xs :
 record_at_case P n x xs here later =
     cond_case P (nat_eq x.number n) (Some x) (record_at n xs) (λ t. here (eq_true x.number n t)) (λ f. later (eq_false x.number n f))
 
--- what holds of a map with a record more, by where its number stands
+-- what holds of a map with one more record, by where its number stands
 pub with_record_case : (P : List Record → Type 0) (r x : Record) (xs : List Record) → (r.number < x.number → P (r ∷ x ∷ xs)) → (x.number < r.number → P (x ∷ with_record r xs)) → (x.number ≡ r.number → P (x ∷ xs)) → P (with_record r (x ∷ xs))
 with_record_case P r x xs first later here =
     cond_case P (nat_lt r.number x.number) (r ∷ x ∷ xs) (cond (nat_lt x.number r.number) (x ∷ with_record r xs) (x ∷ xs))
@@ -28,7 +28,7 @@ ascending_above k [] a x h = absurd h
 ascending_above k (y ∷ ys) a x (inl e) = subst (λ (z : Record). k ≤ z.number) (sym e) a.0
 ascending_above k (y ∷ ys) a x (inr h) = let l = ascending_above (suc y.number) ys a.1 x h in omega (arith, a.0)
 
--- a lower bound serves as well
+-- a list that ascends from a number on ascends from any lower one on
 pub ascending_from : (j k : ℕ) (xs : List Record) → j ≤ k → Ascending k xs → Ascending j xs
 ascending_from j k [] l a = tt
 ascending_from j k (y ∷ ys) l a = (omega (arith, a.0), a.1)
@@ -69,7 +69,7 @@ pub ascending_same : (k : ℕ) (xs : List Record) → Ascending k xs → IsConsi
 ascending_same k xs a x y h t e =
     same_Some x y (sym (found_at k xs a x h) ∙ ap (λ n. record_at n xs) e ∙ found_at k xs a y t)
 
--- a record of a map with one more was there or is the new one
+-- a record of a map with one more record was there or is the new one
 pub in_with_record : (r : Record) (xs : List Record) (x : Record) → IsIn x (with_record r xs) → IsIn x xs ⊎ (x ≡ r)
 in_with_record r [] x (inl e) = inr e
 in_with_record r [] x (inr h) = absurd h

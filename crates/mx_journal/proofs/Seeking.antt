@@ -62,7 +62,7 @@ none_at_place n k (y ∷ ys) i a at h = elim (compared y.number n) [
   | inr (inr l) ↦ none_found n (y ∷ ys) (λ x m e. let q = ascending_above y.number (y ∷ ys) ((omega arith), a.1) x m in absurd (omega arith))
 ]
 
--- the one at the place that bears the number is found
+-- the record at the place is found where it bears the number
 pub found_at_place : (n : ℕ) (xs : List Record) (i : ℕ) (x : Record) → Ascending 1 xs → i < length xs → x ≡ get_or xs i x → (get_or xs i x).number ≡ n → record_at n xs ≡ Some x
 found_at_place n xs i x a l is e =
     subst (λ k. record_at k xs ≡ Some x) (ap (λ (z : Record). z.number) is ∙ e) (found_at 1 xs a x (in_at xs i x l is))

@@ -1,9 +1,9 @@
--- Agreement of records: no two that differ bear one number.
+-- Agreement of records: no two records that differ bear the same number.
 use Rattle.std.specs.Prelude.{ℕ, ◌≡◌, ◌≢◌, ◌<◌, List, Option, Some, None}
 use Rattle.mx_stamps.specs.Lists.{IsIn}
 use Rattle.mx_journal.specs.declared.records.Record.{Record}
 
--- the record found is there, and another than r
+-- a record was found, and it differs from r
 abbrev pub IsOther : Record → Option Record → Type 0
 IsOther r None = ⊥
 IsOther r (Some x) = x ≢ r
@@ -28,7 +28,7 @@ IsConsistent xs = AreAgreeing xs xs
 abbrev pub IsSubmap : List Record → List Record → Type 0
 IsSubmap xs ys = (x : Record) → IsIn x xs → IsIn x ys
 
--- two differing records of the list bear n
+-- two records of the list that differ bear the number n
 abbrev pub IsConflict : ℕ → List Record → Type 0
 IsConflict n xs =
     (x : Record) × (y : Record) × IsIn x xs × IsIn y xs × (x.number ≡ n) × (y.number ≡ n) × (x ≢ y)
@@ -37,6 +37,6 @@ IsConflict n xs =
 abbrev pub AreAgreeingBelow : ℕ → List Record → Type 0
 AreAgreeingBelow n xs = (x y : Record) → IsIn x xs → IsIn y xs → x.number ≡ y.number → x.number < n → x ≡ y
 
--- n is the least number that two differing records of the list bear
+-- n is the least number that two records of the list bear that differ
 abbrev pub IsFirstConflict : ℕ → List Record → Type 0
 IsFirstConflict n xs = IsConflict n xs × AreAgreeingBelow n xs

@@ -15,14 +15,14 @@ pub record Drafted : Type 0 where
 abbrev pub last_value : ℕ → List Write → Option ℕ
 last_value register writes = last_or None (map (λ w. w.value) (filter (λ w. w.register == register) writes))
 
--- the draft with a read more, after the writes so far
+-- the draft with one more read, which comes after the writes so far
 abbrev pub with_read : ℕ → ℕ → Drafted → Drafted
 with_read register value draft = record {
   reads = draft.reads ++ record { register = register; value = value; after = length draft.writes } ∷ [];
   writes = draft.writes;
 }
 
--- the draft with a write more
+-- the draft with one more write
 abbrev pub with_write : ℕ → ℕ → Drafted → Drafted
 with_write register value draft = record {
   reads = draft.reads;

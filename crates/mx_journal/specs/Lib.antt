@@ -1,5 +1,5 @@
 -- Records: journals as maps. Gapless: journals without gaps. Agreement: records of one number.
--- Drafted: drafts and what closes them. Searches: what private functions answer.
+-- Drafted: drafts, and the receipts and records that close them. Searches: what private functions answer.
 pub mod Records
 pub mod Gapless
 pub mod Agreement

@@ -28,7 +28,7 @@ with_record r [] = r ∷ []
 with_record r (x ∷ xs) =
     if nat_lt r.number x.number then r ∷ x ∷ xs else (if nat_lt x.number r.number then x ∷ with_record r xs else x ∷ xs)
 
--- the map with these records too, of which the first that bears a number counts
+-- the map with these records too; of several that bear the same number the first counts
 abbrev pub with_records : List Record → List Record → List Record
 with_records [] journal = journal
 with_records (r ∷ rs) journal = with_records rs (with_record r journal)

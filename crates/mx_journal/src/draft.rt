@@ -15,7 +15,8 @@ use thiserror::Error;
 #[error("the draft is full")]
 pub struct Full;
 
-/// What a node has read and written since it is inside: at most eight of each, in order.
+/// What a node has read and written since it entered its section or last restarted in it: at most eight
+/// reads and eight writes, in order.
 #[derive(Drop)]
 pub struct Draft {
     reads: ArrayVec<Read, 8>,
@@ -80,7 +81,7 @@ impl Draft {
         last_of(self.writes.as_slice(), register)
     }
 
-    /// The receipt of the section, which its number and its node complete. The draft stays.
+    /// The receipt of the section of this number, by this node. The draft stays as it is.
     pub fn close(&self, number: u64, node: NodeId) -> Receipt
         ensures value { result ≡ receipt_of number node self.now }
         ensures bound { (length self.now.reads ≤ 8) × (length self.now.writes ≤ 8) }

@@ -14,7 +14,7 @@ use arrayvec::ArrayVec;
 use std::alloc::{AllocError, Global};
 use std::marker::Model;
 
-/// How many records go into one answer of `records_in`.
+/// The greatest number of records that `records_in` answers at once.
 const RECORDS_AT_ONCE: usize = 4;
 
 /// A finite map from section numbers, 1 and above, to the records that bear them.
@@ -45,8 +45,8 @@ impl Journal {
         }
     }
 
-    /// Puts a record. `Conflict` names its number, which another record bears; memory is asked for
-    /// only where the record is new.
+    /// Puts a record. `Conflict` means that the journal has another record of the same number, and
+    /// names that number. Memory is asked for only where the record is new.
     pub fn put(&mut self, entry: Record) -> Result<Put, PutFault>
         ensures zero { (result ≡ Err PutFault.ZeroNumber) ↔ (entry.number ≡ 0) }
         ensures conflict { (n : ℕ) → (result ≡ Err (PutFault.Conflict n))
@@ -75,9 +75,10 @@ impl Journal {
 
     /// Puts all records of a list, or none where one of them can't be put, and answers how many
     /// were new. A record may stand in the list more than once. `Conflict` names the least number
-    /// that two differing records bear, be they of the list or one of the journal. `Memory` comes
-    /// only where there is no other fault. A list that ascends takes time by its length; in one
-    /// that doesn't, the records are compared with one another.
+    /// that two differing records bear; both may be in the list, or one in the journal. `Memory` comes
+    /// only where there is no other fault. The time is that of a put for each record where the list
+    /// ascends by number; in any other list each record is compared with each other one, so that the
+    /// time grows with the square of the length.
     pub fn put_all(&mut self, list: &[Record]) -> Result<u64, PutFault>
         ensures zero { (result ≡ Err PutFault.ZeroNumber) ↔ IsThere 0 list.now }
         ensures conflict { (n : ℕ) → (result ≡ Err (PutFault.Conflict n))
@@ -130,7 +131,7 @@ impl Journal {
         &self.records[place]
     }
 
-    /// How many records bear a lower number: the place of the first that doesn't.
+    /// How many records bear a lower number. That is the place of the first record that does not.
     pub fn place_of(&self, number: u64) -> usize
         ensures value { result ≡ place number self.now }
         ensures bound { result ≤ length self.now }
@@ -147,7 +148,7 @@ impl Journal {
         self.records.len()
     }
 
-    /// Whether it has none.
+    /// Whether it has no record.
     pub fn is_empty(&self) -> bool
         ensures value { IsTrue result ↔ (self.now ≡ []) }
         ensures ordered { Ascending 1 self.now }

@@ -60,8 +60,8 @@ pub(crate) fn top_in(records: &[Record]) -> u64
     }
 }
 
-/// The greatest number up to which none is missing. Up to it each record stands where its number
-/// says, and none behind it does, so halves are searched.
+/// The greatest number up to which none is missing. Exactly the records up to it stand where their
+/// number says, so it can be found by searching halves.
 pub(crate) fn gapless_in(records: &[Record]) -> u64
     requires { Ascending 1 records.now }
     ensures { result + 1 ≡ first_missing 1 records.now }
@@ -100,7 +100,7 @@ pub(crate) fn least_in(records: &[Record], range: Range) -> ArrayVec<Record, 4>
     least_from(&records[start..], range)
 }
 
-/// The same, in a list that begins in the range or behind it.
+/// The same, in a list whose first record is in the range or behind it.
 fn least_from(records: &[Record], range: Range) -> ArrayVec<Record, 4>
     requires { Ascending range.first records.now }
     ensures { result.items ≡ take 4 (in_range range records.now) }

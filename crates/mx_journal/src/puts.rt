@@ -14,13 +14,13 @@ use thiserror::Error;
 /// What `Journal::put` found.
 #[derive(Clone, Copy, Debug, PartialEq, Eq)]
 pub enum Put {
-    /// Nothing bore the number, and now the record does.
+    /// No record had the number. The journal now has this one.
     New,
-    /// This very record was there.
+    /// The journal had this very record already.
     Same,
 }
 
-/// Why a journal takes nothing.
+/// Why a journal does not take a record, or a list of records.
 #[derive(Clone, Copy, Debug, PartialEq, Eq, Error)]
 pub enum PutFault {
     #[error("a record bears the number 0")]
@@ -82,7 +82,7 @@ fn agrees_in(list: &[Record], entry: &Record) -> bool
     true
 }
 
-/// The same, in a list that ascends, by one search.
+/// The same, by a search by halves, in a list that ascends.
 fn agrees_at_place(records: &[Record], entry: &Record) -> bool
     requires { Ascending 1 records.now }
     ensures agrees { IsTrue result → AgreesWith entry.now records.now }
@@ -94,8 +94,8 @@ fn agrees_at_place(records: &[Record], entry: &Record) -> bool
     }
 }
 
-/// The same, in a journal's records and a list to which the record belongs. A list that is in order
-/// has no conflict in itself.
+/// The same, in a journal's records and in a list to which the record belongs. A list whose numbers
+/// ascend has no two records of the same number, so only the journal is searched then.
 fn agrees_in_both(records: &[Record], list: &[Record], in_order: bool, entry: &Record) -> bool
     requires ascending { Ascending 1 records.now }
     requires ordered { IsTrue in_order → Ascending 1 list.now }
@@ -107,8 +107,8 @@ fn agrees_in_both(records: &[Record], list: &[Record], in_order: bool, entry: &R
 }
 
 /// The least number that two differing records bear, of the journal's records and the list's. Where
-/// the list ascends, the time is that of a search for each of its records; else each is compared
-/// with the whole list. It takes no memory.
+/// the list ascends, the time is that of one search for each of its records; else each record is
+/// compared with the whole list, and the time grows with the square of its length. It takes no memory.
 pub(crate) fn least_conflict(records: &[Record], list: &[Record]) -> Option<u64>
     requires { Ascending 1 records.now }
     ensures some { IfSome result (λ n. IsFirstConflict n (records.now ++ list.now)) }
@@ -124,7 +124,7 @@ pub(crate) fn least_conflict(records: &[Record], list: &[Record]) -> Option<u64>
     least
 }
 
-/// The lower of the two, where there are two.
+/// The lower of the two numbers, or the second where there is only that.
 fn lower(least: Option<u64>, number: u64) -> u64
     ensures { result ≡ lower_of least number }
 {

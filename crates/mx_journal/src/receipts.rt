@@ -7,7 +7,7 @@ use crate::records::{Record, Write, copy_of_writes};
 use arrayvec::ArrayVec;
 use mx_stamps::NodeId;
 
-/// A read of a value from a register, after so many writes of its own section.
+/// A read of a value from a register, with the count of the writes of the same section before it.
 #[derive(Clone, Copy, Debug, Default, PartialEq, Eq)]
 pub struct Read {
     pub register: u8,

@@ -5,15 +5,19 @@ use mx_stamps::Stamp;
 /// A letter of Maekawa's algorithm (1985). Each carries the stamp of the request that it is about.
 #[derive(Clone, Copy, Debug, PartialEq, Eq)]
 pub enum MaekawaMsg {
+    /// A requester asks an arbiter for its grant.
     Request(Stamp),
-    /// The grant's number, and the highest section number that the arbiter knew.
+    /// An arbiter grants: the number of the grant, and the highest section number that the arbiter
+    /// had been told.
     Locked(Stamp, u64, u64),
+    /// An arbiter has another request to serve first.
     Failed(Stamp),
-    /// The grant that is asked back.
+    /// An arbiter asks for the grant of this number back.
     Inquire(Stamp, u64),
-    /// The grant that is given back.
+    /// A requester gives the grant of this number back.
     Relinquish(Stamp, u64),
-    /// `top` of the sender.
+    /// A requester has ended its requests up to this stamp: the highest section number that it
+    /// knows.
     Release(Stamp, u64),
 }
 

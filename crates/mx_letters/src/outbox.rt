@@ -6,7 +6,7 @@ use arrayvec::ArrayVec;
 use mx_stamps::NodeId;
 use std::marker::Model;
 
-/// How many letters an outbox holds.
+/// The greatest number of letters in an outbox.
 pub const OUTBOX_ROOM: usize = 32;
 
 /// The letters of one call of a node, in order, each with its addressee. No call of the
@@ -34,7 +34,7 @@ impl<M: Default + Drop> Outbox<M> {
         }
     }
 
-    /// Lets all letters go.
+    /// Removes all letters.
     pub fn clear(&mut self)
         ensures { self.new ≡ [] }
     {
@@ -43,7 +43,7 @@ impl<M: Default + Drop> Outbox<M> {
 }
 
 impl<M: Drop> Outbox<M> {
-    /// Whether it holds no letter, as each call of a node wants it.
+    /// Whether it holds no letter. Each call of a node asks for an empty outbox.
     pub fn is_empty(&self) -> bool
         ensures { IsTrue result ↔ (self.now ≡ []) }
     {

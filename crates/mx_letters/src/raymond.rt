@@ -3,11 +3,12 @@
 /// A letter of Raymond's algorithm (1989).
 #[derive(Clone, Copy, Debug, PartialEq, Eq)]
 pub enum RaymondMsg {
-    /// The number of the request among those that its sender sent.
+    /// A node wants the privilege: the number of this request among those of its sender.
     Request(u64),
-    /// The privilege's hop, and the highest section number that its sender knew.
+    /// The privilege moves to the addressee: the number of this move, its hop, and the highest section
+    /// number that the sender knew.
     Privilege(u64, u64),
-    /// The hop that has arrived.
+    /// The privilege of this hop has arrived.
     Got(u64),
 }
 

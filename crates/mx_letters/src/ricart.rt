@@ -2,12 +2,13 @@
 
 use mx_stamps::Stamp;
 
-/// A letter of Ricart and Agrawala's algorithm (1981). A reply repeats the stamp that it answers,
-/// and carries the highest section number that its sender knew.
+/// A letter of Ricart and Agrawala's algorithm (1981). Each carries the stamp of the request that it
+/// is about.
 #[derive(Clone, Copy, Debug, PartialEq, Eq)]
 pub enum RicartMsg {
+    /// A node asks for the section.
     Request(Stamp),
-    /// The stamp that is answered, and `top` of the sender.
+    /// The sender permits the request of this stamp: the highest section number that it knew.
     Reply(Stamp, u64),
 }
 

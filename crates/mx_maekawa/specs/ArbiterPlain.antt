@@ -17,7 +17,7 @@ use Rattle.mx_maekawa.specs.Good.{PlainLetter, PlainLock, PlainArbiter}
 use Rattle.mx_maekawa.specs.ArbiterStep.{Did}
 use Rattle.mx_maekawa.specs.RequesterPlain.{set_small}
 
--- a step of the arbiter that keeps the layer
+-- a step of the arbiter after which each number is a u64 value, and each name a node
 abbrev pub PlainDid : ℕ → Did → Type 0
 PlainDid n did = IsPlainDone PlainArbiter PlainLetter n did
 

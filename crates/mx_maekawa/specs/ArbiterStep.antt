@@ -1,4 +1,5 @@
--- The arbiter's rows of the step table.
+-- The arbiter's rows of the step table. Each says which part of it is published (Maekawa 1985) and
+-- which is added here.
 use Rattle.std.specs.Prelude.{ℕ, zero, suc, ◌+◌, ◌<◌, ◌≡◌, Bool, false, ◌||◌, ◌&&◌, List, [], ◌∷◌, Option, Some, None, max, nat_lt, nat_eq, if◌then◌else◌, slice_index_or, slice_set, replicate}
 use Rattle.mx_stamps.specs.declared.stamp.Stamp.{Stamp}
 use Rattle.mx_stamps.specs.Stamp.{Before, is_before_of, is_same_as}
@@ -9,7 +10,7 @@ use Rattle.mx_nodelaws.specs.World.{Done}
 use Rattle.mx_maekawa.specs.declared.lock.Lock.{Lock}
 use Rattle.mx_maekawa.specs.Node.{ArbiterState}
 
--- an arbiter at rest: of the count and the origin
+-- an arbiter that has just been started: from the count and the origin
 abbrev pub start_arbiter : ℕ → ℕ → ArbiterState
 start_arbiter count origin = record { count = count; lock = None; granted = origin; waiting = replicate 21 None; ended = replicate 21 origin; last = 0 }
 
@@ -17,31 +18,31 @@ start_arbiter count origin = record { count = count; lock = None; granted = orig
 abbrev pub waiting_at : ArbiterState → ℕ → Option Stamp
 waiting_at a j = slice_index_or a.waiting j None
 
--- the greatest number of node j's stamps that are known to have ended
+-- the greatest of node j's stamp numbers that are known to have ended
 abbrev pub ended_at : ArbiterState → ℕ → ℕ
 ended_at a j = slice_index_or a.ended j 0
 
--- the lesser of two requests, as far as they are there
+-- the lesser of two requests; where only one is there, that one
 abbrev pub lesser : Option Stamp → Option Stamp → Option Stamp
 lesser None y = y
 lesser (Some x) None = Some x
 lesser (Some x) (Some y) = if is_before_of y x then Some y else Some x
 
--- the least of the requests f 0, f 1, .., below n, as far as they are there
+-- the least of those of f 0, f 1, .., below n that are there; none where none is
 abbrev pub IsLeastOf : (ℕ → Option Stamp) → ℕ → Option Stamp → Type 0
 IsLeastOf f n None = (j : ℕ) → j < n → f j ≡ None
 IsLeastOf f n (Some u) = ((j : ℕ) × (j < n) × (f j ≡ Some u)) × ((j : ℕ) (v : Stamp) → j < n → f j ≡ Some v → Before v u → ⊥)
 
--- the same, found node by node
+-- the same, found by going through the nodes
 abbrev pub least_of : (ℕ → Option Stamp) → ℕ → Option Stamp
 least_of f zero = None
 least_of f (suc n) = lesser (least_of f n) (f n)
 
--- the requests that wait, but for that of one node
+-- the requests that wait, without that of one node
 abbrev pub others_at : ArbiterState → ℕ → ℕ → Option Stamp
 others_at a but j = if nat_eq j but then None else waiting_at a j
 
--- what a step makes of the arbiter
+-- what a step of the arbiter gives: its next state and its letters
 abbrev pub Did : Type 0
 Did = Done ArbiterState (Unit {0}) MaekawaMsg
 
@@ -52,12 +53,16 @@ silent a = record { state = a; answer = tt; letters = [] }
 abbrev pub sending : ArbiterState → List (ℕ × MaekawaMsg) → Did
 sending a letters = record { state = a; answer = tt; letters = letters }
 
--- the letter of the lock, if there is one
+-- the grant of the lock, if there is a lock
 abbrev pub lock_letter : Option Lock → List (ℕ × MaekawaMsg)
 lock_letter None = []
 lock_letter (Some lock) = (lock.stamp.node, Locked lock.stamp lock.grant lock.last) ∷ []
 
--- Grant: where there is no lock, the least waiting request gets the next grant
+-- Grant: where there is no lock, the least of the requests that wait gets the next grant.
+-- Published: an arbiter that is not locked locks for the request that precedes all others that wait,
+-- and sends LOCKED.
+-- Added: the grant's number, and `last`, the highest section number that was told; nothing is granted
+-- where no number is left.
 abbrev pub locking : ArbiterState → Stamp → ArbiterState
 locking a u = record a { waiting = slice_set a.waiting u.node None; granted = a.granted + 1; lock = Some (record { stamp = u; grant = a.granted + 1; last = a.last }) }
 
@@ -75,7 +80,7 @@ grant_in (Some lock) a = silent a
 abbrev pub grant : ArbiterState → Did
 grant a = grant_in a.lock a
 
--- a request that waits, if there is one, is before s
+-- there is a request that waits, and it is before s
 abbrev pub is_below : Option Stamp → Stamp → Bool
 is_below None s = false
 is_below (Some u) s = is_before_of u s
@@ -84,7 +89,13 @@ abbrev pub fail_least : Option Stamp → List (ℕ × MaekawaMsg)
 fail_least None = []
 fail_least (Some u) = (u.node, Failed u) ∷ []
 
--- Rank: the request s stands against the lock, and against the least of the others that wait
+-- Rank: the request s, which has to wait, is compared with the lock, and with the least of the other
+-- requests that wait.
+-- Published: where the lock's request or one that waits precedes s, FAILED to the node of s; else
+-- INQUIRE to the lock's node.
+-- Added: where the lock is for an older stamp of the node of s, INQUIRE to that node, as the release of
+-- the older stamp may have been lost; and FAILED to the least of the others that wait, which s has
+-- overtaken, as it may have been told nothing so far.
 abbrev pub overtaking : Lock → Option Stamp → List (ℕ × MaekawaMsg)
 overtaking lock other = (lock.stamp.node, Inquire lock.stamp lock.grant) ∷ fail_least other
 
@@ -97,7 +108,11 @@ rank_by lock s other = if nat_eq lock.stamp.node s.node then (s.node, Inquire lo
 abbrev pub rank : Lock → Stamp → ArbiterState → Did
 rank lock s a = sending a (rank_by lock s (least_of (others_at a s.node) a.count))
 
--- REQUEST of a node: a stamp that has ended is ignored, a lock for it is told again, a later one of its node stands before it
+-- REQUEST with stamp s.
+-- Published: where there is no lock it is granted; else it waits, and is ranked.
+-- Added: the request is ignored where s has ended, or where a later stamp of the same node is locked
+-- for or waits; where the lock is for s, its LOCKED is sent again. For requests are sent again, and
+-- may come late.
 abbrev pub waiting_for : ArbiterState → Stamp → ArbiterState
 waiting_for a s = record a { waiting = slice_set a.waiting s.node (Some s) }
 
@@ -129,7 +144,10 @@ take_live s a = if is_for a.lock s then sending a (lock_letter a.lock) else take
 abbrev pub take_request : Stamp → ArbiterState → Did
 take_request s a = if nat_lt (ended_at a s.node) s.number then take_live s a else silent a
 
--- RELINQUISH of the node of s: where the lock is for exactly this stamp and grant it ends, and the request waits again
+-- RELINQUISH from the node of s: where the lock is for exactly this stamp and grant it ends, and the
+-- request waits again.
+-- Published: so, and the first of those that wait is granted.
+-- Added: the tests of stamp and grant number. Where a later request of the node waits, that one stays.
 abbrev pub is_exactly : Option Lock → Stamp → ℕ → Bool
 is_exactly None s g = false
 is_exactly (Some lock) s g = is_same_as lock.stamp s && nat_eq lock.grant g
@@ -144,7 +162,10 @@ taking_back s a = record a { lock = None; waiting = slice_set a.waiting s.node (
 abbrev pub take_relinquish : Stamp → ℕ → ArbiterState → Did
 take_relinquish s g a = if is_exactly a.lock s g then grant (taking_back s a) else silent a
 
--- RELEASE of the node of s: all its requests up to s have ended, and a lock for one of them ends
+-- RELEASE from the node of s: all its requests up to s have ended, and a lock for one of them ends.
+-- Published: the lock ends, and the first of those that wait is granted.
+-- Added: the release bears s, so that it ends no later request, and an older request that comes late is
+-- known to have ended; `last` takes in the section number that the release tells.
 abbrev pub drop_up_to : Option Stamp → ℕ → Option Stamp
 drop_up_to None number = None
 drop_up_to (Some u) number = if nat_lt number u.number then Some u else None

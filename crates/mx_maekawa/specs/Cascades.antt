@@ -50,7 +50,7 @@ pub give_count : (n : ℕ) (r : RequesterState) → (give_below n r).state.count
 give_count zero r = refl
 give_count (suc n) r = let x = (give_below n r).state in giving_count (asked_at x n) x n ∙ give_count n r
 
--- no inquiry of those arbiters is remembered any more
+-- no inquiry of the arbiters below n is remembered any more
 give_clears : (n : ℕ) (r : RequesterState) (b : ℕ) → b < n → asked_at (give_below n r).state b ≡ None
 give_clears zero r b lt = absurd (omega arith)
 give_clears (suc n) r b lt =
@@ -67,7 +67,7 @@ module _ (i : ℕ) where
   pub same_sound : {A : Type 0} (w : NodeWorld) (s : Node) (answer : A) → IsSound w → IsNode w i s → IsSound (after w i (unchanged s answer))
   same_sound w s answer good at = subst (λ x. IsSound x) (sym (after_nothing w i s answer at)) good
 
-  -- one part, and then another
+  -- two parts, one after the other
   pub both_sound : {A B : Type 0} (w : NodeWorld) (first : Done Node A MaekawaMsg) (second : Done Node B MaekawaMsg) → IsSound (after (after w i first) i second) → IsSound (after w i (record { state = second.state; answer = second.answer; letters = first.letters ++ second.letters }))
   both_sound w first second sound = subst (λ x. IsSound x) (after_twice w i first second) sound
 
@@ -124,7 +124,7 @@ module _ (i : ℕ) where
   pub grant_sound : (w : NodeWorld) (s : Node) → IsSound w → IsNode w i s → IsSound (after w i (by_arbiter s (grant s.arbiter)))
   grant_sound w s good at = grant_in_sound w s s.arbiter.lock good at refl
 
-  -- letters alone
+  -- a part that only sends letters
   pub sends_sound : {A : Type 0} (w : NodeWorld) (s : Node) (answer : A) (letters : List (ℕ × MaekawaMsg)) (good : IsSound w) (at : IsNode w i s) → ((b : ℕ) (m : MaekawaMsg) → IsIn {X = ℕ × MaekawaMsg} (b, m) letters → IsSendable w i s s b m) → IsSound (after w i (record { state = s; answer = answer; letters = letters }))
   sends_sound {A} w s answer letters good at may =
       let ok = good.nodes i s at in

@@ -74,7 +74,7 @@ module _ {A : Type 0} (w : NodeWorld) (i : ℕ) (s : Node) (done : Done Node A M
         ]);
   }
 
-  -- node j, which has entered a section, where it takes the step
+  -- the entry of node j into its last section, where node j takes the step
   kept_here : (j a : ℕ) (t : Node) (en : IsEntered w j t) → IsNode w j t → j ≡ i → IsGivingBack i s done.state a en.stamp (en.grant_of a) → ⊥
   kept_here j a t en tat e back =
       let same = was w i s at j t e tat in

@@ -20,7 +20,7 @@ NodeWorld = World Node MaekawaMsg
 abbrev pub IsBusy : RequesterState → Type 0
 IsBusy r = is_busy r.phase ≡ true
 
--- the own stamp of this number is no longer current, and never will be
+-- the own stamp of this number has ended: it is not current, and never will be again
 abbrev pub IsEnded : RequesterState → ℕ → Type 0
 IsEnded r number = (number ≤ r.issued) × (IsBusy r → number < r.issued)
 
@@ -46,7 +46,7 @@ pub record IsEntered (w : NodeWorld) (i : ℕ) (s : Node) : Type 0 where
   pub stamp : Stamp
   pub grant_of : ℕ → ℕ
   pub node : stamp.node ≡ i
-  -- while it is inside both are current, and then the stamp is ended
+  -- while it is inside its stamp and its number are current; once it has left the stamp has ended
   pub inside : (n : ℕ) → s.requester.phase ≡ Inside n → (stamp ≡ s.requester.ours) × ((a : ℕ) → is_own s.requester a ≡ true → held_at s.requester a ≡ Some (grant_of a))
   pub ended : ((n : ℕ) → s.requester.phase ≡ Inside n → ⊥) → IsEnded s.requester stamp.number
   -- each grant was sent, and was not given back
@@ -67,7 +67,7 @@ pub record IsHeldOk (w : NodeWorld) (s : Node) (a g : ℕ) : Type 0 where
   pub top : c ≤ s.requester.top
   pub lock : (arbiter : Node) → IsNode w a arbiter → IsLockedFor arbiter s.requester.ours g c
 
--- the name of node i, the count, and its own set: each arbiter is a node, and the sets of two nodes meet
+-- node i has its own name, the count, and its own set, whose arbiters are nodes and which meets each other set
 pub record IsPlaced (w : NodeWorld) (i name count : ℕ) (row : List Bool) : Type 0 where
   pub me : name ≡ i
   pub few : count ≤ 21
@@ -84,7 +84,7 @@ pub record IsNodeOk (w : NodeWorld) (i : ℕ) (s : Node) : Type 0 where
   pub issued : s.requester.issued ≤ s.requester.highest
   pub ours_node : IsBusy s.requester → s.requester.ours.node ≡ i
   pub ours_number : IsBusy s.requester → s.requester.ours.number ≡ s.requester.issued
-  -- the node knows its own sections, and no section that nobody has entered
+  -- `top` counts the node's own sections, and no section that nobody has entered
   pub mine_top : s.requester.mine ≤ s.requester.top
   pub top_reached : IsReached w s.requester.top
   pub last_reached : IsReached w s.arbiter.last
@@ -128,12 +128,12 @@ IsLetterOk w a b (Inquire stamp g) = (c : ℕ) × WasSent w a b (Locked stamp g 
 IsLetterOk w a b (Relinquish stamp g) = IsRelinquishOk w a b stamp g
 IsLetterOk w a b (Release stamp t) = IsReleaseOk w a stamp t
 
--- each node and each letter is as above: what each part of a step keeps
+-- each node and each letter is as above. Each part of a step keeps this
 pub record IsSound (w : NodeWorld) : Type 0 where
   pub nodes : (i : ℕ) (s : Node) → IsNode w i s → IsNodeOk w i s
   pub letters : (a b : ℕ) (m : MaekawaMsg) → WasSent w a b m → IsLetterOk w a b m
 
--- no inquiry is remembered beside a failed arbiter: what each step keeps as a whole
+-- no inquiry is remembered while an arbiter has failed. A whole step keeps this, its parts do not
 abbrev pub IsCalm : RequesterState → Type 0
 IsCalm r = (a g b : ℕ) → b < r.count → asked_at r a ≡ Some g → has_failed r b ≡ false
 
@@ -150,7 +150,7 @@ PlainLetter n (Inquire stamp g) = PlainStamp n stamp × Small g
 PlainLetter n (Relinquish stamp g) = PlainStamp n stamp × Small g
 PlainLetter n (Release stamp t) = PlainStamp n stamp × Small t
 
--- the same of a node's parts
+-- the same for the parts of a node's state
 pub record PlainRequester (n : ℕ) (r : RequesterState) : Type 0 where
   pub me : r.me < n
   pub own : (a : ℕ) → is_own r a ≡ true → a < n

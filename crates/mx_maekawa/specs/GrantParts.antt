@@ -1,4 +1,4 @@
--- Parts of steps: a grant comes, and a grant goes back, and a world stays sound.
+-- Parts of steps that take a grant or give one back keep a world sound.
 use Rattle.std.proofs.Common.{ℕ, ◌<◌, ◌≤◌, ◌≡◌, ◌≢◌, inl, inr, Bool, true, List, [], ◌∷◌, Option, Some, None, max, slice_set, length, get_or, refl, sym, ◌∙◌, ap, subst, arith}
 use Rattle.std.proofs.lemmas.Option.{same_Some}
 use Rattle.std.proofs.lemmas.List.{length-set}
@@ -107,7 +107,7 @@ module _ (w : NodeWorld) (i : ℕ) (s : Node) (good : IsSound w) (at : IsNode w 
         entered = λ some. let en = kept.entered some in entered_as (after w i done) i s new refl refl en (λ n inside. absurd (waiting_not_inside s.requester.phase n waiting inside)) en.ended;
       })
 
-  -- a grant goes back
+  -- a grant is given back
 
   pub gave_sound : {A : Type 0} (answer : A) (a g x : ℕ) (held : List (Option ℕ)) (asked : List (Option ℕ)) (failed : List Bool) → a < 21 → s.requester.phase ≡ Waiting → length held ≡ 21 →
       ((b y : ℕ) → get_or held b None ≡ Some y → (held_at s.requester b ≡ Some y) × (b ≢ a)) →

@@ -1,4 +1,4 @@
--- Parts of steps: a lock ends, and a lock is set, and a world stays sound.
+-- Parts of steps that end a lock or set one keep a world sound.
 use Rattle.std.proofs.Common.{ℕ, ◌≤◌, ◌+◌, ◌≡◌, inl, inr, List, [], ◌∷◌, Option, Some, None, refl, sym, ◌∙◌, subst, arith}
 use Rattle.std.proofs.lemmas.Option.{same_Some}
 use Rattle.mx_stamps.specs.declared.stamp.Stamp.{Stamp}

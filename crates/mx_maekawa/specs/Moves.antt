@@ -8,11 +8,11 @@ use Rattle.mx_nodelaws.specs.declared.phase.Phase.TheVariants.{Waiting}
 use Rattle.mx_maekawa.specs.Node.{Node}
 use Rattle.mx_maekawa.specs.Good.{NodeWorld, IsEnded, IsGiven, IsReached, IsLockedFor}
 
--- the letter that ends a lock has come; `last` has taken in what it tells
+-- the letter that ends a lock has come, and `last` takes in the section number that it tells
 abbrev pub IsToEnd : NodeWorld → ℕ → Stamp → ℕ → ℕ → Type 0
 IsToEnd w i stamp g last = WasSent w stamp.node i (Relinquish stamp g) ⊎ ((later : Stamp) × (t : ℕ) × WasSent w stamp.node i (Release later t) × (stamp.number ≤ later.number) × (t ≤ last))
 
--- what each step of a node keeps, as far as other nodes and letters rest on it
+-- how a step of a node may change what other nodes and letters rest on
 pub record Moves (w : NodeWorld) (i : ℕ) (s new : Node) : Type 0 where
   pub own : new.requester.own ≡ s.requester.own
   pub issued : s.requester.issued ≤ new.requester.issued
@@ -45,7 +45,7 @@ pub record IsReleasing (w : NodeWorld) (i : ℕ) (new : Node) (stamp : Stamp) (t
   pub mine : new.requester.mine ≤ t
   pub reached : IsReached w t
 
--- node i may send this letter to b in the step that makes it `new`
+-- node i may send this letter to b in a step whose next state is `new`
 abbrev pub IsSendable : NodeWorld → ℕ → Node → Node → ℕ → MaekawaMsg → Type 0
 IsSendable w i s new b (Request stamp) = Unit {0}
 IsSendable w i s new b (Locked stamp g c) = WasSent w i b (Locked stamp g c) ⊎ IsGranted s new b stamp g c

@@ -14,19 +14,20 @@ pub record RequesterState : Type 0 where
   -- the greatest section number
   pub limit : ℕ
   pub phase : Phase
-  -- the highest number of a stamp that it has seen or drawn
+  -- the highest stamp number that it has seen or drawn
   pub highest : ℕ
-  -- the number of its last own stamp
+  -- the number of its own latest stamp
   pub issued : ℕ
   -- the stamp of its request, current while it waits or is inside
   pub ours : Stamp
-  -- for each arbiter, the grant that it holds
+  -- for each arbiter, its grant that is held for the current request
   pub held : List (Option ℕ)
   -- for each arbiter, the highest grant that it gave back
   pub back : List ℕ
-  -- for each arbiter, whether it has failed the current request
+  -- for each arbiter, whether it has failed the current request or got its grant back, and has not
+  -- granted it since
   pub failed : List Bool
-  -- for each arbiter, the grant that it asked back, while the inquiry is remembered
+  -- for each arbiter, the grant that it has asked back, while the inquiry is remembered
   pub asked : List (Option ℕ)
   -- the highest section number that it knows
   pub top : ℕ
@@ -36,7 +37,7 @@ pub record RequesterState : Type 0 where
 pub record ArbiterState : Type 0 where
   -- how many nodes there are
   pub count : ℕ
-  -- whom it is locked for
+  -- the request that it is locked for, with the grant
   pub lock : Option Lock
   -- the number of its last grant
   pub granted : ℕ
@@ -44,7 +45,7 @@ pub record ArbiterState : Type 0 where
   pub waiting : List (Option Stamp)
   -- for each node, the greatest number of its stamps that are known to have ended
   pub ended : List ℕ
-  -- the highest section number that it was told
+  -- the highest section number that a release has told
   pub last : ℕ
 
 pub record Node : Type 0 where

@@ -1,4 +1,4 @@
--- Parts of steps: what no lock and no grant rests on changes, and a world stays sound.
+-- Parts of steps that change only what no lock and no grant rests on keep a world sound.
 use Rattle.std.proofs.Common.{ℕ, ◌≤◌, ◌≡◌, inl, inr, Bool, true, false, List, [], ◌∷◌, Option, Some, None, slice_index_or, get_or, refl, sym, ◌∙◌, ap, subst, arith}
 use Rattle.mx_stamps.specs.declared.stamp.Stamp.{Stamp}
 use Rattle.mx_stamps.specs.Lists.{IsIn}
@@ -42,7 +42,7 @@ module _ (w : NodeWorld) (i : ℕ) (s : Node) (good : IsSound w) (at : IsNode w 
   one_letter new b m ok c n (inl e) = subst (λ x. IsSendable w i s new x.0 x.1) (sym e) ok
   one_letter new b m ok c n (inr none) = absurd none
 
-  -- what no lock and no grant rests on
+  -- such a part
 
   abbrev pub aside : List Bool → List (Option ℕ) → ℕ → List (Option Stamp) → List ℕ → ℕ → Node
   aside failed asked highest waiting ended last = record s {

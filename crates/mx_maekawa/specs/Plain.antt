@@ -22,7 +22,7 @@ use Rattle.mx_maekawa.specs.Good.{PlainLetter, PlainRequester, PlainNode}
 use Rattle.mx_maekawa.specs.RequesterPlain.{PlainDid, cleared_small, ask_plain, locked_plain, failed_plain, inquire_plain, enter_plain, leave_plain, again_plain}
 use Rattle.mx_maekawa.specs.ArbiterPlain as arbiter
 
--- a step that keeps the layer
+-- a step after which each number is a u64 value, and each name a node
 abbrev pub PlainDone : {A : Type 0} → ℕ → Done Node A MaekawaMsg → Type 0
 PlainDone n done = IsPlainDone PlainNode PlainLetter n done
 

@@ -24,7 +24,7 @@ use Rattle.mx_maekawa.specs.RequesterStep.{saying, held_at, asked_at, back_at, i
 use Rattle.mx_maekawa.specs.Good.{PlainLetter, PlainRequester}
 use Rattle.mx_maekawa.specs.RequesterStep.{Did}
 
--- a step of the requester that keeps the layer
+-- a step of the requester after which each number is a u64 value, and each name a node
 abbrev pub PlainDid : {A : Type 0} → ℕ → Did A → Type 0
 PlainDid n did = IsPlainDone PlainRequester PlainLetter n did
 

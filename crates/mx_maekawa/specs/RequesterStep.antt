@@ -1,4 +1,5 @@
--- The requester's rows of the step table.
+-- The requester's rows of the step table. Each says which part of it is published (Maekawa 1985) and
+-- which is added here.
 use Rattle.std.specs.Prelude.{ℕ, zero, suc, ◌+◌, ◌<◌, ◌≡◌, Bool, true, false, ◌||◌, ◌&&◌, not, List, [], ◌∷◌, ◌++◌, Option, Some, None, Result, Ok, max, nat_lt, nat_eq, if◌then◌else◌, slice_index_or, slice_set, replicate}
 use Rattle.mx_stamps.specs.declared.stamp.Stamp.{Stamp}
 use Rattle.mx_stamps.specs.Stamp.{is_same_as}
@@ -14,7 +15,8 @@ use Rattle.mx_nodelaws.specs.Phases.{is_busy, is_waiting}
 use Rattle.mx_nodelaws.specs.Calls.{unchanged, ask_by, entered_by, enter_by, leave_by}
 use Rattle.mx_maekawa.specs.Node.{RequesterState}
 
--- a requester at rest: of its node, its own set, the count, the origin and the limit
+-- a requester that has just been started: from its node, its own set, the count, the origin and the
+-- limit
 abbrev pub start_requester : ℕ → List Bool → ℕ → ℕ → ℕ → RequesterState
 start_requester me own count origin limit = record {
   me = me;
@@ -33,7 +35,7 @@ start_requester me own count origin limit = record {
   mine = 0;
 }
 
--- node a is in the own set
+-- node a is one of the own arbiters
 abbrev pub is_own : RequesterState → ℕ → Bool
 is_own r a = slice_index_or r.own a false
 
@@ -52,19 +54,19 @@ holds r a = is_some (held_at r a)
 abbrev pub back_at : RequesterState → ℕ → ℕ
 back_at r a = slice_index_or r.back a 0
 
--- arbiter a has failed the current request
+-- arbiter a has failed the current request or got its grant back, and has not granted it since
 abbrev pub has_failed : RequesterState → ℕ → Bool
 has_failed r a = slice_index_or r.failed a false
 
--- the grant that arbiter a asked back, while its inquiry is remembered
+-- the grant that arbiter a has asked back, while its inquiry is remembered
 abbrev pub asked_at : RequesterState → ℕ → Option ℕ
 asked_at r a = slice_index_or r.asked a None
 
--- the permission: a grant of each arbiter of the own set is held
+-- the permission: a grant of every own arbiter is held
 abbrev pub HoldsAll : RequesterState → Type 0
 HoldsAll r = (a : ℕ) → a < r.count → is_own r a ≡ true → holds r a ≡ true
 
--- the same as a test, arbiter by arbiter below n
+-- the same as a test of the arbiters below n, one after another
 abbrev pub holds_below : RequesterState → ℕ → Bool
 holds_below r zero = true
 holds_below r (suc n) = holds_below r n && (not (is_own r n) || holds r n)
@@ -76,7 +78,7 @@ holds_all r = holds_below r r.count
 abbrev pub HasFailed : RequesterState → Type 0
 HasFailed r = (a : ℕ) × (a < r.count) × (has_failed r a ≡ true)
 
--- the same as a test, arbiter by arbiter below n
+-- the same as a test of the arbiters below n, one after another
 abbrev pub has_failed_below : RequesterState → ℕ → Bool
 has_failed_below r zero = false
 has_failed_below r (suc n) = has_failed_below r n || has_failed r n
@@ -85,11 +87,11 @@ has_failed_below r (suc n) = has_failed_below r n || has_failed r n
 abbrev pub is_current_wait : RequesterState → Stamp → Bool
 is_current_wait r stamp = is_waiting r.phase && is_same_as stamp r.ours
 
--- a stamp of this node is ended: it is not the current one, and was issued
+-- a stamp of this node has ended: it was drawn, and is no longer the current one
 abbrev pub has_ended : RequesterState → Stamp → Bool
 has_ended r stamp = not (is_busy r.phase && is_same_as stamp r.ours) && nat_lt stamp.number (r.issued + 1)
 
--- what a step makes of the requester
+-- what a step of the requester gives: its next state, its answer and its letters
 abbrev pub Did : Type 0 → Type 0
 Did A = Done RequesterState A MaekawaMsg
 
@@ -101,7 +103,7 @@ saying r a letter = record { state = r; answer = tt; letters = (a, letter) ∷ [
 abbrev pub and_then : Did (Unit {0}) → (RequesterState → Did (Unit {0})) → Did (Unit {0})
 and_then first second = record { state = (second first.state).state; answer = tt; letters = first.letters ++ (second first.state).letters }
 
--- the grant of a remembered inquiry of arbiter b, if there is one, goes back
+-- the grant of a remembered inquiry of arbiter b, if there is one, is given back
 abbrev pub giving_asked : RequesterState → ℕ → ℕ → RequesterState
 giving_asked r b g = record r { back = slice_set r.back b g; held = slice_set r.held b None; asked = slice_set r.asked b None; failed = slice_set r.failed b true }
 
@@ -112,23 +114,26 @@ giving (Some g) r b = saying (giving_asked r b g) b (Relinquish r.ours g)
 abbrev pub give_asked : ℕ → RequesterState → Did (Unit {0})
 give_asked b r = giving (asked_at r b) r b
 
--- those of the arbiters below n, in order
+-- the same for each of the arbiters below n, in order
 abbrev pub give_below : ℕ → RequesterState → Did (Unit {0})
 give_below zero r = unchanged r tt
 give_below (suc n) r = and_then (give_below n r) (give_asked n)
 
--- Fail: arbiter a has failed the request, and each grant of a remembered inquiry goes back
+-- Fail: arbiter a has failed the request, and each grant of a remembered inquiry is given back.
+-- Published: inquiries that were put off are answered by RELINQUISH once the node has received FAILED.
 abbrev pub failing : RequesterState → ℕ → RequesterState
 failing r a = record r { failed = slice_set r.failed a true }
 
 abbrev pub fail : ℕ → RequesterState → Did (Unit {0})
 fail a r = give_below r.count (failing r a)
 
--- ask: the clock's next stamp, no grant yet, and a request to each arbiter of the own set
+-- ask: the clock's next stamp, no grant yet, and a request to each own arbiter.
+-- Published: a REQUEST goes to every member of the node's set.
+-- Added: where no number is left the call is refused.
 abbrev pub asking : RequesterState → RequesterState
 asking r = record r { highest = r.highest + 1; issued = r.highest + 1; ours = record { number = r.highest + 1; node = r.me }; held = replicate 21 None; failed = replicate 21 false; asked = replicate 21 None; phase = Waiting }
 
--- the letter, to each arbiter of the own set
+-- the letter, to each own arbiter
 abbrev pub to_own : RequesterState → MaekawaMsg → ℕ → Option MaekawaMsg
 to_own r letter a = if is_own r a then Some letter else None
 
@@ -138,11 +143,16 @@ asked r = record { state = asking r; answer = Ok (asking r).ours; letters = addr
 abbrev pub ask_in : Phase → RequesterState → Did (Result Stamp AskFault)
 ask_in p r = ask_by (λ (x : RequesterState). x.highest) asked p r
 
--- a letter for an ended stamp is answered by a release
+-- a LOCKED or INQUIRE for an ended stamp is answered by a release.
+-- Added: the release of that stamp may have been lost, and the arbiter would stay locked for it.
 abbrev pub release_ended : RequesterState → Stamp → ℕ → Did (Unit {0})
 release_ended r stamp a = if has_ended r stamp then saying r a (Release stamp r.top) else unchanged r tt
 
--- LOCKED from arbiter a, for the current request, whose grant is missing: a grant that was given back does not count again
+-- LOCKED from arbiter a, for the current request, whose grant is missing.
+-- Published: the grant is held.
+-- Added: the tests of stamp and grant number, since a LOCKED may come late or twice. A grant that was
+-- given back does not count again and is given back again, as the RELINQUISH may have been lost. `top`
+-- takes in the section number that the arbiter tells.
 abbrev pub holding : RequesterState → ℕ → ℕ → ℕ → RequesterState
 holding r a g c = record r { held = slice_set r.held a (Some g); failed = slice_set r.failed a false; top = max r.top c }
 
@@ -155,11 +165,16 @@ locked_current a stamp g c r = if holds r a then unchanged r tt else locked_fres
 abbrev pub take_locked : ℕ → Stamp → ℕ → ℕ → RequesterState → Did (Unit {0})
 take_locked a stamp g c r = if is_current_wait r stamp then locked_current a stamp g c r else release_ended r stamp a
 
--- FAILED from arbiter a, for the current request, whose grant is missing
+-- FAILED from arbiter a, for the current request, whose grant is missing.
+-- Published: the node then knows that it does not get every grant yet, which is Fail.
+-- Added: the test of the stamp, and that no grant of a is held, since a FAILED may come late.
 abbrev pub take_failed : ℕ → Stamp → RequesterState → Did (Unit {0})
 take_failed a stamp r = if is_current_wait r stamp && not (holds r a) then fail a r else unchanged r tt
 
--- INQUIRE from arbiter a for the grant that is held: it goes back where some arbiter has failed, else the inquiry is remembered
+-- INQUIRE from arbiter a for the grant that is held: it is given back where some arbiter has failed,
+-- else the inquiry is remembered.
+-- Published: so, with RELINQUISH for a grant that is given back.
+-- Added: the tests of stamp and grant number.
 abbrev pub giving_now : RequesterState → ℕ → ℕ → RequesterState
 giving_now r a g = record r { back = slice_set r.back a g; held = slice_set r.held a None; failed = slice_set r.failed a true }
 
@@ -170,14 +185,17 @@ abbrev pub inquired_held : ℕ → Stamp → ℕ → RequesterState → Did (Uni
 inquired_held a stamp g r =
     if has_failed_below r r.count then saying (giving_now r a g) a (Relinquish stamp g) else unchanged (remembering r a g) tt
 
--- for a grant that has not come: it goes back at once, and arbiter a has failed
+-- INQUIRE for a grant that has not come: it is given back at once, and arbiter a has failed.
+-- Added, since the LOCKED may have been lost or overtaken.
 abbrev pub declining : RequesterState → ℕ → ℕ → RequesterState
 declining r a g = record r { back = slice_set r.back a (max (back_at r a) g) }
 
 abbrev pub inquired_missing : ℕ → Stamp → ℕ → RequesterState → Did (Unit {0})
 inquired_missing a stamp g r = and_then (saying (declining r a g) a (Relinquish stamp g)) (fail a)
 
--- by what is held: for another grant than that one, it goes back and nothing else
+-- INQUIRE by what is held. Where another grant of a is held, the one asked for is given back, and
+-- nothing else happens.
+-- Added, since an INQUIRE may come late.
 abbrev pub inquired : Option ℕ → ℕ → Stamp → ℕ → RequesterState → Did (Unit {0})
 inquired None a stamp g r = inquired_missing a stamp g r
 inquired (Some h) a stamp g r = if nat_eq h g then inquired_held a stamp g r else saying r a (Relinquish stamp g)
@@ -188,7 +206,9 @@ take_inquire a stamp g r = if is_current_wait r stamp then inquired (held_at r a
 abbrev pub can_enter_of : RequesterState → Bool
 can_enter_of r = is_waiting r.phase && holds_all r
 
--- enter: the section's number is one above the highest that the node knows
+-- enter: the section's number is one above the highest that the node knows.
+-- Published: the node enters once every member of its set has sent LOCKED.
+-- Added: the section's number, and the refusal where the limit is reached.
 abbrev pub entering : RequesterState → RequesterState
 entering r = record r { top = r.top + 1; mine = r.top + 1; phase = Inside (r.top + 1); asked = replicate 21 None }
 
@@ -198,7 +218,9 @@ entered r = entered_by (λ (x : RequesterState). x.top) entering r
 abbrev pub enter_in : Phase → RequesterState → Quiet RequesterState (Result ℕ EnterFault)
 enter_in p r = enter_by holds_all (λ (x : RequesterState). x.top) (λ (x : RequesterState). x.limit) entering p r
 
--- leave: each arbiter of the own set is released
+-- leave: each own arbiter is sent a release.
+-- Published: so.
+-- Added: the release bears the stamp that has ended, and `top`.
 abbrev pub leaving : RequesterState → RequesterState
 leaving r = record r { phase = Idle; held = replicate 21 None; failed = replicate 21 false; asked = replicate 21 None }
 
@@ -208,7 +230,8 @@ left r n = record { state = leaving r; answer = Ok n; letters = addressed (to_ow
 abbrev pub leave_in : Phase → RequesterState → Did (Result ℕ LeaveFault)
 leave_in p r = leave_by left p r
 
--- tick: a waiting node sends its request again to each arbiter of the own set whose grant is missing
+-- tick: a waiting node sends its request again to each own arbiter whose grant is missing.
+-- Added, since the request or the grant may have been lost.
 abbrev pub to_missing : RequesterState → MaekawaMsg → ℕ → Option MaekawaMsg
 to_missing r letter a = if is_own r a && not (holds r a) then Some letter else None
 

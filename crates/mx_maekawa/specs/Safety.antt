@@ -27,7 +27,7 @@ holds_own w i s ok all a own = some_of (held_at s.requester a) (holds_each s.req
 pub held_lock : (w : NodeWorld) (i : ℕ) (s : Node) (a g : ℕ) (arbiter : Node) → IsSound w → IsNode w i s → IsBusy s.requester → held_at s.requester a ≡ Some g → IsNode w a arbiter → (c : ℕ) × (c ≤ s.requester.top) × IsLockedFor arbiter s.requester.ours g c
 held_lock w i s a g arbiter good at busy has aat = let ok = (good.nodes i s at).held busy a g has in (ok.c, ok.top, ok.lock arbiter aat)
 
--- two nodes that hold grants of one arbiter are one
+-- two nodes that hold grants of one arbiter are the same node
 same_holder : (w : NodeWorld) (i j : ℕ) (s t : Node) (a g h : ℕ) → IsSound w → IsNode w i s → IsNode w j t → IsBusy s.requester → IsBusy t.requester → is_own s.requester a ≡ true → held_at s.requester a ≡ Some g → held_at t.requester a ≡ Some h → i ≡ j
 same_holder w i j s t a g h good at bt busy_s busy_t own has_s has_t =
     let ok = good.nodes i s at in

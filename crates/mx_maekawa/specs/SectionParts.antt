@@ -1,4 +1,4 @@
--- Parts of steps: a node asks, enters and leaves, and a world stays sound.
+-- Parts of steps by which a node asks, enters and leaves keep a world sound.
 use Rattle.std.proofs.Common.{ℕ, ◌<◌, ◌≤◌, ◌+◌, ◌≡◌, inl, inr, true, [], Option, Some, None, refl, sym, ◌∙◌, ap, subst, arith}
 use Rattle.std.proofs.lemmas.Option.{same_Some}
 use Rattle.mx_stamps.specs.Lists.{IsIn}

@@ -1,4 +1,5 @@
--- The step table: the rows of the two roles, put together.
+-- The step table: the rows of the two roles, put together. Which part of a row is published (Maekawa
+-- 1985) and which is added here stands beside the rows, in RequesterStep and ArbiterStep.
 use Rattle.std.specs.Prelude.{ℕ, Bool, ◌&&◌, ◌++◌, Result, max, nat_eq, if◌then◌else◌}
 use Rattle.mx_stamps.specs.declared.stamp.Stamp.{Stamp}
 use Rattle.mx_letters.specs.declared.maekawa.MaekawaMsg.{MaekawaMsg}
@@ -21,7 +22,7 @@ by_requester s did = record { state = record s { requester = did.state }; answer
 abbrev pub by_arbiter : Node → Done ArbiterState (Unit {0}) MaekawaMsg → Done Node (Unit {0}) MaekawaMsg
 by_arbiter s did = record { state = record s { arbiter = did.state }; answer = tt; letters = did.letters }
 
--- a node at rest: of the sets, the node, the origin and the limit
+-- a node that has just been started: from the sets, the node, the origin and the limit
 abbrev pub start_of : Family → ℕ → ℕ → ℕ → Node
 start_of shape me origin limit = record {
   quorums = shape;
@@ -32,15 +33,17 @@ start_of shape me origin limit = record {
 abbrev pub ask_of : Node → Done Node (Result Stamp AskFault) MaekawaMsg
 ask_of s = by_requester s (ask_in s.requester.phase s.requester)
 
--- the requester takes a letter of an arbiter of its own set, about a stamp of its own
+-- the requester takes a letter of one of its own arbiters about one of its own stamps. Added: any
+-- other letter to it is ignored
 abbrev pub is_answer : Node → ℕ → Stamp → Bool
 is_answer s from stamp = is_own s.requester from && nat_eq stamp.node s.requester.me
 
--- the arbiter takes a letter of a node whose set it is in, about a stamp of that node
+-- the arbiter takes a letter of a node in whose set it is, about a stamp of that node. Added: any
+-- other letter to it is ignored
 abbrev pub is_call : Node → ℕ → Stamp → Bool
 is_call s from stamp = has_of s.quorums from s.requester.me && nat_eq stamp.node from
 
--- the clock sees the number of a request
+-- the clock sees the number of a request, also of one that the arbiter ignores
 abbrev pub seeing : Node → ℕ → Node
 seeing s number = record s { requester = record (s.requester) { highest = max s.requester.highest number } }
 
@@ -58,7 +61,8 @@ enter_of s = let did = enter_in s.requester.phase s.requester in record { state 
 abbrev pub leave_of : Node → Done Node (Result ℕ LeaveFault) MaekawaMsg
 leave_of s = by_requester s (leave_in s.requester.phase s.requester)
 
--- tick: the request again, and then the letter of the lock
+-- tick: the request is sent again, and then the grant of the lock. Added, since either may have been
+-- lost
 abbrev pub tick_of : Node → Done Node (Unit {0}) MaekawaMsg
 tick_of s = record { state = s; answer = tt; letters = request_again s.requester ++ lock_letter s.arbiter.lock }
 

@@ -1,4 +1,5 @@
-//! A node as an arbiter: whom it is locked for, who waits for it, and its rows of the step table.
+//! A node as an arbiter: the request that it is locked for, the requests that wait, and the
+//! arbiter's rows of the step table.
 
 use crate::lock::{Lock, is_exactly, is_for, is_up_to, stamp_of};
 use crate::waiting::{drop_up_to, is_below, is_later, lesser, or_else};
@@ -6,14 +7,25 @@ use mx_letters::{MaekawaMsg, Outbox};
 use mx_stamps::{NodeId, Stamp};
 use std::marker::Model;
 
-/// Whom a node has granted the section to, as far as it goes, and who waits for that.
+/// The request that a node has granted as an arbiter, and the requests that wait for its grant.
 #[derive(Drop)]
 pub(crate) struct Arbiter {
+    /// How many nodes the cluster has.
     count: u8,
+    /// The request that this arbiter is locked for, from its grant until the grant is given back
+    /// (RELINQUISH) or the request is released (RELEASE). None while the arbiter is not locked.
     lock: Option<Lock>,
+    /// The number of the latest grant, the origin before the first. Added to the publication: each
+    /// grant has a number of its own.
     granted: u64,
+    /// For each node, its request that waits for a grant (the waiting queue). The least stamp is
+    /// granted first.
     waiting: [Option<Stamp>; 21],
+    /// For each node, the greatest stamp number that it has released, the origin before the first.
+    /// Added to the publication: a request up to that number is an old one.
     ended: [u64; 21],
+    /// The highest section number that a release has told, 0 before the first. Added to the
+    /// publication.
     last: u64,
 }
 
@@ -32,7 +44,7 @@ impl Arbiter {
     ghost use Rattle.std.specs.Prelude.{◌≡◌, ◌≤◌, ◌<◌, [], ◌++◌, length, Some};
     ghost use Rattle.mx_maekawa.specs.ArbiterStep.{start_arbiter, waiting_at, others_at, IsLeastOf, least_of, lock_letter, grant_to, grant, rank, queue, take_request, take_relinquish, take_release};
 
-    /// An arbiter at rest.
+    /// An arbiter that has just been started.
     pub(crate) fn start(count: u8, origin: u64) -> Self
         requires { count ≤ 21 }
         ensures { result ≡ start_arbiter count origin }
@@ -47,7 +59,7 @@ impl Arbiter {
         }
     }
 
-    /// The least request that waits.
+    /// The least of the requests that wait.
     fn least(&self) -> Option<Stamp>
         ensures value { result ≡ least_of (waiting_at self.now) self.now.count }
         ensures least { IsLeastOf (waiting_at self.now) self.now.count result }
@@ -59,7 +71,7 @@ impl Arbiter {
         least
     }
 
-    /// The least request that waits, but for that of one node.
+    /// The least of the requests that wait, without that of one node.
     fn least_but(&self, but: NodeId) -> Option<Stamp>
         ensures value { result ≡ least_of (others_at self.now but) self.now.count }
         ensures least { IsLeastOf (others_at self.now but) self.now.count result }
@@ -73,7 +85,7 @@ impl Arbiter {
         least
     }
 
-    /// Grants a request that waits.
+    /// Locks for a request that waits and grants it, where a grant number is left.
     fn lock_for(&mut self, stamp: &Stamp, out: &mut Outbox<MaekawaMsg>)
         requires { out.old ≡ [] }
         ensures state { self.new ≡ (grant_to (Some stamp.now) self.old).state }
@@ -95,7 +107,7 @@ impl Arbiter {
         }
     }
 
-    /// Grants the least request that waits, where nothing is granted.
+    /// Grants the least of the requests that wait, where there is no lock.
     fn grant(&mut self, out: &mut Outbox<MaekawaMsg>)
         requires { out.old ≡ [] }
         ensures state { self.new ≡ (grant self.old).state }
@@ -108,7 +120,8 @@ impl Arbiter {
         }
     }
 
-    /// Ranks a request: it fails, or the grant that is out is asked back.
+    /// Ranks a request that has to wait: it is failed where another comes first, and else the grant
+    /// that the lock stands for is asked back.
     fn rank(&self, lock: &Lock, stamp: &Stamp, out: &mut Outbox<MaekawaMsg>)
         requires { out.old ≡ [] }
         ensures { out.new ≡ (rank lock.now stamp.now self.now).letters }
@@ -126,7 +139,7 @@ impl Arbiter {
         }
     }
 
-    /// Puts a request to those that wait.
+    /// Adds a request to those that wait, and then grants or ranks.
     fn queue(&mut self, stamp: &Stamp, out: &mut Outbox<MaekawaMsg>)
         requires { out.old ≡ [] }
         ensures state { self.new ≡ (queue self.old.lock stamp.now self.old).state }
@@ -139,7 +152,7 @@ impl Arbiter {
         }
     }
 
-    /// The letter of the lock, again.
+    /// Sends the grant of the lock, if there is one.
     fn send_lock(&self, out: &mut Outbox<MaekawaMsg>)
         requires { length out.old ≤ 21 }
         ensures { out.new ≡ out.old ++ lock_letter self.now.lock }
@@ -152,7 +165,7 @@ impl Arbiter {
         }
     }
 
-    /// A request comes, of the stamp's node.
+    /// Takes a REQUEST of the stamp's node.
     pub(crate) fn take_request(&mut self, stamp: &Stamp, out: &mut Outbox<MaekawaMsg>)
         requires { out.old ≡ [] }
         ensures state { self.new ≡ (take_request stamp.now self.old).state }
@@ -172,7 +185,7 @@ impl Arbiter {
         self.queue(stamp, out);
     }
 
-    /// A grant comes back, from the stamp's node.
+    /// Takes a RELINQUISH: the stamp's node gives this grant back.
     pub(crate) fn take_relinquish(
         &mut self,
         stamp: &Stamp,
@@ -191,7 +204,7 @@ impl Arbiter {
         }
     }
 
-    /// The stamp's node has ended its requests up to this one.
+    /// Takes a RELEASE: the stamp's node has ended its requests up to this one.
     pub(crate) fn take_release(&mut self, stamp: &Stamp, top: u64, out: &mut Outbox<MaekawaMsg>)
         requires { out.old ≡ [] }
         ensures state { self.new ≡ (take_release stamp.now top self.old).state }
@@ -207,7 +220,7 @@ impl Arbiter {
         }
     }
 
-    /// The letter of the lock, again.
+    /// Sends the grant of the lock again, if there is one.
     pub(crate) fn tick(&self, out: &mut Outbox<MaekawaMsg>)
         requires { length out.old ≤ 21 }
         ensures { out.new ≡ out.old ++ lock_letter self.now.lock }

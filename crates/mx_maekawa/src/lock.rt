@@ -1,20 +1,22 @@
-//! Whom an arbiter is locked for.
+//! The request that an arbiter is locked for.
 
 ghost use Rattle.std.specs.Prelude.{◌≡◌};
 ghost use Rattle.mx_maekawa.specs.ArbiterStep.{stamp_of, is_for, is_exactly, is_up_to};
 
 use mx_stamps::Stamp;
 
-/// The request that an arbiter has granted, the number of the grant, and the highest section number
-/// that the arbiter had been told.
+/// The request that an arbiter has granted.
 #[derive(Clone, Copy)]
 pub(crate) struct Lock {
+    /// The stamp of the request.
     pub(crate) stamp: Stamp,
+    /// The number of the grant.
     pub(crate) grant: u64,
+    /// The highest section number that the arbiter had been told when it granted.
     pub(crate) last: u64,
 }
 
-/// The request that is granted.
+/// The stamp of the lock, if there is a lock.
 pub(crate) fn stamp_of(lock: &Option<Lock>) -> Option<Stamp>
     ensures { result ≡ stamp_of lock.now }
 {
@@ -24,7 +26,7 @@ pub(crate) fn stamp_of(lock: &Option<Lock>) -> Option<Stamp>
     }
 }
 
-/// Whether this request is granted.
+/// Whether the lock is for this request.
 pub(crate) fn is_for(lock: &Option<Lock>, stamp: &Stamp) -> bool
     ensures { result ≡ is_for lock.now stamp.now }
 {
@@ -34,7 +36,7 @@ pub(crate) fn is_for(lock: &Option<Lock>, stamp: &Stamp) -> bool
     }
 }
 
-/// Whether this request is granted by this grant.
+/// Whether the lock is for this request, by this grant.
 pub(crate) fn is_exactly(lock: &Option<Lock>, stamp: &Stamp, grant: u64) -> bool
     ensures { result ≡ is_exactly lock.now stamp.now grant }
 {
@@ -44,7 +46,7 @@ pub(crate) fn is_exactly(lock: &Option<Lock>, stamp: &Stamp, grant: u64) -> bool
     }
 }
 
-/// Whether this request, or an earlier one of its node, is granted.
+/// Whether the lock is for this request or an earlier one of the same node.
 pub(crate) fn is_up_to(lock: &Option<Lock>, stamp: &Stamp) -> bool
     ensures { result ≡ is_up_to lock.now stamp.now }
 {

@@ -9,8 +9,11 @@ use std::marker::Model;
 /// A node of the algorithm. Its calls are those of `Exclusion`.
 #[derive(Drop)]
 pub struct Maekawa {
+    /// The set of arbiters of every node. It tells in which sets this node is.
     pub(crate) quorums: Quorums,
+    /// What the node has asked for as a requester.
     pub(crate) requester: Requester,
+    /// What the node has granted as an arbiter, also to itself.
     pub(crate) arbiter: Arbiter,
 }
 
@@ -26,15 +29,16 @@ impl Maekawa {
     ghost use Rattle.std.specs.Prelude.{◌≡◌};
     ghost use Rattle.mx_maekawa.specs.Step.{is_answer, is_call};
 
-    /// Whether the requester takes such a letter: its arbiter's, about a stamp of its own.
+    /// Whether the requester takes a letter of this sender about this stamp: the sender is one of
+    /// its arbiters, and the stamp is its own.
     pub(crate) fn is_answer(&self, from: NodeId, stamp: &Stamp) -> bool
         ensures { result ≡ is_answer self.now from stamp.now }
     {
         self.requester.is_own(from) && stamp.node.get() == self.requester.me().get()
     }
 
-    /// Whether the arbiter takes such a letter: of a node in whose set it is, about that node's
-    /// stamp.
+    /// Whether the arbiter takes a letter of this sender about this stamp: it is in the sender's
+    /// set, and the stamp is the sender's.
     pub(crate) fn is_call(&self, from: NodeId, stamp: &Stamp) -> bool
         ensures { result ≡ is_call self.now from stamp.now }
     {

@@ -7,22 +7,46 @@ use std::marker::Model;
 
 mod answers;
 
-/// What a node has asked for, and what its arbiters answered.
+/// What a node has asked for, and what its arbiters have answered.
 #[derive(Drop)]
 pub(crate) struct Requester {
+    /// The node itself.
     me: NodeId,
+    /// The node's own set (S_i in the publication): for each node, whether it is one of its
+    /// arbiters.
     own: [bool; 21],
+    /// How many nodes the cluster has.
     count: u8,
+    /// The greatest section number, from 1 to 1,000,000. Added to the publication.
     limit: u64,
+    /// Idle, waiting for grants, or inside a section.
     phase: Phase,
+    /// The highest stamp number that the node has drawn or has seen in a request; the origin at the
+    /// start.
     highest: Clock,
+    /// The number of the node's own latest stamp, the origin before the first. Added to the
+    /// publication: it tells a stamp that has ended from one that was never drawn.
     issued: u64,
+    /// The stamp of the node's latest request. It is current while the node waits or is inside;
+    /// while the node is idle no rule reads it.
     ours: Stamp,
+    /// For each arbiter, the number of its grant (LOCKED) that is held for the current request.
+    /// None where it has not come or was given back, and while the node is idle.
     held: [Option<u64>; 21],
+    /// For each arbiter, the highest grant number that was given back to it (RELINQUISH); the
+    /// origin before the first. Added to the publication: a grant up to it does not count again.
     back: [u64; 21],
+    /// For each arbiter, whether it has failed the current request (FAILED) or got its grant back,
+    /// and has not granted the request since.
     failed: [bool; 21],
+    /// For each arbiter, the grant that it has asked back (INQUIRE), while the node waits and does
+    /// not know yet whether it will get every grant. None where no such answer is owed.
     asked: [Option<u64>; 21],
+    /// The highest section number that the node knows, from its own sections and from the grants
+    /// that it took; 0 at the start. Added to the publication.
     top: u64,
+    /// The number of the last section that the node entered, 0 before the first. Added to the
+    /// publication.
     mine: u64,
 }
 
@@ -45,7 +69,7 @@ impl Requester {
     ghost use Rattle.mx_nodelaws.specs.declared.phase.Phase.TheVariants.{Waiting};
     ghost use Rattle.mx_maekawa.specs.RequesterStep.{start_requester, is_own, holds, HoldsAll, holds_all, to_own, ask_in, can_enter_of, enter_in, leave_in, to_missing, request_again};
 
-    /// A requester at rest.
+    /// A requester that has just been started.
     pub(crate) fn start(me: NodeId, own: &[bool; 21], count: u8, origin: u64, limit: u64) -> Self
         requires few { count ≤ 21 }
         requires high { limit ≤ 1000000 }
@@ -72,14 +96,14 @@ impl Requester {
         }
     }
 
-    /// Its node.
+    /// The node itself.
     pub(crate) fn me(&self) -> NodeId
         ensures { result ≡ self.now.me }
     {
         self.me
     }
 
-    /// Where the node stands.
+    /// The phase of the node.
     pub(crate) fn phase(&self) -> Phase
         ensures value { result ≡ self.now.phase }
         ensures numbered { BearsNumber result }
@@ -95,7 +119,7 @@ impl Requester {
         self.mine
     }
 
-    /// Whether this node is in the own set.
+    /// Whether this node is one of the own arbiters.
     pub(crate) fn is_own(&self, node: NodeId) -> bool
         ensures { result ≡ is_own self.now node }
     {
@@ -109,7 +133,7 @@ impl Requester {
         self.held[a.get() as usize].is_some()
     }
 
-    /// Whether a grant of each arbiter of the own set is held.
+    /// Whether a grant of every own arbiter is held.
     fn holds_all(&self) -> bool
         ensures value { result ≡ holds_all self.now }
         ensures all { IsTrue result ↔ HoldsAll self.now }
@@ -123,7 +147,7 @@ impl Requester {
         all
     }
 
-    /// A letter to each arbiter of the own set.
+    /// Sends a letter to each own arbiter.
     fn send_own(&self, letter: &MaekawaMsg, out: &mut Outbox<MaekawaMsg>)
         requires { out.old ≡ [] }
         ensures { out.new ≡ addressed (to_own self.now letter.now) self.now.count }
@@ -137,7 +161,7 @@ impl Requester {
         }
     }
 
-    /// A letter to each arbiter of the own set whose grant is missing.
+    /// Sends a letter to each own arbiter whose grant is missing.
     fn send_missing(&self, letter: &MaekawaMsg, out: &mut Outbox<MaekawaMsg>)
         requires { out.old ≡ [] }
         ensures value { out.new ≡ addressed (to_missing self.now letter.now) self.now.count }
@@ -152,7 +176,7 @@ impl Requester {
         }
     }
 
-    /// Asks each arbiter of the own set.
+    /// Sends a request with a new stamp to each own arbiter.
     pub(crate) fn ask(&mut self, out: &mut Outbox<MaekawaMsg>) -> Result<Stamp, AskFault>
         requires { out.old ≡ [] }
         ensures state { self.new ≡ (ask_in self.old.phase self.old).state }
@@ -175,14 +199,14 @@ impl Requester {
         Ok(ours)
     }
 
-    /// Notes the number of a request.
+    /// Notes the number of a request in the clock.
     pub(crate) fn see(&mut self, number: u64)
         ensures { self.new ≡ record self.old { highest = max self.old.highest number } }
     {
         self.highest.see(number);
     }
 
-    /// Whether we wait, and a grant of each arbiter of the own set is held.
+    /// Whether the node waits, and holds a grant of every own arbiter.
     pub(crate) fn can_enter(&self) -> bool
         ensures value { result ≡ can_enter_of self.now }
         ensures granted { IsTrue result ↔ ((self.now.phase ≡ Waiting) × HoldsAll self.now) }
@@ -190,7 +214,7 @@ impl Requester {
         matches!(self.phase, Phase::Waiting) && self.holds_all()
     }
 
-    /// Enters the section after the highest one that is known.
+    /// Enters the section whose number is one above the highest that the node knows.
     pub(crate) fn enter(&mut self) -> Result<u64, EnterFault>
         ensures state { self.new ≡ (enter_in self.old.phase self.old).state }
         ensures answer { result ≡ (enter_in self.old.phase self.old).answer }
@@ -212,7 +236,7 @@ impl Requester {
         Ok(self.top)
     }
 
-    /// Leaves the section, and releases each arbiter of the own set.
+    /// Leaves the section, and sends a release to each own arbiter.
     pub(crate) fn leave(&mut self, out: &mut Outbox<MaekawaMsg>) -> Result<u64, LeaveFault>
         requires { out.old ≡ [] }
         ensures state { self.new ≡ (leave_in self.old.phase self.old).state }
@@ -233,7 +257,7 @@ impl Requester {
         Ok(number)
     }
 
-    /// The request again, while we wait, to each arbiter of the own set whose grant is missing.
+    /// Sends the request again, while the node waits, to each own arbiter whose grant is missing.
     pub(crate) fn tick(&self, out: &mut Outbox<MaekawaMsg>)
         requires { out.old ≡ [] }
         ensures letters { out.new ≡ request_again self.now }

@@ -1,11 +1,11 @@
-//! A request that waits for a grant, if there is one.
+//! Requests that may or may not be there, as they wait for a grant.
 
 ghost use Rattle.std.specs.Prelude.{◌≡◌};
 ghost use Rattle.mx_maekawa.specs.ArbiterStep.{lesser, is_later, is_below, or_else, drop_up_to};
 
 use mx_stamps::Stamp;
 
-/// The lesser of two requests, as far as they are there.
+/// The lesser of two requests. Where only one is there, that one.
 pub(crate) fn lesser(least: &Option<Stamp>, other: &Option<Stamp>) -> Option<Stamp>
     ensures { result ≡ lesser least.now other.now }
 {
@@ -20,7 +20,7 @@ pub(crate) fn lesser(least: &Option<Stamp>, other: &Option<Stamp>) -> Option<Sta
     }
 }
 
-/// Whether it is a later request of the stamp's node.
+/// Whether there is a request, it is of the stamp's node, and it is later than the stamp.
 pub(crate) fn is_later(request: &Option<Stamp>, stamp: &Stamp) -> bool
     ensures { result ≡ is_later request.now stamp.now }
 {
@@ -30,7 +30,7 @@ pub(crate) fn is_later(request: &Option<Stamp>, stamp: &Stamp) -> bool
     }
 }
 
-/// Whether it comes before the stamp.
+/// Whether there is a request, and it comes before the stamp.
 pub(crate) fn is_below(request: &Option<Stamp>, stamp: &Stamp) -> bool
     ensures { result ≡ is_below request.now stamp.now }
 {
@@ -40,14 +40,14 @@ pub(crate) fn is_below(request: &Option<Stamp>, stamp: &Stamp) -> bool
     }
 }
 
-/// The request, else this one.
+/// The request, or the stamp where there is none.
 pub(crate) fn or_else(request: &Option<Stamp>, stamp: &Stamp) -> Option<Stamp>
     ensures { result ≡ or_else request.now stamp.now }
 {
     Some(request.unwrap_or(*stamp))
 }
 
-/// The request, unless its number is at most this one.
+/// The request where its number is above this one, else none.
 pub(crate) fn drop_up_to(request: &Option<Stamp>, number: u64) -> Option<Stamp>
     ensures { result ≡ drop_up_to request.now number }
 {

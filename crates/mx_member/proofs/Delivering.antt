@@ -45,7 +45,7 @@ refused fault = Err fault
 abbrev answered : DeliverFault → Result (Unit {0}) DeliverFault
 answered fault = Err fault
 
--- a conflict is no want of memory
+-- a conflict does not mean that memory ran out
 conflict_apart : (k : ℕ) → IsOk (answered (deliver.Conflict k)) ⊎ (answered (deliver.Conflict k) ≡ Err deliver.Memory) → ⊥
 conflict_apart k (inl e) = let bad : ⊥ = cc in bad
 conflict_apart k (inr e) = let bad : ⊥ = cc in bad

@@ -21,7 +21,7 @@ left receipt p = ((λ e. absurd (let bad : ⊥ = cc in bad)), (λ h. absurd (h p
 pub memory_apart : (r : Result Receipt CloseFault) → r ≡ Err Memory → r ≡ Err NotInside → ⊥
 memory_apart r m e = let q = sym m ∙ e in let bad : ⊥ = cc in bad
 
--- and who is refused memory too
+-- and so was a node that was refused memory
 pub not_left : {P : Type 0} (r : Result Receipt CloseFault) (fault : CloseFault) → r ≡ Err fault → kept fault ≡ Err Memory → P → (r ≡ Err NotInside) ↔ (P → ⊥)
 not_left r fault is memory p =
     let f : fault ≡ Memory = cc in

@@ -5,7 +5,8 @@ use Rattle.mx_journal.specs.Drafted.{Drafted}
 use Rattle.mx_member.specs.declared.parcel.Parcel.{Parcel}
 use Rattle.mx_member.specs.declared.parcel.Parcel.TheVariants.{Guard, Want, Records}
 
--- what never changes in a member: its number, how many nodes there are, the greatest section number, how many registers there are
+-- what never changes in a member: its number, the number of nodes, the greatest section number, and the
+-- number of registers
 pub record Setting : Type 0 where
   pub me : ℕ
   pub nodes : ℕ

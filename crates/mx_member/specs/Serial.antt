@@ -40,7 +40,7 @@ abbrev pub IsSerialRead : List Write → List Write → Read → Type 0
 IsSerialRead before writes read =
     (read.after ≤ length writes) × (read.value ≡ applied read.register (before ++ take read.after writes) 0)
 
--- each section's reads are so
+-- each read of each section has such a value
 abbrev pub ReadSerially : List Section → Type 0
 ReadSerially [] = Unit {0}
 ReadSerially (s ∷ ss) = ((x : Read) → IsIn x s.draft.reads → IsSerialRead (writes_in ss) s.draft.writes x) × ReadSerially ss

@@ -44,8 +44,8 @@ pub enum Answer {
     Woken,
 }
 
-/// One act of a member. The caller knows that a delivered parcel is one that the member takes, so
-/// that only memory is left to refuse it.
+/// Does one act of a member. The caller owes the proof that the member takes a delivered parcel, so
+/// that the only way to fail is that memory runs out.
 pub fn perform<C: Exclusion>(
     member: &mut Member<C>,
     act: Act<C::Msg>,

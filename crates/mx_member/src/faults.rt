@@ -4,14 +4,15 @@
 use mx_journal::{Full, PutFault};
 use thiserror::Error;
 
-/// Why nothing was read.
+/// Why a call of `read` is refused.
 #[derive(Clone, Copy, Debug, PartialEq, Eq, Error)]
 pub enum ReadFault {
     #[error("not inside")]
     NotInside,
     #[error("no register")]
     NoRegister,
-    /// The record of this number, below that of the own section, is the first that the journal lacks.
+    /// The journal lacks the record of this section, which is the first that it lacks. Its number is
+    /// below that of the own section.
     #[error("gap {0}")]
     Gap(u64),
     /// The draft holds eight reads already.
@@ -30,7 +31,7 @@ impl From<Full> for ReadFault {
     }
 }
 
-/// Why nothing was written.
+/// Why a call of `write` is refused.
 #[derive(Clone, Copy, Debug, PartialEq, Eq, Error)]
 pub enum WriteFault {
     #[error("not inside")]
@@ -53,27 +54,27 @@ impl From<Full> for WriteFault {
     }
 }
 
-/// Why a node is still where it was.
+/// Why a call of `leave` is refused.
 #[derive(Clone, Copy, Debug, PartialEq, Eq, Error)]
 pub enum CloseFault {
     #[error("not inside")]
     NotInside,
-    /// The journal's growth was refused. The node is still inside, with its draft.
+    /// There was no memory for the journal to grow. The node is still inside, with its draft.
     #[error("out of memory")]
     Memory,
 }
 
-/// Why a parcel was not taken.
+/// Why a call of `deliver` is refused.
 #[derive(Clone, Copy, Debug, PartialEq, Eq, Error)]
 pub enum DeliverFault {
     /// The sender is no node of the cluster.
     #[error("stranger")]
     Stranger,
-    /// Two differing records bear this number, which is the least such one; 0 where a record bears 0.
-    /// A parcel that a member of the cluster sent never does this.
+    /// Two differing records bear this number, which is the least such number; 0 where a record bears
+    /// 0. No parcel that a member of the cluster sent leads to this.
     #[error("conflict {0}")]
     Conflict(u64),
-    /// The journal's growth was refused.
+    /// There was no memory for the journal to grow.
     #[error("out of memory")]
     Memory,
 }

@@ -19,8 +19,8 @@ use mx_registers::view;
 use mx_stamps::NodeId;
 
 impl<C: Exclusion> Member<C> {
-    /// Asks another node for the records that are missing, the least eight ranges of them. Nothing
-    /// is sent where none is missing up to the limit.
+    /// Asks another node for the records that are missing, by the least eight ranges of their numbers.
+    /// Nothing is sent where none is missing up to the limit.
     pub fn want(&self, to: NodeId, out: &mut Outbox<Parcel<C::Msg>>)
         requires { out.old ≡ [] }
         ensures letters { out.new ≡ (want_of C.core to self.now).letters }
@@ -31,8 +31,9 @@ impl<C: Exclusion> Member<C> {
         }
     }
 
-    /// Takes a parcel of a node of the cluster, itself too. A letter goes to the core; a want is answered by records,
-    /// where there are any in its ranges; of records the journal takes all or none.
+    /// Takes a parcel of a node of the cluster, which may be this one. A letter goes to the core; a
+    /// want is answered by records, where there are any in its ranges; of records the journal takes all
+    /// or none.
     pub fn deliver(
         &mut self,
         from: NodeId,
@@ -89,8 +90,8 @@ impl<C: Exclusion> Member<C> {
         }
     }
 
-    /// The value of a register after all the records that it knows; there may be sections between
-    /// them that it does not know. None where there is no such register.
+    /// The value of a register after all the records that this member knows; it may not know every
+    /// section before the newest of them. None where there is no such register.
     pub fn value(&self, register: u8) -> Option<u64>
         ensures { result ≡ value_in register (registers_of self.now.setting.registers self.now.journal) }
     {

@@ -107,14 +107,14 @@ impl<C: Exclusion> Member<C> {
         guard_all(&mut self.letters, out);
     }
 
-    /// Whether every permission for the current request is there.
+    /// Whether the node waits, and has every permission for its current request.
     pub fn can_enter(&self) -> bool
         ensures { result ≡ C.core.can_enter self.now.core }
     {
         self.core.can_enter()
     }
 
-    /// Where the node stands.
+    /// The phase of the node.
     pub fn phase(&self) -> Phase
         ensures value { result ≡ C.core.phase self.now.core }
         ensures numbered { BearsNumber result }

@@ -16,9 +16,9 @@ use mx_nodelaws::{Exclusion, Phase};
 use mx_registers::view_below;
 
 impl<C: Exclusion> Member<C> {
-    /// Reads a register inside: the value that the own draft wrote last, or else what the sections
-    /// before left. The read joins the draft. A gap is the first number below the own one whose
-    /// record the journal lacks.
+    /// Reads a register inside: the value that this section wrote last, or else what the sections
+    /// before left. The read joins the draft. `Gap` names the first section before this one whose record
+    /// the journal lacks.
     pub fn read(&mut self, register: u8) -> Result<u64, ReadFault>
         ensures state { self.new ≡ (read_of C.core register self.old).state }
         ensures answer { result ≡ (read_of C.core register self.old).answer }

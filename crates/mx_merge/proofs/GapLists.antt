@@ -28,7 +28,7 @@ pub record IsRest (before : ℕ) (rest journal : List Record) : Type 0 where
   pub whole : (n : ℕ) → before < n → IsThere n journal → IsThere n rest
   pub edge : (before ≡ 0) ⊎ IsThere before journal
 
--- the rest behind the first record is one too
+-- the rest behind the first record stands in it in the same way
 rest_more : (before : ℕ) (x : Record) (xs journal : List Record) → IsRest before (x ∷ xs) journal → IsRest x.number xs journal
 rest_more before x xs journal h = record {
   ascending = h.ascending.1;
@@ -155,7 +155,7 @@ each_gap limit before (x ∷ xs) journal h r g l =
           in_left r (gap_after before (x.number - 1)) (gaps_above x.number limit xs) (in_gap_after before (x.number - 1) r first last g.some)
     ])
 
--- a lower bound serves as well
+-- ranges that ascend from a number on ascend from any lower one on
 ranges_from : (j k : ℕ) (rs : List Range) → j ≤ k → AscendingRanges k rs → AscendingRanges j rs
 ranges_from j k [] l a = tt
 ranges_from j k (r ∷ rs) l a = (omega (arith, a.0), a.1)

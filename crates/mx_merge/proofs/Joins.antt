@@ -1,4 +1,4 @@
--- The join of two agreeing journals is their least upper bound, and there is one only.
+-- The join of two agreeing journals is their least upper bound, and it is the only one.
 use Rattle.std.proofs.Common.{◌≡◌, inl, inr, List, sym}
 use Rattle.mx_journal.specs.declared.records.Record.{Record}
 use Rattle.mx_journal.specs.Records.{Ascending, with_records}

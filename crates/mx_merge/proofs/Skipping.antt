@@ -37,7 +37,7 @@ gaps_skipped before (suc known) limit (x ∷ xs) a was =
     (λ within. ap (λ n. gaps_above n limit xs) (sym here) ∙ sym (ap (λ gaps. gaps ++ gaps_above x.number limit xs) (no_gap before (x.number - 1) (omega arith)))))
     (λ _ e. absurd (omega (arith, e))) was
 
--- and those behind them are above it
+-- and the records behind them bear higher numbers
 pub ascending_skipped : (before known : ℕ) (xs : List Record) → Ascending (suc before) xs → first_missing (suc before) xs ≡ suc before + known → Ascending (suc (before + known)) (drop known xs)
 ascending_skipped before zero xs a e = subst (λ n. Ascending (suc n) xs) (let q : before ≡ before + 0 = omega arith in q) a
 ascending_skipped before (suc known) [] a e = tt

@@ -9,6 +9,6 @@ pub record IsLeastUpperBound (a b j : List Record) : Type 0 where
   pub right : IsSubmap b j
   pub least : (m : List Record) → IsSubmap a m → IsSubmap b m → IsSubmap j m
 
--- both are sub-maps of one map, in which no number bears differing records
+-- both are sub-maps of one map, in which no two differing records bear the same number
 abbrev pub AreOfOneMap : List Record → List Record → Type 0
 AreOfOneMap a b = (m : List Record) × IsConsistent m × IsSubmap a m × IsSubmap b m

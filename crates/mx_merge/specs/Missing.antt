@@ -6,7 +6,8 @@ use Rattle.mx_journal.specs.declared.records.Record.{Record}
 use Rattle.mx_journal.specs.declared.ranges.Range.{Range}
 use Rattle.mx_journal.specs.Records.{IsThere}
 
--- numbers of 1 to the limit that are all missing, as many on both sides as there are
+-- a widest range of missing numbers: all of it is missing, from 1 to the limit, and it can be extended
+-- neither to the left nor to the right
 pub record IsGap (limit : ℕ) (journal : List Record) (range : Range) : Type 0 where
   pub low : 1 ≤ range.first
   pub some : range.first ≤ range.last
@@ -15,22 +16,22 @@ pub record IsGap (limit : ℕ) (journal : List Record) (range : Range) : Type 0 
   pub left : (range.first ≡ 1) ⊎ IsThere (range.first - 1) journal
   pub right : (range.last ≡ limit) ⊎ IsThere (range.last + 1) journal
 
--- each range begins behind the one before, the first at `least` or behind it
+-- each range begins behind the end of the one before it, and the first at `least` or behind it
 abbrev pub AscendingRanges : ℕ → List Range → Type 0
 AscendingRanges least [] = Unit {0}
 AscendingRanges least (r ∷ rs) = (least ≤ r.first) × AscendingRanges (r.last + 1) rs
 
--- the gap stands behind all of the ranges, which are as many as there may be
+-- the gap is left out: there are `count` ranges, the most there may be, and it stands behind all of them
 abbrev pub IsLeftOut : ℕ → Range → List Range → Type 0
 IsLeftOut count gap ranges = (length ranges ≡ count) × ((r : Range) → IsIn r ranges → r.last < gap.first)
 
--- the ranges are gaps, ascending; each gap is among them, or stands behind `count` of them
+-- the ranges are gaps, ascending; each gap is among them, or is left out
 pub record IsListOfGaps (count limit : ℕ) (journal : List Record) (ranges : List Range) : Type 0 where
   pub gaps : (r : Range) → IsIn r ranges → IsGap limit journal r
   pub ascending : AscendingRanges 1 ranges
   pub all : (gap : Range) → IsGap limit journal gap → IsIn gap ranges ⊎ IsLeftOut count gap ranges
 
--- the numbers above `before` up to `last`, where there are any
+-- the range of the numbers above `before` up to `last`; no range where there is no such number
 abbrev pub gap_after : ℕ → ℕ → List Range
 gap_after before last = if nat_lt before last then record { first = before + 1; last = last } ∷ [] else []
 
@@ -44,10 +45,10 @@ gaps_above before limit (x ∷ xs) =
 abbrev pub gaps_of : ℕ → List Record → List Range
 gaps_of limit journal = gaps_above 0 limit journal
 
--- whether the number lies in some of the ranges
+-- whether the number lies in one of the ranges
 abbrev pub lies_in : List Range → ℕ → Bool
 lies_in ranges n = list_any (λ (range : Range). nat_le range.first n && nat_le n range.last) ranges
 
--- the records whose numbers lie in some of the ranges
+-- the records whose numbers lie in one of the ranges
 abbrev pub in_ranges : List Range → List Record → List Record
 in_ranges ranges journal = filter (λ x. lies_in ranges x.number) journal

@@ -7,8 +7,8 @@ ghost use Rattle.mx_merge.specs.Join.{AreOfOneMap};
 
 use mx_journal::{Journal, Record};
 
-/// Whether the journals have the same record at each number that both have. Two journals that hold
-/// parts of one map do.
+/// Whether the journals have the same record at each number that both have. Two journals that are
+/// parts of one map always agree.
 pub fn agree(journal: &Journal, other: &Journal) -> bool
     ensures agreeing { IsTrue result ↔ AreAgreeing journal.now other.now }
     ensures submaps { AreOfOneMap journal.now other.now → IsTrue result }
@@ -35,7 +35,7 @@ pub(crate) fn first_difference(journal: &Journal, other: &Journal) -> Option<u64
     None
 }
 
-/// Whether the journal has this very record at its number, or none.
+/// Whether the journal has this very record or none of its number.
 fn agrees_with(journal: &Journal, entry: &Record) -> bool
     requires { Ascending 1 journal.now }
     ensures agrees { IsTrue result → AgreesWith entry.now journal.now }

@@ -1,4 +1,4 @@
-//! What a journal answers to those who lack records.
+//! What a journal answers to a want of records.
 
 ghost use Rattle.std.specs.Prelude.{◌≡◌, ◌≤◌, IsTrue, take};
 ghost use Rattle.mx_stamps.specs.Lists.{IsIn};
@@ -9,11 +9,11 @@ ghost use Rattle.mx_merge.specs.Missing.{in_ranges, lies_in};
 use arrayvec::ArrayVec;
 use mx_journal::{Journal, Range, Record};
 
-/// How many records go into one answer.
+/// The greatest number of records in one answer.
 const RECORDS_AT_ONCE: usize = 4;
 
-/// The records whose numbers lie in some of the ranges, ascending, or the least four where there
-/// are more.
+/// The records whose numbers lie in one of the ranges, ascending; where there are more than four, the
+/// least four.
 pub fn answer(journal: &Journal, ranges: &[Range]) -> ArrayVec<Record, RECORDS_AT_ONCE>
     ensures value { result.items ≡ take 4 (in_ranges ranges.now journal.now) }
     ensures known { IsSubmap result.items journal.now }

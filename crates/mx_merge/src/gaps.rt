@@ -6,16 +6,16 @@ ghost use Rattle.mx_merge.specs.Missing.{IsListOfGaps, gap_after, gaps_of};
 use arrayvec::ArrayVec;
 use mx_journal::{Journal, Range};
 
-/// How many ranges go into one answer of `missing`.
+/// The greatest number of ranges that `missing` answers at once.
 const RANGES_AT_ONCE: usize = 8;
 
-/// The ranges of the numbers from 1 to `limit` that the journal lacks, ascending, each as wide as
-/// it can be, or the least eight where there are more.
+/// The ranges of the numbers from 1 to `limit` that the journal lacks, ascending, each as wide as it can
+/// be; where there are more than eight, the least eight.
 pub fn missing(journal: &Journal, limit: u64) -> ArrayVec<Range, RANGES_AT_ONCE>
     ensures gaps { IsListOfGaps 8 limit journal.now result.items }
     ensures value { result.items ≡ take 8 (gaps_of limit journal.now) }
 {
-    // up to here nothing is missing
+    // up to this number nothing is missing
     let known = journal.gapless_to();
     let mut gaps = ArrayVec::new();
     let mut last = known;

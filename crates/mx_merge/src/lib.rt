@@ -1,5 +1,5 @@
 //! What two journals know together: whether they agree, their join, what a journal lacks, and what
-//! it answers to those who lack.
+//! it answers to another node that lacks records.
 #![tactic(auto)]
 
 mod agreement;

@@ -10,7 +10,7 @@ use mx_journal::Journal;
 use std::alloc::AllocError;
 use thiserror::Error;
 
-/// Why two journals are not merged.
+/// Why a journal was not merged into another.
 #[derive(Clone, Copy, Debug, PartialEq, Eq, Error)]
 pub enum MergeFault {
     #[error("two records bear {0}")]

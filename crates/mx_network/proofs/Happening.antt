@@ -63,7 +63,7 @@ module _ {H S M : Type 0} (core : Core H S M) (g : Group S M) (e : Event) (p : �
   pub happens : (m : MemberState S) → slice_get g.members p.0 ≡ Some m → step_of core g e ≡ Ok (grown g e p.0 (answer_of core p.1 m))
   happens m at = ap (λ r. at_part core g e r) part ∙ ap (λ o. at_member core g e p.0 p.1 o) at
 
-  -- so that memory alone can be wanting
+  -- so that it can fail only because memory runs out
   pub memory_alone : p.0 < length g.members → IsFaultOf (step_of core g e) Memory
   memory_alone l =
       let h = held g.members p.0 l in

@@ -64,7 +64,7 @@ module _ {H S M : Type 0} (core : Core H S M) (IsShape : H → Type 0) (Good : W
   result_kept g e new (Ok o) ok err kept = step_kept g e new ok kept
   result_kept g e new (Err f) ok err kept = subst (λ x. IsKept core Good x) (sym err) kept
 
-  -- whoever an event is of can do it: no parcel that was sent meets a stranger or a conflict
+  -- the node whose event it is can do its act: no parcel that was sent is a stranger's or leads to a conflict
   pub all_doable : (g : Group S M) (e : Event) → IsKept core Good g → IsDoableAt g e
   all_doable g e kept p m part at = doable core Good (sections g.trace) g.members g.sent p.0 p.1 m (kept_sound core Good g kept) at (arrives (length g.members) g.sent e p part)
 

@@ -1,4 +1,4 @@
--- The outcome that a member's answer is.
+-- The outcome that a member's answer stands for.
 use Rattle.std.specs.Prelude.{ℕ, Ok, Err}
 use Rattle.mx_nodelaws.specs.declared.faults.AskFault.TheVariants as ask
 use Rattle.mx_nodelaws.specs.declared.faults.EnterFault.TheVariants as enter
@@ -11,7 +11,7 @@ use Rattle.mx_network.specs.declared.outcome.Outcome.{Outcome}
 use Rattle.mx_network.specs.declared.outcome.Outcome.TheVariants.{Asked, Entered, Value, Written, Left, Sent, Delivered, Woken, Refused}
 use Rattle.mx_network.specs.declared.outcome.Cause.TheVariants as cause
 
--- of an answer, and of how many parcels went out with it
+-- the outcome of an answer, and of the number of parcels that went out with it
 abbrev pub outcome_of : Answer → ℕ → Outcome
 outcome_of (answer.Asked (Ok stamp)) sent = Asked stamp
 outcome_of (answer.Asked (Err ask.NotIdle)) sent = Refused cause.NotIdle

@@ -35,7 +35,7 @@ abbrev pub delivery_of : {M : Type 0} → Option (ℕ × ℕ × Parcel M) → Re
 delivery_of None = Err NoParcel
 delivery_of (Some p) = Ok (p.1, act.Deliver p.0 p.2)
 
--- whose event it is, and what that node does, among so many nodes
+-- whose event it is, and the act that this node does, in a cluster of this many nodes
 abbrev pub part_of : {M : Type 0} → ℕ → List (ℕ × ℕ × Parcel M) → Event → Result (ℕ × Act M) StepFault
 part_of nodes sent (event.Ask i) = Ok (i, act.Ask)
 part_of nodes sent (event.Enter i) = Ok (i, act.Enter)
@@ -67,16 +67,16 @@ at_part core g event (Ok p) = at_member core g event p.0 p.1 (slice_get g.member
 abbrev pub step_of : {H S M : Type 0} → Core H S M → Group S M → Event → Result (Group S M) StepFault
 step_of core g event = at_part core g event (part_of (length g.members) g.sent event)
 
--- whoever the event is of can do it
+-- the node whose event it is can do its act
 abbrev pub IsDoableAt : {S M : Type 0} → Group S M → Event → Type 0
 IsDoableAt {S} {M} g event =
     (p : ℕ × Act M) (m : MemberState S) → part_of (length g.members) g.sent event ≡ Ok p → slice_get g.members p.0 ≡ Some m → IsDoable p.1 m
 
--- the fault is the step's, or want of memory where there is none
+-- the fault is the one that the step has; where the step has none, it is that memory ran out
 abbrev pub IsFaultOf : {G : Type 0} → Result G StepFault → StepFault → Type 0
 IsFaultOf wanted fault = ((fault ≡ Memory) × IsOk wanted) ⊎ (wanted ≡ Err fault)
 
--- the event names a node that the cluster has not
+-- the event names a node that the cluster does not have
 abbrev pub NamesNoNode : {S M : Type 0} → Group S M → Event → Type 0
 NamesNoNode g (event.Ask i) = length g.members ≤ i
 NamesNoNode g (event.Enter i) = length g.members ≤ i

@@ -32,9 +32,9 @@ pub struct Cluster<C: Exclusion> {
     members: Vec<Member<C>>,
     sent: Vec<(NodeId, NodeId, Parcel<C::Msg>)>,
     trace: Vec<Entry>,
-    /// Empty between events.
+    /// The parcels of the event that happens now. Empty between events.
     out: Outbox<Parcel<C::Msg>>,
-    /// Always None: that a member's size is bounded is known from this field.
+    /// Always None. The prover knows from this field that a member's size is bounded.
     size: Option<Member<C>>,
 }
 
@@ -103,7 +103,7 @@ impl<C: Exclusion> Cluster<C> {
         )
     }
 
-    /// Some events, up to the first that can't happen.
+    /// Does these events in order, up to the first that can't happen.
     pub fn run(&mut self, events: &[Event]) -> Result<(), RunFault>
         ensures ok { OnOk result (RunsTo C.core self.old events.now self.new) }
         ensures err { IfErr result (λ fault. (fault.index < length events.now) × RunsTo C.core self.old (take fault.index events.now) self.new) }

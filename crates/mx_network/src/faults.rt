@@ -1,18 +1,18 @@
-//! Why there is no such event.
+//! Why an event did not happen.
 
 use std::alloc::AllocError;
 use thiserror::Error;
 
-/// Why an event did not happen. The cluster is as before, its trace too.
+/// Why an event did not happen. The cluster and its trace are as they were before.
 #[derive(Clone, Copy, Debug, PartialEq, Eq, Error)]
 pub enum StepFault {
-    /// The event names a node that the cluster has not.
+    /// The event names a node that the cluster does not have.
     #[error("no node")]
     NoNode,
     /// No parcel of this number has been sent.
     #[error("no parcel")]
     NoParcel,
-    /// A growth was refused.
+    /// Memory ran out.
     #[error("out of memory")]
     Memory,
 }
@@ -28,7 +28,7 @@ impl From<AllocError> for StepFault {
     }
 }
 
-/// Which event of a run did not happen, counted from 0. Those before it stand.
+/// Which event of a run did not happen, counted from 0, and why. The events before it have happened.
 #[derive(Clone, Copy, Debug, PartialEq, Eq, Error)]
 #[error("event {index}: {fault}")]
 pub struct RunFault {

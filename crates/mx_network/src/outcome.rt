@@ -19,9 +19,9 @@ pub enum Cause {
     NumbersSpent,
     NotInside,
     NoRegister,
-    /// The record of this number is the first below the own section that the journal lacks.
+    /// The journal lacks the record of this section, the first that it lacks below the own one.
     Gap(u64),
-    /// The section has had eight reads, or eight writes.
+    /// The section has eight reads already, at a read, or eight writes, at a write.
     Full,
 }
 
@@ -41,7 +41,7 @@ pub enum Outcome {
     Sent(u64),
     Delivered,
     Woken,
-    /// The node changed nothing.
+    /// The node refused the event, and changed nothing.
     Refused(Cause),
 }
 
@@ -71,7 +71,7 @@ pub struct Entry {
     pub outcome: Outcome,
 }
 
-/// The outcome that a member's answer is, where it sent so many parcels.
+/// The outcome that a member's answer stands for, where the member sent this many parcels.
 pub(crate) fn outcome_from(answer: Answer, sent: u64) -> Outcome
     ensures { result ≡ outcome_of answer sent }
 {

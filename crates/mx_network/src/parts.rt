@@ -1,4 +1,4 @@
-//! One event, over the parts of a cluster. Nothing here knows a law.
+//! One event, over the parts of a cluster. Nothing here uses the laws of an algorithm.
 
 ghost use Rattle.std.specs.Prelude.{◌≡◌, ◌+◌, ◌^◌, ◌≤◌, ◌<◌, [], ◌∷◌, ◌++◌, length, slice_get, IfErr, IfOk, OnErr, vec_len, vec_capacity};
 ghost use Rattle.mx_stamps.specs.Lists.{each_below};
@@ -55,7 +55,7 @@ fn delivery_at<M: Copy>(
     }
 }
 
-/// The node whose event it is, and what it does, among so many nodes.
+/// The node whose event it is, and the act that it does, in a cluster of this many nodes.
 fn part_at<M: Copy>(
     nodes: usize,
     sent: &[(NodeId, NodeId, Parcel<M>)],
@@ -91,7 +91,7 @@ fn send_all<M: Copy>(
     }
 }
 
-/// What a member does, and its parcels go out. There is room for them, and the outbox is left empty.
+/// Does an act of a member, and sends its parcels. There is room for them, and the outbox is left empty.
 fn act_and_send<C: Exclusion>(
     member: &mut Member<C>,
     node: NodeId,

@@ -9,7 +9,7 @@ use Rattle.mx_nodelaws.specs.Raised.{IsReachedBy, HasComeTo}
 use Rattle.mx_nodelaws.proofs.Worlds.{in_sent_by}
 
 module _ {S M : Type 0} (w : World S M) (i : ℕ) (s : S) (at : IsNode w i s) where
-  -- node i is s, by whichever name
+  -- node i is s, also where i goes by another name
 
   pub at_as : (j : ℕ) → j ≡ i → IsNode w j s
   at_as j e = subst (λ x. IsNode w x s) (sym e) at

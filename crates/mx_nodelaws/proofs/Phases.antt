@@ -1,4 +1,4 @@
--- Phases apart, and what their tests tell.
+-- The phases differ from one another, and what a test of a phase says of it.
 use Rattle.std.proofs.Common.{ℕ, ◌≡◌, Bool, true, false, ◌&&◌, refl, sym, ◌∙◌, ap}
 use Rattle.mx_stamps.proofs.Choices.{and_true}
 use Rattle.mx_nodelaws.specs.declared.phase.Phase.{Phase}
@@ -34,6 +34,6 @@ waiting_is (Inside n) h = let bad : ⊥ = cc in absurd bad
 pub is_waiting_is : (p : Phase) → p ≡ Waiting → is_waiting p ≡ true
 is_waiting_is p e = ap is_waiting e
 
--- who waits and has more beside it waits
+-- where a phase passes the test of waiting, and another test too, it is Waiting
 pub waits_alone : (p : Phase) (b : Bool) → (is_waiting p && b) ≡ true → p ≡ Waiting
 waits_alone p b h = waiting_is p (and_true (is_waiting p) b h).0

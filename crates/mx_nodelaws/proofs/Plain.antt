@@ -1,4 +1,4 @@
--- The layer of u64 values and of names that are nodes: letters, steps, and the world at rest.
+-- Numbers that are u64 values, and names that are nodes: letters, steps, and the world at rest.
 use Rattle.std.proofs.Common.{ℕ, ◌<◌, ◌≡◌, ◌↔◌, inl, inr, List, [], ◌∷◌, ◌++◌, slice_set, length, sym, subst, arith}
 use Rattle.std.proofs.lemmas.Option.{slice_get_within}
 use Rattle.mx_stamps.specs.Lists.{IsIn, each_below}
@@ -41,6 +41,6 @@ module _ {S M : Type 0} (Node : ℕ → S → Type 0) (Letter : ℕ → M → Ty
         letters = λ a b m sent. absurd sent;
       }
 
-  -- which letters were sent matters, and not how often or in which order
+  -- this depends on which letters were sent, and not on how often or in which order
   pub plain_by : (w : World S M) (sent : List (ℕ × ℕ × M)) → ((x : ℕ × ℕ × M) → IsIn x w.sent ↔ IsIn x sent) → IsPlainWorld Node Letter w → IsPlainWorld Node Letter (record { nodes = w.nodes; sent = sent })
   plain_by w sent same plain = record { nodes = plain.nodes; letters = λ a b m h. plain.letters a b m ((same (a, b, m)).1 h) }

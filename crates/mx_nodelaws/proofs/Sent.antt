@@ -4,7 +4,7 @@ use Rattle.std.proofs.lemmas.Option.{same_Some}
 use Rattle.mx_stamps.proofs.Lists.{append_nil, none_is_no_some}
 use Rattle.mx_nodelaws.specs.World.{addressed, letter_to}
 
--- one place more, for a node that gets none
+-- one node more, which gets no letter
 pub none_more : {M : Type 0} (f : ℕ → Option M) (i : ℕ) (out : List (ℕ × M)) → out ≡ addressed f i → f i ≡ None → out ≡ addressed f (i + 1)
 none_more {M} f i out e none =
     let P : ℕ → Type 0 = λ k. out ≡ addressed f k in

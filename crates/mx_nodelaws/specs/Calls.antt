@@ -1,4 +1,4 @@
--- The calls of a node, by its phase.
+-- The calls of a node, by its phase, as all algorithms share them.
 use Rattle.std.specs.Prelude.{ℕ, ◌+◌, Bool, [], Result, Ok, Err, nat_lt, if◌then◌else◌}
 use Rattle.mx_stamps.specs.declared.stamp.Stamp.{Stamp}
 use Rattle.mx_stamps.specs.Numbers.{last_number}
@@ -19,7 +19,7 @@ unchanged s answer = record { state = s; answer = answer; letters = [] }
 abbrev pub refused : {S : Type 0} → S → EnterFault → Quiet S (Result ℕ EnterFault)
 refused s fault = record { state = s; answer = Err fault }
 
--- ask: a node at rest asks, unless its last number of a request is the greatest
+-- ask: an idle node asks, unless the number of its last request is the greatest u64 value
 abbrev pub ask_by : {S M : Type 0} → (S → ℕ) → (S → Done S (Result Stamp AskFault) M) → Phase → S → Done S (Result Stamp AskFault) M
 ask_by last asked Idle s = if nat_lt (last s) last_number then asked s else unchanged s (Err StampsSpent)
 ask_by last asked Waiting s = unchanged s (Err NotIdle)
@@ -29,7 +29,7 @@ ask_by last asked (Inside n) s = unchanged s (Err NotIdle)
 abbrev pub entered_by : {S : Type 0} → (S → ℕ) → (S → S) → S → Quiet S (Result ℕ EnterFault)
 entered_by top entering s = record { state = entering s; answer = Ok (top s + 1) }
 
--- a waiting node enters where every permission is there, up to the limit
+-- a waiting node enters where it has every permission and the limit is not reached
 abbrev pub enter_by : {S : Type 0} → (S → Bool) → (S → ℕ) → (S → ℕ) → (S → S) → Phase → S → Quiet S (Result ℕ EnterFault)
 enter_by granted top limit entering Idle s = refused s NotWaiting
 enter_by granted top limit entering Waiting s =

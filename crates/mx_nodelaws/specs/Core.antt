@@ -12,16 +12,16 @@ use Rattle.mx_nodelaws.specs.World.{Done, Quiet}
 
 -- the step table of an algorithm, over shapes H, states S and letters M
 pub record Core (H S M : Type 0) : Type 0 where
-  -- how many nodes
+  -- how many nodes a shape has
   pub count : H → ℕ
-  -- of the shape, the node, the origin and the limit
+  -- the state of a node that has just been started, from the shape, the node, the origin and the limit
   pub start : H → ℕ → ℕ → ℕ → S
   pub phase : S → Phase
   pub mine : S → ℕ
   pub limit : S → ℕ
   pub can_enter : S → Bool
   pub ask : S → Done S (Result Stamp AskFault) M
-  -- of the sender and its letter
+  -- the step at a delivery, from the sender, its letter and the state
   pub deliver : ℕ → M → S → Done S (Unit {0}) M
   pub enter : S → Quiet S (Result ℕ EnterFault)
   pub leave : S → Done S (Result ℕ LeaveFault) M
@@ -31,15 +31,15 @@ pub record Core (H S M : Type 0) : Type 0 where
 abbrev pub IsInside : {H S M : Type 0} → Core H S M → S → Type 0
 IsInside core s = (n : ℕ) × (core.phase s ≡ Inside n)
 
--- the number of a section is from 1 to 1,000,000
+-- a node that is inside is in a section numbered from 1 to 1,000,000
 abbrev pub BearsNumber : Phase → Type 0
 BearsNumber Idle = Unit {0}
 BearsNumber Waiting = Unit {0}
 BearsNumber (Inside n) = (0 < n) × (n ≤ 1000000)
 
--- the promises on phases, on the last own number and on the limit, for every state
+-- the promises on the phase, on `mine` (the last own section number) and on the limit, for every state
 pub record KeepsPhases {H S M : Type 0} (core : Core H S M) : Type 0 where
-  -- a started node
+  -- a node that has just been started is idle, has entered no section, and has the limit that was given
   pub started_idle : (shape : H) (i origin limit : ℕ) → core.phase (core.start shape i origin limit) ≡ Idle
   pub started_mine : (shape : H) (i origin limit : ℕ) → core.mine (core.start shape i origin limit) ≡ 0
   pub started_limit : (shape : H) (i origin limit : ℕ) → core.limit (core.start shape i origin limit) ≡ limit
@@ -49,11 +49,11 @@ pub record KeepsPhases {H S M : Type 0} (core : Core H S M) : Type 0 where
   pub ask_not_idle : (s : S) → ((core.ask s).answer ≡ Err NotIdle) ↔ (core.phase s ≢ Idle)
   pub ask_mine : (s : S) → core.mine (core.ask s).state ≡ core.mine s
   pub ask_limit : (s : S) → core.limit (core.ask s).state ≡ core.limit s
-  -- a delivery
+  -- a delivery changes none of the three
   pub deliver_phase : (from : ℕ) (m : M) (s : S) → core.phase (core.deliver from m s).state ≡ core.phase s
   pub deliver_mine : (from : ℕ) (m : M) (s : S) → core.mine (core.deliver from m s).state ≡ core.mine s
   pub deliver_limit : (from : ℕ) (m : M) (s : S) → core.limit (core.deliver from m s).state ≡ core.limit s
-  -- a node can enter where it waits alone
+  -- a node can enter only where it waits
   pub can_enter_waiting : (s : S) → core.can_enter s ≡ true → core.phase s ≡ Waiting
   -- an accepted enter goes from Waiting to Inside, a refused one changes nothing
   pub enter_ok : (s : S) (n : ℕ) → (core.enter s).answer ≡ Ok n → (core.can_enter s ≡ true) × (core.phase (core.enter s).state ≡ Inside n) × (core.mine (core.enter s).state ≡ n)
@@ -67,7 +67,7 @@ pub record KeepsPhases {H S M : Type 0} (core : Core H S M) : Type 0 where
   pub leave_err : (s : S) (e : LeaveFault) → (core.leave s).answer ≡ Err e → ((core.leave s).state ≡ s) × ((core.leave s).letters ≡ [])
   pub leave_mine : (s : S) → core.mine (core.leave s).state ≡ core.mine s
   pub leave_limit : (s : S) → core.limit (core.leave s).state ≡ core.limit s
-  -- a tick
+  -- a tick changes none of the three
   pub tick_phase : (s : S) → core.phase (core.tick s).state ≡ core.phase s
   pub tick_mine : (s : S) → core.mine (core.tick s).state ≡ core.mine s
   pub tick_limit : (s : S) → core.limit (core.tick s).state ≡ core.limit s

@@ -18,13 +18,14 @@ module _ {H S M : Type 0} where
   pub record KeepsGood (core : Core H S M) (IsShape : H → Type 0) (Good : World S M → Type 0) : Type 0 where
     -- start law: the world at rest is Good
     pub at_start : (shape : H) (origin limit : ℕ) → IsShape shape → origin < 2 ^ 64 → 0 < limit → limit ≤ 1000000 → Good (started core shape origin limit)
-    -- step law: each step of each node keeps Good, a delivery of a letter that was sent to it
+    -- step law: each call of each node keeps Good; a letter that is delivered was sent to that node, at any
+    -- time before
     pub after_ask : (w : World S M) (i : ℕ) (s : S) → Good w → IsNode w i s → Good (after w i (core.ask s))
     pub after_deliver : (w : World S M) (i : ℕ) (s : S) (from : ℕ) (m : M) → Good w → IsNode w i s → WasSent w from i m → Good (after w i (core.deliver from m s))
     pub after_enter : (w : World S M) (i : ℕ) (s : S) → Good w → IsNode w i s → Good (after w i (quietly (core.enter s)))
     pub after_leave : (w : World S M) (i : ℕ) (s : S) → Good w → IsNode w i s → Good (after w i (core.leave s))
     pub after_tick : (w : World S M) (i : ℕ) (s : S) → Good w → IsNode w i s → Good (after w i (core.tick s))
-    -- which letters were sent matters, and not how often or in which order
+    -- Good depends on which letters were sent, and not on how often or in which order
     pub by_membership : (w : World S M) (sent : List (ℕ × ℕ × M)) → ((x : ℕ × ℕ × M) → IsIn x w.sent ↔ IsIn x sent) → Good w → Good (record { nodes = w.nodes; sent = sent })
     -- each letter was sent to a node
     pub to_nodes : (w : World S M) (a b : ℕ) (m : M) → Good w → WasSent w a b m → b < length w.nodes

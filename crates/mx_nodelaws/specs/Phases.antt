@@ -1,4 +1,4 @@
--- Where a node stands, as a test.
+-- The tests of the phase of a node.
 use Rattle.std.specs.Prelude.{Bool, true, false}
 use Rattle.mx_nodelaws.specs.declared.phase.Phase.{Phase}
 use Rattle.mx_nodelaws.specs.declared.phase.Phase.TheVariants.{Idle, Waiting, Inside}

@@ -1,4 +1,4 @@
--- Numbers that nodes only raise.
+-- Numbers that only rise.
 use Rattle.std.specs.Prelude.{ℕ, ◌≤◌}
 use Rattle.mx_nodelaws.specs.World.{World, IsNode}
 

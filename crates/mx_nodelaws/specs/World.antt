@@ -2,7 +2,7 @@
 use Rattle.std.specs.Prelude.{ℕ, zero, suc, ◌≡◌, List, [], ◌∷◌, ◌++◌, Option, Some, None, slice_get, slice_set}
 use Rattle.mx_stamps.specs.Lists.{IsIn}
 
--- what one act makes of a node: its next state, its answer, and its letters in order, each with its addressee
+-- what one act of a node gives: its next state, its answer, and its letters in order, each with its addressee
 pub record Done (S A M : Type 0) : Type 0 where
   pub state : S
   pub answer : A

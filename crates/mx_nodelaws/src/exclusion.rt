@@ -19,7 +19,8 @@ pub trait Exclusion: Drop {
     /// A letter.
     type Msg: Copy + Default;
 
-    /// What all nodes of a cluster know of it: how many there are, and how they stand to each other.
+    /// What all nodes of a cluster know of it: how many there are and, where the algorithm needs it,
+    /// their sets of arbiters or their tree.
     type Shape: Copy;
 
     // the step table
@@ -38,15 +39,15 @@ pub trait Exclusion: Drop {
         ensures low { 0 < result }
         ensures high { result ≤ MAX_NODES };
 
-    /// A node at rest. `origin` is where its numbers of requests start, and `limit` the greatest
-    /// section number.
+    /// A node that has just been started. Its stamps, grants or hops count on from `origin`; `limit` is
+    /// the greatest section number.
     fn start(shape: &Self::Shape, me: NodeId, origin: u64, limit: u64) -> Self
         requires node { me < core.count shape.now }
         requires low { 0 < limit }
         requires high { limit ≤ 1000000 }
         ensures { result ≡ core.start shape.now me origin limit };
 
-    /// Asks for the next section. The stamp is that of the request.
+    /// Asks for the next section, and answers the stamp of the request.
     fn ask(&mut self, out: &mut Outbox<Self::Msg>) -> Result<Stamp, AskFault>
         requires { out.old ≡ [] }
         ensures state { self.new ≡ (core.ask self.old).state }
@@ -59,7 +60,7 @@ pub trait Exclusion: Drop {
         ensures state { self.new ≡ (core.deliver from letter self.old).state }
         ensures letters { out.new ≡ (core.deliver from letter self.old).letters };
 
-    /// Whether every permission for the current request is there.
+    /// Whether the node waits, and has every permission for its current request.
     fn can_enter(&self) -> bool
         ensures { result ≡ core.can_enter self.now };
 
@@ -81,7 +82,7 @@ pub trait Exclusion: Drop {
         ensures state { self.new ≡ (core.tick self.old).state }
         ensures letters { out.new ≡ (core.tick self.old).letters };
 
-    /// Where the node stands.
+    /// The phase of the node.
     fn phase(&self) -> Phase
         ensures value { result ≡ core.phase self.now }
         ensures numbered { BearsNumber result };

@@ -2,34 +2,35 @@
 
 use thiserror::Error;
 
-/// Why a node does not ask.
+/// Why a call of `ask` is refused.
 #[derive(Clone, Copy, Debug, PartialEq, Eq, Error)]
 pub enum AskFault {
-    /// It waits already, or is inside.
+    /// The node waits already, or is inside.
     #[error("not idle")]
     NotIdle,
-    /// There is no stamp after the last one.
+    /// The last stamp had the greatest u64 number, so that there is no next one.
     #[error("stamps spent")]
     StampsSpent,
 }
 
-/// Why a node does not enter.
+/// Why a call of `enter` is refused.
 #[derive(Clone, Copy, Debug, PartialEq, Eq, Error)]
 pub enum EnterFault {
-    /// It has not asked, or is inside already.
+    /// The node has not asked, or is inside already.
     #[error("not waiting")]
     NotWaiting,
     /// A permission is missing.
     #[error("not granted")]
     NotGranted,
-    /// The greatest section number is spent. The node goes on waiting.
+    /// The highest section number that the node knows is the limit already. The node stays waiting.
     #[error("numbers spent")]
     NumbersSpent,
 }
 
-/// Why a node does not leave.
+/// Why a call of `leave` is refused.
 #[derive(Clone, Copy, Debug, PartialEq, Eq, Error)]
 pub enum LeaveFault {
+    /// The node is idle, or still waits.
     #[error("not inside")]
     NotInside,
 }

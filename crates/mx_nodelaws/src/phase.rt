@@ -1,7 +1,7 @@
-//! Where a node stands.
+//! The phase of a node.
 
-/// Where a node stands: it asks for nothing, waits for its permissions, or is inside the section
-/// of this number.
+/// The phase of a node: it asks for nothing, waits for its permissions, or is inside the section of
+/// this number.
 #[derive(Clone, Copy, Debug, PartialEq, Eq)]
 pub enum Phase {
     Idle,

@@ -31,7 +31,7 @@ distinct_names p names = if has_double names then Err (DoubleName p) else Ok nam
 abbrev pub names_from : ℕ → Place → List Data → Result (List Text) PlanFault
 names_from most p ds = if are_names most ds then distinct_names p (map text_of ds) else Err (NotPlan p)
 
--- the names that a member lists
+-- the names that the value of a key lists
 abbrev pub names_of : ℕ → Place → Option Data → Result (List Text) PlanFault
 names_of most p d = option_map_or (names_from most p) (array_of d) (Err (NotPlan p))
 

@@ -19,7 +19,7 @@ use Rattle.mx_plan.specs.declared.algorithm.Algorithm.TheVariants.{Ricart, Maeka
 use Rattle.mx_plan.specs.declared.faults.PlanFault.{PlanFault}
 use Rattle.mx_plan.specs.declared.faults.PlanFault.TheVariants.{NotPlan, BadShape, Memory}
 
--- ---- the members
+-- ---- the keys
 
 -- the algorithm that a word names
 abbrev pub algorithm_named : Text → Result Algorithm PlanFault
@@ -39,12 +39,12 @@ abbrev pub in_range : Place → Option ℕ → Result ℕ PlanFault
 in_range p None = Err (NotPlan p)
 in_range p (Some n) = if nat_le 1 n && nat_le n 1000000 then Ok n else Err (NotPlan p)
 
--- the origin that a member gives: 0 where it is absent
+-- the origin that the value of a key gives: 0 where the key is absent
 abbrev pub origin_of : Option Data → Result ℕ PlanFault
 origin_of None = Ok 0
 origin_of (Some d) = option_map_or (λ n. Ok n) (number_of (Some d)) (Err (NotPlan place.Origin))
 
--- the tree of the members `edges` and `holder`
+-- the tree that the keys `edges` and `holder` give
 abbrev pub tree_of : List Text → Data → Result Wish PlanFault
 tree_of nodes d =
     and_then (edges_of nodes (get (codes "edges") d))

@@ -39,7 +39,7 @@ family_of nodes ds = and_then (each (set_of nodes) ds) (λ sets. Ok (listed sets
 abbrev pub sets_from : List Text → List Data → Result Wish PlanFault
 sets_from nodes ds = if are_sets (length nodes) ds then family_of nodes ds else no_quorums
 
--- the family that a member lists
+-- the family that the value of a key lists
 abbrev pub sets_of : List Text → Option Data → Result Wish PlanFault
 sets_of nodes d = option_map_or (sets_from nodes) (array_of d) no_quorums
 
@@ -55,7 +55,7 @@ kind_of nodes d kind =
 abbrev pub quorums_from : List Text → Data → Result Wish PlanFault
 quorums_from nodes d = option_map_or (kind_of nodes d) (option_and_then as_str (get (codes "kind") d)) no_quorums
 
--- the sets that a plan's member asks for
+-- the sets that the value of the key `quorums` asks for
 abbrev pub quorums_of : List Text → Option Data → Result Wish PlanFault
 quorums_of nodes d = option_map_or (quorums_from nodes) d no_quorums
 

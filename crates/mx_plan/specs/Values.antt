@@ -23,7 +23,7 @@ Gives wanted (Err e) = (wanted ≡ Err e) ⊎ (e ≡ Memory)
 unfoldable pub value_of : List ℕ → Option Data
 value_of text = if is_utf8 text then read text else None
 
--- what a text is read as, by what its value is read as
+-- what a text is read as, from the rule by which its JSON value is read
 abbrev pub of_text : {T : Type 0} → (Data → Result T PlanFault) → List ℕ → Result T PlanFault
 of_text f text = option_map_or f (value_of text) (Err NotJson)
 
@@ -54,7 +54,7 @@ list_of (item d ds) = d ∷ list_of ds
 abbrev pub elements : Data → Option (List Data)
 elements d = option_map list_of (as_array d)
 
--- the elements of a member that is there and an array
+-- the elements of the value of a key, where the key is there and its value is an array
 abbrev pub array_of : Option Data → Option (List Data)
 array_of d = option_and_then elements d
 
@@ -66,6 +66,6 @@ list_in d = unwrap_or (elements d) []
 abbrev pub text_of : Data → Text
 text_of d = unwrap_or (as_str d) []
 
--- a member that is there and a whole number
+-- the value of a key, where the key is there and its value is a whole number
 abbrev pub number_of : Option Data → Option ℕ
 number_of d = option_and_then as_u64 (option_and_then as_number d)

@@ -16,7 +16,7 @@ use mx_stamps::NodeId;
 use serde_json::Value;
 use std::alloc::Global;
 
-/// How many events a text lists at the most.
+/// The greatest number of events that a text may list.
 const MOST_EVENTS: usize = 1_000_000;
 
 /// Reads a list of at most 1,000,000 events. Each is an array of a word and of names of the plan's

@@ -31,7 +31,7 @@ pub enum PlanFault {
     UnknownName(Place),
     /// All places are as they should be, but the nodes have no such shape.
     BadShape(ShapeFault),
-    /// A growth was refused. It can come at any point of the reading.
+    /// Memory ran out. This can happen at any point of the reading.
     Memory,
 }
 

@@ -14,7 +14,7 @@ use crate::values::{array_in, elements, text_in};
 use serde_json::Value;
 use std::alloc::Global;
 
-/// The names that a member lists: 1 to `most`, no two equal.
+/// The names that the value of a key lists: 1 to `most`, no two equal.
 pub fn names_at(
     alloc: Global,
     value: Option<&Value>,

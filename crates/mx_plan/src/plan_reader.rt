@@ -22,17 +22,17 @@ use mx_stamps::MAX_NODES;
 use serde_json::Value;
 use std::alloc::Global;
 
-/// How many nodes a plan names at the most.
+/// The greatest number of nodes that a plan may name.
 const MOST_NODES: usize = MAX_NODES as usize;
 
-/// How many registers a plan names at the most.
+/// The greatest number of registers that a plan may name.
 const MOST_REGISTERS: usize = 32;
 
 /// The greatest number that a plan may give to its last section.
 const MOST_SECTIONS: u64 = 1_000_000;
 
 /// Reads a plan: an object with `algorithm`, `nodes`, `registers`, `sections`, where it is not 0
-/// `origin`, for Maekawa's algorithm `quorums`, and for Raymond's `edges` and `holder`. Other members
+/// `origin`, for Maekawa's algorithm `quorums`, and for Raymond's `edges` and `holder`. Other keys
 /// are ignored. The places are checked in the order of `Place`, each first for its form, then for
 /// double names and then for unknown ones; the shape is checked after all places.
 pub fn read_plan(alloc: Global, text: &[u8]) -> Result<Plan, PlanFault>

@@ -18,7 +18,7 @@ use crate::values::{array_in, list_in, number_in};
 use serde_json::Value;
 use std::alloc::Global;
 
-/// The shape of the sets that a member asks for.
+/// The shape of the sets that the value of the key `quorums` asks for.
 pub fn quorums_in(alloc: Global, value: Option<&Value>, nodes: &Names) -> Result<Shape, PlanFault>
     requires { AreNames 21 nodes.now }
     ensures { ShapeAnswers (length nodes.now)
@@ -81,7 +81,7 @@ fn is_size(nodes: u8, rows: u64, cols: u64) -> bool
     rows.checked_mul(cols) == Some(u64::from(nodes))
 }
 
-/// The family of the sets that a member lists.
+/// The family of the sets that the value of the key `sets` lists.
 fn sets_in(alloc: Global, value: Option<&Value>, nodes: &Names) -> Result<Shape, PlanFault>
     requires { AreNames 21 nodes.now }
     ensures { ShapeAnswers (length nodes.now)

@@ -27,7 +27,7 @@ pub fn tree_in(alloc: Global, plan: &Value, nodes: &Names) -> Result<Shape, Plan
     Ok(Shape::tree(nodes.len() as u8, edges.as_slice(), holder)?)
 }
 
-/// The edges that a member lists: their form first, and then their names.
+/// The edges that the value of a key lists. Their form is checked first, and then their names.
 fn edges_in(alloc: Global, value: Option<&Value>, nodes: &Names) -> Result<Vec<(u8, u8)>, PlanFault>
     requires { length nodes.now ≤ 21 }
     ensures { Gives (spec.edges_of nodes.now (option_map (λ v. view v.now) value.entry)) result }
@@ -87,7 +87,7 @@ fn edge_in(value: &Value, nodes: &Names) -> Result<(u8, u8), PlanFault>
     }
 }
 
-/// The node that a member names.
+/// The node that the value of a key names.
 fn holder_in(value: Option<&Value>, nodes: &Names) -> Result<u8, PlanFault>
     requires { length nodes.now ≤ 21 }
     ensures { result ≡ spec.holder_of nodes.now (option_map (λ v. view v.now) value.entry) }

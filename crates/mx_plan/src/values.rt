@@ -32,7 +32,7 @@ pub fn elements(value: &Value) -> Option<&[Value]>
     }
 }
 
-/// The elements of a member that is an array.
+/// The elements of the value of a key, where the key is there and its value is an array.
 pub fn array_in<'a>(value: Option<&'a Value>) -> Option<&'a [Value]>
     ensures { option_map (λ vs. map view vs.now) result
         ≡ spec.array_of (option_map (λ v. view v.now) value.entry) }
@@ -60,7 +60,7 @@ pub fn text_in(value: &Value) -> &str
     value.as_str().unwrap_or("")
 }
 
-/// A member that is there and a whole number.
+/// The value of a key, where the key is there and its value is a whole number.
 pub fn number_in(value: Option<&Value>) -> Option<u64>
     ensures { result ≡ spec.number_of (option_map (λ v. view v.now) value.entry) }
 {

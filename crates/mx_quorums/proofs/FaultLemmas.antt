@@ -1,4 +1,4 @@
--- At most one fault is the first, and where one is the lists are no meeting family.
+-- At most one fault is the first, and where there is a first fault the lists are no meeting family.
 use Rattle.std.proofs.Common.{ℕ, ◌<◌, ◌≡◌, ◌↔◌, Bool, List, length, refl, sym, ◌∙◌, ap, subst, arith, find, nat_le, Ok, Err, Result, IsOk, IfOk, IsErrOf, IsErrAnd}
 use Rattle.std.proofs.lemmas.Option.{same_Some}
 use Rattle.mx_stamps.proofs.Stamps.{not_before}
@@ -9,7 +9,7 @@ use Rattle.mx_quorums.specs.Lists.{list_of, IsListed, IsCounted, NoneEmpty, AllN
 use Rattle.mx_quorums.specs.declared.fault.QuorumFault.{QuorumFault}
 use Rattle.mx_quorums.specs.declared.fault.QuorumFault.TheVariants.{NoNodes, TooMany, EmptySet, Stranger, NotOwnMember, Apart, NoPlane}
 
--- two least numbers are one
+-- the least number is unique
 pub least_same : (P : ℕ → Type 0) (n i j : ℕ) → IsLeast P n i → IsLeast P n j → i ≡ j
 least_same P n i j a b =
     let not_below : j < i → ⊥ = λ h. a.2 j h b.1 in
@@ -158,7 +158,7 @@ pub checked_answers : (lists : List (List ℕ)) (n : ℕ) (rows : List (List Boo
 checked_answers lists n rows e counted filled nodes same r a =
     checked_whole lists rows counted filled nodes same r (subst (λ (m : ℕ). IsChecked m rows r) e a)
 
--- what is refused by a fault that is the first
+-- what is refused, where the fault is the first
 pub refused_by : (lists : List (List ℕ)) (f : QuorumFault) (r : Result Family QuorumFault)
     → IsErrAnd r (λ e. e ≡ f) → IsFirstFault lists f → Answers lists r
 refused_by lists f (Err e) is a = subst (λ g. Answers lists (Err g)) (sym is) (refused lists f a)

@@ -67,7 +67,7 @@ pub rows_meet : (n : ℕ) (rows : List (List Bool)) → 0 < n → n ≤ 21 → M
     → IsMeeting (record { count = n; rows = rows })
 rows_meet n rows some few marks own meet = record { some = some; few = few; own = own; nodes = λ i j lt h. (marks i j h).1; meet = meet }
 
--- what looks for a common node finds one, where there is one
+-- the search for a common node finds one where there is one
 pub finds_common : (a b : List Bool) (r : Option ℕ)
     → MatchOption r ((k : ℕ) → BothMark a b k → ⊥) (λ k. IsLeast (BothMark a b) 21 k)
     → (k : ℕ) × IsMarked a k × IsMarked b k → IsSome r

@@ -124,7 +124,7 @@ plane_accepted n marks size same r h =
     let meet : AllMeet (IsMember marks) n = λ i j lt lt2. let w = plane_meet n i j size lt lt2 in (w.0, (same i w.0).1 (lt, w.1), (same j w.0).1 (lt2, w.2)) in
     accepts n marks (λ i lt. (same i i).1 (lt, plane_own n i size lt)) meet r h
 
--- a value that is accepted is no fault
+-- what was accepted was not refused
 pub no_error : (P : QuorumFault → Type 0) (r : Result Family QuorumFault) → IsOk r → IfErr r P
 no_error P (Ok q) h = tt
 no_error P (Err f) h = let bad : ⊥ = cc in absurd bad

@@ -1,7 +1,7 @@
 -- A family of arbiter sets of which any two meet (Maekawa 1985).
 use Rattle.std.specs.Prelude.{ℕ, ◌<◌, ◌≤◌, ◌≡◌, Bool, true, false, List, [], slice_index_or}
 
--- how many nodes there are, and for each a row: which nodes are in its set
+-- how many nodes there are, and for each node a row that marks the nodes of its set
 pub record Family : Type 0 where
   pub count : ℕ
   pub rows : List (List Bool)
@@ -21,7 +21,7 @@ pub record IsMeeting (f : Family) : Type 0 where
   pub nodes : (i j : ℕ) → i < f.count → has_of f i j ≡ true → j < f.count
   pub meet : (i j : ℕ) → i < f.count → j < f.count → (a : ℕ) × (has_of f i a ≡ true) × (has_of f j a ≡ true)
 
--- what is no node has no set, and is in none
+-- a number that is no node has no set, and is in none
 pub record IsWithin (f : Family) : Type 0 where
   pub owners : (i j : ℕ) → has_of f i j ≡ true → i < f.count
   pub members : (i j : ℕ) → has_of f i j ≡ true → j < f.count

@@ -19,7 +19,7 @@ list_of lists i = slice_index_or lists i []
 abbrev pub IsListed : List (List ℕ) → ℕ → ℕ → Type 0
 IsListed lists i j = IsIn j (list_of lists i)
 
--- as many lists as a cluster may have nodes
+-- there are 1 to 21 lists
 abbrev pub IsCounted : List (List ℕ) → Type 0
 IsCounted lists = (0 < length lists) × (length lists ≤ 21)
 
@@ -66,7 +66,7 @@ IsFirstFault lists (Apart i j) =
     × IsFirstApart (IsListed lists) (length lists) i j
 IsFirstFault lists (NoPlane n) = ⊥
 
--- what the check of the count finds, and the checks of the members
+-- the faults that the check of the count finds, and those that the checks of the members find
 abbrev pub IsCountFault : ℕ → QuorumFault → Type 0
 IsCountFault count fault =
     ((fault ≡ NoNodes) × (count ≡ 0)) ⊎ ((fault ≡ TooMany) × (21 < count))

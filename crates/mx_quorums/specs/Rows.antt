@@ -26,7 +26,7 @@ Marks row list = (j : ℕ) → IsMarked row j ↔ IsIn j list
 abbrev pub MarksLists : List (List Bool) → List (List ℕ) → Type 0
 MarksLists rows lists = (i j : ℕ) → IsMember rows i j ↔ IsIn j (slice_index_or lists i [])
 
--- marks stand in the rows of nodes, at nodes
+-- only rows of nodes have marks, and only at nodes
 abbrev pub MarksNodes : ℕ → List (List Bool) → Type 0
 MarksNodes n rows = (i j : ℕ) → IsMember rows i j → (i < n) × (j < n)
 

@@ -1,4 +1,4 @@
-//! The check that any two sets meet, the same for sets of each kind.
+//! The check that any two sets meet. It is the same for lists, grids and planes.
 
 ghost use Rattle.std.specs.Prelude.{◌≡◌, ℕ, ◌<◌, ◌≤◌, ◌↔◌, MatchOption, MatchResult};
 ghost use Rattle.mx_quorums.specs.Rules.{IsLeast, AllOwn, AllMeet, MeetsAll, IsFirstNotOwn, IsFirstApart, IsFirstApartOf};
@@ -14,7 +14,7 @@ pub type Row = [bool; 21];
 /// The set of each node. The rows past the last node are empty.
 pub type Rows = [Row; 21];
 
-/// The number of nodes, where it is from 1 to 21.
+/// Checks that the number of nodes is from 1 to 21.
 pub fn node_count(count: usize) -> Result<u8, QuorumFault>
     ensures { MatchResult result (λ n. (n ≡ count) × (0 < n) × (n ≤ 21)) (λ fault. IsCountFault count fault) }
 {
@@ -25,7 +25,7 @@ pub fn node_count(count: usize) -> Result<u8, QuorumFault>
     }
 }
 
-/// The least node of both sets.
+/// The least node that is in both sets.
 pub fn first_common(a: &Row, b: &Row) -> Option<NodeId>
     ensures { MatchOption result
         ((k : ℕ) → BothMark a.now b.now k → ⊥)
@@ -39,7 +39,7 @@ pub fn first_common(a: &Row, b: &Row) -> Option<NodeId>
     None
 }
 
-/// The least node whose set does not meet that of node i.
+/// The least node whose set has no node in common with that of node i.
 fn first_apart(nodes: u8, rows: &Rows, i: u8) -> Option<u8>
     requires few { nodes ≤ 21 }
     requires node { i < nodes }
@@ -55,7 +55,7 @@ fn first_apart(nodes: u8, rows: &Rows, i: u8) -> Option<u8>
     None
 }
 
-/// Each node is in its own set.
+/// Checks that each node is in its own set.
 fn check_own(nodes: u8, rows: &Rows) -> Result<(), QuorumFault>
     requires { nodes ≤ 21 }
     ensures { MatchResult result
@@ -70,7 +70,7 @@ fn check_own(nodes: u8, rows: &Rows) -> Result<(), QuorumFault>
     Ok(())
 }
 
-/// Any two sets meet.
+/// Checks that any two sets meet.
 fn check_pairs(nodes: u8, rows: &Rows) -> Result<(), QuorumFault>
     requires few { nodes ≤ 21 }
     requires own { AllOwn (IsMember rows.now) nodes }
@@ -86,7 +86,7 @@ fn check_pairs(nodes: u8, rows: &Rows) -> Result<(), QuorumFault>
     Ok(())
 }
 
-/// Each node is in its own set, and any two sets meet.
+/// Checks that each node is in its own set, and that any two sets meet.
 pub fn check(nodes: u8, rows: &Rows) -> Result<(), QuorumFault>
     requires { nodes ≤ 21 }
     ensures { MatchResult result

@@ -1,4 +1,4 @@
-//! Why sets are no family of arbiter sets.
+//! Why some sets are not accepted as a family of arbiter sets.
 
 use thiserror::Error;
 
@@ -15,8 +15,8 @@ pub enum QuorumFault {
     /// The set of this node is empty. It is the least such node.
     #[error("empty set {0}")]
     EmptySet(u8),
-    /// The set of the first number has the second, which is no node. The first is the least such
-    /// node, and the second the first such member in its list.
+    /// The set of the first node lists the second number, which is no node. The first is the least
+    /// such node, and the second the first such member in its list.
     #[error("stranger {0} {1}")]
     Stranger(u8, u8),
     /// This node is not in its own set. It is the least such node.

@@ -8,7 +8,7 @@ ghost use Rattle.mx_stamps.specs.Lists.{IsIn};
 use crate::check::{Row, Rows};
 use crate::fault::QuorumFault;
 
-/// No set is empty.
+/// Checks that no set is empty.
 pub fn check_filled(sets: &[Vec<u8>]) -> Result<(), QuorumFault>
     requires { length sets.now ≤ 21 }
     ensures { MatchResult result
@@ -30,7 +30,7 @@ fn first_stranger(set: &[u8], nodes: u8) -> Option<u8>
     set.iter().copied().find(|j| nodes <= *j)
 }
 
-/// Each member is a node.
+/// Checks that each member is a node.
 pub fn check_members(sets: &[Vec<u8>], nodes: u8) -> Result<(), QuorumFault>
     requires count { nodes ≡ length sets.now }
     requires few { length sets.now ≤ 21 }
@@ -46,7 +46,7 @@ pub fn check_members(sets: &[Vec<u8>], nodes: u8) -> Result<(), QuorumFault>
     Ok(())
 }
 
-/// The row of a list of nodes.
+/// The row that marks the nodes of a list.
 fn row_of(set: &[u8]) -> Row
     requires { (j : ℕ) → IsIn j set.now → j < 21 }
     ensures { Marks result set.now }
@@ -58,7 +58,7 @@ fn row_of(set: &[u8]) -> Row
     row
 }
 
-/// The rows of lists of nodes.
+/// The rows that mark the nodes of each list.
 pub fn rows_of(sets: &[Vec<u8>]) -> Rows
     requires few { length sets.now ≤ 21 }
     requires nodes { AllNodes (lists_of sets.now) }

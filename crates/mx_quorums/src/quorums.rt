@@ -43,7 +43,7 @@ impl Quorums {
     pub fn listed(sets: &[Vec<u8>]) -> Result<Quorums, QuorumFault>
         ensures ok { IsOk result ↔ AreMeeting (lists_of sets.now) }
         ensures sets { IfOk result (λ family. IsFamilyOf (lists_of sets.now) family) }
-        // the first in the order of the faults, at its least witness: there is at most one
+        // the first fault in their order, with its least witness; there is at most one
         ensures fault { (fault : QuorumFault) →
             IsErrOf result fault ↔ IsFirstFault (lists_of sets.now) fault }
     {
@@ -101,7 +101,7 @@ impl Quorums {
         self.nodes
     }
 
-    /// Whether node j is in the set of node i. It is not where one is no node of the family.
+    /// Whether node j is in the set of node i. False where either is no node of the family.
     pub fn has(&self, i: NodeId, j: NodeId) -> bool
         ensures value { result ≡ has_of self.now i j }
         ensures nodes { IsTrue result → (i < self.now.count) × (j < self.now.count) }
@@ -116,7 +116,7 @@ impl Quorums {
         self.rows[i.get() as usize]
     }
 
-    /// The least node that is in the sets of both.
+    /// The least node that is in the sets of both nodes.
     pub fn meeting(&self, i: NodeId, j: NodeId) -> NodeId
         requires first { i < self.now.count }
         requires second { j < self.now.count }

@@ -1,4 +1,4 @@
--- The queue stays one as names join and leave it, and has room for each name that is not in it.
+-- A queue is still one after a name joins or leaves it, and has room for each name that is not in it.
 use Rattle.std.proofs.Common.{ℕ, ◌<◌, ◌≤◌, ◌≡◌, inl, inr, false, nat_eq, List, [], ◌∷◌, ◌++◌, Some, length, refl, subst, arith, length-append}
 use Rattle.std.specs.Cmp.{nat_eq_equiv}
 use Rattle.std.specs.List.{AllByRecursion, IsDistinct}

@@ -26,7 +26,7 @@ pub record IsCalm {A : Type 0} (w : World Node RaymondMsg) (i : ℕ) (s : Node) 
   pub letters : (b hop last : ℕ) → IsIn (b, Privilege hop last) done.letters → WasSent w i b (Privilege hop last)
 
 module _ (w : World Node RaymondMsg) (i : ℕ) (s : Node) (at : IsNode w i s) where
-  -- the privilege stays where it is
+  -- the facts of such a step
 
   module _ {A : Type 0} (done : Done Node A RaymondMsg) (highest : ℕ) (safe : IsSafeAt w highest) (calm : IsCalm w i s done) where
     calm_rises : Rises s done.state
@@ -44,7 +44,7 @@ module _ (w : World Node RaymondMsg) (i : ℕ) (s : Node) (at : IsNode w i s) wh
       | inr new ↦ subst (λ x. WasSent w x b (Privilege hop last)) (sym new.0) (calm.letters b hop last new.1)
     ]
 
-    -- who had itself as holder still has, and nobody else
+    -- a node that is its own holder after the step was so before
     calm_holder : (j : ℕ) (t : Node) → IsNode (after w i done) j t → t.holder ≡ j → (u : Node) × (IsNode w j u) × (u.holder ≡ j)
     calm_holder j t tat e = elim (dec_eq j i) [
       | inl same ↦ (s, subst (λ x. IsNode w x s) (sym same) at, sym calm.holder ∙ sym (ap (λ x. x.holder) (is_new w i s done at j t same tat)) ∙ e)

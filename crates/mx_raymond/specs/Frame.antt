@@ -9,7 +9,7 @@ use Rattle.mx_nodelaws.proofs.Frame.{each_after, sent_after, sent_before, still_
 use Rattle.mx_raymond.specs.Node.{Node}
 use Rattle.mx_raymond.specs.Good.{IsReached, IsLast, HasSeen, IsNodeOk, IsPrivilegeOk, IsLetterOk, IsHeld, IsUnderWay, IsSafeAt}
 
--- what each step of a node keeps
+-- how a step of a node may change it: these numbers only rise
 pub record Rises (s new : Node) : Type 0 where
   pub hop : s.hop ≤ new.hop
   pub mine : s.mine ≤ new.mine

@@ -27,7 +27,7 @@ HasSeen w j hop = HasComeTo (λ (s : Node). s.hop) w j hop
 pub record IsNodeOk (w : World Node RaymondMsg) (highest i : ℕ) (s : Node) : Type 0 where
   pub me : s.me ≡ i
   pub hop : s.hop ≤ highest
-  -- the node knows its own sections, and no section that nobody has entered
+  -- `top` counts the node's own sections, and no section that nobody has entered
   pub mine_top : s.mine ≤ s.top
   pub top_reached : IsReached w s.top
   -- who is inside has the privilege
@@ -90,11 +90,11 @@ PlainLetter n (Request number) = Small number
 PlainLetter n (Privilege hop last) = Small hop × Small last
 PlainLetter n (Got hop) = Small hop
 
--- of n nodes
+-- the same for the privilege that is not acknowledged yet, among n nodes
 abbrev pub PlainUnacked : ℕ → Unacked → Type 0
 PlainUnacked n u = (u.to < n) × Small u.hop × Small u.last
 
--- the same of a node, and each name is a node
+-- the same for the state of a node; and each name is a node
 pub record PlainNode (n : ℕ) (s : Node) : Type 0 where
   pub me : s.me < n
   pub limit : Small s.limit

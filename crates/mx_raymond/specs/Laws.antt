@@ -21,11 +21,11 @@ module _ (tree : Rooted) (origin limit : ℕ) (valid : IsRooted tree) where
   abbrev at_rest : World Node RaymondMsg
   at_rest = started raymond_core tree origin limit
 
-  -- who a node is at the start
+  -- the state of a node at the start
   started_as : (i : ℕ) (s : Node) → IsNode at_rest i s → (i < tree.count) × (s ≡ start_of tree i origin limit)
   started_as i s at = get_each_below (λ k. start_of tree k origin limit) tree.count i s at
 
-  -- who has itself as holder is the holder
+  -- a node that is its own holder at the start is the tree's holder
   started_alone : (j : ℕ) (t : Node) → IsNode at_rest j t → t.holder ≡ j → j ≡ tree.holder
   started_alone j t at e =
       let r = started_as j t at in

@@ -1,7 +1,7 @@
 -- Definitions: Queue and Node (the state), Step (the step table), Good (the invariant).
 -- Proofs: Tests (what the table's tests mean), Frame (what any step leaves as it was), Calm and
 -- Moves (steps that leave the privilege in its place, and steps that do not), Keeps (each row keeps
--- a world safe), ServingPlain and Plain (and its numbers and names), Safety (exclusion and
+-- a world safe), ServingPlain and Plain (numbers are u64 values, and names are nodes), Safety (exclusion and
 -- numbering), Promises (on phases), Laws (all together).
 pub mod Queue
 pub mod Node

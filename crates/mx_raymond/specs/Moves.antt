@@ -25,7 +25,7 @@ module _ (w : World Node RaymondMsg) (i : ℕ) (s : Node) (at : IsNode w i s) (h
   seen_below a b hop last sent lt =
       let p : IsPrivilegeOk w highest b hop last = safe.letters a b (Privilege hop last) sent in p.seen lt
 
-  -- who has itself as holder has the privilege
+  -- a node that is its own holder is the one that has the privilege
   pub holds : s.holder ≡ i → (h : IsHeld w highest) × (h.node ≡ i)
   holds e = elim safe.privilege [
     | inl h ↦ (h, sym (h.alone i s at e))

@@ -9,32 +9,32 @@ use Rattle.mx_raymond.specs.Queue.{is_queued}
 
 pub record Node : Type 0 where
   pub me : ℕ
-  -- how the nodes stand to each other
+  -- the tree of the cluster
   pub tree : Rooted
   -- the greatest section number
   pub limit : ℕ
   pub phase : Phase
   -- the node itself where it has the privilege, else the neighbour in whose direction that is
   pub holder : ℕ
-  -- the nodes on whose behalf it wants the privilege
+  -- the neighbours that want the privilege from it, and itself while it waits, the oldest first
   pub queue : List ℕ
-  -- whether it has asked its holder for the privilege
+  -- whether it has sent its holder a request, and has not had the privilege since
   pub asked : Bool
-  -- the highest hop of a privilege that it has seen or sent
+  -- the highest hop of a privilege that it has sent or taken
   pub hop : ℕ
   -- the privilege that it sent last, until it knows that it has arrived
   pub unacked : Option Unacked
   -- how many of its own asks were accepted, and how many requests it has made
   pub asks : ℕ
   pub sent : ℕ
-  -- for each neighbour, the highest number of a request of its that was queued
+  -- for each neighbour, the highest number of its requests that were taken
   pub heard : List ℕ
   -- the highest section number that it knows
   pub top : ℕ
   -- the number of the last section that it entered, 0 before the first
   pub mine : ℕ
 
--- what holds of every state, by itself
+-- what holds of the state of every node, whatever the others do
 pub record IsState (s : Node) : Type 0 where
   pub mine : s.mine ≤ 1000000
   pub limit : s.limit ≤ 1000000

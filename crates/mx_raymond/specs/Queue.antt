@@ -24,7 +24,7 @@ rest_of (name ∷ rest) = rest
 abbrev pub joined : List ℕ → ℕ → List ℕ
 joined queue node = if is_queued queue node then queue else queue ++ node ∷ []
 
--- each name is in it once, and there are names of nodes alone
+-- each name is in it at most once, and each is the name of a node
 pub record IsQueue (queue : List ℕ) : Type 0 where
   pub once : IsDistinct nat_eq queue
   pub nodes : (node : ℕ) → is_queued queue node ≡ true → node < 21

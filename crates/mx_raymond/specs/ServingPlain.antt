@@ -14,7 +14,7 @@ use Rattle.mx_raymond.specs.Step.{Step, and_then, can_pass, passed, assign_to, a
 use Rattle.mx_raymond.specs.Good.{PlainLetter, PlainUnacked, PlainNode}
 use Rattle.mx_raymond.specs.Tests.{queued_behind, queued_head, may_pass, may_request}
 
--- a step that keeps the layer
+-- a step after which each number is a u64 value, and each name a node
 abbrev pub PlainStep : {A : Type 0} → ℕ → Step A → Type 0
 PlainStep n step = IsPlainDone PlainNode PlainLetter n step
 

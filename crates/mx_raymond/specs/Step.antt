@@ -1,4 +1,5 @@
--- The step table: what each call makes of a node, what it answers and what it sends.
+-- The step table: for each call the node's next state, the answer, and the letters that are sent.
+-- Each row says which part of it is published (Raymond 1989) and which is added here.
 use Rattle.std.specs.Prelude.{ℕ, ◌+◌, ◌≡◌, Bool, true, false, ◌&&◌, not, List, [], ◌∷◌, ◌++◌, Option, Some, None, Result, Ok, max, nat_lt, nat_eq, if◌then◌else◌, slice_index_or, slice_set, replicate}
 use Rattle.mx_stamps.specs.declared.stamp.Stamp.{Stamp}
 use Rattle.mx_stamps.specs.Numbers.{last_number}
@@ -21,7 +22,7 @@ use Rattle.mx_raymond.specs.Node.{Node}
 abbrev pub Step : Type 0 → Type 0
 Step A = Done Node A RaymondMsg
 
--- a node at rest: of the tree, the node, the origin and the limit
+-- a node that has just been started: from the tree, the node, the origin and the limit
 abbrev pub start_of : Rooted → ℕ → ℕ → ℕ → Node
 start_of tree me origin limit = record {
   me = me;
@@ -44,7 +45,7 @@ start_of tree me origin limit = record {
 abbrev pub is_holder : Node → Bool
 is_holder s = nat_eq s.holder s.me
 
--- the permission: it has the privilege, and is the first that wants it
+-- the permission: it has the privilege, and heads its own queue
 abbrev pub HasPermission : Node → Type 0
 HasPermission s = (s.holder ≡ s.me) × (head_of s.queue ≡ Some s.me)
 
@@ -64,8 +65,11 @@ and_then first second = record {
   letters = first.letters ++ (second first.state).letters;
 }
 
--- Assign: who has the privilege and is not inside passes it on to the first that wants it, if that
--- is another node
+-- Assign: a node that has the privilege and is not inside passes it on to the head of its queue, if
+-- that is another node.
+-- Published: procedure ASSIGN_PRIVILEGE. Its case of a node that heads its own queue is `enter` here.
+-- Added: the hop, by which an old privilege is known; `unacked`, so that it can be sent again; the
+-- highest section number. Where no hop is left the privilege stays.
 abbrev pub can_pass : Node → ℕ → Bool
 can_pass s next = is_holder s && (not (is_inside s.phase) && (not (nat_eq next s.me) && nat_lt s.hop last_number))
 
@@ -82,7 +86,9 @@ assign_to (Some next) s = if can_pass s next then passed s next else unchanged s
 abbrev pub assign : Node → Step (Unit {0})
 assign s = assign_to (head_of s.queue) s
 
--- Make: who wants the privilege and does not have it asks its holder, once
+-- Make: a node that wants the privilege and does not have it sends one request to its holder.
+-- Published: procedure MAKE_REQUEST.
+-- Added: the request's number, by which an old request is known; none is sent where no number is left.
 abbrev pub must_request : Node → Bool
 must_request s = not (is_holder s) && (not (is_empty s.queue) && (not s.asked && nat_lt s.sent last_number))
 
@@ -99,7 +105,9 @@ make s = if must_request s then requested s else unchanged s tt
 abbrev pub serving : {A : Type 0} → Step A → Step A
 serving step = and_then (and_then step assign) make
 
--- ask: the node joins its own queue
+-- ask: the node joins its own queue; then Assign and Make.
+-- Published: the node wishes to enter the critical section.
+-- Added: the number of the ask, which is that of the stamp; where no number is left the call is refused.
 abbrev pub asking : Node → Node
 asking s = record s { phase = Waiting; queue = s.queue ++ s.me ∷ []; asks = s.asks + 1 }
 
@@ -112,16 +120,21 @@ ask_in p s = ask_by (λ (x : Node). x.asks) asked p s
 abbrev pub ask_of : Node → Step (Result Stamp AskFault)
 ask_of s = ask_in s.phase s
 
--- the privilege that it sent last, again
+-- the privilege that it sent last is sent again, while its arrival is not known
 abbrev pub again : Option Unacked → List (ℕ × RaymondMsg)
 again None = []
 again (Some u) = (u.to, Privilege u.hop u.last) ∷ []
 
--- a request of the holder: the holder does not know that it has the privilege
+-- a request of the holder: it shows that the privilege has not reached the holder, or had not when
+-- the request was sent. The privilege is sent again.
+-- Added, since the privilege may have been lost.
 abbrev pub take_holders_request : Node → Step (Unit {0})
 take_holders_request s = record { state = s; answer = tt; letters = again s.unacked }
 
--- a request of another neighbour, which joins the queue
+-- a request of another neighbour, which joins the queue; then Assign and Make.
+-- Published: the node receives a REQUEST.
+-- Added: the test of the request's number, since a request may come late or twice; a neighbour that is
+-- in the queue already stays where it is.
 abbrev pub heard_from : Node → ℕ → ℕ
 heard_from s from = slice_index_or s.heard from 0
 
@@ -137,7 +150,11 @@ take_others_request from number s =
 abbrev pub take_request : ℕ → ℕ → Node → Step (Unit {0})
 take_request from number s = if nat_eq from s.holder then take_holders_request s else take_others_request from number s
 
--- a privilege, whose arrival is always told: it counts where its hop is a new one
+-- a privilege: its arrival is always acknowledged, and it counts only where its hop is a new one; then
+-- Assign and Make.
+-- Published: the node receives the PRIVILEGE.
+-- Added: the acknowledgement, and the test of the hop, since a privilege may come late or twice; `top`
+-- takes in the section number that the privilege tells.
 abbrev pub holding : Node → ℕ → ℕ → Node
 holding s hop last = record s { holder = s.me; asked = false; hop = hop; unacked = None; top = max s.top last }
 
@@ -150,7 +167,8 @@ take_privilege from hop last s =
     then serving (told (holding s hop last) from hop)
     else told s from hop
 
--- word that the privilege sent last has arrived
+-- an acknowledgement: the privilege that was sent last has arrived.
+-- Added, so that a privilege is sent again only until its arrival is known.
 abbrev pub is_unacked : Option Unacked → ℕ → ℕ → Bool
 is_unacked None from hop = false
 is_unacked (Some u) from hop = nat_eq u.to from && nat_eq u.hop hop
@@ -158,7 +176,7 @@ is_unacked (Some u) from hop = nat_eq u.to from && nat_eq u.hop hop
 abbrev pub take_got : ℕ → ℕ → Node → Step (Unit {0})
 take_got from hop s = if is_unacked s.unacked from hop then unchanged (record s { unacked = None }) tt else unchanged s tt
 
--- each comes from a neighbour
+-- each letter comes from a neighbour. Added: any other is ignored
 abbrev pub is_neighbour : Node → ℕ → Bool
 is_neighbour s from = are_neighbours s.tree s.me from
 
@@ -170,7 +188,10 @@ deliver_of from (Got hop) s = if is_neighbour s from then take_got from hop s el
 abbrev pub can_enter_of : Node → Bool
 can_enter_of s = is_waiting s.phase && has_permission s
 
--- enter: the section's number is one above the highest that the node knows; it leaves its queue
+-- enter: the node leaves the head of its queue, and the section's number is one above the highest that
+-- it knows.
+-- Published: procedure ASSIGN_PRIVILEGE, where the node that has the privilege heads its own queue.
+-- Added: the section's number, and the refusal where the limit is reached.
 abbrev pub entering : Node → Node
 entering s = record s { phase = Inside (s.top + 1); queue = rest_of s.queue; top = s.top + 1; mine = s.top + 1 }
 
@@ -183,7 +204,9 @@ enter_in p s = enter_by has_permission (λ (x : Node). x.top) (λ (x : Node). x.
 abbrev pub enter_of : Node → Quiet Node (Result ℕ EnterFault)
 enter_of s = enter_in s.phase s
 
--- leave
+-- leave: then Assign and Make.
+-- Published: the node exits the critical section.
+-- Added: nothing.
 abbrev pub leaving : Node → Node
 leaving s = record s { phase = Idle }
 
@@ -196,7 +219,8 @@ leave_in p s = leave_by left p s
 abbrev pub leave_of : Node → Step (Result ℕ LeaveFault)
 leave_of s = leave_in s.phase s
 
--- tick: the privilege that it sent last again, and then its last request
+-- tick: the privilege that it sent last is sent again, and then its latest request.
+-- Added, since either may have been lost.
 abbrev pub request_again : Node → List (ℕ × RaymondMsg)
 request_again s = if s.asked && not (is_holder s) then (s.holder, Request s.sent) ∷ [] else []
 

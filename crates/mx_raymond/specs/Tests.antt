@@ -10,7 +10,7 @@ use Rattle.mx_raymond.specs.Step.{is_holder, is_named, has_permission, can_pass,
 
 -- the queue
 
--- who is in the queue with one name more
+-- the names in a queue that one more name has joined
 pub queued_pushed : (queue : List ℕ) (name node : ℕ) → is_queued (queue ++ name ∷ []) node ≡ true → (is_queued queue node ≡ true) ⊎ (node ≡ name)
 queued_pushed [] name node h = elim (or_cases (nat_eq node name) false h) [
   | inl e ↦ inr (eq_true node name e)
@@ -26,7 +26,7 @@ queued_joined queue name node =
     cond_case (λ q. is_queued q node ≡ true → (is_queued queue node ≡ true) ⊎ (node ≡ name)) (is_queued queue name) queue (queue ++ name ∷ [])
     (λ _ h. inl h) (λ _ h. queued_pushed queue name node h)
 
--- who is behind the head is in the queue
+-- a name behind the head is in the queue
 pub queued_behind : (queue : List ℕ) (node : ℕ) → is_queued (rest_of queue) node ≡ true → is_queued queue node ≡ true
 queued_behind [] node h = h
 queued_behind (first ∷ rest) node h = or_right (nat_eq node first) (is_queued rest node) h

@@ -7,7 +7,8 @@ use arrayvec::ArrayVec;
 use mx_stamps::{MAX_NODES, NodeId};
 use std::marker::Model;
 
-/// The nodes on whose behalf a node wants the privilege: names, each once, the oldest first.
+/// The nodes that want the privilege from a node: names of its neighbours and its own, each at most
+/// once, the oldest first.
 #[derive(Drop)]
 pub struct Queue {
     names: ArrayVec<NodeId, 21>,
@@ -55,7 +56,7 @@ impl Queue {
         self.names.as_slice().first().copied()
     }
 
-    /// Adds a name at the end. As no name stands twice, there is room for it.
+    /// Adds a name at the end. As no name is in it twice, there is room for it.
     pub fn push(&mut self, node: NodeId)
         requires { is_queued self.old node ≡ false }
         ensures { self.new ≡ self.old ++ node ∷ [] }
@@ -73,7 +74,7 @@ impl Queue {
         }
     }
 
-    /// Takes the oldest name out, which is then no longer in it.
+    /// Removes the oldest name.
     pub fn remove_head(&mut self)
         ensures value { self.new ≡ rest_of self.old }
         ensures once { (node : ℕ) → head_of self.old ≡ Some node → is_queued self.new node ≡ false }

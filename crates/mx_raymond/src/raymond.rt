@@ -10,22 +10,47 @@ use mx_stamps::NodeId;
 use mx_trees::Tree;
 use std::marker::Model;
 
-/// A node of the algorithm. Its calls are those of `Exclusion`.
+/// A node of the algorithm. Its calls are those of `Exclusion`. Names in capitals are the
+/// publication's.
 #[derive(Drop)]
 pub struct Raymond {
+    /// The node itself (self).
     pub(crate) me: NodeId,
+    /// The tree of the cluster. It tells which nodes are neighbours.
     pub(crate) tree: Tree,
+    /// The greatest section number, from 1 to 1,000,000. Added to the publication.
     pub(crate) limit: u64,
+    /// Idle, waiting for the privilege, or inside a section. USING is true in the last.
     pub(crate) phase: Phase,
+    /// The node itself while it has the privilege, else the neighbour in whose direction the
+    /// privilege is (HOLDER).
     pub(crate) holder: NodeId,
+    /// The neighbours that want the privilege from this node, and the node itself while it waits,
+    /// each once, the oldest first (REQUEST_Q).
     pub(crate) queue: Queue,
+    /// Whether the node has sent a request to the holder, and has not had the privilege since
+    /// (ASKED).
     pub(crate) asked: bool,
+    /// The highest hop of a privilege that the node has sent or taken; the origin at the start. Added
+    /// to the publication: a privilege whose hop is not above it is an old one.
     pub(crate) hop: u64,
+    /// The privilege that the node sent last, until word comes that it has arrived, or until a newer
+    /// privilege comes. Added to the publication, so that it can be sent again.
     pub(crate) unacked: Option<Unacked>,
+    /// How many asks of this node were accepted: the number of the latest stamp. Added to the
+    /// publication.
     pub(crate) asks: u64,
+    /// How many requests this node has made of its holders: the number of the latest one, which is
+    /// the one sent again. Added to the publication.
     pub(crate) sent: u64,
+    /// For each neighbour, the highest number of its requests that were taken, 0 before the first.
+    /// Added to the publication: a request up to that number is an old one.
     pub(crate) heard: [u64; 21],
+    /// The highest section number that the node knows, from its own sections and from the privileges
+    /// that it took; 0 at the start. Added to the publication.
     pub(crate) top: u64,
+    /// The number of the last section that the node entered, 0 before the first. Added to the
+    /// publication.
     pub(crate) mine: u64,
 }
 
@@ -43,14 +68,14 @@ impl Raymond {
     ghost use Rattle.std.specs.Prelude.{◌≡◌, ◌+◌, ◌<◌, ◌≤◌, ◌≢◌, ◌↔◌, [], ◌++◌, length, IsTrue, true};
     ghost use Rattle.mx_raymond.specs.Step.{is_holder, HasPermission, has_permission, assign, make, again, request_again, is_neighbour, take_request, take_privilege, take_got};
 
-    /// Whether it has the privilege.
+    /// Whether the node has the privilege.
     fn is_holder(&self) -> bool
         ensures { result ≡ is_holder self.now }
     {
         self.holder.get() == self.me.get()
     }
 
-    /// Whether it has the privilege, and is the first that wants it.
+    /// Whether the node has the privilege, and heads its own queue.
     pub(crate) fn has_permission(&self) -> bool
         ensures value { result ≡ has_permission self.now }
         ensures all { IsTrue result ↔ HasPermission self.now }
@@ -61,8 +86,8 @@ impl Raymond {
         }
     }
 
-    /// Assign: who has the privilege and is not inside passes it on to the first that wants it, if
-    /// that is another node.
+    /// Assign: a node that has the privilege and is not inside passes it on to the head of its queue,
+    /// if that is another node.
     fn assign(&mut self, out: &mut Outbox<RaymondMsg>)
         requires { length out.old < 32 }
         ensures state { self.new ≡ (assign self.old).state }
@@ -87,7 +112,7 @@ impl Raymond {
         }
     }
 
-    /// Make: who wants the privilege and does not have it asks its holder, once.
+    /// Make: a node that wants the privilege and does not have it sends one request to its holder.
     fn make(&mut self, out: &mut Outbox<RaymondMsg>)
         requires { length out.old < 32 }
         ensures state { self.new ≡ (make self.old).state }
@@ -110,7 +135,7 @@ impl Raymond {
         self.make(out);
     }
 
-    /// The privilege that it sent last, again.
+    /// Sends the latest privilege again, while its arrival is not known.
     pub(crate) fn send_again(&self, out: &mut Outbox<RaymondMsg>)
         requires { out.old ≡ [] }
         ensures letters { out.new ≡ again self.now.unacked }
@@ -121,7 +146,7 @@ impl Raymond {
         }
     }
 
-    /// Its last request, again.
+    /// Sends the latest request again, while the privilege has not come.
     pub(crate) fn request_again(&self, out: &mut Outbox<RaymondMsg>)
         requires { length out.old < 32 }
         ensures { out.new ≡ out.old ++ request_again self.now }
@@ -131,7 +156,7 @@ impl Raymond {
         }
     }
 
-    /// Whether this is a neighbour.
+    /// Whether this node is a neighbour.
     pub(crate) fn is_neighbour(&self, node: NodeId) -> bool
         ensures value { result ≡ is_neighbour self.now node }
         ensures other { result ≡ true → node ≢ self.now.me }
@@ -139,7 +164,7 @@ impl Raymond {
         self.tree.neighbours(self.me, node)
     }
 
-    /// A request comes, of a neighbour.
+    /// Takes a request of a neighbour.
     pub(crate) fn take_request(&mut self, from: NodeId, number: u64, out: &mut Outbox<RaymondMsg>)
         requires empty { out.old ≡ [] }
         requires other { from ≢ self.old.me }
@@ -158,7 +183,8 @@ impl Raymond {
         }
     }
 
-    /// A privilege comes, of a neighbour. Its arrival is told always; it counts where its hop is new.
+    /// Takes a privilege from a neighbour. Its arrival is always acknowledged; it counts only where
+    /// its hop is a new one.
     pub(crate) fn take_privilege(
         &mut self,
         from: NodeId,
@@ -181,7 +207,7 @@ impl Raymond {
         }
     }
 
-    /// Word of a neighbour that a privilege has arrived.
+    /// Takes the acknowledgement of a neighbour that a privilege has arrived.
     pub(crate) fn take_got(&mut self, from: NodeId, hop: u64)
         ensures { self.new ≡ (take_got from hop self.old).state }
     {

@@ -1,12 +1,14 @@
-//! A privilege on its way.
+//! A privilege whose arrival is not known yet.
 
 use mx_stamps::NodeId;
 
 /// The privilege that a node sent last, while the node does not know whether it has arrived.
 #[derive(Clone, Copy, Debug, PartialEq, Eq)]
 pub struct Unacked {
+    /// The neighbour that it was sent to.
     pub to: NodeId,
+    /// The number of this move of the privilege.
     pub hop: u64,
-    /// The highest section number that the sender knew.
+    /// The highest section number that the sender knew when it sent it.
     pub last: u64,
 }

@@ -30,11 +30,11 @@ applied_from register (w ∷ ws) o v =
       | false ↦ applied_from register ws o v
     ]
 
--- of writes that are applied the last one counts
+-- of several writes that are applied in order the last one counts
 pub applied_last : (register : ℕ) (ws : List Write) (v : ℕ) → applied register ws v ≡ unwrap_or (last_value register ws) v
 applied_last register ws v = applied_from register ws None v
 
--- a section that no later one forestalls writes
+-- the last write of a section counts where no later section has written the register
 value_after : (n : ℕ) (o : Option ℕ) (cell : Cell) → number_by cell.by ≤ n → (after_write n o cell).value ≡ unwrap_or o cell.value
 value_after n None cell l = refl
 value_after n (Some v) cell l =

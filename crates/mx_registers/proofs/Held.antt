@@ -9,7 +9,7 @@ use Rattle.mx_journal.specs.Agreement.{IsConsistent, IsSubmap}
 use Rattle.mx_registers.specs.declared.cells.Cell.{Cell}
 use Rattle.mx_registers.specs.Registers.{IsHeld, IsHeldBy, IsLastWrite, after_record, after_records, after_write, blank, number_by, register_of, written}
 
--- no write is none
+-- a register that no record writes has no last write
 not_both : (o : Option ℕ) (v : ℕ) → o ≡ None → o ≡ Some v → ⊥
 not_both o v n s = none_is_no_some v (sym n ∙ s)
 
@@ -99,7 +99,7 @@ held_once register xs c d agreed h k =
     let second : record { value = d.value; by = c.by } ≡ d = ap (λ o. let cell : Cell = record { value = d.value; by = o } in cell) e.0 in
     first ∙ second
 
--- so agreeing records hold the same in any order, and as often as they come
+-- so agreeing records hold the same in any order, and however often each comes
 pub same_register : (register : ℕ) (xs ys : List Record) → IsConsistent xs → IsSubmap xs ys → IsSubmap ys xs → register_of register xs ≡ register_of register ys
 same_register register xs ys c s t =
     held_once register ys (register_of register xs) (register_of register ys) (λ x y k q e. c x y (t x k) (t y q) e)

@@ -77,7 +77,7 @@ rewritten xs ws e =
     ∙ ap (λ l. take (length xs) l) (append_nil ws)
     ∙ take_all (length xs) ws (omega (arith, e))
 
--- a journal with a record more, which none opposes
+-- a journal with one more record, with which none conflicts
 agreed_with : (k : ℕ) (xs : List Record) (x : Record) → Ascending k xs → AgreesWith x xs → IsConsistent (xs ++ x ∷ [])
 agreed_with k xs x a agrees y z p q e = elim (in_append y xs (x ∷ []) p) [
   | inl h ↦ elim (in_append z xs (x ∷ []) q) [

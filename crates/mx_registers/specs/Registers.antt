@@ -18,25 +18,26 @@ written register entry = last_value register entry.writes.items
 abbrev pub IsUnwritten : ℕ → List Record → Type 0
 IsUnwritten register records = (x : Record) → IsIn x records → written register x ≡ None
 
--- n is the greatest number of a record that writes the register, and value what that record writes last
+-- n is the greatest number of a record that writes the register, and value is the last that this record
+-- writes to it
 abbrev pub IsLastWrite : ℕ → List Record → ℕ → ℕ → Type 0
 IsLastWrite register records n value =
     (x : Record) × IsIn x records × (x.number ≡ n) × (written register x ≡ Some value) × ((y : Record) (other : ℕ) → IsIn y records → written register y ≡ Some other → y.number ≤ n)
 
--- by section n, or by none
+-- the register has this value, which section n wrote last, or which is 0 where no section wrote it
 abbrev pub IsHeldBy : ℕ → List Record → Option ℕ → ℕ → Type 0
 IsHeldBy register records None value = (value ≡ 0) × IsUnwritten register records
 IsHeldBy register records (Some n) value = IsLastWrite register records n value
 
--- the register of these records, whose order does not matter
+-- the cell is what the register holds after these records, in whatever order they come
 abbrev pub IsHeld : ℕ → List Record → Cell → Type 0
 IsHeld register records cell = IsHeldBy register records cell.by cell.value
 
--- each of these cells is its register of the records
+-- each cell is what its register holds after the records
 abbrev pub AreHeld : List Record → List Cell → Type 0
 AreHeld records cells = (register : ℕ) (cell : Cell) → slice_get cells register ≡ Some cell → IsHeld register records cell
 
--- the same records stand in both lists, in whatever order and however often
+-- both lists have the same members, in whatever order and however often
 abbrev pub HaveSameMembers : List Record → List Record → Type 0
 HaveSameMembers xs ys = IsSubmap xs ys × IsSubmap ys xs
 
@@ -44,12 +45,13 @@ HaveSameMembers xs ys = IsSubmap xs ys × IsSubmap ys xs
 abbrev pub blank : Cell
 blank = record { value = 0; by = None }
 
--- the number of a write, 0 without one
+-- the number of the section that wrote, 0 where none did
 abbrev pub number_by : Option ℕ → ℕ
 number_by None = 0
 number_by (Some n) = n
 
--- a register after what section n writes to it last, if anything: the write of a later section stays
+-- a register after section n, which writes this value to it last, if it writes it at all; a write of a
+-- later section stays
 abbrev pub after_write : ℕ → Option ℕ → Cell → Cell
 after_write n None cell = cell
 after_write n (Some value) cell = if nat_le (number_by cell.by) n then record { value = value; by = Some n } else cell
@@ -58,12 +60,12 @@ after_write n (Some value) cell = if nat_le (number_by cell.by) n then record { 
 abbrev pub after_record : ℕ → Record → Cell → Cell
 after_record register entry cell = after_write entry.number (written register entry) cell
 
--- and after these records, one by one
+-- a register after these records, one by one
 abbrev pub after_records : ℕ → List Record → Cell → Cell
 after_records register [] cell = cell
 after_records register (x ∷ xs) cell = after_records register xs (after_record register x cell)
 
--- the register of these records
+-- the register after these records, at first unwritten
 abbrev pub register_of : ℕ → List Record → Cell
 register_of register records = after_records register records blank
 
@@ -79,16 +81,16 @@ with_taken entry cells = each_below (λ register. after_record register entry (g
 abbrev pub value_in : ℕ → List Cell → Option ℕ
 value_in register cells = option_map (λ (cell : Cell). cell.value) (slice_get cells register)
 
--- the number of the section that wrote it
+-- the number of the section that wrote the cell, if there is a cell
 abbrev pub writer_of : Option Cell → Option ℕ
 writer_of None = None
 writer_of (Some cell) = cell.by
 
--- the same, if the register is there
+-- the number of the section that wrote the register; none where the register is not there
 abbrev pub writer_in : ℕ → List Cell → Option ℕ
 writer_in register cells = writer_of (slice_get cells register)
 
--- the plain application of writes, in order: the value of a register that had this one before
+-- the value of a register after the writes, applied one after another, where it had this value before
 abbrev pub applied : ℕ → List Write → ℕ → ℕ
 applied register [] value = value
 applied register (w ∷ ws) value = applied register ws (if nat_eq w.register register then w.value else value)
@@ -103,6 +105,6 @@ abbrev pub writes_to : ℕ → List Record → List Write
 writes_to zero records = []
 writes_to (suc k) records = writes_to k records ++ writes_of (record_at (suc k) records)
 
--- each of these cells has the value that the plain application of the writes gives it
+-- each of these cells has the value that its register has after the writes, applied in order
 abbrev pub AreApplied : List Write → List Cell → Type 0
 AreApplied writes cells = (register : ℕ) (cell : Cell) → slice_get cells register ≡ Some cell → cell.value ≡ applied register writes 0

@@ -8,7 +8,7 @@ use Rattle.mx_registers.specs.Registers.{after_write}
 abbrev pub after_one : ℕ → ℕ → Write → Cell → Cell
 after_one register n write cell = if nat_eq write.register register then after_write n (Some write.value) cell else cell
 
--- and after some
+-- a register after some writes of section n, in order
 abbrev pub after_each : ℕ → ℕ → List Write → Cell → Cell
 after_each register n [] cell = cell
 after_each register n (w ∷ ws) cell = after_each register n ws (after_one register n w cell)

@@ -1,4 +1,4 @@
-//! One register each: its value, and the section that wrote it.
+//! The cell of one register: its value, and the section that wrote it.
 
 ghost use Rattle.std.specs.Prelude.{ℕ, ◌≡◌, ◌<◌, length, get_or};
 ghost use Rattle.mx_journal.specs.Drafted.{last_value};
@@ -29,7 +29,8 @@ pub(crate) fn write_all(cells: &mut [Cell], number: u64, writes: &[Write])
     }
 }
 
-/// Takes one write of a section, unless its register is not there or a later section wrote it.
+/// Takes one write of a section. It is passed over where its register is not there, or was written by a
+/// later section.
 fn put(cells: &mut [Cell], number: u64, write: Write)
     ensures { (register : ℕ) → register < length cells.old
         → get_or cells.new register blank

@@ -11,11 +11,11 @@ use arrayvec::ArrayVec;
 use mx_journal::Record;
 use std::marker::Model;
 
-/// How many registers there can be.
+/// The greatest number of registers.
 pub(crate) const MOST_REGISTERS: usize = 32;
 
 /// The registers 0 to count - 1, each with the last write to it in the record of the greatest
-/// number that writes it. It takes records in any order, and as often as they come.
+/// number that writes it. Records may be taken in any order, and more than once.
 #[derive(Drop)]
 pub struct View {
     cells: ArrayVec<Cell, MOST_REGISTERS>,
@@ -31,7 +31,7 @@ impl Model for View {
 }
 
 impl View {
-    /// So many registers, which nothing wrote yet.
+    /// A view of this many registers that no section has written.
     pub fn new(count: u8) -> View
         requires least { 1 ≤ count }
         requires most { count ≤ 32 }

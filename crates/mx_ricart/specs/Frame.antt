@@ -15,11 +15,11 @@ use Rattle.mx_ricart.specs.Node.{Node}
 use Rattle.mx_ricart.specs.Step.{has_reply}
 use Rattle.mx_ricart.specs.Good.{IsBusy, HasSeen, IsReached, IsNodeOk, IsReplyOk, IsLetterOk, IsSafe}
 
--- what each step of a node keeps
+-- how a step of a node may change it: its numbers rise, and
 pub record Moves (w : World Node RicartMsg) (i : ℕ) (s new : Node) : Type 0 where
   pub highest : s.highest ≤ new.highest
   pub mine : s.mine ≤ new.mine
-  -- its stamp stays, goes, or is a new one
+  -- its stamp stays, is no longer current, or is a new one
   pub stamp : IsBusy new → (IsBusy s × (new.ours ≡ s.ours)) ⊎ (s.highest < new.ours.number)
   -- it enters only with every reply
   pub entry : (new.mine ≡ s.mine) ⊎ (IsBusy s × ((j : ℕ) → j < length w.nodes → j ≢ i → has_reply s j ≡ true))

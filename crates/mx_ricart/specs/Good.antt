@@ -31,14 +31,14 @@ pub record IsNodeOk (w : World Node RicartMsg) (i : ℕ) (s : Node) : Type 0 whe
   -- a current stamp is the node's own, and its clock has seen it
   pub ours_node : IsBusy s → s.ours.node ≡ i
   pub ours_seen : IsBusy s → s.ours.number ≤ s.highest
-  -- the node knows its own sections, and no section that nobody has entered
+  -- `top` counts the node's own sections, and no section that nobody has entered
   pub mine_top : s.mine ≤ s.top
   pub top_reached : IsReached w s.top
   -- who is inside has every reply
   pub inside_has : (n : ℕ) → s.phase ≡ Inside n → (j : ℕ) → j < length w.nodes → j ≢ i → has_reply s j ≡ true
   -- each reply that counts was sent, for the current stamp
   pub replies : IsBusy s → (j : ℕ) → has_reply s j ≡ true → (top : ℕ) × (WasSent w j i (Reply s.ours top)) × (top ≤ s.top)
-  -- a request that waits is one of that node, and both clocks have seen it
+  -- a deferred request is of the node that it is kept for, and both clocks have seen it
   pub waits : (j : ℕ) (d : Stamp) → deferred_at s j ≡ Some d → (j ≢ i) × (d.node ≡ j) × (d.number ≤ s.highest) × HasSeen w j d.number
 
 -- what holds of each request that was sent: its sender has drawn its stamp
@@ -71,7 +71,7 @@ abbrev pub PlainLetter : ℕ → RicartMsg → Type 0
 PlainLetter n (Request stamp) = PlainStamp n stamp
 PlainLetter n (Reply stamp top) = PlainStamp n stamp × Small top
 
--- the same of a node
+-- the same for the state of a node
 pub record PlainNode (n : ℕ) (s : Node) : Type 0 where
   pub me : s.me < n
   pub count : s.count ≤ n

@@ -5,18 +5,18 @@ use Rattle.mx_nodelaws.specs.declared.phase.Phase.{Phase}
 
 pub record Node : Type 0 where
   pub me : ℕ
-  -- how many nodes there are
+  -- how many nodes the cluster has
   pub count : ℕ
   -- the greatest section number
   pub limit : ℕ
   pub phase : Phase
-  -- the highest number of a stamp that it has seen or drawn
+  -- the highest stamp number that it has seen or drawn
   pub highest : ℕ
   -- the stamp of its request, current while it waits or is inside
   pub ours : Stamp
-  -- for each node, whether its reply to the current request counted
+  -- for each node, whether its reply to the current request has counted
   pub got : List Bool
-  -- for each node, its request that waits for an answer
+  -- for each node, its request whose reply is deferred
   pub deferred : List (Option Stamp)
   -- the highest section number that it knows
   pub top : ℕ

@@ -30,7 +30,7 @@ use Rattle.mx_ricart.specs.Step.{IsCount, start_of, is_other, has_reply, deferre
 use Rattle.mx_ricart.specs.Good.{PlainLetter, PlainNode}
 use Rattle.mx_ricart.specs.Rows.{sent_reply}
 
--- a step that keeps the layer
+-- a step after which each number is a u64 value, and each name a node
 abbrev pub PlainDone : {A : Type 0} → ℕ → Done Node A RicartMsg → Type 0
 PlainDone n done = IsPlainDone PlainNode PlainLetter n done
 

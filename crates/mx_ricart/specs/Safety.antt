@@ -22,7 +22,7 @@ use Rattle.mx_ricart.specs.Good.{IsBusy, IsReplyOk, IsSafe}
 use Rattle.mx_ricart.specs.Tests.{all_replies}
 use Rattle.mx_ricart.specs.Rows.{has_of_all}
 
--- two nodes of which each has the other's reply, for current stamps, are one
+-- two nodes that each have the other's reply to their current request are the same node
 each_replied : (w : World Node RicartMsg) (i j : ℕ) (s t : Node) → IsSafe w → IsNode w i s → IsNode w j t → IsBusy s → IsBusy t → has_reply s j ≡ true → has_reply t i ≡ true → ⊥
 each_replied w i j s t good at bt busy_s busy_t has_s has_t =
     let r = (good.nodes i s at).replies busy_s j has_s in

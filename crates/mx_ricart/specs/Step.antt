@@ -1,4 +1,5 @@
--- The step table: what each call makes of a node, what it answers and what it sends.
+-- The step table: for each call the node's next state, the answer, and the letters that are sent.
+-- Each row says which part of it is published (Ricart and Agrawala 1981) and which is added here.
 use Rattle.std.specs.Prelude.{ℕ, zero, suc, ◌+◌, ◌<◌, ◌≤◌, ◌≡◌, ◌≢◌, Bool, true, false, ◌||◌, ◌&&◌, not, [], ◌∷◌, Option, Some, None, Result, Ok, max, nat_lt, nat_eq, if◌then◌else◌, slice_index_or, slice_set, replicate}
 use Rattle.mx_stamps.specs.declared.stamp.Stamp.{Stamp}
 use Rattle.mx_stamps.specs.Stamp.{is_before_of, is_same_as}
@@ -15,11 +16,11 @@ use Rattle.mx_nodelaws.specs.Phases.{is_busy, is_waiting}
 use Rattle.mx_nodelaws.specs.Calls.{unchanged, ask_by, entered_by, enter_by, leave_by}
 use Rattle.mx_ricart.specs.Node.{Node}
 
--- how many nodes a cluster may have
+-- the numbers of nodes that a cluster may have
 abbrev pub IsCount : ℕ → Type 0
 IsCount n = (0 < n) × (n ≤ 21)
 
--- a node at rest: of the count, the node, the origin and the limit
+-- a node that has just been started: from the count, the node, the origin and the limit
 abbrev pub start_of : ℕ → ℕ → ℕ → ℕ → Node
 start_of count me origin limit = record {
   me = me;
@@ -34,23 +35,23 @@ start_of count me origin limit = record {
   mine = 0;
 }
 
--- j is another node of the cluster
+-- j is a node of the cluster, and not s itself
 abbrev pub is_other : Node → ℕ → Bool
 is_other s j = nat_lt j s.count && not (nat_eq j s.me)
 
--- node j's reply counted
+-- node j's reply to the current request has counted
 abbrev pub has_reply : Node → ℕ → Bool
 has_reply s j = slice_index_or s.got j false
 
--- the request of node j that waits for an answer
+-- the request of node j that waits for a reply
 abbrev pub deferred_at : Node → ℕ → Option Stamp
 deferred_at s j = slice_index_or s.deferred j None
 
--- the permission: the reply of every other node counted
+-- the permission: the reply of every other node has counted
 abbrev pub HasAllReplies : Node → Type 0
 HasAllReplies s = (j : ℕ) → j < s.count → j ≢ s.me → has_reply s j ≡ true
 
--- the same as a test, node by node below n
+-- the same as a test of the nodes below n, one after another
 abbrev pub has_replies_below : Node → ℕ → Bool
 has_replies_below s zero = true
 has_replies_below s (suc n) = has_replies_below s n && (nat_eq n s.me || has_reply s n)
@@ -58,7 +59,9 @@ has_replies_below s (suc n) = has_replies_below s n && (nat_eq n s.me || has_rep
 abbrev pub has_all_replies : Node → Bool
 has_all_replies s = has_replies_below s s.count
 
--- ask: the clock's next stamp, no reply yet, and a request to every other node
+-- ask: the clock's next stamp, no reply yet, and a request to every other node.
+-- Published: the process that invokes mutual exclusion, up to its wait for the replies.
+-- Added: where no number is left the call is refused.
 abbrev pub asking : Node → Node
 asking s = record s { highest = s.highest + 1; ours = record { number = s.highest + 1; node = s.me }; got = replicate 21 false; phase = Waiting }
 
@@ -74,31 +77,37 @@ ask_in p s = ask_by (λ (x : Node). x.highest) asked p s
 abbrev pub ask_of : Node → Done Node (Result Stamp AskFault) RicartMsg
 ask_of s = ask_in s.phase s
 
--- a request comes: the clock sees its number
+-- a request comes: the clock sees its number, and the reply is sent at once or deferred.
+-- Published: the process that receives REQUEST messages.
+-- Added: the reply repeats the stamp that it answers, as it may come late, and carries `top`, for
+-- the numbers of sections. Of two deferred requests of one node the later counts, as requests are
+-- sent again and may overtake one another.
 abbrev pub seeing : Node → ℕ → Node
 seeing s number = record s { highest = max s.highest number }
 
--- the greater of the request that waits, if there is one, and the new one
+-- the later of the request that waits, if there is one, and the new one
 abbrev pub later_of : Option Stamp → Stamp → Stamp
 later_of None stamp = stamp
 later_of (Some old) stamp = if is_before_of old stamp then stamp else old
 
--- it has to wait
+-- its reply is deferred
 abbrev pub deferring : Node → Stamp → Node
 deferring s stamp = record s { deferred = slice_set s.deferred stamp.node (Some (later_of (deferred_at s stamp.node) stamp)) }
 
--- it is answered
+-- its reply is sent
 abbrev pub replied : Node → Stamp → Done Node (Unit {0}) RicartMsg
 replied s stamp = record { state = s; answer = tt; letters = (stamp.node, Reply stamp s.top) ∷ [] }
 
--- it has to wait where our own request is current and comes first
+-- it is deferred where the node's own request is current and comes first
 abbrev pub take_request : Node → Stamp → Done Node (Unit {0}) RicartMsg
 take_request s stamp =
     if is_busy s.phase && is_before_of s.ours stamp
     then unchanged (deferring (seeing s stamp.number) stamp) tt
     else replied (seeing s stamp.number) stamp
 
--- a reply comes: it counts once, while we wait, where it bears the current stamp
+-- a reply comes: it counts once, while the node waits, where it bears the current stamp.
+-- Published: the process that receives REPLY messages, which counts every reply.
+-- Added: both tests, since replies may come late or twice; and what the reply tells of `top`.
 abbrev pub counting : Node → ℕ → ℕ → Node
 counting s from top = record s { got = slice_set s.got from true; top = max s.top top }
 
@@ -108,7 +117,8 @@ take_reply s from stamp top =
     then unchanged (counting s from top) tt
     else unchanged s tt
 
--- both come from another node, and the stamp of a request is of its sender
+-- both letters come from another node, and the stamp of a request is its sender's.
+-- Added: any other letter is ignored.
 abbrev pub deliver_of : ℕ → RicartMsg → Node → Done Node (Unit {0}) RicartMsg
 deliver_of from (Request stamp) s = if is_other s from && nat_eq stamp.node from then take_request s stamp else unchanged s tt
 deliver_of from (Reply stamp top) s = if is_other s from then take_reply s from stamp top else unchanged s tt
@@ -116,7 +126,9 @@ deliver_of from (Reply stamp top) s = if is_other s from then take_reply s from 
 abbrev pub can_enter_of : Node → Bool
 can_enter_of s = is_waiting s.phase && has_all_replies s
 
--- enter: the section's number is one above the highest that the node knows
+-- enter: the section's number is one above the highest that the node knows.
+-- Published: the process that invokes mutual exclusion, where no reply is outstanding any more.
+-- Added: the section's number, and the refusal where the limit is reached.
 abbrev pub entering : Node → Node
 entering s = record s { top = s.top + 1; mine = s.top + 1; phase = Inside (s.top + 1) }
 
@@ -129,7 +141,9 @@ enter_in p s = enter_by has_all_replies (λ (x : Node). x.top) (λ (x : Node). x
 abbrev pub enter_of : Node → Quiet Node (Result ℕ EnterFault)
 enter_of s = enter_in s.phase s
 
--- leave: each request that waits is answered
+-- leave: each deferred reply is sent.
+-- Published: the end of the process that invokes mutual exclusion.
+-- Added: the stamp and `top` in each reply.
 abbrev pub leaving : Node → Node
 leaving s = record s { phase = Idle; deferred = replicate 21 None }
 
@@ -149,7 +163,8 @@ leave_in p s = leave_by left p s
 abbrev pub leave_of : Node → Done Node (Result ℕ LeaveFault) RicartMsg
 leave_of s = leave_in s.phase s
 
--- tick: a waiting node sends its request again to each other node whose reply is missing
+-- tick: a waiting node sends its request again to each other node whose reply is missing.
+-- Added, since the request or its reply may have been lost.
 abbrev pub request_missing : Node → ℕ → Option RicartMsg
 request_missing s j = if nat_eq j s.me || has_reply s j then None else Some (Request s.ours)
 

@@ -25,7 +25,7 @@ impl Model for Count {
 }
 
 impl Count {
-    /// This many nodes, where a cluster may have so many.
+    /// This number of nodes. None where it is 0 or above 21.
     pub fn of(nodes: u8) -> Option<Count>
         ensures some { IsSome result ↔ ((0 < nodes) × (nodes ≤ MAX_NODES)) }
         ensures value { IfSome result (λ c. c ≡ nodes) }
@@ -37,7 +37,7 @@ impl Count {
         }
     }
 
-    /// How many.
+    /// The number of nodes.
     pub fn get(self) -> u8
         ensures value { result ≡ self }
         ensures low { 0 < result }

@@ -9,18 +9,36 @@ use mx_nodelaws::Phase;
 use mx_stamps::{Clock, NodeId, Stamp};
 use std::marker::Model;
 
-/// A node of the algorithm. Its calls are those of `Exclusion`.
+/// A node of the algorithm. Its calls are those of `Exclusion`. Names with capitals are the
+/// publication's.
 #[derive(Drop)]
 pub struct Ricart {
+    /// The node itself (ME).
     pub(crate) me: NodeId,
+    /// How many nodes the cluster has (N).
     pub(crate) count: Count,
+    /// The greatest section number, from 1 to 1,000,000. Added to the publication.
     pub(crate) limit: u64,
+    /// Idle, waiting for replies, or inside a section. Requesting_Critical_Section is true in the
+    /// last two.
     pub(crate) phase: Phase,
+    /// The highest stamp number that the node has drawn or has seen in a request; the origin at the
+    /// start (Highest_Sequence_Number).
     pub(crate) highest: Clock,
+    /// The stamp of the node's latest request (Our_Sequence_Number, with ME). It is current while
+    /// the node waits or is inside; while the node is idle no rule reads it.
     pub(crate) ours: Stamp,
+    /// For each node, whether its reply to the current request has counted. The publication counts
+    /// down Outstanding_Reply_Count instead, but here a reply may come twice.
     pub(crate) got: [bool; 21],
+    /// For each node, the stamp of its request whose reply waits until this node leaves
+    /// (Reply_Deferred, which is a truth value there). All are None while the node is idle.
     pub(crate) deferred: [Option<Stamp>; 21],
+    /// The highest section number that the node knows, from its own sections and from the replies
+    /// that counted; 0 at the start. Added to the publication.
     pub(crate) top: u64,
+    /// The number of the last section that the node entered, 0 before the first. Added to the
+    /// publication.
     pub(crate) mine: u64,
 }
 
@@ -42,21 +60,21 @@ impl Ricart {
     ghost use Rattle.mx_nodelaws.specs.Phases.{is_busy};
     ghost use Rattle.mx_ricart.specs.Step.{is_other, HasAllReplies, has_all_replies, request_others, request_missing, reply_deferred, take_request, take_reply};
 
-    /// Whether this is another node of the cluster.
+    /// Whether this is a node of the cluster, and not this one.
     pub(crate) fn is_other(&self, node: NodeId) -> bool
         ensures { result ≡ is_other self.now node }
     {
         node.get() < self.count.get() && node.get() != self.me.get()
     }
 
-    /// Whether it has a current stamp.
+    /// Whether the node has a current stamp: it waits or is inside.
     fn is_busy(&self) -> bool
         ensures { result ≡ is_busy self.now.phase }
     {
         !matches!(self.phase, Phase::Idle)
     }
 
-    /// Whether the reply of every other node counted.
+    /// Whether the reply of every other node has counted.
     pub(crate) fn has_all_replies(&self) -> bool
         ensures value { result ≡ has_all_replies self.now }
         ensures all { IsTrue result ↔ HasAllReplies self.now }
@@ -70,7 +88,7 @@ impl Ricart {
         all
     }
 
-    /// Our request to every other node.
+    /// Sends our request to every other node.
     pub(crate) fn send_requests(&self, out: &mut Outbox<RicartMsg>)
         requires { out.old ≡ [] }
         ensures { out.new ≡ addressed (request_others self.now) self.now.count }
@@ -84,7 +102,7 @@ impl Ricart {
         }
     }
 
-    /// Our request to every other node whose reply is missing.
+    /// Sends our request to every other node whose reply is missing.
     pub(crate) fn send_missing(&self, out: &mut Outbox<RicartMsg>)
         requires { out.old ≡ [] }
         ensures { out.new ≡ addressed (request_missing self.now) self.now.count }
@@ -98,7 +116,7 @@ impl Ricart {
         }
     }
 
-    /// A reply to each request that waits.
+    /// Sends a reply to each request that waits for one.
     pub(crate) fn send_replies(&self, out: &mut Outbox<RicartMsg>)
         requires { out.old ≡ [] }
         ensures { out.new ≡ addressed (reply_deferred self.now) self.now.count }
@@ -112,7 +130,8 @@ impl Ricart {
         }
     }
 
-    /// A request comes, of another node. It waits where ours is current and comes first.
+    /// Takes a request of another node. Its reply has to wait where our own request is current and
+    /// comes first in the order of stamps.
     pub(crate) fn take_request(&mut self, stamp: Stamp, out: &mut Outbox<RicartMsg>)
         requires { out.old ≡ [] }
         ensures state { self.new ≡ (take_request self.old stamp).state }
@@ -128,7 +147,7 @@ impl Ricart {
         }
     }
 
-    /// A reply comes, of another node. It counts once, for the current stamp.
+    /// Takes a reply of another node. It counts once, and only for the current stamp.
     pub(crate) fn take_reply(&mut self, from: NodeId, stamp: Stamp, top: u64)
         ensures { self.new ≡ (take_reply self.old from stamp top).state }
     {
@@ -140,7 +159,7 @@ impl Ricart {
     }
 }
 
-/// The greater of the request that waits, if there is one, and the new one.
+/// The later of the request that waits, if there is one, and the new one.
 fn later(waiting: &Option<Stamp>, stamp: Stamp) -> Stamp
     ensures { result ≡ later_of waiting.now stamp }
 {

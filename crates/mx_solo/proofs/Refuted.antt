@@ -1,4 +1,4 @@
--- Two nodes that enter when they like break exclusion, whatever their worlds are said to keep.
+-- Two nodes that enter when they like break exclusion, whatever predicate is chosen for Good.
 use Rattle.std.proofs.Common.{ℕ, ◌≡◌, [], ◌∷◌, refl, arith}
 use Rattle.mx_nodelaws.specs.World.{World}
 use Rattle.mx_nodelaws.specs.Laws.{KeepsGood}

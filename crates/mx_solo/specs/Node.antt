@@ -1,4 +1,4 @@
--- What a node is.
+-- The state of a node.
 use Rattle.std.specs.Prelude.{ℕ}
 use Rattle.mx_nodelaws.specs.declared.phase.Phase.{Phase}
 

@@ -37,7 +37,7 @@ left s n = record { state = record s { phase = Idle }; answer = Ok n; letters = 
 abbrev pub leave_in : Phase → Node → Done Node (Result ℕ LeaveFault) ℕ
 leave_in p s = leave_by left p s
 
--- so many nodes that enter when they like
+-- the table of a cluster of `count` nodes that enter when they like
 abbrev pub solo_core : ℕ → Core One Node ℕ
 solo_core count = record {
   count = λ shape. count;

@@ -5,7 +5,7 @@ use mx_nodelaws::{AskFault, EnterFault, Exclusion, LeaveFault, Phase};
 use mx_stamps::{NodeId, Stamp};
 use std::marker::Model;
 
-/// A cluster of one node. There is nothing else to know of it.
+/// The shape of a cluster of one node. It holds nothing.
 #[derive(Clone, Copy, Debug, PartialEq, Eq)]
 pub struct One;
 
@@ -31,7 +31,7 @@ impl Model for Solo {
 }
 
 impl Exclusion for Solo {
-    // it has no letters: a number stands for one
+    // there are no letters: any number would be ignored
     type Msg = u8;
 
     type Shape = One;
@@ -72,7 +72,7 @@ impl Exclusion for Solo {
             return Err(AskFault::NotIdle);
         }
         self.phase = Phase::Waiting;
-        // it has no clock: the stamp shows the number of its last section
+        // there is no clock: the stamp bears the number of the last section
         Ok(Stamp {
             number: self.mine,
             node: self.me,

@@ -1,8 +1,8 @@
--- What tests of numbers and choices by a test tell.
+-- What a test of numbers says of them, and what follows where a value is chosen by a test.
 use Rattle.std.proofs.Common.{ℕ, zero, suc, ◌<◌, ◌≤◌, ◌≡◌, ◌≢◌, ◌⊎◌, inl, inr, Bool, true, false, cond, not, ◌&&◌, ◌||◌, nat_lt, nat_le, nat_eq, refl, sym, ◌∙◌, arith}
 use Rattle.std.proofs.lemmas.Bool.Decides.{nat_tests}
 
--- numbers that are tested
+-- tests of two numbers
 
 pub lt_true : (a b : ℕ) → nat_lt a b ≡ true → a < b
 lt_true a b h = grind (arith, nat_tests)
@@ -61,7 +61,7 @@ pub not_true : (a : Bool) → not a ≡ true → a ≡ false
 not_true true h = let bad : ⊥ = cc in absurd bad
 not_true false h = refl
 
--- both of two tests
+-- a test that two tests pass
 
 pub both_true : (a b : Bool) → a ≡ true → b ≡ true → (a && b) ≡ true
 both_true true b h k = k
@@ -83,7 +83,7 @@ pub right_false : (a b : Bool) → b ≡ false → (a && b) ≡ false
 right_false true b h = h
 right_false false b h = refl
 
--- one of two tests
+-- a test that one of two tests passes
 
 pub or_left : (a b : Bool) → a ≡ true → (a || b) ≡ true
 or_left true b h = refl
@@ -109,7 +109,7 @@ pub neither_true : (a b : Bool) → a ≡ false → b ≡ false → (a || b) ≡
 neither_true true b h k = let bad : ⊥ = cc in absurd bad
 neither_true false b h k = k
 
--- a choice by a test
+-- a value that is chosen by a test
 
 pub cond_case : {X : Type 0} (P : X → Type 0) (b : Bool) (x y : X) → (b ≡ true → P x) → (b ≡ false → P y) → P (cond b x y)
 cond_case P true x y f g = f refl

@@ -82,13 +82,13 @@ greatest_below f (x ∷ xs) m h =
     let b : greatest f xs ≤ m = greatest_below f xs m (λ i s g. h (suc i) s g) in
     omega arith
 
--- a step that keeps the value keeps the greatest
+-- a step that keeps the value of f keeps the greatest value of f
 pub greatest_same : {X : Type 0} (f : X → ℕ) (xs : List X) (i : ℕ) (s v : X) → slice_get xs i ≡ Some s → f v ≡ f s → greatest f (slice_set xs i v) ≡ greatest f xs
 greatest_same f [] i s v h e = refl
 greatest_same f (x ∷ xs) zero s v h e = let k : f x ≡ f s = ap f (same_Some x s h) in let q : f v ≡ f x = e ∙ sym k in ap (λ n. max n (greatest f xs)) q
 greatest_same f (x ∷ xs) (suc i) s v h e = ap (λ n. max (f x) n) (greatest_same f xs i s v h e)
 
--- a step that goes above the greatest makes it the new one
+-- a step to a value above the greatest makes that value the greatest
 pub greatest_raised : {X : Type 0} (f : X → ℕ) (xs : List X) (i : ℕ) (s v : X) → slice_get xs i ≡ Some s → greatest f xs ≤ f v → greatest f (slice_set xs i v) ≡ f v
 greatest_raised f [] i s v h l = absurd (none_is_no_some s h)
 greatest_raised f (x ∷ xs) zero s v h l = omega arith
@@ -163,15 +163,15 @@ in_first (suc count) [] x h = absurd h
 in_first (suc count) (y ∷ ys) x (inl e) = inl e
 in_first (suc count) (y ∷ ys) x (inr h) = inr (in_first count ys x h)
 
--- what is left from a place on begins with the element there
+-- the rest of a list from a place on begins with the element at that place
 pub drop_here : {X : Type 0} (xs : List X) (i : ℕ) (x : X) → i < length xs → x ≡ get_or xs i x → drop i xs ≡ x ∷ drop (i + 1) xs
 drop_here xs i x l e = at_drop_more (λ zs. zs) xs i x l ∙ ap (λ z. z ∷ drop (i + 1) xs) (sym e)
 
--- what was gone through grows by the element there
+-- the part of a list up to a place, with the element at that place
 pub take_here : {X : Type 0} (xs : List X) (i : ℕ) (x : X) → i < length xs → x ≡ get_or xs i x → take (i + 1) xs ≡ take i xs ++ x ∷ []
 take_here xs i x l e = take_more xs i x l ∙ ap (λ z. take i xs ++ z ∷ []) (sym e)
 
--- the same of an element that was got
+-- the same two facts, where the element was looked up
 
 pub drop_at : {X : Type 0} (xs : List X) (i : ℕ) (x : X) → slice_get xs i ≡ Some x → drop i xs ≡ x ∷ drop (i + 1) xs
 drop_at xs i x h = drop_here xs i x (slice_get_within xs i x h) (sym (get_or_from_slice_get xs i x x h))
@@ -179,12 +179,12 @@ drop_at xs i x h = drop_here xs i x (slice_get_within xs i x h) (sym (get_or_fro
 pub take_at : {X : Type 0} (xs : List X) (i : ℕ) (x : X) → slice_get xs i ≡ Some x → take (i + 1) xs ≡ take i xs ++ x ∷ []
 take_at xs i x h = take_here xs i x (slice_get_within xs i x h) (sym (get_or_from_slice_get xs i x x h))
 
--- what is cut early can be cut again
+-- cutting xs to n elements before appending changes nothing, where the whole is cut to n anyway
 pub cut_twice : {X : Type 0} (n : ℕ) (xs ys : List X) → take n (take n xs ++ ys) ≡ take n (xs ++ ys)
 cut_twice zero xs ys = refl
 cut_twice (suc n) [] ys = refl
 cut_twice (suc n) (x ∷ xs) ys = ap (λ l. x ∷ l) (cut_twice n xs ys)
 
--- behind a full list nothing counts
+-- where xs has n elements already, what is appended does not matter to the first n
 pub cut_full : {X : Type 0} (n : ℕ) (xs ys zs : List X) → n ≤ length xs → take n (xs ++ ys) ≡ take n (xs ++ zs)
 cut_full n xs ys zs l = take-append-le n xs ys l ∙ sym (take-append-le n xs zs l)

@@ -1,12 +1,12 @@
--- What is said of lists throughout.
+-- Words on lists that all crates use.
 use Rattle.std.specs.Prelude.{ℕ, zero, suc, ◌≡◌, ◌⊎◌, List, [], ◌∷◌, ◌++◌, max}
 
--- x stands in the list
+-- x is in the list
 abbrev pub IsIn : {X : Type 0} → X → List X → Type 0
 IsIn x [] = ⊥
 IsIn x (y ∷ ys) = (x ≡ y) ⊎ IsIn x ys
 
--- f 0, f 1, .., below n
+-- the list of f 0, f 1, .., f (n - 1)
 abbrev pub each_below : {X : Type 0} → (ℕ → X) → ℕ → List X
 each_below f zero = []
 each_below f (suc n) = each_below f n ++ f n ∷ []

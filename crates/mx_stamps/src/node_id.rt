@@ -4,7 +4,7 @@ ghost use Rattle.std.specs.Prelude.{◌≡◌, ◌<◌, ◌↔◌, IsSome, IfSom
 
 use std::marker::Model;
 
-/// How many nodes a cluster has at the most.
+/// The greatest number of nodes in a cluster.
 pub const MAX_NODES: u8 = 21;
 
 /// A node, by its number from 0 to 20.
@@ -27,7 +27,7 @@ impl Model for NodeId {
 }
 
 impl NodeId {
-    /// The node of this number, where there is one in any cluster.
+    /// The node of this number. None from 21 on: no cluster has such a node.
     pub fn of(index: u8) -> Option<NodeId>
         ensures some { IsSome result ↔ (index < MAX_NODES) }
         ensures value { IfSome result (λ n. n ≡ index) }

@@ -42,7 +42,7 @@ impl Stamp {
         self.number == other.number && self.node.get() == other.node.get()
     }
 
-    /// Whether this stamp comes first.
+    /// Whether this stamp comes before the other in the order of stamps.
     pub fn is_before(&self, other: &Stamp) -> bool
         ensures value { result ≡ is_before_of self.now other.now }
         ensures before { IsTrue result ↔ Before self.now other.now }
@@ -51,7 +51,7 @@ impl Stamp {
             || (self.number == other.number && self.node.get() < other.node.get())
     }
 
-    /// How two stamps stand to each other. One of the three holds of any two.
+    /// Compares two stamps in the order of stamps, which is total.
     pub fn compare(&self, other: &Stamp) -> Ordering
         ensures less { (result ≡ Ordering.Less) ↔ Before self.now other.now }
         ensures equal { (result ≡ Ordering.Equal) ↔ (self.now ≡ other.now) }

@@ -21,7 +21,7 @@ unit_grows false false g = omega arith
 count_cons : {X : Type 0} (p : X → Bool) (x : X) (xs : List X) → count_by p (x ∷ xs) ≡ cond (p x) 1 0 + count_by p xs
 count_cons p x xs = sum_by-cons (λ y. cond (p y) 1 0) x xs
 
--- a test that more elements meet counts no fewer
+-- a test that is passed wherever another one is counts at least as many elements
 pub count_grows : {X : Type 0} (p q : X → Bool) → ((x : X) → p x ≡ true → q x ≡ true) → (xs : List X) → count_by p xs ≤ count_by q xs
 count_grows p q f [] = omega arith
 count_grows p q f (x ∷ xs) =
@@ -31,7 +31,7 @@ count_grows p q f (x ∷ xs) =
     let k = count_grows p q f xs in
     omega arith
 
--- and more, where it meets one that the other does not
+-- and it counts more, where an element passes it and not the other
 pub count_rises : {X : Type 0} (p q : X → Bool) → ((x : X) → p x ≡ true → q x ≡ true) → (y : X) → p y ≡ false → q y ≡ true → (xs : List X) → IsIn y xs → count_by p xs + 1 ≤ count_by q xs
 count_rises p q f y n t [] i = absurd i
 count_rises {X} p q f y n t (x ∷ xs) (inl e) =
@@ -52,7 +52,7 @@ head_met : (b : Bool) (n m : ℕ) → suc n ≤ cond b 1 0 + m → m ≤ n → b
 head_met true n m h l = refl
 head_met false n m h l = let no : ⊥ = omega arith in absurd no
 
--- where as many meet it as there are, each does
+-- where as many elements pass a test as there are, each one does
 pub count_whole : {X : Type 0} (p : X → Bool) (xs : List X) → length xs ≤ count_by p xs → (y : X) → IsIn y xs → p y ≡ true
 count_whole p [] h y i = absurd i
 count_whole {X} p (x ∷ xs) h y (inl e) =
@@ -64,7 +64,7 @@ count_whole p (x ∷ xs) h y (inr i) =
     let l = unit_grows (p x) true (λ e. refl) in
     count_whole p xs (omega arith) y i
 
--- one more place that is true
+-- the count after one more place has become true
 pub count_set : (xs : List Bool) (i : ℕ) → i < length xs → get_or xs i false ≡ false → count_by (λ r. r) (slice_set xs i true) ≡ count_by (λ r. r) xs + 1
 count_set xs i lt e =
     let a : count_by (λ r. r) (slice_set xs i true) + cond (get_or xs i false) 1 0 ≡ count_by (λ r. r) xs + 1 = sum_by-set (λ r. cond r 1 0) xs i true false lt in

@@ -10,7 +10,7 @@ walk_in N M f i (k ∷ ks) j w = (f i k w.0, walk_in N M f k ks j w.1)
 pub path_in : (N M : ℕ → ℕ → Type 0) → ((i j : ℕ) → N i j → M i j) → (i : ℕ) (rest : List ℕ) (j : ℕ) → IsPath N i rest j → IsPath M i rest j
 path_in N M f i rest j p = record { walk = walk_in N M f i rest j p.walk; once = p.once }
 
--- what each neighbour of a node shares with it holds all along a walk
+-- what holds of a node and passes to each neighbour holds all along a walk
 pub along : (N : ℕ → ℕ → Type 0) (P : ℕ → Type 0) → ((i j : ℕ) → N i j → P i → P j) → (i : ℕ) (rest : List ℕ) (j : ℕ) → IsWalk N i rest j → P i → P j
 along N P f i [] j w h = subst P w h
 along N P f i (k ∷ ks) j w h = along N P f k ks j w.1 (f i k w.0 h)
@@ -23,7 +23,7 @@ back_along N P f i (k ∷ ks) j w h = f i k w.0 (back_along N P f k ks j w.1 h)
 abbrev pub ByNext : (ℕ → ℕ → Type 0) → (ℕ → ℕ) → ℕ → Type 0
 ByNext N next root = (i j : ℕ) → N i j → ((i ≢ root) × (next i ≡ j)) ⊎ ((j ≢ root) × (next j ≡ i))
 
--- who steps away from the root never comes there
+-- a path that steps away from the root does not end there
 pub no_return : (N : ℕ → ℕ → Type 0) (next : ℕ → ℕ) (root : ℕ) → ByNext N next root → (x y : ℕ) (rest : List ℕ) → next y ≡ x → y ≢ root → IsWalk N y rest root → IsOnce (x ∷ y ∷ rest) → ⊥
 no_return N next root by x y [] e ne w once = ne w
 no_return N next root by x y (z ∷ zs) e ne w once = elim (by y z w.0) [

@@ -1,4 +1,4 @@
--- A tree by the list of its edges, and what is wrong with a list that is none.
+-- A tree by the list of its edges, and what is wrong with a list that is no tree.
 use Rattle.std.specs.Prelude.{ℕ, ◌+◌, ◌<◌, ◌≤◌, ◌≡◌, ◌≢◌, ◌⊎◌, ◌↔◌, List, length, slice_index_or}
 use Rattle.mx_stamps.specs.Lists.{IsIn}
 use Rattle.mx_trees.specs.declared.fault.TreeFault.{TreeFault}
@@ -10,11 +10,11 @@ use Rattle.mx_trees.specs.Tree.{Rooted, IsNear}
 abbrev pub IsLinked : List (ℕ × ℕ) → ℕ → ℕ → Type 0
 IsLinked edges i j = IsIn (i, j) edges ⊎ IsIn (j, i) edges
 
--- an edge between two different nodes of n
+-- the edge joins two different nodes, of n nodes
 abbrev pub IsEdge : ℕ → ℕ × ℕ → Type 0
 IsEdge n e = (e.0 < n) × (e.1 < n) × (e.0 ≢ e.1)
 
--- the first k of the list are edges between two different nodes of n
+-- the first k edges of the list join two different nodes each, of n nodes
 abbrev pub AreEdges : ℕ → ℕ → List (ℕ × ℕ) → Type 0
 AreEdges n k edges = (m : ℕ) → m < k → IsEdge n (slice_index_or edges m (0, 0))
 
@@ -46,11 +46,11 @@ abbrev pub IsFirstUnjoined : ℕ → List (ℕ × ℕ) → ℕ → Type 0
 IsFirstUnjoined n edges i =
     (i < n) × AreJoined i edges × (IsJoined (IsLinked edges) i 0 → ⊥)
 
--- the number of nodes, and all edges, are as in a tree
+-- there are 1 to 21 nodes, and each edge joins two different ones of them
 abbrev pub AreEdgesOf : ℕ → List (ℕ × ℕ) → Type 0
 AreEdgesOf n edges = (0 < n) × (n ≤ 21) × AreEdges n (length edges) edges
 
--- the first thing that is wrong, in the order of the faults: all that comes before it is right
+-- the fault is the first in the order of the faults: everything that comes before it is right
 abbrev pub IsFirstFault : ℕ → List (ℕ × ℕ) → ℕ → TreeFault → Type 0
 IsFirstFault n edges holder NoNodes = n ≡ 0
 IsFirstFault n edges holder TooMany = 21 < n

@@ -1,4 +1,4 @@
--- A tree that grows from its root along the edges of a graph.
+-- A tree that grows from its root along the edges of a graph, one node at a time.
 use Rattle.std.specs.Prelude.{ℕ, ◌+◌, ◌<◌, ◌≤◌, ◌≡◌, ◌≢◌, Bool, true, false, ◌&&◌, ◌||◌, nat_eq, List, ◌∷◌, length, slice_index_or, slice_set}
 use Rattle.std.specs.List.{count_by}
 use Rattle.mx_stamps.specs.Lists.{IsIn}
@@ -26,8 +26,8 @@ is_branch g e = is_step g e.0 e.1 || is_step g e.1 e.0
 abbrev pub AreReached : Growth → List ℕ → Type 0
 AreReached g is = (k : ℕ) → IsIn k is → is_reached g k ≡ true
 
--- from each node that it has reached a path leads to the root by the next nodes; and it has reached
--- at most one node for each edge that it has grown along, and the root
+-- from each node that it has reached a path leads to the root by way of the next nodes; and besides the
+-- root it has reached at most one node for each edge that it has grown along
 pub record IsGrown (edges : List (ℕ × ℕ)) (root : ℕ) (g : Growth) : Type 0 where
   pub size : length g.reached ≡ 21
   pub sizes : length g.next ≡ 21

@@ -22,12 +22,12 @@ are_neighbours t i j = slice_index_or (slice_index_or t.rows i []) j false
 abbrev pub IsNear : Rooted → ℕ → ℕ → Type 0
 IsNear t i j = are_neighbours t i j ≡ true
 
--- j is the second node of a path from i to the holder, or both are the holder
+-- j is the second node of a path from i to the holder; or i and j both are the holder
 abbrev pub IsToward : Rooted → ℕ → ℕ → Type 0
 IsToward t i j = ((i ≡ t.holder) × (j ≡ i)) ⊎ ((rest : List ℕ) × IsPath (IsNear t) i (j ∷ rest) t.holder)
 
--- a rooted tree: neighbours are two nodes, and each of the other; from each node exactly one node
--- is next on a path to the holder, and of two neighbours one is next from the other
+-- a rooted tree: neighbours are two different nodes, and each is a neighbour of the other; from each node
+-- exactly one node is next on a path to the holder; and of two neighbours one is next from the other
 pub record IsRooted (t : Rooted) : Type 0 where
   pub some : 0 < t.count
   pub few : t.count ≤ 21

@@ -34,7 +34,7 @@ pub fn unjoined(nodes: u8, edges: &[(u8, u8)]) -> Option<u8>
     None
 }
 
-/// For each node which are its neighbours.
+/// For each node, which nodes are its neighbours.
 pub fn neighbours(edges: &[(u8, u8)]) -> [[bool; 21]; 21]
     requires { AreEdges 21 (length edges.now) edges.now }
     ensures { (i j : ℕ) →

@@ -1,8 +1,8 @@
-//! What is wrong with a list of edges that is no tree.
+//! Why some nodes, edges and a holder are no tree.
 
 use thiserror::Error;
 
-/// Why there is no tree of some nodes, edges and holder: the first fault, in this order.
+/// Why there is no tree with these nodes, these edges and this holder: the first fault, in this order.
 #[derive(Clone, Copy, Debug, PartialEq, Eq, Drop, Error)]
 pub enum TreeFault {
     /// There are 0 nodes.
@@ -14,7 +14,7 @@ pub enum TreeFault {
     /// The first edge, counted from 0, with an end that is no node or with equal ends.
     #[error("bad edge {0}")]
     BadEdge(u64),
-    /// The number of edges isn't one less than that of the nodes.
+    /// The number of edges is not one less than the number of nodes.
     #[error("wrong count")]
     WrongCount,
     /// The first node with no path to node 0.

@@ -25,7 +25,7 @@ impl Growth {
         }
     }
 
-    /// All that these edges join to the root.
+    /// The root and every node that these edges join to it.
     pub fn from(edges: &[(u8, u8)], root: u8) -> Growth
         requires edges { AreEdges 21 (length edges.now) edges.now }
         requires root { root < 21 }

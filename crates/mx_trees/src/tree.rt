@@ -32,7 +32,7 @@ impl Model for Tree {
     ghost inverse = { λ r. record { nodes = r.count; holder = r.holder; neighbours = r.rows; next = r.next } };
 }
 
-/// The holder of a tree, as a node; or the first fault.
+/// The holder as a node, where the nodes, edges and holder are a tree; else the first fault.
 fn checked(nodes: u8, edges: &[(u8, u8)], holder: u8) -> Result<NodeId, TreeFault>
     ensures tree { IfOk result (λ root. IsTree nodes edges.now × (holder < nodes)) }
     ensures root { IfOk result (λ root. root ≡ holder) }
@@ -65,7 +65,7 @@ impl Tree {
     pub fn of(nodes: u8, edges: &[(u8, u8)], holder: u8) -> Result<Tree, TreeFault>
         ensures ok { IsOk result ↔ (IsTree nodes edges.now × (holder < nodes)) }
         ensures value { IfOk result (λ t. IsTreeOf nodes edges.now holder t) }
-        // the first in the order of the faults, at its least witness: there is at most one
+        // the first fault in their order, with its least witness; there is at most one
         ensures fault { (fault : TreeFault) →
             IsErrOf result fault ↔ IsFirstFault nodes edges.now holder fault }
     {
@@ -110,7 +110,7 @@ impl Tree {
         NodeId::of(self.next[i.get() as usize]).unwrap()
     }
 
-    /// Whether nodes i and j are neighbours; nodes that are none of the tree's are nobody's.
+    /// Whether nodes i and j are neighbours. False where either is no node of the tree.
     pub fn neighbours(&self, i: NodeId, j: NodeId) -> bool
         ensures value { result ≡ are_neighbours self.now i j }
         ensures nodes { result ≡ true → (i < self.now.count) × (j < self.now.count) × (i ≢ j) }

@@ -9,7 +9,7 @@ impl Requester {
     ghost use Rattle.std.specs.Prelude.{◌≡◌, ◌+◌, ◌≤◌, ◌<◌, ◌↔◌, [], ◌++◌, length, IsTrue};
     ghost use Rattle.mx_maekawa.specs.RequesterStep.{HasFailed, has_failed_below, is_current_wait, has_ended, give_asked, fail, release_ended, take_locked, take_failed, inquired_held, take_inquire};
 
-    /// Whether some arbiter has failed the current request.
+    /// Whether some arbiter counts as failed: the node cannot enter before that one grants again.
     fn has_failed(&self) -> bool
         ensures value { result ≡ has_failed_below self.now self.now.count }
         ensures some { IsTrue result ↔ HasFailed self.now }
@@ -23,14 +23,14 @@ impl Requester {
         any
     }
 
-    /// Whether this is the stamp of our request, and we wait.
+    /// Whether the node waits, and this is the stamp of its request.
     fn is_current_wait(&self, stamp: &Stamp) -> bool
         ensures { result ≡ is_current_wait self.now stamp.now }
     {
         matches!(self.phase, Phase::Waiting) && stamp.is(&self.ours)
     }
 
-    /// Whether this stamp of ours is not current, and never will be.
+    /// Whether this stamp of the node has ended: it was drawn, and is no longer current.
     fn has_ended(&self, stamp: &Stamp) -> bool
         ensures { result ≡ has_ended self.now stamp.now }
     {
@@ -38,7 +38,7 @@ impl Requester {
         !is_current && stamp.number <= self.issued
     }
 
-    /// The grant of arbiter b goes back, where it was asked back.
+    /// Gives the grant of arbiter b back, where that arbiter has asked for it.
     fn give_asked(&mut self, b: NodeId, out: &mut Outbox<MaekawaMsg>)
         requires { length out.old < 32 }
         ensures state { self.new ≡ (give_asked b self.old).state }
@@ -55,7 +55,7 @@ impl Requester {
         }
     }
 
-    /// Arbiter a has failed our request: each grant that was asked back goes back.
+    /// Notes that arbiter a has failed the request, and gives back each grant that was asked for.
     fn fail(&mut self, a: NodeId, out: &mut Outbox<MaekawaMsg>)
         requires { length out.old ≤ 1 }
         ensures state { self.new ≡ (fail a self.old).state }
@@ -69,7 +69,7 @@ impl Requester {
         }
     }
 
-    /// A release of a stamp that has ended, to an arbiter that still knows it.
+    /// Sends a release to an arbiter whose letter is about a stamp that has ended.
     fn release_ended(&self, stamp: &Stamp, a: NodeId, out: &mut Outbox<MaekawaMsg>)
         requires { out.old ≡ [] }
         ensures { out.new ≡ (release_ended self.now stamp.now a).letters }
@@ -79,7 +79,7 @@ impl Requester {
         }
     }
 
-    /// A grant comes. One that was given back does not count again.
+    /// Takes a grant (LOCKED). One that was given back before does not count again.
     pub(crate) fn take_locked(
         &mut self,
         a: NodeId,
@@ -106,7 +106,7 @@ impl Requester {
         }
     }
 
-    /// An arbiter has another request before ours.
+    /// Takes a FAILED: the arbiter has another request to serve first.
     pub(crate) fn take_failed(&mut self, a: NodeId, stamp: &Stamp, out: &mut Outbox<MaekawaMsg>)
         requires { out.old ≡ [] }
         ensures state { self.new ≡ (take_failed a stamp.now self.old).state }
@@ -117,7 +117,7 @@ impl Requester {
         }
     }
 
-    /// An arbiter asks its grant back.
+    /// Takes an INQUIRE: the arbiter asks for its grant back.
     pub(crate) fn take_inquire(
         &mut self,
         a: NodeId,
@@ -145,7 +145,8 @@ impl Requester {
         }
     }
 
-    /// It is the grant that is held: it goes back where we cannot enter soon.
+    /// The same where that grant is held: it is given back where some arbiter has failed, and else
+    /// the inquiry is remembered.
     fn take_inquire_held(
         &mut self,
         a: NodeId,
