@@ -35,7 +35,7 @@ IsDoable (act.Want to) m = Unit {0}
 IsDoable (act.Deliver from parcel) m = IsTakeable from parcel m
 IsDoable act.Restart m = Unit {0}
 
--- the act may need memory: a record joins the journal, in which none bears its number
+-- the act may need memory: its own record joins the journal, or records are delivered
 abbrev pub NeedsMemory : {H S M : Type 0} → Core H S M → Act M → MemberState S → Type 0
 NeedsMemory core act.Ask m = ⊥
 NeedsMemory core act.Enter m = ⊥
