@@ -5,14 +5,26 @@ use crate::told::{Told, assert_steps};
 use mx_network::{Cause, Cluster, Event, StepFault};
 use mx_ricart::{Count, Ricart};
 use mx_solo::{One, Solo};
-use mx_stamps::{Clock, NodeId, Stamp};
+use mx_stamps::{Clock, NodeId};
 use std::alloc::{AllocError, Global};
 use std::test::Fail;
 
+/// Two nodes at rest.
+fn two_nodes(alloc: Global) -> Result<Cluster<Ricart>, Fail> {
+    let shape = Count::of(2).ok_or("count")?;
+    Ok(Cluster::start(alloc, &shape, 0, 1000, 1)?)
+}
+
+/// The number that a clock at 5 draws once it has seen 3.
+fn drawn_after_five() -> Option<u64> {
+    let mut clock = Clock::at(5);
+    clock.see(3);
+    Some(clock.next(node(2))?.number)
+}
+
 #[test]
 fn step_faults_and_clock(rt: HostRuntime) -> Result<(), Fail> {
-    let shape = Count::of(2).ok_or("count")?;
-    let mut cluster: Cluster<Ricart> = Cluster::start(rt.alloc(), &shape, 0, 1000, 1)?;
+    let mut cluster = two_nodes(rt.alloc())?;
     let cases = [
         (Event::Ask(node(2)), StepFault::NoNode),
         (Event::Want(node(0), node(2)), StepFault::NoNode),
@@ -22,10 +34,7 @@ fn step_faults_and_clock(rt: HostRuntime) -> Result<(), Fail> {
         assert_eq!(rt; cluster.step(*event), Err(*fault));
         assert!(rt; cluster.trace().is_empty());
     }
-    let mut clock = Clock::at(5);
-    clock.see(3);
-    let (number, node) = (6, node(2));
-    assert_eq!(rt; clock.next(node), Some(Stamp { number, node }));
+    assert_eq!(rt; drawn_after_five(), Some(6));
     Ok(())
 }
 

@@ -8,6 +8,7 @@ use mx_plan::read_plan;
 use mx_stamps::NodeId;
 use rand_core::{Rng, SeedableRng};
 use rand_pcg::Pcg32;
+use std::process::Abort;
 use std::test::Fail;
 
 const PLAN: &[u8] =
@@ -77,17 +78,32 @@ fn wanted_want(words: &mut Pcg32) -> Event {
     Event::Want(node, wanted_node(words))
 }
 
+/// What a node does alone, by the word of its event.
+fn wanted_act(word: u32, node: NodeId) -> Event {
+    match word {
+        0..=1 => Event::Ask(node),
+        2..=3 => Event::Enter(node),
+        6..=7 => Event::Leave(node),
+        8 => Event::Tick(node),
+        _ => Event::Restart(node),
+    }
+}
+
 fn wanted_event(words: &mut Pcg32) -> Event {
     match words.next_u32() % 16 {
-        0..=1 => Event::Ask(wanted_node(words)),
-        2..=3 => Event::Enter(wanted_node(words)),
         4 => wanted_read(words),
         5 => wanted_write(words),
-        6..=7 => Event::Leave(wanted_node(words)),
-        8 => Event::Tick(wanted_node(words)),
         9 => wanted_want(words),
-        10 => Event::Restart(wanted_node(words)),
-        _ => Event::Deliver(u64::from(words.next_u32())),
+        11..=15 => Event::Deliver(u64::from(words.next_u32())),
+        word => wanted_act(word, wanted_node(words)),
+    }
+}
+
+/// These events are drawn by this seed.
+fn assert_drawn(rt: &impl Abort, events: &[Event], seed: u64) {
+    let mut words = Pcg32::seed_from_u64(seed);
+    for event in events {
+        assert_eq!(rt; *event, wanted_event(&mut words), "seed {seed}");
     }
 }
 
@@ -97,10 +113,7 @@ fn schedule_is_that_of_its_seed(rt: HostRuntime) -> Result<(), Fail> {
     for seed in 0..10 {
         let events = schedule(rt.alloc(), seed, 1000, &plan)?;
         assert_eq!(rt; events.len(), 1000);
-        let mut words = Pcg32::seed_from_u64(seed);
-        for event in &events {
-            assert_eq!(rt; *event, wanted_event(&mut words));
-        }
+        assert_drawn(&rt, events.as_slice(), seed);
     }
     Ok(())
 }

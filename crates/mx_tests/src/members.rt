@@ -5,7 +5,7 @@ ghost use Rattle.std.specs.Prelude.{◌<◌, ◌≤◌};
 use crate::given::{entry, node};
 use arrayvec::ArrayVec;
 use mx_journal::Record;
-use mx_letters::Outbox;
+use mx_letters::{Outbox, RicartMsg};
 use mx_member::{DeliverFault, Member, Parcel};
 use mx_nodelaws::Exclusion;
 use mx_ricart::{Count, Ricart};
@@ -29,42 +29,40 @@ fn theirs(number: u64, writes: &[(u8, u64)]) -> Record {
     record
 }
 
-/// Who sends, the numbers and values of records by node 1, what comes of it, and how many records
-/// the member has then.
-type Sent = (
-    u8,
-    &'static [(u64, &'static [(u8, u64)])],
-    Result<(), DeliverFault>,
-    usize,
-);
+/// Numbers of records by node 1, with their writes.
+type Theirs = &'static [(u64, &'static [(u8, u64)])];
 
-const SENT: [Sent; 4] = [
-    (1, &[(1, &[(0, 5)])], Ok(()), 1),
+/// A parcel of at most four such records.
+fn parcel_of(list: Theirs) -> Parcel<RicartMsg> {
+    let mut records = ArrayVec::new();
+    for (number, writes) in list {
+        if !records.is_full() {
+            records.push(theirs(*number, *writes));
+        }
+    }
+    Parcel::Records(records)
+}
+
+/// Who sends, what, and what comes of it.
+const SENT: [(u8, Theirs, Result<(), DeliverFault>); 4] = [
+    (1, &[(1, &[(0, 5)])], Ok(())),
     (
         1,
         &[(2, &[]), (1, &[(0, 6)])],
         Err(DeliverFault::Conflict(1)),
-        1,
     ),
-    (1, &[(0, &[])], Err(DeliverFault::Conflict(0)), 1),
-    (2, &[], Err(DeliverFault::Stranger), 1),
+    (1, &[(0, &[])], Err(DeliverFault::Conflict(0))),
+    (2, &[], Err(DeliverFault::Stranger)),
 ];
 
 #[test]
 fn forged_records_refused(rt: HostRuntime) -> Result<(), Fail> {
     let mut member = started(rt.alloc(), 2)?;
-    let mut out = Outbox::new();
-    for (from, list, answer, len) in &SENT {
-        let mut records = ArrayVec::new();
-        for (number, writes) in *list {
-            if !records.is_full() {
-                records.push(theirs(*number, *writes));
-            }
-        }
-        out.clear();
-        let taken = member.deliver(node(*from % 21), Parcel::Records(records), &mut out);
+    for (from, list, answer) in &SENT {
+        let mut out = Outbox::new();
+        let taken = member.deliver(node(*from % 21), parcel_of(*list), &mut out);
         assert_eq!(rt; taken, *answer, "{list:?}");
-        assert_eq!(rt; member.journal().len(), *len, "{list:?}");
+        assert_eq!(rt; member.journal().len(), 1, "{list:?}");
         assert_eq!(rt; member.value(0), Some(5), "{list:?}");
     }
     Ok(())

@@ -1,6 +1,7 @@
 //! Worked examples in which the journals merge after each event, and the receipts tell the reads.
 
 use crate::given::node;
+use crate::shapes::lists;
 use crate::told::{Told, assert_steps, last_receipt};
 use mx_journal::{Read, Write};
 use mx_maekawa::Maekawa;
@@ -13,11 +14,7 @@ use std::test::Fail;
 #[test]
 fn lost_release_answered(rt: HostRuntime) -> Result<(), Fail> {
     let alloc = rt.alloc();
-    let sets = [
-        vec![in alloc; 0u8, 1]?,
-        vec![in alloc; 1u8, 2]?,
-        vec![in alloc; 2u8, 0]?,
-    ];
+    let sets = lists(alloc, &[&[0, 1], &[1, 2], &[2, 0]])?;
     let shape = Quorums::listed(&sets)?;
     let mut cluster: Cluster<Maekawa> = Cluster::start(alloc, &shape, 0, 1000, 1)?;
     let (a, b, c) = (node(0), node(1), node(2));

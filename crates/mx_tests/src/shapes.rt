@@ -10,7 +10,7 @@ use std::process::Abort;
 use std::test::Fail;
 
 /// Vectors of these lists.
-fn lists(alloc: Global, sets: &[&[u8]]) -> Result<Vec<Vec<u8>>, AllocError> {
+pub(crate) fn lists(alloc: Global, sets: &[&[u8]]) -> Result<Vec<Vec<u8>>, AllocError> {
     let mut lists = Vec::new(alloc);
     for set in sets {
         lists.push(set.to_vec(alloc)?)?;
@@ -65,7 +65,9 @@ fn shapes_checked(rt: HostRuntime) -> Result<(), Fail> {
     for (nodes, edges, holder, fault) in &NO_TREES {
         assert_eq!(rt; Tree::of(*nodes, *edges, *holder).err(), Some(*fault));
     }
-    assert_eq!(rt; Quorums::plane(8).err(), Some(QuorumFault::NoPlane(8)));
+    for n in [0, 8, 22] {
+        assert_eq!(rt; Quorums::plane(n).err(), Some(QuorumFault::NoPlane(n)));
+    }
     assert_eq!(rt; Quorums::grid(5, 5).err(), Some(QuorumFault::TooMany));
     assert_eq!(rt; Quorums::grid(0, 3).err(), Some(QuorumFault::NoNodes));
     Ok(())

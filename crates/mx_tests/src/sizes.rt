@@ -68,35 +68,44 @@ fn turns(alloc: Global, sections: u64) -> Result<Vec<Event>, AllocError> {
     Ok(events)
 }
 
+/// A cluster of 21 nodes.
+fn started(alloc: Global) -> Result<Cluster<Ricart>, Fail> {
+    let shape = Count::of(21).ok_or("count")?;
+    Ok(Cluster::start(alloc, &shape, 0, 1000, 1)?)
+}
+
 #[test]
 fn twenty_one_nodes_in_turn(rt: HostRuntime) -> Result<(), Fail> {
-    let alloc = rt.alloc();
-    let shape = Count::of(21).ok_or("count")?;
-    let mut cluster: Cluster<Ricart> = Cluster::start(alloc, &shape, 0, 1000, 1)?;
-    let events = turns(alloc, 120)?;
+    let mut cluster = started(rt.alloc())?;
+    let events = turns(rt.alloc(), 120)?;
     assert_eq!(rt; cluster.run(events.as_slice()), Ok(()));
-    assert_eq!(rt; cluster.trace().len(), 5280);
-    assert_eq!(rt; cluster.sent(), 4800);
-    let all = cluster.merged(alloc, names(alloc)?.as_slice())?;
+    assert_eq!(rt; (cluster.trace().len(), cluster.sent()), (5280, 4800));
+    let names = names(rt.alloc())?;
+    let all = cluster.merged(rt.alloc(), names.as_slice())?;
     assert_eq!(rt; (all.len(), all.gapless_to()), (120, 120));
     Ok(())
 }
 
-#[test]
-fn a_run_stops_at_the_first_fault(rt: HostRuntime) -> Result<(), Fail> {
-    let alloc = rt.alloc();
-    let shape = Count::of(21).ok_or("count")?;
-    let mut cluster: Cluster<Ricart> = Cluster::start(alloc, &shape, 0, 1000, 1)?;
-    let mut events = turns(alloc, 60)?;
-    events.push(Event::Deliver(2400))?;
-    for event in turns(alloc, 60)? {
+/// As many sections twice, with a parcel between them that was not sent.
+fn interrupted(alloc: Global, sections: u64) -> Result<Vec<Event>, AllocError> {
+    let mut events = turns(alloc, sections)?;
+    events.push(Event::Deliver(u64::MAX))?;
+    for event in turns(alloc, sections)? {
         events.push(event)?;
     }
-    let fault = RunFault {
-        index: 2640,
-        fault: StepFault::NoParcel,
-    };
-    assert_eq!(rt; cluster.run(events.as_slice()), Err(fault));
+    Ok(events)
+}
+
+#[test]
+fn a_run_stops_at_the_first_fault(rt: HostRuntime) -> Result<(), Fail> {
+    let mut cluster = started(rt.alloc())?;
+    let events = interrupted(rt.alloc(), 60)?;
+    let (index, fault) = (2640, StepFault::NoParcel);
+    assert_eq!(rt; events.len(), 5281);
+    assert_eq!(rt;
+        cluster.run(events.as_slice()),
+        Err(RunFault { index, fault })
+    );
     assert_eq!(rt; cluster.trace().len(), 2640);
     Ok(())
 }

@@ -1,8 +1,7 @@
 //! What comes of events, in short, and tables of events with what comes of them.
 
-use mx_journal::{Journal, Receipt};
-use mx_merge::{agree, merge};
-use mx_network::{Cause, Cluster, Event, Outcome};
+use mx_journal::Receipt;
+use mx_network::{Cause, Cluster, Event, Outcome, StepFault};
 use mx_nodelaws::Exclusion;
 use mx_stamps::NodeId;
 use std::alloc::Global;
@@ -38,6 +37,11 @@ fn told_of(outcome: &Outcome) -> Told {
     }
 }
 
+/// What comes of an event, in short.
+fn step<C: Exclusion>(cluster: &mut Cluster<C>, event: &Event) -> Result<Told, StepFault> {
+    Ok(told_of(&cluster.step(*event)?))
+}
+
 /// How many sections have been left, where so many had been before this.
 fn left_after(left: u64, told: Told) -> u64 {
     match told {
@@ -57,32 +61,12 @@ pub(crate) fn assert_steps<C: Exclusion>(
 ) -> Result<(), Fail> {
     let mut left = 0;
     for (event, told) in steps {
-        let outcome = cluster.step(*event)?;
-        assert_eq!(rt; told_of(&outcome), *told, "{event:?}");
+        assert_eq!(rt; step(cluster, event)?, *told, "{event:?}");
         left = left_after(left, *told);
-        assert_merged(rt, alloc, cluster, nodes, left)?;
+        let all = cluster.merged(alloc, nodes)?;
+        assert_eq!(rt; all.len() as u64, left, "{event:?}");
+        assert_eq!(rt; all.gapless_to(), left, "{event:?}");
     }
-    Ok(())
-}
-
-/// The journals of these nodes, each in turn merged into an empty one, are that of so many sections;
-/// and so is what the cluster merges.
-fn assert_merged<C: Exclusion>(
-    rt: &impl Abort,
-    alloc: Global,
-    cluster: &Cluster<C>,
-    nodes: &[NodeId],
-    sections: u64,
-) -> Result<(), Fail> {
-    let mut all = Journal::new(alloc);
-    for node in nodes {
-        let member = cluster.member(*node).ok_or("member")?;
-        merge(&mut all, member.journal())?;
-    }
-    let merged = cluster.merged(alloc, nodes)?;
-    assert!(rt; agree(&all, &merged));
-    assert_eq!(rt; (all.len() as u64, all.gapless_to()), (sections, sections));
-    assert_eq!(rt; merged.len(), all.len());
     Ok(())
 }
 

@@ -6,6 +6,8 @@ use super::{MAEKAWA, plan_of};
 use crate::shapes::assert_set;
 use mx_plan::{Plan, Shape};
 use mx_quorums::Quorums;
+use std::alloc::Global;
+use std::process::Abort;
 use std::test::Fail;
 
 /// The start and the end of a plan, and the set of one of its nodes.
@@ -55,12 +57,26 @@ fn quorums(plan: &Plan) -> Option<&Quorums> {
     }
 }
 
+/// The set of node i of this plan, of at most 21, has these members.
+fn assert_read(
+    rt: &impl Abort,
+    alloc: Global,
+    text: (&str, &str),
+    i: u8,
+    members: &[u8],
+) -> Result<(), Fail>
+    requires { i < 21 }
+{
+    let plan = plan_of(alloc, text.0, text.1)?;
+    let quorums = quorums(&plan).ok_or("quorums")?;
+    assert_set(rt, quorums, i, members);
+    Ok(())
+}
+
 #[test]
 fn sets_are_read(rt: HostRuntime) -> Result<(), Fail> {
     for (start, end, i, members) in &SETS {
-        let plan = plan_of(rt.alloc(), *start, *end)?;
-        let quorums = quorums(&plan).ok_or("quorums")?;
-        assert_set(&rt, quorums, *i % 21, *members);
+        assert_read(&rt, rt.alloc(), (*start, *end), *i % 21, *members)?;
     }
     Ok(())
 }
