@@ -1,24 +1,12 @@
 //! `mx`, the program: it hands the words, the files and the streams of the process to `command`.
-//! `command` is proved over any source of named bytes and any two outputs.
 #![tactic(auto)]
 
-mod check;
-mod closing;
-mod command;
-mod explore;
-mod faults;
-mod help;
-mod output;
-mod replay;
-mod run;
-mod source;
+mod stream;
 mod streams;
-mod texts;
-mod words;
 
-use crate::command::command;
-use crate::output::{Output, Stream};
+use crate::stream::Stream;
 use crate::streams::Streams;
+use mx_commands::{Output, command};
 use std::io::{BufWriter, ErrorKind};
 use std::process::ExitCode;
 use std::{env, io};
@@ -51,6 +39,3 @@ fn main(rt: HostRuntime) -> ExitCode {
         }
     }
 }
-
-#[cfg(test)]
-mod tests;

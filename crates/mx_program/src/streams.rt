@@ -1,6 +1,6 @@
 //! The files and the streams of the process.
 
-use crate::source::{Source, SourceFault};
+use mx_commands::{Source, SourceFault};
 use std::alloc::Global;
 use std::io::{ErrorKind, Read};
 use std::rt::Files;

@@ -46,6 +46,7 @@ grown_at edges root lt =
       begun = get_or-set_same (replicate 21 false) root true false lt;
       home = get_or-replicate 21 root root 0 lt;
       way = λ i r ne. absurd (not_both (get_or (slice_set (replicate 21 false) root true) i false) r (get_or-set_other (replicate 21 false) root i true false ne ∙ get_or_replicate 21 i false));
+      rest = λ i lt21 r. get_or-replicate 21 i root 0 lt21;
       counted = omega arith;
     }
 
@@ -96,6 +97,13 @@ module _ (edges : List (ℕ × ℕ)) (root : ℕ) (g : Growth) (near far : ℕ) 
         subst Q (sym (next_kept i other)) (old_way i (before i other r) ne)
   ]
 
+  -- a node that is still to be reached was so before
+  new_rest : (i : ℕ) → i < 21 → is_reached (with_node g near far) i ≡ false → next_of (with_node g near far) i ≡ root
+  new_rest i lt r = elim (dec_eq i far) [
+    | inl e ↦ let P : ℕ → Type 0 = λ k. is_reached (with_node g near far) k ≡ true in absurd (not_both (is_reached (with_node g near far) i) (subst P (sym e) far_reached) r)
+    | inr ne ↦ next_kept i ne ∙ h.rest i lt (sym (get_or-set_other g.reached far i true false ne) ∙ r)
+  ]
+
   -- it has grown along one more edge
   step_kept : (i j : ℕ) → is_step g i j ≡ true → is_step (with_node g near far) i j ≡ true
   step_kept i j t =
@@ -144,5 +152,6 @@ module _ (edges : List (ℕ × ℕ)) (root : ℕ) (g : Growth) (near far : ℕ) 
         begun = kept root h.begun;
         home = next_kept root root_apart ∙ h.home;
         way = new_way;
+        rest = new_rest;
         counted = omega arith;
       }

@@ -5,3 +5,4 @@ pub mod Rows
 pub mod Grown
 pub mod Ways
 pub mod Faults
+pub mod Only

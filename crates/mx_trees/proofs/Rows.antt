@@ -4,6 +4,7 @@ use Rattle.std.proofs.lemmas.List.{get_or-set_same, get_or-set_other, get_or-rep
 use Rattle.std.proofs.Math.Seq.{take-suc}
 use Rattle.mx_stamps.proofs.Lists.{dec_eq, get_or_replicate, in_left, in_right, in_append}
 use Rattle.mx_stamps.proofs.Choices.{not_both}
+use Rattle.mx_trees.specs.Tree.{IsSquare}
 use Rattle.mx_trees.specs.Edges.{IsLinked}
 
 -- whether place j of row i is marked
@@ -12,14 +13,8 @@ is_marked rows i j = slice_index_or (slice_index_or rows i []) j false
 
 -- 21 rows of 21 places, in which exactly the linked nodes stand
 pub record IsRows (rows : List (List Bool)) (edges : List (ℕ × ℕ)) : Type 0 where
-  pub tall : length rows ≡ 21
-  pub wide : (i : ℕ) → i < 21 → length (slice_index_or rows i []) ≡ 21
+  pub square : IsSquare rows
   pub near : (i j : ℕ) → (is_marked rows i j ≡ true) ↔ IsLinked edges i j
-
--- rows of the given size
-record IsSquare (rows : List (List Bool)) : Type 0 where
-  tall : length rows ≡ 21
-  wide : (i : ℕ) → i < 21 → length (slice_index_or rows i []) ≡ 21
 
 -- place j of row i marked
 abbrev marked : List (List Bool) → ℕ → ℕ → List (List Bool)
@@ -87,8 +82,7 @@ no_mark (suc n) (suc i) j = no_mark n i j
 
 pub rows_at : IsRows (replicate 21 (replicate 21 false)) []
 rows_at = record {
-  tall = refl;
-  wide = λ i lt. ap (λ (r : List Bool). length r) (get_or-replicate 21 i (replicate 21 false) [] lt);
+  square = record { tall = refl; wide = λ i lt. ap (λ (r : List Bool). length r) (get_or-replicate 21 i (replicate 21 false) [] lt) };
   near = λ i j. ((λ t. absurd (not_both (is_marked (replicate 21 (replicate 21 false)) i j) t (no_mark 21 i j))), (λ l. elim l [ inl n ↦ absurd n | inr n ↦ absurd n ]));
 }
 
@@ -105,7 +99,7 @@ same_parts i j a b e = (ap (λ (p : ℕ × ℕ). p.0) e, ap (λ (p : ℕ × ℕ)
 
 module _ (rows : List (List Bool)) (edges : List (ℕ × ℕ)) (a b : ℕ) (h : IsRows rows edges) (la : a < 21) (lb : b < 21) where
   square : IsSquare rows
-  square = record { tall = h.tall; wide = h.wide }
+  square = h.square
 
   first : IsSquare (marked rows a b)
   first = square_marked rows a b square la
@@ -159,7 +153,7 @@ module _ (rows : List (List Bool)) (edges : List (ℕ × ℕ)) (a b : ℕ) (h : 
   ]
 
   rows_and : IsRows (marked (marked rows a b) b a) (edges ++ (a, b) ∷ [])
-  rows_and = record { tall = second.tall; wide = second.wide; near = λ i j. (linked_by i j, marked_by i j) }
+  rows_and = record { square = second; near = λ i j. (linked_by i j, marked_by i j) }
 
 -- the rows of one more edge of the list
 pub rows_with : (rows : List (List Bool)) (edges : List (ℕ × ℕ)) (k : ℕ) → IsRows rows (take k edges) → k < length edges → (get_or edges k (0, 0)).0 < 21 → (get_or edges k (0, 0)).1 < 21 → IsRows (marked (marked rows (get_or edges k (0, 0)).0 (get_or edges k (0, 0)).1) (get_or edges k (0, 0)).1 (get_or edges k (0, 0)).0) (take (k + 1) edges)

@@ -4,7 +4,7 @@ use Rattle.std.proofs.Common.{ℕ, ◌<◌, ◌≤◌, ◌≡◌, ◌≢◌, ◌
 use Rattle.std.specs.List.{count_by}
 use Rattle.mx_stamps.specs.Lists.{IsIn}
 use Rattle.mx_stamps.proofs.Lists.{dec_eq}
-use Rattle.mx_stamps.proofs.Choices.{eq_true, and_true, or_cases}
+use Rattle.mx_stamps.proofs.Choices.{eq_true, and_true, is_false, or_cases}
 use Rattle.mx_trees.specs.declared.growth.Growth.{Growth}
 use Rattle.mx_trees.specs.Paths.{IsPath, IsJoined}
 use Rattle.mx_trees.specs.Tree.{IsNear, IsRooted}
@@ -62,6 +62,13 @@ module _ (n : ℕ) (edges : List (ℕ × ℕ)) (root : ℕ) (g : Growth) (tree :
     | inl e ↦ let P : ℕ → Type 0 = λ k. k < n in subst P (sym (ap (λ (k : ℕ). next_of g k) e ∙ h.home)) lt
     | inr ne ↦ let nodes = two_nodes i (next_of g i) (first_step i l ne) in nodes.1
   ]
+
+  -- from what is no node of the tree the root is next
+  pub beyond : (i : ℕ) → n ≤ i → i < 21 → next_of g i ≡ root
+  beyond i le few = h.rest i few (is_false (is_reached g i) (λ r. elim (dec_eq i root) [
+    | inl e ↦ absurd (omega (arith, e, le, lt))
+    | inr ne ↦ let w = h.way i r ne in let nodes = (two_nodes i (next_of g i) w.1.walk.0).0 in absurd (omega (arith, nodes, le))
+  ]))
 
   -- a step from i to another node is none from the root
   step_from : (i j : ℕ) → i ≢ j → is_step g i j ≡ true → (i ≢ root) × (next_of g i ≡ j)

@@ -4,7 +4,7 @@ use Rattle.mx_stamps.specs.Lists.{IsIn}
 use Rattle.mx_trees.specs.declared.fault.TreeFault.{TreeFault}
 use Rattle.mx_trees.specs.declared.fault.TreeFault.TheVariants.{NoNodes, TooMany, BadEdge, WrongCount, NotJoined, BadHolder}
 use Rattle.mx_trees.specs.Paths.{IsJoined}
-use Rattle.mx_trees.specs.Tree.{Rooted, IsNear}
+use Rattle.mx_trees.specs.Tree.{Rooted, IsNear, IsSquare, toward_of}
 
 -- the edge between nodes i and j is listed, from one end or the other
 abbrev pub IsLinked : List (ℕ × ℕ) → ℕ → ℕ → Type 0
@@ -30,11 +30,15 @@ pub record IsTree (n : ℕ) (edges : List (ℕ × ℕ)) : Type 0 where
   pub count : length edges + 1 ≡ n
   pub joined : AreJoined n edges
 
--- the rooted tree of n nodes, these edges and this holder
+-- the rooted tree of n nodes, these edges and this holder. Its tables have places for 21 nodes; from one
+-- that is none of the tree's, the holder is next
 pub record IsTreeOf (n : ℕ) (edges : List (ℕ × ℕ)) (holder : ℕ) (t : Rooted) : Type 0 where
   pub count : t.count ≡ n
   pub root : t.holder ≡ holder
   pub near : (i j : ℕ) → IsNear t i j ↔ IsLinked edges i j
+  pub square : IsSquare t.rows
+  pub long : length t.next ≡ 21
+  pub beyond : (i : ℕ) → n ≤ i → i < 21 → toward_of t i ≡ holder
 
 -- the least k whose edge has an end that is no node, or equal ends
 abbrev pub IsFirstBadEdge : ℕ → List (ℕ × ℕ) → ℕ → Type 0

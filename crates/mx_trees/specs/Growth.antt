@@ -26,14 +26,15 @@ is_branch g e = is_step g e.0 e.1 || is_step g e.1 e.0
 abbrev pub AreReached : Growth → List ℕ → Type 0
 AreReached g is = (k : ℕ) → IsIn k is → is_reached g k ≡ true
 
--- from each node that it has reached a path leads to the root by way of the next nodes; and besides the
--- root it has reached at most one node for each edge that it has grown along
+-- from each node that it has reached a path leads to the root by way of the next nodes, and from any other
+-- node the root is next; and besides the root it has reached at most one node for each edge that it has grown along
 pub record IsGrown (edges : List (ℕ × ℕ)) (root : ℕ) (g : Growth) : Type 0 where
   pub size : length g.reached ≡ 21
   pub sizes : length g.next ≡ 21
   pub begun : is_reached g root ≡ true
   pub home : next_of g root ≡ root
   pub way : (i : ℕ) → is_reached g i ≡ true → i ≢ root → (rest : List ℕ) × IsPath (IsLinked edges) i (next_of g i ∷ rest) root × AreReached g (next_of g i ∷ rest)
+  pub rest : (i : ℕ) → i < 21 → is_reached g i ≡ false → next_of g i ≡ root
   pub counted : count_by (λ r. r) g.reached ≤ count_by (λ e. is_branch g e) edges + 1
 
 -- no edge leads out of it

@@ -1,5 +1,5 @@
 -- A rooted tree: the shape of Raymond's algorithm (Raymond 1989).
-use Rattle.std.specs.Prelude.{ℕ, ◌<◌, ◌≤◌, ◌≡◌, ◌≢◌, ◌⊎◌, Bool, true, false, List, [], ◌∷◌, slice_index_or}
+use Rattle.std.specs.Prelude.{ℕ, ◌<◌, ◌≤◌, ◌≡◌, ◌≢◌, ◌⊎◌, Bool, true, false, List, [], ◌∷◌, length, slice_index_or}
 use Rattle.mx_trees.specs.Paths.{IsPath}
 
 -- how many nodes there are, the holder, for each node a row (which nodes are its neighbours), and
@@ -21,6 +21,11 @@ are_neighbours t i j = slice_index_or (slice_index_or t.rows i []) j false
 -- nodes i and j are neighbours
 abbrev pub IsNear : Rooted → ℕ → ℕ → Type 0
 IsNear t i j = are_neighbours t i j ≡ true
+
+-- 21 rows of 21 places
+pub record IsSquare (rows : List (List Bool)) : Type 0 where
+  pub tall : length rows ≡ 21
+  pub wide : (i : ℕ) → i < 21 → length (slice_index_or rows i []) ≡ 21
 
 -- j is the second node of a path from i to the holder; or i and j both are the holder
 abbrev pub IsToward : Rooted → ℕ → ℕ → Type 0

@@ -1,6 +1,7 @@
 //! The checks of a list of edges, and the neighbours that it makes.
 
 ghost use Rattle.std.specs.Prelude.{ℕ, ◌≡◌, ◌≤◌, ◌↔◌, true, false, [], length, slice_index_or, IfNone, IfSome};
+ghost use Rattle.mx_trees.specs.Tree.{IsSquare};
 ghost use Rattle.mx_trees.specs.Edges.{IsLinked, AreEdges, AreJoined, IsFirstBadEdge, IsFirstUnjoined};
 
 use crate::growth::Growth;
@@ -37,7 +38,8 @@ pub fn unjoined(nodes: u8, edges: &[(u8, u8)]) -> Option<u8>
 /// For each node, which nodes are its neighbours.
 pub fn neighbours(edges: &[(u8, u8)]) -> [[bool; 21]; 21]
     requires { AreEdges 21 (length edges.now) edges.now }
-    ensures { (i j : ℕ) →
+    ensures square { IsSquare result }
+    ensures near { (i j : ℕ) →
         (slice_index_or (slice_index_or result i []) j false ≡ true) ↔ IsLinked edges.now i j }
 {
     let mut rows = [[false; 21]; 21];

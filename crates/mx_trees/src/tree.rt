@@ -2,7 +2,7 @@
 
 ghost use Rattle.std.specs.Prelude.{ℕ, ◌≡◌, ◌≢◌, ◌<◌, ◌≤◌, ◌↔◌, true, IsOk, IfOk, IfErr, IsErrOf};
 ghost use Rattle.mx_trees.specs.Edges.{IsTree, IsTreeOf, IsFirstFault};
-ghost use Rattle.mx_trees.specs.Tree.{toward_of, are_neighbours, IsToward, IsRooted};
+ghost use Rattle.mx_trees.specs.Tree.{toward_of, are_neighbours, IsToward, IsRooted, Rooted};
 
 use crate::edges::{bad_edge, neighbours, unjoined};
 use crate::fault::TreeFault;
@@ -65,6 +65,8 @@ impl Tree {
     pub fn of(nodes: u8, edges: &[(u8, u8)], holder: u8) -> Result<Tree, TreeFault>
         ensures ok { IsOk result ↔ (IsTree nodes edges.now × (holder < nodes)) }
         ensures value { IfOk result (λ t. IsTreeOf nodes edges.now holder t) }
+        // what is valid and is of these edges is this tree
+        ensures only { IfOk result (λ t. (u : Rooted) → IsRooted u → IsTreeOf nodes edges.now holder u → u ≡ t) }
         // the first fault in their order, with its least witness; there is at most one
         ensures fault { (fault : TreeFault) →
             IsErrOf result fault ↔ IsFirstFault nodes edges.now holder fault }

@@ -1,0 +1,195 @@
+-- What a command leaves, from what its parts leave.
+use Rattle.std.proofs.Common.{◌≡◌, ◌∙◌, ◌⊎◌, ℕ, Bool, true, false, List, [], Option, Some, None, Result, Ok, Err, ap, subst, sym, refl, inl, inr, IsSome}
+use Rattle.std.specs.Prelude.{◌&&◌, IfSome, IsTrue}
+use Rattle.std.specs.Io.KnownBytes.{Appends, Keeps}
+use Rattle.std.specs.List.{concat}
+use Rattle.clap.specs.Words.{kind_of}
+use Rattle.clap.specs.Faults.{fault_of}
+use Rattle.clap.specs.Kinds.{HasKind}
+use Rattle.clap.specs.declared.error.Error.{Error}
+use Rattle.clap.specs.declared.error.kind.ErrorKind.TheVariants.{OutOfMemory}
+use Rattle.mx_words.specs.Words.{Task, mx_app, task_asked, AskHelp, AreWrong, IsShown}
+use Rattle.mx_words.proofs.WordLemmas.{no_task_among}
+use Rattle.mx_plan.specs.Text.{Text}
+use Rattle.mx_commands.specs.declared.faults.Fault.{Fault}
+use Rattle.mx_commands.specs.declared.faults.Stop.{Stop}
+use Rattle.mx_commands.specs.declared.faults.Stop.TheVariants as stop
+use Rattle.mx_commands.specs.declared.output.PutFault.{PutFault}
+use Rattle.mx_commands.specs.declared.output.PutFault.TheVariants as put_fault
+use Rattle.mx_commands.specs.FaultLines.{fault_line}
+use Rattle.mx_commands.specs.Told.{Telling}
+use Rattle.mx_commands.specs.Outputs.{Held, AppendsSome, IsPassedOn, refused_after, stop_of}
+use Rattle.mx_commands.specs.Runs.{Report}
+use Rattle.mx_commands.specs.Jobs.{HoldsOfReport, Job, job_of, names_in}
+use Rattle.mx_commands.specs.Ran.{EndsEarly, FailsAtOnce, Helps, IsRunStatus, MayTell, Prints, Ran, RanOf, Runs, Scolds, Seen, TellsFault, end_text, status_of}
+use Rattle.mx_commands.proofs.JobLemmas.{of_jobs}
+use Rattle.mx_commands.proofs.RunLemmas.{Appends-keeps, Appends-nil, Keeps-refl, all_some, some_keeps, is_false, refused_not_memory}
+
+-- ---- the flush
+
+ran_keeps : (t : Bool) (a b c : Held) (r : Report) (res : Result ℕ Stop) → Ran t a b r res → Keeps b c → Ran t a c r res
+ran_keeps t a b c r (Ok v) h same = (h.0, Appends-keeps a b c (concat r.texts) h.1 same)
+ran_keeps t a b c r (Err (stop.Fault f)) h same = (h.0, Appends-keeps a b c (concat r.texts) h.1 same)
+ran_keeps t a b c r (Err stop.Writer) h same = (h.0, some_keeps a b c r.texts h.1 same)
+ran_keeps t a b c r (Err stop.Memory) h same = some_keeps a b c r.texts h same
+
+keeps_on : (a b c : Held) → Keeps a b → Keeps b c → Keeps a c
+keeps_on None b c p q = tt
+keeps_on (Some x) None c p q = absurd p
+keeps_on (Some x) (Some y) None p q = absurd q
+keeps_on (Some x) (Some y) (Some z) p q = q ∙ p
+
+ran_some : (t : Bool) (a b : Held) (r : Report) (res : Result ℕ Stop) → Ran t a b r res → AppendsSome a b r.texts
+ran_some t a b r (Ok v) h = all_some a b r.texts h.1
+ran_some t a b r (Err (stop.Fault f)) h = all_some a b r.texts h.1
+ran_some t a b r (Err stop.Writer) h = h.1
+ran_some t a b r (Err stop.Memory) h = h
+
+module _ (t : Bool) (a b c : Held) (told : Text → Option Telling) (task : Task) (res : Result ℕ Stop) (ran : RanOf t a b told task res) (same : Keeps b c) where
+  -- nothing was kept back, or what was kept back was passed on
+  pub flushed : RanOf t a c told task res
+  flushed =
+      of_jobs (job_of told task) (EndsEarly t res × Keeps a b) (EndsEarly t res × Keeps a c) (λ r. Ran t a b r res) (λ r. Ran t a c r res)
+      (λ x. (x.0, keeps_on a b c x.1 same)) (λ r h. ran_keeps t a b c r res h same) ran
+
+  unflushed_early : (u : Bool) (f : PutFault) → u ≡ t → (u ≡ true → f ≡ put_fault.Memory) → EndsEarly t (Err (stop_of f))
+  unflushed_early u put_fault.Refused is takes = sym is ∙ is_false u (λ e. refused_not_memory (takes e))
+  unflushed_early u put_fault.Memory is takes = tt
+
+  unflushed_ran : (u : Bool) (r : Report) (f : PutFault) → u ≡ t → (u ≡ true → f ≡ put_fault.Memory) → Ran t a b r res → Ran t a c r (Err (stop_of f))
+  unflushed_ran u r put_fault.Refused is takes h = (sym is ∙ is_false u (λ e. refused_not_memory (takes e)), some_keeps a b c r.texts (ran_some t a b r res h) same)
+  unflushed_ran u r put_fault.Memory is takes h = some_keeps a b c r.texts (ran_some t a b r res h) same
+
+  -- what was kept back was refused
+  pub unflushed : (u : Bool) (f : PutFault) → u ≡ t → (u ≡ true → f ≡ put_fault.Memory) → RanOf t a c told task (Err (stop_of f))
+  unflushed u f is takes =
+      of_jobs (job_of told task) (EndsEarly t res × Keeps a b) (EndsEarly t (Err (stop_of f)) × Keeps a c) (λ r. Ran t a b r res) (λ r. Ran t a c r (Err (stop_of f)))
+      (λ x. (unflushed_early u f is takes, keeps_on a b c x.1 same)) (λ r h. unflushed_ran u r f is takes h) ran
+
+-- a run that is not refused has refused nothing new
+pub not_refused : (res : Result ℕ Stop) (b : Bool) → (res ≡ Err stop.Writer → ⊥) → refused_after res b ≡ b
+not_refused (Ok v) b h = refl
+not_refused (Err (stop.Fault f)) b h = refl
+not_refused (Err stop.Writer) b h = absurd (h refl)
+not_refused (Err stop.Memory) b h = refl
+
+pub passed_on : (res : Result ℕ Stop) (kept : Bool) → kept ≡ false → IsPassedOn res kept
+passed_on (Ok v) kept h = h
+passed_on (Err (stop.Fault f)) kept h = h
+passed_on (Err stop.Writer) kept h = tt
+passed_on (Err stop.Memory) kept h = tt
+
+pub true_not_false : (b : Bool) → IsTrue b → b ≡ false → ⊥
+true_not_false b is other = let h : b ≡ true = is in cc
+
+-- ---- the status and the texts
+
+and_left : (t u : Bool) → t ≡ false → (t && u) ≡ false
+and_left t u e = ap (λ x. x && u) e
+
+and_right : (t u : Bool) → u ≡ false → (t && u) ≡ false
+and_right true u e = e
+and_right false u e = refl
+
+module _ (t u : Bool) (told : Text → Option Telling) (task : Task) (old new : Seen) where
+  -- a command from a run
+  runs_from : (res : Result ℕ Stop) (status : ℕ) → (EndsEarly t res × Keeps old.out new.out → FailsAtOnce (t && u) old new status)
+      → ((r : Report) → Ran t old.out new.out r res → Prints (t && u) (names_in task) r old new status) → RanOf t old.out new.out told task res → Runs (t && u) told task old new status
+  runs_from res status early late h =
+      of_jobs (job_of told task) (EndsEarly t res × Keeps old.out new.out) (FailsAtOnce (t && u) old new status) (λ r. Ran t old.out new.out r res)
+      (λ r. Prints (t && u) (names_in task) r old new status) early late h
+
+  -- nothing was left to tell
+  pub runs_whole : (v : ℕ) → v ≡ 0 → new.err ≡ old.err → new.kept_back ≡ false → RanOf t old.out new.out told task (Ok v) → Runs (t && u) told task old new v
+  runs_whole v zero same passed h = runs_from (Ok v) v (λ x. absurd x.0) (λ r ran. inl (record {
+    status_is = zero ∙ ap status_of (sym ran.0);
+    lines = ran.1;
+    fault = subst (λ (e : Option Fault). Appends old.err new.err (end_text (names_in task) e)) (sym ran.0) (subst (λ (x : Held). Appends old.err x []) (sym same) (Appends-nil old.err));
+    passed = passed;
+  })) h
+
+  told_fault : (f : Fault) (status : ℕ) (r : Report) → TellsFault u (fault_line (names_in task) f) old.err new.err status → new.kept_back ≡ false → new.refused ≡ old.refused
+      → Ran t old.out new.out r (Err (stop.Fault f)) → Prints (t && u) (names_in task) r old new status
+  told_fault f status r (inl line) passed taken h = inl (record {
+    status_is = line.0 ∙ ap status_of (sym h.0);
+    lines = h.1;
+    fault = subst (λ (e : Option Fault). Appends old.err new.err (end_text (names_in task) e)) (sym h.0) line.1;
+    passed = passed;
+  })
+  told_fault f status r (inr (inl memory)) passed taken h = inr (inl (record {
+    status_is = memory.0;
+    lines = all_some old.out new.out r.texts h.1;
+    told = memory.1;
+    taken = taken;
+  }))
+  told_fault f status r (inr (inr refused)) passed taken h = inr (inr (record {
+    status_is = refused.0;
+    refused = and_right t u refused.1;
+    lines = all_some old.out new.out r.texts h.1;
+    silent = refused.2;
+  }))
+
+  -- a fault was told, or was to be told
+  pub runs_fault : (f : Fault) (status : ℕ) → TellsFault u (fault_line (names_in task) f) old.err new.err status → new.kept_back ≡ false → new.refused ≡ old.refused
+      → RanOf t old.out new.out told task (Err (stop.Fault f)) → Runs (t && u) told task old new status
+  runs_fault f status line passed taken h = runs_from (Err (stop.Fault f)) status (λ x. absurd x.0) (λ r ran. told_fault f status r line passed taken ran) h
+
+  silent : new.err ≡ old.err → Keeps old.err new.err
+  silent same = subst (λ (x : Held). Keeps old.err x) (sym same) (Keeps-refl old.err)
+
+  pub runs_refused : new.err ≡ old.err → RanOf t old.out new.out told task (Err stop.Writer) → Runs (t && u) told task old new 1
+  runs_refused same h = runs_from (Err stop.Writer) 1 (λ x. (x.1, inr (refl, and_left t u x.0, silent same))) (λ r ran. inr (inr (record {
+    status_is = refl;
+    refused = and_left t u ran.0;
+    lines = ran.1;
+    silent = silent same;
+  }))) h
+
+  pub runs_short : (status : ℕ) → status ≡ 5 → MayTell old.err new.err → new.refused ≡ old.refused → RanOf t old.out new.out told task (Err stop.Memory)
+      → Runs (t && u) told task old new status
+  runs_short status is line taken h = runs_from (Err stop.Memory) status (λ x. (x.1, inl (is, line, taken)))
+      (λ r ran. inr (inl (record { status_is = is; lines = ran; told = line; taken = taken }))) h
+
+pub told_status : (u : Bool) (line : Text) (c d : Held) (status : ℕ) → TellsFault u line c d status → IsRunStatus status
+told_status u line c d status (inl h) = inr (inl h.0)
+told_status u line c d status (inr (inl h)) = inr (inr h.0)
+told_status u line c d status (inr (inr h)) = inr (inl h.0)
+
+-- ---- words that were refused
+
+short_at_once : (takes : Bool) (told : Text → Option Telling) (task : Task) (old new : Seen) (status : ℕ) (o : Option Job) → FailsAtOnce takes old new status
+    → IfSome o (λ job. FailsAtOnce takes old new status ⊎ HoldsOfReport job (λ r. Prints takes (names_in task) r old new status))
+short_at_once takes told task old new status None h = tt
+short_at_once takes told task old new status (Some job) h = inl h
+
+module _ (t u : Bool) (old new : Seen) (status : ℕ) (e : Error) (words : List Text) (kinds : HasKind (fault_of mx_app words) e)
+    (memory : kind_of e ≡ OutOfMemory → (status ≡ 5) × Keeps old.out new.out × MayTell old.err new.err × (new.refused ≡ old.refused)) where
+  short : kind_of e ≡ OutOfMemory → FailsAtOnce (t && u) old new status
+  short out = let m = memory out in (m.1, inl (m.0, m.2, m.3))
+
+  refused_task : (h : (kind_of e ≡ OutOfMemory) ⊎ (IsSome (task_asked words) → ⊥)) (told : Text → Option Telling) (w : Option Task) → w ≡ task_asked words
+      → IfSome w (λ task. Runs (t && u) told task old new status)
+  refused_task h told None is = tt
+  refused_task (inl out) told (Some task) is = short_at_once (t && u) told task old new status (job_of told task) (short out)
+  refused_task (inr none) told (Some task) is = absurd (none (subst IsSome is refl))
+
+  asks_nothing : (kind_of e ≡ OutOfMemory) ⊎ (IsSome (task_asked words) → ⊥)
+  asks_nothing = elim kinds [ inl out ↦ inl out | inr among ↦ inr (no_task_among words (kind_of e) among) ]
+
+  pub task_refused : (told : Text → Option Telling) → IfSome (task_asked words) (λ task. Runs (t && u) told task old new status)
+  task_refused told = refused_task asks_nothing told (task_asked words) refl
+
+  pub status_refused : IsSome (task_asked words) → IsRunStatus status
+  status_refused asks = elim asks_nothing [ inl out ↦ inr (inr (memory out).0) | inr none ↦ absurd (none asks) ]
+
+  pub helps : (IsShown (kind_of e) → Helps t old new status) → AskHelp words → Helps t old new status
+  helps help asks = elim kinds [
+    | inl out ↦ let m = memory out in inr (inr (m.0, m.2, m.3))
+    | inr among ↦ help (asks.each (kind_of e) among)
+  ]
+
+  pub scolds : (¬ (IsShown (kind_of e)) → Scolds old new status) → AreWrong words → Scolds old new status
+  scolds wrong asks = elim kinds [
+    | inl out ↦ let m = memory out in (m.1, inr (m.0, m.2))
+    | inr among ↦ wrong (asks.each (kind_of e) among)
+  ]

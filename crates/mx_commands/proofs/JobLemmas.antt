@@ -1,0 +1,156 @@
+-- Runs of jobs: of what a source tells.
+use Rattle.std.proofs.Common.{◌≡◌, ◌⊎◌, ℕ, Bool, true, false, List, Option, Some, None, Result, Ok, Err, Vec, ap, subst, sym, refl, inl, inr}
+use Rattle.std.specs.Prelude.{◌==◌, ◌&&◌, IfSome, option_map}
+use Rattle.std.specs.List.{after_first, before_first}
+use Rattle.std.specs.Option.{option_map_or}
+use Rattle.std.specs.Io.KnownBytes.{Keeps}
+use Rattle.std.specs.declared.alloc.Global.{Global}
+use Rattle.mx_words.specs.Words as task
+use Rattle.mx_plan.specs.Text.{Text}
+use Rattle.mx_plan.specs.Fields.{Fields}
+use Rattle.mx_plan.specs.declared.faults.PlanFault.{PlanFault}
+use Rattle.mx_plan.specs.declared.faults.PlanFault.TheVariants as plan_fault
+use Rattle.mx_commands.specs.declared.faults.Fault.{Fault}
+use Rattle.mx_commands.specs.declared.faults.Fault.TheVariants.{CannotRead}
+use Rattle.mx_commands.specs.declared.faults.Named.TheVariants as named
+use Rattle.mx_commands.specs.declared.faults.Stop.{Stop}
+use Rattle.mx_commands.specs.declared.faults.Stop.TheVariants as stop
+use Rattle.mx_commands.specs.Told.{Telling}
+use Rattle.mx_commands.specs.Runs.{Report, ends_with, whole}
+use Rattle.mx_commands.specs.Jobs.{HoldsOfPlan, HoldsOfReport, Job, Reads, fault_of, is_dash, on_events, on_plan, refusal_of, replay_one, replay_two, report_of, report_of_events, where_read}
+use Rattle.mx_commands.specs.Outputs.{Held}
+use Rattle.mx_commands.specs.Ran.{EndsEarly, Fetches, Ran, RanOn, RanOf}
+use Rattle.mx_commands.proofs.RunLemmas.{Appends-nil, none_some, Keeps-refl}
+
+-- a run that ends before any event
+pub ran_at_once : (t : Bool) (a : Held) (f : Fault) → Ran t a a (ends_with (Some f)) (Err (stop.Fault f))
+ran_at_once t a f = (refl, Appends-nil a)
+
+pub ran_out : (t : Bool) (a : Held) (r : Report) → Ran t a a r (Err stop.Memory)
+ran_out t a r = none_some a a r.texts (Keeps-refl a)
+
+-- a text was refused
+ended_ran : (t : Bool) (a : Held) (o : Option Fault) → Ran t a a (ends_with o) (Err (option_map_or stop.Fault o stop.Memory))
+ended_ran t a None = ran_out t a (ends_with None)
+ended_ran t a (Some f) = ran_at_once t a f
+
+pub refused_ran : (t : Bool) (a : Held) (f : PlanFault) → Ran t a a (ends_with (fault_of f)) (Err (refusal_of f))
+refused_ran t a f = ended_ran t a (fault_of f)
+
+-- the events were refused, or memory ran out at them
+pub events_refused : {T : Type 0} (t : Bool) (a : Held) (wanted : Result T PlanFault) (go_on : T → Report) (f : PlanFault)
+    → (wanted ≡ Err f) ⊎ (f ≡ plan_fault.Memory) → Ran t a a (where_read wanted go_on) (Err (refusal_of f))
+events_refused t a wanted go_on f (inl is) =
+    subst (λ (r : Report). Ran t a a r (Err (refusal_of f))) (sym (ap (λ w. where_read w go_on) is)) (refused_ran t a f)
+events_refused t a wanted go_on f (inr memory) =
+    subst (λ (x : PlanFault). Ran t a a (where_read wanted go_on) (Err (refusal_of x))) (sym memory) (ran_out t a (where_read wanted go_on))
+
+-- the events were not fetched
+pub events_unfetched : (t : Bool) (a : Held) (p : Fields) (s : Stop) (o : Option Telling)
+    → IfSome o (λ x. Fetches named.Events x (Err s)) → IfSome o (λ x. Ran t a a (on_events p x) (Err s))
+events_unfetched t a p s None h = tt
+events_unfetched t a p s (Some None) (inl other) =
+    subst (λ (x : Stop). Ran t a a (ends_with (Some (CannotRead named.Events))) (Err x)) (sym other) (ran_at_once t a (CannotRead named.Events))
+events_unfetched t a p s (Some None) (inr memory) =
+    subst (λ (x : Stop). Ran t a a (ends_with (Some (CannotRead named.Events))) (Err x)) (sym memory) (ran_out t a (ends_with (Some (CannotRead named.Events))))
+events_unfetched t a p s (Some (Some bs)) h = subst (λ (x : Stop). Ran t a a (report_of_events bs p) (Err x)) (sym h) (ran_out t a (report_of_events bs p))
+
+-- the events were fetched
+pub events_fetched : (t : Bool) (a b : Held) (p : Fields) (v : Vec ℕ Global) (res : Result ℕ Stop) (o : Option Telling)
+    → IfSome o (λ x. Fetches named.Events x (Ok v)) → Ran t a b (report_of_events v.items p) res
+    → IfSome o (λ x. Ran t a b (on_events p x) res)
+events_fetched t a b p v res None h ran = tt
+events_fetched t a b p v res (Some None) h ran = absurd h
+events_fetched t a b p v res (Some (Some bs)) h ran = subst (λ (l : List ℕ). Ran t a b (report_of_events l p) res) h ran
+
+-- ---- a plan
+
+-- a plan that was not read ends the run
+plan_unread : (t : Bool) (a : Held) (plan : Telling) (report : Fields → Option Report) (s : Stop) → Reads plan (Err s)
+    → (EndsEarly t (Err s) × Keeps a a) ⊎ HoldsOfPlan report plan (λ r. Ran t a a r (Err s))
+plan_unread t a None report s (inl none) =
+    inr (subst (λ (x : Stop). Ran t a a (ends_with (Some (CannotRead named.Plan))) (Err x)) (sym none) (ran_at_once t a (CannotRead named.Plan)))
+plan_unread t a None report s (inr memory) = inl (subst (λ (x : Stop). EndsEarly t (Err x)) (sym memory) tt, Keeps-refl a)
+plan_unread t a (Some bytes) report s (inl memory) = inl (subst (λ (x : Stop). EndsEarly t (Err x)) (sym memory) tt, Keeps-refl a)
+plan_unread t a (Some bytes) report s (inr refused) =
+    inr (Err refused.0, refused.1, subst (λ (x : Stop). Ran t a a (ends_with (fault_of refused.0)) (Err x)) (sym refused.2) (refused_ran t a refused.0))
+
+-- and one that was read goes on to its report
+plan_read : (t : Bool) (a b : Held) (plan : Telling) (report : Fields → Option Report) (p : Fields) (res : Result ℕ Stop) → Reads plan (Ok p)
+    → IfSome (report p) (λ r. Ran t a b r res)
+    → (EndsEarly t res × Keeps a b) ⊎ HoldsOfPlan report plan (λ r. Ran t a b r res)
+plan_read t a b None report p res read ran = absurd read
+plan_read t a b (Some bytes) report p res read ran = inr (Ok p, read, ran)
+
+if_some : {X : Type 0} (o : Option X) (P Q : X → Type 0) → ((x : X) → P x → Q x) → IfSome o P → IfSome o Q
+if_some None P Q f h = tt
+if_some (Some x) P Q f h = f x h
+
+if_mapped : {X Y : Type 0} (o : Option X) (g : X → Y) (P : Y → Type 0) → IfSome o (λ x. P (g x)) → IfSome (option_map g o) P
+if_mapped None g P h = tt
+if_mapped (Some x) g P h = h
+
+-- ---- the plan alone
+
+module _ (t : Bool) (a : Held) (o : Option Telling) (text : Fields → Text) where
+  pub alone_unread : (s : Stop) → IfSome o (λ x. Reads x (Err s)) → IfSome (option_map (on_plan text) o) (λ job. RanOn t a a job (Err s))
+  alone_unread s h = if_mapped o (on_plan text) _ (if_some o _ _ (λ x read. plan_unread t a x (on_plan text x).report s read) h)
+
+  pub alone_read : (b : Held) (p : Fields) (res : Result ℕ Stop) → IfSome o (λ x. Reads x (Ok p)) → Ran t a b (whole (text p)) res
+      → IfSome (option_map (on_plan text) o) (λ job. RanOn t a b job res)
+  alone_read b p res h ran = if_mapped o (on_plan text) _ (if_some o _ _ (λ x read. plan_read t a b x (on_plan text x).report p res read ran) h)
+
+-- ---- a replay
+
+module _ (told : Text → Option Telling) (names : Text × Text) (t : Bool) (a b : Held) (res : Result ℕ Stop) where
+  -- one source
+  pub by_one : (is_dash names.0 && is_dash names.1) ≡ true → IfSome (told names.0) (λ x. RanOn t a b (replay_one x) res) → RanOf t a b told (task.replay names) res
+  by_one both h = rw both (if_mapped (told names.0) replay_one _ h)
+
+  -- two sources
+  pub by_two : (is_dash names.0 && is_dash names.1) ≡ false → IfSome (told names.0) (λ x. RanOn t a b (replay_two (told names.1) x) res) → RanOf t a b told (task.replay names) res
+  by_two other h = rw other (if_mapped (told names.0) (replay_two (told names.1)) _ h)
+
+-- one source was not fetched
+pub one_unfetched : (t : Bool) (a : Held) (s : Stop) (x : Telling) → Fetches named.Plan x (Err s) → RanOn t a a (replay_one x) (Err s)
+one_unfetched t a s None h = plan_unread t a None (replay_one None).report s h
+one_unfetched t a s (Some bytes) h = inl (subst (λ (x : Stop). EndsEarly t (Err x)) (sym h) tt, Keeps-refl a)
+
+pub one_fetched : (t : Bool) (a b : Held) (v : Vec ℕ Global) (res : Result ℕ Stop) (x : Telling) → Fetches named.Plan x (Ok v) → RanOn t a b (replay_one (Some v.items)) res
+    → RanOn t a b (replay_one x) res
+one_fetched t a b v res None h ran = absurd h
+one_fetched t a b v res (Some bytes) h ran = subst (λ (l : List ℕ). RanOn t a b (replay_one (Some l)) res) h ran
+
+-- its plan was not read, or was
+pub line_unread : (t : Bool) (a : Held) (bytes : List ℕ) (s : Stop) → Reads (Some (before_first (λ b. b == 10) bytes)) (Err s) → RanOn t a a (replay_one (Some bytes)) (Err s)
+line_unread t a bytes s h = plan_unread t a (replay_one (Some bytes)).plan (replay_one (Some bytes)).report s h
+
+pub line_read : (t : Bool) (a b : Held) (bytes : List ℕ) (p : Fields) (res : Result ℕ Stop) → Reads (Some (before_first (λ b. b == 10) bytes)) (Ok p)
+    → Ran t a b (report_of_events (after_first (λ b. b == 10) bytes) p) res → RanOn t a b (replay_one (Some bytes)) res
+line_read t a b bytes p res read ran = plan_read t a b (replay_one (Some bytes)).plan (replay_one (Some bytes)).report p res read ran
+
+-- of two sources the plan was not read, or was
+pub two_unread : (t : Bool) (a : Held) (events : Option Telling) (s : Stop) (x : Telling) → Reads x (Err s) → RanOn t a a (replay_two events x) (Err s)
+two_unread t a events s x read = plan_unread t a x (replay_two events x).report s read
+
+pub two_read : (t : Bool) (a b : Held) (events : Option Telling) (p : Fields) (res : Result ℕ Stop) (x : Telling) → Reads x (Ok p)
+    → IfSome events (λ y. Ran t a b (on_events p y) res) → RanOn t a b (replay_two events x) res
+two_read t a b events p res x read ran = plan_read t a b x (replay_two events x).report p res read (if_mapped events (on_events p) _ ran)
+
+-- ---- what holds of a report
+
+pub in_some : {X : Type 0} (o : Option X) (P Q : X → Type 0) → ((x : X) → P x → Q x) → IfSome o P → IfSome o Q
+in_some = if_some
+
+holds : (report : Fields → Option Report) (plan : Telling) (P Q : Report → Type 0) → ((r : Report) → P r → Q r) → HoldsOfPlan report plan P → HoldsOfPlan report plan Q
+holds report None P Q f h = f _ h
+holds report (Some bytes) P Q f h = (h.0, h.1, if_some (report_of report h.0) P Q f h.2)
+
+early_or : (job : Job) (X Y : Type 0) (P Q : Report → Type 0) → (X → Y) → ((r : Report) → P r → Q r) → X ⊎ HoldsOfReport job P → Y ⊎ HoldsOfReport job Q
+early_or job X Y P Q early late (inl x) = inl (early x)
+early_or job X Y P Q early late (inr h) = inr (holds job.report job.plan P Q late h)
+
+-- what holds where a run ended before there was a report, and else of each report, goes over
+pub of_jobs : (o : Option Job) (X Y : Type 0) (P Q : Report → Type 0) → (X → Y) → ((r : Report) → P r → Q r)
+    → IfSome o (λ job. X ⊎ HoldsOfReport job P) → IfSome o (λ job. Y ⊎ HoldsOfReport job Q)
+of_jobs o X Y P Q early late h = if_some o _ _ (λ job x. early_or job X Y P Q early late x) h

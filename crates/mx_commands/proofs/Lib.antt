@@ -1,0 +1,5 @@
+pub mod RunLemmas
+pub mod EventLemmas
+pub mod ExploreLemmas
+pub mod JobLemmas
+pub mod CommandLemmas

@@ -1,0 +1,209 @@
+-- The texts of events, one after another.
+use Rattle.std.proofs.Common.{◌≡◌, ◌∙◌, ℕ, zero, suc, ◌+◌, ◌<◌, ◌≤◌, Bool, true, false, List, [], ◌∷◌, ◌++◌, length, take, drop, get_or, slice_get, ap, ap₂, sym, refl, append_assoc, append-nil, Result, Ok, Err, Option, Some, None, subst, inl, inr, arith}
+use Rattle.std.specs.Prelude.{IsErrAnd}
+use Rattle.std.specs.Bool.{⊤}
+use Rattle.std.specs.Io.KnownBytes.{Appends, Keeps}
+use Rattle.std.specs.List.{concat}
+use Rattle.std.proofs.lemmas.List.{at_drop_all, at_drop_more, drop_at, take_at, take_all, length-append}
+use Rattle.std.proofs.lemmas.List.Folds.{concat-append}
+use Rattle.mx_stamps.proofs.Lists.{append_nil, length_set, length_each_below}
+use Rattle.mx_nodelaws.specs.World.{sent_by}
+use Rattle.mx_nodelaws.specs.Core.{Core}
+use Rattle.mx_member.specs.declared.acts.Act.{Act}
+use Rattle.mx_member.specs.Member.{MemberState}
+use Rattle.mx_member.specs.Steps.{start_of}
+use Rattle.mx_network.specs.Step.{Group, step_of, at_part, at_member, part_of, grown, answer_of, NamesNoNode}
+use Rattle.mx_network.specs.declared.event.Event.{Event}
+use Rattle.mx_network.specs.declared.event.Event.TheVariants as event
+use Rattle.mx_network.specs.declared.outcome.Outcome.{Outcome}
+use Rattle.mx_network.specs.declared.faults.StepFault.{StepFault}
+use Rattle.mx_network.specs.declared.faults.StepFault.TheVariants as step_fault
+use Rattle.mx_plan.specs.Text.{Text}
+use Rattle.mx_plan.specs.Fields.{Fields}
+use Rattle.mx_commands.specs.declared.faults.Stop.{Stop}
+use Rattle.mx_commands.specs.declared.faults.Fault.{Fault}
+use Rattle.mx_commands.specs.declared.faults.Fault.TheVariants.{NoParcel}
+use Rattle.mx_commands.specs.declared.output.PutFault.{PutFault}
+use Rattle.mx_commands.specs.declared.output.PutFault.TheVariants as put_fault
+use Rattle.mx_texts.specs.EventTexts.{event_line}
+use Rattle.mx_texts.specs.ParcelTexts.{parcel_lines}
+use Rattle.mx_commands.specs.Runs.{Report, at_rest, after_texts, closing_text, whole, ends_with, event_lines, text_of, stepped, run_from, NamesNodes, AllNameNodes}
+use Rattle.mx_commands.specs.Outputs.{Held, AppendsSome, refused_after, refused_by, stop_of}
+use Rattle.mx_commands.specs.Ran.{Ran, StopsAt}
+
+-- ---- bytes that are appended in turn
+
+pub Appends-nil : (a : Held) → Appends a a []
+Appends-nil None = tt
+Appends-nil (Some x) = sym (append-nil x)
+
+pub Appends-trans : (a b c : Held) (bs cs : List ℕ) → Appends a b bs → Appends b c cs → Appends a c (bs ++ cs)
+Appends-trans None b c bs cs p q = tt
+Appends-trans (Some x) None c bs cs p q = absurd p
+Appends-trans (Some x) (Some y) None bs cs p q = absurd q
+Appends-trans (Some x) (Some y) (Some z) bs cs p q = q ∙ ap (λ l. l ++ cs) p ∙ append_assoc x bs cs
+
+pub Appends-keeps : (a b c : Held) (bs : List ℕ) → Appends a b bs → Keeps b c → Appends a c bs
+Appends-keeps None b c bs p q = tt
+Appends-keeps (Some x) None c bs p q = absurd p
+Appends-keeps (Some x) (Some y) None bs p q = absurd q
+Appends-keeps (Some x) (Some y) (Some z) bs p q = q ∙ p
+
+pub Keeps-refl : (a : Held) → Keeps a a
+Keeps-refl None = tt
+Keeps-refl (Some x) = refl
+
+-- one more text
+pub appends_more : (a b c : Held) (done : List Text) (t : Text) → Appends a b (concat done) → Appends b c t → Appends a c (concat (done ++ t ∷ []))
+appends_more a b c done t p q =
+    subst (λ (l : List ℕ). Appends a c l) (ap (λ l. concat done ++ l) (sym (append_nil t)) ∙ sym (concat-append done (t ∷ []))) (Appends-trans a b c (concat done) t p q)
+
+pub some_keeps : (a b c : Held) (texts : List Text) → AppendsSome a b texts → Keeps b c → AppendsSome a c texts
+some_keeps a b c texts p q = (p.0, Appends-keeps a b c (concat (take p.0 texts)) p.1 q)
+
+-- all of them are some of them
+pub all_some : (a b : Held) (texts : List Text) → Appends a b (concat texts) → AppendsSome a b texts
+all_some a b texts p = (length texts, subst (λ (l : List Text). Appends a b (concat l)) (sym (take_all (length texts) texts (omega arith))) p)
+
+pub none_some : (a b : Held) (texts : List Text) → Keeps a b → AppendsSome a b texts
+none_some a b texts p = (0, Appends-keeps a a b [] (Appends-nil a) p)
+
+-- ---- one event
+
+pub err_is : {T E : Type 0} (r : Result T E) (s : E) → IsErrAnd r (λ e. e ≡ s) → r ≡ Err s
+err_is (Ok t) s h = absurd h
+err_is (Err e) s h = ap Err h
+
+same_Ok : {A E : Type 0} (x y : A) → ◌≡◌ {A = Result A E} (Ok x) (Ok y) → x ≡ y
+same_Ok x y e = cc
+
+not_Ok : {A : Type 0} (f : StepFault) (x : A) → ◌≡◌ {A = Result A StepFault} (Err f) (Ok x) → ⊥
+not_Ok f x e = cc
+
+module _ {H S M : Type 0} (core : Core H S M) (g new : Group S M) (e : Event) where
+  at_member_Ok : (i : ℕ) (a : Act M) (o : Option (MemberState S)) → at_member core g e i a o ≡ Ok new
+      → (length new.members ≡ length g.members) × (length g.sent ≤ length new.sent)
+  at_member_Ok i a None h = absurd (not_Ok _ _ h)
+  at_member_Ok i a (Some m) h =
+      let is : grown g e i (answer_of core a m) ≡ new = same_Ok _ _ h in
+      let longer : length (grown g e i (answer_of core a m)).sent ≡ length new.sent = ap (λ (q : Group S M). length q.sent) is in
+      let more = sent_by i (answer_of core a m).letters in (
+        ap (λ (q : Group S M). length q.members) (sym is) ∙ length_set g.members i (answer_of core a m).state,
+        omega (arith, longer, length-append g.sent more),
+      )
+
+  at_part_Ok : (o : Result (ℕ × Act M) StepFault) → at_part core g e o ≡ Ok new
+      → (length new.members ≡ length g.members) × (length g.sent ≤ length new.sent)
+  at_part_Ok (Err f) h = absurd (not_Ok _ _ h)
+  at_part_Ok (Ok p) h = at_member_Ok p.0 p.1 (slice_get g.members p.0) h
+
+  -- an event leaves as many members, and no fewer parcels
+  pub grows : step_of core g e ≡ Ok new → (length new.members ≡ length g.members) × (length g.sent ≤ length new.sent)
+  grows h = at_part_Ok (part_of (length g.members) g.sent e) h
+
+-- an event of nodes of the plan
+pub has_nodes : {S M : Type 0} (g : Group S M) (e : Event) → NamesNodes (length g.members) e → NamesNoNode g e → ⊥
+has_nodes g (event.Ask i) lt le = absurd (omega (arith, lt, le))
+has_nodes g (event.Enter i) lt le = absurd (omega (arith, lt, le))
+has_nodes g (event.Read i register) lt le = absurd (omega (arith, lt, le))
+has_nodes g (event.Write i register value) lt le = absurd (omega (arith, lt, le))
+has_nodes g (event.Leave i) lt le = absurd (omega (arith, lt, le))
+has_nodes g (event.Tick i) lt le = absurd (omega (arith, lt, le))
+has_nodes g (event.Want i j) lt (inl le) = let h = lt.0 in absurd (omega (arith, h, le))
+has_nodes g (event.Want i j) lt (inr le) = let h = lt.1 in absurd (omega (arith, h, le))
+has_nodes g (event.Restart i) lt le = absurd (omega (arith, lt, le))
+has_nodes g (event.Deliver k) lt le = le
+
+pub named_at : (n : ℕ) (es : List Event) (k : ℕ) (d : Event) → AllNameNodes n es → k < length es → NamesNodes n (get_or es k d)
+named_at n [] k d all lt = absurd (omega (arith, lt))
+named_at n (e ∷ es) zero d all lt = all.0
+named_at n (e ∷ es) (suc k) d all lt = named_at n es k d all.1 (omega (arith, lt))
+
+-- the text of one event, from what was appended to an empty one
+pub text_is : {H S M : Type 0} (core : Core H S M) (letter : Fields → M → Text) (p : Fields) (k n : ℕ) (old new : Group S M) (e : Event) (o : Outcome) (t0 t1 t2 : Text)
+    → new.trace ≡ old.trace ++ (record { event = e; outcome = o }) ∷ [] → n ≡ length old.sent → t0 ≡ []
+    → t1 ≡ t0 ++ event_line p k e o → t2 ≡ t1 ++ parcel_lines letter p n (drop n new.sent) → t2 ≡ text_of core letter p k old new
+text_is core letter p k n old new e o t0 t1 t2 trace count empty line parcels =
+    let lines : event_lines p k (drop (length old.trace) new.trace) ≡ event_line p k e o =
+    ap (event_lines p k) (ap (drop (length old.trace)) trace ∙ drop_at old.trace _ (length old.trace) refl) ∙ append_nil (event_line p k e o) in
+    parcels ∙ ap₂ (λ (l : Text) (m : ℕ). l ++ parcel_lines letter p m (drop m new.sent)) (line ∙ ap (λ (l : Text). l ++ event_line p k e o) empty ∙ sym lines) count
+
+-- ---- a run
+
+pub after_after : (a b : List Text) (r : Report) → after_texts a (after_texts b r) ≡ after_texts (a ++ b) r
+after_after a b r = ap (λ l. let q : Report = record { texts = l; end = r.end } in q) (sym (append_assoc a b r.texts))
+
+module _ {H S M : Type 0} (core : Core H S M) (letter : Fields → M → Text) (p : Fields) (es : List Event) where
+  -- the report of the events from the k-th on
+  abbrev pub rest : ℕ → Group S M → Report
+  rest k g = run_from core letter p k g (drop k es)
+
+  rest_one : (k : ℕ) (g : Group S M) (d : Event) → k < length es
+      → rest k g ≡ stepped core letter p k g (step_of core g (get_or es k d)) (λ new. rest (k + 1) new)
+  unfolding run_from
+  rest_one k g d h = at_drop_more (run_from core letter p k g) es k d h
+
+  pub rest_ok : (k : ℕ) (g new : Group S M) (d : Event) → k < length es → step_of core g (get_or es k d) ≡ Ok new
+      → rest k g ≡ after_texts (text_of core letter p k g new ∷ []) (rest (k + 1) new)
+  rest_ok k g new d h is = rest_one k g d h ∙ ap (λ r. stepped core letter p k g r (λ new. rest (k + 1) new)) is
+
+  pub rest_err : (k : ℕ) (g : Group S M) (f : StepFault) (d : Event) → k < length es → step_of core g (get_or es k d) ≡ Err f
+      → rest k g ≡ ends_with (Some (NoParcel k))
+  rest_err k g f d h is = rest_one k g d h ∙ ap (λ r. stepped core letter p k g r (λ new. rest (k + 1) new)) is
+
+  pub rest_end : (k : ℕ) (g : Group S M) → length es ≤ k → rest k g ≡ whole (closing_text core letter p g)
+  unfolding run_from
+  rest_end k g h = at_drop_all (run_from core letter p k g) es k h
+
+-- what was done so far is some of the whole
+pub done_some : (a b : Held) (r more : Report) (done : List Text) → r ≡ after_texts done more → Appends a b (concat done) → AppendsSome a b r.texts
+done_some a b r more done e h =
+    (length done, subst (λ (l : List Text). Appends a b (concat l)) (sym (ap (λ (q : Report). take (length done) q.texts) e ∙ take_at done more.texts (length done) refl)) h)
+
+-- a run that comes to its end, or to a fault of its own
+pub ran_to : (t : Bool) (a b : Held) (r : Report) (done : List Text) (end : Option Fault) → r ≡ after_texts done (ends_with end) → Appends a b (concat done)
+    → (r.end ≡ end) × Appends a b (concat r.texts)
+ran_to t a b r done end e h =
+    (ap (λ (q : Report). q.end) e, subst (λ (l : List Text). Appends a b (concat l)) (sym (ap (λ (q : Report). q.texts) e ∙ append_nil done)) h)
+
+-- a run that stops at an event
+pub stopped_at : {H S M : Type 0} (core : Core H S M) (letter : Fields → M → Text) (t : Bool) (a b : Held) (p : Fields) (es : List Event) (r : Report) (k : ℕ) (g : Group S M) (d : Event)
+    (s : Stop) (done : List Text) → k < length es → r ≡ after_texts done (rest core letter p es k g) → Appends a b (concat done)
+    → StopsAt k (step_of core g (get_or es k d)) s → Ran t a b r (Err s)
+stopped_at core letter t a b p es r k g d s done lt so_far h (inl memory) =
+    subst (λ (x : Stop). Ran t a b r (Err x)) (sym memory) (done_some a b r (rest core letter p es k g) done so_far h)
+stopped_at core letter t a b p es r k g d s done lt so_far h (inr none) =
+    subst (λ (x : Stop). Ran t a b r (Err x)) (sym none.0)
+    (ran_to t a b r done (Some (NoParcel k)) (so_far ∙ ap (after_texts done) (rest_err core letter p es k g step_fault.NoParcel d lt none.1)) h)
+
+pub is_false : (b : Bool) → (b ≡ true → ⊥) → b ≡ false
+is_false true h = absurd (h refl)
+is_false false h = refl
+
+pub refused_not_memory : put_fault.Refused ≡ put_fault.Memory → ⊥
+refused_not_memory e = cc
+
+-- a run that stops at its output
+pub stopped_by : (t u : Bool) (a b c : Held) (r more : Report) (done : List Text) (f : PutFault)
+    → r ≡ after_texts done more → Appends a b (concat done) → Keeps b c → u ≡ t → (u ≡ true → f ≡ put_fault.Memory)
+    → Ran t a c r (Err (stop_of f))
+stopped_by t u a b c r more done put_fault.Refused so_far h same is takes =
+    (sym is ∙ is_false u (λ e. refused_not_memory (takes e)), some_keeps a b c r.texts (done_some a b r more done so_far h) same)
+stopped_by t u a b c r more done put_fault.Memory so_far h same is takes = some_keeps a b c r.texts (done_some a b r more done so_far h) same
+
+-- a cluster at rest has the members of its shape
+pub members_at_rest : {H S M : Type 0} (core : Core H S M) (p : Fields) (shape : H) (n : ℕ) (g : Group S M) → g ≡ at_rest core p shape → core.count shape ≡ n → length g.members ≡ n
+members_at_rest {H} {S} {M} core p shape n g e count =
+    ap (λ (q : Group S M). length q.members) e ∙ length_each_below (λ i. start_of core shape i p.origin p.sections (length p.registers)) (core.count shape) ∙ count
+
+-- ---- refusals
+
+-- a run that stops at what an output answered has refused where that did
+pub refused_on : (f : PutFault) (b : Bool) → refused_by {T = ⊤} (Err f) b ≡ refused_after {T = ℕ} (Err (stop_of f)) b
+refused_on put_fault.Refused b = refl
+refused_on put_fault.Memory b = refl
+
+-- and one that stops at an event has not
+pub stops_taken : {G : Type 0} (k : ℕ) (wanted : Result G StepFault) (s : Stop) (b : Bool) → StopsAt k wanted s → b ≡ refused_after {T = ℕ} (Err s) b
+stops_taken k wanted s b (inl memory) = subst (λ (x : Stop). b ≡ refused_after {T = ℕ} (Err x) b) (sym memory) refl
+stops_taken k wanted s b (inr none) = subst (λ (x : Stop). b ≡ refused_after {T = ℕ} (Err x) b) (sym none.0) refl

@@ -1,0 +1,21 @@
+use Rattle.std.proofs.Common.{subst}
+use Rattle.mx_words.specs.Words.{task_of}
+use Rattle.mx_plan.specs.Text.{Text}
+use Rattle.mx_commands.specs.FaultLines.{fault_line}
+use Rattle.mx_commands.specs.Ran.{TellsFault, seen}
+use Rattle.mx_commands.proofs.CommandLemmas.{runs_fault}
+use Rattle.mx_commands.proofs.commanding.run_request.Goals as goal
+
+pub returns-in-Err-Fault-clause-runs : goal.returns-in-Err-Fault-clause-runs
+returns-in-Err-Fault-clause-runs g c =
+    let f = c.in-Err-Fault.fault in
+    let u = g.E.Output.takes_all c.args.err.now in
+    let out = c.carry_out_and_flush.new.out in
+    let ran = rw c.in-Err-Fault.field-0-is at c.in-Err-Fault.ensures.ran in
+    let passed = rw c.in-Err-Fault.field-0-is at c.in-Err-Fault.ensures.passed in
+    let refused = rw c.in-Err-Fault.field-0-is at c.in-Err-Fault.ensures.refused in
+    let line = subst (λ (names : Text × Text). TellsFault u (fault_line names f) (g.E.Output.written c.args.err.now) (g.E.Output.written c.tell.new.err) c.tell.result) c.names_in.ensures c.tell.ensures in
+    runs_fault (g.O.Output.takes_all c.args.out.now) u (g.S.Source.told c.args.source.now) (task_of c.args.request.now)
+    (seen (g.O.Output.written c.args.out.now) (g.E.Output.written c.args.err.now) (g.O.Output.has_refused c.args.out.now) (g.O.Output.keeps_back c.args.out.now))
+    (seen (g.O.Output.written out) (g.E.Output.written c.tell.new.err) (g.O.Output.has_refused out) (g.O.Output.keeps_back out))
+    f c.tell.result line passed refused ran

@@ -1,0 +1,127 @@
+-- What the words ask for, over what a source tells: the plan, and the report of a plan.
+use Rattle.std.specs.Prelude.{◌≡◌, ◌⊎◌, Bool, ℕ, List, Option, Some, None, Result, Ok, Err, codes, if◌then◌else◌, ◌==◌, ◌&&◌, IfOk, IfSome, option_map}
+use Rattle.std.specs.List.{before_first, after_first}
+use Rattle.std.specs.Option.{option_map_or}
+use Rattle.std.specs.Str.{bytes_eq}
+use Rattle.mx_words.specs.Words.{Task, check, replay, explore}
+use Rattle.mx_ricart.specs.Step.{ricart_core}
+use Rattle.mx_maekawa.specs.Step.{maekawa_core}
+use Rattle.mx_raymond.specs.Step.{raymond_core}
+use Rattle.mx_network.specs.declared.event.Event.{Event}
+use Rattle.mx_plan.specs.Text.{Text}
+use Rattle.mx_plan.specs.Fields.{Fields, IsPlan}
+use Rattle.mx_plan.specs.Plans.{IsOutcome, draft_at}
+use Rattle.mx_plan.specs.Events.{events_at}
+use Rattle.mx_plan.specs.declared.faults.PlanFault.{PlanFault}
+use Rattle.mx_plan.specs.declared.faults.PlanFault.TheVariants as plan_fault
+use Rattle.mx_plan.specs.declared.shape.Shape.{Shape}
+use Rattle.mx_plan.specs.declared.shape.Shape.TheVariants.{Ricart, Maekawa, Raymond}
+use Rattle.mx_texts.specs.LetterTexts.{ricart_text, maekawa_text, raymond_text}
+use Rattle.mx_texts.specs.PlanTexts.{plan_text}
+use Rattle.mx_commands.specs.declared.faults.Fault.{Fault}
+use Rattle.mx_commands.specs.declared.faults.Fault.TheVariants.{CannotRead, BadText}
+use Rattle.mx_commands.specs.declared.faults.Named.TheVariants.{Plan, Events}
+use Rattle.mx_commands.specs.declared.faults.Stop.{Stop}
+use Rattle.mx_commands.specs.declared.faults.Stop.TheVariants as stop
+use Rattle.mx_commands.specs.Explored.{explored_text}
+use Rattle.mx_commands.specs.Runs.{Report, at_rest, ends_with, run_from, whole}
+use Rattle.mx_commands.specs.Told.{Telling}
+
+-- ---- a replay
+
+-- the run of a plan's events, by its algorithm
+abbrev pub run_by : Fields → Shape → List Event → Report
+run_by p (Ricart count) = run_from ricart_core ricart_text p 0 (at_rest ricart_core p count)
+run_by p (Maekawa family) = run_from maekawa_core maekawa_text p 0 (at_rest maekawa_core p family)
+run_by p (Raymond tree) = run_from raymond_core (λ _. raymond_text) p 0 (at_rest raymond_core p tree)
+
+-- why a text is refused. Want of memory is no reason: nothing is refused for it
+abbrev pub fault_of : PlanFault → Option Fault
+fault_of plan_fault.Memory = None
+fault_of fault = Some (BadText fault)
+
+-- go on with what was read
+abbrev pub where_read : {T : Type 0} → Result T PlanFault → (T → Report) → Report
+where_read (Ok t) go_on = go_on t
+where_read (Err fault) go_on = ends_with (fault_of fault)
+
+-- the report of a plan and of the bytes of its events
+abbrev pub report_of_events : List ℕ → Fields → Report
+report_of_events bytes p = where_read (events_at p bytes) (run_by p p.shape)
+
+abbrev pub on_events : Fields → Telling → Report
+on_events p None = ends_with (Some (CannotRead Events))
+on_events p (Some bytes) = report_of_events bytes p
+
+-- ---- jobs
+
+-- what is told of the plan, and the report of a plan, where enough is told for one
+pub record Job : Type 0 where
+  pub plan : Telling
+  pub report : Fields → Option Report
+
+-- a report that rests on the plan alone
+abbrev pub on_plan : (Fields → Text) → Telling → Job
+on_plan text plan = record { plan = plan; report = λ p. Some (whole (text p)) }
+
+-- a replay of one source: the plan is what stands before the first line feed, the events are what follows it
+abbrev pub replay_one : Telling → Job
+replay_one one = record {
+  plan = option_map (λ bytes. before_first (λ b. b == 10) bytes) one;
+  report = λ p. Some (on_events p (option_map (λ bytes. after_first (λ b. b == 10) bytes) one));
+}
+
+-- a replay of two sources
+abbrev pub replay_two : Option Telling → Telling → Job
+replay_two events plan = record { plan = plan; report = λ p. option_map (on_events p) events }
+
+abbrev pub is_dash : Text → Bool
+is_dash name = bytes_eq name (codes "-")
+
+-- the job of what the words ask for, where the source tells enough
+abbrev pub job_of : (Text → Option Telling) → Task → Option Job
+job_of told (check name) = option_map (on_plan plan_text) (told name)
+job_of told (explore name seed steps) = option_map (on_plan (λ p. explored_text p seed steps)) (told name)
+job_of told (replay names) =
+    if is_dash names.0 && is_dash names.1 then option_map replay_one (told names.0)
+    else option_map (replay_two (told names.1)) (told names.0)
+
+-- the names of the plan and of the events, as the lines of faults have them
+abbrev pub names_in : Task → Text × Text
+names_in (check name) = (name, name)
+names_in (replay names) = names
+names_in (explore name seed steps) = (name, name)
+
+-- ---- what comes of a plan
+
+-- an outcome of the bytes of a plan by the rules of plans; where it is a plan, that keeps what every plan keeps
+pub record IsRead (bytes : List ℕ) (planned : Result Fields PlanFault) : Type 0 where
+  pub outcome : IsOutcome (draft_at bytes) planned
+  pub valid : IfOk planned IsPlan
+
+-- a plan that is refused decides
+abbrev pub report_of : (Fields → Option Report) → Result Fields PlanFault → Option Report
+report_of report (Ok p) = report p
+report_of report (Err fault) = Some (ends_with (fault_of fault))
+
+-- this holds of what is reported: the plan can't be read, or there is an outcome of its bytes, and it holds of that
+-- outcome's report
+abbrev pub HoldsOfPlan : (Fields → Option Report) → Telling → (Report → Type 0) → Type 0
+HoldsOfPlan report None P = P (ends_with (Some (CannotRead Plan)))
+HoldsOfPlan report (Some bytes) P =
+    (planned : Result Fields PlanFault) × IsRead bytes planned × IfSome (report_of report planned) P
+
+abbrev pub HoldsOfReport : Job → (Report → Type 0) → Type 0
+HoldsOfReport job = HoldsOfPlan job.report job.plan
+
+-- why a run stops at a text that is refused
+abbrev pub refusal_of : PlanFault → Stop
+refusal_of fault = option_map_or stop.Fault (fault_of fault) stop.Memory
+
+-- a plan was read, or why it was not
+abbrev pub Reads : Telling → Result Fields Stop → Type 0
+Reads None (Ok p) = ⊥
+Reads None (Err end) = (end ≡ stop.Fault (CannotRead Plan)) ⊎ (end ≡ stop.Memory)
+Reads (Some bytes) (Ok p) = IsRead bytes (Ok p)
+Reads (Some bytes) (Err end) =
+    (end ≡ stop.Memory) ⊎ ((fault : PlanFault) × IsRead bytes (Err fault) × (end ≡ refusal_of fault))

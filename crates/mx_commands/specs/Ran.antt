@@ -1,0 +1,148 @@
+-- What a command leaves in the two outputs, and with which status.
+use Rattle.std.specs.Prelude.{◌≡◌, ◌⊎◌, ℕ, [], Bool, false, Option, Some, None, ⊤, Result, Ok, Err, Vec, IfSome}
+use Rattle.std.specs.Io.KnownBytes.{Appends, Keeps}
+use Rattle.std.specs.List.{concat}
+use Rattle.std.specs.declared.alloc.Global.{Global}
+use Rattle.mx_words.specs.Words.{Task}
+use Rattle.mx_network.specs.declared.faults.StepFault.{StepFault}
+use Rattle.mx_network.specs.declared.faults.StepFault.TheVariants as step_fault
+use Rattle.mx_plan.specs.Text.{Text}
+use Rattle.mx_explorer.specs.declared.verdict.Verdict.{Verdict}
+use Rattle.mx_explorer.specs.declared.verdict.Verdict.TheVariants.{Sound, Broken}
+use Rattle.mx_commands.specs.declared.faults.Fault.{Fault}
+use Rattle.mx_commands.specs.declared.faults.Fault.TheVariants.{CannotRead, NoParcel}
+use Rattle.mx_commands.specs.declared.faults.Named.{Named}
+use Rattle.mx_commands.specs.declared.faults.Stop.{Stop}
+use Rattle.mx_commands.specs.declared.faults.Stop.TheVariants as stop
+use Rattle.mx_commands.specs.Told.{Telling}
+use Rattle.mx_commands.specs.Outputs.{Held, AppendsSome}
+use Rattle.mx_commands.specs.FaultLines.{fault_line, memory_line}
+use Rattle.mx_commands.specs.Runs.{Report}
+use Rattle.mx_commands.specs.Jobs.{Job, HoldsOfReport, job_of, names_in}
+
+-- what is seen of the outputs: what each holds; whether standard output has refused something, and whether it
+-- keeps something back
+pub record Seen : Type 0 where
+  pub out : Held
+  pub err : Held
+  pub refused : Bool
+  pub kept_back : Bool
+
+abbrev pub seen : Held → Held → Bool → Bool → Seen
+seen out err refused kept_back = record { out = out; err = err; refused = refused; kept_back = kept_back }
+
+-- memory ran out: standard error got that line, or nothing
+abbrev pub MayTell : Held → Held → Type 0
+MayTell old new = Keeps old new ⊎ Appends old new memory_line
+
+-- ---- a command on a plan
+
+abbrev pub status_of : Option Fault → ℕ
+status_of None = 0
+status_of (Some fault) = 1
+
+abbrev pub end_text : Text × Text → Option Fault → Text
+end_text names None = []
+end_text names (Some fault) = fault_line names fault
+
+-- the report was printed whole, and passed on
+pub record PrintsWhole (names : Text × Text) (r : Report) (old new : Seen) (status : ℕ) : Type 0 where
+  pub status_is : status ≡ status_of r.end
+  pub lines : Appends old.out new.out (concat r.texts)
+  pub fault : Appends old.err new.err (end_text names r.end)
+  pub passed : new.kept_back ≡ false
+
+-- memory ran out on the way, and standard output refused nothing
+pub record RunsOut (r : Report) (old new : Seen) (status : ℕ) : Type 0 where
+  pub status_is : status ≡ 5
+  pub lines : AppendsSome old.out new.out r.texts
+  pub told : MayTell old.err new.err
+  pub taken : new.refused ≡ old.refused
+
+-- an output refused on the way, which one that takes all bytes never does
+pub record IsRefused (takes_all : Bool) (r : Report) (old new : Seen) (status : ℕ) : Type 0 where
+  pub status_is : status ≡ 1
+  pub refused : takes_all ≡ false
+  pub lines : AppendsSome old.out new.out r.texts
+  pub silent : Keeps old.err new.err
+
+-- a run of this report, by outputs that both take all bytes or not
+abbrev pub Prints : Bool → Text × Text → Report → Seen → Seen → ℕ → Type 0
+Prints takes_all names r old new status =
+    PrintsWhole names r old new status ⊎ RunsOut r old new status ⊎ IsRefused takes_all r old new status
+
+-- memory ran out before there was a report; and where standard output then refused too, that decides
+abbrev pub FailsAtOnce : Bool → Seen → Seen → ℕ → Type 0
+FailsAtOnce takes_all old new status = Keeps old.out new.out
+    × (((status ≡ 5) × MayTell old.err new.err × (new.refused ≡ old.refused))
+    ⊎ ((status ≡ 1) × (takes_all ≡ false) × Keeps old.err new.err))
+
+-- what the words ask for, of what a source tells: a run of its report, or memory ran out before there was one
+abbrev pub Runs : Bool → (Text → Option Telling) → Task → Seen → Seen → ℕ → Type 0
+Runs takes_all told task old new status = IfSome (job_of told task) (λ job.
+    FailsAtOnce takes_all old new status
+    ⊎ HoldsOfReport job (λ r. Prints takes_all (names_in task) r old new status))
+
+-- the status of a verdict
+abbrev pub verdict_status : Verdict → ℕ
+verdict_status Sound = 0
+verdict_status (Broken k clause) = 4
+
+-- the statuses of a command on a plan: the verdict of a cluster's trace is never broken
+abbrev pub IsRunStatus : ℕ → Type 0
+IsRunStatus status = (status ≡ 0) ⊎ (status ≡ 1) ⊎ (status ≡ 5)
+
+-- ---- help, and words that are no command
+
+-- what is shown goes to standard output, and is passed on; to standard error goes nothing, or that memory ran out
+abbrev pub Helps : Bool → Seen → Seen → ℕ → Type 0
+Helps takes_all old new status =
+    ((status ≡ 0) × Keeps old.err new.err × (new.kept_back ≡ false))
+    ⊎ ((status ≡ 1) × (takes_all ≡ false) × Keeps old.err new.err)
+    ⊎ ((status ≡ 5) × MayTell old.err new.err × (new.refused ≡ old.refused))
+
+-- a fault of the command line goes to standard error, and nothing to standard output
+abbrev pub Scolds : Seen → Seen → ℕ → Type 0
+Scolds old new status =
+    Keeps old.out new.out × ((status ≡ 2) ⊎ ((status ≡ 5) × MayTell old.err new.err))
+
+-- ---- on the way
+
+-- the line of a fault was written, or memory ran out, or the output refused
+abbrev pub TellsFault : Bool → Text → Held → Held → ℕ → Type 0
+TellsFault takes_all line err err' status =
+    ((status ≡ 1) × Appends err err' line) ⊎ ((status ≡ 5) × MayTell err err')
+    ⊎ ((status ≡ 1) × (takes_all ≡ false) × Keeps err err')
+
+-- the texts of a report were written, and the run ended as the report does, or earlier
+abbrev pub Ran : Bool → Held → Held → Report → Result ℕ Stop → Type 0
+Ran takes_all old new r (Ok status) = (r.end ≡ None) × Appends old new (concat r.texts)
+Ran takes_all old new r (Err (stop.Fault fault)) = (r.end ≡ Some fault) × Appends old new (concat r.texts)
+Ran takes_all old new r (Err stop.Writer) = (takes_all ≡ false) × AppendsSome old new r.texts
+Ran takes_all old new r (Err stop.Memory) = AppendsSome old new r.texts
+
+-- a run ended before there was a report
+abbrev pub EndsEarly : Bool → Result ℕ Stop → Type 0
+EndsEarly takes_all (Ok status) = ⊥
+EndsEarly takes_all (Err (stop.Fault fault)) = ⊥
+EndsEarly takes_all (Err stop.Writer) = takes_all ≡ false
+EndsEarly takes_all (Err stop.Memory) = ⊤
+
+-- the texts of a job's report were written, or the run ended before there was one
+abbrev pub RanOn : Bool → Held → Held → Job → Result ℕ Stop → Type 0
+RanOn takes_all old new job result =
+    (EndsEarly takes_all result × Keeps old new) ⊎ HoldsOfReport job (λ r. Ran takes_all old new r result)
+
+abbrev pub RanOf : Bool → Held → Held → (Text → Option Telling) → Task → Result ℕ Stop → Type 0
+RanOf takes_all old new told task result = IfSome (job_of told task) (λ job. RanOn takes_all old new job result)
+
+-- an event did not happen: there is no such parcel, or memory ran out
+abbrev pub StopsAt : {G : Type 0} → ℕ → Result G StepFault → Stop → Type 0
+StopsAt k wanted end = (end ≡ stop.Memory) ⊎ ((end ≡ stop.Fault (NoParcel k)) × (wanted ≡ Err step_fault.NoParcel))
+
+-- the bytes that a source tells of a name
+abbrev pub Fetches : Named → Telling → Result (Vec ℕ Global) Stop → Type 0
+Fetches named (Some bytes) (Ok v) = v.items ≡ bytes
+Fetches named None (Ok v) = ⊥
+Fetches named (Some bytes) (Err fault) = fault ≡ stop.Memory
+Fetches named None (Err fault) = (fault ≡ stop.Fault (CannotRead named)) ⊎ (fault ≡ stop.Memory)

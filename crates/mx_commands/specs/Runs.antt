@@ -1,0 +1,85 @@
+-- The lines of a run of events, by the nodes of any algorithm.
+use Rattle.std.specs.Prelude.{ℕ, ◌+◌, ◌<◌, ⊤, List, [], ◌∷◌, ◌++◌, Option, Some, None, Result, Ok, Err, length, drop}
+use Rattle.mx_stamps.specs.Lists.{each_below}
+use Rattle.mx_nodelaws.specs.Core.{Core}
+use Rattle.mx_member.specs.Steps.{start_of}
+use Rattle.mx_network.specs.Step.{Group, step_of}
+use Rattle.mx_network.specs.declared.event.Event.{Event}
+use Rattle.mx_network.specs.declared.event.Event.TheVariants.{Ask, Enter, Read, Write, Leave, Tick, Want, Restart, Deliver}
+use Rattle.mx_network.specs.declared.faults.StepFault.{StepFault}
+use Rattle.mx_network.specs.declared.outcome.Entry.{Entry}
+use Rattle.mx_plan.specs.Text.{Text}
+use Rattle.mx_plan.specs.Fields.{Fields}
+use Rattle.mx_commands.specs.declared.faults.Fault.{Fault}
+use Rattle.mx_commands.specs.declared.faults.Fault.TheVariants.{NoParcel}
+use Rattle.mx_texts.specs.EventTexts.{event_line}
+use Rattle.mx_texts.specs.Lines.{texts_from}
+use Rattle.mx_texts.specs.ParcelTexts.{parcel_lines}
+use Rattle.mx_explorer.specs.declared.verdict.Verdict.TheVariants.{Sound}
+use Rattle.mx_texts.specs.NodeTexts.{node_lines}
+use Rattle.mx_commands.specs.VerdictLines.{verdict_line}
+
+-- the texts in order, and the fault that ends the run, if one does
+pub record Report : Type 0 where
+  pub texts : List Text
+  pub end : Option Fault
+
+abbrev pub ends_with : Option Fault → Report
+ends_with end = record { texts = []; end = end }
+
+-- one text, and no fault
+abbrev pub whole : Text → Report
+whole text = record { texts = text ∷ []; end = None }
+
+abbrev pub after_texts : List Text → Report → Report
+after_texts texts r = record { texts = texts ++ r.texts; end = r.end }
+
+-- an event of the first n nodes
+abbrev pub NamesNodes : ℕ → Event → Type 0
+NamesNodes n (Ask node) = node < n
+NamesNodes n (Enter node) = node < n
+NamesNodes n (Read node register) = node < n
+NamesNodes n (Write node register value) = node < n
+NamesNodes n (Leave node) = node < n
+NamesNodes n (Tick node) = node < n
+NamesNodes n (Want node other) = (node < n) × (other < n)
+NamesNodes n (Restart node) = node < n
+NamesNodes n (Deliver k) = ⊤
+
+abbrev pub AllNameNodes : ℕ → List Event → Type 0
+AllNameNodes n [] = ⊤
+AllNameNodes n (e ∷ es) = NamesNodes n e × AllNameNodes n es
+
+-- the lines of these items of the trace, the first of which is the k-th
+abbrev pub event_lines : Fields → ℕ → List Entry → Text
+event_lines p = texts_from (λ k e. event_line p k e.event e.outcome)
+
+-- the cluster of a plan, at rest
+abbrev pub at_rest : {H S M : Type 0} → Core H S M → Fields → H → Group S M
+at_rest core p shape = record {
+  members = each_below (λ i. start_of core shape i p.origin p.sections (length p.registers)) (core.count shape);
+  sent = [];
+  trace = [];
+}
+
+module _ {H S M : Type 0} (core : Core H S M) (letter_text : Fields → M → Text) (p : Fields) where
+  -- what is new in the trace, and then the parcels that are new
+  abbrev pub text_of : ℕ → Group S M → Group S M → Text
+  text_of k old new =
+      event_lines p k (drop (length old.trace) new.trace)
+      ++ parcel_lines letter_text p (length old.sent) (drop (length old.sent) new.sent)
+
+  -- the text of one event, and then the rest; or there is no such parcel, since the events that are
+  -- read name nodes of the plan
+  abbrev pub stepped : ℕ → Group S M → Result (Group S M) StepFault → (Group S M → Report) → Report
+  stepped k old (Ok new) rest = after_texts (text_of k old new ∷ []) (rest new)
+  stepped k old (Err fault) rest = ends_with (Some (NoParcel k))
+
+  -- a line for each node, and the verdict, which is sound: no cluster's trace is anything else
+  abbrev pub closing_text : Group S M → Text
+  closing_text g = node_lines core p g ++ verdict_line Sound
+
+  -- the events from the k-th on, from a state, and then the closing lines
+  unfoldable pub run_from : ℕ → Group S M → List Event → Report
+  run_from k g [] = whole (closing_text g)
+  run_from k g (e ∷ es) = stepped k g (step_of core g e) (λ new. run_from (k + 1) new es)

@@ -1,0 +1,157 @@
+//! `explore`: events drawn from a seed, and the verdict of what came of them.
+
+ghost use Rattle.std.specs.Prelude.{◌≡◌, ◌+◌, ◌<◌, ◌++◌, length, string_bytes, IfOk, OnOk};
+ghost use Rattle.std.specs.List.{count_by};
+ghost use Rattle.mx_words.specs.Words as task;
+ghost use Rattle.mx_commands.specs.Outputs.{refused_after};
+ghost use Rattle.mx_commands.specs.Runs.{whole};
+ghost use Rattle.mx_commands.specs.Explored.{after_drawn, after_placed, explored_text, is_entry, summary_by, summary_text};
+ghost use Rattle.mx_explorer.specs.Place.{place_of};
+ghost use Rattle.mx_commands.specs.Ran.{Ran, RanOf, verdict_status};
+
+use crate::checking::print;
+use crate::faults::Stop;
+use crate::output::Output;
+use crate::planning::fetch_plan;
+use crate::running::start;
+use crate::source::Source;
+use crate::verdicts::{VerdictLine, verdict_status};
+use mx_explorer::{Verdict, judge, place, schedule};
+use mx_maekawa::Maekawa;
+use mx_network::{Cluster, Entry, Event, Outcome, StepFault};
+use mx_nodelaws::Exclusion;
+use mx_plan::{Plan, Shape};
+use mx_raymond::Raymond;
+use mx_ricart::Ricart;
+use mx_texts::ExploredLine;
+use mx_words::Wish;
+use std::alloc::{AllocError, Global};
+
+/// Reads a plan, draws a schedule of so many steps, lets its events happen, and prints the counts
+/// and the verdict. Answers the status.
+pub(crate) fn explore<S: Source, O: Output>(
+    alloc: Global,
+    wish: &Wish<'_>,
+    source: &mut S,
+    out: &mut O,
+) -> Result<u8, Stop>
+    ensures ran { RanOf (O.takes_all out.old) (O.written out.old) (O.written out.new)
+        (S.told source.old) (task.explore wish.now.plan.now wish.now.seed wish.now.steps) result }
+    ensures refused { O.has_refused out.new ≡ refused_after result (O.has_refused out.old) }
+    ensures zero { IfOk result (λ status. status ≡ 0) }
+    ensures stays { O.takes_all out.new ≡ O.takes_all out.old }
+{
+    let plan = fetch_plan(alloc, source, wish.plan)?;
+    explore_plan(alloc, &plan, wish.seed, wish.steps, out)
+}
+
+fn explore_plan<O: Output>(
+    alloc: Global,
+    plan: &Plan,
+    seed: u64,
+    steps: u64,
+    out: &mut O,
+) -> Result<u8, Stop>
+    ensures ran { Ran (O.takes_all out.old) (O.written out.old) (O.written out.new)
+        (whole (explored_text plan.now seed steps)) result }
+    ensures refused { O.has_refused out.new ≡ refused_after result (O.has_refused out.old) }
+    ensures zero { IfOk result (λ status. status ≡ 0) }
+    ensures stays { O.takes_all out.new ≡ O.takes_all out.old }
+{
+    let events = schedule(alloc, seed, steps, plan)?;
+    let mut text = String::new(alloc);
+    let verdict = add_summary_of(alloc, plan, events.as_slice(), &mut text)?;
+    match print(text.as_bytes(), out) {
+        Ok(_) => Ok(verdict_status(verdict)),
+        Err(stop) => Err(stop),
+    }
+}
+
+/// The events happen, by the plan's algorithm; then the summary.
+fn add_summary_of(
+    alloc: Global,
+    plan: &Plan,
+    events: &[Event],
+    text: &mut String,
+) -> Result<Verdict, AllocError>
+    ensures text { OnOk result (string_bytes text.new
+        ≡ string_bytes text.old ++ summary_by plan.now events.now plan.now.shape) }
+    ensures sound { IfOk result (λ verdict. verdict ≡ Verdict.Sound) }
+{
+    match plan.shape() {
+        Shape::Ricart(count) => {
+            let mut cluster = start::<Ricart>(alloc, plan, count)?;
+            happen(&mut cluster, events)?;
+            add_summary(&cluster, events, text)
+        }
+        Shape::Maekawa(sets) => {
+            let mut cluster = start::<Maekawa>(alloc, plan, sets)?;
+            happen(&mut cluster, events)?;
+            add_summary(&cluster, events, text)
+        }
+        Shape::Raymond(tree) => {
+            let mut cluster = start::<Raymond>(alloc, plan, tree)?;
+            happen(&mut cluster, events)?;
+            add_summary(&cluster, events, text)
+        }
+    }
+}
+
+/// Each event in turn.
+fn happen<C: Exclusion>(cluster: &mut Cluster<C>, events: &[Event]) -> Result<(), AllocError>
+    ensures { OnOk result (after_drawn C.core cluster.old events.now ≡ cluster.new) }
+{
+    for event in events {
+        step(cluster, event)?;
+    }
+    Ok(())
+}
+
+/// One drawn event. A delivery without any parcel to deliver is passed over.
+fn step<C: Exclusion>(cluster: &mut Cluster<C>, event: &Event) -> Result<(), AllocError>
+    ensures { OnOk result (after_placed C.core cluster.old (place_of event.now (length cluster.old.sent))
+        ≡ cluster.new) }
+{
+    let Some(placed) = place(*event, cluster.sent()) else {
+        return Ok(());
+    };
+    match cluster.step(placed) {
+        Err(StepFault::Memory) => Err(AllocError),
+        Ok(_) | Err(StepFault::NoNode | StepFault::NoParcel) => Ok(()),
+    }
+}
+
+/// Appends the counts and the verdict.
+fn add_summary<C: Exclusion>(
+    cluster: &Cluster<C>,
+    events: &[Event],
+    text: &mut String,
+) -> Result<Verdict, AllocError>
+    ensures text { OnOk result (string_bytes text.new
+        ≡ string_bytes text.old ++ summary_text (length events.now) cluster.now) }
+    ensures sound { IfOk result (λ verdict. verdict ≡ Verdict.Sound) }
+{
+    let trace = cluster.trace();
+    let verdict = judge(trace);
+    text.write(ExploredLine {
+        steps: events.len() as u64,
+        entered: entries_in(trace),
+        sent: cluster.sent(),
+    })?;
+    text.write(VerdictLine(verdict))?;
+    Ok(verdict)
+}
+
+/// How often a node entered.
+fn entries_in(trace: &[Entry]) -> u64
+    ensures { result ≡ count_by is_entry trace.now }
+{
+    trace.iter().filter(|entry| is_entry(entry)).count() as u64
+}
+
+/// Whether a node entered.
+fn is_entry(entry: &Entry) -> bool
+    ensures { result ≡ is_entry entry.now }
+{
+    matches!(entry.outcome, Outcome::Entered(_))
+}

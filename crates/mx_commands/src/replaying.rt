@@ -1,0 +1,120 @@
+//! `replay`: the plan is read, then the events, and they happen one after another.
+
+ghost use Rattle.std.specs.Prelude.{◌≡◌, ◌+◌, ◌<◌, ◌≤◌, ◌==◌, ◌&&◌, length, Some, IfOk};
+ghost use Rattle.std.specs.List.{before_first, after_first, position_or_len};
+ghost use Rattle.mx_words.specs.Words.{names_of};
+ghost use Rattle.mx_words.specs.Words as task;
+ghost use Rattle.mx_commands.specs.Outputs.{refused_after};
+ghost use Rattle.mx_commands.specs.Jobs.{report_of_events, is_dash};
+ghost use Rattle.mx_commands.specs.Jobs as job;
+ghost use Rattle.mx_commands.specs.Ran.{Ran, RanOf, RanOn};
+
+use crate::faults::{Named, Stop};
+use crate::output::Output;
+use crate::planning::{fetch, fetch_plan, plan_in};
+use crate::running::{run, start};
+use crate::source::Source;
+use mx_maekawa::Maekawa;
+use mx_plan::{Plan, Shape, read_events};
+use mx_raymond::Raymond;
+use mx_ricart::Ricart;
+use mx_words::Names;
+use std::alloc::Global;
+
+/// Reads the plan, then the events, and replays them. Answers the status.
+pub(crate) fn replay<S: Source, O: Output>(
+    alloc: Global,
+    names: &Names<'_>,
+    source: &mut S,
+    out: &mut O,
+) -> Result<u8, Stop>
+    ensures ran { RanOf (O.takes_all out.old) (O.written out.old) (O.written out.new)
+        (S.told source.old) (task.replay (names_of names.now)) result }
+    ensures refused { O.has_refused out.new ≡ refused_after result (O.has_refused out.old) }
+    ensures zero { IfOk result (λ status. status ≡ 0) }
+    ensures stays { O.takes_all out.new ≡ O.takes_all out.old }
+{
+    if are_dashes(names) {
+        let one = fetch(alloc, source, names.plan, Named::Plan)?;
+        return replay_one(alloc, one.as_slice(), out);
+    }
+    let plan = fetch_plan(alloc, source, names.plan)?;
+    let events = fetch(alloc, source, names.events, Named::Events)?;
+    replay_events(alloc, &plan, events.as_slice(), out)
+}
+
+/// Whether both names are standard input.
+fn are_dashes(names: &Names<'_>) -> bool
+    ensures { result ≡ (is_dash names.now.plan.now && is_dash names.now.events.now) }
+{
+    names.plan == "-" && names.events == "-"
+}
+
+/// A replay of one text: its first line is the plan, and what follows is the events.
+fn replay_one<O: Output>(alloc: Global, bytes: &[u8], out: &mut O) -> Result<u8, Stop>
+    ensures ran { RanOn (O.takes_all out.old) (O.written out.old) (O.written out.new)
+        (job.replay_one (Some bytes.now)) result }
+    ensures refused { O.has_refused out.new ≡ refused_after result (O.has_refused out.old) }
+    ensures zero { IfOk result (λ status. status ≡ 0) }
+    ensures stays { O.takes_all out.new ≡ O.takes_all out.old }
+{
+    let (line, rest) = split_line(bytes);
+    let plan = plan_in(alloc, line)?;
+    replay_events(alloc, &plan, rest, out)
+}
+
+/// What stands before the first line feed, and what follows it.
+fn split_line(bytes: &[u8]) -> (&[u8], &[u8])
+    ensures line { result.0.now ≡ before_first (λ b. b == 10) bytes.now }
+    ensures rest { result.1.now ≡ after_first (λ b. b == 10) bytes.now }
+{
+    let at = first_feed(bytes);
+    if at < bytes.len() {
+        (&bytes[..at], &bytes[at + 1..])
+    } else {
+        (bytes, &bytes[bytes.len()..])
+    }
+}
+
+/// Where the first line feed stands, or the length.
+fn first_feed(bytes: &[u8]) -> usize
+    ensures value { result ≡ position_or_len (λ b. b == 10) bytes.now }
+    ensures within { result ≤ length bytes.now }
+{
+    for (i, b) in bytes.iter().enumerate() {
+        if *b == b'\n' {
+            return i;
+        }
+    }
+    bytes.len()
+}
+
+/// Reads the events and replays them, by the plan's algorithm.
+fn replay_events<O: Output>(
+    alloc: Global,
+    plan: &Plan,
+    text: &[u8],
+    out: &mut O,
+) -> Result<u8, Stop>
+    ensures ran { Ran (O.takes_all out.old) (O.written out.old) (O.written out.new)
+        (report_of_events text.now plan.now) result }
+    ensures refused { O.has_refused out.new ≡ refused_after result (O.has_refused out.old) }
+    ensures zero { IfOk result (λ status. status ≡ 0) }
+    ensures stays { O.takes_all out.new ≡ O.takes_all out.old }
+{
+    let events = read_events(alloc, text, plan)?;
+    match plan.shape() {
+        Shape::Ricart(count) => {
+            let mut cluster = start::<Ricart>(alloc, plan, count)?;
+            run(alloc, plan, &mut cluster, events.as_slice(), out)
+        }
+        Shape::Maekawa(sets) => {
+            let mut cluster = start::<Maekawa>(alloc, plan, sets)?;
+            run(alloc, plan, &mut cluster, events.as_slice(), out)
+        }
+        Shape::Raymond(tree) => {
+            let mut cluster = start::<Raymond>(alloc, plan, tree)?;
+            run(alloc, plan, &mut cluster, events.as_slice(), out)
+        }
+    }
+}

@@ -1,0 +1,119 @@
+//! A run: events of a cluster, one after another, each with its text.
+
+ghost use Rattle.std.specs.Prelude.{◌≡◌, [], ◌++◌, length, string_bytes, OnOk, IfOk, IfErr};
+ghost use Rattle.mx_network.specs.Step.{step_of};
+ghost use Rattle.mx_commands.specs.Outputs.{refused_after};
+ghost use Rattle.mx_commands.specs.Runs.{NamesNodes, AllNameNodes, at_rest, closing_text, run_from, text_of};
+ghost use Rattle.mx_commands.specs.Ran.{Ran, StopsAt};
+
+use crate::faults::{Fault, Stop};
+use crate::output::Output;
+use crate::verdicts::{VerdictLine, verdict_status};
+use mx_explorer::{Verdict, judge};
+use mx_network::{Cluster, Event, StepFault};
+use mx_nodelaws::Exclusion;
+use mx_plan::Plan;
+use mx_texts::{EventLine, Letter, add_nodes, add_parcels};
+use std::alloc::{AllocError, Global};
+
+/// The cluster of a plan, at rest.
+pub(crate) fn start<C: Exclusion>(
+    alloc: Global,
+    plan: &Plan,
+    shape: &C::Shape,
+) -> Result<Cluster<C>, AllocError>
+    ensures { IfOk result (λ cluster. cluster ≡ at_rest C.core plan.now shape.now) }
+{
+    Cluster::start(
+        alloc,
+        shape,
+        plan.origin(),
+        plan.sections(),
+        plan.registers(),
+    )
+}
+
+/// Each event in turn, and its text in one piece; then the closing lines. Answers the status.
+pub(crate) fn run<C: Exclusion, O: Output>(
+    alloc: Global,
+    plan: &Plan,
+    cluster: &mut Cluster<C>,
+    events: &[Event],
+    out: &mut O,
+) -> Result<u8, Stop>
+where
+    C::Msg: Letter,
+    requires members { length cluster.old.members ≡ length plan.now.nodes }
+    requires named { AllNameNodes (length plan.now.nodes) events.now }
+    ensures ran { Ran (O.takes_all out.old) (O.written out.old) (O.written out.new)
+        (run_from C.core C.Msg.letter_text plan.now 0 cluster.old events.now) result }
+    ensures refused { O.has_refused out.new ≡ refused_after result (O.has_refused out.old) }
+    ensures zero { IfOk result (λ status. status ≡ 0) }
+    ensures stays { O.takes_all out.new ≡ O.takes_all out.old }
+{
+    let mut text = String::new(alloc);
+    for (index, event) in events.iter().enumerate() {
+        text.clear();
+        step(plan, index as u64, event, cluster, &mut text)?;
+        out.put(text.as_bytes())?;
+    }
+    text.clear();
+    let verdict = add_closing(plan, cluster, &mut text)?;
+    out.put(text.as_bytes())?;
+    Ok(verdict_status(verdict))
+}
+
+/// One event, and its text.
+fn step<C: Exclusion>(
+    plan: &Plan,
+    index: u64,
+    event: &Event,
+    cluster: &mut Cluster<C>,
+    text: &mut String,
+) -> Result<(), Stop>
+where
+    C::Msg: Letter,
+    requires named { NamesNodes (length cluster.old.members) event.now }
+    requires empty { string_bytes text.old ≡ [] }
+    ensures ok { OnOk result (step_of C.core cluster.old event.now ≡ Ok cluster.new) }
+    ensures text { OnOk result (string_bytes text.new
+        ≡ text_of C.core C.Msg.letter_text plan.now index cluster.old cluster.new) }
+    ensures err { IfErr result (StopsAt index (step_of C.core cluster.old event.now)) }
+{
+    let before = cluster.sent();
+    match cluster.step(*event) {
+        Ok(outcome) => {
+            let line = EventLine {
+                plan,
+                index,
+                event,
+                outcome: &outcome,
+            };
+            text.write(line)?;
+            add_parcels(plan, cluster, before, text)?;
+            Ok(())
+        }
+        Err(StepFault::NoParcel) => Err(Stop::Fault(Fault::NoParcel(index))),
+        Err(StepFault::Memory) => Err(Stop::Memory),
+        Err(StepFault::NoNode) => unreachable!(),
+    }
+}
+
+/// Appends the closing lines, and answers the verdict.
+fn add_closing<C: Exclusion>(
+    plan: &Plan,
+    cluster: &Cluster<C>,
+    text: &mut String,
+) -> Result<Verdict, AllocError>
+where
+    C::Msg: Letter,
+    requires { length cluster.now.members ≡ length plan.now.nodes }
+    ensures text { OnOk result (string_bytes text.new
+        ≡ string_bytes text.old ++ closing_text C.core C.Msg.letter_text plan.now cluster.now) }
+    ensures sound { IfOk result (λ verdict. verdict ≡ Verdict.Sound) }
+{
+    add_nodes(plan, cluster, text)?;
+    let verdict = judge(cluster.trace());
+    text.write(VerdictLine(verdict))?;
+    Ok(verdict)
+}

@@ -1,0 +1,51 @@
+//! The line of a verdict, and its status.
+
+ghost use Rattle.std.specs.Prelude.{◌≡◌, Some};
+ghost use Rattle.mx_commands.specs.Ran.{verdict_status};
+ghost use Rattle.mx_commands.specs.VerdictLines.{clause_text, verdict_line};
+
+use mx_explorer::{Clause, Verdict};
+use std::fmt;
+
+/// What is broken.
+#[derive(Clone, Copy)]
+pub struct ClauseText(pub Clause);
+
+impl fmt::Display for ClauseText {
+    ghost output = { λ c. Some (clause_text c.0) };
+
+    fn fmt<W: fmt::Write>(&self, f: &mut fmt::Formatter<W>) -> fmt::Result {
+        match self.0 {
+            Clause::Overlap => write!(f, "overlap"),
+            Clause::Number => write!(f, "number"),
+            Clause::Read => write!(f, "read"),
+        }
+    }
+}
+
+/// The line of a verdict.
+#[derive(Clone, Copy)]
+pub struct VerdictLine(pub Verdict);
+
+impl fmt::Display for VerdictLine {
+    ghost output = { λ v. Some (verdict_line v.0) };
+
+    fn fmt<W: fmt::Write>(&self, f: &mut fmt::Formatter<W>) -> fmt::Result {
+        match self.0 {
+            Verdict::Sound => writeln!(f, "verdict sound"),
+            Verdict::Broken(index, clause) => {
+                writeln!(f, "verdict broken at {index}: {}", ClauseText(clause))
+            }
+        }
+    }
+}
+
+/// The status of a verdict.
+pub(crate) fn verdict_status(verdict: Verdict) -> u8
+    ensures { result ≡ verdict_status verdict }
+{
+    match verdict {
+        Verdict::Sound => 0,
+        Verdict::Broken(_, _) => 4,
+    }
+}

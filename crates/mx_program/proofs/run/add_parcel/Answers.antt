@@ -1,9 +1,0 @@
-use Rattle.std.proofs.Common.{string_bytes}
-use Rattle.mx_program.proofs.RunLemmas.{place_written}
-use Rattle.mx_program.specs.ParcelTexts.{parcel_line}
-use Rattle.mx_program.proofs.run.add_parcel.Goals as goal
-
-pub returns : goal.returns
-returns g c =
-    place_written (parcel_line g.C.Msg.Letter.letter_text c.args.plan.now) c.args.cluster.now.sent c.args.number c.add_parcel_line.result (c.in-Some.parcel.0, c.in-Some.parcel.1, c.in-Some.parcel.2.now)
-    (string_bytes c.args.text.now) (string_bytes c.add_parcel_line.new.text) c.in-Some.ensures c.add_parcel_line.ensures

@@ -1,0 +1,13 @@
+use Rattle.std.proofs.Common.{◌≡◌, ◌∙◌, ◌≤◌, arith, length, string_bytes, sym}
+use Rattle.mx_texts.specs.ParcelTexts.{parcel_line}
+use Rattle.mx_texts.proofs.Places.{place_end}
+use Rattle.mx_texts.proofs.parcels.add_parcels.Goals as goal
+
+pub returns : goal.returns
+returns g c =
+    let sent = c.args.cluster.now.sent in
+    let k = c.loop-number.number in
+    let count : c.sent-number-end.result ≡ length sent = c.sent-number-end.ensures in
+    let past = c.loop-number-test.false in
+    let end : length sent ≤ k = omega (arith, count, past) in
+    sym (c.loop-number.invariant.written ∙ place_end (parcel_line g.C.Msg.Letter.letter_text c.args.plan.now) sent k (string_bytes c.loop-number.text) end)

@@ -1,0 +1,59 @@
+-- The lines of events.
+use Rattle.std.specs.Prelude.{ℕ, [], ◌++◌, codes, decimal, length, slice_get, unwrap_or}
+use Rattle.mx_network.specs.declared.event.Event.{Event}
+use Rattle.mx_network.specs.declared.event.Event.TheVariants.{Ask, Enter, Read, Write, Leave, Tick, Want, Restart, Deliver}
+use Rattle.mx_network.specs.declared.outcome.Cause.{Cause}
+use Rattle.mx_network.specs.declared.outcome.Cause.TheVariants.{NotIdle, StampsSpent, NotWaiting, NotGranted, NumbersSpent, NotInside, NoRegister, Gap, Full}
+use Rattle.mx_network.specs.declared.outcome.Outcome.{Outcome}
+use Rattle.mx_network.specs.declared.outcome.Outcome.TheVariants.{Asked, Entered, Value, Written, Left, Sent, Delivered, Woken, Refused}
+use Rattle.mx_plan.specs.Text.{Text}
+use Rattle.mx_plan.specs.Fields.{Fields}
+use Rattle.mx_texts.specs.Lines.{line_feed}
+
+-- the name that the plan gives a node
+abbrev pub name_of : Fields → ℕ → Text
+name_of p node = unwrap_or (slice_get p.nodes node) []
+
+-- the name that the plan gives a register
+abbrev pub register_name_of : Fields → ℕ → Text
+register_name_of p register = unwrap_or (slice_get p.registers register) []
+
+abbrev pub cause_text : Cause → Text
+cause_text NotIdle = codes "not idle"
+cause_text StampsSpent = codes "stamps spent"
+cause_text NotWaiting = codes "not waiting"
+cause_text NotGranted = codes "not granted"
+cause_text NumbersSpent = codes "numbers spent"
+cause_text NotInside = codes "not inside"
+cause_text NoRegister = codes "no register"
+cause_text (Gap n) = codes "gap " ++ decimal n
+cause_text Full = codes "full"
+
+abbrev pub outcome_text : Outcome → Text
+outcome_text (Asked stamp) = codes "asked " ++ decimal stamp.number
+outcome_text (Entered n) = codes "entered " ++ decimal n
+outcome_text (Value value) = codes "value " ++ decimal value
+outcome_text Written = codes "written"
+outcome_text (Left receipt) = codes "left " ++ decimal receipt.number ++ codes " writes " ++ decimal (length receipt.writes.items)
+outcome_text (Sent count) = codes "sent " ++ decimal count
+outcome_text Delivered = codes "delivered"
+outcome_text Woken = codes "woken"
+outcome_text (Refused cause) = codes "refused " ++ cause_text cause
+
+-- an event, as a file of events has it, without brackets and quotes
+abbrev pub event_text : Fields → Event → Text
+event_text p (Ask node) = codes "ask " ++ name_of p node
+event_text p (Enter node) = codes "enter " ++ name_of p node
+event_text p (Read node register) = codes "read " ++ name_of p node ++ codes " " ++ register_name_of p register
+event_text p (Write node register value) =
+    codes "write " ++ name_of p node ++ codes " " ++ register_name_of p register ++ codes " " ++ decimal value
+event_text p (Leave node) = codes "leave " ++ name_of p node
+event_text p (Tick node) = codes "tick " ++ name_of p node
+event_text p (Want node other) = codes "want " ++ name_of p node ++ codes " " ++ name_of p other
+event_text p (Restart node) = codes "restart " ++ name_of p node
+event_text p (Deliver k) = codes "deliver " ++ decimal k
+
+-- the line of the k-th event
+abbrev pub event_line : Fields → ℕ → Event → Outcome → Text
+event_line p k event outcome =
+    decimal k ++ codes " " ++ event_text p event ++ codes ": " ++ outcome_text outcome ++ line_feed

@@ -1,0 +1,8 @@
+-- Lines: texts of lists. EventTexts, LetterTexts, ParcelTexts, NodeTexts: each line of a replay. PlanTexts: the lines
+-- of a check, and that of an exploration.
+pub mod Lines
+pub mod EventTexts
+pub mod LetterTexts
+pub mod ParcelTexts
+pub mod NodeTexts
+pub mod PlanTexts

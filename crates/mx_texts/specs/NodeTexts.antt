@@ -1,0 +1,45 @@
+-- The lines of nodes: where each stands, and what its journal has.
+use Rattle.std.specs.Prelude.{ℕ, ◌-◌, List, ◌++◌, codes, decimal, length}
+use Rattle.mx_journal.specs.declared.records.Record.{Record}
+use Rattle.mx_journal.specs.Gapless.{first_missing}
+use Rattle.mx_registers.specs.Registers.{register_of}
+use Rattle.mx_nodelaws.specs.declared.phase.Phase.{Phase}
+use Rattle.mx_nodelaws.specs.declared.phase.Phase.TheVariants.{Idle, Waiting, Inside}
+use Rattle.mx_nodelaws.specs.Core.{Core}
+use Rattle.mx_member.specs.Member.{MemberState}
+use Rattle.mx_network.specs.Step.{Group}
+use Rattle.mx_plan.specs.Text.{Text}
+use Rattle.mx_plan.specs.Fields.{Fields}
+use Rattle.mx_texts.specs.EventTexts.{name_of}
+use Rattle.mx_texts.specs.Lines.{line_feed, texts_from}
+
+abbrev pub phase_text : Phase → Text
+phase_text Idle = codes "idle"
+phase_text Waiting = codes "waiting"
+phase_text (Inside n) = codes "inside " ++ decimal n
+
+-- where a node of this name stands, and the last section that it entered
+abbrev pub standing_text : Text → Phase → ℕ → Text
+standing_text name phase mine = name ++ codes ": " ++ phase_text phase ++ codes ", mine " ++ decimal mine
+
+-- how many records a journal has, and up to which number none is missing
+abbrev pub known_text : ℕ → ℕ → Text
+known_text records gapless = codes ", records " ++ decimal records ++ codes ", gapless " ++ decimal gapless
+
+abbrev pub value_text : Text → ℕ → Text
+value_text name value = codes ", " ++ name ++ codes "=" ++ decimal value
+
+-- the value of each register, after all records of a journal
+abbrev pub values_text : Fields → List Record → Text
+values_text p journal = texts_from (λ register name. value_text name (register_of register journal).value) 0 p.registers
+
+abbrev pub journal_text : Fields → List Record → Text
+journal_text p journal = known_text (length journal) (first_missing 1 journal - 1) ++ values_text p journal
+
+-- the line of the i-th node
+abbrev pub member_line : {H S M : Type 0} → Core H S M → Fields → ℕ → MemberState S → Text
+member_line core p i m = standing_text (name_of p i) (core.phase m.core) (core.mine m.core) ++ journal_text p m.journal ++ line_feed
+
+-- the line of each node
+abbrev pub node_lines : {H S M : Type 0} → Core H S M → Fields → Group S M → Text
+node_lines core p g = texts_from (member_line core p) 0 g.members

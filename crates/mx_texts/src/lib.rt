@@ -1,0 +1,17 @@
+//! The printed texts of plans, events, parcels and nodes, each with the bytes that it has.
+#![tactic(auto)]
+
+mod events;
+mod letters;
+mod nodes;
+mod parcels;
+mod plan_lines;
+mod plans;
+mod standings;
+
+pub use events::EventLine;
+pub use letters::Letter;
+pub use nodes::add_nodes;
+pub use parcels::add_parcels;
+pub use plan_lines::ExploredLine;
+pub use plans::add_plan;

@@ -1,0 +1,161 @@
+//! The lines of parcels.
+
+ghost use Rattle.std.specs.Prelude.{◌≡◌, ◌+◌, ◌<◌, ◌≤◌, ◌++◌, OnOk, Some, codes, drop, length, string_bytes};
+ghost use Rattle.mx_texts.specs.ParcelTexts.{range_text, record_text, want_text, records_text, route_text, parcel_text, parcel_line, parcel_lines};
+
+use crate::events::name_of;
+use crate::letters::Letter;
+use mx_journal::{Range, Record};
+use mx_member::Parcel;
+use mx_network::Cluster;
+use mx_nodelaws::Exclusion;
+use mx_plan::Plan;
+use mx_stamps::NodeId;
+use std::alloc::AllocError;
+use std::fmt;
+
+/// A parcel's number, and from whom to whom it goes.
+#[derive(Clone, Copy)]
+pub struct Route<'a> {
+    pub plan: &'a Plan,
+    pub number: u64,
+    pub from: NodeId,
+    pub to: NodeId,
+}
+
+impl fmt::Display for Route<'_> {
+    ghost output = { λ r. Some (route_text r.plan.now r.number r.from r.to) };
+
+    fn fmt<W: fmt::Write>(&self, f: &mut fmt::Formatter<W>) -> fmt::Result {
+        let number = self.number;
+        let from = name_of(self.plan, self.from);
+        let to = name_of(self.plan, self.to);
+        write!(f, "#{number} {from}>{to}")
+    }
+}
+
+/// A range of numbers, after one space.
+#[derive(Clone, Copy)]
+pub struct RangeText<'a>(pub &'a Range);
+
+impl fmt::Display for RangeText<'_> {
+    ghost output = { λ r. Some (range_text r.0.now) };
+
+    fn fmt<W: fmt::Write>(&self, f: &mut fmt::Formatter<W>) -> fmt::Result {
+        write!(f, " {}..{}", self.0.first, self.0.last)
+    }
+}
+
+/// The number of a record, after one space.
+#[derive(Clone, Copy)]
+pub struct RecordText<'a>(pub &'a Record);
+
+impl fmt::Display for RecordText<'_> {
+    ghost output = { λ r. Some (record_text r.0.now) };
+
+    fn fmt<W: fmt::Write>(&self, f: &mut fmt::Formatter<W>) -> fmt::Result {
+        write!(f, " {}", self.0.number)
+    }
+}
+
+/// Appends the lines of the parcels from `before` on.
+pub fn add_parcels<C: Exclusion>(
+    plan: &Plan,
+    cluster: &Cluster<C>,
+    before: u64,
+    text: &mut String,
+) -> Result<(), AllocError>
+where
+    C::Msg: Letter,
+    requires { before ≤ length cluster.now.sent }
+    ensures { OnOk result (string_bytes text.new ≡ string_bytes text.old
+        ++ parcel_lines C.Msg.letter_text plan.now before (drop before cluster.now.sent)) }
+{
+    for number in before..cluster.sent() {
+        add_numbered(plan, cluster, number, text)?;
+    }
+    Ok(())
+}
+
+/// Appends the line of the parcel of this number.
+fn add_numbered<C: Exclusion>(
+    plan: &Plan,
+    cluster: &Cluster<C>,
+    number: u64,
+    text: &mut String,
+) -> Result<(), AllocError>
+where
+    C::Msg: Letter,
+    requires { number < length cluster.now.sent }
+    ensures { OnOk result (string_bytes text.old
+        ++ parcel_lines C.Msg.letter_text plan.now number (drop number cluster.now.sent)
+        ≡ string_bytes text.new
+        ++ parcel_lines C.Msg.letter_text plan.now (number + 1) (drop (number + 1) cluster.now.sent)) }
+{
+    match cluster.parcel(number) {
+        Some(parcel) => add_parcel_line(plan, number, parcel.0, parcel.1, parcel.2, text),
+        None => unreachable!(),
+    }
+}
+
+/// Appends the line of a parcel.
+fn add_parcel_line<M: Letter>(
+    plan: &Plan,
+    number: u64,
+    from: NodeId,
+    to: NodeId,
+    parcel: &Parcel<M>,
+    text: &mut String,
+) -> Result<(), AllocError>
+    ensures { OnOk result (string_bytes text.new ≡ string_bytes text.old
+        ++ parcel_line M.letter_text plan.now number (from, to, parcel.now)) }
+{
+    text.push_str("  ")?;
+    text.write(Route {
+        plan,
+        number,
+        from,
+        to,
+    })?;
+    text.push_str(" ")?;
+    add_parcel(plan, parcel, text)?;
+    text.push_str("\n")
+}
+
+/// Appends the text of a parcel.
+fn add_parcel<M: Letter>(
+    plan: &Plan,
+    parcel: &Parcel<M>,
+    text: &mut String,
+) -> Result<(), AllocError>
+    ensures { OnOk result (string_bytes text.new
+        ≡ string_bytes text.old ++ parcel_text M.letter_text plan.now parcel.now) }
+{
+    match parcel {
+        Parcel::Guard(letter) => letter.tell(plan, text),
+        Parcel::Want(ranges) => add_want(ranges.as_slice(), text),
+        Parcel::Records(records) => add_records(records.as_slice(), text),
+    }
+}
+
+/// Appends a want of these ranges.
+fn add_want(ranges: &[Range], text: &mut String) -> Result<(), AllocError>
+    ensures { OnOk result (string_bytes text.new ≡ string_bytes text.old ++ want_text ranges.now) }
+{
+    text.push_str("want")?;
+    for range in ranges {
+        text.write(RangeText(range))?;
+    }
+    Ok(())
+}
+
+/// Appends the numbers of these records.
+fn add_records(records: &[Record], text: &mut String) -> Result<(), AllocError>
+    ensures { OnOk result (string_bytes text.new ≡ string_bytes text.old ++ records_text records.now) }
+{
+    text.push_str("records")?;
+    for entry in records {
+        text.write(RecordText(entry))?;
+    }
+    Ok(())
+}

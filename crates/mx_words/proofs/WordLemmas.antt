@@ -1,0 +1,77 @@
+-- What the matches of a command line say.
+use Rattle.std.proofs.Common.{◌≡◌, ◌∙◌, ◌<◌, ◌^◌, ℕ, Bool, List, [], Option, Some, None, arith, refl, sym, ap, true, false, ◌∷◌, IsSome, IfOk, IfErr, Result, Ok, Err}
+use Rattle.std.specs.Prelude.{option_and_then}
+use Rattle.std.specs.Str.Parse.{IsNumeral, ParsesUnsigned, digits_value, without_leading_plus}
+use Rattle.clap.specs.declared.parser.matches.ArgMatches.{ArgMatches}
+use Rattle.clap.specs.Words.{ReadsOne, Text, is_simple, one_text, subcommand_of, subcommand_rows_of}
+use Rattle.clap.specs.ValueTests.{is_unsigned_in}
+use Rattle.clap.specs.declared.builder.value_parser.ValueParser.TheVariants.{Unsigned}
+use Rattle.clap.specs.Walk.{rows_of}
+use Rattle.clap.specs.Kinds.{FailsBy, HasKind, IsAmong, Kinds}
+use Rattle.clap.specs.declared.error.Error.{Error}
+use Rattle.clap.specs.declared.error.kind.ErrorKind.{ErrorKind}
+use Rattle.clap.specs.declared.parser.matches.Found.{Found}
+use Rattle.clap.proofs.WalkLemmas.{one_text-rows}
+use Rattle.clap.proofs.ValueTestLemmas.{Accepts-accepts, accepts-Accepts}
+use Rattle.clap.specs.Faults.{fault_of, is_simple_and_free}
+use Rattle.clap.proofs.OnLiterals.{clap_on_literals}
+use Rattle.mx_words.specs.Words.{Task, mx_app, number_at, number_of, task_asked, task_in, where_none}
+
+-- ---- numbers
+
+number_is : (t : Text) → IsNumeral 10 (without_leading_plus t) → digits_value 10 (without_leading_plus t) < 2 ^ 64 → is_unsigned_in 0 18446744073709551615 t ≡ true
+number_is t numeral fits = Accepts-accepts false (Unsigned 0 18446744073709551615) t (numeral, fits, omega arith, omega arith)
+
+is_number : (t : Text) → is_unsigned_in 0 18446744073709551615 t ≡ true → IsNumeral 10 (without_leading_plus t) × (digits_value 10 (without_leading_plus t) < 2 ^ 64)
+is_number t h = let a = accepts-Accepts false (Unsigned 0 18446744073709551615) t h in (a.0, a.1)
+
+is_false : (b : Bool) → (b ≡ true → ⊥) → b ≡ false
+is_false true h = absurd (h refl)
+is_false false h = refl
+
+-- what a text reads as is the number that it writes
+module _ {E : Type 0} (G : List ℕ → Result ℕ E → Type 0) (only : (t : List ℕ) (r : Result ℕ E) → G t r → ParsesUnsigned 64 10 t r) where
+  text_read : (t : Text) (r : Option ℕ) → ReadsOne G t r → r ≡ number_of t
+  text_read t (Some n) h =
+      let parsed = only t (Ok n) h in
+      rw (number_is t parsed.0.0 parsed.0.1) (ap Some parsed.1)
+  text_read t None h = rw (is_false (is_unsigned_in 0 18446744073709551615 t) (λ yes. only t (Err h.0) h.1 (is_number t yes))) refl
+
+  found_read : (o : Option Text) (r : Option ℕ) → (o ≡ None → r ≡ None) → ((t : List ℕ) → o ≡ Some t → ReadsOne G t r) → r ≡ option_and_then number_of o
+  found_read None r none some = none refl
+  found_read (Some t) r none some = text_read t r (some t refl)
+
+  pub number_read : (f : Found) (id : Text) (r : Option ℕ) → (one_text f id ≡ None → r ≡ None) → ((t : List ℕ) → one_text f id ≡ Some t → ReadsOne G t r) → r ≡ number_at id (rows_of f)
+  number_read f id r none some = found_read (one_text f id) r none some ∙ ap (option_and_then number_of) (one_text-rows f id)
+
+-- ---- a parse
+
+pub mx_is_simple : is_simple_and_free mx_app ≡ true
+unfolding clap_on_literals mx_app
+mx_is_simple = refl
+
+pub mx_is_plain : is_simple mx_app ≡ true
+unfolding clap_on_literals mx_app
+mx_is_plain = refl
+
+task_read : (words : List Text) → fault_of mx_app words ≡ [] → task_asked words ≡ task_in (subcommand_of mx_app words)
+unfolding task_asked
+task_read words h = ap (λ kinds. where_none kinds (task_in (subcommand_of mx_app words))) h
+
+-- what a parse answers
+pub answered : (words : List Text) (r : Result ArgMatches Error) → FailsBy (fault_of mx_app words) r
+    → IfOk r (λ m. subcommand_rows_of m ≡ subcommand_of mx_app words)
+    → IfOk r (λ m. fault_of mx_app words ≡ []) × IfOk r (λ m. task_in (subcommand_rows_of m) ≡ task_asked words) × IfErr r (HasKind (fault_of mx_app words))
+answered words (Ok m) none rows = (none, ap task_in rows ∙ sym (task_read words none), tt)
+answered words (Err e) kinds rows = (tt, tt, kinds)
+
+-- ---- what an error's kind says of the words
+
+no_task : (kinds : Kinds) (k : ErrorKind) (o : Option Task) → IsAmong k kinds → IsSome (where_none kinds o) → ⊥
+no_task [] k o among s = absurd among
+no_task (x ∷ xs) k o among s = let bad : false ≡ true = s in cc
+
+-- words that ask for something are refused for want of memory alone
+pub no_task_among : (words : List Text) (k : ErrorKind) → IsAmong k (fault_of mx_app words) → IsSome (task_asked words) → ⊥
+unfolding task_asked
+no_task_among words k among s = no_task (fault_of mx_app words) k (task_in (subcommand_of mx_app words)) among s

@@ -1,0 +1,127 @@
+-- What the words of a command line ask for, as `clap` reads them.
+use Rattle.std.specs.Prelude.{◌≡◌, ◌≢◌, ◌⊎◌, ℕ, List, [], ◌∷◌, Option, Some, None, true, false, codes, map, if◌then◌else◌, option_map, option_and_then}
+use Rattle.std.specs.Borrow.{Bor}
+use Rattle.std.specs.Str.{bytes_eq}
+use Rattle.std.specs.Str.Parse.{digits_value, without_leading_plus}
+use Rattle.clap.specs.Words.{App, Row, Rule, Text, first_of, one_of, new_app, new_rule, subcommand_of, with_rule, with_subcommand}
+use Rattle.clap.specs.Faults.{fault_of}
+use Rattle.clap.specs.Kinds.{Kinds, IsAmong}
+use Rattle.clap.specs.ValueTests.{is_unsigned_in}
+use Rattle.clap.specs.declared.builder.command.Command.{Command}
+use Rattle.clap.specs.declared.builder.command.Command.TheViews.{out-Command}
+use Rattle.clap.specs.declared.builder.value_parser.ValueParser.TheVariants.{Unsigned}
+use Rattle.mx_words.specs.declared.words.Names.{Names}
+use Rattle.mx_words.specs.declared.words.Request.{Request}
+use Rattle.mx_words.specs.declared.words.Request.TheVariants.{Check, Replay, Explore}
+use Rattle.clap.specs.declared.error.kind.ErrorKind.{ErrorKind}
+use Rattle.clap.specs.declared.error.kind.ErrorKind.TheVariants.{DisplayHelp, DisplayVersion}
+
+abbrev pub plan_rule : Rule
+plan_rule = record (new_rule (codes "PLAN")) { required = true }
+
+abbrev pub events_rule : Rule
+events_rule = record (new_rule (codes "EVENTS")) { required = true }
+
+-- no argument of the command is one of its subcommands too
+abbrev pub HasNoGlobals : Command → Type 0
+HasNoGlobals command = (out-Command command).has_globals ≡ false
+
+-- `--seed S`, a number of 64 bits
+abbrev pub seed_rule : Rule
+seed_rule = record (new_rule (codes "seed")) { long = Some (codes "seed"); parser = Some (Unsigned 0 18446744073709551615); required = true }
+
+-- `--steps K`, a number to 1000000
+abbrev pub steps_rule : Rule
+steps_rule = record (new_rule (codes "steps")) { long = Some (codes "steps"); parser = Some (Unsigned 0 1000000); required = true }
+
+-- `check PLAN`
+abbrev pub check_app : App
+check_app = with_rule (new_app (codes "check")) plan_rule
+
+-- `replay PLAN EVENTS`
+abbrev pub replay_app : App
+replay_app = with_rule (with_rule (new_app (codes "replay")) plan_rule) events_rule
+
+-- `explore PLAN --seed S --steps K`
+abbrev pub explore_app : App
+explore_app = with_rule (with_rule (with_rule (new_app (codes "explore")) plan_rule) seed_rule) steps_rule
+
+abbrev pub mx_start : App
+mx_start = let a = new_app (codes "mx") in record a { top = record a.top { no_binary_name = true; subcommand_required = true; disable_help_subcommand = true; has_version = true } }
+
+-- the whole command line
+unfoldable pub mx_app : App
+mx_app = with_subcommand (with_subcommand (with_subcommand mx_start check_app.top) replay_app.top) explore_app.top
+
+abbrev pub texts_of : List (Bor Text) → List Text
+texts_of = map (λ word. word.now)
+
+-- ---- what is asked for
+
+-- `check PLAN`; `replay PLAN EVENTS`; `explore PLAN`, with a seed and a number of steps
+pub data Task : Type 0 where
+  check : Text → Task
+  replay : Text × Text → Task
+  explore : Text → ℕ → ℕ → Task
+
+-- the names of the plan and of the events
+abbrev pub names_of : Names → Text × Text
+names_of names = (names.plan.now, names.events.now)
+
+abbrev pub task_of : Request → Task
+task_of (Check plan) = check plan.now
+task_of (Replay names) = replay (names_of names)
+task_of (Explore wish) = explore wish.plan.now wish.seed wish.steps
+
+-- the number that a text writes, where it is one of 64 bits
+abbrev pub number_of : Text → Option ℕ
+number_of text =
+    if is_unsigned_in 0 18446744073709551615 text then Some (digits_value 10 (without_leading_plus text)) else None
+
+abbrev pub number_at : Text → List Row → Option ℕ
+number_at id rows = option_and_then number_of (one_of id rows)
+
+-- what was given for the arguments of each command
+abbrev pub check_in : List Row → Option Task
+check_in rows = option_map check (first_of (codes "PLAN") rows)
+
+abbrev pub replay_in : List Row → Option Task
+replay_in rows =
+    option_and_then (λ plan. option_map (λ events. replay (plan, events)) (first_of (codes "EVENTS") rows)) (first_of (codes "PLAN") rows)
+
+abbrev pub explore_in : List Row → Option Task
+explore_in rows = option_and_then (λ plan. option_and_then (λ seed. option_map (explore plan seed)
+    (number_at (codes "steps") rows)) (number_at (codes "seed") rows)) (first_of (codes "PLAN") rows)
+
+-- the command that was met, and what was given for it
+abbrev pub task_in : Option (Text × List Row) → Option Task
+task_in None = None
+task_in (Some p) =
+    if bytes_eq p.0 (codes "check") then check_in p.1
+    else if bytes_eq p.0 (codes "replay") then replay_in p.1
+    else if bytes_eq p.0 (codes "explore") then explore_in p.1
+    else None
+
+abbrev pub where_none : {X : Type 0} → Kinds → Option X → Option X
+where_none [] o = o
+where_none (k ∷ ks) o = None
+
+-- what the words ask for, where they are a command
+unfoldable pub task_asked : List Text → Option Task
+task_asked words = where_none (fault_of mx_app words) (task_in (subcommand_of mx_app words))
+
+-- ---- words that are no command
+
+-- a text is shown: help, or the version
+abbrev pub IsShown : ErrorKind → Type 0
+IsShown k = (k ≡ DisplayHelp) ⊎ (k ≡ DisplayVersion)
+
+-- the words ask for help, or for the version
+pub record AskHelp (words : List Text) : Type 0 where
+  pub some : fault_of mx_app words ≢ []
+  pub each : (k : ErrorKind) → IsAmong k (fault_of mx_app words) → IsShown k
+
+-- the words are no command
+pub record AreWrong (words : List Text) : Type 0 where
+  pub some : fault_of mx_app words ≢ []
+  pub each : (k : ErrorKind) → IsAmong k (fault_of mx_app words) → ¬ (IsShown k)

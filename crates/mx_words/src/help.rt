@@ -1,0 +1,74 @@
+//! The texts of help, and the version.
+
+/// What `mx --version` prints after the name: the version, and the line of the kit that it is proved with.
+pub(crate) const VERSION: &str = "0.1.0, proved by rattle-kit-13b logic dac8208d650f15bf";
+
+pub(crate) const MX: &str =
+    "Nodes that guard shared registers by distributed mutual exclusion: Ricart and Agrawala, Maekawa, Raymond";
+
+pub(crate) const CHECK: &str = "Prints what a plan says, and whom its nodes ask";
+
+pub(crate) const REPLAY: &str =
+    "Prints what comes of each event, each parcel that it sends, and where each node stands at the end";
+
+pub(crate) const EXPLORE: &str =
+    "Lets events drawn from a seed happen, and judges what came of them";
+
+pub(crate) const MX_EXAMPLE: &str =
+    "Example: three nodes by the algorithm of Ricart and Agrawala, and the events of one section.
+
+  plan.json    {\"algorithm\":\"ricart\",\"nodes\":[\"a\",\"b\",\"c\"],\"registers\":[\"count\"],\"sections\":10}
+  events.json  [[\"ask\",\"a\"],[\"deliver\",0],[\"deliver\",1],[\"deliver\",2],[\"deliver\",3],[\"enter\",\"a\"],[\"leave\",\"a\"]]
+
+  mx check plan.json
+  mx replay plan.json events.json
+  mx explore plan.json --seed 1 --steps 1000
+
+A name - is standard input. `mx COMMAND --help` tells what a command reads; docs/FORMATS.md has all formats.
+
+Status: 0 all went well; 1 a plan, its events, a file or an output at fault; 2 no such command;
+4 the verdict is that the trace is broken; 5 out of memory.";
+
+pub(crate) const CHECK_EXAMPLE: &str =
+    "A plan is an object of JSON. For the algorithm of Ricart and Agrawala:
+
+  {\"algorithm\":\"ricart\",\"nodes\":[\"a\",\"b\",\"c\"],\"registers\":[\"count\"],\"sections\":10}
+
+It has 1 to 21 nodes, 1 to 32 registers, the greatest section number (1 to 1000000), and may have an
+origin, the number at which stamps start. Maekawa's algorithm also wants the sets of arbiters,
+
+  \"quorums\":{\"kind\":\"plane\"}, {\"kind\":\"grid\",\"rows\":R,\"cols\":C} or {\"kind\":\"listed\",\"sets\":[[NODE, ..], ..]}
+
+and Raymond's the edges of a tree and the node that has the privilege at the start:
+
+  \"edges\":[[\"a\",\"b\"],[\"b\",\"c\"]],\"holder\":\"a\"
+
+After the line of the plan come, for Maekawa, lines `meet a b: c` of the arbiter that any two nodes
+share, and for Raymond lines `toward a: b` of each node's way to the holder. docs/FORMATS.md has all formats.";
+
+pub(crate) const REPLAY_EXAMPLE: &str =
+    "Example: the events of one section, in a cluster of three nodes.
+
+  plan.json    {\"algorithm\":\"ricart\",\"nodes\":[\"a\",\"b\",\"c\"],\"registers\":[\"count\"],\"sections\":10}
+  events.json  [[\"ask\",\"a\"],[\"deliver\",0],[\"deliver\",1],[\"deliver\",2],[\"deliver\",3],[\"enter\",\"a\"],[\"leave\",\"a\"]]
+
+  mx replay plan.json events.json
+
+Events are [\"ask\",NODE], [\"enter\",NODE], [\"read\",NODE,REGISTER], [\"write\",NODE,REGISTER,VALUE],
+[\"leave\",NODE], [\"tick\",NODE], [\"want\",NODE,NODE], [\"restart\",NODE] and [\"deliver\",K], where K counts the
+parcels sent so far from 0. For each event a line tells what came of it, and for each parcel that it sent,
+from whom to whom it goes and what it says. Then a line for each node tells where it stands and what its
+journal has, and the last line is the verdict. A name - is standard input. Where both are -, its first
+line is the plan and the rest is the events. `mx check --help` tells what a plan is; docs/FORMATS.md has
+all formats.";
+
+pub(crate) const EXPLORE_EXAMPLE: &str = "Example: a thousand steps drawn from the seed 1.
+
+  plan.json    {\"algorithm\":\"ricart\",\"nodes\":[\"a\",\"b\",\"c\"],\"registers\":[\"count\"],\"sections\":10}
+
+  mx explore plan.json --seed 1 --steps 1000
+
+The events are asking, entering, reading, writing, leaving, ticking, wanting, restarting and the delivery
+of one of the newest 64 parcels. The first line counts the steps, how often a node entered, and the
+parcels that were sent; the last line is the verdict. `mx check --help` tells what a plan is;
+docs/FORMATS.md has all formats.";
