@@ -2,7 +2,7 @@
 use Rattle.std.proofs.Common.{◌≡◌, ◌∙◌, ◌<◌, ◌≤◌, ◌+◌, ◌++◌, ℕ, List, ap, append_assoc, drop, get_or, length}
 use Rattle.std.proofs.lemmas.List.{at_drop_all, at_drop_more}
 use Rattle.mx_nodelaws.specs.Core.{Core}
-use Rattle.mx_network.specs.Step.{Group}
+use Rattle.mx_network.specs.Step.{ClusterState}
 use Rattle.mx_network.specs.declared.event.Event.{Event}
 use Rattle.mx_explorer.specs.Place.{place_of}
 use Rattle.mx_explorer.specs.declared.verdict.Verdict.{Verdict}
@@ -14,13 +14,13 @@ use Rattle.mx_commands.specs.VerdictLines.{verdict_line}
 
 module _ {H S M : Type 0} (core : Core H S M) (es : List Event) (k : ℕ) where
   -- one more event
-  pub drawn_more : (g new : Group S M) (d : Event) → k < length es → after_placed core g (place_of (get_or es k d) (length g.sent)) ≡ new
+  pub drawn_more : (g new : ClusterState S M) (d : Event) → k < length es → after_placed core g (place_of (get_or es k d) (length g.sent)) ≡ new
       → after_drawn core g (drop k es) ≡ after_drawn core new (drop (k + 1) es)
   unfolding after_drawn
-  drawn_more g new d lt is = at_drop_more (after_drawn core g) es k d lt ∙ ap (λ (x : Group S M). after_drawn core x (drop (k + 1) es)) is
+  drawn_more g new d lt is = at_drop_more (after_drawn core g) es k d lt ∙ ap (λ (x : ClusterState S M). after_drawn core x (drop (k + 1) es)) is
 
   -- all of them
-  pub drawn_end : (g : Group S M) → length es ≤ k → after_drawn core g (drop k es) ≡ g
+  pub drawn_end : (g : ClusterState S M) → length es ≤ k → after_drawn core g (drop k es) ≡ g
   unfolding after_drawn
   drawn_end g le = at_drop_all (after_drawn core g) es k le
 

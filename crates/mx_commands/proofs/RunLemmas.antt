@@ -12,7 +12,7 @@ use Rattle.mx_nodelaws.specs.Core.{Core}
 use Rattle.mx_member.specs.declared.acts.Act.{Act}
 use Rattle.mx_member.specs.Member.{MemberState}
 use Rattle.mx_member.specs.Steps.{start_of}
-use Rattle.mx_network.specs.Step.{Group, step_of, at_part, at_member, part_of, grown, answer_of, NamesNoNode}
+use Rattle.mx_network.specs.Step.{ClusterState, step_of, at_part, at_member, part_of, grown, answer_of, NamesNoNode}
 use Rattle.mx_network.specs.declared.event.Event.{Event}
 use Rattle.mx_network.specs.declared.event.Event.TheVariants as event
 use Rattle.mx_network.specs.declared.outcome.Outcome.{Outcome}
@@ -80,15 +80,15 @@ same_Ok x y e = cc
 not_Ok : {A : Type 0} (f : StepFault) (x : A) → ◌≡◌ {A = Result A StepFault} (Err f) (Ok x) → ⊥
 not_Ok f x e = cc
 
-module _ {H S M : Type 0} (core : Core H S M) (g new : Group S M) (e : Event) where
+module _ {H S M : Type 0} (core : Core H S M) (g new : ClusterState S M) (e : Event) where
   at_member_Ok : (i : ℕ) (a : Act M) (o : Option (MemberState S)) → at_member core g e i a o ≡ Ok new
       → (length new.members ≡ length g.members) × (length g.sent ≤ length new.sent)
   at_member_Ok i a None h = absurd (not_Ok _ _ h)
   at_member_Ok i a (Some m) h =
       let is : grown g e i (answer_of core a m) ≡ new = same_Ok _ _ h in
-      let longer : length (grown g e i (answer_of core a m)).sent ≡ length new.sent = ap (λ (q : Group S M). length q.sent) is in
+      let longer : length (grown g e i (answer_of core a m)).sent ≡ length new.sent = ap (λ (q : ClusterState S M). length q.sent) is in
       let more = sent_by i (answer_of core a m).letters in (
-        ap (λ (q : Group S M). length q.members) (sym is) ∙ length_set g.members i (answer_of core a m).state,
+        ap (λ (q : ClusterState S M). length q.members) (sym is) ∙ length_set g.members i (answer_of core a m).state,
         omega (arith, longer, length-append g.sent more),
       )
 
@@ -102,7 +102,7 @@ module _ {H S M : Type 0} (core : Core H S M) (g new : Group S M) (e : Event) wh
   grows h = at_part_Ok (part_of (length g.members) g.sent e) h
 
 -- an event of nodes of the plan
-pub has_nodes : {S M : Type 0} (g : Group S M) (e : Event) → NamesNodes (length g.members) e → NamesNoNode g e → ⊥
+pub has_nodes : {S M : Type 0} (g : ClusterState S M) (e : Event) → NamesNodes (length g.members) e → NamesNoNode g e → ⊥
 has_nodes g (event.Ask i) lt le = absurd (omega (arith, lt, le))
 has_nodes g (event.Enter i) lt le = absurd (omega (arith, lt, le))
 has_nodes g (event.Read i register) lt le = absurd (omega (arith, lt, le))
@@ -120,7 +120,7 @@ named_at n (e ∷ es) zero d all lt = all.0
 named_at n (e ∷ es) (suc k) d all lt = named_at n es k d all.1 (omega (arith, lt))
 
 -- the text of one event, from what was appended to an empty one
-pub text_is : {H S M : Type 0} (core : Core H S M) (letter : Fields → M → Text) (p : Fields) (k n : ℕ) (old new : Group S M) (e : Event) (o : Outcome) (t0 t1 t2 : Text)
+pub text_is : {H S M : Type 0} (core : Core H S M) (letter : Fields → M → Text) (p : Fields) (k n : ℕ) (old new : ClusterState S M) (e : Event) (o : Outcome) (t0 t1 t2 : Text)
     → new.trace ≡ old.trace ++ (record { event = e; outcome = o }) ∷ [] → n ≡ length old.sent → t0 ≡ []
     → t1 ≡ t0 ++ event_line p k e o → t2 ≡ t1 ++ parcel_lines letter p n (drop n new.sent) → t2 ≡ text_of core letter p k old new
 text_is core letter p k n old new e o t0 t1 t2 trace count empty line parcels =
@@ -135,23 +135,23 @@ after_after a b r = ap (λ l. let q : Report = record { texts = l; end = r.end }
 
 module _ {H S M : Type 0} (core : Core H S M) (letter : Fields → M → Text) (p : Fields) (es : List Event) where
   -- the report of the events from the k-th on
-  abbrev pub rest : ℕ → Group S M → Report
+  abbrev pub rest : ℕ → ClusterState S M → Report
   rest k g = run_from core letter p k g (drop k es)
 
-  rest_one : (k : ℕ) (g : Group S M) (d : Event) → k < length es
+  rest_one : (k : ℕ) (g : ClusterState S M) (d : Event) → k < length es
       → rest k g ≡ stepped core letter p k g (step_of core g (get_or es k d)) (λ new. rest (k + 1) new)
   unfolding run_from
   rest_one k g d h = at_drop_more (run_from core letter p k g) es k d h
 
-  pub rest_ok : (k : ℕ) (g new : Group S M) (d : Event) → k < length es → step_of core g (get_or es k d) ≡ Ok new
+  pub rest_ok : (k : ℕ) (g new : ClusterState S M) (d : Event) → k < length es → step_of core g (get_or es k d) ≡ Ok new
       → rest k g ≡ after_texts (text_of core letter p k g new ∷ []) (rest (k + 1) new)
   rest_ok k g new d h is = rest_one k g d h ∙ ap (λ r. stepped core letter p k g r (λ new. rest (k + 1) new)) is
 
-  pub rest_err : (k : ℕ) (g : Group S M) (f : StepFault) (d : Event) → k < length es → step_of core g (get_or es k d) ≡ Err f
+  pub rest_err : (k : ℕ) (g : ClusterState S M) (f : StepFault) (d : Event) → k < length es → step_of core g (get_or es k d) ≡ Err f
       → rest k g ≡ ends_with (Some (NoParcel k))
   rest_err k g f d h is = rest_one k g d h ∙ ap (λ r. stepped core letter p k g r (λ new. rest (k + 1) new)) is
 
-  pub rest_end : (k : ℕ) (g : Group S M) → length es ≤ k → rest k g ≡ whole (closing_text core letter p g)
+  pub rest_end : (k : ℕ) (g : ClusterState S M) → length es ≤ k → rest k g ≡ whole (closing_text core letter p g)
   unfolding run_from
   rest_end k g h = at_drop_all (run_from core letter p k g) es k h
 
@@ -167,7 +167,7 @@ ran_to t a b r done end e h =
     (ap (λ (q : Report). q.end) e, subst (λ (l : List Text). Appends a b (concat l)) (sym (ap (λ (q : Report). q.texts) e ∙ append_nil done)) h)
 
 -- a run that stops at an event
-pub stopped_at : {H S M : Type 0} (core : Core H S M) (letter : Fields → M → Text) (t : Bool) (a b : Held) (p : Fields) (es : List Event) (r : Report) (k : ℕ) (g : Group S M) (d : Event)
+pub stopped_at : {H S M : Type 0} (core : Core H S M) (letter : Fields → M → Text) (t : Bool) (a b : Held) (p : Fields) (es : List Event) (r : Report) (k : ℕ) (g : ClusterState S M) (d : Event)
     (s : Stop) (done : List Text) → k < length es → r ≡ after_texts done (rest core letter p es k g) → Appends a b (concat done)
     → StopsAt k (step_of core g (get_or es k d)) s → Ran t a b r (Err s)
 stopped_at core letter t a b p es r k g d s done lt so_far h (inl memory) =
@@ -192,9 +192,9 @@ stopped_by t u a b c r more done put_fault.Refused so_far h same is takes =
 stopped_by t u a b c r more done put_fault.Memory so_far h same is takes = some_keeps a b c r.texts (done_some a b r more done so_far h) same
 
 -- a cluster at rest has the members of its shape
-pub members_at_rest : {H S M : Type 0} (core : Core H S M) (p : Fields) (shape : H) (n : ℕ) (g : Group S M) → g ≡ at_rest core p shape → core.count shape ≡ n → length g.members ≡ n
+pub members_at_rest : {H S M : Type 0} (core : Core H S M) (p : Fields) (shape : H) (n : ℕ) (g : ClusterState S M) → g ≡ at_rest core p shape → core.count shape ≡ n → length g.members ≡ n
 members_at_rest {H} {S} {M} core p shape n g e count =
-    ap (λ (q : Group S M). length q.members) e ∙ length_each_below (λ i. start_of core shape i p.origin p.sections (length p.registers)) (core.count shape) ∙ count
+    ap (λ (q : ClusterState S M). length q.members) e ∙ length_each_below (λ i. start_of core shape i p.origin p.sections (length p.registers)) (core.count shape) ∙ count
 
 -- ---- refusals
 

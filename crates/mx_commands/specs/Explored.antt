@@ -5,7 +5,7 @@ use Rattle.mx_nodelaws.specs.Core.{Core}
 use Rattle.mx_ricart.specs.Step.{ricart_core}
 use Rattle.mx_maekawa.specs.Step.{maekawa_core}
 use Rattle.mx_raymond.specs.Step.{raymond_core}
-use Rattle.mx_network.specs.Step.{Group, step_of}
+use Rattle.mx_network.specs.Step.{ClusterState, step_of}
 use Rattle.mx_network.specs.declared.event.Event.{Event}
 use Rattle.mx_network.specs.declared.faults.StepFault.{StepFault}
 use Rattle.mx_network.specs.declared.outcome.Entry.{Entry}
@@ -38,17 +38,17 @@ or_stay g (Err fault) = g
 
 module _ {H S M : Type 0} (core : Core H S M) where
   -- a drawn event happens, by its place among the parcels sent; a delivery before any was sent is passed over
-  abbrev pub after_placed : Group S M → Option Event → Group S M
+  abbrev pub after_placed : ClusterState S M → Option Event → ClusterState S M
   after_placed g None = g
   after_placed g (Some e) = or_stay g (step_of core g e)
 
   -- the drawn events happen in turn
-  unfoldable pub after_drawn : Group S M → List Event → Group S M
+  unfoldable pub after_drawn : ClusterState S M → List Event → ClusterState S M
   after_drawn g [] = g
   after_drawn g (e ∷ es) = after_drawn (after_placed g (place_of e (length g.sent))) es
 
 -- the counts and the verdict, which is sound
-abbrev pub summary_text : {S M : Type 0} → ℕ → Group S M → Text
+abbrev pub summary_text : {S M : Type 0} → ℕ → ClusterState S M → Text
 summary_text steps g = explored_line steps (count_by is_entry g.trace) (length g.sent) ++ verdict_line Sound
 
 -- the text of a schedule that happens in the cluster of a plan, by its algorithm

@@ -3,7 +3,7 @@ use Rattle.std.specs.Prelude.{ℕ, ◌+◌, ◌<◌, ⊤, List, [], ◌∷◌, �
 use Rattle.mx_stamps.specs.Lists.{each_below}
 use Rattle.mx_nodelaws.specs.Core.{Core}
 use Rattle.mx_member.specs.Steps.{start_of}
-use Rattle.mx_network.specs.Step.{Group, step_of}
+use Rattle.mx_network.specs.Step.{ClusterState, step_of}
 use Rattle.mx_network.specs.declared.event.Event.{Event}
 use Rattle.mx_network.specs.declared.event.Event.TheVariants.{Ask, Enter, Read, Write, Leave, Tick, Want, Restart, Deliver}
 use Rattle.mx_network.specs.declared.faults.StepFault.{StepFault}
@@ -55,7 +55,7 @@ abbrev pub event_lines : Fields → ℕ → List Entry → Text
 event_lines p = texts_from (λ k e. event_line p k e.event e.outcome)
 
 -- the cluster of a plan, at rest
-abbrev pub at_rest : {H S M : Type 0} → Core H S M → Fields → H → Group S M
+abbrev pub at_rest : {H S M : Type 0} → Core H S M → Fields → H → ClusterState S M
 at_rest core p shape = record {
   members = each_below (λ i. start_of core shape i p.origin p.sections (length p.registers)) (core.count shape);
   sent = [];
@@ -64,22 +64,22 @@ at_rest core p shape = record {
 
 module _ {H S M : Type 0} (core : Core H S M) (letter_text : Fields → M → Text) (p : Fields) where
   -- what is new in the trace, and then the parcels that are new
-  abbrev pub text_of : ℕ → Group S M → Group S M → Text
+  abbrev pub text_of : ℕ → ClusterState S M → ClusterState S M → Text
   text_of k old new =
       event_lines p k (drop (length old.trace) new.trace)
       ++ parcel_lines letter_text p (length old.sent) (drop (length old.sent) new.sent)
 
   -- the text of one event, and then the rest; or there is no such parcel, since the events that are
   -- read name nodes of the plan
-  abbrev pub stepped : ℕ → Group S M → Result (Group S M) StepFault → (Group S M → Report) → Report
+  abbrev pub stepped : ℕ → ClusterState S M → Result (ClusterState S M) StepFault → (ClusterState S M → Report) → Report
   stepped k old (Ok new) rest = after_texts (text_of k old new ∷ []) (rest new)
   stepped k old (Err fault) rest = ends_with (Some (NoParcel k))
 
   -- a line for each node, and the verdict, which is sound: no cluster's trace is anything else
-  abbrev pub closing_text : Group S M → Text
+  abbrev pub closing_text : ClusterState S M → Text
   closing_text g = node_lines core p g ++ verdict_line Sound
 
   -- the events from the k-th on, from a state, and then the closing lines
-  unfoldable pub run_from : ℕ → Group S M → List Event → Report
+  unfoldable pub run_from : ℕ → ClusterState S M → List Event → Report
   run_from k g [] = whole (closing_text g)
   run_from k g (e ∷ es) = stepped k g (step_of core g e) (λ new. run_from (k + 1) new es)

@@ -10,7 +10,7 @@ use Rattle.mx_commands.specs.declared.source.SourceFault.TheVariants.{Memory}
 abbrev pub Telling : Type 0
 Telling = Option (List ℕ)
 
--- the answer is what is told, or want of memory
+-- the answer is what the source tells, or that memory ran out
 abbrev pub Tells : Telling → Result (Vec ℕ Global) SourceFault → Type 0
 Tells (Some bytes) (Ok v) = v.items ≡ bytes
 Tells (Some bytes) (Err fault) = fault ≡ Memory

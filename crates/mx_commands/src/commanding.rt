@@ -54,7 +54,7 @@ pub fn command<S: Source, O: Output, E: Output>(
     }
 }
 
-/// What is written where the words ask for no such thing.
+/// Writes the help that the words ask for, or why they are refused.
 fn refuse<O: Output, E: Output>(alloc: Global, e: &clap::Error, out: &mut O, err: &mut E) -> u8
     ensures memory { kind_of e.now ≡ ErrorKind.OutOfMemory → (result ≡ 5)
         × Keeps (O.written out.old) (O.written out.new) × MayTell (E.written err.old) (E.written err.new)
@@ -104,9 +104,9 @@ fn names_in<'a>(request: &Request<'a>) -> Names<'a>
     match request {
         Request::Check(plan) => Names { plan, events: plan },
         Request::Replay(names) => *names,
-        Request::Explore(wish) => Names {
-            plan: wish.plan,
-            events: wish.plan,
+        Request::Explore(exploration) => Names {
+            plan: exploration.plan,
+            events: exploration.plan,
         },
     }
 }
@@ -155,7 +155,7 @@ fn carry_out<S: Source, O: Output>(
     match request {
         Request::Check(plan) => check(alloc, plan, source, out),
         Request::Replay(names) => replay(alloc, names, source, out),
-        Request::Explore(wish) => explore(alloc, wish, source, out),
+        Request::Explore(exploration) => explore(alloc, exploration, source, out),
     }
 }
 

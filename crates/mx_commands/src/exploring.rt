@@ -24,25 +24,25 @@ use mx_plan::{Plan, Shape};
 use mx_raymond::Raymond;
 use mx_ricart::Ricart;
 use mx_texts::ExploredLine;
-use mx_words::Wish;
+use mx_words::Exploration;
 use std::alloc::{AllocError, Global};
 
-/// Reads a plan, draws a schedule of so many steps, lets its events happen, and prints the counts
+/// Reads a plan, draws a schedule of this many steps, does its events, and prints the counts
 /// and the verdict. Answers the status.
 pub(crate) fn explore<S: Source, O: Output>(
     alloc: Global,
-    wish: &Wish<'_>,
+    exploration: &Exploration<'_>,
     source: &mut S,
     out: &mut O,
 ) -> Result<u8, Stop>
     ensures ran { RanOf (O.takes_all out.old) (O.written out.old) (O.written out.new)
-        (S.told source.old) (task.explore wish.now.plan.now wish.now.seed wish.now.steps) result }
+        (S.told source.old) (task.explore exploration.now.plan.now exploration.now.seed exploration.now.steps) result }
     ensures refused { O.has_refused out.new ≡ refused_after result (O.has_refused out.old) }
     ensures zero { IfOk result (λ status. status ≡ 0) }
     ensures stays { O.takes_all out.new ≡ O.takes_all out.old }
 {
-    let plan = fetch_plan(alloc, source, wish.plan)?;
-    explore_plan(alloc, &plan, wish.seed, wish.steps, out)
+    let plan = fetch_plan(alloc, source, exploration.plan)?;
+    explore_plan(alloc, &plan, exploration.seed, exploration.steps, out)
 }
 
 fn explore_plan<O: Output>(

@@ -10,7 +10,7 @@ use std::alloc::{AllocError, Global};
 #[derive(Clone, Copy, Debug, PartialEq, Eq)]
 pub enum PutFault {
     Refused,
-    /// A growth was refused.
+    /// Memory ran out.
     Memory,
 }
 

@@ -63,7 +63,7 @@ fn replay_one<O: Output>(alloc: Global, bytes: &[u8], out: &mut O) -> Result<u8,
     replay_events(alloc, &plan, rest, out)
 }
 
-/// What stands before the first line feed, and what follows it.
+/// The bytes before the first line feed, and those behind it.
 fn split_line(bytes: &[u8]) -> (&[u8], &[u8])
     ensures line { result.0.now ≡ before_first (λ b. b == 10) bytes.now }
     ensures rest { result.1.now ≡ after_first (λ b. b == 10) bytes.now }
@@ -76,7 +76,7 @@ fn split_line(bytes: &[u8]) -> (&[u8], &[u8])
     }
 }
 
-/// Where the first line feed stands, or the length.
+/// The place of the first line feed, or the length where there is none.
 fn first_feed(bytes: &[u8]) -> usize
     ensures value { result ≡ position_or_len (λ b. b == 10) bytes.now }
     ensures within { result ≤ length bytes.now }

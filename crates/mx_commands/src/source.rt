@@ -10,7 +10,7 @@ use std::alloc::{AllocError, Global};
 pub enum SourceFault {
     /// There is nothing of this name, or it can't be read.
     Unreadable,
-    /// A growth was refused.
+    /// Memory ran out.
     Memory,
 }
 

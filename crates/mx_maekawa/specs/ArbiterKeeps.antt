@@ -13,12 +13,12 @@ use Rattle.mx_maekawa.specs.declared.lock.Lock.{Lock}
 use Rattle.mx_maekawa.specs.Node.{Node}
 use Rattle.mx_maekawa.specs.Step.{by_arbiter, seeing}
 use Rattle.mx_maekawa.specs.ArbiterStep.{silent, sending, lock_letter, grant, is_below, fail_least, overtaking, rank_against, rank_by, least_of, others_at, waiting_for, queue, is_for, is_overtaken, take_fresh, take_live, take_request, is_exactly, or_else, waiting_at, unlocking, taking_back, take_relinquish, ended_at, ending, is_up_to, take_release}
-use Rattle.mx_maekawa.specs.Good.{NodeWorld, IsReached, IsNodeOk, IsCalm, IsSound, IsSafe}
-use Rattle.mx_maekawa.specs.ArbiterStep.{Did}
+use Rattle.mx_maekawa.specs.Good.{NodeWorld, IsReached, IsNodeOk, HasNoOverdueInquiry, IsSound, IsSafe}
+use Rattle.mx_maekawa.specs.ArbiterStep.{ArbiterDone}
 use Rattle.mx_maekawa.specs.Parts.{aside_sound, one_letter}
 use Rattle.mx_maekawa.specs.Cascades.{now_is, both_sound, grant_sound}
 use Rattle.mx_maekawa.specs.RequesterKeeps.{safe_of, still_safe}
-use Rattle.mx_maekawa.specs.Moves.{IsSendable}
+use Rattle.mx_maekawa.specs.Changes.{IsSendable}
 use Rattle.mx_maekawa.specs.LockParts.{unlocked_sound}
 
 exactly_means : (o : Option Lock) (stamp : Stamp) (g : ℕ) → is_exactly o stamp g ≡ true → (lock : Lock) × (o ≡ Some lock) × (lock.stamp ≡ stamp) × (lock.grant ≡ g)
@@ -36,8 +36,8 @@ module _ (w : NodeWorld) (i : ℕ) (s : Node) (good : IsSafe w) (at : IsNode w i
   ok_s : IsNodeOk w i s
   ok_s = good.sound.nodes i s at
 
-  calm_s : IsCalm s.requester
-  calm_s = good.calm i s at
+  none_overdue_s : HasNoOverdueInquiry s.requester
+  none_overdue_s = good.none_overdue i s at
 
   -- letters
 
@@ -72,8 +72,8 @@ module _ (w : NodeWorld) (i : ℕ) (s : Node) (good : IsSafe w) (at : IsNode w i
       IsSafe (after w i (by_arbiter (seeing s number) (sending (record (s.arbiter) { waiting = waiting }) letters)))
   saw_safe number waiting letters may =
       safe_of w i s good at {A = Unit {0}} (by_arbiter (seeing s number) (sending (record (s.arbiter) { waiting = waiting }) letters))
-      (aside_sound w i s good.sound at {A = Unit {0}} tt s.requester.failed s.requester.asked (max s.requester.highest number) waiting s.arbiter.ended s.arbiter.last letters ok_s.asked_held (omega arith) (omega arith) ok_s.last_reached may)
-      calm_s
+      (aside_sound w i s good.sound at {A = Unit {0}} tt s.requester.failed s.requester.remembered (max s.requester.highest number) waiting s.arbiter.ended s.arbiter.last letters ok_s.remembered_held (omega arith) (omega arith) ok_s.last_reached may)
+      none_overdue_s
 
   queue_safe : (o : Option Lock) (stamp : Stamp) → s.arbiter.lock ≡ o → IsSafe (after w i (by_arbiter (seeing s stamp.number) (queue o stamp s.arbiter)))
   queue_safe None stamp is =
@@ -83,14 +83,14 @@ module _ (w : NodeWorld) (i : ℕ) (s : Node) (good : IsSafe w) (at : IsNode w i
       let second = by_arbiter mid (grant mid.arbiter) in
       safe_of w i s good at {A = Unit {0}} (by_arbiter (seeing s stamp.number) (queue None stamp s.arbiter))
       (both_sound i {A = Unit {0}} {B = Unit {0}} w first second (grant_sound i (after w i first) mid saw.sound (now_is i w s first at)))
-      calm_s
+      none_overdue_s
   queue_safe (Some lock) stamp is =
       let a = waiting_for s.arbiter stamp in
       saw_safe stamp.number (slice_set s.arbiter.waiting stamp.node (Some stamp)) (rank_by lock stamp (least_of (others_at a stamp.node) a.count)) (rank_may (record (seeing s stamp.number) { arbiter = a }) lock stamp (least_of (others_at a stamp.node) a.count) is)
 
   pub request_safe : (stamp : Stamp) → IsSafe (after w i (by_arbiter (seeing s stamp.number) (take_request stamp s.arbiter)))
   request_safe stamp =
-      let P : Did → Type 0 = λ d. IsSafe (after w i (by_arbiter (seeing s stamp.number) d)) in
+      let P : ArbiterDone → Type 0 = λ d. IsSafe (after w i (by_arbiter (seeing s stamp.number) d)) in
       let a = s.arbiter in
       let nothing : P (silent a) = saw_safe stamp.number a.waiting [] (none_may (seeing s stamp.number)) in
       cond_case P (nat_lt (ended_at a stamp.node) stamp.number) (take_live stamp a) (silent a)
@@ -116,7 +116,7 @@ module _ (w : NodeWorld) (i : ℕ) (s : Node) (good : IsSafe w) (at : IsNode w i
       let second = by_arbiter mid (grant mid.arbiter) in
       safe_of w i s good at {A = Unit {0}} (by_arbiter s (grant (taking_back stamp s.arbiter)))
       (both_sound i {A = Unit {0}} {B = Unit {0}} w first second (grant_sound i (after w i first) mid ended (now_is i w s first at)))
-      calm_s)
+      none_overdue_s)
       (λ _. still_safe w i s good at {A = Unit {0}} tt)
 
   -- RELEASE
@@ -136,7 +136,7 @@ module _ (w : NodeWorld) (i : ℕ) (s : Node) (good : IsSafe w) (at : IsNode w i
       let second = by_arbiter mid (grant mid.arbiter) in
       safe_of w i s good at {A = Unit {0}} (by_arbiter s (grant (unlocking a)))
       (both_sound i {A = Unit {0}} {B = Unit {0}} w first second (grant_sound i (after w i first) mid ended (now_is i w s first at)))
-      calm_s)
+      none_overdue_s)
       (λ _. safe_of w i s good at {A = Unit {0}} (by_arbiter s (silent a))
-      (aside_sound w i s good.sound at {A = Unit {0}} tt s.requester.failed s.requester.asked s.requester.highest a.waiting a.ended a.last [] ok_s.asked_held (omega arith) (omega arith) reached (none_may (record s { arbiter = a })))
-      calm_s)
+      (aside_sound w i s good.sound at {A = Unit {0}} tt s.requester.failed s.requester.remembered s.requester.highest a.waiting a.ended a.last [] ok_s.remembered_held (omega arith) (omega arith) reached (none_may (record s { arbiter = a })))
+      none_overdue_s)

@@ -43,14 +43,14 @@ abbrev pub others_at : ArbiterState → ℕ → ℕ → Option Stamp
 others_at a but j = if nat_eq j but then None else waiting_at a j
 
 -- what a step of the arbiter gives: its next state and its letters
-abbrev pub Did : Type 0
-Did = Done ArbiterState (Unit {0}) MaekawaMsg
+abbrev pub ArbiterDone : Type 0
+ArbiterDone = Done ArbiterState (Unit {0}) MaekawaMsg
 
 -- nothing is sent
-abbrev pub silent : ArbiterState → Did
+abbrev pub silent : ArbiterState → ArbiterDone
 silent a = record { state = a; answer = tt; letters = [] }
 
-abbrev pub sending : ArbiterState → List (ℕ × MaekawaMsg) → Did
+abbrev pub sending : ArbiterState → List (ℕ × MaekawaMsg) → ArbiterDone
 sending a letters = record { state = a; answer = tt; letters = letters }
 
 -- the grant of the lock, if there is a lock
@@ -66,18 +66,18 @@ lock_letter (Some lock) = (lock.stamp.node, Locked lock.stamp lock.grant lock.la
 abbrev pub locking : ArbiterState → Stamp → ArbiterState
 locking a u = record a { waiting = slice_set a.waiting u.node None; granted = a.granted + 1; lock = Some (record { stamp = u; grant = a.granted + 1; last = a.last }) }
 
-abbrev pub locked : ArbiterState → Stamp → Did
+abbrev pub locked : ArbiterState → Stamp → ArbiterDone
 locked a u = sending (locking a u) ((u.node, Locked u (a.granted + 1) a.last) ∷ [])
 
-abbrev pub grant_to : Option Stamp → ArbiterState → Did
+abbrev pub grant_to : Option Stamp → ArbiterState → ArbiterDone
 grant_to None a = silent a
 grant_to (Some u) a = if nat_lt a.granted last_number then locked a u else silent a
 
-abbrev pub grant_in : Option Lock → ArbiterState → Did
+abbrev pub grant_in : Option Lock → ArbiterState → ArbiterDone
 grant_in None a = grant_to (least_of (waiting_at a) a.count) a
 grant_in (Some lock) a = silent a
 
-abbrev pub grant : ArbiterState → Did
+abbrev pub grant : ArbiterState → ArbiterDone
 grant a = grant_in a.lock a
 
 -- there is a request that waits, and it is before s
@@ -105,7 +105,7 @@ rank_against lock s other = if is_before_of lock.stamp s || is_below other s the
 abbrev pub rank_by : Lock → Stamp → Option Stamp → List (ℕ × MaekawaMsg)
 rank_by lock s other = if nat_eq lock.stamp.node s.node then (s.node, Inquire lock.stamp lock.grant) ∷ [] else rank_against lock s other
 
-abbrev pub rank : Lock → Stamp → ArbiterState → Did
+abbrev pub rank : Lock → Stamp → ArbiterState → ArbiterDone
 rank lock s a = sending a (rank_by lock s (least_of (others_at a s.node) a.count))
 
 -- REQUEST with stamp s.
@@ -116,7 +116,7 @@ rank lock s a = sending a (rank_by lock s (least_of (others_at a s.node) a.count
 abbrev pub waiting_for : ArbiterState → Stamp → ArbiterState
 waiting_for a s = record a { waiting = slice_set a.waiting s.node (Some s) }
 
-abbrev pub queue : Option Lock → Stamp → ArbiterState → Did
+abbrev pub queue : Option Lock → Stamp → ArbiterState → ArbiterDone
 queue None s a = grant (waiting_for a s)
 queue (Some lock) s a = rank lock s (waiting_for a s)
 
@@ -135,13 +135,13 @@ is_for (Some lock) s = is_same_as lock.stamp s
 abbrev pub is_overtaken : ArbiterState → Stamp → Bool
 is_overtaken a s = is_later (stamp_of a.lock) s || is_later (waiting_at a s.node) s
 
-abbrev pub take_fresh : Stamp → ArbiterState → Did
+abbrev pub take_fresh : Stamp → ArbiterState → ArbiterDone
 take_fresh s a = if is_overtaken a s then silent a else queue a.lock s a
 
-abbrev pub take_live : Stamp → ArbiterState → Did
+abbrev pub take_live : Stamp → ArbiterState → ArbiterDone
 take_live s a = if is_for a.lock s then sending a (lock_letter a.lock) else take_fresh s a
 
-abbrev pub take_request : Stamp → ArbiterState → Did
+abbrev pub take_request : Stamp → ArbiterState → ArbiterDone
 take_request s a = if nat_lt (ended_at a s.node) s.number then take_live s a else silent a
 
 -- RELINQUISH from the node of s: where the lock is for exactly this stamp and grant it ends, and the
@@ -159,7 +159,7 @@ or_else (Some u) s = Some u
 abbrev pub taking_back : Stamp → ArbiterState → ArbiterState
 taking_back s a = record a { lock = None; waiting = slice_set a.waiting s.node (or_else (waiting_at a s.node) s) }
 
-abbrev pub take_relinquish : Stamp → ℕ → ArbiterState → Did
+abbrev pub take_relinquish : Stamp → ℕ → ArbiterState → ArbiterDone
 take_relinquish s g a = if is_exactly a.lock s g then grant (taking_back s a) else silent a
 
 -- RELEASE from the node of s: all its requests up to s have ended, and a lock for one of them ends.
@@ -180,5 +180,5 @@ abbrev pub is_up_to : Option Lock → Stamp → Bool
 is_up_to None s = false
 is_up_to (Some lock) s = nat_eq lock.stamp.node s.node && nat_lt lock.stamp.number (s.number + 1)
 
-abbrev pub take_release : Stamp → ℕ → ArbiterState → Did
+abbrev pub take_release : Stamp → ℕ → ArbiterState → ArbiterDone
 take_release s t a = if is_up_to a.lock s then grant (unlocking (ending s t a)) else silent (ending s t a)

@@ -14,9 +14,9 @@ use Rattle.mx_maekawa.specs.declared.lock.Lock.{Lock}
 use Rattle.mx_maekawa.specs.Node.{Node}
 use Rattle.mx_maekawa.specs.RequesterStep.{held_at, back_at, is_own}
 use Rattle.mx_maekawa.specs.Good.{NodeWorld, IsBusy, IsEnded, IsGiven, IsReached, IsOver, IsLockedFor, IsEntered, IsHeldOk, IsPlaced, IsNodeOk, IsLockedOk, IsLetterOk, IsSound}
-use Rattle.mx_maekawa.specs.Moves.{IsToEnd, Moves, IsGranted, IsGivingBack, IsSendable}
+use Rattle.mx_maekawa.specs.Changes.{IsToEnd, MovesForward, IsGranted, IsGivingBack, IsSendable}
 
-module _ {A : Type 0} (w : NodeWorld) (i : ℕ) (s : Node) (done : Done Node A MaekawaMsg) (good : IsSound w) (at : IsNode w i s) (moves : Moves w i s done.state) (may : (b : ℕ) (m : MaekawaMsg) → IsIn (b, m) done.letters → IsSendable w i s done.state b m) where
+module _ {A : Type 0} (w : NodeWorld) (i : ℕ) (s : Node) (done : Done Node A MaekawaMsg) (good : IsSound w) (at : IsNode w i s) (moves : MovesForward w i s done.state) (may : (b : ℕ) (m : MaekawaMsg) → IsIn (b, m) done.letters → IsSendable w i s done.state b m) where
   pub reached_after : (n : ℕ) → IsReached w n → IsReached (after w i done) n
   reached_after n h = still_reached w i s done at (λ x. x.requester.mine) moves.mine n h
 
@@ -161,7 +161,7 @@ module _ {A : Type 0} (w : NodeWorld) (i : ℕ) (s : Node) (done : Done Node A M
         lock_last = λ lock has. let r = ok.lock_last lock has in (r.0, sent_after w i s done at j lock.stamp.node (Locked lock.stamp lock.grant lock.last) r.1);
         held = λ busy a g has. held_after j t a g tat busy has (ok.held busy a g has);
         inside_holds = ok.inside_holds;
-        asked_held = ok.asked_held;
+        remembered_held = ok.remembered_held;
         entered = λ some. entered_after j t tat (ok.entered some);
       }
 

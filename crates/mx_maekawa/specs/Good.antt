@@ -6,11 +6,11 @@ use Rattle.mx_letters.specs.declared.maekawa.MaekawaMsg.TheVariants.{Request, Lo
 use Rattle.mx_nodelaws.specs.World.{World, IsNode, WasSent}
 use Rattle.mx_nodelaws.specs.declared.phase.Phase.TheVariants.{Inside}
 use Rattle.mx_nodelaws.specs.Phases.{is_busy}
-use Rattle.mx_nodelaws.specs.Plain.{Small, PlainStamp, PlainPhase, IsPlainWorld}
+use Rattle.mx_nodelaws.specs.Bounds.{IsU64, BoundedStamp, BoundedPhase, IsBoundedWorld}
 use Rattle.mx_nodelaws.specs.Raised.{IsReachedBy}
 use Rattle.mx_maekawa.specs.declared.lock.Lock.{Lock}
 use Rattle.mx_maekawa.specs.Node.{RequesterState, ArbiterState, Node}
-use Rattle.mx_maekawa.specs.RequesterStep.{is_own, held_at, asked_at, back_at, has_failed}
+use Rattle.mx_maekawa.specs.RequesterStep.{is_own, held_at, remembered_at, back_at, has_failed}
 use Rattle.mx_maekawa.specs.ArbiterStep.{waiting_at, ended_at}
 
 abbrev pub NodeWorld : Type 0
@@ -94,7 +94,7 @@ pub record IsNodeOk (w : NodeWorld) (i : ℕ) (s : Node) : Type 0 where
   -- who is inside holds a grant of each arbiter of its set
   pub inside_holds : (n : ℕ) → s.requester.phase ≡ Inside n → (a : ℕ) → is_own s.requester a ≡ true → (g : ℕ) × (held_at s.requester a ≡ Some g)
   -- a remembered inquiry is for the grant that is held
-  pub asked_held : (a g : ℕ) → asked_at s.requester a ≡ Some g → held_at s.requester a ≡ Some g
+  pub remembered_held : (a g : ℕ) → remembered_at s.requester a ≡ Some g → held_at s.requester a ≡ Some g
   pub entered : 0 < s.requester.mine → IsEntered w i s
 
 -- what holds of each LOCKED that was sent
@@ -134,55 +134,55 @@ pub record IsSound (w : NodeWorld) : Type 0 where
   pub letters : (a b : ℕ) (m : MaekawaMsg) → WasSent w a b m → IsLetterOk w a b m
 
 -- no inquiry is remembered while an arbiter has failed. A whole step keeps this, its parts do not
-abbrev pub IsCalm : RequesterState → Type 0
-IsCalm r = (a g b : ℕ) → b < r.count → asked_at r a ≡ Some g → has_failed r b ≡ false
+abbrev pub HasNoOverdueInquiry : RequesterState → Type 0
+HasNoOverdueInquiry r = (a g b : ℕ) → b < r.count → remembered_at r a ≡ Some g → has_failed r b ≡ false
 
 pub record IsSafe (w : NodeWorld) : Type 0 where
   pub sound : IsSound w
-  pub calm : (i : ℕ) (s : Node) → IsNode w i s → IsCalm s.requester
+  pub none_overdue : (i : ℕ) (s : Node) → IsNode w i s → HasNoOverdueInquiry s.requester
 
 -- each number in a letter is a u64 value, and each name a node
-abbrev pub PlainLetter : ℕ → MaekawaMsg → Type 0
-PlainLetter n (Request stamp) = PlainStamp n stamp
-PlainLetter n (Locked stamp g c) = PlainStamp n stamp × Small g × Small c
-PlainLetter n (Failed stamp) = PlainStamp n stamp
-PlainLetter n (Inquire stamp g) = PlainStamp n stamp × Small g
-PlainLetter n (Relinquish stamp g) = PlainStamp n stamp × Small g
-PlainLetter n (Release stamp t) = PlainStamp n stamp × Small t
+abbrev pub BoundedLetter : ℕ → MaekawaMsg → Type 0
+BoundedLetter n (Request stamp) = BoundedStamp n stamp
+BoundedLetter n (Locked stamp g c) = BoundedStamp n stamp × IsU64 g × IsU64 c
+BoundedLetter n (Failed stamp) = BoundedStamp n stamp
+BoundedLetter n (Inquire stamp g) = BoundedStamp n stamp × IsU64 g
+BoundedLetter n (Relinquish stamp g) = BoundedStamp n stamp × IsU64 g
+BoundedLetter n (Release stamp t) = BoundedStamp n stamp × IsU64 t
 
 -- the same for the parts of a node's state
-pub record PlainRequester (n : ℕ) (r : RequesterState) : Type 0 where
+pub record BoundedRequester (n : ℕ) (r : RequesterState) : Type 0 where
   pub me : r.me < n
   pub own : (a : ℕ) → is_own r a ≡ true → a < n
   pub count : r.count ≤ n
-  pub limit : Small r.limit
-  pub phase : PlainPhase r.phase
-  pub highest : Small r.highest
-  pub issued : Small r.issued
-  pub ours : PlainStamp n r.ours
-  pub held : (a g : ℕ) → held_at r a ≡ Some g → Small g
-  pub back : (a x : ℕ) → back_at r a ≡ x → Small x
-  pub asked : (a g : ℕ) → asked_at r a ≡ Some g → Small g
-  pub top : Small r.top
-  pub mine : Small r.mine
+  pub limit : IsU64 r.limit
+  pub phase : BoundedPhase r.phase
+  pub highest : IsU64 r.highest
+  pub issued : IsU64 r.issued
+  pub ours : BoundedStamp n r.ours
+  pub held : (a g : ℕ) → held_at r a ≡ Some g → IsU64 g
+  pub back : (a x : ℕ) → back_at r a ≡ x → IsU64 x
+  pub remembered : (a g : ℕ) → remembered_at r a ≡ Some g → IsU64 g
+  pub top : IsU64 r.top
+  pub mine : IsU64 r.mine
 
-pub record PlainLock (n : ℕ) (lock : Lock) : Type 0 where
-  pub stamp : PlainStamp n lock.stamp
-  pub grant : Small lock.grant
-  pub last : Small lock.last
+pub record BoundedLock (n : ℕ) (lock : Lock) : Type 0 where
+  pub stamp : BoundedStamp n lock.stamp
+  pub grant : IsU64 lock.grant
+  pub last : IsU64 lock.last
 
-pub record PlainArbiter (n : ℕ) (a : ArbiterState) : Type 0 where
+pub record BoundedArbiter (n : ℕ) (a : ArbiterState) : Type 0 where
   pub count : a.count ≤ n
-  pub lock : (lock : Lock) → a.lock ≡ Some lock → PlainLock n lock
-  pub granted : Small a.granted
-  pub waiting : (j : ℕ) (u : Stamp) → waiting_at a j ≡ Some u → PlainStamp n u
-  pub ended : (j x : ℕ) → ended_at a j ≡ x → Small x
-  pub last : Small a.last
+  pub lock : (lock : Lock) → a.lock ≡ Some lock → BoundedLock n lock
+  pub granted : IsU64 a.granted
+  pub waiting : (j : ℕ) (u : Stamp) → waiting_at a j ≡ Some u → BoundedStamp n u
+  pub ended : (j x : ℕ) → ended_at a j ≡ x → IsU64 x
+  pub last : IsU64 a.last
 
-pub record PlainNode (n : ℕ) (s : Node) : Type 0 where
-  pub requester : PlainRequester n s.requester
-  pub arbiter : PlainArbiter n s.arbiter
+pub record BoundedNode (n : ℕ) (s : Node) : Type 0 where
+  pub requester : BoundedRequester n s.requester
+  pub arbiter : BoundedArbiter n s.arbiter
 
 pub record IsGood (w : NodeWorld) : Type 0 where
   pub safe : IsSafe w
-  pub plain : IsPlainWorld PlainNode PlainLetter w
+  pub bounded : IsBoundedWorld BoundedNode BoundedLetter w

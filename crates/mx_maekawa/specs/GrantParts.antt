@@ -17,7 +17,7 @@ use Rattle.mx_maekawa.specs.Good.{NodeWorld, IsBusy, IsGiven, IsLockedFor, IsHel
 use Rattle.mx_maekawa.specs.Places.{get_or_other, get_or_same}
 use Rattle.mx_maekawa.specs.Frame.{sound_after, node_ok_after, reached_after}
 use Rattle.mx_maekawa.specs.Parts.{held_as, entered_as, one_letter}
-use Rattle.mx_maekawa.specs.Moves.{Moves, IsGivingBack, IsSendable}
+use Rattle.mx_maekawa.specs.Changes.{MovesForward, IsGivingBack, IsSendable}
 
 module _ (w : NodeWorld) (i : ℕ) (s : Node) (good : IsSound w) (at : IsNode w i s) where
   was_ok : IsNodeOk w i s
@@ -55,7 +55,7 @@ module _ (w : NodeWorld) (i : ℕ) (s : Node) (good : IsSound w) (at : IsNode w 
         | inl e ↦ absurd (none_is_no_some h (sym none ∙ subst (λ x. held_at s.requester x ≡ Some h) e has))
         | inr ne ↦ get_or_other s.requester.held a b (Some g) None ne ∙ has
       ] in
-      let moves : Moves w i s new = record {
+      let moves : MovesForward w i s new = record {
         own = refl;
         issued = omega arith;
         mine = omega arith;
@@ -103,26 +103,26 @@ module _ (w : NodeWorld) (i : ℕ) (s : Node) (good : IsSound w) (at : IsNode w 
           | inr old ↦ held_as (after w i done) s new b x refl refl (omega arith) refl (kept.held busy b x old)
         ];
         inside_holds = λ n inside. absurd (waiting_not_inside s.requester.phase n waiting inside);
-        asked_held = λ b x was. other b x (kept.asked_held b x was);
+        remembered_held = λ b x was. other b x (kept.remembered_held b x was);
         entered = λ some. let en = kept.entered some in entered_as (after w i done) i s new refl refl en (λ n inside. absurd (waiting_not_inside s.requester.phase n waiting inside)) en.ended;
       })
 
   -- a grant is given back
 
-  pub gave_sound : {A : Type 0} (answer : A) (a g x : ℕ) (held : List (Option ℕ)) (asked : List (Option ℕ)) (failed : List Bool) → a < 21 → s.requester.phase ≡ Waiting → length held ≡ 21 →
+  pub gave_sound : {A : Type 0} (answer : A) (a g x : ℕ) (held : List (Option ℕ)) (remembered : List (Option ℕ)) (failed : List Bool) → a < 21 → s.requester.phase ≡ Waiting → length held ≡ 21 →
       ((b y : ℕ) → get_or held b None ≡ Some y → (held_at s.requester b ≡ Some y) × (b ≢ a)) →
       ((b y : ℕ) → held_at s.requester b ≡ Some y → b ≢ a → get_or held b None ≡ Some y) →
-      ((b y : ℕ) → get_or asked b None ≡ Some y → get_or held b None ≡ Some y) →
+      ((b y : ℕ) → get_or remembered b None ≡ Some y → get_or held b None ≡ Some y) →
       back_at s.requester a ≤ x → ((h : ℕ) → held_at s.requester a ≡ Some h → h ≤ x) → g ≤ x →
-      IsSound (after w i (record { state = record s { requester = record (s.requester) { back = slice_set s.requester.back a x; held = held; asked = asked; failed = failed } }; answer = answer; letters = (a, Relinquish s.requester.ours g) ∷ [] }))
-  gave_sound {A} answer a g x held asked failed few waiting places from to asked_held back_le held_le g_le =
-      let new : Node = record s { requester = record (s.requester) { back = slice_set s.requester.back a x; held = held; asked = asked; failed = failed } } in
+      IsSound (after w i (record { state = record s { requester = record (s.requester) { back = slice_set s.requester.back a x; held = held; remembered = remembered; failed = failed } }; answer = answer; letters = (a, Relinquish s.requester.ours g) ∷ [] }))
+  gave_sound {A} answer a g x held remembered failed few waiting places from to remembered_held back_le held_le g_le =
+      let new : Node = record s { requester = record (s.requester) { back = slice_set s.requester.back a x; held = held; remembered = remembered; failed = failed } } in
       let letter : MaekawaMsg = Relinquish s.requester.ours g in
       let done : Done Node A MaekawaMsg = record { state = new; answer = answer; letters = (a, letter) ∷ [] } in
       let busy : IsBusy s.requester = ap is_busy waiting in
       let places_back : length s.requester.back ≡ 21 = was_ok.back_places in
       let at_a : back_at new.requester a ≡ x = get_or_same s.requester.back a x 0 (omega arith) in
-      let moves : Moves w i s new = record {
+      let moves : MovesForward w i s new = record {
         own = refl;
         issued = omega arith;
         mine = omega arith;
@@ -161,6 +161,6 @@ module _ (w : NodeWorld) (i : ℕ) (s : Node) (good : IsSound w) (at : IsNode w 
         lock_last = kept.lock_last;
         held = λ _ b y has. let p = from b y has in held_as (after w i done) s new b y refl (get_or_other s.requester.back a b x 0 p.1) (omega arith) refl (kept.held busy b y p.0);
         inside_holds = λ n inside. absurd (waiting_not_inside s.requester.phase n waiting inside);
-        asked_held = asked_held;
+        remembered_held = remembered_held;
         entered = λ some. let en = kept.entered some in entered_as (after w i done) i s new refl refl en (λ n inside. absurd (waiting_not_inside s.requester.phase n waiting inside)) en.ended;
       })

@@ -25,15 +25,15 @@ use Rattle.mx_maekawa.specs.Node.{RequesterState, Node}
 use Rattle.mx_maekawa.specs.RequesterStep.{is_own, holds, holds_all, to_missing, asking, asked, ask_in, take_locked, take_failed, take_inquire, entering, entered, enter_in, leaving, left, leave_in, request_again}
 use Rattle.mx_maekawa.specs.Step.{by_requester, by_arbiter, ask_of, enter_of, leave_of, tick_of, seeing, is_answer, is_call, deliver_of}
 use Rattle.mx_maekawa.specs.ArbiterStep.{lock_letter, take_request, take_relinquish, take_release}
-use Rattle.mx_maekawa.specs.Good.{NodeWorld, IsNodeOk, IsCalm, IsSafe}
+use Rattle.mx_maekawa.specs.Good.{NodeWorld, IsNodeOk, HasNoOverdueInquiry, IsSafe}
 use Rattle.mx_maekawa.specs.Cascades.{sends_sound}
 use Rattle.mx_maekawa.specs.RequesterKeeps.{safe_of, still_safe, locked_safe, failed_safe, inquire_safe}
 use Rattle.mx_maekawa.specs.ArbiterKeeps.{lock_may, request_safe, relinquish_safe, release_safe}
-use Rattle.mx_maekawa.specs.Moves.{IsSendable}
+use Rattle.mx_maekawa.specs.Changes.{IsSendable}
 use Rattle.mx_maekawa.specs.SectionParts.{asked_sound, entered_sound, left_sound}
 
-none_asked : (r : RequesterState) → r.asked ≡ replicate 21 None → IsCalm r
-none_asked r e a g b lt was = absurd (none_is_no_some g (sym (get_or_replicate 21 a None) ∙ sym (ap (λ x. get_or x a None) e) ∙ was))
+none_remembered : (r : RequesterState) → r.remembered ≡ replicate 21 None → HasNoOverdueInquiry r
+none_remembered r e a g b lt was = absurd (none_is_no_some g (sym (get_or_replicate 21 a None) ∙ sym (ap (λ x. get_or x a None) e) ∙ was))
 
 module _ (w : NodeWorld) (i : ℕ) (s : Node) (good : IsSafe w) (at : IsNode w i s) where
   ok_s : IsNodeOk w i s
@@ -48,7 +48,7 @@ module _ (w : NodeWorld) (i : ℕ) (s : Node) (good : IsSafe w) (at : IsNode w i
   ask_in_safe Idle e =
       let r = s.requester in
       ask_cases (λ (x : RequesterState). x.highest) asked (λ d. IsSafe (after w i (by_requester s d))) r
-      (λ _. safe_of w i s good at {A = Result Stamp AskFault} (by_requester s (asked r)) (asked_sound w i s good.sound at {A = Result Stamp AskFault} (Ok (asking r).ours) e) (none_asked (asking r) refl))
+      (λ _. safe_of w i s good at {A = Result Stamp AskFault} (by_requester s (asked r)) (asked_sound w i s good.sound at {A = Result Stamp AskFault} (Ok (asking r).ours) e) (none_remembered (asking r) refl))
       (same {A = Result Stamp AskFault} (Err StampsSpent))
   ask_in_safe Waiting e = same {A = Result Stamp AskFault} (Err NotIdle)
   ask_in_safe (Inside n) e = same {A = Result Stamp AskFault} (Err NotIdle)
@@ -94,7 +94,7 @@ module _ (w : NodeWorld) (i : ℕ) (s : Node) (good : IsSafe w) (at : IsNode w i
   enter_in_safe Waiting e =
       let r = s.requester in
       enter_cases holds_all (λ (x : RequesterState). x.top) (λ (x : RequesterState). x.limit) entering (λ d. IsSafe (after w i (enters d))) r
-      (λ all _. safe_of w i s good at {A = Result ℕ EnterFault} (enters (entered r)) (entered_sound w i s good.sound at {A = Result ℕ EnterFault} (Ok (r.top + 1)) e all) (none_asked (entering r) refl))
+      (λ all _. safe_of w i s good at {A = Result ℕ EnterFault} (enters (entered r)) (entered_sound w i s good.sound at {A = Result ℕ EnterFault} (Ok (r.top + 1)) e all) (none_remembered (entering r) refl))
       (same {A = Result ℕ EnterFault} (Err NumbersSpent)) (λ _. same {A = Result ℕ EnterFault} (Err NotGranted))
   enter_in_safe (Inside n) e = same {A = Result ℕ EnterFault} (Err NotWaiting)
 
@@ -106,7 +106,7 @@ module _ (w : NodeWorld) (i : ℕ) (s : Node) (good : IsSafe w) (at : IsNode w i
   leave_in_safe : (p : Phase) → s.requester.phase ≡ p → IsSafe (after w i (by_requester s (leave_in p s.requester)))
   leave_in_safe Idle e = same {A = Result ℕ LeaveFault} (Err NotInside)
   leave_in_safe Waiting e = same {A = Result ℕ LeaveFault} (Err NotInside)
-  leave_in_safe (Inside n) e = safe_of w i s good at {A = Result ℕ LeaveFault} (by_requester s (left s.requester n)) (left_sound w i s good.sound at {A = Result ℕ LeaveFault} (Ok n) n e) (none_asked (leaving s.requester) refl)
+  leave_in_safe (Inside n) e = safe_of w i s good at {A = Result ℕ LeaveFault} (by_requester s (left s.requester n)) (left_sound w i s good.sound at {A = Result ℕ LeaveFault} (Ok n) n e) (none_remembered (leaving s.requester) refl)
 
   pub leave_safe : IsSafe (after w i (leave_of s))
   leave_safe = leave_in_safe s.requester.phase refl
@@ -130,4 +130,4 @@ module _ (w : NodeWorld) (i : ℕ) (s : Node) (good : IsSafe w) (at : IsNode w i
         | inl a ↦ request_may b m a
         | inr c ↦ lock_may w i s good at s s.arbiter.lock refl b m c
       ]))
-      (good.calm i s at)
+      (good.none_overdue i s at)

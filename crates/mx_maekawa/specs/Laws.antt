@@ -10,16 +10,16 @@ use Rattle.mx_nodelaws.specs.declared.phase.Phase.TheVariants.{Idle}
 use Rattle.mx_nodelaws.specs.declared.faults.AskFault.{AskFault}
 use Rattle.mx_nodelaws.specs.declared.faults.EnterFault.{EnterFault}
 use Rattle.mx_nodelaws.specs.declared.faults.LeaveFault.{LeaveFault}
-use Rattle.mx_nodelaws.proofs.Plain.{plain_after, plain_by}
+use Rattle.mx_nodelaws.proofs.Bounds.{bounded_after, bounded_by}
 use Rattle.mx_quorums.specs.Family.{Family, IsMeeting}
 use Rattle.mx_maekawa.specs.Node.{Node}
 use Rattle.mx_maekawa.specs.Step.{start_of, ask_of, enter_of, leave_of, tick_of, deliver_of, maekawa_core}
-use Rattle.mx_maekawa.specs.Good.{NodeWorld, IsOver, IsEntered, IsHeldOk, IsNodeOk, IsLetterOk, IsSafe, IsGood, PlainLetter, PlainNode}
+use Rattle.mx_maekawa.specs.Good.{NodeWorld, IsOver, IsEntered, IsHeldOk, IsNodeOk, IsLetterOk, IsSafe, IsGood, BoundedLetter, BoundedNode}
 use Rattle.mx_nodelaws.specs.Laws.{KeepsGood, started}
 use Rattle.mx_nodelaws.proofs.Phases.{idle_apart, idle_not_busy}
 use Rattle.mx_maekawa.specs.Safety.{one_inside, entry}
 use Rattle.mx_maekawa.specs.Keeps.{ask_safe, deliver_safe, enter_safe, leave_safe, tick_safe}
-use Rattle.mx_maekawa.specs.Plain.{PlainDone, ask_done, deliver_done, enter_done, leave_done, tick_done, start_plain}
+use Rattle.mx_maekawa.specs.Bounds.{BoundedDone, ask_done, deliver_done, enter_done, leave_done, tick_done, start_bounded}
 
 start_ok : (shape : Family) (origin limit : ℕ) → IsMeeting shape → (i : ℕ) → i < shape.count → IsNode (started maekawa_core shape origin limit) i (start_of shape i origin limit) → IsNodeOk (started maekawa_core shape origin limit) i (start_of shape i origin limit)
 start_ok shape origin limit valid i lt at = record {
@@ -44,7 +44,7 @@ start_ok shape origin limit valid i lt at = record {
   lock_last = λ lock has. absurd (none_is_no_some lock has);
   held = λ busy. absurd (idle_not_busy Idle refl busy);
   inside_holds = λ n inside. absurd (idle_apart n inside);
-  asked_held = λ a g was. absurd (none_is_no_some g (sym (get_or_replicate 21 a None) ∙ was));
+  remembered_held = λ a g was. absurd (none_is_no_some g (sym (get_or_replicate 21 a None) ∙ was));
   entered = λ some. absurd (omega arith);
 }
 
@@ -56,9 +56,9 @@ started_safe shape origin limit valid = record {
         subst (λ x. IsNodeOk (started maekawa_core shape origin limit) i x) (sym r.1) (start_ok shape origin limit valid i r.0 (has_each_below (λ k. start_of shape k origin limit) shape.count i r.0));
     letters = λ a b m sent. absurd sent;
   };
-  calm = λ i s at a g b lt was.
+  none_overdue = λ i s at a g b lt was.
       let r = get_each_below (λ k. start_of shape k origin limit) shape.count i s at in
-      absurd (none_is_no_some g (sym (get_or_replicate 21 a None) ∙ sym (ap (λ x. get_or x.requester.asked a None) r.1) ∙ was));
+      absurd (none_is_no_some g (sym (get_or_replicate 21 a None) ∙ sym (ap (λ x. get_or x.requester.remembered a None) r.1) ∙ was));
 }
 
 module _ (w : NodeWorld) (sent : List (ℕ × ℕ × MaekawaMsg)) (same : (x : ℕ × ℕ × MaekawaMsg) → IsIn x w.sent ↔ IsIn x sent) where
@@ -102,7 +102,7 @@ module _ (w : NodeWorld) (sent : List (ℕ × ℕ × MaekawaMsg)) (same : (x : �
     lock_last = λ lock has. let r = ok.lock_last lock has in (r.0, into i lock.stamp.node (Locked lock.stamp lock.grant lock.last) r.1);
     held = λ busy a g has. held_by s a g (ok.held busy a g has);
     inside_holds = ok.inside_holds;
-    asked_held = ok.asked_held;
+    remembered_held = ok.remembered_held;
     entered = λ some. entered_by i s (ok.entered some);
   }
 
@@ -130,22 +130,22 @@ module _ (w : NodeWorld) (sent : List (ℕ × ℕ × MaekawaMsg)) (same : (x : �
       nodes = λ i s at. node_by i s (good.sound.nodes i s at);
       letters = λ a b m h. letter_by a b m (good.sound.letters a b m (outof a b m h));
     };
-    calm = good.calm;
+    none_overdue = good.none_overdue;
   }
 
-after_good : {A : Type 0} (w : NodeWorld) (i : ℕ) (s : Node) (done : Done Node A MaekawaMsg) → IsGood w → IsNode w i s → IsSafe (after w i done) → PlainDone {A = A} (length w.nodes) done → IsGood (after w i done)
-after_good {A} w i s done good at safe ok = record { safe = safe; plain = plain_after PlainNode PlainLetter w i s done good.plain at ok }
+after_good : {A : Type 0} (w : NodeWorld) (i : ℕ) (s : Node) (done : Done Node A MaekawaMsg) → IsGood w → IsNode w i s → IsSafe (after w i done) → BoundedDone {A = A} (length w.nodes) done → IsGood (after w i done)
+after_good {A} w i s done good at safe ok = record { safe = safe; bounded = bounded_after BoundedNode BoundedLetter w i s done good.bounded at ok }
 
 pub maekawa_laws : KeepsGood maekawa_core IsMeeting IsGood
 maekawa_laws = record {
-  at_start = λ shape origin limit valid small _ high. record { safe = started_safe shape origin limit valid; plain = start_plain shape origin limit valid small high };
-  after_ask = λ w i s good at. after_good {A = Result Stamp AskFault} w i s (ask_of s) good at (ask_safe w i s good.safe at) (ask_done (length w.nodes) s (good.plain.nodes i s at));
-  after_deliver = λ w i s from m good at sent. let p = good.plain.letters from i m sent in after_good {A = Unit {0}} w i s (deliver_of from m s) good at (deliver_safe w i s good.safe at from m sent) (deliver_done (length w.nodes) s (good.plain.nodes i s at) from m p.0 p.2);
-  after_enter = λ w i s good at. after_good {A = Result ℕ EnterFault} w i s (quietly (enter_of s)) good at (enter_safe w i s good.safe at) (enter_done (length w.nodes) s (good.plain.nodes i s at));
-  after_leave = λ w i s good at. after_good {A = Result ℕ LeaveFault} w i s (leave_of s) good at (leave_safe w i s good.safe at) (leave_done (length w.nodes) s (good.plain.nodes i s at));
-  after_tick = λ w i s good at. after_good {A = Unit {0}} w i s (tick_of s) good at (tick_safe w i s good.safe at) (tick_done (length w.nodes) s (good.plain.nodes i s at));
-  by_membership = λ w sent same good. record { safe = by_membership w sent same good.safe; plain = plain_by PlainNode PlainLetter w sent same good.plain };
-  to_nodes = λ w a b m good sent. (good.plain.letters a b m sent).1;
+  at_start = λ shape origin limit valid small _ high. record { safe = started_safe shape origin limit valid; bounded = start_bounded shape origin limit valid small high };
+  after_ask = λ w i s good at. after_good {A = Result Stamp AskFault} w i s (ask_of s) good at (ask_safe w i s good.safe at) (ask_done (length w.nodes) s (good.bounded.nodes i s at));
+  after_deliver = λ w i s from m good at sent. let p = good.bounded.letters from i m sent in after_good {A = Unit {0}} w i s (deliver_of from m s) good at (deliver_safe w i s good.safe at from m sent) (deliver_done (length w.nodes) s (good.bounded.nodes i s at) from m p.0 p.2);
+  after_enter = λ w i s good at. after_good {A = Result ℕ EnterFault} w i s (quietly (enter_of s)) good at (enter_safe w i s good.safe at) (enter_done (length w.nodes) s (good.bounded.nodes i s at));
+  after_leave = λ w i s good at. after_good {A = Result ℕ LeaveFault} w i s (leave_of s) good at (leave_safe w i s good.safe at) (leave_done (length w.nodes) s (good.bounded.nodes i s at));
+  after_tick = λ w i s good at. after_good {A = Unit {0}} w i s (tick_of s) good at (tick_safe w i s good.safe at) (tick_done (length w.nodes) s (good.bounded.nodes i s at));
+  by_membership = λ w sent same good. record { safe = by_membership w sent same good.safe; bounded = bounded_by BoundedNode BoundedLetter w sent same good.bounded };
+  to_nodes = λ w a b m good sent. (good.bounded.letters a b m sent).1;
   one_inside = λ w i j s t good. one_inside w i j s t good.safe;
   entry = λ w i s good. entry w i s good.safe;
 }

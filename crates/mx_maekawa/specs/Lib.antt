@@ -5,13 +5,13 @@ pub mod RequesterStep
 pub mod ArbiterStep
 pub mod Step
 pub mod Good
--- Proofs of the laws: Places and Tests (lemmas), Moves and Frame (what any step may change, and what it leaves as it
+-- Proofs of the laws: Places and Tests (lemmas), Changes and Frame (what any step may change, and what it leaves as it
 -- was), Parts, LockParts, GrantParts, SectionParts and Cascades (what a step is made of), RequesterKeeps,
--- ArbiterKeeps and Keeps (each step keeps a world safe), RequesterPlain, ArbiterPlain and Plain (each number stays a
+-- ArbiterKeeps and Keeps (each step keeps a world safe), RequesterBounds, ArbiterBounds and Bounds (each number stays a
 -- u64 value), Safety (exclusion and numbering), Promises, Laws.
 pub mod Places
 pub mod Tests
-pub mod Moves
+pub mod Changes
 pub mod Frame
 pub mod Safety
 pub mod Parts
@@ -22,8 +22,8 @@ pub mod Cascades
 pub mod RequesterKeeps
 pub mod ArbiterKeeps
 pub mod Keeps
-pub mod RequesterPlain
-pub mod ArbiterPlain
-pub mod Plain
+pub mod RequesterBounds
+pub mod ArbiterBounds
+pub mod Bounds
 pub mod Promises
 pub mod Laws

@@ -13,7 +13,7 @@ use Rattle.mx_maekawa.specs.ArbiterStep.{locking}
 use Rattle.mx_maekawa.specs.Good.{NodeWorld, IsReached, IsSound}
 use Rattle.mx_maekawa.specs.Frame.{sound_after, node_ok_after, reached_after}
 use Rattle.mx_maekawa.specs.Parts.{held_as, entered_as, one_letter}
-use Rattle.mx_maekawa.specs.Moves.{IsToEnd, Moves, IsGranted, IsSendable}
+use Rattle.mx_maekawa.specs.Changes.{IsToEnd, MovesForward, IsGranted, IsSendable}
 
 module _ (w : NodeWorld) (i : ℕ) (s : Node) (good : IsSound w) (at : IsNode w i s) where
   -- a lock ends
@@ -26,7 +26,7 @@ module _ (w : NodeWorld) (i : ℕ) (s : Node) (good : IsSound w) (at : IsNode w 
   unlocked_sound {A} answer waiting ended last lock was end more reached =
       let new : Node = unlocked waiting ended last in
       let done : Done Node A MaekawaMsg = record { state = new; answer = answer; letters = [] } in
-      let moves : Moves w i s new = record {
+      let moves : MovesForward w i s new = record {
         own = refl;
         issued = omega arith;
         mine = omega arith;
@@ -52,7 +52,7 @@ module _ (w : NodeWorld) (i : ℕ) (s : Node) (good : IsSound w) (at : IsNode w 
         lock_last = λ l none. absurd (none_is_no_some l none);
         held = λ busy a g has. held_as (after w i done) s new a g refl refl (omega arith) refl (kept.held busy a g has);
         inside_holds = kept.inside_holds;
-        asked_held = kept.asked_held;
+        remembered_held = kept.remembered_held;
         entered = λ some. let en = kept.entered some in entered_as (after w i done) i s new refl refl en en.inside en.ended;
       })
 
@@ -64,7 +64,7 @@ module _ (w : NodeWorld) (i : ℕ) (s : Node) (good : IsSound w) (at : IsNode w 
       let new : Node = record s { arbiter = locking s.arbiter u } in
       let letter : MaekawaMsg = Locked u (s.arbiter.granted + 1) s.arbiter.last in
       let done : Done Node A MaekawaMsg = record { state = new; answer = answer; letters = (u.node, letter) ∷ [] } in
-      let moves : Moves w i s new = record {
+      let moves : MovesForward w i s new = record {
         own = refl;
         issued = omega arith;
         mine = omega arith;
@@ -92,6 +92,6 @@ module _ (w : NodeWorld) (i : ℕ) (s : Node) (good : IsSound w) (at : IsNode w 
             (refl, in_right (i, u.node, letter) w.sent ((i, u.node, letter) ∷ []) (inl refl));
         held = λ busy a g has. held_as (after w i done) s new a g refl refl (omega arith) refl (kept.held busy a g has);
         inside_holds = kept.inside_holds;
-        asked_held = kept.asked_held;
+        remembered_held = kept.remembered_held;
         entered = λ some. let en = kept.entered some in entered_as (after w i done) i s new refl refl en en.inside en.ended;
       })

@@ -28,7 +28,7 @@ pub record RequesterState : Type 0 where
   -- granted it since
   pub failed : List Bool
   -- for each arbiter, the grant that it has asked back, while the inquiry is remembered
-  pub asked : List (Option ℕ)
+  pub remembered : List (Option ℕ)
   -- the highest section number that it knows
   pub top : ℕ
   -- the number of the last section that it entered, 0 before the first

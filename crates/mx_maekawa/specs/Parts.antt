@@ -9,7 +9,7 @@ use Rattle.mx_maekawa.specs.Node.{Node}
 use Rattle.mx_maekawa.specs.RequesterStep.{held_at, back_at, is_own, asked}
 use Rattle.mx_maekawa.specs.Good.{NodeWorld, IsEnded, IsReached, IsLockedFor, IsEntered, IsHeldOk, IsSound}
 use Rattle.mx_maekawa.specs.Frame.{sound_after, node_ok_after, reached_after}
-use Rattle.mx_maekawa.specs.Moves.{Moves, IsSendable}
+use Rattle.mx_maekawa.specs.Changes.{MovesForward, IsSendable}
 
 pub held_as : (w : NodeWorld) (s new : Node) (a g : ℕ) → new.requester.own ≡ s.requester.own → back_at new.requester a ≡ back_at s.requester a → s.requester.top ≤ new.requester.top → new.requester.ours ≡ s.requester.ours → IsHeldOk w s a g → IsHeldOk w new a g
 held_as w s new a g own back top ours ok = record {
@@ -45,19 +45,19 @@ module _ (w : NodeWorld) (i : ℕ) (s : Node) (good : IsSound w) (at : IsNode w 
   -- such a part
 
   abbrev pub aside : List Bool → List (Option ℕ) → ℕ → List (Option Stamp) → List ℕ → ℕ → Node
-  aside failed asked highest waiting ended last = record s {
-    requester = record (s.requester) { failed = failed; asked = asked; highest = highest };
+  aside failed remembered highest waiting ended last = record s {
+    requester = record (s.requester) { failed = failed; remembered = remembered; highest = highest };
     arbiter = record (s.arbiter) { waiting = waiting; ended = ended; last = last };
   }
 
-  pub aside_sound : {A : Type 0} (answer : A) (failed : List Bool) (asked : List (Option ℕ)) (highest : ℕ) (waiting : List (Option Stamp)) (ended : List ℕ) (last : ℕ) (letters : List (ℕ × MaekawaMsg)) →
-      ((a g : ℕ) → get_or asked a None ≡ Some g → held_at s.requester a ≡ Some g) → s.requester.highest ≤ highest → s.arbiter.last ≤ last → IsReached w last →
-      ((b : ℕ) (m : MaekawaMsg) → IsIn (b, m) letters → IsSendable w i s (aside failed asked highest waiting ended last) b m) →
-      IsSound (after w i (record { state = aside failed asked highest waiting ended last; answer = answer; letters = letters }))
-  aside_sound {A} answer failed asked highest waiting ended last letters held up more reached may =
-      let new : Node = aside failed asked highest waiting ended last in
+  pub aside_sound : {A : Type 0} (answer : A) (failed : List Bool) (remembered : List (Option ℕ)) (highest : ℕ) (waiting : List (Option Stamp)) (ended : List ℕ) (last : ℕ) (letters : List (ℕ × MaekawaMsg)) →
+      ((a g : ℕ) → get_or remembered a None ≡ Some g → held_at s.requester a ≡ Some g) → s.requester.highest ≤ highest → s.arbiter.last ≤ last → IsReached w last →
+      ((b : ℕ) (m : MaekawaMsg) → IsIn (b, m) letters → IsSendable w i s (aside failed remembered highest waiting ended last) b m) →
+      IsSound (after w i (record { state = aside failed remembered highest waiting ended last; answer = answer; letters = letters }))
+  aside_sound {A} answer failed remembered highest waiting ended last letters held up more reached may =
+      let new : Node = aside failed remembered highest waiting ended last in
       let done : Done Node A MaekawaMsg = record { state = new; answer = answer; letters = letters } in
-      let moves : Moves w i s new = record { own = refl; issued = omega arith; mine = omega arith; ended = λ n e. e; given = λ a stamp g le x. x; granted = omega arith; last = more; lock = λ stamp g c l. inl l } in
+      let moves : MovesForward w i s new = record { own = refl; issued = omega arith; mine = omega arith; ended = λ n e. e; given = λ a stamp g le x. x; granted = omega arith; last = more; lock = λ stamp g c l. inl l } in
       let kept = node_ok_after w i s done good at moves may i s at in
       sound_after w i s done good at moves may
       (record {
@@ -73,6 +73,6 @@ module _ (w : NodeWorld) (i : ℕ) (s : Node) (good : IsSound w) (at : IsNode w 
         lock_last = kept.lock_last;
         held = λ busy a g has. held_as (after w i done) s new a g refl refl (omega arith) refl (kept.held busy a g has);
         inside_holds = kept.inside_holds;
-        asked_held = held;
+        remembered_held = held;
         entered = λ some. let en = kept.entered some in entered_as (after w i done) i s new refl refl en en.inside en.ended;
       })

@@ -7,14 +7,14 @@ use Rattle.mx_letters.specs.declared.maekawa.MaekawaMsg.TheVariants.{Request, Lo
 use Rattle.mx_nodelaws.specs.World.{Done}
 use Rattle.mx_nodelaws.specs.declared.phase.Phase.{Phase}
 use Rattle.mx_maekawa.specs.Node.{RequesterState, Node}
-use Rattle.mx_maekawa.specs.RequesterStep.{saying, held_at, asked_at, back_at, holds, holds_all, has_ended, asked, giving, give_below, failing, fail, release_ended, holding, is_current_wait, locked_fresh, locked_current, take_locked, take_failed, has_failed_below, giving_now, remembering, declining, inquired_held, inquired, take_inquire, entering, asking, left}
+use Rattle.mx_maekawa.specs.RequesterStep.{saying, held_at, remembered_at, back_at, holds, holds_all, has_ended, asked, giving, give_below, failing, fail, release_ended, holding, is_current_wait, locked_fresh, locked_current, take_locked, take_failed, has_failed_below, giving_now, remembering, declining, inquired_held, inquired, take_inquire, entering, asking, left}
 use Rattle.mx_maekawa.specs.Step.{by_requester, by_arbiter, seeing, is_answer, is_call, deliver_of, maekawa_core}
 use Rattle.mx_maekawa.specs.ArbiterStep.{take_request, take_relinquish, take_release}
 use Rattle.mx_nodelaws.specs.Core.{KeepsPhases}
 use Rattle.mx_nodelaws.proofs.Phases.{waits_alone}
 use Rattle.mx_nodelaws.specs.Calls.{unchanged}
 use Rattle.mx_nodelaws.proofs.Calls.{ask_keeps, ask_ok, ask_err, ask_not_idle, enter_keeps, enter_ok, enter_err, enter_not_waiting, enter_not_granted, leave_keeps, leave_ok, leave_inside, leave_err}
-use Rattle.mx_maekawa.specs.RequesterStep.{Did}
+use Rattle.mx_maekawa.specs.RequesterStep.{RequesterDone}
 
 -- a letter comes: the requester keeps its phase, its last own number and its limit
 
@@ -30,14 +30,14 @@ giving_stays (Some g) r x b h = h
 
 give_stays : (n : ℕ) (r x : RequesterState) → Stays r x → Stays r (give_below n x).state
 give_stays zero r x h = h
-give_stays (suc n) r x h = let y = (give_below n x).state in giving_stays (asked_at y n) r y n (give_stays n r x h)
+give_stays (suc n) r x h = let y = (give_below n x).state in giving_stays (remembered_at y n) r y n (give_stays n r x h)
 
 released_stays : (r : RequesterState) (stamp : Stamp) (a : ℕ) → Stays r (release_ended r stamp a).state
 released_stays r stamp a = cond_case (λ d. Stays r d.state) (has_ended r stamp) (saying r a (Release stamp r.top)) (unchanged r tt) (λ _. same r) (λ _. same r)
 
 locked_stays : (a : ℕ) (stamp : Stamp) (g c : ℕ) (r : RequesterState) → Stays r (take_locked a stamp g c r).state
 locked_stays a stamp g c r =
-    let P : Did (Unit {0}) → Type 0 = λ d. Stays r d.state in
+    let P : RequesterDone (Unit {0}) → Type 0 = λ d. Stays r d.state in
     cond_case P (is_current_wait r stamp) (locked_current a stamp g c r) (release_ended r stamp a)
     (λ _. cond_case P (holds r a) (unchanged r tt) (locked_fresh a stamp g c r) (λ _. same r)
     (λ _. cond_case P (nat_lt (back_at r a) g) (unchanged (holding r a g c) tt) (saying r a (Relinquish stamp g)) (λ _. same r) (λ _. same r)))
@@ -51,7 +51,7 @@ failed_stays a stamp r =
 inquired_stays : (o : Option ℕ) (a : ℕ) (stamp : Stamp) (g : ℕ) (r : RequesterState) → Stays r (inquired o a stamp g r).state
 inquired_stays None a stamp g r = give_stays r.count r (failing (declining r a g) a) (same r)
 inquired_stays (Some h) a stamp g r =
-    let P : Did (Unit {0}) → Type 0 = λ d. Stays r d.state in
+    let P : RequesterDone (Unit {0}) → Type 0 = λ d. Stays r d.state in
     cond_case P (nat_eq h g) (inquired_held a stamp g r) (saying r a (Relinquish stamp g))
     (λ _. cond_case P (has_failed_below r r.count) (saying (giving_now r a g) a (Relinquish stamp g)) (unchanged (remembering r a g) tt) (λ _. same r) (λ _. same r))
     (λ _. same r)

@@ -16,30 +16,30 @@ use Rattle.mx_nodelaws.specs.Phases.{is_busy, is_waiting}
 use Rattle.mx_nodelaws.proofs.Phases.{waiting_is}
 use Rattle.mx_nodelaws.specs.Calls.{unchanged}
 use Rattle.mx_maekawa.specs.Node.{Node}
-use Rattle.mx_maekawa.specs.RequesterStep.{Did, saying, held_at, asked_at, back_at, has_failed, is_own, holds, has_ended, failing, fail, release_ended, holding, is_current_wait, locked_fresh, locked_current, take_locked, take_failed, has_failed_below, giving_now, remembering, declining, inquired_held, inquired_missing, inquired, take_inquire}
+use Rattle.mx_maekawa.specs.RequesterStep.{RequesterDone, saying, held_at, remembered_at, back_at, has_failed, is_own, holds, has_ended, failing, fail, release_ended, holding, is_current_wait, locked_fresh, locked_current, take_locked, take_failed, has_failed_below, giving_now, remembering, declining, inquired_held, inquired_missing, inquired, take_inquire}
 use Rattle.mx_maekawa.specs.Step.{by_requester}
-use Rattle.mx_maekawa.specs.Good.{NodeWorld, IsEnded, IsGiven, IsNodeOk, IsCalm, IsSound, IsSafe}
+use Rattle.mx_maekawa.specs.Good.{NodeWorld, IsEnded, IsGiven, IsNodeOk, HasNoOverdueInquiry, IsSound, IsSafe}
 use Rattle.mx_maekawa.specs.Places.{get_or_other, emptied, set_false}
 use Rattle.mx_maekawa.specs.Tests.{some_failed, none_failed, none_of}
 use Rattle.mx_maekawa.specs.Safety.{held_lock}
 use Rattle.mx_maekawa.specs.Parts.{aside_sound, one_letter}
-use Rattle.mx_maekawa.specs.Cascades.{give_phase, give_count, now_is, both_sound, failed_sound, failed_calm, sends_sound}
-use Rattle.mx_maekawa.specs.Moves.{IsSendable}
+use Rattle.mx_maekawa.specs.Cascades.{give_phase, give_count, now_is, both_sound, failed_sound, failed_none_overdue, sends_sound}
+use Rattle.mx_maekawa.specs.Changes.{IsSendable}
 use Rattle.mx_maekawa.specs.GrantParts.{held_sound, gave_sound}
 
 module _ (w : NodeWorld) (i : ℕ) (s : Node) (good : IsSafe w) (at : IsNode w i s) where
   ok_s : IsNodeOk w i s
   ok_s = good.sound.nodes i s at
 
-  calm_s : IsCalm s.requester
-  calm_s = good.calm i s at
+  none_overdue_s : HasNoOverdueInquiry s.requester
+  none_overdue_s = good.none_overdue i s at
 
-  pub safe_of : {A : Type 0} (done : Done Node A MaekawaMsg) → IsSound (after w i done) → IsCalm done.state.requester → IsSafe (after w i done)
-  safe_of done sound calm = record {
+  pub safe_of : {A : Type 0} (done : Done Node A MaekawaMsg) → IsSound (after w i done) → HasNoOverdueInquiry done.state.requester → IsSafe (after w i done)
+  safe_of done sound none_overdue = record {
     sound = sound;
-    calm = λ j t tat. elim (get_after w.nodes i j s done.state t at tat) [
-      | inl p ↦ subst (λ x. IsCalm x.requester) (sym p.1) calm
-      | inr p ↦ good.calm j t p.1
+    none_overdue = λ j t tat. elim (get_after w.nodes i j s done.state t at tat) [
+      | inl p ↦ subst (λ x. HasNoOverdueInquiry x.requester) (sym p.1) none_overdue
+      | inr p ↦ good.none_overdue j t p.1
     ];
   }
 
@@ -48,7 +48,7 @@ module _ (w : NodeWorld) (i : ℕ) (s : Node) (good : IsSafe w) (at : IsNode w i
 
   -- one letter
   says_safe : (a : ℕ) (m : MaekawaMsg) → IsSendable w i s s a m → IsSafe (after w i (by_requester s (saying s.requester a m)))
-  says_safe a m may = safe_of {A = Unit {0}} (by_requester s (saying s.requester a m)) (sends_sound i {A = Unit {0}} w s tt ((a, m) ∷ []) good.sound at (one_letter w i s good.sound at s a m may)) calm_s
+  says_safe a m may = safe_of {A = Unit {0}} (by_requester s (saying s.requester a m)) (sends_sound i {A = Unit {0}} w s tt ((a, m) ∷ []) good.sound at (one_letter w i s good.sound at s a m may)) none_overdue_s
 
   -- a letter for an ended stamp
 
@@ -87,13 +87,13 @@ module _ (w : NodeWorld) (i : ℕ) (s : Node) (good : IsSafe w) (at : IsNode w i
       cond_case (λ d. IsSafe (after w i (by_requester s d))) (nat_lt (back_at r a) g) taken (saying r a (Relinquish stamp g))
       (λ above. safe_of {A = Unit {0}} (by_requester s taken)
       (held_sound w i s good.sound at {A = Unit {0}} tt a g c waiting own (none_of (held_at r a) none) (lt_true (back_at r a) g above) (subst (λ x. WasSent w a i (Locked x g c)) same sent))
-      (λ b h d lt was. set_false r.failed a d (calm_s b h d lt was)))
+      (λ b h d lt was. set_false r.failed a d (none_overdue_s b h d lt was)))
       (λ old. says_safe a (Relinquish stamp g) (gives_back a stamp g node waiting same (inr (inl (lt_false (back_at r a) g old)))))
 
   pub locked_safe : (a : ℕ) (stamp : Stamp) (g c : ℕ) → is_own s.requester a ≡ true → stamp.node ≡ i → WasSent w a i (Locked stamp g c) → IsSafe (after w i (by_requester s (take_locked a stamp g c s.requester)))
   locked_safe a stamp g c own node sent =
       let r = s.requester in
-      let P : Did (Unit {0}) → Type 0 = λ d. IsSafe (after w i (by_requester s d)) in
+      let P : RequesterDone (Unit {0}) → Type 0 = λ d. IsSafe (after w i (by_requester s d)) in
       cond_case P (is_current_wait r stamp) (locked_current a stamp g c r) (release_ended r stamp a)
       (λ e. let p = current_means stamp e in
       cond_case P (holds r a) (unchanged r tt) (locked_fresh a stamp g c r)
@@ -109,7 +109,7 @@ module _ (w : NodeWorld) (i : ℕ) (s : Node) (good : IsSafe w) (at : IsNode w i
       let r = failing s.requester a in
       let sound : IsSound (after w i done) = failed_sound i w s a good.sound at waiting in
       safe_of {A = Unit {0}} done sound
-      (failed_calm i (after w i done) done.state s.requester.count sound (now_is i w s done at) (give_phase s.requester.count r ∙ waiting) r (sym (give_count s.requester.count r)) refl)
+      (failed_none_overdue i (after w i done) done.state s.requester.count sound (now_is i w s done at) (give_phase s.requester.count r ∙ waiting) r (sym (give_count s.requester.count r)) refl)
 
   pub failed_safe : (a : ℕ) (stamp : Stamp) → IsSafe (after w i (by_requester s (take_failed a stamp s.requester)))
   failed_safe a stamp =
@@ -129,10 +129,10 @@ module _ (w : NodeWorld) (i : ℕ) (s : Node) (good : IsSafe w) (at : IsNode w i
       let small : s.requester.count ≤ 21 = ok_s.placed.few in
       let none_held : (h : ℕ) → held_at s.requester a ≡ Some h → ⊥ = λ h has. none_is_no_some h (sym none ∙ has) in
       let sound : IsSound (after w i first) = subst (λ st. IsSound (after w i (by_requester s (saying (declining s.requester a g) a (Relinquish st g))))) (sym same)
-      (gave_sound w i s good.sound at {A = Unit {0}} tt a g x s.requester.held s.requester.asked s.requester.failed (omega arith) waiting ok_s.held_places
+      (gave_sound w i s good.sound at {A = Unit {0}} tt a g x s.requester.held s.requester.remembered s.requester.failed (omega arith) waiting ok_s.held_places
       (λ b y h. (h, λ e. none_held y (subst (λ k. held_at s.requester k ≡ Some y) e h)))
       (λ b y h ne. h)
-      ok_s.asked_held
+      ok_s.remembered_held
       (omega arith) (λ h has. absurd (none_held h has)) (omega arith)) in
       let mid_at = now_is i w s first at in
       let second = by_requester mid (fail a mid.requester) in
@@ -141,34 +141,34 @@ module _ (w : NodeWorld) (i : ℕ) (s : Node) (good : IsSafe w) (at : IsNode w i
       let all : IsSound (after w i done) = both_sound i {A = Unit {0}} {B = Unit {0}} w first second sound2 in
       let r = failing mid.requester a in
       safe_of {A = Unit {0}} done all
-      (failed_calm i (after w i done) done.state s.requester.count all (now_is i w s done at) (give_phase s.requester.count r ∙ waiting) r (sym (give_count s.requester.count r)) refl)
+      (failed_none_overdue i (after w i done) done.state s.requester.count all (now_is i w s done at) (give_phase s.requester.count r ∙ waiting) r (sym (give_count s.requester.count r)) refl)
 
   gave_now_safe : (a : ℕ) (stamp : Stamp) (g : ℕ) → s.requester.phase ≡ Waiting → stamp ≡ s.requester.ours → is_own s.requester a ≡ true → held_at s.requester a ≡ Some g → has_failed_below s.requester s.requester.count ≡ true → IsSafe (after w i (by_requester s (saying (giving_now s.requester a g) a (Relinquish stamp g))))
   gave_now_safe a stamp g waiting same own has failed =
       let few : a < s.requester.count = ok_s.placed.own_few a own in
       let small : s.requester.count ≤ 21 = ok_s.placed.few in
       let some = some_failed s.requester s.requester.count failed in
-      let none_asked : (b y : ℕ) → asked_at s.requester b ≡ Some y → ⊥ = λ b y was. not_both (has_failed s.requester some.0) some.2 (calm_s b y some.0 some.1 was) in
+      let none_remembered : (b y : ℕ) → remembered_at s.requester b ≡ Some y → ⊥ = λ b y was. not_both (has_failed s.requester some.0) some.2 (none_overdue_s b y some.0 some.1 was) in
       let held = ok_s.held (ap is_busy waiting) a g has in
       safe_of {A = Unit {0}} (by_requester s (saying (giving_now s.requester a g) a (Relinquish stamp g)))
       (subst (λ st. IsSound (after w i (by_requester s (saying (giving_now s.requester a g) a (Relinquish st g))))) (sym same)
-      (gave_sound w i s good.sound at {A = Unit {0}} tt a g g (slice_set s.requester.held a None) s.requester.asked (slice_set s.requester.failed a true) (omega arith) waiting
+      (gave_sound w i s good.sound at {A = Unit {0}} tt a g g (slice_set s.requester.held a None) s.requester.remembered (slice_set s.requester.failed a true) (omega arith) waiting
       (length-set s.requester.held a None ∙ ok_s.held_places)
       (λ c y h. emptied s.requester.held a c y h)
       (λ c y h ne. get_or_other s.requester.held a c None None ne ∙ h)
-      (λ b y was. absurd (none_asked b y was))
+      (λ b y was. absurd (none_remembered b y was))
       (let k = held.back in omega arith)
       (λ h was. let k : h ≡ g = same_Some h g (sym was ∙ has) in omega arith)
       (omega arith)))
-      (λ b y d lt was. absurd (none_asked b y was))
+      (λ b y d lt was. absurd (none_remembered b y was))
 
   remembered_safe : (a g : ℕ) → held_at s.requester a ≡ Some g → has_failed_below s.requester s.requester.count ≡ false → IsSafe (after w i (by_requester s (unchanged {A = Unit {0}} (remembering s.requester a g) tt)))
   remembered_safe a g has none =
       safe_of {A = Unit {0}} (by_requester s (unchanged {A = Unit {0}} (remembering s.requester a g) tt))
-      (aside_sound w i s good.sound at {A = Unit {0}} tt s.requester.failed (slice_set s.requester.asked a (Some g)) s.requester.highest s.arbiter.waiting s.arbiter.ended s.arbiter.last []
-      (λ b y was. elim (get_or_after s.requester.asked a b (Some g) None (Some y) was) [
+      (aside_sound w i s good.sound at {A = Unit {0}} tt s.requester.failed (slice_set s.requester.remembered a (Some g)) s.requester.highest s.arbiter.waiting s.arbiter.ended s.arbiter.last []
+      (λ b y was. elim (get_or_after s.requester.remembered a b (Some g) None (Some y) was) [
         | inl p ↦ subst (λ k. held_at s.requester k ≡ Some y) (sym p.0) (has ∙ p.1)
-        | inr old ↦ ok_s.asked_held b y old
+        | inr old ↦ ok_s.remembered_held b y old
       ])
       (omega arith) (omega arith) ok_s.last_reached (λ b m no_letter. absurd no_letter))
       (λ b y d lt was. none_failed s.requester s.requester.count none d lt)

@@ -30,7 +30,7 @@ start_requester me own count origin limit = record {
   held = replicate 21 None;
   back = replicate 21 origin;
   failed = replicate 21 false;
-  asked = replicate 21 None;
+  remembered = replicate 21 None;
   top = 0;
   mine = 0;
 }
@@ -59,8 +59,8 @@ abbrev pub has_failed : RequesterState → ℕ → Bool
 has_failed r a = slice_index_or r.failed a false
 
 -- the grant that arbiter a has asked back, while its inquiry is remembered
-abbrev pub asked_at : RequesterState → ℕ → Option ℕ
-asked_at r a = slice_index_or r.asked a None
+abbrev pub remembered_at : RequesterState → ℕ → Option ℕ
+remembered_at r a = slice_index_or r.remembered a None
 
 -- the permission: a grant of every own arbiter is held
 abbrev pub HoldsAll : RequesterState → Type 0
@@ -92,60 +92,60 @@ abbrev pub has_ended : RequesterState → Stamp → Bool
 has_ended r stamp = not (is_busy r.phase && is_same_as stamp r.ours) && nat_lt stamp.number (r.issued + 1)
 
 -- what a step of the requester gives: its next state, its answer and its letters
-abbrev pub Did : Type 0 → Type 0
-Did A = Done RequesterState A MaekawaMsg
+abbrev pub RequesterDone : Type 0 → Type 0
+RequesterDone A = Done RequesterState A MaekawaMsg
 
 -- one letter to arbiter a
-abbrev pub saying : RequesterState → ℕ → MaekawaMsg → Did (Unit {0})
+abbrev pub saying : RequesterState → ℕ → MaekawaMsg → RequesterDone (Unit {0})
 saying r a letter = record { state = r; answer = tt; letters = (a, letter) ∷ [] }
 
 -- one step, and then another
-abbrev pub and_then : Did (Unit {0}) → (RequesterState → Did (Unit {0})) → Did (Unit {0})
+abbrev pub and_then : RequesterDone (Unit {0}) → (RequesterState → RequesterDone (Unit {0})) → RequesterDone (Unit {0})
 and_then first second = record { state = (second first.state).state; answer = tt; letters = first.letters ++ (second first.state).letters }
 
 -- the grant of a remembered inquiry of arbiter b, if there is one, is given back
-abbrev pub giving_asked : RequesterState → ℕ → ℕ → RequesterState
-giving_asked r b g = record r { back = slice_set r.back b g; held = slice_set r.held b None; asked = slice_set r.asked b None; failed = slice_set r.failed b true }
+abbrev pub giving_remembered : RequesterState → ℕ → ℕ → RequesterState
+giving_remembered r b g = record r { back = slice_set r.back b g; held = slice_set r.held b None; remembered = slice_set r.remembered b None; failed = slice_set r.failed b true }
 
-abbrev pub giving : Option ℕ → RequesterState → ℕ → Did (Unit {0})
+abbrev pub giving : Option ℕ → RequesterState → ℕ → RequesterDone (Unit {0})
 giving None r b = unchanged r tt
-giving (Some g) r b = saying (giving_asked r b g) b (Relinquish r.ours g)
+giving (Some g) r b = saying (giving_remembered r b g) b (Relinquish r.ours g)
 
-abbrev pub give_asked : ℕ → RequesterState → Did (Unit {0})
-give_asked b r = giving (asked_at r b) r b
+abbrev pub give_remembered : ℕ → RequesterState → RequesterDone (Unit {0})
+give_remembered b r = giving (remembered_at r b) r b
 
 -- the same for each of the arbiters below n, in order
-abbrev pub give_below : ℕ → RequesterState → Did (Unit {0})
+abbrev pub give_below : ℕ → RequesterState → RequesterDone (Unit {0})
 give_below zero r = unchanged r tt
-give_below (suc n) r = and_then (give_below n r) (give_asked n)
+give_below (suc n) r = and_then (give_below n r) (give_remembered n)
 
 -- Fail: arbiter a has failed the request, and each grant of a remembered inquiry is given back.
 -- Published: inquiries that were put off are answered by RELINQUISH once the node has received FAILED.
 abbrev pub failing : RequesterState → ℕ → RequesterState
 failing r a = record r { failed = slice_set r.failed a true }
 
-abbrev pub fail : ℕ → RequesterState → Did (Unit {0})
+abbrev pub fail : ℕ → RequesterState → RequesterDone (Unit {0})
 fail a r = give_below r.count (failing r a)
 
 -- ask: the clock's next stamp, no grant yet, and a request to each own arbiter.
 -- Published: a REQUEST goes to every member of the node's set.
 -- Added: where no number is left the call is refused.
 abbrev pub asking : RequesterState → RequesterState
-asking r = record r { highest = r.highest + 1; issued = r.highest + 1; ours = record { number = r.highest + 1; node = r.me }; held = replicate 21 None; failed = replicate 21 false; asked = replicate 21 None; phase = Waiting }
+asking r = record r { highest = r.highest + 1; issued = r.highest + 1; ours = record { number = r.highest + 1; node = r.me }; held = replicate 21 None; failed = replicate 21 false; remembered = replicate 21 None; phase = Waiting }
 
 -- the letter, to each own arbiter
 abbrev pub to_own : RequesterState → MaekawaMsg → ℕ → Option MaekawaMsg
 to_own r letter a = if is_own r a then Some letter else None
 
-abbrev pub asked : RequesterState → Did (Result Stamp AskFault)
+abbrev pub asked : RequesterState → RequesterDone (Result Stamp AskFault)
 asked r = record { state = asking r; answer = Ok (asking r).ours; letters = addressed (to_own r (Request (asking r).ours)) r.count }
 
-abbrev pub ask_in : Phase → RequesterState → Did (Result Stamp AskFault)
+abbrev pub ask_in : Phase → RequesterState → RequesterDone (Result Stamp AskFault)
 ask_in p r = ask_by (λ (x : RequesterState). x.highest) asked p r
 
 -- a LOCKED or INQUIRE for an ended stamp is answered by a release.
 -- Added: the release of that stamp may have been lost, and the arbiter would stay locked for it.
-abbrev pub release_ended : RequesterState → Stamp → ℕ → Did (Unit {0})
+abbrev pub release_ended : RequesterState → Stamp → ℕ → RequesterDone (Unit {0})
 release_ended r stamp a = if has_ended r stamp then saying r a (Release stamp r.top) else unchanged r tt
 
 -- LOCKED from arbiter a, for the current request, whose grant is missing.
@@ -156,19 +156,19 @@ release_ended r stamp a = if has_ended r stamp then saying r a (Release stamp r.
 abbrev pub holding : RequesterState → ℕ → ℕ → ℕ → RequesterState
 holding r a g c = record r { held = slice_set r.held a (Some g); failed = slice_set r.failed a false; top = max r.top c }
 
-abbrev pub locked_fresh : ℕ → Stamp → ℕ → ℕ → RequesterState → Did (Unit {0})
+abbrev pub locked_fresh : ℕ → Stamp → ℕ → ℕ → RequesterState → RequesterDone (Unit {0})
 locked_fresh a stamp g c r = if nat_lt (back_at r a) g then unchanged (holding r a g c) tt else saying r a (Relinquish stamp g)
 
-abbrev pub locked_current : ℕ → Stamp → ℕ → ℕ → RequesterState → Did (Unit {0})
+abbrev pub locked_current : ℕ → Stamp → ℕ → ℕ → RequesterState → RequesterDone (Unit {0})
 locked_current a stamp g c r = if holds r a then unchanged r tt else locked_fresh a stamp g c r
 
-abbrev pub take_locked : ℕ → Stamp → ℕ → ℕ → RequesterState → Did (Unit {0})
+abbrev pub take_locked : ℕ → Stamp → ℕ → ℕ → RequesterState → RequesterDone (Unit {0})
 take_locked a stamp g c r = if is_current_wait r stamp then locked_current a stamp g c r else release_ended r stamp a
 
 -- FAILED from arbiter a, for the current request, whose grant is missing.
 -- Published: the node then knows that it does not get every grant yet, which is Fail.
 -- Added: the test of the stamp, and that no grant of a is held, since a FAILED may come late.
-abbrev pub take_failed : ℕ → Stamp → RequesterState → Did (Unit {0})
+abbrev pub take_failed : ℕ → Stamp → RequesterState → RequesterDone (Unit {0})
 take_failed a stamp r = if is_current_wait r stamp && not (holds r a) then fail a r else unchanged r tt
 
 -- INQUIRE from arbiter a for the grant that is held: it is given back where some arbiter has failed,
@@ -179,9 +179,9 @@ abbrev pub giving_now : RequesterState → ℕ → ℕ → RequesterState
 giving_now r a g = record r { back = slice_set r.back a g; held = slice_set r.held a None; failed = slice_set r.failed a true }
 
 abbrev pub remembering : RequesterState → ℕ → ℕ → RequesterState
-remembering r a g = record r { asked = slice_set r.asked a (Some g) }
+remembering r a g = record r { remembered = slice_set r.remembered a (Some g) }
 
-abbrev pub inquired_held : ℕ → Stamp → ℕ → RequesterState → Did (Unit {0})
+abbrev pub inquired_held : ℕ → Stamp → ℕ → RequesterState → RequesterDone (Unit {0})
 inquired_held a stamp g r =
     if has_failed_below r r.count then saying (giving_now r a g) a (Relinquish stamp g) else unchanged (remembering r a g) tt
 
@@ -190,17 +190,17 @@ inquired_held a stamp g r =
 abbrev pub declining : RequesterState → ℕ → ℕ → RequesterState
 declining r a g = record r { back = slice_set r.back a (max (back_at r a) g) }
 
-abbrev pub inquired_missing : ℕ → Stamp → ℕ → RequesterState → Did (Unit {0})
+abbrev pub inquired_missing : ℕ → Stamp → ℕ → RequesterState → RequesterDone (Unit {0})
 inquired_missing a stamp g r = and_then (saying (declining r a g) a (Relinquish stamp g)) (fail a)
 
 -- INQUIRE by what is held. Where another grant of a is held, the one asked for is given back, and
 -- nothing else happens.
 -- Added, since an INQUIRE may come late.
-abbrev pub inquired : Option ℕ → ℕ → Stamp → ℕ → RequesterState → Did (Unit {0})
+abbrev pub inquired : Option ℕ → ℕ → Stamp → ℕ → RequesterState → RequesterDone (Unit {0})
 inquired None a stamp g r = inquired_missing a stamp g r
 inquired (Some h) a stamp g r = if nat_eq h g then inquired_held a stamp g r else saying r a (Relinquish stamp g)
 
-abbrev pub take_inquire : ℕ → Stamp → ℕ → RequesterState → Did (Unit {0})
+abbrev pub take_inquire : ℕ → Stamp → ℕ → RequesterState → RequesterDone (Unit {0})
 take_inquire a stamp g r = if is_current_wait r stamp then inquired (held_at r a) a stamp g r else release_ended r stamp a
 
 abbrev pub can_enter_of : RequesterState → Bool
@@ -210,7 +210,7 @@ can_enter_of r = is_waiting r.phase && holds_all r
 -- Published: the node enters once every member of its set has sent LOCKED.
 -- Added: the section's number, and the refusal where the limit is reached.
 abbrev pub entering : RequesterState → RequesterState
-entering r = record r { top = r.top + 1; mine = r.top + 1; phase = Inside (r.top + 1); asked = replicate 21 None }
+entering r = record r { top = r.top + 1; mine = r.top + 1; phase = Inside (r.top + 1); remembered = replicate 21 None }
 
 abbrev pub entered : RequesterState → Quiet RequesterState (Result ℕ EnterFault)
 entered r = entered_by (λ (x : RequesterState). x.top) entering r
@@ -222,12 +222,12 @@ enter_in p r = enter_by holds_all (λ (x : RequesterState). x.top) (λ (x : Requ
 -- Published: so.
 -- Added: the release bears the stamp that has ended, and `top`.
 abbrev pub leaving : RequesterState → RequesterState
-leaving r = record r { phase = Idle; held = replicate 21 None; failed = replicate 21 false; asked = replicate 21 None }
+leaving r = record r { phase = Idle; held = replicate 21 None; failed = replicate 21 false; remembered = replicate 21 None }
 
-abbrev pub left : RequesterState → ℕ → Did (Result ℕ LeaveFault)
+abbrev pub left : RequesterState → ℕ → RequesterDone (Result ℕ LeaveFault)
 left r n = record { state = leaving r; answer = Ok n; letters = addressed (to_own r (Release r.ours r.top)) r.count }
 
-abbrev pub leave_in : Phase → RequesterState → Did (Result ℕ LeaveFault)
+abbrev pub leave_in : Phase → RequesterState → RequesterDone (Result ℕ LeaveFault)
 leave_in p r = leave_by left p r
 
 -- tick: a waiting node sends its request again to each own arbiter whose grant is missing.

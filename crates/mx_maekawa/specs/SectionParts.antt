@@ -17,7 +17,7 @@ use Rattle.mx_maekawa.specs.Good.{NodeWorld, IsBusy, IsLockedFor, IsHeldOk, IsNo
 use Rattle.mx_maekawa.specs.Frame.{sound_after, node_ok_after}
 use Rattle.mx_maekawa.specs.Safety.{holds_own, held_lock}
 use Rattle.mx_maekawa.specs.Parts.{held_as, entered_as}
-use Rattle.mx_maekawa.specs.Moves.{Moves, IsReleasing, IsSendable}
+use Rattle.mx_maekawa.specs.Changes.{MovesForward, IsReleasing, IsSendable}
 
 -- the grant that is held, 0 where there is none
 value_or_zero : Option ℕ → ℕ
@@ -42,7 +42,7 @@ module _ (w : NodeWorld) (i : ℕ) (s : Node) (good : IsSound w) (at : IsNode w 
       let letter : MaekawaMsg = Request (asking s.requester).ours in
       let done : Done Node A MaekawaMsg = record { state = new; answer = answer; letters = addressed (to_own s.requester letter) s.requester.count } in
       let up : s.requester.issued ≤ s.requester.highest = was_ok.issued in
-      let moves : Moves w i s new = record {
+      let moves : MovesForward w i s new = record {
         own = refl;
         issued = omega arith;
         mine = omega arith;
@@ -71,7 +71,7 @@ module _ (w : NodeWorld) (i : ℕ) (s : Node) (good : IsSound w) (at : IsNode w 
         lock_last = kept.lock_last;
         held = λ _ a g has. absurd (no_held a g has);
         inside_holds = λ n inside. absurd (waiting_not_inside Waiting n refl inside);
-        asked_held = λ a g was. absurd (none_is_no_some g (sym (get_or_replicate 21 a None) ∙ was));
+        remembered_held = λ a g was. absurd (none_is_no_some g (sym (get_or_replicate 21 a None) ∙ was));
         entered = λ some. let en = kept.entered some in entered_as (after w i done) i s new refl refl en (λ n inside. absurd (waiting_not_inside Waiting n refl inside))
             (λ _. moves.ended en.stamp.number (en.ended (λ n inside. let bad : Idle ≡ Inside n = sym idle ∙ inside in cc)));
       })
@@ -86,7 +86,7 @@ module _ (w : NodeWorld) (i : ℕ) (s : Node) (good : IsSound w) (at : IsNode w 
       let busy : IsBusy s.requester = ap is_busy waiting in
       let number : s.requester.ours.number ≡ s.requester.issued = was_ok.ours_number busy in
       let low : s.requester.mine ≤ s.requester.top = was_ok.mine_top in
-      let moves : Moves w i s new = record {
+      let moves : MovesForward w i s new = record {
         own = refl;
         issued = omega arith;
         mine = omega arith;
@@ -117,7 +117,7 @@ module _ (w : NodeWorld) (i : ℕ) (s : Node) (good : IsSound w) (at : IsNode w 
         lock_last = kept.lock_last;
         held = λ _ a g h. held_as (after w i done) s new a g refl refl (omega arith) refl (kept.held busy a g h);
         inside_holds = λ n inside a own. (grant_of a, has a own);
-        asked_held = λ a g was. absurd (none_is_no_some g (sym (get_or_replicate 21 a None) ∙ was));
+        remembered_held = λ a g was. absurd (none_is_no_some g (sym (get_or_replicate 21 a None) ∙ was));
         entered = λ some. record {
           stamp = s.requester.ours;
           grant_of = grant_of;
@@ -161,7 +161,7 @@ module _ (w : NodeWorld) (i : ℕ) (s : Node) (good : IsSound w) (at : IsNode w 
       let done : Done Node A MaekawaMsg = record { state = new; answer = answer; letters = addressed (to_own s.requester letter) s.requester.count } in
       let busy : IsBusy s.requester = ap is_busy inside in
       let number : s.requester.ours.number ≡ s.requester.issued = was_ok.ours_number busy in
-      let moves : Moves w i s new = record {
+      let moves : MovesForward w i s new = record {
         own = refl;
         issued = omega arith;
         mine = omega arith;
@@ -190,7 +190,7 @@ module _ (w : NodeWorld) (i : ℕ) (s : Node) (good : IsSound w) (at : IsNode w 
         lock_last = kept.lock_last;
         held = λ b. absurd (idle_not_busy Idle refl b);
         inside_holds = λ k now. let bad : Idle ≡ Inside k = now in let no_way : ⊥ = cc in absurd no_way;
-        asked_held = λ a g was. absurd (none_is_no_some g (sym (get_or_replicate 21 a None) ∙ was));
+        remembered_held = λ a g was. absurd (none_is_no_some g (sym (get_or_replicate 21 a None) ∙ was));
         entered = λ some. let en = kept.entered some in entered_as (after w i done) i s new refl refl en (λ k now. let bad : Idle ≡ Inside k = now in let no_way : ⊥ = cc in absurd no_way)
             (λ _. let e : en.stamp.number ≡ s.requester.ours.number = ap (λ x. x.number) (en.inside n inside).0 in (omega arith, λ b. absurd (idle_not_busy Idle refl b)));
       })

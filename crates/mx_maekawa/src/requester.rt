@@ -41,7 +41,7 @@ pub(crate) struct Requester {
     failed: [bool; 21],
     /// For each arbiter, the grant that it has asked back (INQUIRE), while the node waits and does
     /// not know yet whether it will get every grant. None where no such answer is owed.
-    asked: [Option<u64>; 21],
+    remembered: [Option<u64>; 21],
     /// The highest section number that the node knows, from its own sections and from the grants
     /// that it took; 0 at the start. Added to the publication.
     top: u64,
@@ -57,7 +57,7 @@ impl Model for Requester {
 
     ghost Value = { RequesterState };
 
-    ghost view = { λ r. record { me = r.me; own = r.own; count = r.count; limit = r.limit; phase = r.phase; highest = r.highest; issued = r.issued; ours = r.ours; held = r.held; back = r.back; failed = r.failed; asked = r.asked; top = r.top; mine = r.mine } };
+    ghost view = { λ r. record { me = r.me; own = r.own; count = r.count; limit = r.limit; phase = r.phase; highest = r.highest; issued = r.issued; ours = r.ours; held = r.held; back = r.back; failed = r.failed; remembered = r.remembered; top = r.top; mine = r.mine } };
 
     ghost invariant = { λ r. (r.count ≤ 21) × (r.mine ≤ 1000000) × (r.limit ≤ 1000000) × BearsNumber r.phase };
 }
@@ -90,7 +90,7 @@ impl Requester {
             held: [None; 21],
             back: [origin; 21],
             failed: [false; 21],
-            asked: [None; 21],
+            remembered: [None; 21],
             top: 0,
             mine: 0,
         }
@@ -193,7 +193,7 @@ impl Requester {
         self.ours = ours;
         self.held = [None; 21];
         self.failed = [false; 21];
-        self.asked = [None; 21];
+        self.remembered = [None; 21];
         self.phase = Phase::Waiting;
         self.send_own(&MaekawaMsg::Request(ours), out);
         Ok(ours)
@@ -232,7 +232,7 @@ impl Requester {
         self.mine = self.top;
         self.phase = Phase::Inside(self.top);
         let none_remembered = [None; 21];
-        self.asked = none_remembered;
+        self.remembered = none_remembered;
         Ok(self.top)
     }
 
@@ -253,7 +253,7 @@ impl Requester {
         let no_failures = [false; 21];
         self.failed = no_failures;
         let no_inquiries = [None; 21];
-        self.asked = no_inquiries;
+        self.remembered = no_inquiries;
         Ok(number)
     }
 

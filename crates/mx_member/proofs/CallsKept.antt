@@ -36,7 +36,7 @@ use Rattle.mx_member.proofs.DraftSteps.{read_sound, write_sound}
 use Rattle.mx_member.proofs.EntrySteps.{enter_sound, leave_sound}
 use Rattle.mx_member.proofs.Moments.{GrowsBy, Moment, moved_in, core_here, part_of}
 use Rattle.mx_member.proofs.Phases.{idle_apart, waiting_apart}
-use Rattle.mx_member.proofs.PlainSteps.{core_sound, gossip_sound, refused_sound, still_sound}
+use Rattle.mx_member.proofs.UntoldSteps.{core_sound, gossip_sound, refused_sound, still_sound}
 
 module _ {H S M : Type 0} (core : Core H S M) (IsShape : H → Type 0) (Good : World S M → Type 0) (phases : KeepsPhases core) (laws : KeepsGood core IsShape Good) where
   -- what the act tells fits, and the world after it is sound

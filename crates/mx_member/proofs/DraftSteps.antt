@@ -21,7 +21,7 @@ use Rattle.mx_member.proofs.CoreSteps.{alone, core_still, counted_same}
 use Rattle.mx_member.proofs.EntrySteps.{drafted, journal_rest}
 use Rattle.mx_member.proofs.Moments.{GrowsBy, Moment, moved_in, step_sound}
 use Rattle.mx_member.proofs.Phases.{inside_inj, inside_or_not}
-use Rattle.mx_member.proofs.PlainSteps.{plain_sound}
+use Rattle.mx_member.proofs.UntoldSteps.{untold_sound}
 use Rattle.mx_member.proofs.SectionLists.{at_open_newest, at_open_none, at_open_other, journal_older}
 use Rattle.mx_member.proofs.SectionWrites.{shown_value}
 use Rattle.mx_member.proofs.SerialReads.{serial_read, serial_write}
@@ -130,7 +130,7 @@ module _ {H S M : Type 0} (core : Core H S M) (IsShape : H → Type 0) (Good : W
     | inr gone ↦
         let moved : MemberState S = with_draft fresh w.member in
         subst (λ ss. IsSound core Good ss (moved_in w moved) grown) (sym (outside w (redrafted (λ draft. fresh)) gone))
-        (plain_sound core IsShape Good phases laws w moved [] grown (record {
+        (untold_sound core IsShape Good phases laws w moved [] grown (record {
           good = core_still core IsShape Good phases laws w moved [] grown refl refl grows;
           mine = refl;
           phase = λ n. (λ h. h, λ h. h);

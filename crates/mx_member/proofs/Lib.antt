@@ -6,7 +6,7 @@
 -- The others are the way there, lowest first. Phases: phases. CorePart: the core part of worlds.
 -- SectionLists: sections and their journal. SectionWrites: what the sections wrote.
 -- SerialReads: reads in a draft that grows. Moments: an act of one member, and what it has to show.
--- CoreSteps: what the laws of a core say of it. PlainSteps: acts of which no section tells.
+-- CoreSteps: what the laws of a core say of it. UntoldSteps: acts of which no section tells.
 -- EntrySteps: entering and leaving. DraftSteps: acts inside a section. CallsKept: each call.
 -- ReceiptLists, OwnReceipts, ReceiptActs, ReceiptHistory: receipts of sections, and of one node.
 -- Guarded, Choosing, Keeping, Sending, Refusing, Delivering, Leaving: what the calls of a member do,
@@ -18,7 +18,7 @@ pub mod SectionWrites
 pub mod SerialReads
 pub mod Moments
 pub mod CoreSteps
-pub mod PlainSteps
+pub mod UntoldSteps
 pub mod EntrySteps
 pub mod DraftSteps
 pub mod CallsKept

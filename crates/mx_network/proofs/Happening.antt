@@ -13,7 +13,7 @@ use Rattle.mx_network.specs.declared.outcome.Outcome.{Outcome}
 use Rattle.mx_network.specs.declared.outcome.Entry.{Entry}
 use Rattle.mx_network.specs.declared.faults.StepFault.{StepFault}
 use Rattle.mx_network.specs.declared.faults.StepFault.TheVariants.{NoNode, Memory}
-use Rattle.mx_network.specs.Step.{Group, answer_of, at_member, at_part, grown, part_of, step_of, IsFaultOf}
+use Rattle.mx_network.specs.Step.{ClusterState, answer_of, at_member, at_part, grown, part_of, step_of, IsFaultOf}
 
 -- the part of an event, by what was found out about it
 pub part_is : {M : Type 0} (n k : ℕ) (xs ys : List (ℕ × ℕ × Parcel M)) (e : Event) (r : Result (ℕ × Act M) StepFault) (p : ℕ × Act M) → n ≡ k → xs ≡ ys → r ≡ part_of n xs e → r ≡ Ok p → part_of k ys e ≡ Ok p
@@ -44,17 +44,17 @@ at_err P (Err f) h = h
 
 -- a member that did not change, in its place
 pub unchanged : {S M : Type 0} (members : List (MemberState S)) (sent sent' : List (ℕ × ℕ × Parcel M)) (trace trace' : List Entry) (k : ℕ) (m m' : MemberState S) → slice_get members k ≡ Some m → m' ≡ m → sent' ≡ sent → trace' ≡ trace →
-    ◌≡◌ {A = Group S M} (record { members = slice_set members k m'; sent = sent'; trace = trace' }) (record { members = members; sent = sent; trace = trace })
+    ◌≡◌ {A = ClusterState S M} (record { members = slice_set members k m'; sent = sent'; trace = trace' }) (record { members = members; sent = sent; trace = trace })
 unchanged {S} {M} members sent sent' trace trace' k m m' at a b c =
-    ap (λ (l : List (MemberState S)). let x : Group S M = record { members = l; sent = sent'; trace = trace' } in x) (ap (λ y. slice_set members k y) a ∙ set_itself members k m at)
-    ∙ ap (λ (l : List (ℕ × ℕ × Parcel M)). let x : Group S M = record { members = members; sent = l; trace = trace' } in x) b
-    ∙ ap (λ (l : List Entry). let x : Group S M = record { members = members; sent = sent; trace = l } in x) c
+    ap (λ (l : List (MemberState S)). let x : ClusterState S M = record { members = l; sent = sent'; trace = trace' } in x) (ap (λ y. slice_set members k y) a ∙ set_itself members k m at)
+    ∙ ap (λ (l : List (ℕ × ℕ × Parcel M)). let x : ClusterState S M = record { members = members; sent = l; trace = trace' } in x) b
+    ∙ ap (λ (l : List Entry). let x : ClusterState S M = record { members = members; sent = sent; trace = l } in x) c
 
 pub memory_told : {A G : Type 0} (wanted : Result G StepFault) (r : Result A StepFault) → IsErrAnd r (λ f. f ≡ Memory) → IsFaultOf wanted Memory → IfErr r (IsFaultOf wanted)
 memory_told wanted (Ok a) is fault = absurd is
 memory_told wanted (Err f) is fault = subst (λ x. IsFaultOf wanted x) (sym is) fault
 
-module _ {H S M : Type 0} (core : Core H S M) (g : Group S M) (e : Event) (p : ℕ × Act M) (part : part_of (length g.members) g.sent e ≡ Ok p) where
+module _ {H S M : Type 0} (core : Core H S M) (g : ClusterState S M) (e : Event) (p : ℕ × Act M) (part : part_of (length g.members) g.sent e ≡ Ok p) where
   -- its node isn't there
   pub gone : length g.members ≤ p.0 → IsFaultOf (step_of core g e) NoNode
   gone l = inr (ap (λ r. at_part core g e r) part ∙ ap (λ o. at_member core g e p.0 p.1 o) (past g.members p.0 l))
@@ -67,7 +67,7 @@ module _ {H S M : Type 0} (core : Core H S M) (g : Group S M) (e : Event) (p : �
   pub memory_alone : p.0 < length g.members → IsFaultOf (step_of core g e) Memory
   memory_alone l =
       let h = held g.members p.0 l in
-      inl (refl, subst (λ (r : Result (Group S M) StepFault). IsOk r) (sym (happens h.0 h.1)) refl)
+      inl (refl, subst (λ (r : Result (ClusterState S M) StepFault). IsOk r) (sym (happens h.0 h.1)) refl)
 
   -- the parts of the cluster after it
   pub grown_parts : (m new : MemberState S) (o : Outcome) (sent : List (ℕ × ℕ × Parcel M)) (trace : List Entry) → slice_get g.members p.0 ≡ Some m →
@@ -75,7 +75,7 @@ module _ {H S M : Type 0} (core : Core H S M) (g : Group S M) (e : Event) (p : �
       step_of core g e ≡ Ok (record { members = slice_set g.members p.0 new; sent = sent; trace = trace })
   grown_parts m new o sent trace at a b c d =
       happens m at
-      ∙ ap (λ s. let x : Group S M = record { members = slice_set g.members p.0 s; sent = g.sent ++ sent_by p.0 (answer_of core p.1 m).letters; trace = g.trace ++ record { event = e; outcome = (answer_of core p.1 m).answer } ∷ [] } in Ok x) (sym a)
-      ∙ ap (λ l. let x : Group S M = record { members = slice_set g.members p.0 new; sent = l; trace = g.trace ++ record { event = e; outcome = (answer_of core p.1 m).answer } ∷ [] } in Ok x) (sym c)
-      ∙ ap (λ q. let x : Group S M = record { members = slice_set g.members p.0 new; sent = sent; trace = g.trace ++ record { event = e; outcome = q } ∷ [] } in Ok x) (sym b)
-      ∙ ap (λ t. let x : Group S M = record { members = slice_set g.members p.0 new; sent = sent; trace = t } in Ok x) (sym d)
+      ∙ ap (λ s. let x : ClusterState S M = record { members = slice_set g.members p.0 s; sent = g.sent ++ sent_by p.0 (answer_of core p.1 m).letters; trace = g.trace ++ record { event = e; outcome = (answer_of core p.1 m).answer } ∷ [] } in Ok x) (sym a)
+      ∙ ap (λ l. let x : ClusterState S M = record { members = slice_set g.members p.0 new; sent = l; trace = g.trace ++ record { event = e; outcome = (answer_of core p.1 m).answer } ∷ [] } in Ok x) (sym c)
+      ∙ ap (λ q. let x : ClusterState S M = record { members = slice_set g.members p.0 new; sent = sent; trace = g.trace ++ record { event = e; outcome = q } ∷ [] } in Ok x) (sym b)
+      ∙ ap (λ t. let x : ClusterState S M = record { members = slice_set g.members p.0 new; sent = sent; trace = t } in Ok x) (sym d)

@@ -16,7 +16,7 @@ use Rattle.mx_member.proofs.SectionLists.{journal_ascends}
 use Rattle.mx_network.specs.declared.outcome.Entry.{Entry}
 use Rattle.mx_network.specs.Kept.{IsKept}
 use Rattle.mx_network.specs.Sections.{IsSerial, ShowsInOrder, journal_of, sections}
-use Rattle.mx_network.specs.Step.{Group, IsInsideAt, IsInsideWith}
+use Rattle.mx_network.specs.Step.{ClusterState, IsInsideAt, IsInsideWith}
 use Rattle.mx_network.specs.Trace.{IsExclusive, IsNumbered, marks}
 use Rattle.mx_network.proofs.KeptSound.{kept_sound}
 
@@ -29,7 +29,7 @@ numbered trace serial = numbered_if_fit [] (marks trace) serial
 pub journal_ordered : (trace : List Entry) → Ascending 1 (journal_of trace)
 journal_ordered trace = journal_ascends (sections trace)
 
-module _ {H S M : Type 0} (core : Core H S M) (IsShape : H → Type 0) (Good : World S M → Type 0) (laws : KeepsGood core IsShape Good) (g : Group S M) (kept : IsKept core Good g) where
+module _ {H S M : Type 0} (core : Core H S M) (IsShape : H → Type 0) (Good : World S M → Type 0) (laws : KeepsGood core IsShape Good) (g : ClusterState S M) (kept : IsKept core Good g) where
   -- two nodes that are inside are one
   pub one_alone : (i j : ℕ) → IsInsideAt core g i → IsInsideAt core g j → j ≡ i
   one_alone i j a b =
@@ -37,7 +37,7 @@ module _ {H S M : Type 0} (core : Core H S M) (IsShape : H → Type 0) (Good : W
       laws.one_inside (core_part g.members g.sent) j i b.0.core a.0.core (kept_sound core Good g kept).good
       (get_map state g.members j b.0 b.1) (get_map state g.members i a.0 a.1) b.2 a.2
 
-module _ {H S M : Type 0} (core : Core H S M) (Good : World S M → Type 0) (g : Group S M) (kept : IsKept core Good g) where
+module _ {H S M : Type 0} (core : Core H S M) (Good : World S M → Type 0) (g : ClusterState S M) (kept : IsKept core Good g) where
   -- any two journals agree
   pub agreed : (i j : ℕ) (m k : MemberState S) → IsMember g.members i m → IsMember g.members j k → AreAgreeing m.journal k.journal
   agreed = journals_agree core Good (sections g.trace) g.members g.sent (kept_sound core Good g kept)

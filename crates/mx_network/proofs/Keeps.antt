@@ -22,7 +22,7 @@ use Rattle.mx_network.specs.declared.faults.StepFault.{StepFault}
 use Rattle.mx_network.specs.declared.faults.StepFault.TheVariants.{NoNode}
 use Rattle.mx_network.specs.Kept.{IsKept}
 use Rattle.mx_network.specs.Sections.{sections}
-use Rattle.mx_network.specs.Step.{Group, answer_of, part_of, grown, at_member, at_part, step_of, IsDoableAt, RunsTo}
+use Rattle.mx_network.specs.Step.{ClusterState, answer_of, part_of, grown, at_member, at_part, step_of, IsDoableAt, RunsTo}
 use Rattle.mx_network.specs.Trace.{marks}
 use Rattle.mx_network.proofs.Marks.{marks-snoc}
 use Rattle.mx_network.proofs.KeptSound.{kept_sound}
@@ -30,7 +30,7 @@ use Rattle.mx_network.proofs.EventParts.{arrives, err_no_ok, same_Ok, tells}
 
 module _ {H S M : Type 0} (core : Core H S M) (IsShape : H → Type 0) (Good : World S M → Type 0) (phases : KeepsPhases core) (laws : KeepsGood core IsShape Good) where
   -- a trace that tells of these marks too
-  told_more : (g : Group S M) (trace : List Entry) (ms : List Mark) (members : List (MemberState S)) (sent : List (ℕ × ℕ × Parcel M)) → marks trace ≡ marks g.trace ++ ms → IsKept core Good g → AllFit (sections g.trace) ms → IsRun core Good (after_marks (sections g.trace) ms) (owners (after_marks (sections g.trace) ms) members) sent → IsKept core Good (record { members = members; sent = sent; trace = trace })
+  told_more : (g : ClusterState S M) (trace : List Entry) (ms : List Mark) (members : List (MemberState S)) (sent : List (ℕ × ℕ × Parcel M)) → marks trace ≡ marks g.trace ++ ms → IsKept core Good g → AllFit (sections g.trace) ms → IsRun core Good (after_marks (sections g.trace) ms) (owners (after_marks (sections g.trace) ms) members) sent → IsKept core Good (record { members = members; sent = sent; trace = trace })
   told_more g trace ms members sent is kept fit run =
       record {
         run = subst (λ ss. IsRun core Good ss (owners ss members) sent) (sym (ap (λ l. after_marks [] l) is ∙ after_marks-append [] (marks g.trace) ms)) run;
@@ -38,7 +38,7 @@ module _ {H S M : Type 0} (core : Core H S M) (IsShape : H → Type 0) (Good : W
       }
 
   -- a member's act, as the part of an event
-  grown_kept : (g : Group S M) (e : Event) (p : ℕ × Act M) (m : MemberState S) → part_of (length g.members) g.sent e ≡ Ok p → slice_get g.members p.0 ≡ Some m → IsKept core Good g → IsKept core Good (grown g e p.0 (answer_of core p.1 m))
+  grown_kept : (g : ClusterState S M) (e : Event) (p : ℕ × Act M) (m : MemberState S) → part_of (length g.members) g.sent e ≡ Ok p → slice_get g.members p.0 ≡ Some m → IsKept core Good g → IsKept core Good (grown g e p.0 (answer_of core p.1 m))
   grown_kept g e p m part at kept =
       let done = act_of core p.1 m in
       let ms : List Mark = told p.0 p.1 done.answer in
@@ -47,25 +47,25 @@ module _ {H S M : Type 0} (core : Core H S M) (IsShape : H → Type 0) (Good : W
       told_more g (grown g e p.0 (answer_of core p.1 m)).trace ms (grown g e p.0 (answer_of core p.1 m)).members (grown g e p.0 (answer_of core p.1 m)).sent
       (marks-snoc g.trace e (answer_of core p.1 m).answer ∙ ap (λ l. marks g.trace ++ l) (tells core m (length g.members) g.sent e p part)) kept k.0 k.1
 
-  at_some : (g : Group S M) (e : Event) (p : ℕ × Act M) (new : Group S M) (o : Option (MemberState S)) → slice_get g.members p.0 ≡ o → part_of (length g.members) g.sent e ≡ Ok p → at_member core g e p.0 p.1 o ≡ Ok new → IsKept core Good g → IsKept core Good new
+  at_some : (g : ClusterState S M) (e : Event) (p : ℕ × Act M) (new : ClusterState S M) (o : Option (MemberState S)) → slice_get g.members p.0 ≡ o → part_of (length g.members) g.sent e ≡ Ok p → at_member core g e p.0 p.1 o ≡ Ok new → IsKept core Good g → IsKept core Good new
   at_some g e p new None was part step kept = absurd (err_no_ok NoNode new step)
   at_some g e p new (Some m) was part step kept = subst (λ x. IsKept core Good x) (same_Ok (grown g e p.0 (answer_of core p.1 m)) new step) (grown_kept g e p m part was kept)
 
-  at_parted : (g : Group S M) (e : Event) (new : Group S M) (r : Result (ℕ × Act M) StepFault) → part_of (length g.members) g.sent e ≡ r → at_part core g e r ≡ Ok new → IsKept core Good g → IsKept core Good new
+  at_parted : (g : ClusterState S M) (e : Event) (new : ClusterState S M) (r : Result (ℕ × Act M) StepFault) → part_of (length g.members) g.sent e ≡ r → at_part core g e r ≡ Ok new → IsKept core Good g → IsKept core Good new
   at_parted g e new (Err f) was step kept = absurd (err_no_ok f new step)
   at_parted g e new (Ok p) was step kept = at_some g e p new (slice_get g.members p.0) refl was step kept
 
   -- every event keeps a cluster
-  pub step_kept : (g : Group S M) (e : Event) (new : Group S M) → step_of core g e ≡ Ok new → IsKept core Good g → IsKept core Good new
+  pub step_kept : (g : ClusterState S M) (e : Event) (new : ClusterState S M) → step_of core g e ≡ Ok new → IsKept core Good g → IsKept core Good new
   step_kept g e new step kept = at_parted g e new (part_of (length g.members) g.sent e) refl step kept
 
   -- so does one that did not happen
-  pub result_kept : (g : Group S M) (e : Event) (new : Group S M) (r : Result Outcome StepFault) → IfOk r (λ o. step_of core g e ≡ Ok new) → OnErr r (new ≡ g) → IsKept core Good g → IsKept core Good new
+  pub result_kept : (g : ClusterState S M) (e : Event) (new : ClusterState S M) (r : Result Outcome StepFault) → IfOk r (λ o. step_of core g e ≡ Ok new) → OnErr r (new ≡ g) → IsKept core Good g → IsKept core Good new
   result_kept g e new (Ok o) ok err kept = step_kept g e new ok kept
   result_kept g e new (Err f) ok err kept = subst (λ x. IsKept core Good x) (sym err) kept
 
   -- the node whose event it is can do its act: no parcel that was sent is a stranger's or leads to a conflict
-  pub all_doable : (g : Group S M) (e : Event) → IsKept core Good g → IsDoableAt g e
+  pub all_doable : (g : ClusterState S M) (e : Event) → IsKept core Good g → IsDoableAt g e
   all_doable g e kept p m part at = doable core Good (sections g.trace) g.members g.sent p.0 p.1 m (kept_sound core Good g kept) at (arrives (length g.members) g.sent e p part)
 
   -- a cluster at rest, by its parts
@@ -77,6 +77,6 @@ module _ {H S M : Type 0} (core : Core H S M) (IsShape : H → Type 0) (Good : W
       (record { run = owners_at_start core IsShape Good phases laws shape origin limit registers valid d e f; serial = tt })))
 
 -- a run of one event more
-pub RunsTo-snoc : {H S M : Type 0} (core : Core H S M) (g mid new : Group S M) (es : List Event) (e : Event) → RunsTo core g es mid → step_of core mid e ≡ Ok new → RunsTo core g (es ++ e ∷ []) new
+pub RunsTo-snoc : {H S M : Type 0} (core : Core H S M) (g mid new : ClusterState S M) (es : List Event) (e : Event) → RunsTo core g es mid → step_of core mid e ≡ Ok new → RunsTo core g (es ++ e ∷ []) new
 RunsTo-snoc core g mid new [] e same step = (new, subst (λ x. step_of core x e ≡ Ok new) same step, refl)
 RunsTo-snoc core g mid new (f ∷ es) e (first, step, rest) last = (first, step, RunsTo-snoc core first mid new es e rest last)

@@ -27,7 +27,7 @@ use Rattle.mx_member.proofs.SectionLists.{journal_ascends, submaps_agree}
 use Rattle.mx_network.specs.Kept.{IsKept}
 use Rattle.mx_network.specs.Merged.{IsAboveAll, IsBelowEach, IsOfAll}
 use Rattle.mx_network.specs.Sections.{journal_of, sections}
-use Rattle.mx_network.specs.Step.{Group}
+use Rattle.mx_network.specs.Step.{ClusterState}
 use Rattle.mx_network.proofs.Happening.{held}
 use Rattle.mx_network.proofs.KeptSound.{kept_sound}
 
@@ -69,16 +69,16 @@ pub least_same : {S : Type 0} (members : List (MemberState S)) (nodes : List ℕ
 least_same members nodes k n all below lt is other above = below other (above_fewer members nodes k n other lt is above)
 
 -- what is merged so far agrees with each member's journal
-pub mergeable : {H S M : Type 0} (core : Core H S M) (Good : World S M → Type 0) (g : Group S M) (all journal : List Record) (n : ℕ) (m : MemberState S) → IsKept core Good g → IsSubmap all (journal_of g.trace) → IsMember g.members n m → journal ≡ m.journal → AreAgreeing all journal
+pub mergeable : {H S M : Type 0} (core : Core H S M) (Good : World S M → Type 0) (g : ClusterState S M) (all journal : List Record) (n : ℕ) (m : MemberState S) → IsKept core Good g → IsSubmap all (journal_of g.trace) → IsMember g.members n m → journal ≡ m.journal → AreAgreeing all journal
 mergeable core Good g all journal n m kept low at same =
     submaps_agree (sections g.trace) all journal low (λ x h. (kept_sound core Good g kept).journals n m at x (subst (λ l. IsIn x l) same h))
 
-pub merged_within : {H S M : Type 0} (core : Core H S M) (Good : World S M → Type 0) (g : Group S M) (all new journal : List Record) (n : ℕ) (m : MemberState S) → IsKept core Good g → IsSubmap all (journal_of g.trace) → IsMember g.members n m → journal ≡ m.journal → IsLeastUpperBound all journal new → IsSubmap new (journal_of g.trace)
+pub merged_within : {H S M : Type 0} (core : Core H S M) (Good : World S M → Type 0) (g : ClusterState S M) (all new journal : List Record) (n : ℕ) (m : MemberState S) → IsKept core Good g → IsSubmap all (journal_of g.trace) → IsMember g.members n m → journal ≡ m.journal → IsLeastUpperBound all journal new → IsSubmap new (journal_of g.trace)
 merged_within core Good g all new journal n m kept low at same join =
     join.least (journal_of g.trace) low (λ x h. (kept_sound core Good g kept).journals n m at x (subst (λ l. IsIn x l) same h))
 
 -- each section that was left is recorded in the journal of its node
-pub all_have : {H S M : Type 0} (core : Core H S M) (Good : World S M → Type 0) (g : Group S M) (nodes : List ℕ) (all : List Record) → IsKept core Good g → IsOfAll g.members nodes → IsAboveAll g.members nodes all → IsSubmap (journal_of g.trace) all
+pub all_have : {H S M : Type 0} (core : Core H S M) (Good : World S M → Type 0) (g : ClusterState S M) (nodes : List ℕ) (all : List Record) → IsKept core Good g → IsOfAll g.members nodes → IsAboveAll g.members nodes all → IsSubmap (journal_of g.trace) all
 all_have {H} {S} core Good g nodes all kept every above x h =
     let rs : List Receipt = receipts_in (sections g.trace) in
     let r = in_records rs x (subst (λ l. IsIn x l) (receipts_journal (sections g.trace)) h) in
@@ -93,7 +93,7 @@ all_have {H} {S} core Good g nodes all kept every above x h =
     (subst (λ (y : Record). IsIn y m.journal) (sym r.2) (kept.run.recorded i (record { member = m; receipts = own_in (0 + i) rs }) r.0 (owner_at 0 rs g.members i m at) own))
 
 -- so the journals of all nodes, merged, are the section journal
-pub merged_whole : {H S M : Type 0} (core : Core H S M) (Good : World S M → Type 0) (g : Group S M) (nodes : List ℕ) (all : List Record) → IsKept core Good g → Ascending 1 all → IsSubmap all (journal_of g.trace) → IsAboveAll g.members nodes all → IsOfAll g.members nodes → all ≡ journal_of g.trace
+pub merged_whole : {H S M : Type 0} (core : Core H S M) (Good : World S M → Type 0) (g : ClusterState S M) (nodes : List ℕ) (all : List Record) → IsKept core Good g → Ascending 1 all → IsSubmap all (journal_of g.trace) → IsAboveAll g.members nodes all → IsOfAll g.members nodes → all ≡ journal_of g.trace
 merged_whole core Good g nodes all kept ascends low above every =
     same_members 1 1 all (journal_of g.trace) ascends (journal_ascends (sections g.trace)) low (all_have core Good g nodes all kept every above)
 

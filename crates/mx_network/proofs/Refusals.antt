@@ -14,7 +14,7 @@ use Rattle.mx_network.specs.declared.outcome.Outcome.{Outcome}
 use Rattle.mx_network.specs.declared.faults.StepFault.{StepFault}
 use Rattle.mx_network.specs.declared.faults.StepFault.TheVariants.{NoNode, NoParcel, Memory}
 use Rattle.mx_network.specs.Kept.{IsKept}
-use Rattle.mx_network.specs.Step.{Group, answer_of, delivery_of, grown, at_member, at_part, step_of, IsFaultOf, NamesNoNode, NamesNoParcel}
+use Rattle.mx_network.specs.Step.{ClusterState, answer_of, delivery_of, grown, at_member, at_part, step_of, IsFaultOf, NamesNoNode, NamesNoParcel}
 use Rattle.mx_network.proofs.EventParts.{err_no_ok}
 use Rattle.mx_network.proofs.KeptSound.{kept_sound}
 
@@ -22,11 +22,11 @@ past_end : {X : Type 0} (xs : List X) (k : ℕ) → slice_get xs k ≡ None → 
 past_end xs k was = elim (slice_get_cases xs k).1 [ inl p ↦ absurd (none_is_no_some p.0 (sym was ∙ p.2)) | inr q ↦ q.0 ]
 
 -- which of the three an event is
-abbrev Class : {H S M : Type 0} → Core H S M → Group S M → Event → Type 0
+abbrev Class : {H S M : Type 0} → Core H S M → ClusterState S M → Event → Type 0
 Class {H} {S} {M} core g e =
     (NamesNoNode g e × (NamesNoParcel g e → ⊥) × (step_of core g e ≡ Err NoNode))
     ⊎ (NamesNoParcel g e × (NamesNoNode g e → ⊥) × (step_of core g e ≡ Err NoParcel))
-    ⊎ ((NamesNoNode g e → ⊥) × (NamesNoParcel g e → ⊥) × (new : Group S M) × (step_of core g e ≡ Ok new))
+    ⊎ ((NamesNoNode g e → ⊥) × (NamesNoParcel g e → ⊥) × (new : ClusterState S M) × (step_of core g e ≡ Ok new))
 
 same_Err : {A : Type 0} (f h : StepFault) → ◌≡◌ {A = Result A StepFault} (Err f) (Err h) → f ≡ h
 same_Err f h e = cc
@@ -45,20 +45,20 @@ faults_apart e = cc
 
 module _ {H S M : Type 0} (core : Core H S M) (Good : World S M → Type 0) where
   -- an act of node i happens exactly where the node is there
-  at_node : (g : Group S M) (e : Event) (i : ℕ) (a : Act M) → ((length g.members ≤ i) × (at_member core g e i a (slice_get g.members i) ≡ Err NoNode)) ⊎ ((i < length g.members) × (new : Group S M) × (at_member core g e i a (slice_get g.members i) ≡ Ok new))
+  at_node : (g : ClusterState S M) (e : Event) (i : ℕ) (a : Act M) → ((length g.members ≤ i) × (at_member core g e i a (slice_get g.members i) ≡ Err NoNode)) ⊎ ((i < length g.members) × (new : ClusterState S M) × (at_member core g e i a (slice_get g.members i) ≡ Ok new))
   at_node g e i a = elim (slice_get_cases g.members i).1 [
     | inl p ↦ inr (p.1, grown g e i (answer_of core a p.0), ap (λ o. at_member core g e i a o) p.2)
     | inr q ↦ inl (q.0, ap (λ o. at_member core g e i a o) q.1)
   ]
 
   -- an event of node i alone
-  plain : (g : Group S M) (e : Event) (i : ℕ) (a : Act M) → (NamesNoNode g e → length g.members ≤ i) → (length g.members ≤ i → NamesNoNode g e) → (NamesNoParcel g e → ⊥) → step_of core g e ≡ at_member core g e i a (slice_get g.members i) → Class core g e
-  plain g e i a out back none is = elim (at_node g e i a) [
+  of_one_node : (g : ClusterState S M) (e : Event) (i : ℕ) (a : Act M) → (NamesNoNode g e → length g.members ≤ i) → (length g.members ≤ i → NamesNoNode g e) → (NamesNoParcel g e → ⊥) → step_of core g e ≡ at_member core g e i a (slice_get g.members i) → Class core g e
+  of_one_node g e i a out back none is = elim (at_node g e i a) [
     | inl q ↦ inl (back q.0, none, is ∙ q.1)
     | inr q ↦ inr (inr (λ names. absurd (omega (arith, out names, q.0)), none, q.1, is ∙ q.2))
   ]
 
-  delivers : (g : Group S M) (k : ℕ) → IsKept core Good g → (o : Option (ℕ × ℕ × Parcel M)) → slice_get g.sent k ≡ o → Class core g (event.Deliver k)
+  delivers : (g : ClusterState S M) (k : ℕ) → IsKept core Good g → (o : Option (ℕ × ℕ × Parcel M)) → slice_get g.sent k ≡ o → Class core g (event.Deliver k)
   delivers g k kept None was = inr (inl (past_end g.sent k was, λ none. none, ap (λ o. at_part core g (event.Deliver k) (delivery_of o)) was))
   delivers g k kept (Some p) was =
       let lt = ((kept_sound core Good g kept).between p.0 p.1 p.2 (in_get g.sent k p was)).1 in
@@ -68,10 +68,10 @@ module _ {H S M : Type 0} (core : Core H S M) (Good : World S M → Type 0) wher
       ]
 
   -- a want names two nodes
-  wants : (g : Group S M) (i j : ℕ) → Class core g (event.Want i j)
+  wants : (g : ClusterState S M) (i j : ℕ) → Class core g (event.Want i j)
   wants g i j =
       let part : Result (ℕ × Act M) StepFault = Ok (i, act.Want j) in
-      let at : Bool → Result (Group S M) StepFault = λ b. at_part core g (event.Want i j) (if b then part else Err NoNode) in
+      let at : Bool → Result (ClusterState S M) StepFault = λ b. at_part core g (event.Want i j) (if b then part else Err NoNode) in
       let gone : length g.members ≤ j → Class core g (event.Want i j) =
       λ l. inl (inr l, (λ none. none), ap at (lt_not j (length g.members) l)) in
       elim (compared j (length g.members)) [
@@ -83,31 +83,31 @@ module _ {H S M : Type 0} (core : Core H S M) (Good : World S M → Type 0) wher
         | inr (inr l) ↦ gone (omega (arith, l))
       ]
 
-  class_of : (g : Group S M) (e : Event) → IsKept core Good g → Class core g e
-  class_of g (event.Ask i) kept = plain g (event.Ask i) i act.Ask (λ h. h) (λ h. h) (λ none. none) refl
-  class_of g (event.Enter i) kept = plain g (event.Enter i) i act.Enter (λ h. h) (λ h. h) (λ none. none) refl
-  class_of g (event.Read i register) kept = plain g (event.Read i register) i (act.Read register) (λ h. h) (λ h. h) (λ none. none) refl
-  class_of g (event.Write i register value) kept = plain g (event.Write i register value) i (act.Write register value) (λ h. h) (λ h. h) (λ none. none) refl
-  class_of g (event.Leave i) kept = plain g (event.Leave i) i act.Leave (λ h. h) (λ h. h) (λ none. none) refl
-  class_of g (event.Tick i) kept = plain g (event.Tick i) i act.Tick (λ h. h) (λ h. h) (λ none. none) refl
+  class_of : (g : ClusterState S M) (e : Event) → IsKept core Good g → Class core g e
+  class_of g (event.Ask i) kept = of_one_node g (event.Ask i) i act.Ask (λ h. h) (λ h. h) (λ none. none) refl
+  class_of g (event.Enter i) kept = of_one_node g (event.Enter i) i act.Enter (λ h. h) (λ h. h) (λ none. none) refl
+  class_of g (event.Read i register) kept = of_one_node g (event.Read i register) i (act.Read register) (λ h. h) (λ h. h) (λ none. none) refl
+  class_of g (event.Write i register value) kept = of_one_node g (event.Write i register value) i (act.Write register value) (λ h. h) (λ h. h) (λ none. none) refl
+  class_of g (event.Leave i) kept = of_one_node g (event.Leave i) i act.Leave (λ h. h) (λ h. h) (λ none. none) refl
+  class_of g (event.Tick i) kept = of_one_node g (event.Tick i) i act.Tick (λ h. h) (λ h. h) (λ none. none) refl
   class_of g (event.Want i j) kept = wants g i j
   class_of g (event.Deliver k) kept = delivers g k kept (slice_get g.sent k) refl
-  class_of g (event.Restart i) kept = plain g (event.Restart i) i act.Restart (λ h. h) (λ h. h) (λ none. none) refl
+  class_of g (event.Restart i) kept = of_one_node g (event.Restart i) i act.Restart (λ h. h) (λ h. h) (λ none. none) refl
 
   -- where the step has this fault other than for memory, the answer is that fault, and only there
-  tells : (g new : Group S M) (e : Event) (fault : StepFault) (r : Result Outcome StepFault) → step_of core g e ≡ Err fault → IfOk r (λ o. step_of core g e ≡ Ok new) → IfErr r (IsFaultOf (step_of core g e)) → r ≡ Err fault
+  tells : (g new : ClusterState S M) (e : Event) (fault : StepFault) (r : Result Outcome StepFault) → step_of core g e ≡ Err fault → IfOk r (λ o. step_of core g e ≡ Ok new) → IfErr r (IsFaultOf (step_of core g e)) → r ≡ Err fault
   tells g new e fault (Ok o) is ok refusal = absurd (err_no_ok fault new (sym is ∙ ok))
-  tells g new e fault (Err f) is ok (inl m) = absurd (no_ok (Group S M) fault (subst (λ s. IsOk s) is m.1))
-  tells g new e fault (Err f) is ok (inr q) = ap (λ x. Err x) (same_Err {A = Group S M} f fault (sym q ∙ is))
+  tells g new e fault (Err f) is ok (inl m) = absurd (no_ok (ClusterState S M) fault (subst (λ s. IsOk s) is m.1))
+  tells g new e fault (Err f) is ok (inr q) = ap (λ x. Err x) (same_Err {A = ClusterState S M} f fault (sym q ∙ is))
 
-  told : (g : Group S M) (e : Event) (fault : StepFault) (r : Result Outcome StepFault) → (fault ≡ Memory → ⊥) → r ≡ Err fault → IfErr r (IsFaultOf (step_of core g e)) → step_of core g e ≡ Err fault
+  told : (g : ClusterState S M) (e : Event) (fault : StepFault) (r : Result Outcome StepFault) → (fault ≡ Memory → ⊥) → r ≡ Err fault → IfErr r (IsFaultOf (step_of core g e)) → step_of core g e ≡ Err fault
   told g e fault r other is refusal = elim (subst (λ x. IfErr x (IsFaultOf (step_of core g e))) is refusal) [ inl m ↦ absurd (other m.0) | inr q ↦ q ]
 
-  pub no_node : (g new : Group S M) (e : Event) (r : Result Outcome StepFault) → IsKept core Good g → IfOk r (λ o. step_of core g e ≡ Ok new) → IfErr r (IsFaultOf (step_of core g e)) → (r ≡ Err NoNode) ↔ NamesNoNode g e
+  pub no_node : (g new : ClusterState S M) (e : Event) (r : Result Outcome StepFault) → IsKept core Good g → IfOk r (λ o. step_of core g e ≡ Ok new) → IfErr r (IsFaultOf (step_of core g e)) → (r ≡ Err NoNode) ↔ NamesNoNode g e
   no_node g new e r kept ok refusal = (
     λ is. let step = told g e NoNode r memory_apart is refusal in elim (class_of g e kept) [
       | inl c ↦ c.0
-      | inr d ↦ elim d [ inl c ↦ absurd (faults_apart (same_Err {A = Group S M} NoNode NoParcel (sym step ∙ c.2))) | inr c ↦ absurd (err_no_ok NoNode c.2 (sym step ∙ c.3)) ]
+      | inr d ↦ elim d [ inl c ↦ absurd (faults_apart (same_Err {A = ClusterState S M} NoNode NoParcel (sym step ∙ c.2))) | inr c ↦ absurd (err_no_ok NoNode c.2 (sym step ∙ c.3)) ]
     ],
     λ names. elim (class_of g e kept) [
       | inl c ↦ tells g new e NoNode r c.2 ok refusal
@@ -115,10 +115,10 @@ module _ {H S M : Type 0} (core : Core H S M) (Good : World S M → Type 0) wher
     ],
   )
 
-  pub no_parcel : (g new : Group S M) (e : Event) (r : Result Outcome StepFault) → IsKept core Good g → IfOk r (λ o. step_of core g e ≡ Ok new) → IfErr r (IsFaultOf (step_of core g e)) → (r ≡ Err NoParcel) ↔ NamesNoParcel g e
+  pub no_parcel : (g new : ClusterState S M) (e : Event) (r : Result Outcome StepFault) → IsKept core Good g → IfOk r (λ o. step_of core g e ≡ Ok new) → IfErr r (IsFaultOf (step_of core g e)) → (r ≡ Err NoParcel) ↔ NamesNoParcel g e
   no_parcel g new e r kept ok refusal = (
     λ is. let step = told g e NoParcel r memory_apart_too is refusal in elim (class_of g e kept) [
-      | inl c ↦ absurd (faults_apart (same_Err {A = Group S M} NoNode NoParcel (sym c.2 ∙ step)))
+      | inl c ↦ absurd (faults_apart (same_Err {A = ClusterState S M} NoNode NoParcel (sym c.2 ∙ step)))
       | inr d ↦ elim d [ inl c ↦ c.0 | inr c ↦ absurd (err_no_ok NoParcel c.2 (sym step ∙ c.3)) ]
     ],
     λ names. elim (class_of g e kept) [

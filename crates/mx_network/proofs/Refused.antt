@@ -17,7 +17,7 @@ use Rattle.mx_network.specs.declared.outcome.Outcome.TheVariants.{Refused}
 use Rattle.mx_network.specs.declared.faults.StepFault.{StepFault}
 use Rattle.mx_network.specs.declared.faults.StepFault.TheVariants.{NoNode}
 use Rattle.mx_network.specs.Outcome.{outcome_of}
-use Rattle.mx_network.specs.Step.{Group, IsUnchanged, answer_of, at_member, at_part, grown, part_of, step_of}
+use Rattle.mx_network.specs.Step.{ClusterState, IsUnchanged, answer_of, at_member, at_part, grown, part_of, step_of}
 use Rattle.mx_network.proofs.EventParts.{err_no_ok, same_Ok}
 
 -- an answer whose outcome is refused is a refusal
@@ -36,28 +36,28 @@ last_same (z ∷ zs) x y e = last_same zs x y (let tail : zs ++ x ∷ [] ≡ zs 
 
 module _ {H S M : Type 0} (core : Core H S M) (phases : KeepsPhases core) where
   -- what a step of node i is, where its answer is a refusal
-  stays : (g : Group S M) (e : Event) (i : ℕ) (a : Act M) (m : MemberState S) (cause : Cause) → slice_get g.members i ≡ Some m → (answer_of core a m).answer ≡ Refused cause → IsUnchanged g (grown g e i (answer_of core a m))
+  stays : (g : ClusterState S M) (e : Event) (i : ℕ) (a : Act M) (m : MemberState S) (cause : Cause) → slice_get g.members i ≡ Some m → (answer_of core a m).answer ≡ Refused cause → IsUnchanged g (grown g e i (answer_of core a m))
   stays g e i a m cause at is =
       let same = refused_stays core phases m a (refusal (act_of core a m).answer (length (act_of core a m).letters) cause is) in record {
         members = ap (λ s. slice_set g.members i s) same.0 ∙ set_itself g.members i m at;
         sent = ap (λ letters. g.sent ++ sent_by i letters) same.1 ∙ append_nil g.sent;
       }
 
-  at_some : (g new : Group S M) (e : Event) (p : ℕ × Act M) (cause : Cause) (o : Option (MemberState S)) → slice_get g.members p.0 ≡ o → at_member core g e p.0 p.1 o ≡ Ok new →
+  at_some : (g new : ClusterState S M) (e : Event) (p : ℕ × Act M) (cause : Cause) (o : Option (MemberState S)) → slice_get g.members p.0 ≡ o → at_member core g e p.0 p.1 o ≡ Ok new →
       new.trace ≡ g.trace ++ (record { event = e; outcome = Refused cause }) ∷ [] → IsUnchanged g new
   at_some g new e p cause None was step told = absurd (err_no_ok NoNode new step)
   at_some g new e p cause (Some m) was step told =
       let is : grown g e p.0 (answer_of core p.1 m) ≡ new = same_Ok (grown g e p.0 (answer_of core p.1 m)) new step in
       let entry : Entry = record { event = e; outcome = (answer_of core p.1 m).answer } in
-      let item : entry ≡ record { event = e; outcome = Refused cause } = last_same g.trace entry (record { event = e; outcome = Refused cause }) (ap (λ (x : Group S M). x.trace) is ∙ told) in
+      let item : entry ≡ record { event = e; outcome = Refused cause } = last_same g.trace entry (record { event = e; outcome = Refused cause }) (ap (λ (x : ClusterState S M). x.trace) is ∙ told) in
       subst (λ x. IsUnchanged g x) is (stays g e p.0 p.1 m cause was (ap (λ (x : Entry). x.outcome) item))
 
-  at_parted : (g new : Group S M) (e : Event) (cause : Cause) (r : Result (ℕ × Act M) StepFault) → at_part core g e r ≡ Ok new →
+  at_parted : (g new : ClusterState S M) (e : Event) (cause : Cause) (r : Result (ℕ × Act M) StepFault) → at_part core g e r ≡ Ok new →
       new.trace ≡ g.trace ++ (record { event = e; outcome = Refused cause }) ∷ [] → IsUnchanged g new
   at_parted g new e cause (Err f) step told = absurd (err_no_ok f new step)
   at_parted g new e cause (Ok p) step told = at_some g new e p cause (slice_get g.members p.0) refl step told
 
-  pub refused_unchanged : (g new : Group S M) (e : Event) (r : Result Outcome StepFault) → IfOk r (λ o. step_of core g e ≡ Ok new) → IfOk r (λ o. new.trace ≡ g.trace ++ (record { event = e; outcome = o }) ∷ []) →
+  pub refused_unchanged : (g new : ClusterState S M) (e : Event) (r : Result Outcome StepFault) → IfOk r (λ o. step_of core g e ≡ Ok new) → IfOk r (λ o. new.trace ≡ g.trace ++ (record { event = e; outcome = o }) ∷ []) →
       (cause : Cause) → r ≡ Ok (Refused cause) → IsUnchanged g new
   refused_unchanged g new e r ok told cause is =
       at_parted g new e cause (part_of (length g.members) g.sent e) (subst (λ x. IfOk x (λ o. step_of core g e ≡ Ok new)) is ok)

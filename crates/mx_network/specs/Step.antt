@@ -18,13 +18,13 @@ use Rattle.mx_network.specs.declared.faults.StepFault.TheVariants.{NoNode, NoPar
 use Rattle.mx_network.specs.Outcome.{outcome_of}
 
 -- the members, the parcels ever sent, in order, and the trace
-pub record Group (S M : Type 0) : Type 0 where
+pub record ClusterState (S M : Type 0) : Type 0 where
   pub members : List (MemberState S)
   pub sent : List (ℕ × ℕ × Parcel M)
   pub trace : List Entry
 
-abbrev pub group_of : {S M : Type 0} → Vec (MemberState S) Global → Vec (ℕ × ℕ × Parcel M) Global → Vec Entry Global → Group S M
-group_of members sent trace = record { members = members.items; sent = sent.items; trace = trace.items }
+abbrev pub cluster_state_of : {S M : Type 0} → Vec (MemberState S) Global → Vec (ℕ × ℕ × Parcel M) Global → Vec Entry Global → ClusterState S M
+cluster_state_of members sent trace = record { members = members.items; sent = sent.items; trace = trace.items }
 
 -- what an act gives, with its answer as an outcome
 abbrev pub answer_of : {H S M : Type 0} → Core H S M → Act M → MemberState S → Done (MemberState S) Outcome (Parcel M)
@@ -48,27 +48,27 @@ part_of nodes sent (event.Deliver k) = delivery_of (slice_get sent k)
 part_of nodes sent (event.Restart i) = Ok (i, act.Restart)
 
 -- node i has taken its step: its parcels join those sent, and the event its trace
-abbrev pub grown : {S M : Type 0} → Group S M → Event → ℕ → Done (MemberState S) Outcome (Parcel M) → Group S M
+abbrev pub grown : {S M : Type 0} → ClusterState S M → Event → ℕ → Done (MemberState S) Outcome (Parcel M) → ClusterState S M
 grown g event i done = record {
   members = slice_set g.members i done.state;
   sent = g.sent ++ sent_by i done.letters;
   trace = g.trace ++ (record { event = event; outcome = done.answer }) ∷ [];
 }
 
-abbrev pub at_member : {H S M : Type 0} → Core H S M → Group S M → Event → ℕ → Act M → Option (MemberState S) → Result (Group S M) StepFault
+abbrev pub at_member : {H S M : Type 0} → Core H S M → ClusterState S M → Event → ℕ → Act M → Option (MemberState S) → Result (ClusterState S M) StepFault
 at_member core g event i a None = Err NoNode
 at_member core g event i a (Some m) = Ok (grown g event i (answer_of core a m))
 
-abbrev pub at_part : {H S M : Type 0} → Core H S M → Group S M → Event → Result (ℕ × Act M) StepFault → Result (Group S M) StepFault
+abbrev pub at_part : {H S M : Type 0} → Core H S M → ClusterState S M → Event → Result (ℕ × Act M) StepFault → Result (ClusterState S M) StepFault
 at_part core g event (Err fault) = Err fault
 at_part core g event (Ok p) = at_member core g event p.0 p.1 (slice_get g.members p.0)
 
 -- the cluster after an event, or why there is no such event
-abbrev pub step_of : {H S M : Type 0} → Core H S M → Group S M → Event → Result (Group S M) StepFault
+abbrev pub step_of : {H S M : Type 0} → Core H S M → ClusterState S M → Event → Result (ClusterState S M) StepFault
 step_of core g event = at_part core g event (part_of (length g.members) g.sent event)
 
 -- the node whose event it is can do its act
-abbrev pub IsDoableAt : {S M : Type 0} → Group S M → Event → Type 0
+abbrev pub IsDoableAt : {S M : Type 0} → ClusterState S M → Event → Type 0
 IsDoableAt {S} {M} g event =
     (p : ℕ × Act M) (m : MemberState S) → part_of (length g.members) g.sent event ≡ Ok p → slice_get g.members p.0 ≡ Some m → IsDoable p.1 m
 
@@ -77,7 +77,7 @@ abbrev pub IsFaultOf : {G : Type 0} → Result G StepFault → StepFault → Typ
 IsFaultOf wanted fault = ((fault ≡ Memory) × IsOk wanted) ⊎ (wanted ≡ Err fault)
 
 -- the event names a node that the cluster does not have
-abbrev pub NamesNoNode : {S M : Type 0} → Group S M → Event → Type 0
+abbrev pub NamesNoNode : {S M : Type 0} → ClusterState S M → Event → Type 0
 NamesNoNode g (event.Ask i) = length g.members ≤ i
 NamesNoNode g (event.Enter i) = length g.members ≤ i
 NamesNoNode g (event.Read i register) = length g.members ≤ i
@@ -89,24 +89,24 @@ NamesNoNode g (event.Deliver k) = ⊥
 NamesNoNode g (event.Restart i) = length g.members ≤ i
 
 -- the event delivers a parcel that was not sent
-abbrev pub NamesNoParcel : {S M : Type 0} → Group S M → Event → Type 0
+abbrev pub NamesNoParcel : {S M : Type 0} → ClusterState S M → Event → Type 0
 NamesNoParcel g (event.Deliver k) = length g.sent ≤ k
 NamesNoParcel g _ = ⊥
 
 -- node i of the cluster is inside
-abbrev pub IsInsideAt : {H S M : Type 0} → Core H S M → Group S M → ℕ → Type 0
+abbrev pub IsInsideAt : {H S M : Type 0} → Core H S M → ClusterState S M → ℕ → Type 0
 IsInsideAt {H} {S} core g i = (m : MemberState S) × (slice_get g.members i ≡ Some m) × IsInside core m.core
 
 -- and is in section n
-abbrev pub IsInsideWith : {H S M : Type 0} → Core H S M → Group S M → ℕ → ℕ → Type 0
+abbrev pub IsInsideWith : {H S M : Type 0} → Core H S M → ClusterState S M → ℕ → ℕ → Type 0
 IsInsideWith {H} {S} core g i n = (m : MemberState S) × (slice_get g.members i ≡ Some m) × (core.phase m.core ≡ Inside n)
 
 -- the members, and the parcels that were sent, are as before
-pub record IsUnchanged {S M : Type 0} (old new : Group S M) : Type 0 where
+pub record IsUnchanged {S M : Type 0} (old new : ClusterState S M) : Type 0 where
   pub members : new.members ≡ old.members
   pub sent : new.sent ≡ old.sent
 
 -- these events, one after another, lead from one cluster to another
-abbrev pub RunsTo : {H S M : Type 0} → Core H S M → Group S M → List Event → Group S M → Type 0
+abbrev pub RunsTo : {H S M : Type 0} → Core H S M → ClusterState S M → List Event → ClusterState S M → Type 0
 RunsTo core g [] new = new ≡ g
-RunsTo {H} {S} {M} core g (e ∷ es) new = (mid : Group S M) × (step_of core g e ≡ Ok mid) × RunsTo core mid es new
+RunsTo {H} {S} {M} core g (e ∷ es) new = (mid : ClusterState S M) × (step_of core g e ≡ Ok mid) × RunsTo core mid es new

@@ -40,10 +40,10 @@ pub struct Cluster<C: Exclusion> {
 
 impl<C: Exclusion> Model for Cluster<C> {
     ghost use Rattle.std.specs.Prelude.{◌≡◌, []};
-    ghost use Rattle.mx_network.specs.Step.{Group};
+    ghost use Rattle.mx_network.specs.Step.{ClusterState};
     ghost use Rattle.mx_network.specs.Kept.{IsKept};
 
-    ghost Value = { Group C C.Msg };
+    ghost Value = { ClusterState C C.Msg };
 
     ghost view = { λ c. record { members = c.members.items; sent = c.sent.items; trace = c.trace.items } };
 

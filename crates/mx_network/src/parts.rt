@@ -5,7 +5,7 @@ ghost use Rattle.mx_stamps.specs.Lists.{each_below};
 ghost use Rattle.mx_nodelaws.specs.World.{sent_by};
 ghost use Rattle.mx_member.specs.Acts.{IsDoable};
 ghost use Rattle.mx_member.specs.Steps.{start_of};
-ghost use Rattle.mx_network.specs.Step.{answer_of, delivery_of, group_of, part_of, step_of, IsDoableAt, IsFaultOf};
+ghost use Rattle.mx_network.specs.Step.{answer_of, delivery_of, cluster_state_of, part_of, step_of, IsDoableAt, IsFaultOf};
 
 use crate::event::Event;
 use crate::faults::StepFault;
@@ -135,12 +135,12 @@ pub(crate) fn happen<C: Exclusion>(
     event: Event,
 ) -> Result<Outcome, StepFault>
     requires empty { out.old ≡ [] }
-    requires doable { IsDoableAt (group_of members.old sent.old trace.old) event }
+    requires doable { IsDoableAt (cluster_state_of members.old sent.old trace.old) event }
     ensures out { out.new ≡ [] }
-    ensures ok { IfOk result (λ outcome. step_of C.core (group_of members.old sent.old trace.old) event ≡ Ok (group_of members.new sent.new trace.new)) }
+    ensures ok { IfOk result (λ outcome. step_of C.core (cluster_state_of members.old sent.old trace.old) event ≡ Ok (cluster_state_of members.new sent.new trace.new)) }
     ensures outcome { IfOk result (λ outcome. trace.new.items ≡ trace.old.items ++ (record { event = event; outcome = outcome }) ∷ []) }
-    ensures fault { IfErr result (IsFaultOf (step_of C.core (group_of members.old sent.old trace.old) event)) }
-    ensures err { OnErr result (group_of members.new sent.new trace.new ≡ group_of members.old sent.old trace.old) }
+    ensures fault { IfErr result (IsFaultOf (step_of C.core (cluster_state_of members.old sent.old trace.old) event)) }
+    ensures err { OnErr result (cluster_state_of members.new sent.new trace.new ≡ cluster_state_of members.old sent.old trace.old) }
 {
     let nodes = members.as_slice().len();
     let (node, act) = part_at(nodes, sent, &event)?;

@@ -1,10 +1,10 @@
 -- Worlds: letters of steps, and steps one after the other. Frame: what a step of one node leaves as
 -- it was. Phases: phases apart. Calls: the promises of calls by phase. Entries: the number of an
--- entry. Sent: letters in ascending order of addressee. Plain: the layer of u64 values.
+-- entry. Sent: letters in ascending order of addressee. Bounds: the layer of u64 values.
 pub mod Worlds
 pub mod Frame
 pub mod Phases
 pub mod Calls
 pub mod Entries
 pub mod Sent
-pub mod Plain
+pub mod Bounds

@@ -4,10 +4,10 @@ use Rattle.serde_json.specs.Data.{Data}
 use Rattle.serde_json.specs.Find.{get}
 use Rattle.mx_plan.specs.Text.{Text}
 use Rattle.mx_plan.specs.Fields.{Fields, IsShape}
-use Rattle.mx_plan.specs.Shapes.{Wish}
+use Rattle.mx_plan.specs.Shapes.{PlannedShape}
 use Rattle.mx_plan.specs.Values.{Answers, and_then, is_object, number_of}
 use Rattle.mx_plan.specs.NameLists.{names_of}
-use Rattle.mx_plan.specs.Plans.{Draft, IsOutcome, IsShapeOutcome, ShapeAnswers, algorithm_of, draft_of, in_range, origin_of, wish_of}
+use Rattle.mx_plan.specs.Plans.{Draft, IsOutcome, IsShapeOutcome, ShapeAnswers, algorithm_of, draft_of, in_range, origin_of, planned_of}
 use Rattle.mx_plan.specs.declared.place.Place.TheVariants as place
 use Rattle.mx_plan.specs.declared.shape.Shape.{Shape}
 use Rattle.mx_plan.specs.declared.algorithm.Algorithm.{Algorithm}
@@ -36,16 +36,16 @@ pub record Says (d : Data) (h : Head) : Type 0 where
   pub sections : in_range place.Sections (number_of (get (codes "sections") d)) ≡ Ok h.sections
   pub origin : origin_of (get (codes "origin") d) ≡ Ok h.origin
 
-drafted : Head → Wish → Draft
-drafted h wish =
-    record { nodes = h.nodes; registers = h.registers; sections = h.sections; origin = h.origin; wish = wish }
+drafted : Head → PlannedShape → Draft
+drafted h planned =
+    record { nodes = h.nodes; registers = h.registers; sections = h.sections; origin = h.origin; planned = planned }
 
-wished : Head → Data → Result Wish PlanFault
-wished h d = wish_of h.algorithm h.nodes d
+planned_from : Head → Data → Result PlannedShape PlanFault
+planned_from h d = planned_of h.algorithm h.nodes d
 
 -- then the shape decides
-shape_decides : (d : Data) (h : Head) → Says d h → draft_of d ≡ and_then (wished h d) (λ wish. Ok (drafted h wish))
-unfolding drafted wished
+shape_decides : (d : Data) (h : Head) → Says d h → draft_of d ≡ and_then (planned_from h d) (λ planned. Ok (drafted h planned))
+unfolding drafted planned_from
 shape_decides d h says =
     rw (
       says.object,
@@ -57,22 +57,22 @@ shape_decides d h says =
     )
     refl
 
-refused : (h : Head) (w : Result Wish PlanFault) (e : PlanFault)
-    → IsShapeOutcome (length h.nodes) w (Err e) → IsOutcome (and_then w (λ wish. Ok (drafted h wish))) (Err e)
+refused : (h : Head) (w : Result PlannedShape PlanFault) (e : PlanFault)
+    → IsShapeOutcome (length h.nodes) w (Err e) → IsOutcome (and_then w (λ planned. Ok (drafted h planned))) (Err e)
 unfolding drafted
-refused h (Ok wish) (BadShape fault) is = is
-refused h (Ok wish) NotJson is = absurd is
-refused h (Ok wish) (NotPlan p) is = absurd is
-refused h (Ok wish) (DoubleName p) is = absurd is
-refused h (Ok wish) (UnknownName p) is = absurd is
-refused h (Ok wish) Memory is = absurd is
+refused h (Ok planned) (BadShape fault) is = is
+refused h (Ok planned) NotJson is = absurd is
+refused h (Ok planned) (NotPlan p) is = absurd is
+refused h (Ok planned) (DoubleName p) is = absurd is
+refused h (Ok planned) (UnknownName p) is = absurd is
+refused h (Ok planned) Memory is = absurd is
 refused h (Err wanted) e is = is
 
 pub shape_refused : (d : Data) (h : Head) (e : PlanFault) → Says d h
-    → ShapeAnswers (length h.nodes) (wish_of h.algorithm h.nodes d) (Err e)
+    → ShapeAnswers (length h.nodes) (planned_of h.algorithm h.nodes d) (Err e)
     → IsOutcome (draft_of d) (Err e) ⊎ (◌≡◌ {A = Result Fields PlanFault} (Err e) (Err Memory))
-unfolding wished
-shape_refused d h e says (inl is) = inl (rw (shape_decides d h says) (refused h (wished h d) e is))
+unfolding planned_from
+shape_refused d h e says (inl is) = inl (rw (shape_decides d h says) (refused h (planned_from h d) e is))
 shape_refused d h e says (inr is) = let memory : e ≡ Memory = cc in inr (ap Err memory)
 
 -- the plan of a head and a shape
@@ -80,21 +80,21 @@ abbrev pub plan_of : Head → Shape → Fields
 plan_of h shape =
     record { nodes = h.nodes; registers = h.registers; sections = h.sections; origin = h.origin; shape = shape }
 
-given : (h : Head) (w : Result Wish PlanFault) (shape : Shape)
-    → IsShapeOutcome (length h.nodes) w (Ok shape) → IsOutcome (and_then w (λ wish. Ok (drafted h wish))) (Ok (plan_of h shape))
+given : (h : Head) (w : Result PlannedShape PlanFault) (shape : Shape)
+    → IsShapeOutcome (length h.nodes) w (Ok shape) → IsOutcome (and_then w (λ planned. Ok (drafted h planned))) (Ok (plan_of h shape))
 unfolding drafted
-given h (Ok wish) shape is = record { nodes = refl; registers = refl; sections = refl; origin = refl; shape = is.0 }
+given h (Ok planned) shape is = record { nodes = refl; registers = refl; sections = refl; origin = refl; shape = is.0 }
 given h (Err wanted) shape is = absurd is
 
 pub shape_given : (d : Data) (h : Head) (shape : Shape) → Says d h
-    → ShapeAnswers (length h.nodes) (wish_of h.algorithm h.nodes d) (Ok shape)
+    → ShapeAnswers (length h.nodes) (planned_of h.algorithm h.nodes d) (Ok shape)
     → IsOutcome (draft_of d) (Ok (plan_of h shape))
-unfolding wished
-shape_given d h shape says (inl is) = rw (shape_decides d h says) (given h (wished h d) shape is)
+unfolding planned_from
+shape_given d h shape says (inl is) = rw (shape_decides d h says) (given h (planned_from h d) shape is)
 shape_given d h shape says (inr is) = let bad : ⊥ = cc in absurd bad
 
 -- a shape that is given is a shape of the nodes
-pub shape_valid : (n : ℕ) (w : Result Wish PlanFault) (shape : Shape) → ShapeAnswers n w (Ok shape) → IsShape n shape
-shape_valid n (Ok wish) shape (inl is) = is.1
+pub shape_valid : (n : ℕ) (w : Result PlannedShape PlanFault) (shape : Shape) → ShapeAnswers n w (Ok shape) → IsShape n shape
+shape_valid n (Ok planned) shape (inl is) = is.1
 shape_valid n (Err wanted) shape (inl is) = absurd is
 shape_valid n w shape (inr is) = let bad : ⊥ = cc in absurd bad

@@ -6,11 +6,11 @@ use Rattle.serde_json.specs.Data.{Data}
 use Rattle.serde_json.specs.Find.{get, as_str}
 use Rattle.mx_plan.specs.Text.{Text}
 use Rattle.mx_plan.specs.Fields.{Fields, IsShape}
-use Rattle.mx_plan.specs.Shapes.{Wish, all_others, tree, IsShapeOf, IsRefusalOf}
+use Rattle.mx_plan.specs.Shapes.{PlannedShape, all_others, tree, IsShapeOf, IsRefusalOf}
 use Rattle.mx_plan.specs.Values.{and_then, of_text, is_object, number_of}
 use Rattle.mx_plan.specs.NameLists.{names_of}
-use Rattle.mx_plan.specs.QuorumMembers.{quorums_of}
-use Rattle.mx_plan.specs.TreeMembers.{edges_of, holder_of}
+use Rattle.mx_plan.specs.QuorumKeys.{quorums_of}
+use Rattle.mx_plan.specs.TreeKeys.{edges_of, holder_of}
 use Rattle.mx_plan.specs.declared.place.Place.{Place}
 use Rattle.mx_plan.specs.declared.place.Place.TheVariants as place
 use Rattle.mx_plan.specs.declared.shape.Shape.{Shape}
@@ -45,17 +45,17 @@ origin_of None = Ok 0
 origin_of (Some d) = option_map_or (λ n. Ok n) (number_of (Some d)) (Err (NotPlan place.Origin))
 
 -- the tree that the keys `edges` and `holder` give
-abbrev pub tree_of : List Text → Data → Result Wish PlanFault
+abbrev pub tree_of : List Text → Data → Result PlannedShape PlanFault
 tree_of nodes d =
     and_then (edges_of nodes (get (codes "edges") d))
     (λ edges. and_then (holder_of nodes (get (codes "holder") d))
     (λ holder. Ok (tree edges holder)))
 
 -- the shape that a plan for an algorithm asks for
-abbrev pub wish_of : Algorithm → List Text → Data → Result Wish PlanFault
-wish_of Ricart nodes d = Ok all_others
-wish_of Maekawa nodes d = quorums_of nodes (get (codes "quorums") d)
-wish_of Raymond nodes d = tree_of nodes d
+abbrev pub planned_of : Algorithm → List Text → Data → Result PlannedShape PlanFault
+planned_of Ricart nodes d = Ok all_others
+planned_of Maekawa nodes d = quorums_of nodes (get (codes "quorums") d)
+planned_of Raymond nodes d = tree_of nodes d
 
 -- ---- whole plans
 
@@ -65,7 +65,7 @@ pub record Draft : Type 0 where
   pub registers : List Text
   pub sections : ℕ
   pub origin : ℕ
-  pub wish : Wish
+  pub planned : PlannedShape
 
 -- what a value asks for: the first place that fails decides
 abbrev pub draft_of : Data → Result Draft PlanFault
@@ -76,8 +76,8 @@ draft_of d =
     (λ nodes. and_then (names_of 32 place.Registers (get (codes "registers") d))
     (λ registers. and_then (in_range place.Sections (number_of (get (codes "sections") d)))
     (λ sections. and_then (origin_of (get (codes "origin") d))
-    (λ origin. and_then (wish_of algorithm nodes d)
-    (λ wish. Ok (record { nodes = nodes; registers = registers; sections = sections; origin = origin; wish = wish })))))))
+    (λ origin. and_then (planned_of algorithm nodes d)
+    (λ planned. Ok (record { nodes = nodes; registers = registers; sections = sections; origin = origin; planned = planned })))))))
 
 -- what a text asks for
 abbrev pub draft_at : List ℕ → Result Draft PlanFault
@@ -89,25 +89,25 @@ pub record IsPlanOf (draft : Draft) (p : Fields) : Type 0 where
   pub registers : p.registers ≡ draft.registers
   pub sections : p.sections ≡ draft.sections
   pub origin : p.origin ≡ draft.origin
-  pub shape : IsShapeOf (length draft.nodes) draft.wish p.shape
+  pub shape : IsShapeOf (length draft.nodes) draft.planned p.shape
 
 -- what comes of a text: the plan that it asks for; where it asks for none, why; where its nodes have no
 -- such shape, the first rule that is broken
 abbrev pub IsOutcome : Result Draft PlanFault → Result Fields PlanFault → Type 0
 IsOutcome (Ok draft) (Ok plan) = IsPlanOf draft plan
-IsOutcome (Ok draft) (Err (BadShape fault)) = IsRefusalOf (length draft.nodes) draft.wish fault
+IsOutcome (Ok draft) (Err (BadShape fault)) = IsRefusalOf (length draft.nodes) draft.planned fault
 IsOutcome (Ok draft) (Err _) = ⊥
 IsOutcome (Err wanted) (Ok plan) = ⊥
 IsOutcome (Err wanted) (Err fault) = fault ≡ wanted
 
 -- what comes of a shape that is asked for, in the same way; it is a shape of n nodes
-abbrev pub IsShapeOutcome : ℕ → Result Wish PlanFault → Result Shape PlanFault → Type 0
-IsShapeOutcome n (Ok wish) (Ok shape) = IsShapeOf n wish shape × IsShape n shape
-IsShapeOutcome n (Ok wish) (Err (BadShape fault)) = IsRefusalOf n wish fault
-IsShapeOutcome n (Ok wish) (Err _) = ⊥
+abbrev pub IsShapeOutcome : ℕ → Result PlannedShape PlanFault → Result Shape PlanFault → Type 0
+IsShapeOutcome n (Ok planned) (Ok shape) = IsShapeOf n planned shape × IsShape n shape
+IsShapeOutcome n (Ok planned) (Err (BadShape fault)) = IsRefusalOf n planned fault
+IsShapeOutcome n (Ok planned) (Err _) = ⊥
 IsShapeOutcome n (Err wanted) (Ok shape) = ⊥
 IsShapeOutcome n (Err wanted) (Err fault) = fault ≡ wanted
 
 -- or memory ran out
-abbrev pub ShapeAnswers : ℕ → Result Wish PlanFault → Result Shape PlanFault → Type 0
+abbrev pub ShapeAnswers : ℕ → Result PlannedShape PlanFault → Result Shape PlanFault → Type 0
 ShapeAnswers n wanted r = IsShapeOutcome n wanted r ⊎ (r ≡ Err Memory)

@@ -12,15 +12,15 @@ use Rattle.mx_plan.specs.Fields.{IsShape}
 
 -- each node asks all others; or a plane, a grid of rows and columns, or listed sets of arbiters; or a
 -- tree of edges, and its holder
-pub data Wish : Type 0 where
-  all_others : Wish
-  plane : Wish
-  grid : ℕ → ℕ → Wish
-  listed : List (List ℕ) → Wish
-  tree : List (ℕ × ℕ) → ℕ → Wish
+pub data PlannedShape : Type 0 where
+  all_others : PlannedShape
+  plane : PlannedShape
+  grid : ℕ → ℕ → PlannedShape
+  listed : List (List ℕ) → PlannedShape
+  tree : List (ℕ × ℕ) → ℕ → PlannedShape
 
 -- the shape of n nodes that was asked for
-abbrev pub IsShapeOf : ℕ → Wish → Shape → Type 0
+abbrev pub IsShapeOf : ℕ → PlannedShape → Shape → Type 0
 IsShapeOf n all_others (Ricart count) = count ≡ n
 IsShapeOf n plane (Maekawa family) = IsPlaneSize n × IsPlane n family
 IsShapeOf n (grid rows cols) (Maekawa family) = (rows * cols ≡ n) × IsGrid rows cols family
@@ -29,12 +29,12 @@ IsShapeOf n (tree edges holder) (Raymond rooted) = IsTree n edges × IsTreeOf n 
 IsShapeOf n _ _ = ⊥
 
 -- why n nodes have no such shape: the first rule that is broken
-abbrev pub IsRefusalOf : ℕ → Wish → ShapeFault → Type 0
+abbrev pub IsRefusalOf : ℕ → PlannedShape → ShapeFault → Type 0
 IsRefusalOf n plane (Quorum fault) = (IsPlaneSize n → ⊥) × (fault ≡ NoPlane n)
 IsRefusalOf n (listed sets) (Quorum fault) = IsFirstFault sets fault
 IsRefusalOf n (tree edges holder) (Tree fault) = IsFirstTreeFault n edges holder fault
 IsRefusalOf n _ _ = ⊥
 
 -- the shape that was asked for, which is a shape of n nodes; or why there is none
-abbrev pub IsShaped : ℕ → Wish → Result Shape ShapeFault → Type 0
-IsShaped n wish r = MatchResult r (λ shape. IsShapeOf n wish shape × IsShape n shape) (λ fault. IsRefusalOf n wish fault)
+abbrev pub IsShaped : ℕ → PlannedShape → Result Shape ShapeFault → Type 0
+IsShaped n planned r = MatchResult r (λ shape. IsShapeOf n planned shape × IsShape n shape) (λ fault. IsRefusalOf n planned fault)

@@ -103,7 +103,7 @@ fn shape_in(
 ) -> Result<Shape, PlanFault>
     requires { AreNames 21 nodes.now }
     ensures { spec.ShapeAnswers (length nodes.now)
-        (spec.wish_of algorithm nodes.now (view value.now)) result }
+        (spec.planned_of algorithm nodes.now (view value.now)) result }
 {
     match algorithm {
         Algorithm::Ricart => Ok(Shape::all_others(nodes.len() as u8)),

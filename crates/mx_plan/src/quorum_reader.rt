@@ -7,7 +7,7 @@ ghost use Rattle.mx_plan.specs.Text.{AreNames};
 ghost use Rattle.mx_plan.specs.Values.{each};
 ghost use Rattle.mx_plan.specs.NameLists.{is_name_list};
 ghost use Rattle.mx_plan.specs.Plans.{ShapeAnswers};
-ghost use Rattle.mx_plan.specs.QuorumMembers as spec;
+ghost use Rattle.mx_plan.specs.QuorumKeys as spec;
 
 use crate::faults::PlanFault;
 use crate::name_reader::{is_name_list, numbers_of_names};

@@ -6,7 +6,7 @@ ghost use Rattle.serde_json.specs.View.{view};
 ghost use Rattle.mx_plan.specs.Text.{AreNames};
 ghost use Rattle.mx_plan.specs.Values.{Gives, each};
 ghost use Rattle.mx_plan.specs.Plans.{ShapeAnswers, tree_of};
-ghost use Rattle.mx_plan.specs.TreeMembers as spec;
+ghost use Rattle.mx_plan.specs.TreeKeys as spec;
 
 use crate::faults::PlanFault;
 use crate::name_reader::{is_name_value, number_of_name};
@@ -50,7 +50,7 @@ fn all_edges(values: &[Value]) -> bool
 }
 
 /// Whether a value is an array of two names.
-#[tactic(auto, unfolding(crate::specs::TreeMembers::is_edge))]
+#[tactic(auto, unfolding(crate::specs::TreeKeys::is_edge))]
 fn is_edge(value: &Value) -> bool
     ensures { result ≡ spec.is_edge (view value.now) }
 {

@@ -11,7 +11,7 @@ use std::io::{BufWriter, ErrorKind};
 use std::process::ExitCode;
 use std::{env, io};
 
-/// Runs the words of the process. An `Err` is want of memory, or words that are no text.
+/// Runs the command line of the process. An `Err` means that memory ran out, or that an argument is not UTF-8.
 fn run_words(rt: &HostRuntime) -> io::Result<u8> {
     let alloc = rt.alloc();
     let given: Vec<String> = env::args(rt)?.skip(1).collect(alloc)?;

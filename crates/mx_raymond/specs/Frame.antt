@@ -10,11 +10,11 @@ use Rattle.mx_raymond.specs.Node.{Node}
 use Rattle.mx_raymond.specs.Good.{IsReached, IsLast, HasSeen, IsNodeOk, IsPrivilegeOk, IsLetterOk, IsHeld, IsUnderWay, IsSafeAt}
 
 -- how a step of a node may change it: these numbers only rise
-pub record Rises (s new : Node) : Type 0 where
+pub record MovesForward (s new : Node) : Type 0 where
   pub hop : s.hop ≤ new.hop
   pub mine : s.mine ≤ new.mine
 
-module _ {A : Type 0} (w : World Node RaymondMsg) (i : ℕ) (s : Node) (done : Done Node A RaymondMsg) (at : IsNode w i s) (rises : Rises s done.state) where
+module _ {A : Type 0} (w : World Node RaymondMsg) (i : ℕ) (s : Node) (done : Done Node A RaymondMsg) (at : IsNode w i s) (rises : MovesForward s done.state) where
   pub seen_after : (j hop : ℕ) → HasSeen w j hop → HasSeen (after w i done) j hop
   seen_after j hop h = still_come w i s done at (λ x. x.hop) rises.hop j hop h
 

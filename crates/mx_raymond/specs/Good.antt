@@ -4,7 +4,7 @@ use Rattle.mx_letters.specs.declared.raymond.RaymondMsg.{RaymondMsg}
 use Rattle.mx_letters.specs.declared.raymond.RaymondMsg.TheVariants.{Request, Privilege, Got}
 use Rattle.mx_nodelaws.specs.World.{World, IsNode, WasSent}
 use Rattle.mx_nodelaws.specs.declared.phase.Phase.TheVariants.{Inside}
-use Rattle.mx_nodelaws.specs.Plain.{Small, PlainPhase, IsPlainWorld}
+use Rattle.mx_nodelaws.specs.Bounds.{IsU64, BoundedPhase, IsBoundedWorld}
 use Rattle.mx_nodelaws.specs.Raised.{IsReachedBy, HasComeTo}
 use Rattle.mx_raymond.specs.declared.unacked.Unacked.{Unacked}
 use Rattle.mx_raymond.specs.Queue.{is_queued}
@@ -85,30 +85,30 @@ pub record IsSafe (w : World Node RaymondMsg) : Type 0 where
   pub at : IsSafeAt w highest
 
 -- each number in a letter is a u64 value
-abbrev pub PlainLetter : ℕ → RaymondMsg → Type 0
-PlainLetter n (Request number) = Small number
-PlainLetter n (Privilege hop last) = Small hop × Small last
-PlainLetter n (Got hop) = Small hop
+abbrev pub BoundedLetter : ℕ → RaymondMsg → Type 0
+BoundedLetter n (Request number) = IsU64 number
+BoundedLetter n (Privilege hop last) = IsU64 hop × IsU64 last
+BoundedLetter n (Got hop) = IsU64 hop
 
 -- the same for the privilege that is not acknowledged yet, among n nodes
-abbrev pub PlainUnacked : ℕ → Unacked → Type 0
-PlainUnacked n u = (u.to < n) × Small u.hop × Small u.last
+abbrev pub BoundedUnacked : ℕ → Unacked → Type 0
+BoundedUnacked n u = (u.to < n) × IsU64 u.hop × IsU64 u.last
 
 -- the same for the state of a node; and each name is a node
-pub record PlainNode (n : ℕ) (s : Node) : Type 0 where
+pub record BoundedNode (n : ℕ) (s : Node) : Type 0 where
   pub me : s.me < n
-  pub limit : Small s.limit
-  pub phase : PlainPhase s.phase
+  pub limit : IsU64 s.limit
+  pub phase : BoundedPhase s.phase
   pub holder : s.holder < n
   pub queue : (j : ℕ) → is_queued s.queue j ≡ true → j < n
-  pub hop : Small s.hop
-  pub unacked : (u : Unacked) → s.unacked ≡ Some u → PlainUnacked n u
-  pub asks : Small s.asks
-  pub sent : Small s.sent
-  pub heard : (j : ℕ) → Small (heard_from s j)
-  pub top : Small s.top
-  pub mine : Small s.mine
+  pub hop : IsU64 s.hop
+  pub unacked : (u : Unacked) → s.unacked ≡ Some u → BoundedUnacked n u
+  pub asks : IsU64 s.asks
+  pub sent : IsU64 s.sent
+  pub heard : (j : ℕ) → IsU64 (heard_from s j)
+  pub top : IsU64 s.top
+  pub mine : IsU64 s.mine
 
 pub record IsGood (w : World Node RaymondMsg) : Type 0 where
   pub safe : IsSafe w
-  pub plain : IsPlainWorld PlainNode PlainLetter w
+  pub bounded : IsBoundedWorld BoundedNode BoundedLetter w

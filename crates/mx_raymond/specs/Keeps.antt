@@ -22,11 +22,11 @@ use Rattle.mx_nodelaws.proofs.Calls.{ask_cases, enter_cases}
 use Rattle.mx_raymond.specs.declared.unacked.Unacked.{Unacked}
 use Rattle.mx_raymond.specs.Queue.{head_of}
 use Rattle.mx_raymond.specs.Node.{Node}
-use Rattle.mx_raymond.specs.Step.{Step, is_holder, has_permission, and_then, can_pass, passed, assign_to, assign, must_request, requested, make, serving, asking, asked, ask_in, again, take_holders_request, heard_from, queueing, take_others_request, take_request, holding, told, take_privilege, is_unacked, take_got, is_neighbour, deliver_of, entered, enter_in, leaving, leave_in, request_again, tick_of, entering}
+use Rattle.mx_raymond.specs.Step.{NodeDone, is_holder, has_permission, and_then, can_pass, passed, assign_privilege_to, assign_privilege, must_request, requested, make_request, serving, asking, asked, ask_in, privilege_again, take_holders_request, heard_from, queueing, take_others_request, take_request, holding, acknowledging, take_privilege, is_unacked, take_got, is_neighbour, deliver_of, entered, enter_in, leaving, leave_in, request_again, tick_of, entering}
 use Rattle.mx_raymond.specs.Good.{IsNodeOk, IsSafe}
 use Rattle.mx_raymond.specs.Tests.{permission_holds, may_pass}
-use Rattle.mx_raymond.specs.Calm.{IsCalm, calm_safe, unchanged_safe}
-use Rattle.mx_raymond.specs.Moves.{holds, passed_kept, arrived_kept, entered_kept}
+use Rattle.mx_raymond.specs.PrivilegeStays.{KeepsPrivilege, stays_safe, unchanged_safe}
+use Rattle.mx_raymond.specs.PrivilegeMoves.{holds, passed_kept, arrived_kept, entered_kept}
 
 -- a letter that is a request is no privilege
 only_request : (to b hop last number : ℕ) → IsIn {X = ℕ × RaymondMsg} (b, Privilege hop last) ((to, Request number) ∷ []) → ⊥
@@ -39,8 +39,8 @@ only_got to b hop last gone (inr none) = absurd none
 
 module _ (w : World Node RaymondMsg) (i : ℕ) (s : Node) (at : IsNode w i s) (safe : IsSafe w) where
   -- a step that changes neither the privilege's place nor what is known of it, and sends nothing
-  quiet_calm : {A : Type 0} (state : Node) (answer : A) → state.me ≡ s.me → state.holder ≡ s.holder → state.hop ≡ s.hop → state.top ≡ s.top → state.mine ≡ s.mine → ((n : ℕ) → state.phase ≡ Inside n → s.phase ≡ Inside n) → ((u : Unacked) → state.unacked ≡ Some u → s.unacked ≡ Some u) → IsCalm w i s (unchanged state answer)
-  quiet_calm state answer me holder hop top mine inside unacked = record {
+  quiet_stays : {A : Type 0} (state : Node) (answer : A) → state.me ≡ s.me → state.holder ≡ s.holder → state.hop ≡ s.hop → state.top ≡ s.top → state.mine ≡ s.mine → ((n : ℕ) → state.phase ≡ Inside n → s.phase ≡ Inside n) → ((u : Unacked) → state.unacked ≡ Some u → s.unacked ≡ Some u) → KeepsPrivilege w i s (unchanged state answer)
+  quiet_stays state answer me holder hop top mine inside unacked = record {
     me = me;
     holder = holder;
     hop = hop;
@@ -52,7 +52,7 @@ module _ (w : World Node RaymondMsg) (i : ℕ) (s : Node) (at : IsNode w i s) (s
   }
 
   -- the privilege that is sent again was sent
-  again_sent : (o : Option Unacked) → s.unacked ≡ o → (b hop last : ℕ) → IsIn (b, Privilege hop last) (again o) → WasSent w i b (Privilege hop last)
+  again_sent : (o : Option Unacked) → s.unacked ≡ o → (b hop last : ℕ) → IsIn (b, Privilege hop last) (privilege_again o) → WasSent w i b (Privilege hop last)
   again_sent None e b hop last none = absurd none
   again_sent (Some u) e b hop last (inl p) =
       let ok : IsNodeOk w safe.highest i s = safe.at.nodes i s at in
@@ -61,10 +61,10 @@ module _ (w : World Node RaymondMsg) (i : ℕ) (s : Node) (at : IsNode w i s) (s
 
   -- Assign
 
-  assign_to_safe : (o : Option ℕ) → IsSafe (after w i (assign_to o s))
+  assign_to_safe : (o : Option ℕ) → IsSafe (after w i (assign_privilege_to o s))
   assign_to_safe None = unchanged_safe w i s at {A = Unit {0}} tt safe
   assign_to_safe (Some next) =
-      let P : Step (Unit {0}) → Type 0 = λ d. IsSafe (after w i d) in
+      let P : NodeDone (Unit {0}) → Type 0 = λ d. IsSafe (after w i d) in
       cond_case P (can_pass s next) (passed s next) (unchanged s tt)
       (λ e.
       let may = may_pass s next e in
@@ -73,16 +73,16 @@ module _ (w : World Node RaymondMsg) (i : ℕ) (s : Node) (at : IsNode w i s) (s
       record { highest = safe.highest + 1; at = passed_kept w i s at safe.highest safe.at next may h.0 h.1 })
       (λ _. unchanged_safe w i s at {A = Unit {0}} tt safe)
 
-  assign_safe : IsSafe (after w i (assign s))
+  assign_safe : IsSafe (after w i (assign_privilege s))
   assign_safe = assign_to_safe (head_of s.queue)
 
   -- Make
 
-  make_safe : IsSafe (after w i (make s))
+  make_safe : IsSafe (after w i (make_request s))
   make_safe =
-      let P : Step (Unit {0}) → Type 0 = λ d. IsSafe (after w i d) in
+      let P : NodeDone (Unit {0}) → Type 0 = λ d. IsSafe (after w i d) in
       cond_case P (must_request s) (requested s) (unchanged s tt)
-      (λ _. calm_safe w i s at (requested s) safe (record {
+      (λ _. stays_safe w i s at (requested s) safe (record {
         me = refl;
         holder = refl;
         hop = refl;
@@ -95,24 +95,24 @@ module _ (w : World Node RaymondMsg) (i : ℕ) (s : Node) (at : IsNode w i s) (s
       (λ _. unchanged_safe w i s at {A = Unit {0}} tt safe)
 
 -- a safe step, and then one that keeps each world safe
-then_safe : {A : Type 0} (w : World Node RaymondMsg) (i : ℕ) (s : Node) (at : IsNode w i s) (first : Step A) (second : Node → Step (Unit {0})) → ((v : World Node RaymondMsg) (t : Node) → IsNode v i t → IsSafe v → IsSafe (after v i (second t))) → IsSafe (after w i first) → IsSafe (after w i (and_then first second))
+then_safe : {A : Type 0} (w : World Node RaymondMsg) (i : ℕ) (s : Node) (at : IsNode w i s) (first : NodeDone A) (second : Node → NodeDone (Unit {0})) → ((v : World Node RaymondMsg) (t : Node) → IsNode v i t → IsSafe v → IsSafe (after v i (second t))) → IsSafe (after w i first) → IsSafe (after w i (and_then first second))
 then_safe w i s at first second keeps safe =
     subst (λ v. IsSafe v) (after_twice w i first (second first.state)) (keeps (after w i first) first.state (itself w i s first at) safe)
 
-serving_safe : {A : Type 0} (w : World Node RaymondMsg) (i : ℕ) (s : Node) (at : IsNode w i s) (step : Step A) → IsSafe (after w i step) → IsSafe (after w i (serving step))
+serving_safe : {A : Type 0} (w : World Node RaymondMsg) (i : ℕ) (s : Node) (at : IsNode w i s) (step : NodeDone A) → IsSafe (after w i step) → IsSafe (after w i (serving step))
 serving_safe w i s at step safe =
-    then_safe w i s at (and_then step assign) make (λ v t tat ok. make_safe v i t tat ok)
-    (then_safe w i s at step assign (λ v t tat ok. assign_safe v i t tat ok) safe)
+    then_safe w i s at (and_then step assign_privilege) make_request (λ v t tat ok. make_safe v i t tat ok)
+    (then_safe w i s at step assign_privilege (λ v t tat ok. assign_safe v i t tat ok) safe)
 
 module _ (w : World Node RaymondMsg) (i : ℕ) (s : Node) (at : IsNode w i s) (safe : IsSafe w) where
   -- ask
 
   pub ask_in_safe : (p : Phase) → s.phase ≡ p → IsSafe (after w i (ask_in p s))
   ask_in_safe Idle e =
-      let first : Step (Result Stamp AskFault) = unchanged (asking s) (Ok (record { number = s.asks + 1; node = s.me })) in
+      let first : NodeDone (Result Stamp AskFault) = unchanged (asking s) (Ok (record { number = s.asks + 1; node = s.me })) in
       ask_cases (λ (x : Node). x.asks) asked (λ d. IsSafe (after w i d)) s
-      (λ _. serving_safe w i s at first (calm_safe w i s at first safe
-      (quiet_calm w i s at safe (asking s) first.answer refl refl refl refl refl (λ n f. let bad : ⊥ = cc in absurd bad) (λ u f. f))))
+      (λ _. serving_safe w i s at first (stays_safe w i s at first safe
+      (quiet_stays w i s at safe (asking s) first.answer refl refl refl refl refl (λ n f. let bad : ⊥ = cc in absurd bad) (λ u f. f))))
       (unchanged_safe w i s at {A = Result Stamp AskFault} (Err StampsSpent) safe)
   ask_in_safe Waiting e = unchanged_safe w i s at {A = Result Stamp AskFault} (Err NotIdle) safe
   ask_in_safe (Inside n) e = unchanged_safe w i s at {A = Result Stamp AskFault} (Err NotIdle) safe
@@ -120,7 +120,7 @@ module _ (w : World Node RaymondMsg) (i : ℕ) (s : Node) (at : IsNode w i s) (s
   -- a request comes
 
   holders_request_safe : IsSafe (after w i (take_holders_request s))
-  holders_request_safe = calm_safe w i s at (take_holders_request s) safe (record {
+  holders_request_safe = stays_safe w i s at (take_holders_request s) safe (record {
     me = refl;
     holder = refl;
     hop = refl;
@@ -133,23 +133,23 @@ module _ (w : World Node RaymondMsg) (i : ℕ) (s : Node) (at : IsNode w i s) (s
 
   others_request_safe : (from number : ℕ) → IsSafe (after w i (take_others_request from number s))
   others_request_safe from number =
-      let P : Step (Unit {0}) → Type 0 = λ d. IsSafe (after w i d) in
-      let first : Step (Unit {0}) = unchanged (queueing s from number) tt in
+      let P : NodeDone (Unit {0}) → Type 0 = λ d. IsSafe (after w i d) in
+      let first : NodeDone (Unit {0}) = unchanged (queueing s from number) tt in
       cond_case P (nat_lt (heard_from s from) number) (serving first) (unchanged s tt)
-      (λ _. serving_safe w i s at first (calm_safe w i s at first safe
-      (quiet_calm w i s at safe (queueing s from number) tt refl refl refl refl refl (λ n f. f) (λ u f. f))))
+      (λ _. serving_safe w i s at first (stays_safe w i s at first safe
+      (quiet_stays w i s at safe (queueing s from number) tt refl refl refl refl refl (λ n f. f) (λ u f. f))))
       (λ _. unchanged_safe w i s at {A = Unit {0}} tt safe)
 
   request_safe : (from number : ℕ) → IsSafe (after w i (take_request from number s))
   request_safe from number =
-      let P : Step (Unit {0}) → Type 0 = λ d. IsSafe (after w i d) in
+      let P : NodeDone (Unit {0}) → Type 0 = λ d. IsSafe (after w i d) in
       cond_case P (nat_eq from s.holder) (take_holders_request s) (take_others_request from number s)
       (λ _. holders_request_safe) (λ _. others_request_safe from number)
 
   -- a privilege comes
 
-  told_safe : (from hop : ℕ) → IsSafe (after w i (told s from hop))
-  told_safe from hop = calm_safe w i s at (told s from hop) safe (record {
+  told_safe : (from hop : ℕ) → IsSafe (after w i (acknowledging s from hop))
+  told_safe from hop = stays_safe w i s at (acknowledging s from hop) safe (record {
     me = refl;
     holder = refl;
     hop = refl;
@@ -162,9 +162,9 @@ module _ (w : World Node RaymondMsg) (i : ℕ) (s : Node) (at : IsNode w i s) (s
 
   privilege_safe : (from hop last : ℕ) → WasSent w from i (Privilege hop last) → IsSafe (after w i (take_privilege from hop last s))
   privilege_safe from hop last sent =
-      let P : Step (Unit {0}) → Type 0 = λ d. IsSafe (after w i d) in
-      let first : Step (Unit {0}) = told (holding s hop last) from hop in
-      cond_case P (nat_lt s.hop hop) (serving first) (told s from hop)
+      let P : NodeDone (Unit {0}) → Type 0 = λ d. IsSafe (after w i d) in
+      let first : NodeDone (Unit {0}) = acknowledging (holding s hop last) from hop in
+      cond_case P (nat_lt s.hop hop) (serving first) (acknowledging s from hop)
       (λ e. serving_safe w i s at first
       (record { highest = safe.highest; at = arrived_kept w i s at safe.highest safe.at from hop last sent (lt_true s.hop hop e) }))
       (λ _. told_safe from hop)
@@ -173,24 +173,24 @@ module _ (w : World Node RaymondMsg) (i : ℕ) (s : Node) (at : IsNode w i s) (s
 
   got_safe : (from hop : ℕ) → IsSafe (after w i (take_got from hop s))
   got_safe from hop =
-      let P : Step (Unit {0}) → Type 0 = λ d. IsSafe (after w i d) in
-      let first : Step (Unit {0}) = unchanged (record s { unacked = None }) tt in
+      let P : NodeDone (Unit {0}) → Type 0 = λ d. IsSafe (after w i d) in
+      let first : NodeDone (Unit {0}) = unchanged (record s { unacked = None }) tt in
       cond_case P (is_unacked s.unacked from hop) first (unchanged s tt)
-      (λ _. calm_safe w i s at first safe
-      (quiet_calm w i s at safe (record s { unacked = None }) tt refl refl refl refl refl (λ n f. f) (λ u f. let bad : ⊥ = cc in absurd bad)))
+      (λ _. stays_safe w i s at first safe
+      (quiet_stays w i s at safe (record s { unacked = None }) tt refl refl refl refl refl (λ n f. f) (λ u f. let bad : ⊥ = cc in absurd bad)))
       (λ _. unchanged_safe w i s at {A = Unit {0}} tt safe)
 
   pub deliver_safe : (from : ℕ) (m : RaymondMsg) → WasSent w from i m → IsSafe (after w i (deliver_of from m s))
   deliver_safe from (Request number) sent =
-      let P : Step (Unit {0}) → Type 0 = λ d. IsSafe (after w i d) in
+      let P : NodeDone (Unit {0}) → Type 0 = λ d. IsSafe (after w i d) in
       cond_case P (is_neighbour s from) (take_request from number s) (unchanged s tt)
       (λ _. request_safe from number) (λ _. unchanged_safe w i s at {A = Unit {0}} tt safe)
   deliver_safe from (Privilege hop last) sent =
-      let P : Step (Unit {0}) → Type 0 = λ d. IsSafe (after w i d) in
+      let P : NodeDone (Unit {0}) → Type 0 = λ d. IsSafe (after w i d) in
       cond_case P (is_neighbour s from) (take_privilege from hop last s) (unchanged s tt)
       (λ _. privilege_safe from hop last sent) (λ _. unchanged_safe w i s at {A = Unit {0}} tt safe)
   deliver_safe from (Got hop) sent =
-      let P : Step (Unit {0}) → Type 0 = λ d. IsSafe (after w i d) in
+      let P : NodeDone (Unit {0}) → Type 0 = λ d. IsSafe (after w i d) in
       cond_case P (is_neighbour s from) (take_got from hop s) (unchanged s tt)
       (λ _. got_safe from hop) (λ _. unchanged_safe w i s at {A = Unit {0}} tt safe)
 
@@ -219,9 +219,9 @@ module _ (w : World Node RaymondMsg) (i : ℕ) (s : Node) (at : IsNode w i s) (s
   leave_in_safe Idle = unchanged_safe w i s at {A = Result ℕ LeaveFault} (Err NotInside) safe
   leave_in_safe Waiting = unchanged_safe w i s at {A = Result ℕ LeaveFault} (Err NotInside) safe
   leave_in_safe (Inside n) =
-      let first : Step (Result ℕ LeaveFault) = unchanged (leaving s) (Ok n) in
-      serving_safe w i s at first (calm_safe w i s at first safe
-      (quiet_calm w i s at safe (leaving s) first.answer refl refl refl refl refl (λ k f. let bad : ⊥ = cc in absurd bad) (λ u f. f)))
+      let first : NodeDone (Result ℕ LeaveFault) = unchanged (leaving s) (Ok n) in
+      serving_safe w i s at first (stays_safe w i s at first safe
+      (quiet_stays w i s at safe (leaving s) first.answer refl refl refl refl refl (λ k f. let bad : ⊥ = cc in absurd bad) (λ u f. f)))
 
   -- tick
 
@@ -230,7 +230,7 @@ module _ (w : World Node RaymondMsg) (i : ℕ) (s : Node) (at : IsNode w i s) (s
   not_request_again false b hop last none = absurd none
 
   pub tick_safe : IsSafe (after w i (tick_of s))
-  tick_safe = calm_safe w i s at (tick_of s) safe (record {
+  tick_safe = stays_safe w i s at (tick_of s) safe (record {
     me = refl;
     holder = refl;
     hop = refl;
@@ -238,8 +238,8 @@ module _ (w : World Node RaymondMsg) (i : ℕ) (s : Node) (at : IsNode w i s) (s
     mine = refl;
     inside = λ n e. e;
     unacked = λ u e. e;
-    letters = λ b hop last sent. elim (in_append (b, Privilege hop last) (again s.unacked) (request_again s) sent) [
+    letters = λ b hop last sent. elim (in_append (b, Privilege hop last) (privilege_again s.unacked) (request_again s) sent) [
       | inl old ↦ again_sent w i s at safe s.unacked refl b hop last old
-      | inr request ↦ absurd (not_request_again (s.asked && not (is_holder s)) b hop last request)
+      | inr request ↦ absurd (not_request_again (s.has_asked && not (is_holder s)) b hop last request)
     ];
   })

@@ -6,14 +6,14 @@ use Rattle.mx_letters.specs.declared.raymond.RaymondMsg.{RaymondMsg}
 use Rattle.mx_letters.specs.declared.raymond.RaymondMsg.TheVariants.{Request, Privilege, Got}
 use Rattle.mx_nodelaws.specs.World.{World, quietly, IsNode}
 use Rattle.mx_nodelaws.specs.Laws.{KeepsGood, started}
-use Rattle.mx_nodelaws.proofs.Plain.{plain_after, plain_by}
+use Rattle.mx_nodelaws.proofs.Bounds.{bounded_after, bounded_by}
 use Rattle.mx_trees.specs.Tree.{Rooted, IsRooted}
 use Rattle.mx_raymond.specs.Node.{Node}
 use Rattle.mx_raymond.specs.Step.{start_of, ask_of, deliver_of, enter_of, leave_of, tick_of, raymond_core}
-use Rattle.mx_raymond.specs.Good.{IsLast, IsNodeOk, IsLetterOk, IsHeld, IsUnderWay, IsSafe, IsGood, PlainLetter, PlainNode}
+use Rattle.mx_raymond.specs.Good.{IsLast, IsNodeOk, IsLetterOk, IsHeld, IsUnderWay, IsSafe, IsGood, BoundedLetter, BoundedNode}
 use Rattle.mx_raymond.specs.Keeps.{ask_in_safe, deliver_safe, enter_in_safe, leave_in_safe, tick_safe}
 use Rattle.mx_raymond.specs.Safety.{one_inside, entry}
-use Rattle.mx_raymond.specs.Plain.{start_plain, ask_in_plain, deliver_plain, enter_in_plain, leave_in_plain, tick_plain}
+use Rattle.mx_raymond.specs.Bounds.{start_bounded, ask_in_bounded, deliver_bounded, enter_in_bounded, leave_in_bounded, tick_bounded}
 
 -- the start
 
@@ -70,7 +70,7 @@ module _ (tree : Rooted) (origin limit : ℕ) (valid : IsRooted tree) where
 pub started_good : (tree : Rooted) (origin limit : ℕ) → IsRooted tree → origin < 2 ^ 64 → 0 < limit → limit ≤ 1000000 → IsGood (started raymond_core tree origin limit)
 started_good tree origin limit valid small low high = record {
   safe = started_safe tree origin limit valid;
-  plain = start_plain tree origin limit valid small high;
+  bounded = start_bounded tree origin limit valid small high;
 }
 
 -- the letters by membership
@@ -122,7 +122,7 @@ module _ (w : World Node RaymondMsg) (sent : List (ℕ × ℕ × RaymondMsg)) (s
         privilege = privilege_by good.safe.highest good.safe.at.privilege;
       };
     };
-    plain = plain_by PlainNode PlainLetter w sent same good.plain;
+    bounded = bounded_by BoundedNode BoundedLetter w sent same good.bounded;
   }
 
 pub raymond_laws : KeepsGood raymond_core IsRooted IsGood
@@ -130,26 +130,26 @@ raymond_laws = record {
   at_start = started_good;
   after_ask = λ w i s good at. record {
     safe = ask_in_safe w i s at good.safe s.phase refl;
-    plain = plain_after PlainNode PlainLetter w i s (ask_of s) good.plain at (ask_in_plain (length w.nodes) s (good.plain.nodes i s at) s.phase);
+    bounded = bounded_after BoundedNode BoundedLetter w i s (ask_of s) good.bounded at (ask_in_bounded (length w.nodes) s (good.bounded.nodes i s at) s.phase);
   };
-  after_deliver = λ w i s from m good at sent. let p = good.plain.letters from i m sent in record {
+  after_deliver = λ w i s from m good at sent. let p = good.bounded.letters from i m sent in record {
     safe = deliver_safe w i s at good.safe from m sent;
-    plain = plain_after PlainNode PlainLetter w i s (deliver_of from m s) good.plain at (deliver_plain (length w.nodes) s (good.plain.nodes i s at) from m p.0 p.2);
+    bounded = bounded_after BoundedNode BoundedLetter w i s (deliver_of from m s) good.bounded at (deliver_bounded (length w.nodes) s (good.bounded.nodes i s at) from m p.0 p.2);
   };
   after_enter = λ w i s good at. record {
     safe = enter_in_safe w i s at good.safe s.phase;
-    plain = plain_after PlainNode PlainLetter w i s (quietly (enter_of s)) good.plain at (enter_in_plain (length w.nodes) s (good.plain.nodes i s at) s.phase);
+    bounded = bounded_after BoundedNode BoundedLetter w i s (quietly (enter_of s)) good.bounded at (enter_in_bounded (length w.nodes) s (good.bounded.nodes i s at) s.phase);
   };
   after_leave = λ w i s good at. record {
     safe = leave_in_safe w i s at good.safe s.phase;
-    plain = plain_after PlainNode PlainLetter w i s (leave_of s) good.plain at (leave_in_plain (length w.nodes) s (good.plain.nodes i s at) s.phase);
+    bounded = bounded_after BoundedNode BoundedLetter w i s (leave_of s) good.bounded at (leave_in_bounded (length w.nodes) s (good.bounded.nodes i s at) s.phase);
   };
   after_tick = λ w i s good at. record {
     safe = tick_safe w i s at good.safe;
-    plain = plain_after PlainNode PlainLetter w i s (tick_of s) good.plain at (tick_plain (length w.nodes) s (good.plain.nodes i s at));
+    bounded = bounded_after BoundedNode BoundedLetter w i s (tick_of s) good.bounded at (tick_bounded (length w.nodes) s (good.bounded.nodes i s at));
   };
   by_membership = λ w sent same good. by_membership w sent same good;
-  to_nodes = λ w a b m good sent. (good.plain.letters a b m sent).1;
+  to_nodes = λ w a b m good sent. (good.bounded.letters a b m sent).1;
   one_inside = λ w i j s t good at tat in_s in_t. one_inside w i j s t good.safe at tat in_s in_t;
   entry = λ w i s good at can. entry w i s good.safe at can;
 }

@@ -19,7 +19,7 @@ pub record Node : Type 0 where
   -- the neighbours that want the privilege from it, and itself while it waits, the oldest first
   pub queue : List ℕ
   -- whether it has sent its holder a request, and has not had the privilege since
-  pub asked : Bool
+  pub has_asked : Bool
   -- the highest hop of a privilege that it has sent or taken
   pub hop : ℕ
   -- the privilege that it sent last, until it knows that it has arrived

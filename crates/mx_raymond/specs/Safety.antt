@@ -15,7 +15,7 @@ use Rattle.mx_raymond.specs.Node.{Node}
 use Rattle.mx_raymond.specs.Step.{has_permission, can_enter_of, enter_of, raymond_core, entering}
 use Rattle.mx_raymond.specs.Good.{IsLast, IsNodeOk, IsSafe}
 use Rattle.mx_raymond.specs.Tests.{permission_holds}
-use Rattle.mx_raymond.specs.Moves.{holds}
+use Rattle.mx_raymond.specs.PrivilegeMoves.{holds}
 
 pub one_inside : (w : World Node RaymondMsg) (i j : ℕ) (s t : Node) → IsSafe w → IsNode w i s → IsNode w j t → IsInside raymond_core s → IsInside raymond_core t → i ≡ j
 one_inside w i j s t good at tat (n, in_s) (m, in_t) =

@@ -19,8 +19,8 @@ use Rattle.mx_raymond.specs.declared.unacked.Unacked.{Unacked}
 use Rattle.mx_raymond.specs.Queue.{is_empty, head_of, rest_of, joined}
 use Rattle.mx_raymond.specs.Node.{Node}
 
-abbrev pub Step : Type 0 → Type 0
-Step A = Done Node A RaymondMsg
+abbrev pub NodeDone : Type 0 → Type 0
+NodeDone A = Done Node A RaymondMsg
 
 -- a node that has just been started: from the tree, the node, the origin and the limit
 abbrev pub start_of : Rooted → ℕ → ℕ → ℕ → Node
@@ -31,7 +31,7 @@ start_of tree me origin limit = record {
   phase = Idle;
   holder = toward_of tree me;
   queue = [];
-  asked = false;
+  has_asked = false;
   hop = origin;
   unacked = None;
   asks = 0;
@@ -58,7 +58,7 @@ abbrev pub has_permission : Node → Bool
 has_permission s = is_holder s && is_named (head_of s.queue) s.me
 
 -- a step, and then a second one
-abbrev pub and_then : {A : Type 0} → Step A → (Node → Step (Unit {0})) → Step A
+abbrev pub and_then : {A : Type 0} → NodeDone A → (Node → NodeDone (Unit {0})) → NodeDone A
 and_then first second = record {
   state = (second first.state).state;
   answer = first.answer;
@@ -74,36 +74,36 @@ abbrev pub can_pass : Node → ℕ → Bool
 can_pass s next = is_holder s && (not (is_inside s.phase) && (not (nat_eq next s.me) && nat_lt s.hop last_number))
 
 abbrev pub passing : Node → ℕ → Node
-passing s next = record s { holder = next; queue = rest_of s.queue; asked = false; hop = s.hop + 1; unacked = Some (record { to = next; hop = s.hop + 1; last = s.top }) }
+passing s next = record s { holder = next; queue = rest_of s.queue; has_asked = false; hop = s.hop + 1; unacked = Some (record { to = next; hop = s.hop + 1; last = s.top }) }
 
-abbrev pub passed : Node → ℕ → Step (Unit {0})
+abbrev pub passed : Node → ℕ → NodeDone (Unit {0})
 passed s next = record { state = passing s next; answer = tt; letters = (next, Privilege (s.hop + 1) s.top) ∷ [] }
 
-abbrev pub assign_to : Option ℕ → Node → Step (Unit {0})
-assign_to None s = unchanged s tt
-assign_to (Some next) s = if can_pass s next then passed s next else unchanged s tt
+abbrev pub assign_privilege_to : Option ℕ → Node → NodeDone (Unit {0})
+assign_privilege_to None s = unchanged s tt
+assign_privilege_to (Some next) s = if can_pass s next then passed s next else unchanged s tt
 
-abbrev pub assign : Node → Step (Unit {0})
-assign s = assign_to (head_of s.queue) s
+abbrev pub assign_privilege : Node → NodeDone (Unit {0})
+assign_privilege s = assign_privilege_to (head_of s.queue) s
 
 -- Make: a node that wants the privilege and does not have it sends one request to its holder.
 -- Published: procedure MAKE_REQUEST.
 -- Added: the request's number, by which an old request is known; none is sent where no number is left.
 abbrev pub must_request : Node → Bool
-must_request s = not (is_holder s) && (not (is_empty s.queue) && (not s.asked && nat_lt s.sent last_number))
+must_request s = not (is_holder s) && (not (is_empty s.queue) && (not s.has_asked && nat_lt s.sent last_number))
 
 abbrev pub requesting : Node → Node
-requesting s = record s { asked = true; sent = s.sent + 1 }
+requesting s = record s { has_asked = true; sent = s.sent + 1 }
 
-abbrev pub requested : Node → Step (Unit {0})
+abbrev pub requested : Node → NodeDone (Unit {0})
 requested s = record { state = requesting s; answer = tt; letters = (s.holder, Request (s.sent + 1)) ∷ [] }
 
-abbrev pub make : Node → Step (Unit {0})
-make s = if must_request s then requested s else unchanged s tt
+abbrev pub make_request : Node → NodeDone (Unit {0})
+make_request s = if must_request s then requested s else unchanged s tt
 
 -- a step, then Assign, then Make
-abbrev pub serving : {A : Type 0} → Step A → Step A
-serving step = and_then (and_then step assign) make
+abbrev pub serving : {A : Type 0} → NodeDone A → NodeDone A
+serving step = and_then (and_then step assign_privilege) make_request
 
 -- ask: the node joins its own queue; then Assign and Make.
 -- Published: the node wishes to enter the critical section.
@@ -111,25 +111,25 @@ serving step = and_then (and_then step assign) make
 abbrev pub asking : Node → Node
 asking s = record s { phase = Waiting; queue = s.queue ++ s.me ∷ []; asks = s.asks + 1 }
 
-abbrev pub asked : Node → Step (Result Stamp AskFault)
+abbrev pub asked : Node → NodeDone (Result Stamp AskFault)
 asked s = serving (unchanged (asking s) (Ok (record { number = s.asks + 1; node = s.me })))
 
-abbrev pub ask_in : Phase → Node → Step (Result Stamp AskFault)
+abbrev pub ask_in : Phase → Node → NodeDone (Result Stamp AskFault)
 ask_in p s = ask_by (λ (x : Node). x.asks) asked p s
 
-abbrev pub ask_of : Node → Step (Result Stamp AskFault)
+abbrev pub ask_of : Node → NodeDone (Result Stamp AskFault)
 ask_of s = ask_in s.phase s
 
 -- the privilege that it sent last is sent again, while its arrival is not known
-abbrev pub again : Option Unacked → List (ℕ × RaymondMsg)
-again None = []
-again (Some u) = (u.to, Privilege u.hop u.last) ∷ []
+abbrev pub privilege_again : Option Unacked → List (ℕ × RaymondMsg)
+privilege_again None = []
+privilege_again (Some u) = (u.to, Privilege u.hop u.last) ∷ []
 
 -- a request of the holder: it shows that the privilege has not reached the holder, or had not when
 -- the request was sent. The privilege is sent again.
 -- Added, since the privilege may have been lost.
-abbrev pub take_holders_request : Node → Step (Unit {0})
-take_holders_request s = record { state = s; answer = tt; letters = again s.unacked }
+abbrev pub take_holders_request : Node → NodeDone (Unit {0})
+take_holders_request s = record { state = s; answer = tt; letters = privilege_again s.unacked }
 
 -- a request of another neighbour, which joins the queue; then Assign and Make.
 -- Published: the node receives a REQUEST.
@@ -141,13 +141,13 @@ heard_from s from = slice_index_or s.heard from 0
 abbrev pub queueing : Node → ℕ → ℕ → Node
 queueing s from number = record s { queue = joined s.queue from; heard = slice_set s.heard from number }
 
-abbrev pub take_others_request : ℕ → ℕ → Node → Step (Unit {0})
+abbrev pub take_others_request : ℕ → ℕ → Node → NodeDone (Unit {0})
 take_others_request from number s =
     if nat_lt (heard_from s from) number
     then serving (unchanged (queueing s from number) tt)
     else unchanged s tt
 
-abbrev pub take_request : ℕ → ℕ → Node → Step (Unit {0})
+abbrev pub take_request : ℕ → ℕ → Node → NodeDone (Unit {0})
 take_request from number s = if nat_eq from s.holder then take_holders_request s else take_others_request from number s
 
 -- a privilege: its arrival is always acknowledged, and it counts only where its hop is a new one; then
@@ -156,16 +156,16 @@ take_request from number s = if nat_eq from s.holder then take_holders_request s
 -- Added: the acknowledgement, and the test of the hop, since a privilege may come late or twice; `top`
 -- takes in the section number that the privilege tells.
 abbrev pub holding : Node → ℕ → ℕ → Node
-holding s hop last = record s { holder = s.me; asked = false; hop = hop; unacked = None; top = max s.top last }
+holding s hop last = record s { holder = s.me; has_asked = false; hop = hop; unacked = None; top = max s.top last }
 
-abbrev pub told : Node → ℕ → ℕ → Step (Unit {0})
-told s from hop = record { state = s; answer = tt; letters = (from, Got hop) ∷ [] }
+abbrev pub acknowledging : Node → ℕ → ℕ → NodeDone (Unit {0})
+acknowledging s from hop = record { state = s; answer = tt; letters = (from, Got hop) ∷ [] }
 
-abbrev pub take_privilege : ℕ → ℕ → ℕ → Node → Step (Unit {0})
+abbrev pub take_privilege : ℕ → ℕ → ℕ → Node → NodeDone (Unit {0})
 take_privilege from hop last s =
     if nat_lt s.hop hop
-    then serving (told (holding s hop last) from hop)
-    else told s from hop
+    then serving (acknowledging (holding s hop last) from hop)
+    else acknowledging s from hop
 
 -- an acknowledgement: the privilege that was sent last has arrived.
 -- Added, so that a privilege is sent again only until its arrival is known.
@@ -173,14 +173,14 @@ abbrev pub is_unacked : Option Unacked → ℕ → ℕ → Bool
 is_unacked None from hop = false
 is_unacked (Some u) from hop = nat_eq u.to from && nat_eq u.hop hop
 
-abbrev pub take_got : ℕ → ℕ → Node → Step (Unit {0})
+abbrev pub take_got : ℕ → ℕ → Node → NodeDone (Unit {0})
 take_got from hop s = if is_unacked s.unacked from hop then unchanged (record s { unacked = None }) tt else unchanged s tt
 
 -- each letter comes from a neighbour. Added: any other is ignored
 abbrev pub is_neighbour : Node → ℕ → Bool
 is_neighbour s from = are_neighbours s.tree s.me from
 
-abbrev pub deliver_of : ℕ → RaymondMsg → Node → Step (Unit {0})
+abbrev pub deliver_of : ℕ → RaymondMsg → Node → NodeDone (Unit {0})
 deliver_of from (Request number) s = if is_neighbour s from then take_request from number s else unchanged s tt
 deliver_of from (Privilege hop last) s = if is_neighbour s from then take_privilege from hop last s else unchanged s tt
 deliver_of from (Got hop) s = if is_neighbour s from then take_got from hop s else unchanged s tt
@@ -210,22 +210,22 @@ enter_of s = enter_in s.phase s
 abbrev pub leaving : Node → Node
 leaving s = record s { phase = Idle }
 
-abbrev pub left : Node → ℕ → Step (Result ℕ LeaveFault)
+abbrev pub left : Node → ℕ → NodeDone (Result ℕ LeaveFault)
 left s n = serving (unchanged (leaving s) (Ok n))
 
-abbrev pub leave_in : Phase → Node → Step (Result ℕ LeaveFault)
+abbrev pub leave_in : Phase → Node → NodeDone (Result ℕ LeaveFault)
 leave_in p s = leave_by left p s
 
-abbrev pub leave_of : Node → Step (Result ℕ LeaveFault)
+abbrev pub leave_of : Node → NodeDone (Result ℕ LeaveFault)
 leave_of s = leave_in s.phase s
 
 -- tick: the privilege that it sent last is sent again, and then its latest request.
 -- Added, since either may have been lost.
 abbrev pub request_again : Node → List (ℕ × RaymondMsg)
-request_again s = if s.asked && not (is_holder s) then (s.holder, Request s.sent) ∷ [] else []
+request_again s = if s.has_asked && not (is_holder s) then (s.holder, Request s.sent) ∷ [] else []
 
-abbrev pub tick_of : Node → Step (Unit {0})
-tick_of s = record { state = s; answer = tt; letters = again s.unacked ++ request_again s }
+abbrev pub tick_of : Node → NodeDone (Unit {0})
+tick_of s = record { state = s; answer = tt; letters = privilege_again s.unacked ++ request_again s }
 
 -- the whole table
 abbrev pub raymond_core : Core Rooted Node RaymondMsg

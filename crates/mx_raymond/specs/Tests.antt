@@ -61,6 +61,6 @@ may_pass s next h =
 
 pub may_request : (s : Node) → must_request s ≡ true → s.sent < last_number
 may_request s h =
-    let a = and_true (not (is_holder s)) (not (is_empty s.queue) && (not s.asked && nat_lt s.sent last_number)) h in
-    let b = and_true (not (is_empty s.queue)) (not s.asked && nat_lt s.sent last_number) a.1 in
-    lt_true s.sent last_number (and_true (not s.asked) (nat_lt s.sent last_number) b.1).1
+    let a = and_true (not (is_holder s)) (not (is_empty s.queue) && (not s.has_asked && nat_lt s.sent last_number)) h in
+    let b = and_true (not (is_empty s.queue)) (not s.has_asked && nat_lt s.sent last_number) a.1 in
+    lt_true s.sent last_number (and_true (not s.has_asked) (nat_lt s.sent last_number) b.1).1

@@ -42,7 +42,7 @@ impl Exclusion for Raymond {
             phase: Phase::Idle,
             holder: shape.toward(me),
             queue: Queue::new(),
-            asked: false,
+            has_asked: false,
             hop: origin,
             unacked: None,
             asks: 0,

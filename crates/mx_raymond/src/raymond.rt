@@ -30,7 +30,7 @@ pub struct Raymond {
     pub(crate) queue: Queue,
     /// Whether the node has sent a request to the holder, and has not had the privilege since
     /// (ASKED).
-    pub(crate) asked: bool,
+    pub(crate) has_asked: bool,
     /// The highest hop of a privilege that the node has sent or taken; the origin at the start. Added
     /// to the publication: a privilege whose hop is not above it is an old one.
     pub(crate) hop: u64,
@@ -59,14 +59,14 @@ impl Model for Raymond {
 
     ghost Value = { Node };
 
-    ghost view = { λ r. record { me = r.me; tree = r.tree; limit = r.limit; phase = r.phase; holder = r.holder; queue = r.queue; asked = r.asked; hop = r.hop; unacked = r.unacked; asks = r.asks; sent = r.sent; heard = r.heard; top = r.top; mine = r.mine } };
+    ghost view = { λ r. record { me = r.me; tree = r.tree; limit = r.limit; phase = r.phase; holder = r.holder; queue = r.queue; has_asked = r.has_asked; hop = r.hop; unacked = r.unacked; asks = r.asks; sent = r.sent; heard = r.heard; top = r.top; mine = r.mine } };
 
-    ghost invariant = { λ r. IsState (record { me = r.me; tree = r.tree; limit = r.limit; phase = r.phase; holder = r.holder; queue = r.queue; asked = r.asked; hop = r.hop; unacked = r.unacked; asks = r.asks; sent = r.sent; heard = r.heard; top = r.top; mine = r.mine }) };
+    ghost invariant = { λ r. IsState (record { me = r.me; tree = r.tree; limit = r.limit; phase = r.phase; holder = r.holder; queue = r.queue; has_asked = r.has_asked; hop = r.hop; unacked = r.unacked; asks = r.asks; sent = r.sent; heard = r.heard; top = r.top; mine = r.mine }) };
 }
 
 impl Raymond {
     ghost use Rattle.std.specs.Prelude.{◌≡◌, ◌+◌, ◌<◌, ◌≤◌, ◌≢◌, ◌↔◌, [], ◌++◌, length, IsTrue, true};
-    ghost use Rattle.mx_raymond.specs.Step.{is_holder, HasPermission, has_permission, assign, make, again, request_again, is_neighbour, take_request, take_privilege, take_got};
+    ghost use Rattle.mx_raymond.specs.Step.{is_holder, HasPermission, has_permission, assign_privilege, make_request, privilege_again, request_again, is_neighbour, take_request, take_privilege, take_got};
 
     /// Whether the node has the privilege.
     fn is_holder(&self) -> bool
@@ -88,10 +88,10 @@ impl Raymond {
 
     /// Assign: a node that has the privilege and is not inside passes it on to the head of its queue,
     /// if that is another node.
-    fn assign(&mut self, out: &mut Outbox<RaymondMsg>)
+    fn assign_privilege(&mut self, out: &mut Outbox<RaymondMsg>)
         requires { length out.old < 32 }
-        ensures state { self.new ≡ (assign self.old).state }
-        ensures letters { out.new ≡ out.old ++ (assign self.old).letters }
+        ensures state { self.new ≡ (assign_privilege self.old).state }
+        ensures letters { out.new ≡ out.old ++ (assign_privilege self.old).letters }
         ensures few { length out.new ≤ length out.old + 1 }
     {
         let Some(next) = self.queue.head() else {
@@ -101,7 +101,7 @@ impl Raymond {
         if self.is_holder() && !is_inside && next.get() != self.me.get() && self.hop < u64::MAX {
             self.queue.remove_head();
             self.holder = next;
-            self.asked = false;
+            self.has_asked = false;
             self.hop += 1;
             self.unacked = Some(Unacked {
                 to: next,
@@ -113,13 +113,13 @@ impl Raymond {
     }
 
     /// Make: a node that wants the privilege and does not have it sends one request to its holder.
-    fn make(&mut self, out: &mut Outbox<RaymondMsg>)
+    fn make_request(&mut self, out: &mut Outbox<RaymondMsg>)
         requires { length out.old < 32 }
-        ensures state { self.new ≡ (make self.old).state }
-        ensures letters { out.new ≡ out.old ++ (make self.old).letters }
+        ensures state { self.new ≡ (make_request self.old).state }
+        ensures letters { out.new ≡ out.old ++ (make_request self.old).letters }
     {
-        if !self.is_holder() && !self.queue.is_empty() && !self.asked && self.sent < u64::MAX {
-            self.asked = true;
+        if !self.is_holder() && !self.queue.is_empty() && !self.has_asked && self.sent < u64::MAX {
+            self.has_asked = true;
             self.sent += 1;
             out.add(self.holder, RaymondMsg::Request(self.sent));
         }
@@ -128,17 +128,17 @@ impl Raymond {
     /// Assign, and then Make.
     pub(crate) fn serve(&mut self, out: &mut Outbox<RaymondMsg>)
         requires { length out.old < 31 }
-        ensures state { self.new ≡ (make (assign self.old).state).state }
-        ensures letters { out.new ≡ (out.old ++ (assign self.old).letters) ++ (make (assign self.old).state).letters }
+        ensures state { self.new ≡ (make_request (assign_privilege self.old).state).state }
+        ensures letters { out.new ≡ (out.old ++ (assign_privilege self.old).letters) ++ (make_request (assign_privilege self.old).state).letters }
     {
-        self.assign(out);
-        self.make(out);
+        self.assign_privilege(out);
+        self.make_request(out);
     }
 
     /// Sends the latest privilege again, while its arrival is not known.
     pub(crate) fn send_again(&self, out: &mut Outbox<RaymondMsg>)
         requires { out.old ≡ [] }
-        ensures letters { out.new ≡ again self.now.unacked }
+        ensures letters { out.new ≡ privilege_again self.now.unacked }
         ensures few { length out.new ≤ 1 }
     {
         if let Some(unacked) = self.unacked {
@@ -151,7 +151,7 @@ impl Raymond {
         requires { length out.old < 32 }
         ensures { out.new ≡ out.old ++ request_again self.now }
     {
-        if self.asked && !self.is_holder() {
+        if self.has_asked && !self.is_holder() {
             out.add(self.holder, RaymondMsg::Request(self.sent));
         }
     }
@@ -200,7 +200,7 @@ impl Raymond {
         if hop > self.hop {
             self.hop = hop;
             self.holder = self.me;
-            self.asked = false;
+            self.has_asked = false;
             self.unacked = None;
             self.top = self.top.max(last);
             self.serve(out);

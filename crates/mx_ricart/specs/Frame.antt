@@ -16,7 +16,7 @@ use Rattle.mx_ricart.specs.Step.{has_reply}
 use Rattle.mx_ricart.specs.Good.{IsBusy, HasSeen, IsReached, IsNodeOk, IsReplyOk, IsLetterOk, IsSafe}
 
 -- how a step of a node may change it: its numbers rise, and
-pub record Moves (w : World Node RicartMsg) (i : ℕ) (s new : Node) : Type 0 where
+pub record MovesForward (w : World Node RicartMsg) (i : ℕ) (s new : Node) : Type 0 where
   pub highest : s.highest ≤ new.highest
   pub mine : s.mine ≤ new.mine
   -- its stamp stays, is no longer current, or is a new one
@@ -24,7 +24,7 @@ pub record Moves (w : World Node RicartMsg) (i : ℕ) (s new : Node) : Type 0 wh
   -- it enters only with every reply
   pub entry : (new.mine ≡ s.mine) ⊎ (IsBusy s × ((j : ℕ) → j < length w.nodes → j ≢ i → has_reply s j ≡ true))
 
-module _ {A : Type 0} (w : World Node RicartMsg) (i : ℕ) (s : Node) (done : Done Node A RicartMsg) (good : IsSafe w) (at : IsNode w i s) (moves : Moves w i s done.state) where
+module _ {A : Type 0} (w : World Node RicartMsg) (i : ℕ) (s : Node) (done : Done Node A RicartMsg) (good : IsSafe w) (at : IsNode w i s) (moves : MovesForward w i s done.state) where
   pub seen_after : (j number : ℕ) → HasSeen w j number → HasSeen (after w i done) j number
   seen_after j number h = still_come w i s done at (λ x. x.highest) moves.highest j number h
 

@@ -7,7 +7,7 @@ use Rattle.mx_letters.specs.declared.ricart.RicartMsg.TheVariants.{Request, Repl
 use Rattle.mx_nodelaws.specs.World.{World, IsNode, WasSent}
 use Rattle.mx_nodelaws.specs.declared.phase.Phase.TheVariants.{Inside}
 use Rattle.mx_nodelaws.specs.Phases.{is_busy}
-use Rattle.mx_nodelaws.specs.Plain.{Small, PlainStamp, PlainPhase, IsPlainWorld}
+use Rattle.mx_nodelaws.specs.Bounds.{IsU64, BoundedStamp, BoundedPhase, IsBoundedWorld}
 use Rattle.mx_nodelaws.specs.Raised.{IsReachedBy, HasComeTo}
 use Rattle.mx_ricart.specs.Node.{Node}
 use Rattle.mx_ricart.specs.Step.{has_reply, deferred_at}
@@ -67,22 +67,22 @@ pub record IsSafe (w : World Node RicartMsg) : Type 0 where
   pub letters : (a b : ℕ) (m : RicartMsg) → WasSent w a b m → IsLetterOk w a b m
 
 -- each number in a letter is a u64 value, and each name a node
-abbrev pub PlainLetter : ℕ → RicartMsg → Type 0
-PlainLetter n (Request stamp) = PlainStamp n stamp
-PlainLetter n (Reply stamp top) = PlainStamp n stamp × Small top
+abbrev pub BoundedLetter : ℕ → RicartMsg → Type 0
+BoundedLetter n (Request stamp) = BoundedStamp n stamp
+BoundedLetter n (Reply stamp top) = BoundedStamp n stamp × IsU64 top
 
 -- the same for the state of a node
-pub record PlainNode (n : ℕ) (s : Node) : Type 0 where
+pub record BoundedNode (n : ℕ) (s : Node) : Type 0 where
   pub me : s.me < n
   pub count : s.count ≤ n
-  pub limit : Small s.limit
-  pub phase : PlainPhase s.phase
-  pub highest : Small s.highest
-  pub ours : PlainStamp n s.ours
-  pub waits : (j : ℕ) (d : Stamp) → deferred_at s j ≡ Some d → PlainStamp n d
-  pub top : Small s.top
-  pub mine : Small s.mine
+  pub limit : IsU64 s.limit
+  pub phase : BoundedPhase s.phase
+  pub highest : IsU64 s.highest
+  pub ours : BoundedStamp n s.ours
+  pub waits : (j : ℕ) (d : Stamp) → deferred_at s j ≡ Some d → BoundedStamp n d
+  pub top : IsU64 s.top
+  pub mine : IsU64 s.mine
 
 pub record IsGood (w : World Node RicartMsg) : Type 0 where
   pub safe : IsSafe w
-  pub plain : IsPlainWorld PlainNode PlainLetter w
+  pub bounded : IsBoundedWorld BoundedNode BoundedLetter w

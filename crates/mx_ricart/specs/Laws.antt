@@ -9,12 +9,12 @@ use Rattle.mx_nodelaws.specs.Laws.{KeepsGood, started}
 use Rattle.mx_nodelaws.specs.declared.phase.Phase.TheVariants.{Idle}
 use Rattle.mx_ricart.specs.Node.{Node}
 use Rattle.mx_ricart.specs.Step.{IsCount, start_of, ask_of, deliver_of, enter_of, leave_of, tick_of, ricart_core}
-use Rattle.mx_ricart.specs.Good.{IsNodeOk, IsLetterOk, IsSafe, PlainLetter, PlainNode, IsGood}
+use Rattle.mx_ricart.specs.Good.{IsNodeOk, IsLetterOk, IsSafe, BoundedLetter, BoundedNode, IsGood}
 use Rattle.mx_ricart.specs.Keeps.{ask_good, deliver_good, enter_good, leave_good, tick_good}
-use Rattle.mx_nodelaws.proofs.Plain.{plain_after, plain_by}
+use Rattle.mx_nodelaws.proofs.Bounds.{bounded_after, bounded_by}
 use Rattle.mx_nodelaws.specs.Phases.{is_busy}
 use Rattle.mx_nodelaws.proofs.Phases.{idle_not_busy}
-use Rattle.mx_ricart.specs.Plain.{PlainDone, ask_plain, deliver_plain, enter_plain, leave_plain, tick_plain, start_plain}
+use Rattle.mx_ricart.specs.Bounds.{BoundedDone, ask_bounded, deliver_bounded, enter_bounded, leave_bounded, tick_bounded, start_bounded}
 use Rattle.mx_ricart.specs.Safety.{one_inside, entry}
 
 -- the world at rest
@@ -38,30 +38,30 @@ started_safe count origin limit = record {
 }
 
 started_good : (count origin limit : ℕ) → IsCount count → origin < 2 ^ 64 → limit ≤ 1000000 → IsGood (started ricart_core count origin limit)
-started_good count origin limit valid small high = record { safe = started_safe count origin limit; plain = start_plain count origin limit valid small high }
+started_good count origin limit valid small high = record { safe = started_safe count origin limit; bounded = start_bounded count origin limit valid small high }
 
 -- steps
 
 module _ (w : World Node RicartMsg) (i : ℕ) (s : Node) (good : IsGood w) (at : IsNode w i s) where
-  both : {A : Type 0} (done : Done Node A RicartMsg) → IsSafe (after w i done) → PlainDone {A = A} (length w.nodes) done → IsGood (after w i done)
-  both {A} done safe plain = record { safe = safe; plain = plain_after PlainNode PlainLetter w i s done good.plain at plain }
+  both : {A : Type 0} (done : Done Node A RicartMsg) → IsSafe (after w i done) → BoundedDone {A = A} (length w.nodes) done → IsGood (after w i done)
+  both {A} done safe bounded = record { safe = safe; bounded = bounded_after BoundedNode BoundedLetter w i s done good.bounded at bounded }
 
   after_ask : IsGood (after w i (ask_of s))
-  after_ask = both (ask_of s) (ask_good w i s good.safe at) (ask_plain (length w.nodes) s (good.plain.nodes i s at))
+  after_ask = both (ask_of s) (ask_good w i s good.safe at) (ask_bounded (length w.nodes) s (good.bounded.nodes i s at))
 
   after_deliver : (from : ℕ) (m : RicartMsg) → WasSent w from i m → IsGood (after w i (deliver_of from m s))
   after_deliver from m sent =
       both (deliver_of from m s) (deliver_good w i s good.safe at from m sent)
-      (deliver_plain (length w.nodes) s (good.plain.nodes i s at) from m (good.plain.letters from i m sent).2)
+      (deliver_bounded (length w.nodes) s (good.bounded.nodes i s at) from m (good.bounded.letters from i m sent).2)
 
   after_enter : IsGood (after w i (quietly (enter_of s)))
-  after_enter = both (quietly (enter_of s)) (enter_good w i s good.safe at) (enter_plain (length w.nodes) s (good.plain.nodes i s at))
+  after_enter = both (quietly (enter_of s)) (enter_good w i s good.safe at) (enter_bounded (length w.nodes) s (good.bounded.nodes i s at))
 
   after_leave : IsGood (after w i (leave_of s))
-  after_leave = both (leave_of s) (leave_good w i s good.safe at) (leave_plain (length w.nodes) s (good.plain.nodes i s at))
+  after_leave = both (leave_of s) (leave_good w i s good.safe at) (leave_bounded (length w.nodes) s (good.bounded.nodes i s at))
 
   after_tick : IsGood (after w i (tick_of s))
-  after_tick = both (tick_of s) (tick_good w i s good.safe at) (tick_plain (length w.nodes) s (good.plain.nodes i s at))
+  after_tick = both (tick_of s) (tick_good w i s good.safe at) (tick_bounded (length w.nodes) s (good.bounded.nodes i s at))
 
 -- which letters were sent matters, and not how often or in which order
 
@@ -89,7 +89,7 @@ module _ (w : World Node RicartMsg) (sent : List (ℕ × ℕ × RicartMsg)) (sam
       nodes = λ i s at. node_again i s (good.safe.nodes i s at);
       letters = λ a b m was. letter_again a b m (good.safe.letters a b m ((same (a, b, m)).1 was));
     };
-    plain = plain_by PlainNode PlainLetter w sent same good.plain;
+    bounded = bounded_by BoundedNode BoundedLetter w sent same good.bounded;
   }
 
 pub ricart_laws : KeepsGood ricart_core IsCount IsGood
@@ -101,7 +101,7 @@ ricart_laws = record {
   after_leave = λ w i s good at. after_leave w i s good at;
   after_tick = λ w i s good at. after_tick w i s good at;
   by_membership = by_membership;
-  to_nodes = λ w a b m good sent. (good.plain.letters a b m sent).1;
+  to_nodes = λ w a b m good sent. (good.bounded.letters a b m sent).1;
   one_inside = λ w i j s t good at bt inside there. one_inside w i j s t good.safe at bt inside there;
   entry = λ w i s good at can. entry w i s good.safe at can;
 }

@@ -23,7 +23,7 @@ use Rattle.mx_nodelaws.specs.Calls.{unchanged}
 use Rattle.mx_ricart.specs.Node.{Node}
 use Rattle.mx_ricart.specs.Step.{has_reply, deferred_at, HasAllReplies, asking, request_others, asked, seeing, later_of, deferring, replied, counting, entering, entered, leaving, reply_to, reply_deferred, left, request_missing, ticked}
 use Rattle.mx_ricart.specs.Good.{IsBusy, HasSeen, IsNodeOk, IsRequestOk, IsReplyOk, IsLetterOk, IsSafe}
-use Rattle.mx_ricart.specs.Frame.{Moves, good_after, seen_after, reached_after, other_after}
+use Rattle.mx_ricart.specs.Frame.{MovesForward, good_after, seen_after, reached_after, other_after}
 
 pub sent_reply : (o : Option Stamp) (top : ℕ) (m : RicartMsg) → reply_to o top ≡ Some m → (d : Stamp) × (o ≡ Some d) × (m ≡ Reply d top)
 sent_reply None top m h = absurd (none_is_no_some m h)
@@ -45,7 +45,7 @@ module _ (w : World Node RicartMsg) (i : ℕ) (s : Node) (good : IsSafe w) (at :
 
   -- ask
 
-  asked_moves : Moves w i s (asking s)
+  asked_moves : MovesForward w i s (asking s)
   asked_moves = record { highest = omega arith; mine = omega arith; stamp = λ busy. inr (omega arith); entry = inl refl }
 
   pub asked_good : IsSafe (after w i (asked s))
@@ -69,11 +69,11 @@ module _ (w : World Node RicartMsg) (i : ℕ) (s : Node) (good : IsSafe w) (at :
 
   -- a request comes
 
-  saw_moves : (number : ℕ) (new : Node) → new.highest ≡ max s.highest number → new.mine ≡ s.mine → new.phase ≡ s.phase → new.ours ≡ s.ours → Moves w i s new
+  saw_moves : (number : ℕ) (new : Node) → new.highest ≡ max s.highest number → new.mine ≡ s.mine → new.phase ≡ s.phase → new.ours ≡ s.ours → MovesForward w i s new
   saw_moves number new h m p o = record { highest = omega arith; mine = omega arith; stamp = λ busy. inl (sym (ap is_busy p) ∙ busy, o); entry = inl m }
 
   -- what then waits for node j is the new request or the old one
-  waits_new : {A : Type 0} (from : ℕ) (stamp : Stamp) → from ≢ i → stamp.node ≡ from → IsRequestOk w from stamp → (done : Done Node A RicartMsg) → Moves w i s done.state → (j : ℕ) (d : Stamp) → j ≡ stamp.node → (old : Option Stamp) → deferred_at s stamp.node ≡ old → later_of old stamp ≡ d → (j ≢ i) × (d.node ≡ j) × (d.number ≤ max s.highest stamp.number) × HasSeen (after w i done) j d.number
+  waits_new : {A : Type 0} (from : ℕ) (stamp : Stamp) → from ≢ i → stamp.node ≡ from → IsRequestOk w from stamp → (done : Done Node A RicartMsg) → MovesForward w i s done.state → (j : ℕ) (d : Stamp) → j ≡ stamp.node → (old : Option Stamp) → deferred_at s stamp.node ≡ old → later_of old stamp ≡ d → (j ≢ i) × (d.node ≡ j) × (d.number ≤ max s.highest stamp.number) × HasSeen (after w i done) j d.number
   waits_new from stamp other node ok done moves j d e None was is = (
     λ f. other (sym node ∙ sym e ∙ f),
     ap (λ x. x.node) (sym is) ∙ sym e,
@@ -154,7 +154,7 @@ module _ (w : World Node RicartMsg) (i : ℕ) (s : Node) (good : IsSafe w) (at :
   counted_good from stamp top waiting same sent =
       let new : Node = counting s from top in
       let done : Done Node (Unit {0}) RicartMsg = unchanged new tt in
-      let moves : Moves w i s new = record { highest = omega arith; mine = omega arith; stamp = λ busy. inl (busy, refl); entry = inl refl } in
+      let moves : MovesForward w i s new = record { highest = omega arith; mine = omega arith; stamp = λ busy. inl (busy, refl); entry = inl refl } in
       let kept = other_after w i s done good at moves i s was_ok in
       let letter : IsReplyOk w from i stamp top = good.letters from i (Reply stamp top) sent in
       good_after w i s done good at moves
@@ -186,7 +186,7 @@ module _ (w : World Node RicartMsg) (i : ℕ) (s : Node) (good : IsSafe w) (at :
   entered_good waiting all =
       let new : Node = entering s in
       let done : Done Node (Result ℕ EnterFault) RicartMsg = quietly (entered s) in
-      let moves : Moves w i s new = record { highest = omega arith; mine = (let l = was_ok.mine_top in omega arith); stamp = λ busy. inl (waiting_busy waiting, refl); entry = inr (waiting_busy waiting, has_of_all all) } in
+      let moves : MovesForward w i s new = record { highest = omega arith; mine = (let l = was_ok.mine_top in omega arith); stamp = λ busy. inl (waiting_busy waiting, refl); entry = inr (waiting_busy waiting, has_of_all all) } in
       let kept = other_after w i s done good at moves i s was_ok in
       good_after w i s done good at moves
       (record {
@@ -204,7 +204,7 @@ module _ (w : World Node RicartMsg) (i : ℕ) (s : Node) (good : IsSafe w) (at :
 
   -- leave
 
-  left_moves : Moves w i s (leaving s)
+  left_moves : MovesForward w i s (leaving s)
   left_moves = record { highest = omega arith; mine = omega arith; stamp = λ busy. absurd (idle_not_busy Idle refl busy); entry = inl refl }
 
   pub left_good : (n : ℕ) → IsSafe (after w i (left s n))
@@ -242,7 +242,7 @@ module _ (w : World Node RicartMsg) (i : ℕ) (s : Node) (good : IsSafe w) (at :
 
   -- tick
 
-  stays : Moves w i s s
+  stays : MovesForward w i s s
   stays = record { highest = omega arith; mine = omega arith; stamp = λ busy. inl (busy, refl); entry = inl refl }
 
   pub ticked_good : IsBusy s → IsSafe (after w i (ticked s))

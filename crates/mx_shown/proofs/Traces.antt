@@ -4,7 +4,7 @@ use Rattle.mx_nodelaws.specs.Core.{Core}
 use Rattle.mx_quorums.specs.Family.{IsMeeting}
 use Rattle.mx_trees.specs.Tree.{IsRooted}
 use Rattle.mx_network.specs.declared.outcome.Entry.{Entry}
-use Rattle.mx_network.specs.Step.{Group}
+use Rattle.mx_network.specs.Step.{ClusterState}
 use Rattle.mx_ricart.specs.Step.{IsCount, ricart_core}
 use Rattle.mx_maekawa.specs.Step.{maekawa_core}
 use Rattle.mx_raymond.specs.Step.{raymond_core}
@@ -13,7 +13,7 @@ use Rattle.mx_shown.proofs.Running.{after, found, run_of}
 use Rattle.mx_shown.proofs.Shapes.{nodes_rooted, sets_meet}
 
 -- the cluster that the events of a trace lead to
-abbrev end_of : {H S M : Type 0} → Core H S M → H → List Entry → Group S M
+abbrev end_of : {H S M : Type 0} → Core H S M → H → List Entry → ClusterState S M
 end_of core shape trace = found core (at_rest core shape) (after core (Ok (at_rest core shape)) (events_of trace))
 
 computed : {H S M : Type 0} (core : Core H S M) (IsShape : H → Type 0) (shape : H) (trace : List Entry) → IsShape shape → after core (Ok (at_rest core shape)) (events_of trace) ≡ Ok (end_of core shape trace) → (end_of core shape trace).trace ≡ trace → Happens core IsShape shape trace

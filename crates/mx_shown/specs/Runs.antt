@@ -14,10 +14,10 @@ use Rattle.mx_network.specs.declared.outcome.Cause.TheVariants.{NotGranted}
 use Rattle.mx_network.specs.declared.outcome.Entry.{Entry}
 use Rattle.mx_network.specs.declared.outcome.Outcome.{Outcome}
 use Rattle.mx_network.specs.declared.outcome.Outcome.TheVariants.{Asked, Entered, Written, Left, Delivered, Refused}
-use Rattle.mx_network.specs.Step.{Group, RunsTo}
+use Rattle.mx_network.specs.Step.{ClusterState, RunsTo}
 
 -- a cluster at rest with origin 0, limit 10 and one register
-abbrev pub at_rest : {H S M : Type 0} → Core H S M → H → Group S M
+abbrev pub at_rest : {H S M : Type 0} → Core H S M → H → ClusterState S M
 at_rest core shape = record { members = each_below (λ i. start_of core shape i 0 10 1) (core.count shape); sent = []; trace = [] }
 
 abbrev pub events_of : List Entry → List Event
@@ -26,7 +26,7 @@ events_of trace = map (λ (e : Entry). e.event) trace
 -- over this shape, which is a valid one, the events of the trace come out as it says
 pub record Happens {H S M : Type 0} (core : Core H S M) (IsShape : H → Type 0) (shape : H) (trace : List Entry) : Type 0 where
   pub valid : IsShape shape
-  pub after : Group S M
+  pub after : ClusterState S M
   pub run : RunsTo core (at_rest core shape) (events_of trace) after
   pub told : after.trace ≡ trace
 

@@ -7,7 +7,7 @@ use Rattle.mx_nodelaws.specs.declared.phase.Phase.{Phase}
 use Rattle.mx_nodelaws.specs.declared.phase.Phase.TheVariants.{Idle, Waiting, Inside}
 use Rattle.mx_nodelaws.specs.Core.{Core}
 use Rattle.mx_member.specs.Member.{MemberState}
-use Rattle.mx_network.specs.Step.{Group}
+use Rattle.mx_network.specs.Step.{ClusterState}
 use Rattle.mx_plan.specs.Text.{Text}
 use Rattle.mx_plan.specs.Fields.{Fields}
 use Rattle.mx_texts.specs.EventTexts.{name_of}
@@ -18,7 +18,7 @@ phase_text Idle = codes "idle"
 phase_text Waiting = codes "waiting"
 phase_text (Inside n) = codes "inside " ++ decimal n
 
--- where a node of this name stands, and the last section that it entered
+-- the phase of a node of this name, and the last section that it entered
 abbrev pub standing_text : Text → Phase → ℕ → Text
 standing_text name phase mine = name ++ codes ": " ++ phase_text phase ++ codes ", mine " ++ decimal mine
 
@@ -41,5 +41,5 @@ abbrev pub member_line : {H S M : Type 0} → Core H S M → Fields → ℕ → 
 member_line core p i m = standing_text (name_of p i) (core.phase m.core) (core.mine m.core) ++ journal_text p m.journal ++ line_feed
 
 -- the line of each node
-abbrev pub node_lines : {H S M : Type 0} → Core H S M → Fields → Group S M → Text
+abbrev pub node_lines : {H S M : Type 0} → Core H S M → Fields → ClusterState S M → Text
 node_lines core p g = texts_from (member_line core p) 0 g.members

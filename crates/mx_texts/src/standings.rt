@@ -6,7 +6,7 @@ ghost use Rattle.mx_texts.specs.NodeTexts.{phase_text, standing_text, known_text
 use mx_nodelaws::Phase;
 use std::fmt;
 
-/// Where a node stands in its algorithm.
+/// The phase of a node, as a text.
 #[derive(Clone, Copy)]
 pub struct PhaseText(pub Phase);
 
@@ -22,7 +22,7 @@ impl fmt::Display for PhaseText {
     }
 }
 
-/// The name of a node, where it stands, and the number of the last section that it entered.
+/// The name of a node, its phase, and the number of the last section that it entered.
 #[derive(Clone, Copy)]
 pub struct Standing<'a> {
     pub name: &'a str,

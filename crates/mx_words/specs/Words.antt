@@ -71,7 +71,7 @@ names_of names = (names.plan.now, names.events.now)
 abbrev pub task_of : Request → Task
 task_of (Check plan) = check plan.now
 task_of (Replay names) = replay (names_of names)
-task_of (Explore wish) = explore wish.plan.now wish.seed wish.steps
+task_of (Explore exploration) = explore exploration.plan.now exploration.seed exploration.steps
 
 -- the number that a text writes, where it is one of 64 bits
 abbrev pub number_of : Text → Option ℕ

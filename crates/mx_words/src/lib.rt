@@ -4,4 +4,4 @@
 mod help;
 mod words;
 
-pub use words::{Names, Request, Wish, asked};
+pub use words::{Exploration, Names, Request, asked};

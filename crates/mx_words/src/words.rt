@@ -10,7 +10,7 @@ use clap::builder::ValueParser;
 use clap::{Arg, ArgMatches, Command, Error};
 use std::alloc::{AllocError, Global};
 
-/// The most steps that an exploration takes.
+/// The greatest number of steps of an exploration.
 const MOST_STEPS: u64 = 1_000_000;
 
 /// The names of a plan and of its events.
@@ -22,7 +22,7 @@ pub struct Names<'a> {
 
 /// What is to be explored: the name of a plan, the seed of the schedule and its length.
 #[derive(Clone, Copy, Debug, PartialEq, Eq)]
-pub struct Wish<'a> {
+pub struct Exploration<'a> {
     pub plan: &'a str,
     pub seed: u64,
     pub steps: u64,
@@ -34,7 +34,7 @@ pub enum Request<'a> {
     /// What a plan of this name says.
     Check(&'a str),
     Replay(Names<'a>),
-    Explore(Wish<'a>),
+    Explore(Exploration<'a>),
 }
 
 fn plan_arg<'a>(alloc: Global) -> Arg<'a>
@@ -200,7 +200,7 @@ fn explore_in<'a>(matches: &ArgMatches<'a>) -> Option<Request<'a>>
     let Some(steps) = number_at(matches, "steps") else {
         return None;
     };
-    Some(Request::Explore(Wish { plan, seed, steps }))
+    Some(Request::Explore(Exploration { plan, seed, steps }))
 }
 
 /// The text that was given for an argument.

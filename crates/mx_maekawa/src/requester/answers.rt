@@ -7,7 +7,7 @@ use mx_stamps::{NodeId, Stamp};
 
 impl Requester {
     ghost use Rattle.std.specs.Prelude.{◌≡◌, ◌+◌, ◌≤◌, ◌<◌, ◌↔◌, [], ◌++◌, length, IsTrue};
-    ghost use Rattle.mx_maekawa.specs.RequesterStep.{HasFailed, has_failed_below, is_current_wait, has_ended, give_asked, fail, release_ended, take_locked, take_failed, inquired_held, take_inquire};
+    ghost use Rattle.mx_maekawa.specs.RequesterStep.{HasFailed, has_failed_below, is_current_wait, has_ended, give_remembered, fail, release_ended, take_locked, take_failed, inquired_held, take_inquire};
 
     /// Whether some arbiter counts as failed: the node cannot enter before that one grants again.
     fn has_failed(&self) -> bool
@@ -39,18 +39,18 @@ impl Requester {
     }
 
     /// Gives the grant of arbiter b back, where that arbiter has asked for it.
-    fn give_asked(&mut self, b: NodeId, out: &mut Outbox<MaekawaMsg>)
+    fn give_remembered(&mut self, b: NodeId, out: &mut Outbox<MaekawaMsg>)
         requires { length out.old < 32 }
-        ensures state { self.new ≡ (give_asked b self.old).state }
-        ensures letters { out.new ≡ out.old ++ (give_asked b self.old).letters }
+        ensures state { self.new ≡ (give_remembered b self.old).state }
+        ensures letters { out.new ≡ out.old ++ (give_remembered b self.old).letters }
         ensures room { length out.new ≤ length out.old + 1 }
     {
         let index = b.get() as usize;
-        if let Some(grant) = self.asked[index] {
+        if let Some(grant) = self.remembered[index] {
             out.add(b, MaekawaMsg::Relinquish(self.ours, grant));
             self.back[index] = grant;
             self.held[index] = None;
-            self.asked[index] = None;
+            self.remembered[index] = None;
             self.failed[index] = true;
         }
     }
@@ -64,7 +64,7 @@ impl Requester {
         self.failed[a.get() as usize] = true;
         for i in 0..self.count {
             if let Some(b) = NodeId::of(i) {
-                self.give_asked(b, out);
+                self.give_remembered(b, out);
             }
         }
     }
@@ -165,7 +165,7 @@ impl Requester {
             self.held[index] = None;
             self.failed[index] = true;
         } else {
-            self.asked[index] = Some(grant);
+            self.remembered[index] = Some(grant);
         }
     }
 }

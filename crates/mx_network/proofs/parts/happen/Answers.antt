@@ -1,27 +1,27 @@
 use Rattle.std.proofs.Common.{rules, ℕ, arith, List, [], ◌∷◌, ◌++◌, Ok, length, sym, ap, ◌∙◌, slice_get}
 use Rattle.mx_nodelaws.specs.World.{sent_by}
 use Rattle.mx_network.specs.declared.outcome.Entry.{Entry}
-use Rattle.mx_network.specs.Step.{answer_of, group_of}
+use Rattle.mx_network.specs.Step.{answer_of, cluster_state_of}
 use Rattle.mx_network.proofs.Happening.{at_err, at_place, gone, grown_parts, memory_alone, memory_told, part_is, unchanged}
 use Rattle.mx_network.proofs.parts.happen.Goals as goal
 
 pub returns-then-index-nodes-clause-fault : goal.returns-then-index-nodes-clause-fault
 returns-then-index-nodes-clause-fault g c =
-    gone g.C.Exclusion.core (group_of c.args.members.now c.args.sent.now c.args.trace.now) c.args.event (c.in_ok-node.node, c.in_ok-node.act)
+    gone g.C.Exclusion.core (cluster_state_of c.args.members.now c.args.sent.now c.args.trace.now) c.args.event (c.in_ok-node.node, c.in_ok-node.act)
     (part_is _ _ _ _ _ _ _ (ap length c.as_slice-nodes.ensures.value) c.deref.ensures.value c.part_at.ensures c.in_ok-node.was)
     (let t = c.if-index-nodes.true in let l = ap length c.as_slice-nodes.ensures.value in let i = c.get-index.ensures.value in omega arith)
 
 pub returns-in_err-reserve-clause-fault : goal.returns-in_err-reserve-clause-fault
 returns-in_err-reserve-clause-fault g c =
     memory_told _ _ c.from_residual-in_err-reserve.ensures.1
-    (memory_alone g.C.Exclusion.core (group_of c.args.members.now c.args.sent.now c.args.trace.now) c.args.event (c.in_ok-node.node, c.in_ok-node.act)
+    (memory_alone g.C.Exclusion.core (cluster_state_of c.args.members.now c.args.sent.now c.args.trace.now) c.args.event (c.in_ok-node.node, c.in_ok-node.act)
     (part_is _ _ _ _ _ _ _ (ap length c.as_slice-nodes.ensures.value) c.deref.ensures.value c.part_at.ensures c.in_ok-node.was)
     (let t = c.if-index-nodes.false in let l = ap length c.as_slice-nodes.ensures.value in let i = c.get-index.ensures.value in omega arith))
 
 pub returns-in_err-reserve-2-clause-fault : goal.returns-in_err-reserve-2-clause-fault
 returns-in_err-reserve-2-clause-fault g c =
     memory_told _ _ c.from_residual-in_err-reserve-2.ensures.1
-    (memory_alone g.C.Exclusion.core (group_of c.args.members.now c.args.sent.now c.args.trace.now) c.args.event (c.in_ok-node.node, c.in_ok-node.act)
+    (memory_alone g.C.Exclusion.core (cluster_state_of c.args.members.now c.args.sent.now c.args.trace.now) c.args.event (c.in_ok-node.node, c.in_ok-node.act)
     (part_is _ _ _ _ _ _ _ (ap length c.as_slice-nodes.ensures.value) c.deref.ensures.value c.part_at.ensures c.in_ok-node.was)
     (let t = c.if-index-nodes.false in let l = ap length c.as_slice-nodes.ensures.value in let i = c.get-index.ensures.value in omega arith))
 
@@ -45,7 +45,7 @@ act_and_send-requires g c =
 pub returns-in_err-outcome-clause-fault : goal.returns-in_err-outcome-clause-fault
 returns-in_err-outcome-clause-fault g c =
     memory_told _ _ c.from_residual-in_err-outcome.ensures.1
-    (memory_alone g.C.Exclusion.core (group_of c.args.members.now c.args.sent.now c.args.trace.now) c.args.event (c.in_ok-node.node, c.in_ok-node.act)
+    (memory_alone g.C.Exclusion.core (cluster_state_of c.args.members.now c.args.sent.now c.args.trace.now) c.args.event (c.in_ok-node.node, c.in_ok-node.act)
     (part_is _ _ _ _ _ _ _ (ap length c.as_slice-nodes.ensures.value) c.deref.ensures.value c.part_at.ensures c.in_ok-node.was)
     (let t = c.if-index-nodes.false in let l = ap length c.as_slice-nodes.ensures.value in let i = c.get-index.ensures.value in omega arith))
 
@@ -61,7 +61,7 @@ returns-clause-ok g c =
     let at = at_place c.args.members.now.items c.get-index.result c.index_mut.result.now (let t = c.if-index-nodes.false in let l = ap length c.as_slice-nodes.ensures.value in omega arith) c.index_mut.ensures.value in
     let part = part_is _ _ _ _ _ _ _ (ap length c.as_slice-nodes.ensures.value) c.deref.ensures.value c.part_at.ensures c.in_ok-node.was in
     let e = c.in_ok-outcome.ensures in
-    grown_parts core (group_of c.args.members.now c.args.sent.now c.args.trace.now) c.args.event (c.get-index.result, c.in_ok-node.act)
+    grown_parts core (cluster_state_of c.args.members.now c.args.sent.now c.args.trace.now) c.args.event (c.get-index.result, c.in_ok-node.act)
     (part ∙ ap (λ (n : ℕ). Ok (n, c.in_ok-node.act)) (sym c.get-index.ensures.value))
     c.index_mut.result.now c.act_and_send.new.member c.in_ok-outcome.outcome c.act_and_send.new.sent.items c.note.new.trace.items
     at e.state e.outcome

@@ -4,7 +4,7 @@ use Rattle.serde_json.specs.View.{view}
 use Rattle.mx_quorums.specs.Lists.{lists_of}
 use Rattle.mx_plan.specs.Values.{each}
 use Rattle.mx_plan.specs.NameLists.{number_in}
-use Rattle.mx_plan.specs.QuorumMembers.{set_of}
+use Rattle.mx_plan.specs.QuorumKeys.{set_of}
 use Rattle.mx_plan.specs.declared.place.Place.TheVariants as place
 use Rattle.mx_plan.proofs.EachLemmas.{after, rest, rest_end, rest_err, rest_ok}
 use Rattle.mx_plan.proofs.quorum_reader.all_sets.Goals as goal

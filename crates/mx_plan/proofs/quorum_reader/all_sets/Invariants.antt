@@ -1,7 +1,7 @@
 use Rattle.std.proofs.Common.{◌≡◌, length}
 use Rattle.serde_json.specs.View.{view}
 use Rattle.mx_quorums.specs.Lists.{lists_of}
-use Rattle.mx_plan.specs.QuorumMembers.{set_of}
+use Rattle.mx_plan.specs.QuorumKeys.{set_of}
 use Rattle.mx_plan.proofs.EachLemmas.{after, rest}
 use Rattle.mx_plan.proofs.quorum_reader.all_sets.Given as goal
 

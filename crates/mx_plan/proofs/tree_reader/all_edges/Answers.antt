@@ -1,6 +1,6 @@
 use Rattle.std.proofs.Common.{◌∙◌, sym, ap}
 use Rattle.serde_json.specs.View.{view}
-use Rattle.mx_plan.specs.TreeMembers.{is_edge}
+use Rattle.mx_plan.specs.TreeKeys.{is_edge}
 use Rattle.mx_plan.proofs.Lists.{all_ends, all_stops}
 use Rattle.mx_plan.proofs.tree_reader.all_edges.Goals as goal
 

@@ -1,7 +1,7 @@
 use Rattle.std.proofs.Common.{◌≡◌, ◌∙◌, ap, sym, rules, Ok, Err, append-nil, map, get_or, ◌++◌, ◌∷◌, [], ◌+◌}
 use Rattle.serde_json.specs.View.{view}
 use Rattle.mx_plan.specs.Values.{each}
-use Rattle.mx_plan.specs.TreeMembers.{edge_of}
+use Rattle.mx_plan.specs.TreeKeys.{edge_of}
 use Rattle.mx_plan.proofs.EachLemmas.{after, rest, rest_end, rest_err, rest_ok}
 use Rattle.mx_plan.proofs.tree_reader.each_edge.Goals as goal
 

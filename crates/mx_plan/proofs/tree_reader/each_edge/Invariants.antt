@@ -1,6 +1,6 @@
 use Rattle.std.proofs.Common.{◌≡◌}
 use Rattle.serde_json.specs.View.{view}
-use Rattle.mx_plan.specs.TreeMembers.{edge_of}
+use Rattle.mx_plan.specs.TreeKeys.{edge_of}
 use Rattle.mx_plan.proofs.EachLemmas.{after, rest}
 use Rattle.mx_plan.proofs.tree_reader.each_edge.Given as goal
 

@@ -7,7 +7,7 @@ use Rattle.mx_member.proofs.SectionWrites.{gapless_shows}
 use Rattle.mx_network.specs.Kept.{IsKept}
 use Rattle.mx_network.specs.Merged.{IsAboveAll, IsBelowEach}
 use Rattle.mx_network.specs.Sections.{journal_of, sections}
-use Rattle.mx_network.specs.Step.{Group}
+use Rattle.mx_network.specs.Step.{ClusterState}
 use Rattle.mx_network.proofs.Finding.{none_at, some_at}
 use Rattle.mx_network.proofs.Merging.{least_more, least_same, mergeable, merged_more, merged_same, merged_whole, merged_within, no_conflict}
 use Rattle.mx_network.proofs.cluster.Cluster.merged.Goals as goal
@@ -15,16 +15,16 @@ use Rattle.mx_network.proofs.cluster.Cluster.merged.Goals.{in-Some+in_ok-merge, 
 
 pub returns-in_err-merge-clause-conflict : goal.returns-in_err-merge-clause-conflict
 returns-in_err-merge-clause-conflict g c = λ n.
-    let kept = subst (λ (x : Group g.row.C.Denot g.row.C-Msg.Denot). IsKept g.C.Exclusion.core g.C.Exclusion.Good x) c.self.view_is c.self.invariant.1 in
-    let members = ap (λ (x : Group g.row.C.Denot g.row.C-Msg.Denot). x.members) c.self.view_is in
+    let kept = subst (λ (x : ClusterState g.row.C.Denot g.row.C-Msg.Denot). IsKept g.C.Exclusion.core g.C.Exclusion.Good x) c.self.view_is c.self.invariant.1 in
+    let members = ap (λ (x : ClusterState g.row.C.Denot g.row.C-Msg.Denot). x.members) c.self.view_is in
     let at = some_at c.deref.result.now c.args.self.now.members c.get.result c.in-Some.member.now (c.deref.ensures.value ∙ members) c.in-Some.ensures.lookup.0 c.in-Some.ensures.lookup.1 in
     let agree : AreAgreeing c.loop-node.all c.journal.result.now = mergeable g.C.Exclusion.core g.C.Exclusion.Good c.args.self.now c.loop-node.all c.journal.result.now c.get.result c.in-Some.member.now kept c.loop-node.invariant.sections at c.journal.ensures in
     no_conflict c.in_err-merge.field-0.0 c.from_residual.result n (c.in_err-merge.ensures.agreed.1 agree) c.from_residual.ensures.1
 
 pub loop-node-preserved : goal.loop-node-preserved
 loop-node-preserved g c =
-    let kept = subst (λ (x : Group g.row.C.Denot g.row.C-Msg.Denot). IsKept g.C.Exclusion.core g.C.Exclusion.Good x) c.self.view_is c.self.invariant.1 in
-    let members = ap (λ (x : Group g.row.C.Denot g.row.C-Msg.Denot). x.members) c.self.view_is in
+    let kept = subst (λ (x : ClusterState g.row.C.Denot g.row.C-Msg.Denot). IsKept g.C.Exclusion.core g.C.Exclusion.Good x) c.self.view_is c.self.invariant.1 in
+    let members = ap (λ (x : ClusterState g.row.C.Denot g.row.C-Msg.Denot). x.members) c.self.view_is in
     let here : c.get.result ≡ get_or c.args.nodes.now c.loop-node.node-index c.get.result =
     subst (λ (n : ℕ). n ≡ get_or c.args.nodes.now c.loop-node.node-index n) (sym c.get.ensures.value) c.node-item.is in
     elim c.match-get.branch [
@@ -65,5 +65,5 @@ returns-clause-in_order g c k count gapless top =
 
 pub returns-clause-whole : goal.returns-clause-whole
 returns-clause-whole g c every =
-    let kept = subst (λ (x : Group g.row.C.Denot g.row.C-Msg.Denot). IsKept g.C.Exclusion.core g.C.Exclusion.Good x) c.self.view_is c.self.invariant.1 in
+    let kept = subst (λ (x : ClusterState g.row.C.Denot g.row.C-Msg.Denot). IsKept g.C.Exclusion.core g.C.Exclusion.Good x) c.self.view_is c.self.invariant.1 in
     merged_whole g.C.Exclusion.core g.C.Exclusion.Good c.args.self.now c.args.nodes.now c.loop-node.all kept c.loop-node.invariant.ordered c.loop-node.invariant.sections (returns-clause-all g c) every

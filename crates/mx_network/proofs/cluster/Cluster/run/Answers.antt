@@ -1,7 +1,7 @@
 use Rattle.std.proofs.Common.{List, [], ◌∷◌, ◌++◌, IfSome, Option, take, refl, subst, sym, ap, ◌∙◌}
 use Rattle.std.proofs.lemmas.List.{take_all, take_more}
 use Rattle.mx_network.specs.declared.event.Event.{Event}
-use Rattle.mx_network.specs.Step.{Group, IsFaultOf, RunsTo, step_of}
+use Rattle.mx_network.specs.Step.{ClusterState, IsFaultOf, RunsTo, step_of}
 use Rattle.mx_network.proofs.Happening.{at_place}
 use Rattle.mx_network.proofs.Headline.{exclusive, numbered}
 use Rattle.mx_network.proofs.Keeps.{RunsTo-snoc}
@@ -29,7 +29,7 @@ pub returns-in-Err-clause-fault : goal.returns-in-Err-clause-fault
 returns-in-Err-clause-fault g c =
     subst (λ (o : Option Event). IfSome o (λ e. IsFaultOf (step_of g.C.Exclusion.core c.step.new.self e) c.in-Err.fault))
     (sym (at_place c.args.events.now c.loop-index.index c.index-events-index.result c.loop-index-test.true c.index-events-index.is))
-    (subst (λ (s : Group g.row.C.Denot g.row.C-Msg.Denot). IsFaultOf (step_of g.C.Exclusion.core s c.index-events-index.result) c.in-Err.fault) (sym c.in-Err.ensures.err) c.in-Err.ensures.fault)
+    (subst (λ (s : ClusterState g.row.C.Denot g.row.C-Msg.Denot). IsFaultOf (step_of g.C.Exclusion.core s c.index-events-index.result) c.in-Err.fault) (sym c.in-Err.ensures.err) c.in-Err.ensures.fault)
 
 pub returns-clause-ok : goal.returns-clause-ok
 returns-clause-ok g c =

@@ -12,10 +12,10 @@ use Rattle.mx_nodelaws.proofs.Phases.{not_inside}
 use Rattle.mx_nodelaws.proofs.Frame.{itself, is_new, is_old, here_after, sent_after, sent_before, reached_max, at_as}
 use Rattle.mx_raymond.specs.declared.unacked.Unacked.{Unacked}
 use Rattle.mx_raymond.specs.Node.{Node}
-use Rattle.mx_raymond.specs.Step.{passing, passed, holding, told, entering}
+use Rattle.mx_raymond.specs.Step.{passing, passed, holding, acknowledging, entering}
 use Rattle.mx_raymond.specs.Good.{IsLast, HasSeen, IsNodeOk, IsPrivilegeOk, IsLetterOk, IsHeld, IsUnderWay, IsSafeAt}
 use Rattle.mx_raymond.specs.Tests.{MayPass}
-use Rattle.mx_raymond.specs.Frame.{Rises, seen_after, reached_after, last_after, safe_after}
+use Rattle.mx_raymond.specs.Frame.{MovesForward, seen_after, reached_after, last_after, safe_after}
 
 module _ (w : World Node RaymondMsg) (i : ℕ) (s : Node) (at : IsNode w i s) (highest : ℕ) (safe : IsSafeAt w highest) where
   ok : IsNodeOk w highest i s
@@ -38,7 +38,7 @@ module _ (w : World Node RaymondMsg) (i : ℕ) (s : Node) (at : IsNode w i s) (h
     abbrev gone : World Node RaymondMsg
     gone = after w i (passed s next)
 
-    rises : Rises s (passing s next)
+    rises : MovesForward s (passing s next)
     rises = record { hop = omega arith; mine = omega arith }
 
     top_hop : s.hop ≡ highest
@@ -109,10 +109,10 @@ module _ (w : World Node RaymondMsg) (i : ℕ) (s : Node) (at : IsNode w i s) (h
 
   module _ (from hop last : ℕ) (sent : WasSent w from i (Privilege hop last)) (fresh : s.hop < hop) where
     abbrev arrived : World Node RaymondMsg
-    arrived = after w i (told (holding s hop last) from hop)
+    arrived = after w i (acknowledging (holding s hop last) from hop)
 
     abbrev comes : Done Node (Unit {0}) RaymondMsg
-    comes = told (holding s hop last) from hop
+    comes = acknowledging (holding s hop last) from hop
 
     letter : IsPrivilegeOk w highest i hop last
     letter = safe.letters from i (Privilege hop last) sent
@@ -132,7 +132,7 @@ module _ (w : World Node RaymondMsg) (i : ℕ) (s : Node) (at : IsNode w i s) (h
       | inr u ↦ u
     ]
 
-    comes_rises : Rises s (holding s hop last)
+    comes_rises : MovesForward s (holding s hop last)
     comes_rises = record { hop = omega arith; mine = omega arith }
 
     no_privilege : (b : ℕ) (h c : ℕ) → IsIn (b, Privilege h c) comes.letters → ⊥
@@ -187,7 +187,7 @@ module _ (w : World Node RaymondMsg) (i : ℕ) (s : Node) (at : IsNode w i s) (h
     abbrev enters : Done Node A RaymondMsg
     enters = record { state = entering s; answer = answer; letters = [] }
 
-    enters_rises : Rises s (entering s)
+    enters_rises : MovesForward s (entering s)
     enters_rises = record { hop = omega arith; mine = (let k = ok.mine_top in omega arith) }
 
     old_privilege : (a b hop last : ℕ) → WasSent (after w i enters) a b (Privilege hop last) → WasSent w a b (Privilege hop last)

@@ -26,7 +26,7 @@ same_draft m k n [] e d = d
 same_draft m k n (s ∷ ss) e d = (d.0 ∙ e, d.1, d.2)
 
 -- an act of which no section tells
-pub record IsPlain {H S M : Type 0} {core : Core H S M} {Good : World S M → Type 0} (w : Moment core Good) (moved : MemberState S) (letters : List (ℕ × Parcel M)) (grown : List (ℕ × ℕ × Parcel M)) : Type 0 where
+pub record IsUntold {H S M : Type 0} {core : Core H S M} {Good : World S M → Type 0} (w : Moment core Good) (moved : MemberState S) (letters : List (ℕ × Parcel M)) (grown : List (ℕ × ℕ × Parcel M)) : Type 0 where
   pub good : Good (core_part (moved_in w moved) grown)
   pub mine : core.mine moved.core ≡ core.mine w.member.core
   pub phase : (n : ℕ) → (core.phase moved.core ≡ Inside n) ↔ (core.phase w.member.core ≡ Inside n)
@@ -38,25 +38,25 @@ pub record IsPlain {H S M : Type 0} {core : Core H S M} {Good : World S M → Ty
 
 module _ {H S M : Type 0} (core : Core H S M) (IsShape : H → Type 0) (Good : World S M → Type 0) (phases : KeepsPhases core) (laws : KeepsGood core IsShape Good) where
   -- it leaves a sound world of the same sections
-  pub plain_sound : (w : Moment core Good) (moved : MemberState S) (letters : List (ℕ × Parcel M)) (grown : List (ℕ × ℕ × Parcel M)) →
-      IsPlain w moved letters grown → GrowsBy w letters grown → IsSound core Good w.sections (moved_in w moved) grown
-  plain_sound w moved letters grown plain grows = step_sound w w.sections moved letters grown (record {
-    good = plain.good;
-    counted = w.sound.counted ∙ sym (counted_same core IsShape Good phases laws w moved grown plain.mine);
-    inside = λ n h. let was = (plain.phase n).0 h in same_draft w.member moved n w.sections (plain.draft n was) (w.sound.inside w.node n w.member w.here was);
+  pub untold_sound : (w : Moment core Good) (moved : MemberState S) (letters : List (ℕ × Parcel M)) (grown : List (ℕ × ℕ × Parcel M)) →
+      IsUntold w moved letters grown → GrowsBy w letters grown → IsSound core Good w.sections (moved_in w moved) grown
+  untold_sound w moved letters grown untold grows = step_sound w w.sections moved letters grown (record {
+    good = untold.good;
+    counted = w.sound.counted ∙ sym (counted_same core IsShape Good phases laws w moved grown untold.mine);
+    inside = λ n h. let was = (untold.phase n).0 h in same_draft w.member moved n w.sections (untold.draft n was) (w.sound.inside w.node n w.member w.here was);
     others = λ j n t ne at h. w.sound.inside j n t at h;
     nobody = λ none. w.sound.nobody (λ j t at inside. elim (dec_eq j w.node) [
       | inl e ↦
           let same : t ≡ w.member = same_Some t w.member (sym at ∙ subst (λ k. IsMember w.members k w.member) (sym e) w.here) in
-          none w.node moved (get_set_same w.members w.node w.member moved w.here) (inside.0, (plain.phase inside.0).1 (subst (λ (x : MemberState S). core.phase x.core ≡ Inside inside.0) same inside.1))
+          none w.node moved (get_set_same w.members w.node w.member moved w.here) (inside.0, (untold.phase inside.0).1 (subst (λ (x : MemberState S). core.phase x.core ≡ Inside inside.0) same inside.1))
       | inr ne ↦ none j t (get_set_other w.members w.node j moved ne ∙ at) inside
     ]);
     serial = w.sound.serial;
-    setting = plain.setting;
-    journal = plain.journal;
-    ordered = plain.ordered;
+    setting = untold.setting;
+    journal = untold.journal;
+    ordered = untold.ordered;
     older = λ x h. h;
-    sends = plain.sends;
+    sends = untold.sends;
   }) grows
 
   -- the core takes a step that keeps phase and number
@@ -64,7 +64,7 @@ module _ {H S M : Type 0} (core : Core H S M) (IsShape : H → Type 0) (Good : W
       Good (after (part_of w) w.node done) → core.mine done.state ≡ core.mine w.member.core →
       ((n : ℕ) → (core.phase done.state ≡ Inside n) ↔ (core.phase w.member.core ≡ Inside n)) → GrowsBy w (guarded done.letters) grown →
       IsSound core Good w.sections (moved_in w (with_core done.state w.member)) grown
-  core_sound w done grown good mine phase grows = plain_sound w (with_core done.state w.member) (guarded done.letters) grown (record {
+  core_sound w done grown good mine phase grows = untold_sound w (with_core done.state w.member) (guarded done.letters) grown (record {
     good = core_kept core IsShape Good phases laws w done (with_core done.state w.member) (guarded done.letters) grown good refl (letters_guarded w.node done.letters) grows;
     mine = mine;
     phase = phase;
@@ -82,7 +82,7 @@ module _ {H S M : Type 0} (core : Core H S M) (IsShape : H → Type 0) (Good : W
       IsSound core Good w.sections (moved_in w (with_journal (with_records records w.member.journal) w.member)) grown
   gossip_sound w records letters grown known none sends grows =
       let moved : MemberState S = with_journal (with_records records w.member.journal) w.member in
-      plain_sound w moved letters grown (record {
+      untold_sound w moved letters grown (record {
         good = core_still core IsShape Good phases laws w moved letters grown refl none grows;
         mine = refl;
         phase = λ n. (λ h. h, λ h. h);

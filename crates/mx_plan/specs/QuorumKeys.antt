@@ -8,7 +8,7 @@ use Rattle.serde_json.specs.Data.{Data}
 use Rattle.serde_json.specs.Find.{get, as_str}
 use Rattle.mx_quorums.specs.Lists.{lists_of}
 use Rattle.mx_plan.specs.Text.{Text}
-use Rattle.mx_plan.specs.Shapes.{Wish, plane, grid, listed}
+use Rattle.mx_plan.specs.Shapes.{PlannedShape, plane, grid, listed}
 use Rattle.mx_plan.specs.Values.{and_then, each, array_of, list_in, number_of}
 use Rattle.mx_plan.specs.NameLists.{is_name_list, number_in}
 use Rattle.mx_plan.specs.declared.place.Place.TheVariants as place
@@ -19,7 +19,7 @@ abbrev pub no_quorums : {T : Type 0} → Result T PlanFault
 no_quorums = Err (NotPlan place.Quorums)
 
 -- a grid that has as many places as there are nodes
-abbrev pub grid_of : ℕ → Option ℕ → Option ℕ → Result Wish PlanFault
+abbrev pub grid_of : ℕ → Option ℕ → Option ℕ → Result PlannedShape PlanFault
 grid_of n (Some rows) (Some cols) = if rows * cols == n then Ok (grid rows cols) else no_quorums
 grid_of n _ _ = no_quorums
 
@@ -32,19 +32,19 @@ abbrev pub are_sets : ℕ → List Data → Bool
 are_sets n ds = length ds == n && list_all is_name_list ds
 
 -- the family of these arrays
-abbrev pub family_of : List Text → List Data → Result Wish PlanFault
+abbrev pub family_of : List Text → List Data → Result PlannedShape PlanFault
 family_of nodes ds = and_then (each (set_of nodes) ds) (λ sets. Ok (listed sets))
 
 -- the same, where their form is right
-abbrev pub sets_from : List Text → List Data → Result Wish PlanFault
+abbrev pub sets_from : List Text → List Data → Result PlannedShape PlanFault
 sets_from nodes ds = if are_sets (length nodes) ds then family_of nodes ds else no_quorums
 
 -- the family that the value of a key lists
-abbrev pub sets_of : List Text → Option Data → Result Wish PlanFault
+abbrev pub sets_of : List Text → Option Data → Result PlannedShape PlanFault
 sets_of nodes d = option_map_or (sets_from nodes) (array_of d) no_quorums
 
 -- the sets of a kind
-abbrev pub kind_of : List Text → Data → Text → Result Wish PlanFault
+abbrev pub kind_of : List Text → Data → Text → Result PlannedShape PlanFault
 kind_of nodes d kind =
     if bytes_eq kind (codes "plane") then Ok plane
     else if bytes_eq kind (codes "grid") then grid_of (length nodes) (number_of (get (codes "rows") d)) (number_of (get (codes "cols") d))
@@ -52,11 +52,11 @@ kind_of nodes d kind =
     else no_quorums
 
 -- the sets that a value asks for, by its kind
-abbrev pub quorums_from : List Text → Data → Result Wish PlanFault
+abbrev pub quorums_from : List Text → Data → Result PlannedShape PlanFault
 quorums_from nodes d = option_map_or (kind_of nodes d) (option_and_then as_str (get (codes "kind") d)) no_quorums
 
 -- the sets that the value of the key `quorums` asks for
-abbrev pub quorums_of : List Text → Option Data → Result Wish PlanFault
+abbrev pub quorums_of : List Text → Option Data → Result PlannedShape PlanFault
 quorums_of nodes d = option_map_or (quorums_from nodes) d no_quorums
 
 -- the sets are what the rules give, or memory ran out

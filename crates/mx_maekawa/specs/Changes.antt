@@ -13,7 +13,7 @@ abbrev pub IsToEnd : NodeWorld → ℕ → Stamp → ℕ → ℕ → Type 0
 IsToEnd w i stamp g last = WasSent w stamp.node i (Relinquish stamp g) ⊎ ((later : Stamp) × (t : ℕ) × WasSent w stamp.node i (Release later t) × (stamp.number ≤ later.number) × (t ≤ last))
 
 -- how a step of a node may change what other nodes and letters rest on
-pub record Moves (w : NodeWorld) (i : ℕ) (s new : Node) : Type 0 where
+pub record MovesForward (w : NodeWorld) (i : ℕ) (s new : Node) : Type 0 where
   pub own : new.requester.own ≡ s.requester.own
   pub issued : s.requester.issued ≤ new.requester.issued
   pub mine : s.requester.mine ≤ new.requester.mine
