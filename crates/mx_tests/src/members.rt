@@ -1,7 +1,5 @@
 //! A member, and records that no member of its cluster sent.
 
-ghost use Rattle.std.specs.Prelude.{◌<◌, ◌≤◌};
-
 use crate::given::{entry, node};
 use arrayvec::ArrayVec;
 use mx_journal::Record;
