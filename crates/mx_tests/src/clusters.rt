@@ -1,4 +1,4 @@
-//! Clusters: events that can't happen, and a section that is full.
+//! Clusters: events that can't happen, refusals of a node alone, and a section that is full.
 
 use crate::given::node;
 use crate::told::{Told, assert_steps};
@@ -36,6 +36,25 @@ fn step_faults_and_clock(rt: HostRuntime) -> Result<(), Fail> {
     }
     assert_eq!(rt; drawn_after_five(), Some(6));
     Ok(())
+}
+
+#[test]
+fn one_node_acts_alone(rt: HostRuntime) -> Result<(), Fail> {
+    let mut cluster: Cluster<Solo> = Cluster::start(rt.alloc(), &One, 0, 1, 1)?;
+    let a = node(0);
+    let steps = [
+        (Event::Enter(a), Told::Refused(Cause::NotWaiting)),
+        (Event::Ask(a), Told::Asked(0)),
+        (Event::Ask(a), Told::Refused(Cause::NotIdle)),
+        (Event::Enter(a), Told::Entered(1)),
+        (Event::Tick(a), Told::Sent(0)),
+        (Event::Restart(a), Told::Woken),
+        (Event::Leave(a), Told::Left(1)),
+        (Event::Leave(a), Told::Refused(Cause::NotInside)),
+        (Event::Ask(a), Told::Asked(1)),
+        (Event::Enter(a), Told::Refused(Cause::NumbersSpent)),
+    ];
+    assert_steps(&rt, rt.alloc(), &mut cluster, &[a], &steps)
 }
 
 /// A section with eight writes, eight reads, and more than there is room for.
