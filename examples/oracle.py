@@ -1,10 +1,13 @@
-"""A second implementation of `mx replay`, written from the step tables alone, to compare printouts with.
+"""A second implementation of `mx replay` and `mx explore`, written from the step tables alone, to compare
+printouts with.
 
-Usage: examples/oracle.py PLAN EVENTS, for a plan and events that are well-formed.
+Usage: examples/oracle.py PLAN EVENTS, for a plan and events that are well-formed, or
+examples/oracle.py explore PLAN SEED STEPS.
 
 From the bottom up: letters, which nodes send to each other; cores, one class for each algorithm, which
 take the letters and say when their node may enter the section; members, which are a core with the journal
-of the sections that were left and a draft of the present one; and the replay of events, which prints.
+of the sections that were left and a draft of the present one; the replay of events, which prints; and the
+schedules that are drawn from a seed.
 
 Nodes are their places in the plan, counted from 0. A stamp is a request's number and node, and stamps are
 in the order of their numbers, then of their nodes.
@@ -778,6 +781,95 @@ def replay(plan, events, put):
     return None
 
 
+# Explorations.
+
+
+class Words:
+    """The words of 32 bits of a PCG generator (XSH-RR over 64 bits of state), by a seed of 64 bits.
+
+    The state and the increment are the first four words of another one that starts at the seed.
+    """
+
+    FACTOR = 6364136223846793005
+    SEEDING = 11634580027462260723  # the increment of the generator of seeds
+
+    def __init__(self, seed):
+        words = []
+        for _ in range(4):
+            seed = (seed * self.FACTOR + self.SEEDING) & GREATEST
+            words.append(self.mixed(seed))
+        self.increment = (words[2] | words[3] << 32) | 1
+        self.state = ((words[0] | words[1] << 32) + self.increment) & GREATEST
+        self.step()
+
+    def step(self):
+        self.state = (self.state * self.FACTOR + self.increment) & GREATEST
+
+    @staticmethod
+    def mixed(state):
+        """The word of a state: its upper bits folded, and rotated by the uppermost five."""
+        folded = ((state >> 18 ^ state) >> 27) & 0xFFFFFFFF
+        turn = state >> 59
+        return (folded >> turn | folded << (32 - turn)) & 0xFFFFFFFF
+
+    def next(self):
+        word = self.mixed(self.state)
+        self.step()
+        return word
+
+
+# Of 16 kinds that a word draws, so many are of each; the rest are deliveries. What follows is what it names.
+KINDS = (
+    ("ask", 2, ("node",)),
+    ("enter", 2, ("node",)),
+    ("read", 1, ("node", "register")),
+    ("write", 1, ("node", "register", "value")),
+    ("leave", 2, ("node",)),
+    ("tick", 1, ("node",)),
+    ("want", 1, ("node", "node")),
+    ("restart", 1, ("node",)),
+)
+
+WINDOW = 64  # a delivery is of one of the newest parcels
+
+
+def drawn(words, plan):
+    """The next event; of a delivery the word, which chooses the parcel."""
+    below = words.next() % 16
+    for kind, count, arguments in KINDS:
+        if below < count:
+            return [kind] + [drawn_argument(words, plan, argument) for argument in arguments]
+        below -= count
+    return ["deliver", words.next()]
+
+
+def drawn_argument(words, plan, argument):
+    word = words.next()
+    if argument == "node":
+        return plan["nodes"][word % len(plan["nodes"])]
+    if argument == "register":
+        return plan["registers"][word % len(plan["registers"])]
+    return word
+
+
+def explore(plan, seed, steps, put):
+    """Draws so many events and lets them happen; puts the counts and the verdict."""
+    lines = []
+    cluster = Replay(plan, lines.append)
+    words = Words(seed)
+    for index in range(steps):
+        event = drawn(words, plan)
+        if event[0] == "deliver":
+            sent = len(cluster.parcels)
+            if sent == 0:
+                continue
+            event[1] = sent - 1 - event[1] % min(sent, WINDOW)
+        cluster.happen(index, event)
+    entered = sum(": entered " in line for line in lines)
+    put(f"explored {steps}, entered {entered}, sent {len(cluster.parcels)}")
+    put("verdict sound")
+
+
 def load(path):
     with open(path) as file:
         return json.load(file)
@@ -785,6 +877,10 @@ def load(path):
 
 def main():
     lines = []
+    if sys.argv[1] == "explore":
+        explore(load(sys.argv[2]), int(sys.argv[3]), int(sys.argv[4]), lines.append)
+        sys.stdout.write("".join(line + "\n" for line in lines))
+        return
     fault = replay(load(sys.argv[1]), load(sys.argv[2]), lines.append)
     sys.stdout.write("".join(line + "\n" for line in lines))
     if fault is not None:

@@ -35,7 +35,7 @@ run_by p (Ricart count) = run_from ricart_core ricart_text p 0 (at_rest ricart_c
 run_by p (Maekawa family) = run_from maekawa_core maekawa_text p 0 (at_rest maekawa_core p family)
 run_by p (Raymond tree) = run_from raymond_core (λ _. raymond_text) p 0 (at_rest raymond_core p tree)
 
--- why a text is refused. Want of memory is no reason: nothing is refused for it
+-- why a text is refused. That memory ran out is no reason: nothing is refused for it
 abbrev pub fault_of : PlanFault → Option Fault
 fault_of plan_fault.Memory = None
 fault_of fault = Some (BadText fault)

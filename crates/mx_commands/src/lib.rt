@@ -16,3 +16,6 @@ mod verdicts;
 pub use commanding::command;
 pub use output::{Output, PutFault};
 pub use source::{Source, SourceFault, Table};
+
+#[cfg(test)]
+mod tests;

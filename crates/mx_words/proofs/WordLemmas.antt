@@ -71,7 +71,7 @@ no_task : (kinds : Kinds) (k : ErrorKind) (o : Option Task) → IsAmong k kinds 
 no_task [] k o among s = absurd among
 no_task (x ∷ xs) k o among s = let bad : false ≡ true = s in cc
 
--- words that ask for something are refused for want of memory alone
+-- words that ask for something are refused only where memory runs out
 pub no_task_among : (words : List Text) (k : ErrorKind) → IsAmong k (fault_of mx_app words) → IsSome (task_asked words) → ⊥
 unfolding task_asked
 no_task_among words k among s = no_task (fault_of mx_app words) k (task_in (subcommand_of mx_app words)) among s
