@@ -37,14 +37,14 @@ pub record Says (d : Data) (h : Head) : Type 0 where
   pub origin : origin_of (get (codes "origin") d) ≡ Ok h.origin
 
 drafted : Head → PlannedShape → Draft
-drafted h planned =
-    record { nodes = h.nodes; registers = h.registers; sections = h.sections; origin = h.origin; planned = planned }
+drafted h shape_planned =
+    record { nodes = h.nodes; registers = h.registers; sections = h.sections; origin = h.origin; shape_planned = shape_planned }
 
 planned_from : Head → Data → Result PlannedShape PlanFault
 planned_from h d = planned_of h.algorithm h.nodes d
 
 -- then the shape decides
-shape_decides : (d : Data) (h : Head) → Says d h → draft_of d ≡ and_then (planned_from h d) (λ planned. Ok (drafted h planned))
+shape_decides : (d : Data) (h : Head) → Says d h → draft_of d ≡ and_then (planned_from h d) (λ shape_planned. Ok (drafted h shape_planned))
 unfolding drafted planned_from
 shape_decides d h says =
     rw (
@@ -58,14 +58,14 @@ shape_decides d h says =
     refl
 
 refused : (h : Head) (w : Result PlannedShape PlanFault) (e : PlanFault)
-    → IsShapeOutcome (length h.nodes) w (Err e) → IsOutcome (and_then w (λ planned. Ok (drafted h planned))) (Err e)
+    → IsShapeOutcome (length h.nodes) w (Err e) → IsOutcome (and_then w (λ shape_planned. Ok (drafted h shape_planned))) (Err e)
 unfolding drafted
-refused h (Ok planned) (BadShape fault) is = is
-refused h (Ok planned) NotJson is = absurd is
-refused h (Ok planned) (NotPlan p) is = absurd is
-refused h (Ok planned) (DoubleName p) is = absurd is
-refused h (Ok planned) (UnknownName p) is = absurd is
-refused h (Ok planned) Memory is = absurd is
+refused h (Ok shape_planned) (BadShape fault) is = is
+refused h (Ok shape_planned) NotJson is = absurd is
+refused h (Ok shape_planned) (NotPlan p) is = absurd is
+refused h (Ok shape_planned) (DoubleName p) is = absurd is
+refused h (Ok shape_planned) (UnknownName p) is = absurd is
+refused h (Ok shape_planned) Memory is = absurd is
 refused h (Err wanted) e is = is
 
 pub shape_refused : (d : Data) (h : Head) (e : PlanFault) → Says d h
@@ -81,9 +81,9 @@ plan_of h shape =
     record { nodes = h.nodes; registers = h.registers; sections = h.sections; origin = h.origin; shape = shape }
 
 given : (h : Head) (w : Result PlannedShape PlanFault) (shape : Shape)
-    → IsShapeOutcome (length h.nodes) w (Ok shape) → IsOutcome (and_then w (λ planned. Ok (drafted h planned))) (Ok (plan_of h shape))
+    → IsShapeOutcome (length h.nodes) w (Ok shape) → IsOutcome (and_then w (λ shape_planned. Ok (drafted h shape_planned))) (Ok (plan_of h shape))
 unfolding drafted
-given h (Ok planned) shape is = record { nodes = refl; registers = refl; sections = refl; origin = refl; shape = is.0 }
+given h (Ok shape_planned) shape is = record { nodes = refl; registers = refl; sections = refl; origin = refl; shape = is.0 }
 given h (Err wanted) shape is = absurd is
 
 pub shape_given : (d : Data) (h : Head) (shape : Shape) → Says d h
@@ -95,6 +95,6 @@ shape_given d h shape says (inr is) = let bad : ⊥ = cc in absurd bad
 
 -- a shape that is given is a shape of the nodes
 pub shape_valid : (n : ℕ) (w : Result PlannedShape PlanFault) (shape : Shape) → ShapeAnswers n w (Ok shape) → IsShape n shape
-shape_valid n (Ok planned) shape (inl is) = is.1
+shape_valid n (Ok shape_planned) shape (inl is) = is.1
 shape_valid n (Err wanted) shape (inl is) = absurd is
 shape_valid n w shape (inr is) = let bad : ⊥ = cc in absurd bad

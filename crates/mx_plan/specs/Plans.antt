@@ -65,7 +65,7 @@ pub record Draft : Type 0 where
   pub registers : List Text
   pub sections : ℕ
   pub origin : ℕ
-  pub planned : PlannedShape
+  pub shape_planned : PlannedShape
 
 -- what a value asks for: the first place that fails decides
 abbrev pub draft_of : Data → Result Draft PlanFault
@@ -77,7 +77,7 @@ draft_of d =
     (λ registers. and_then (in_range place.Sections (number_of (get (codes "sections") d)))
     (λ sections. and_then (origin_of (get (codes "origin") d))
     (λ origin. and_then (planned_of algorithm nodes d)
-    (λ planned. Ok (record { nodes = nodes; registers = registers; sections = sections; origin = origin; planned = planned })))))))
+    (λ shape_planned. Ok (record { nodes = nodes; registers = registers; sections = sections; origin = origin; shape_planned = shape_planned })))))))
 
 -- what a text asks for
 abbrev pub draft_at : List ℕ → Result Draft PlanFault
@@ -89,22 +89,22 @@ pub record IsPlanOf (draft : Draft) (p : Fields) : Type 0 where
   pub registers : p.registers ≡ draft.registers
   pub sections : p.sections ≡ draft.sections
   pub origin : p.origin ≡ draft.origin
-  pub shape : IsShapeOf (length draft.nodes) draft.planned p.shape
+  pub shape : IsShapeOf (length draft.nodes) draft.shape_planned p.shape
 
 -- what comes of a text: the plan that it asks for; where it asks for none, why; where its nodes have no
 -- such shape, the first rule that is broken
 abbrev pub IsOutcome : Result Draft PlanFault → Result Fields PlanFault → Type 0
 IsOutcome (Ok draft) (Ok plan) = IsPlanOf draft plan
-IsOutcome (Ok draft) (Err (BadShape fault)) = IsRefusalOf (length draft.nodes) draft.planned fault
+IsOutcome (Ok draft) (Err (BadShape fault)) = IsRefusalOf (length draft.nodes) draft.shape_planned fault
 IsOutcome (Ok draft) (Err _) = ⊥
 IsOutcome (Err wanted) (Ok plan) = ⊥
 IsOutcome (Err wanted) (Err fault) = fault ≡ wanted
 
 -- what comes of a shape that is asked for, in the same way; it is a shape of n nodes
 abbrev pub IsShapeOutcome : ℕ → Result PlannedShape PlanFault → Result Shape PlanFault → Type 0
-IsShapeOutcome n (Ok planned) (Ok shape) = IsShapeOf n planned shape × IsShape n shape
-IsShapeOutcome n (Ok planned) (Err (BadShape fault)) = IsRefusalOf n planned fault
-IsShapeOutcome n (Ok planned) (Err _) = ⊥
+IsShapeOutcome n (Ok shape_planned) (Ok shape) = IsShapeOf n shape_planned shape × IsShape n shape
+IsShapeOutcome n (Ok shape_planned) (Err (BadShape fault)) = IsRefusalOf n shape_planned fault
+IsShapeOutcome n (Ok shape_planned) (Err _) = ⊥
 IsShapeOutcome n (Err wanted) (Ok shape) = ⊥
 IsShapeOutcome n (Err wanted) (Err fault) = fault ≡ wanted
 

@@ -37,4 +37,4 @@ IsRefusalOf n _ _ = ⊥
 
 -- the shape that was asked for, which is a shape of n nodes; or why there is none
 abbrev pub IsShaped : ℕ → PlannedShape → Result Shape ShapeFault → Type 0
-IsShaped n planned r = MatchResult r (λ shape. IsShapeOf n planned shape × IsShape n shape) (λ fault. IsRefusalOf n planned fault)
+IsShaped n shape_planned r = MatchResult r (λ shape. IsShapeOf n shape_planned shape × IsShape n shape) (λ fault. IsRefusalOf n shape_planned fault)

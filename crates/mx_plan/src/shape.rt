@@ -3,7 +3,7 @@
 ghost use Rattle.std.specs.Prelude.{◌≡◌, ◌*◌, ◌<◌, ◌≤◌, length};
 ghost use Rattle.mx_quorums.specs.Lists.{lists_of};
 ghost use Rattle.mx_plan.specs.Shapes.{IsShaped};
-ghost use Rattle.mx_plan.specs.Shapes as planned;
+ghost use Rattle.mx_plan.specs.Shapes as shape_planned;
 
 use crate::faults::ShapeFault;
 use mx_quorums::Quorums;
@@ -33,7 +33,7 @@ impl Shape {
 
     /// The plane of n nodes.
     pub(crate) fn plane(n: u8) -> Result<Shape, ShapeFault>
-        ensures { IsShaped n planned.plane result }
+        ensures { IsShaped n shape_planned.plane result }
     {
         Ok(Shape::Maekawa(Quorums::plane(n)?))
     }
@@ -43,7 +43,7 @@ impl Shape {
         requires some { 0 < n }
         requires few { n ≤ 21 }
         requires size { rows * cols ≡ n }
-        ensures { IsShaped n (planned.grid rows cols) result }
+        ensures { IsShaped n (shape_planned.grid rows cols) result }
     {
         Ok(Shape::Maekawa(Quorums::grid(rows, cols)?))
     }
@@ -51,14 +51,14 @@ impl Shape {
     /// The family of these sets, one for each of n nodes.
     pub(crate) fn listed(n: u8, sets: &[Vec<u8>]) -> Result<Shape, ShapeFault>
         requires { length sets.now ≡ n }
-        ensures { IsShaped n (planned.listed (lists_of sets.now)) result }
+        ensures { IsShaped n (shape_planned.listed (lists_of sets.now)) result }
     {
         Ok(Shape::Maekawa(Quorums::listed(sets)?))
     }
 
     /// The tree of n nodes with these edges and this holder.
     pub(crate) fn tree(n: u8, edges: &[(u8, u8)], holder: u8) -> Result<Shape, ShapeFault>
-        ensures { IsShaped n (planned.tree edges.now holder) result }
+        ensures { IsShaped n (shape_planned.tree edges.now holder) result }
     {
         Ok(Shape::Raymond(Tree::of(n, edges, holder)?))
     }
