@@ -1,0 +1,9 @@
+//! Stations: each node in a value of its own, which a thread may own. The stations of one cluster
+//! share a table of atomic words; what a station does to its node is one step on one word.
+#![tactic(auto)]
+
+mod entry;
+mod rule;
+
+pub use entry::{Entry, Stage};
+pub use rule::{HandOn, Law, Setup, Slot, View};
