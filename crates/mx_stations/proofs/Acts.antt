@@ -105,14 +105,14 @@ module _ {H S M : Type 0} (core : Core H S M) (IsShape : H → Type 0) (Good : W
       )
 
   -- the same of a seat whose view is known to have one node
-  pub acts_at : (n key slots id : ℕ) (me : Me (Option (Parcel M)) (List (Node S M))) (node new : ℕ) (y : MemberState S) (out : List (ℕ × Parcel M)) (hand : Option (ℕ × Parcel M)) (receipts : List Receipt) (after : List (Node S M)) (count : ℕ)
-      → key ≡ n → count ≡ n → me.1 ≡ [] → ((e : Node S M) × (me.0 ≡ e ∷ []) × (e.node ≡ node)) → DidAct core n me.0 y out hand receipts → new ≡ word_of core y → after ≡ acted_view me.0 y out hand receipts
-      → Allows (Holds core Good key) slots id me node (λ _. new) (λ _ m. (m ≡ (after, me.1)) × GoToNodes count after)
-  acts_at n key slots id me node new y out hand receipts after count is_key is_count alone at did shows next =
+  pub acts_at : (n key slots id : ℕ) (me : Me (Option (Parcel M)) (List (Node S M))) (node word new : ℕ) (y : MemberState S) (out : List (ℕ × Parcel M)) (hand : Option (ℕ × Parcel M)) (receipts : List Receipt) (after : List (Node S M)) (count : ℕ)
+      → key ≡ n → count ≡ n → me.1 ≡ [] → ((e : Node S M) × (me.0 ≡ e ∷ []) × (e.node ≡ node)) → DidAct core n me.0 y out hand receipts → new ≡ word_of core y → after ≡ acted_view me.0 y out hand receipts → word ≡ node
+      → Allows (Holds core Good key) slots id me word (λ _. new) (λ _ m. (m ≡ (after, me.1)) × GoToNodes count after)
+  acts_at n key slots id me node word new y out hand receipts after count is_key is_count alone at did shows next is_word =
       let e : Node S M = did.node in
       let is : me ≡ (e ∷ [], []) = λ i. (did.alone i, alone i) in
       let one : at.0 ≡ e = only_one at.0 e (sym at.1 ∙ did.alone) in
-      let where_is : e.node ≡ node = ap (λ (z : Node S M). z.node) (sym one) ∙ at.2 in
+      let where_is : e.node ≡ word = ap (λ (z : Node S M). z.node) (sym one) ∙ at.2 ∙ sym is_word in
       let made : Node S M = acted e y out hand receipts in
       let made_is : made ≡ acted e (act_of core did.act e.member).state (act_of core did.act e.member).letters hand (owned_after core did.act (owned_of e)).receipts =
           λ i. acted e (did.state i) (did.letters i) hand (did.closes i) in
@@ -121,8 +121,8 @@ module _ {H S M : Type 0} (core : Core H S M) (IsShape : H → Type 0) (Good : W
       let step1 = subst (λ (v : List (Node S M)). Allows (Holds core Good n) slots id (e ∷ [], []) e.node (λ _. word_of core y) (λ _ m. (m ≡ (v, [])) × GoToNodes n v)) view to in
       let step2 = subst (λ (k : ℕ). Allows (Holds core Good n) slots id (e ∷ [], []) e.node (λ _. k) (λ _ m. (m ≡ (after, [])) × GoToNodes n after)) (sym shows) step1 in
       let step3 = subst (λ (k : ℕ). Allows (Holds core Good n) slots id (e ∷ [], []) k (λ _. new) (λ _ m. (m ≡ (after, [])) × GoToNodes n after)) where_is step2 in
-      let step4 = subst (λ (z : Me (Option (Parcel M)) (List (Node S M))). Allows (Holds core Good n) slots id z node (λ _. new) (λ _ m. (m ≡ (after, z.1)) × GoToNodes n after)) (sym is) step3 in
-      subst (λ (z : ℕ × ℕ). Allows (Holds core Good z.0) slots id me node (λ _. new) (λ _ m. (m ≡ (after, me.1)) × GoToNodes z.1 after)) (λ i. (sym is_key i, sym is_count i)) step4
+      let step4 = subst (λ (z : Me (Option (Parcel M)) (List (Node S M))). Allows (Holds core Good n) slots id z word (λ _. new) (λ _ m. (m ≡ (after, z.1)) × GoToNodes n after)) (sym is) step3 in
+      subst (λ (z : ℕ × ℕ). Allows (Holds core Good z.0) slots id me word (λ _. new) (λ _ m. (m ≡ (after, me.1)) × GoToNodes z.1 after)) (λ i. (sym is_key i, sym is_count i)) step4
 
 module _ {H S M : Type 0} (core : Core H S M) (Good : World S M → Type 0) where
   -- a look at a word: what is in hand can be taken

@@ -92,6 +92,10 @@ some_is a b e = some-injective a b (ap to_maybe e)
 pub held_one : {S : Type 0} (l : List (ℕ × S)) (x : ℕ × S) → l ≡ x ∷ [] → l ≡ x ∷ rest l
 held_one l x is = is ∙ ap (λ z. x ∷ z) (sym (ap rest is))
 
+-- the seat holds the slot k
+pub held_at : {S : Type 0} (l : List (ℕ × S)) (k j : ℕ) (x : S) → l ≡ (j, x) ∷ [] → k ≡ j → l ≡ (k, x) ∷ rest l
+held_at l k j x is same = held_one l (k, x) (is ∙ (λ i. (sym same i, x) ∷ []))
+
 -- the slot k does not see that the node is at this stage
 abbrev Quiet : ℕ → Stage → Type 0
 Quiet k st = (Writes k st → ⊥) × (Reads k st → ⊥)
@@ -339,39 +343,40 @@ module _ {H S M : Type 0} (core : Core H S M) (Good : World S M → Type 0) wher
       )
 
   -- the same at a seat whose view is known
-  pub claims_at : (n key slots id : ℕ) (me : Me (Option (Parcel M)) (List (Node S M))) (node b slot : ℕ) → key ≡ n → IsIdle me node → b < n → slot ≡ node * n + b
-      → Allows (Rule key) slots id me (n + (node * n + b)) (λ m. either (eqb m 0) 1 m) (Claimed slot me)
-  claims_at n key slots id me node b slot is_key idle bn is_slot =
+  pub claims_at : (n key slots id : ℕ) (me : Me (Option (Parcel M)) (List (Node S M))) (node b slot k : ℕ) → key ≡ n → IsIdle me node → b < n → slot ≡ node * n + b → k ≡ node * n + b
+      → Allows (Rule key) slots id me (n + k) (λ m. either (eqb m 0) 1 m) (Claimed slot me)
+  claims_at n key slots id me node b slot k is_key idle bn is_slot is_k =
       let e : Node S M = idle.0 in
       let slot_is : e.node * n + b ≡ slot = ap (λ (z : ℕ). z * n + b) idle.2 ∙ sym is_slot in
-      subst (λ (z : ℕ × Me (Option (Parcel M)) (List (Node S M)) × ℕ × ℕ). Allows (Rule z.0) slots id z.1 (n + (z.2 * n + b)) (λ m. either (eqb m 0) 1 m) (Claimed z.3 z.1)) (λ i. (sym is_key i, sym idle.1 i, idle.2 i, slot_is i))
+      subst (λ (z : ℕ × Me (Option (Parcel M)) (List (Node S M)) × ℕ × ℕ). Allows (Rule z.0) slots id z.1 (n + z.2) (λ m. either (eqb m 0) 1 m) (Claimed z.3 z.1)) (λ i. (sym is_key i, sym idle.1 i, (slot_is ∙ is_slot ∙ sym is_k) i, slot_is i))
       (claims n slots id b e bn idle.3)
 
-  pub places_at : (n key slots id : ℕ) (me me0 : Me (Option (Parcel M)) (List (Node S M))) (node b : ℕ) (p : Parcel M) (after : List (Node S M)) → key ≡ n → b < n → IsFilling me0 (node * n + b) node b p
-      → me ≡ (me0.0, (node * n + b, Some p) ∷ rest me0.1) → after ≡ placed_view (node * n + b) p me0.0
-      → Allows (Rule key) slots id me (n + (node * n + b)) (λ _. 2) (λ _ m. m ≡ (after, rest me.1))
-  places_at n key slots id me me0 node b p after is_key bn fill is next =
+  pub places_at : (n key slots id : ℕ) (me me0 : Me (Option (Parcel M)) (List (Node S M))) (node b k : ℕ) (p : Parcel M) (after : List (Node S M)) → key ≡ n → b < n → IsFilling me0 (node * n + b) node b p
+      → me ≡ (me0.0, (k, Some p) ∷ rest me0.1) → k ≡ node * n + b → after ≡ placed_view (node * n + b) p me0.0
+      → Allows (Rule key) slots id me (n + k) (λ _. 2) (λ _ m. m ≡ (after, rest me.1))
+  places_at n key slots id me me0 node b k p after is_key bn fill found is_k next =
       let e : Node S M = fill.0 in
+      let is : me ≡ (me0.0, (node * n + b, Some p) ∷ rest me0.1) = found ∙ (λ i. (me0.0, (is_k i, Some p) ∷ rest me0.1)) in
       let k_is : e.node * n + b ≡ node * n + b = ap (λ (z : ℕ). z * n + b) fill.2 in
       let me_is : me ≡ (e ∷ [], (node * n + b, Some p) ∷ []) = is ∙ ap (λ (z : Me (Option (Parcel M)) (List (Node S M))). (z.0, (node * n + b, Some p) ∷ rest z.1)) fill.1 in
       let after_is : after ≡ placing (node * n + b) p e ∷ [] = next ∙ ap (λ (z : Me (Option (Parcel M)) (List (Node S M))). placed_view (node * n + b) p z.0) fill.1 in
       let base = places n slots id b e p bn (subst (λ (z : ℕ). e.stage ≡ Writing z) (sym k_is) fill.3) fill.4 in
       let at_k = subst (λ (k : ℕ). Allows (Rule n) slots id (e ∷ [], (k, Some p) ∷ []) (n + k) (λ _. 2) (λ _ m. m ≡ (placing k p e ∷ [], []))) k_is base in
       let at_after = subst (λ (v : List (Node S M)). Allows (Rule n) slots id (e ∷ [], (node * n + b, Some p) ∷ []) (n + (node * n + b)) (λ _. 2) (λ _ m. m ≡ (v, []))) (sym after_is) at_k in
-      subst (λ (z : ℕ × Me (Option (Parcel M)) (List (Node S M))). Allows (Rule z.0) slots id z.1 (n + (node * n + b)) (λ _. 2) (λ _ m. m ≡ (after, rest z.1.1))) (λ i. (sym is_key i, sym me_is i)) at_after
+      subst (λ (z : ℕ × Me (Option (Parcel M)) (List (Node S M)) × ℕ). Allows (Rule z.0) slots id z.1 (n + z.2) (λ _. 2) (λ _ m. m ≡ (after, rest z.1.1))) (λ i. (sym is_key i, sym me_is i, sym is_k i)) at_after
 
-  pub grabs_at : (n key slots id : ℕ) (me : Me (Option (Parcel M)) (List (Node S M))) (node a slot from : ℕ) → key ≡ n → IsIdle me node → a < n → slot ≡ a * n + node → from ≡ a
-      → Allows (Rule key) slots id me (n + (a * n + node)) (λ m. either (eqb m 2) 3 m) (Taken slot from me)
-  grabs_at n key slots id me node a slot from is_key idle an is_slot is_from =
+  pub grabs_at : (n key slots id : ℕ) (me : Me (Option (Parcel M)) (List (Node S M))) (node a slot from k : ℕ) → key ≡ n → IsIdle me node → a < n → slot ≡ a * n + node → from ≡ a → k ≡ a * n + node
+      → Allows (Rule key) slots id me (n + k) (λ m. either (eqb m 2) 3 m) (Taken slot from me)
+  grabs_at n key slots id me node a slot from k is_key idle an is_slot is_from is_k =
       let e : Node S M = idle.0 in
       let slot_is : a * n + e.node ≡ slot = ap (λ (z : ℕ). a * n + z) idle.2 ∙ sym is_slot in
-      subst (λ (z : ℕ × Me (Option (Parcel M)) (List (Node S M)) × ℕ × ℕ × ℕ). Allows (Rule z.0) slots id z.1 (n + (a * n + z.2)) (λ m. either (eqb m 2) 3 m) (Taken z.3 z.4 z.1)) (λ i. (sym is_key i, sym idle.1 i, idle.2 i, slot_is i, sym is_from i))
+      subst (λ (z : ℕ × Me (Option (Parcel M)) (List (Node S M)) × ℕ × ℕ × ℕ). Allows (Rule z.0) slots id z.1 (n + z.2) (λ m. either (eqb m 2) 3 m) (Taken z.3 z.4 z.1)) (λ i. (sym is_key i, sym idle.1 i, (slot_is ∙ is_slot ∙ sym is_k) i, slot_is i, sym is_from i))
       (grabs n slots id a e an idle.3)
 
-  pub releases_at : (n key slots id : ℕ) (me : Me (Option (Parcel M)) (List (Node S M))) (node a : ℕ) (hand : Option (ℕ × Parcel M)) (after : List (Node S M)) → key ≡ n → a < n → IsHolding me (a * n + node) node None
-      → KeepsHand me.0 hand → after ≡ released_view hand me.0
-      → Allows (Rule key) slots id me (n + (a * n + node)) (λ _. 0) (λ _ m. m ≡ (after, rest me.1))
-  releases_at n key slots id me node a hand after is_key an hold kept next =
+  pub releases_at : (n key slots id : ℕ) (me : Me (Option (Parcel M)) (List (Node S M))) (node a j : ℕ) (hand : Option (ℕ × Parcel M)) (after : List (Node S M)) → key ≡ n → a < n → IsHolding me (a * n + node) node None
+      → KeepsHand me.0 hand → j ≡ a * n + node → after ≡ released_view hand me.0
+      → Allows (Rule key) slots id me (n + j) (λ _. 0) (λ _ m. m ≡ (after, rest me.1))
+  releases_at n key slots id me node a j hand after is_key an hold kept is_j next =
       let e : Node S M = hold.0 in
       let k : ℕ = a * n + node in
       let k_is : a * n + e.node ≡ k = ap (λ (z : ℕ). a * n + z) hold.2 in
@@ -379,4 +384,4 @@ module _ {H S M : Type 0} (core : Core H S M) (Good : World S M → Type 0) wher
       let base = releases n slots id a e hand an (subst (λ (z : ℕ). e.stage ≡ Reading z) (sym k_is) hold.3) (kept e (ap (λ (z : Me (Option (Parcel M)) (List (Node S M))). z.0) hold.1)) in
       let at_k = subst (λ (k : ℕ). Allows (Rule n) slots id (e ∷ [], (k, None) ∷ []) (n + k) (λ _. 0) (λ _ m. m ≡ (releasing hand e ∷ [], []))) k_is base in
       let at_after = subst (λ (v : List (Node S M)). Allows (Rule n) slots id (e ∷ [], (k, None) ∷ []) (n + k) (λ _. 0) (λ _ m. m ≡ (v, []))) (sym after_is) at_k in
-      subst (λ (z : ℕ × Me (Option (Parcel M)) (List (Node S M))). Allows (Rule z.0) slots id z.1 (n + k) (λ _. 0) (λ _ m. m ≡ (after, rest z.1.1))) (λ i. (sym is_key i, sym hold.1 i)) at_after
+      subst (λ (z : ℕ × Me (Option (Parcel M)) (List (Node S M)) × ℕ). Allows (Rule z.0) slots id z.1 (n + z.2) (λ _. 0) (λ _ m. m ≡ (after, rest z.1.1))) (λ i. (sym is_key i, sym hold.1 i, sym is_j i)) at_after

@@ -3,7 +3,12 @@
 #![tactic(auto)]
 
 mod entry;
+mod field;
+mod next;
 mod rule;
+mod slots;
 
 pub use entry::{Entry, Stage};
+pub use field::{Field, Place};
+pub use next::{Becomes, Gives, Looks, Next, OfSlot, TriesToClaim, TriesToTake};
 pub use rule::{HandOn, Law, Setup, Slot, View};

@@ -1,0 +1,85 @@
+//! What each step tells the seat that makes it. A `Play` can't read the table's key, so what a step
+//! leaves, and of which slot it is, are picked by the call.
+
+ghost use Rattle.std.specs.Prelude.{◌≡◌, ℕ, List, []};
+ghost use Rattle.atomic_table.specs.Table.{rest};
+ghost use Rattle.mx_stations.specs.Running.{GoToNodes, HandFits};
+ghost use Rattle.mx_stations.specs.Slides.{Claimed, Taken};
+
+use crate::entry::Entry;
+use crate::rule::{Slot, View};
+use atomic_table::Play;
+use mx_nodelaws::Exclusion;
+use std::collections::LinkedList;
+use std::marker::{Brand, PhantomData};
+
+/// The view that a step leaves, and how many nodes there are.
+pub trait Next<E> {
+    ghost after: { List E };
+
+    ghost count: { ℕ };
+}
+
+impl<E> Next<E> for Brand {
+    ghost after = { [] };
+
+    ghost count = { 0 };
+}
+
+/// An act: what the node sent goes to nodes.
+pub struct Becomes<N> {
+    of: PhantomData<N>,
+}
+
+impl<T, P, N: Next<Entry<T, P>>> Play<Option<P>, LinkedList<Entry<T, P>>> for Becomes<N> {
+    ghost then = { λ step before found now. (now ≡ (N.after, before.1)) × GoToNodes N.count N.after };
+}
+
+/// A look: what is in hand can be taken.
+pub struct Looks<C> {
+    of: PhantomData<C>,
+}
+
+impl<C: Exclusion> Play<Slot<C>, View<C>> for Looks<C> {
+    ghost then = { λ step before found now. (now ≡ before) × HandFits now.0 };
+}
+
+/// A slot, and who fills it.
+pub trait OfSlot {
+    ghost slot: { ℕ };
+
+    ghost from: { ℕ };
+}
+
+impl OfSlot for Brand {
+    ghost slot = { 0 };
+
+    ghost from = { 0 };
+}
+
+/// A try to claim a slot.
+pub struct TriesToClaim<N> {
+    of: PhantomData<N>,
+}
+
+impl<T, P, N: OfSlot> Play<Option<P>, LinkedList<Entry<T, P>>> for TriesToClaim<N> {
+    ghost then = { λ step before found now. Claimed N.slot before found now };
+}
+
+/// A try to take a slot.
+pub struct TriesToTake<N> {
+    of: PhantomData<N>,
+}
+
+impl<T, P, N: OfSlot> Play<Option<P>, LinkedList<Entry<T, P>>> for TriesToTake<N> {
+    ghost then = { λ step before found now. Taken N.slot N.from before found now };
+}
+
+/// The seat gives its slot back.
+pub struct Gives<N> {
+    of: PhantomData<N>,
+}
+
+impl<S, E, N: Next<E>> Play<S, LinkedList<E>> for Gives<N> {
+    ghost then = { λ step before found now. now ≡ (N.after, rest before.1) };
+}
