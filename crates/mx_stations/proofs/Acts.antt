@@ -20,8 +20,8 @@ use Rattle.mx_member.specs.Running.{IsNode, IsRunning, Owned, members_of, owned_
 use Rattle.mx_member.proofs.CorePart.{map_set}
 use Rattle.mx_member.proofs.Running.{members_count, running_kept}
 use Rattle.mx_member.proofs.RunningTells.{node_can_take}
-use Rattle.mx_stations.specs.declared.entry.Entry.{Entry}
-use Rattle.mx_stations.specs.Running.{DidAct, GoToNodes, HandFits, Holds, Keeps, MayDo, Node, Shown, Stands, acted, acted_view, owned_of, sent_of, word_of}
+use Rattle.mx_stations.specs.Entries.{Entry, Node, owned_of}
+use Rattle.mx_stations.specs.Running.{DidAct, GoToNodes, HandFits, Holds, Keeps, MayDo, Shown, Stands, acted, acted_view, sent_of, word_of}
 use Rattle.mx_stations.proofs.Places.{as_slice_at, grows, in_one, moves, only_one, sent_in_world, set_same, within}
 use Rattle.mx_stations.specs.Links.{Links}
 use Rattle.mx_stations.proofs.Pairs as Pairs
@@ -80,7 +80,7 @@ module _ {H S M : Type 0} (core : Core H S M) (IsShape : H → Type 0) (Good : W
   -- the store to the word of a node that did one act
   acts : (n slots id : ℕ) (e : Node S M) (a : Act M) (hand : Option (ℕ × Parcel M)) → MayDo n e.hand a → Keeps e.hand hand
       → (made : Node S M) → made ≡ acted e (act_of core a e.member).state (act_of core a e.member).letters hand (owned_after core a (owned_of e)).receipts
-      → Allows (Holds core Good n) slots id (e ∷ [], []) e.node (λ _. word_of core made.member) (λ _ m. (m ≡ (made ∷ [], [])) × GoToNodes n (made ∷ []))
+      → Allows (Holds core Good n) slots id (e ∷ [], []) e.node (λ _. word_of core made.member) (λ _ m. (m ≡ (made ∷ [], [])) × GoToNodes n m.0)
   acts n slots id e a hand may kept made is s h homes at small =
       let here = (h.stands.known id (e ∷ []) e at (inl refl)).0 in
       let shown = subst (λ (z : Node S M). Shown core Good (set s.words e.node (word_of core z.member)) (set h.world e.node z)) (sym is) (shown_after n s.words h.world e a hand h.shown h.stands.long here may kept) in
@@ -107,7 +107,7 @@ module _ {H S M : Type 0} (core : Core H S M) (IsShape : H → Type 0) (Good : W
   -- the same of a seat whose view is known to have one node
   pub acts_at : (n key slots id : ℕ) (me : Me (Option (Parcel M)) (List (Node S M))) (node word new : ℕ) (y : MemberState S) (out : List (ℕ × Parcel M)) (hand : Option (ℕ × Parcel M)) (receipts : List Receipt) (after : List (Node S M)) (count : ℕ)
       → key ≡ n → count ≡ n → me.1 ≡ [] → ((e : Node S M) × (me.0 ≡ e ∷ []) × (e.node ≡ node)) → DidAct core n me.0 y out hand receipts → new ≡ word_of core y → after ≡ acted_view me.0 y out hand receipts → word ≡ node
-      → Allows (Holds core Good key) slots id me word (λ _. new) (λ _ m. (m ≡ (after, me.1)) × GoToNodes count after)
+      → Allows (Holds core Good key) slots id me word (λ _. new) (λ _ m. (m ≡ (after, me.1)) × GoToNodes count m.0)
   acts_at n key slots id me node word new y out hand receipts after count is_key is_count alone at did shows next is_word =
       let e : Node S M = did.node in
       let is : me ≡ (e ∷ [], []) = λ i. (did.alone i, alone i) in
@@ -118,11 +118,11 @@ module _ {H S M : Type 0} (core : Core H S M) (IsShape : H → Type 0) (Good : W
           λ i. acted e (did.state i) (did.letters i) hand (did.closes i) in
       let view : made ∷ [] ≡ after = sym (next ∙ ap (λ v. acted_view v y out hand receipts) did.alone) in
       let to = acts n slots id e did.act hand did.may did.kept made made_is in
-      let step1 = subst (λ (v : List (Node S M)). Allows (Holds core Good n) slots id (e ∷ [], []) e.node (λ _. word_of core y) (λ _ m. (m ≡ (v, [])) × GoToNodes n v)) view to in
-      let step2 = subst (λ (k : ℕ). Allows (Holds core Good n) slots id (e ∷ [], []) e.node (λ _. k) (λ _ m. (m ≡ (after, [])) × GoToNodes n after)) (sym shows) step1 in
-      let step3 = subst (λ (k : ℕ). Allows (Holds core Good n) slots id (e ∷ [], []) k (λ _. new) (λ _ m. (m ≡ (after, [])) × GoToNodes n after)) where_is step2 in
-      let step4 = subst (λ (z : Me (Option (Parcel M)) (List (Node S M))). Allows (Holds core Good n) slots id z word (λ _. new) (λ _ m. (m ≡ (after, z.1)) × GoToNodes n after)) (sym is) step3 in
-      subst (λ (z : ℕ × ℕ). Allows (Holds core Good z.0) slots id me word (λ _. new) (λ _ m. (m ≡ (after, me.1)) × GoToNodes z.1 after)) (λ i. (sym is_key i, sym is_count i)) step4
+      let step1 = subst (λ (v : List (Node S M)). Allows (Holds core Good n) slots id (e ∷ [], []) e.node (λ _. word_of core y) (λ _ m. (m ≡ (v, [])) × GoToNodes n m.0)) view to in
+      let step2 = subst (λ (k : ℕ). Allows (Holds core Good n) slots id (e ∷ [], []) e.node (λ _. k) (λ _ m. (m ≡ (after, [])) × GoToNodes n m.0)) (sym shows) step1 in
+      let step3 = subst (λ (k : ℕ). Allows (Holds core Good n) slots id (e ∷ [], []) k (λ _. new) (λ _ m. (m ≡ (after, [])) × GoToNodes n m.0)) where_is step2 in
+      let step4 = subst (λ (z : Me (Option (Parcel M)) (List (Node S M))). Allows (Holds core Good n) slots id z word (λ _. new) (λ _ m. (m ≡ (after, z.1)) × GoToNodes n m.0)) (sym is) step3 in
+      subst (λ (z : ℕ × ℕ). Allows (Holds core Good z.0) slots id me word (λ _. new) (λ _ m. (m ≡ (after, me.1)) × GoToNodes z.1 m.0)) (λ i. (sym is_key i, sym is_count i)) step4
 
 module _ {H S M : Type 0} (core : Core H S M) (Good : World S M → Type 0) where
   -- a look at a word: what is in hand can be taken

@@ -4,3 +4,4 @@ pub mod Seats
 pub mod Acts
 pub mod Slides
 pub mod Opens
+pub mod Waits

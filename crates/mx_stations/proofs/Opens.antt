@@ -16,8 +16,8 @@ use Rattle.mx_member.specs.Member.{MemberState}
 use Rattle.mx_member.specs.Running.{IsRunning, Owned, owned_start}
 use Rattle.mx_member.specs.Steps.{start_of}
 use Rattle.mx_member.proofs.Running.{running_at_start}
-use Rattle.mx_stations.specs.declared.entry.Entry.{Entry}
-use Rattle.mx_stations.specs.Running.{Holds, Node, Once, Stands, all_but_first, all_from, all_of, fresh, only_first, owned_of, sent_of, status, word_of}
+use Rattle.mx_stations.specs.Entries.{Entry, Node, owned_of}
+use Rattle.mx_stations.specs.Running.{Holds, Once, Stands, all_but_first, all_from, all_of, fresh, only_first, sent_of, status, word_of}
 use Rattle.mx_stations.specs.Posts.{Post}
 use Rattle.mx_stations.proofs.Places.{within, one_at}
 use Rattle.mx_stations.proofs.Seats.{at_end}

@@ -8,9 +8,9 @@ use native.Mathlib.Decide.{ℕ_discrete}
 use lib.ListN.{get_elem?}
 use Rattle.atomic_table.proofs.Lists.{at_set, set_here, set_else}
 use Rattle.mx_stamps.specs.Lists.{IsIn}
-use Rattle.mx_stations.specs.declared.entry.Entry.{Entry}
-use Rattle.mx_stations.specs.declared.entry.Stage.{Stage}
-use Rattle.mx_stations.specs.declared.entry.Stage.TheVariants.{Idle, Writing, Reading}
+use Rattle.mx_stations.specs.Entries.{Entry}
+use Rattle.mx_stations.specs.Entries.{Stage}
+use Rattle.mx_stations.specs.Entries.{Idle, Writing, Reading}
 use Rattle.mx_stations.specs.Links.{Phase, free, writing, full, reading, of, Writes, Reads, face, waiting, IsWriting, IsReading, Lies, WasSent, Link, Links}
 use Rattle.mx_stations.proofs.Places.{within, one_at}
 

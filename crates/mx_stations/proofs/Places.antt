@@ -10,7 +10,7 @@ use Rattle.mx_stamps.proofs.Lists.{in_append, in_left, in_right}
 use Rattle.mx_nodelaws.specs.World.{sent_by}
 use Rattle.mx_member.specs.Acts.{Grows}
 use Rattle.mx_member.proofs.CorePart.{in_sent}
-use Rattle.mx_stations.specs.declared.entry.Entry.{Entry}
+use Rattle.mx_stations.specs.Entries.{Entry}
 use Rattle.mx_stations.specs.Running.{Once, Stands, sent_of}
 
 pub set_same : (ns : List ℕ) (i : ℕ) → set ns i (get_or ns i 0) ≡ ns

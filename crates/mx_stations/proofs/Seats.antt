@@ -10,8 +10,8 @@ use Rattle.mx_stamps.specs.Lists.{IsIn}
 use Rattle.mx_stamps.proofs.Lists.{in_append, in_left, in_right}
 use Rattle.mx_nodelaws.specs.World.{World}
 use Rattle.mx_nodelaws.specs.Core.{Core}
-use Rattle.mx_stations.specs.declared.entry.Entry.{Entry}
-use Rattle.mx_stations.specs.Running.{Holds, Node, Once, Stands, all_but_first, only_first}
+use Rattle.mx_stations.specs.Entries.{Entry, Node}
+use Rattle.mx_stations.specs.Running.{Holds, Once, Stands, all_but_first, only_first}
 use Rattle.mx_stations.proofs.Places.{within, one_at, in_one}
 
 module _ {A : Type 0} where

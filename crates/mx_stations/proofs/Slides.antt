@@ -13,11 +13,11 @@ use Rattle.mx_nodelaws.specs.Core.{Core}
 use Rattle.mx_member.specs.declared.parcel.Parcel.{Parcel}
 use Rattle.mx_member.specs.Member.{MemberState}
 use Rattle.mx_member.specs.Running.{IsRunning, Owned}
-use Rattle.mx_stations.specs.declared.entry.Entry.{Entry}
-use Rattle.mx_stations.specs.declared.entry.Stage.{Stage}
-use Rattle.mx_stations.specs.declared.entry.Stage.TheVariants.{Idle, Writing, Reading}
+use Rattle.mx_stations.specs.Entries.{Entry, Node, owned_of}
+use Rattle.mx_stations.specs.Entries.{Stage}
+use Rattle.mx_stations.specs.Entries.{Idle, Writing, Reading}
 use Rattle.mx_stations.specs.Links.{Phase, free, writing, full, reading, of, Writes, Reads, face, waiting, IsWriting, IsReading, Lies, WasSent, Link, Links}
-use Rattle.mx_stations.specs.Running.{Holds, IsIdle, Node, Shown, Stands, owned_of, sent_of, word_of}
+use Rattle.mx_stations.specs.Running.{Holds, IsIdle, Shown, Stands, sent_of, word_of}
 use Rattle.mx_stations.specs.Slides.{claiming, placing, taking, releasing, Claimed, Taken, placed_view, released_view, IsFilling, IsHolding, KeepsHand}
 use Rattle.mx_stations.proofs.Places.{within, one_at, only_one, sent_in_world, moves, set_same}
 use Rattle.mx_stations.proofs.Pairs.{links_step, Keeps, of_more, of_other}

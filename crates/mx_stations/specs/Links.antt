@@ -4,9 +4,9 @@ use mathlib.Core.Option.{some}
 use mathlib.Core.Option as maybe
 use lib.ListN.{get_elem?}
 use Rattle.mx_stamps.specs.Lists.{IsIn}
-use Rattle.mx_stations.specs.declared.entry.Entry.{Entry}
-use Rattle.mx_stations.specs.declared.entry.Stage.{Stage}
-use Rattle.mx_stations.specs.declared.entry.Stage.TheVariants.{Idle, Writing, Reading}
+use Rattle.mx_stations.specs.Entries.{Entry}
+use Rattle.mx_stations.specs.Entries.{Stage}
+use Rattle.mx_stations.specs.Entries.{Idle, Writing, Reading}
 
 pub data Phase (P : Type 0) : Type 0 where
   free : Phase P

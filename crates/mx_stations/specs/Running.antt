@@ -15,11 +15,10 @@ use Rattle.mx_member.specs.declared.parcel.Parcel.{Parcel}
 use Rattle.mx_member.specs.Acts.{act_of}
 use Rattle.mx_member.specs.Member.{MemberState}
 use Rattle.mx_member.specs.Receipts.{closed_by}
-use Rattle.mx_member.specs.Running.{IsRunning, Owned}
+use Rattle.mx_member.specs.Running.{IsRunning}
 use Rattle.mx_member.specs.Steps.{IsTakeable}
-use Rattle.mx_stations.specs.declared.entry.Entry.{Entry}
-use Rattle.mx_stations.specs.declared.entry.Stage.{Stage}
-use Rattle.mx_stations.specs.declared.entry.Stage.TheVariants.{Idle}
+use Rattle.mx_stations.specs.Entries.{Entry, Node, owned_of}
+use Rattle.mx_stations.specs.Entries.{Idle}
 use Rattle.mx_stations.specs.Links.{Links}
 
 -- f k, f (k + 1), .., n of them
@@ -59,13 +58,6 @@ abbrev pub status : Phase → ℕ → ℕ
 status phase.Idle mine = 2 * mine
 status phase.Waiting mine = 2 * mine
 status (phase.Inside n) mine = 2 * mine + 1
-
--- what a seat knows of a node
-abbrev pub Node : Type 0 → Type 0 → Type 0
-Node S M = Entry (MemberState S) (Parcel M)
-
-abbrev pub owned_of : {S M : Type 0} → Node S M → Owned S
-owned_of e = record { member = e.member; receipts = e.receipts }
 
 module _ {H S M : Type 0} (core : Core H S M) where
   abbrev pub word_of : MemberState S → ℕ

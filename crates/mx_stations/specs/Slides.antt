@@ -1,9 +1,9 @@
 -- The steps by which a parcel crosses a slot.
 use Rattle.std.specs.Prelude.{◌≡◌, ◌≢◌, ◌⊎◌, ℕ, ◌+◌, List, [], ◌∷◌, ◌++◌, Option, Some, None}
 use Rattle.atomic_table.specs.Table.{Me, Step, rest}
-use Rattle.mx_stations.specs.declared.entry.Entry.{Entry}
-use Rattle.mx_stations.specs.declared.entry.Stage.{Stage}
-use Rattle.mx_stations.specs.declared.entry.Stage.TheVariants.{Idle, Writing, Reading}
+use Rattle.mx_stations.specs.Entries.{Entry}
+use Rattle.mx_stations.specs.Entries.{Stage}
+use Rattle.mx_stations.specs.Entries.{Idle, Writing, Reading}
 use Rattle.mx_stations.specs.Links.{of}
 use Rattle.mx_stamps.specs.Lists.{IsIn}
 

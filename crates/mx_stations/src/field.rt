@@ -1,9 +1,9 @@
 //! The table that the stations share, and the step of an act.
 
 ghost use Rattle.std.specs.Prelude.{◌≡◌, ◌+◌, ◌*◌, ◌<◌, ◌≤◌, ◌∷◌, []};
-ghost use Rattle.mx_stations.specs.Running.{DidAct, GoToNodes, HandFits, Node, acted_view, word_of};
+ghost use Rattle.mx_stations.specs.Entries.{Node};
+ghost use Rattle.mx_stations.specs.Running.{DidAct, GoToNodes, HandFits, acted_view, word_of};
 
-use crate::entry::Entry;
 use crate::next::{Becomes, Looks, Next};
 use crate::rule::{Law, Setup, Slot, View};
 use atomic_table::{Seat, Table};
@@ -42,7 +42,7 @@ fn status_of<C: Exclusion>(member: &Member<C>) -> u64
 }
 
 /// The one step of an act. The call picks the view that it leaves.
-fn store_as<C: Exclusion, N: Next<Entry<Member<C>, Parcel<C::Msg>>>>(
+fn store_as<C: Exclusion, N: Next<View<C>>>(
     field: &Field<C>,
     seat: &mut Place<C>,
     node: NodeId,
@@ -56,7 +56,7 @@ fn store_as<C: Exclusion, N: Next<Entry<Member<C>, Parcel<C::Msg>>>>(
     requires within { node < field.now.nodes }
     requires node { (e : Node C C.Msg) × (seat.old.me.0 ≡ e ∷ []) × (e.node ≡ node) }
     requires act { DidAct C.core field.now.nodes seat.old.me.0 member.now out.now hand.now receipts.now.items }
-    requires next { N.after ≡ acted_view seat.old.me.0 member.now out.now hand.now receipts.now.items }
+    requires next { N.after seat.old.me.0 ≡ acted_view seat.old.me.0 member.now out.now hand.now receipts.now.items }
     requires count { N.count ≡ field.now.nodes }
     ensures same { (seat.new.table_id ≡ seat.old.table_id) × (seat.new.id ≡ seat.old.id) }
     ensures view { seat.new.me ≡ (acted_view seat.old.me.0 member.now out.now hand.now receipts.now.items, []) }

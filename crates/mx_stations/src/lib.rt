@@ -2,13 +2,11 @@
 //! share a table of atomic words; what a station does to its node is one step on one word.
 #![tactic(auto)]
 
-mod entry;
 mod field;
 mod next;
 mod rule;
 mod slots;
 
-pub use entry::{Entry, Stage};
 pub use field::{Field, Place};
 pub use next::{Becomes, Gives, Looks, Next, OfSlot, TriesToClaim, TriesToTake};
 pub use rule::{HandOn, Law, Setup, Slot, View};

@@ -1,27 +1,25 @@
 //! What each step tells the seat that makes it. A `Play` can't read the table's key, so what a step
 //! leaves, and of which slot it is, are picked by the call.
 
-ghost use Rattle.std.specs.Prelude.{◌≡◌, ℕ, List, []};
+ghost use Rattle.std.specs.Prelude.{◌≡◌, ℕ};
 ghost use Rattle.atomic_table.specs.Table.{rest};
 ghost use Rattle.mx_stations.specs.Running.{GoToNodes, HandFits};
 ghost use Rattle.mx_stations.specs.Slides.{Claimed, Taken};
 
-use crate::entry::Entry;
 use crate::rule::{Slot, View};
 use atomic_table::Play;
 use mx_nodelaws::Exclusion;
-use std::collections::LinkedList;
 use std::marker::{Brand, PhantomData};
 
-/// The view that a step leaves, and how many nodes there are.
-pub trait Next<E> {
-    ghost after: { List E };
+/// What a step makes of a view, and how many nodes there are.
+pub trait Next<V> {
+    ghost after: { V → V };
 
     ghost count: { ℕ };
 }
 
-impl<E> Next<E> for Brand {
-    ghost after = { [] };
+impl<V> Next<V> for Brand {
+    ghost after = { λ v. v };
 
     ghost count = { 0 };
 }
@@ -31,8 +29,8 @@ pub struct Becomes<N> {
     of: PhantomData<N>,
 }
 
-impl<T, P, N: Next<Entry<T, P>>> Play<Option<P>, LinkedList<Entry<T, P>>> for Becomes<N> {
-    ghost then = { λ step before found now. (now ≡ (N.after, before.1)) × GoToNodes N.count N.after };
+impl<C: Exclusion, N: Next<View<C>>> Play<Slot<C>, View<C>> for Becomes<N> {
+    ghost then = { λ step before found now. (now ≡ (N.after before.0, before.1)) × GoToNodes N.count now.0 };
 }
 
 /// A look: what is in hand can be taken.
@@ -62,7 +60,7 @@ pub struct TriesToClaim<N> {
     of: PhantomData<N>,
 }
 
-impl<T, P, N: OfSlot> Play<Option<P>, LinkedList<Entry<T, P>>> for TriesToClaim<N> {
+impl<C: Exclusion, N: OfSlot> Play<Slot<C>, View<C>> for TriesToClaim<N> {
     ghost then = { λ step before found now. Claimed N.slot before found now };
 }
 
@@ -71,7 +69,7 @@ pub struct TriesToTake<N> {
     of: PhantomData<N>,
 }
 
-impl<T, P, N: OfSlot> Play<Option<P>, LinkedList<Entry<T, P>>> for TriesToTake<N> {
+impl<C: Exclusion, N: OfSlot> Play<Slot<C>, View<C>> for TriesToTake<N> {
     ghost then = { λ step before found now. Taken N.slot N.from before found now };
 }
 
@@ -80,6 +78,6 @@ pub struct Gives<N> {
     of: PhantomData<N>,
 }
 
-impl<S, E, N: Next<E>> Play<S, LinkedList<E>> for Gives<N> {
-    ghost then = { λ step before found now. now ≡ (N.after, rest before.1) };
+impl<C: Exclusion, N: Next<View<C>>> Play<Slot<C>, View<C>> for Gives<N> {
+    ghost then = { λ step before found now. now ≡ (N.after before.0, rest before.1) };
 }

@@ -6,10 +6,10 @@ ghost use Rattle.mx_member.specs.declared.parcel.Parcel.{Parcel as OneParcel};
 ghost use Rattle.mx_stations.specs.Running.{IsIdle, Keeps};
 ghost use Rattle.mx_stations.specs.Slides.{Claimed, IsFilling, IsHolding, KeepsHand, Taken, placed_view, released_view};
 
-use crate::entry::Entry;
 use crate::field::{Field, Place};
+use crate::rule::View;
 use crate::next::{Gives, Next, OfSlot, TriesToClaim, TriesToTake};
-use mx_member::{Member, Parcel};
+use mx_member::Parcel;
 use mx_nodelaws::Exclusion;
 use mx_stamps::NodeId;
 use std::marker::Brand;
@@ -50,7 +50,7 @@ pub(crate) fn claim<C: Exclusion>(field: &Field<C>, seat: &mut Place<C>, node: N
 }
 
 /// Puts the parcel into the slot that the seat holds, and gives it back.
-fn place_as<C: Exclusion, N: Next<Entry<Member<C>, Parcel<C::Msg>>>>(
+fn place_as<C: Exclusion, N: Next<View<C>>>(
     field: &Field<C>,
     seat: &mut Place<C>,
     node: NodeId,
@@ -60,7 +60,7 @@ fn place_as<C: Exclusion, N: Next<Entry<Member<C>, Parcel<C::Msg>>>>(
     requires table { seat.old.table_id ≡ field.now.board.shared.table_id }
     requires nodes { (node < field.now.nodes) × (to < field.now.nodes) }
     requires filling { IsFilling seat.old.me (node * field.now.nodes + to) node to parcel }
-    requires next { N.after ≡ placed_view (node * field.now.nodes + to) parcel seat.old.me.0 }
+    requires next { N.after seat.old.me.0 ≡ placed_view (node * field.now.nodes + to) parcel seat.old.me.0 }
     ensures same { (seat.new.table_id ≡ seat.old.table_id) × (seat.new.id ≡ seat.old.id) }
     ensures view { seat.new.me ≡ (placed_view (node * field.now.nodes + to) parcel seat.old.me.0, []) }
 {
@@ -133,7 +133,7 @@ pub(crate) fn lift<C: Exclusion>(
 }
 
 /// Gives the emptied slot back. The parcel stays in hand, or is thrown away.
-fn release_as<C: Exclusion, N: Next<Entry<Member<C>, Parcel<C::Msg>>>>(
+fn release_as<C: Exclusion, N: Next<View<C>>>(
     field: &Field<C>,
     seat: &mut Place<C>,
     node: NodeId,
@@ -144,7 +144,7 @@ fn release_as<C: Exclusion, N: Next<Entry<Member<C>, Parcel<C::Msg>>>>(
     requires nodes { (node < field.now.nodes) × (from < field.now.nodes) }
     requires holding { IsHolding seat.old.me (from * field.now.nodes + node) node None }
     requires hand { KeepsHand seat.old.me.0 hand.now }
-    requires next { N.after ≡ released_view hand.now seat.old.me.0 }
+    requires next { N.after seat.old.me.0 ≡ released_view hand.now seat.old.me.0 }
     ensures same { (seat.new.table_id ≡ seat.old.table_id) × (seat.new.id ≡ seat.old.id) }
     ensures view { seat.new.me ≡ (released_view hand.now seat.old.me.0, []) }
 {

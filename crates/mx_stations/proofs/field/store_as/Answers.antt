@@ -11,5 +11,4 @@ store-requires g c =
 
 pub returns-clause-sent : goal.returns-clause-sent
 returns-clause-sent g c =
-    let t = c.store.ensures.2 in
-    subst (λ v. GoToNodes c.args.field.now.nodes v) (sym (ap (λ m. m.0) t.0)) (subst (λ k. GoToNodes k g.N.Next.after) c.requires.count t.1)
+    subst (λ k. GoToNodes k c.store.new.seat.me.0) c.requires.count c.store.ensures.2.1
