@@ -1,5 +1,5 @@
 -- A new table, and how its first seat hands its nodes on.
-use Rattle.std.proofs.Common.{◌≡◌, ◌≢◌, ◌⊎◌, inl, inr, ⊎_elim, ℕ, zero, suc, ◌+◌, ◌*◌, ◌<◌, ◌≤◌, ◌^◌, List, [], ◌∷◌, ◌++◌, map, length, set, replicate, Option, Some, None, Bool, true, false, refl, sym, ap, ◌∙◌, subst, arith, length-append}
+use Rattle.std.proofs.Common.{◌≡◌, ◌≢◌, ◌⊎◌, inl, inr, ⊎_elim, ℕ, zero, suc, ◌+◌, ◌*◌, ◌<◌, ◌≤◌, ◌^◌, List, [], ◌∷◌, ◌++◌, map, length, set, replicate, drop, slice_index_or, Option, Some, None, Bool, true, false, refl, sym, ap, ◌∙◌, subst, arith, length-append}
 use mathlib.Core.Option.{some, some-injective, some-ne-none}
 use mathlib.Core.Option as maybe
 use Rattle.std.proofs.lemmas.Nat.{mul-add-lt}
@@ -54,6 +54,10 @@ module _ {A : Type 0} where
   pub last_out : (k n : ℕ) (f : ℕ → A) → all_from k (suc n) f ≡ all_from k n f ++ f (k + n) ∷ []
   last_out k zero f = ap (λ (z : ℕ). f z ∷ []) (let e : k ≡ k + 0 = omega arith in e)
   last_out k (suc n) f = (λ i. f k ∷ last_out (suc k) n f i) ∙ ap (λ (z : ℕ). f k ∷ all_from (suc k) n f ++ f z ∷ []) (let e : suc k + n ≡ k + suc n = omega arith in e)
+
+  pub all_more : (f : ℕ → A) (k : ℕ) (xs ys : List A) {x : A} → xs ≡ all_of k f → ys ≡ xs ++ x ∷ [] → x ≡ f k → ys ≡ all_of (k + 1) f
+  all_more f k xs ys is more last =
+      more ∙ (λ i. is i ++ last i ∷ []) ∙ ap (λ (z : ℕ). all_of k f ++ f z ∷ []) (let e : k ≡ 0 + k = omega arith in e) ∙ sym (last_out 0 k f) ∙ ap (λ (z : ℕ). all_of z f) (let e : suc k ≡ k + 1 = omega arith in e)
 
   pub replicate_at : (n : ℕ) (a : A) (i : ℕ) → i < n → get_elem? (replicate n a) i ≡ some a
   replicate_at zero a i h = absurd (omega arith)
@@ -135,7 +139,7 @@ module _ {H S M : Type 0} (core : Core H S M) (IsShape : H → Type 0) (Good : W
       let starts : ℕ → MemberState S = λ i. start_of core shape i origin limit registers in
       let F : ℕ → Node S M = λ i. fresh i (starts i) in
       let owned : map owned_of (all_of n F) ≡ each_below (λ i. owned_start core shape i origin limit registers) (core.count shape) =
-          all_map owned_of 0 n F ∙ all_each n (λ i. owned_start core shape i origin limit registers) ∙ ap (each_below (λ i. owned_start core shape i origin limit registers)) count in
+      all_map owned_of 0 n F ∙ all_each n (λ i. owned_start core shape i origin limit registers) ∙ ap (each_below (λ i. owned_start core shape i origin limit registers)) count in
       record {
         world = all_of n F;
         stands = fresh_stands starts n;
@@ -171,3 +175,10 @@ module _ {T P : Type 0} where
   first_of k zero n F v is sum low = absurd (omega arith)
   first_of k (suc m) n F v is sum low =
       (ap only_first is, (m, (omega arith), ap all_but_first is ∙ ap (λ (z : ℕ). all_from z m F) (let e : suc k ≡ k + 1 = omega arith in e)))
+
+-- the first of them, and the others
+pub first_out : {A : Type 0} (k m n : ℕ) (f : ℕ → A) (xs : List A) (x : A) → xs ≡ all_from k m f → k + m ≡ n → k < n → x ≡ slice_index_or xs 0 x
+    → (x ≡ f k) × ((r : ℕ) → suc r ≡ m → drop 1 xs ≡ all_from (k + 1) r f)
+first_out k zero n f xs x is sum low here = absurd (omega arith)
+first_out k (suc m) n f xs x is sum low here =
+    (here ∙ ap (λ l. slice_index_or l 0 x) is, λ r same. ap (drop 1) is ∙ (let e : suc k ≡ k + 1 = omega arith in let s : m ≡ r = omega arith in λ i. all_from (e i) (s i) f))

@@ -25,10 +25,10 @@ module _ {P : Type 0} where
   pub waits_after : (n : ℕ) (sent sent' w w' out : List (ℕ × P)) → Waits n sent w → ((x : ℕ × P) → IsIn x sent' → x.0 < n) → sent' ≡ sent ++ out → w' ≡ waiting_after w out → Waits n sent' w'
   waits_after n sent sent' w w' out waits within is wait x h =
       let there : IsIn x sent' = subst (λ (z : List (ℕ × P)). IsIn x z) (sym is)
-          (⊎_elim
-          (λ l. in_left x sent out (waits x l).0)
-          (λ r. in_right x sent out r)
-          (in_append x w out (in_first 64 (w ++ out) x (subst (λ (z : List (ℕ × P)). IsIn x z) wait h)))) in
+      (⊎_elim
+      (λ l. in_left x sent out (waits x l).0)
+      (λ r. in_right x sent out r)
+      (in_append x w out (in_first 64 (w ++ out) x (subst (λ (z : List (ℕ × P)). IsIn x z) wait h)))) in
       (there, within x there)
 
   pub waits_less : (n : ℕ) (sent sent' w w' : List (ℕ × P)) (x : ℕ × P) → Waits n sent w → sent' ≡ sent → w ≡ x ∷ w' → Waits n sent' w'

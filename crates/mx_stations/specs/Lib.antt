@@ -8,3 +8,4 @@ pub mod Running
 pub mod Slides
 pub mod Posts
 pub mod Opened
+pub mod Turns

@@ -10,6 +10,10 @@ use Rattle.mx_member.specs.declared.parcel.Parcel.{Parcel}
 use Rattle.mx_member.specs.Acts.{act_of}
 use Rattle.mx_member.specs.Member.{MemberState}
 use Rattle.mx_member.specs.Receipts.{closed_by}
+use Rattle.mx_stations.specs.declared.answers.PutOut.{PutOut}
+use Rattle.mx_stations.specs.declared.answers.PutOut.TheVariants.{Sent, Full, Nothing}
+use Rattle.mx_stations.specs.declared.answers.Taken.{Taken}
+use Rattle.mx_stations.specs.declared.answers.Taken.TheVariants.{Got, Empty}
 use Rattle.mx_stations.specs.Entries.{Entry}
 use Rattle.mx_stations.specs.Entries.{Idle}
 use Rattle.mx_stations.specs.Links.{of}
@@ -82,3 +86,21 @@ module _ {T P : Type 0} where
   -- nothing lies there for the empty hand, and nothing changes; from the own link all that was placed was taken
   abbrev pub FindsNone : ℕ → Post T P → Post T P → Type 0
   FindsNone from s t = (s.me.hand ≡ None) × (t ≡ s) × (from ≡ s.me.node → of (slot_from s from) s.me.placed ≡ of (slot_from s from) s.me.taken)
+
+  -- the first that waits leaves, and is placed; or it moves to the end, and this station has placed a parcel in that slot before
+  abbrev pub PutsOut : Post T P → PutOut → Post T P → Type 0
+  PutsOut s Sent t = (to : ℕ) × (p : P) × (rest : List (ℕ × P)) × (s.waiting ≡ (to, p) ∷ rest) × (t ≡ post s.table s.nodes (placing (slot_to s to) p s.me) rest)
+  PutsOut s Full t =
+      (to : ℕ) × (p : P) × (rest : List (ℕ × P)) × (s.waiting ≡ (to, p) ∷ rest) × (t ≡ post s.table s.nodes s.me (rest ++ (to, p) ∷ [])) × (of (slot_to s to) s.me.placed ≢ [])
+  PutsOut s Nothing t = (s.waiting ≡ []) × (t ≡ s)
+
+module _ {H S M : Type 0} (core : Core H S M) where
+  -- a parcel in hand is delivered, and no other taken; else one parcel is taken and delivered, or there was none
+  abbrev pub TakesIn : ℕ → Post (MemberState S) (Parcel M) → Taken → Post (MemberState S) (Parcel M) → Type 0
+  TakesIn from s Got t = Delivers core s t ⊎ ((mid : Post (MemberState S) (Parcel M)) × Fetches from s mid × Delivers core mid t)
+  TakesIn from s Empty t = FindsNone from s t
+
+module _ {T P : Type 0} where
+  -- memory was refused, and a parcel stays in hand: the one that was there, and nothing changed, or one that was taken
+  abbrev pub KeepsInHand : ℕ → Post T P → Post T P → Type 0
+  KeepsInHand from s t = ((s.me.hand ≢ None) × (t ≡ s)) ⊎ Fetches from s t

@@ -7,8 +7,8 @@ ghost use Rattle.mx_stations.specs.Running.{IsIdle, Keeps};
 ghost use Rattle.mx_stations.specs.Slides.{Claimed, IsFilling, IsHolding, KeepsHand, Taken, placed_view, released_view};
 
 use crate::field::{Field, Place};
-use crate::rule::View;
 use crate::next::{Gives, Next, OfSlot, TriesToClaim, TriesToTake};
+use crate::rule::View;
 use mx_member::Parcel;
 use mx_nodelaws::Exclusion;
 use mx_stamps::NodeId;
@@ -24,7 +24,12 @@ fn slot_of<C: Exclusion>(field: &Field<C>, from: NodeId, to: NodeId) -> usize
     from.get() as usize * field.nodes as usize + to.get() as usize
 }
 
-fn claim_as<C: Exclusion, N: OfSlot>(field: &Field<C>, seat: &mut Place<C>, node: NodeId, to: NodeId) -> u64
+fn claim_as<C: Exclusion, N: OfSlot>(
+    field: &Field<C>,
+    seat: &mut Place<C>,
+    node: NodeId,
+    to: NodeId,
+) -> u64
     requires table { seat.old.table_id ≡ field.now.board.shared.table_id }
     requires nodes { (node < field.now.nodes) × (to < field.now.nodes) }
     requires idle { IsIdle seat.old.me node }
@@ -39,7 +44,12 @@ fn claim_as<C: Exclusion, N: OfSlot>(field: &Field<C>, seat: &mut Place<C>, node
         .compare_exchange::<TriesToClaim<N>>(seat, field.nodes as usize + slot, 0, 1)
 }
 
-pub(crate) fn claim<C: Exclusion>(field: &Field<C>, seat: &mut Place<C>, node: NodeId, to: NodeId) -> u64
+pub(crate) fn claim<C: Exclusion>(
+    field: &Field<C>,
+    seat: &mut Place<C>,
+    node: NodeId,
+    to: NodeId,
+) -> u64
     requires table { seat.old.table_id ≡ field.now.board.shared.table_id }
     requires nodes { (node < field.now.nodes) × (to < field.now.nodes) }
     requires idle { IsIdle seat.old.me node }
@@ -89,7 +99,12 @@ pub(crate) fn place<C: Exclusion>(
     place_as::<C, Brand>(field, seat, node, to, parcel);
 }
 
-fn grab_as<C: Exclusion, N: OfSlot>(field: &Field<C>, seat: &mut Place<C>, node: NodeId, from: NodeId) -> u64
+fn grab_as<C: Exclusion, N: OfSlot>(
+    field: &Field<C>,
+    seat: &mut Place<C>,
+    node: NodeId,
+    from: NodeId,
+) -> u64
     requires table { seat.old.table_id ≡ field.now.board.shared.table_id }
     requires nodes { (node < field.now.nodes) × (from < field.now.nodes) }
     requires idle { IsIdle seat.old.me node }
@@ -104,7 +119,12 @@ fn grab_as<C: Exclusion, N: OfSlot>(field: &Field<C>, seat: &mut Place<C>, node:
         .compare_exchange::<TriesToTake<N>>(seat, field.nodes as usize + slot, 2, 3)
 }
 
-pub(crate) fn grab<C: Exclusion>(field: &Field<C>, seat: &mut Place<C>, node: NodeId, from: NodeId) -> u64
+pub(crate) fn grab<C: Exclusion>(
+    field: &Field<C>,
+    seat: &mut Place<C>,
+    node: NodeId,
+    from: NodeId,
+) -> u64
     requires table { seat.old.table_id ≡ field.now.board.shared.table_id }
     requires nodes { (node < field.now.nodes) × (from < field.now.nodes) }
     requires idle { IsIdle seat.old.me node }
@@ -149,7 +169,10 @@ fn release_as<C: Exclusion, N: Next<View<C>>>(
     ensures view { seat.new.me ≡ (released_view hand.now seat.old.me.0, []) }
 {
     let slot = slot_of(field, from, node);
-    field.board.shared.store::<Gives<N>>(seat, field.nodes as usize + slot, 0);
+    field
+        .board
+        .shared
+        .store::<Gives<N>>(seat, field.nodes as usize + slot, 0);
 }
 
 pub(crate) fn release<C: Exclusion>(

@@ -1,5 +1,5 @@
 use Rattle.std.proofs.Common.{rules, arith, subst, sym}
-use Rattle.mx_stations.proofs.Acts.{looks}
+use Rattle.mx_stations.proofs.Acting.{looks}
 use Rattle.mx_stations.proofs.field.look.Goals as goal
 
 pub load-requires : goal.load-requires

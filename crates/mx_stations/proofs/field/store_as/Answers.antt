@@ -1,6 +1,6 @@
 use Rattle.std.proofs.Common.{rules, arith, subst, sym, ap, ◌∙◌}
 use Rattle.mx_stations.specs.Running.{GoToNodes}
-use Rattle.mx_stations.proofs.Acts.{acts_at}
+use Rattle.mx_stations.proofs.Acting.{acts_at}
 use Rattle.mx_stations.proofs.field.store_as.Goals as goal
 
 pub store-requires : goal.store-requires

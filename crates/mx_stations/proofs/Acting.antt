@@ -98,10 +98,13 @@ module _ {H S M : Type 0} (core : Core H S M) (IsShape : H → Type 0) (Good : W
               (λ k. set_else s.words e.node (n + k) (word_of core made.member) (λ same. let low = inside in let l = h.stands.long in absurd (omega arith)))
               (λ k. subst (λ (z : Node S M). Pairs.Keeps k e z) (sym is) record { placed = refl; taken = refl; sent = (λ x i. in_left x e.sent _ i); writes = ((λ i. i), (λ i. i)); reads = ((λ i. i), (λ i. i)) });
         },
-        (refl, λ f in_view x sent. 
-            let f_is : f ≡ made = in_one f made in_view in
-            let all = sent_in_world (set h.world e.node made) e.node made x stays (subst (λ (z : Node S M). IsIn x z.sent) f_is sent) in
-            subst (λ (z : ℕ). x.0 < z) (length-set h.world e.node made ∙ h.stands.long) (all_between core Good (set h.world e.node made) made.node x.0 x.1 shown.runs all)),
+        (
+          refl,
+          λ f in_view x sent.
+              let f_is : f ≡ made = in_one f made in_view in
+              let all = sent_in_world (set h.world e.node made) e.node made x stays (subst (λ (z : Node S M). IsIn x z.sent) f_is sent) in
+              subst (λ (z : ℕ). x.0 < z) (length-set h.world e.node made ∙ h.stands.long) (all_between core Good (set h.world e.node made) made.node x.0 x.1 shown.runs all),
+        ),
       )
 
   -- the same of a seat whose view is known to have one node
@@ -115,7 +118,7 @@ module _ {H S M : Type 0} (core : Core H S M) (IsShape : H → Type 0) (Good : W
       let where_is : e.node ≡ word = ap (λ (z : Node S M). z.node) (sym one) ∙ at.2 ∙ sym is_word in
       let made : Node S M = acted e y out hand receipts in
       let made_is : made ≡ acted e (act_of core did.act e.member).state (act_of core did.act e.member).letters hand (owned_after core did.act (owned_of e)).receipts =
-          λ i. acted e (did.state i) (did.letters i) hand (did.closes i) in
+      λ i. acted e (did.state i) (did.letters i) hand (did.closes i) in
       let view : made ∷ [] ≡ after = sym (next ∙ ap (λ v. acted_view v y out hand receipts) did.alone) in
       let to = acts n slots id e did.act hand did.may did.kept made made_is in
       let step1 = subst (λ (v : List (Node S M)). Allows (Holds core Good n) slots id (e ∷ [], []) e.node (λ _. word_of core y) (λ _ m. (m ≡ (v, [])) × GoToNodes n m.0)) view to in
@@ -137,6 +140,9 @@ module _ {H S M : Type 0} (core : Core H S M) (Good : World S M → Type 0) wher
       shown = subst (λ (z : List ℕ). Shown core Good z h.world) (sym (set_same s.words i)) h.shown;
       links = subst (λ (z : List ℕ). Links n z s.homes h.world) (sym (set_same s.words i)) h.links;
     },
-    (refl, λ e x in_view held. let here = (h.stands.known id me.0 e at in_view).0 in
-        node_can_take core Good (map owned_of h.world) (sent_of h.world) h.shown.runs e.node x.0 x.1 (owned_of e) (node_at core Good h.world e.node e here) (h.shown.held e.node e x here held)),
+    (
+      refl,
+      λ e x in_view held. let here = (h.stands.known id me.0 e at in_view).0 in
+          node_can_take core Good (map owned_of h.world) (sent_of h.world) h.shown.runs e.node x.0 x.1 (owned_of e) (node_at core Good h.world e.node e here) (h.shown.held e.node e x here held),
+    ),
   )
