@@ -1,0 +1,10 @@
+pub mod Places
+pub mod Pairs
+pub mod Seats
+pub mod Acting
+pub mod Slides
+pub mod Opens
+pub mod Waits
+pub mod Posts
+pub mod Crossing
+pub mod Going

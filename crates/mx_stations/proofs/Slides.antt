@@ -1,0 +1,387 @@
+-- The four steps of a parcel keep the rule.
+use Rattle.std.proofs.Common.{◌≡◌, ◌≢◌, ◌⊎◌, inl, inr, ⊎_elim, ℕ, zero, suc, ◌+◌, ◌*◌, ◌<◌, List, [], ◌∷◌, ◌++◌, map, length, set, get_or, Option, Some, None, Bool, true, false, eqb, refl, sym, ap, ◌∙◌, subst, arith, length-set, length-append, append-nil}
+use Rattle.std.proofs.lemmas.Nat.{mul-add-lt}
+use mathlib.Core.Option.{none, some, some-injective, some-ne-none}
+use mathlib.Core.Option as maybe
+use lib.ListN.{get_elem?}
+use prog.Atomic.{either}
+use Rattle.atomic_table.specs.Table.{State, Me, Act, keeps, takes, gives, Allows, Valid, stepped, carried_after, rest}
+use Rattle.atomic_table.proofs.Lists.{at_set, set_here, set_else, set_again, exchanged}
+use Rattle.mx_stamps.specs.Lists.{IsIn}
+use Rattle.mx_nodelaws.specs.World.{World, sent_by}
+use Rattle.mx_nodelaws.specs.Core.{Core}
+use Rattle.mx_member.specs.declared.parcel.Parcel.{Parcel}
+use Rattle.mx_member.specs.Member.{MemberState}
+use Rattle.mx_member.specs.Running.{IsRunning, Owned}
+use Rattle.mx_stations.specs.Entries.{Entry, Node, owned_of}
+use Rattle.mx_stations.specs.Entries.{Stage}
+use Rattle.mx_stations.specs.Entries.{Idle, Writing, Reading}
+use Rattle.mx_stations.specs.Links.{Phase, free, writing, full, reading, of, Writes, Reads, face, waiting, IsWriting, IsReading, Lies, WasSent, Link, Links}
+use Rattle.mx_stations.specs.Running.{Holds, IsIdle, Shown, Stands, sent_of, word_of}
+use Rattle.mx_stations.specs.Slides.{claiming, placing, taking, releasing, Claimed, Taken, placed_view, released_view, IsFilling, IsHolding, KeepsHand}
+use Rattle.mx_stations.proofs.Places.{within, one_at, only_one, sent_in_world, moves, set_same}
+use Rattle.mx_stations.proofs.Pairs.{links_step, Keeps, of_more, of_other}
+
+word_read : (ns : List ℕ) (i a : ℕ) → get_elem? ns i ≡ some a → get_or ns i 0 ≡ a
+word_read [] i a e = absurd (some-ne-none a (sym e))
+word_read (n ∷ ns) zero a e = some-injective n a e
+word_read (n ∷ ns) (suc i) a e = word_read ns i a e
+
+map_same : {A B : Type 0} (f : A → B) (l : List A) (i : ℕ) (a b : A) → get_elem? l i ≡ some a → f b ≡ f a → map f (set l i b) ≡ map f l
+map_same f [] i a b at e = refl
+map_same f (x ∷ xs) zero a b at e = λ k. (e ∙ ap f (sym (some-injective x a at))) k ∷ map f xs
+map_same f (x ∷ xs) (suc i) a b at e = λ k. f x ∷ map_same f xs i a b at e k
+
+letters_same : {T P : Type 0} (l : List (Entry T P)) (i : ℕ) (a b : Entry T P) → get_elem? l i ≡ some a → b.node ≡ a.node → b.sent ≡ a.sent → sent_of (set l i b) ≡ sent_of l
+letters_same [] i a b at e h = refl
+letters_same {T} {P} (x ∷ xs) zero a b at e h =
+    let is = some-injective x a at in
+    (λ k. sent_by (e k) (h k) ++ sent_of xs) ∙ ap (λ (z : Entry T P). sent_by z.node z.sent ++ sent_of xs) (sym is)
+letters_same (x ∷ xs) (suc i) a b at e h = λ k. sent_by x.node x.sent ++ letters_same xs i a b at e h k
+
+module _ {H S M : Type 0} (core : Core H S M) (Good : World S M → Type 0) where
+  -- a node that keeps its state and what it sent, at a word that is no node's
+  shown_still : (n : ℕ) (words : List ℕ) (world : List (Node S M)) (i : ℕ) (e e' : Node S M) (k w : ℕ) → Shown core Good words world → length world ≡ n → get_elem? world i ≡ some e → e'.node ≡ e.node → owned_of e' ≡ owned_of e → e'.sent ≡ e.sent
+      → ((x : ℕ × Parcel M) → e'.hand ≡ Some x → IsIn (x.0, i, x.1) (sent_of world))
+      → Shown core Good (set words (n + k) w) (set world i e')
+  shown_still n words world i e e' k w sh long at node state sent held =
+      let same = letters_same world i e e' at node sent in
+      record {
+        shows = (λ j f is. let low = within (set world i e') j f is in let len = length-set world i e' in
+            set_else words (n + k) j w (λ h. absurd (omega arith))
+            ∙ ⊎_elim
+            (λ t. sh.shows j e (ap (λ (z : ℕ). get_elem? world z) t.0 ∙ at) ∙ ap (λ (z : Owned S). some (word_of core z.member)) (sym state ∙ ap owned_of t.1))
+            (λ t. sh.shows j f t.1)
+            (at_set world i j e' f is));
+        runs = subst (λ (z : List (Owned S)). IsRunning core Good z (sent_of (set world i e'))) (sym (map_same owned_of world i e e' at state)) (subst (λ (z : List (ℕ × ℕ × Parcel M)). IsRunning core Good (map owned_of world) z) (sym same) sh.runs);
+        held = (λ j f x is h. subst (λ (z : List (ℕ × ℕ × Parcel M)). IsIn (x.0, j, x.1) z) (sym same)
+            (⊎_elim
+            (λ t. subst (λ (z : ℕ). IsIn (x.0, z, x.1) (sent_of world)) (sym t.0) (held x (ap (λ (z : Node S M). z.hand) t.1 ∙ h)))
+            (λ t. sh.held j f x t.1 h)
+            (at_set world i j e' f is)));
+      }
+
+  -- one step of a parcel: the seat's node changes, and one slot with its word
+  slides : (n : ℕ) (s : State (Option (Parcel M)) (List (Node S M))) (id : ℕ) (e e' : Node S M) (c d w : ℕ) (homes' : List (maybe.Option (Option (Parcel M)))) (ph : Phase (Parcel M))
+      → (h : Holds core Good n s) → get_elem? s.views id ≡ some (e ∷ []) → d < n → e'.node ≡ e.node → owned_of e' ≡ owned_of e → e'.sent ≡ e.sent
+      → ((x : ℕ × Parcel M) → e'.hand ≡ Some x → IsIn (x.0, e.node, x.1) (sent_of h.world))
+      → length homes' ≡ length s.homes → ((k : ℕ) → k ≢ c * n + d → get_elem? homes' k ≡ get_elem? s.homes k) → ((k : ℕ) → k ≢ c * n + d → Keeps k e e')
+      → ((x y : Node S M) → get_elem? (set h.world e.node e') c ≡ some x → get_elem? (set h.world e.node e') d ≡ some y → Link n (set s.words (n + (c * n + d)) w) homes' (c * n + d) d x y ph)
+      → Holds core Good n record { words = set s.words (n + (c * n + d)) w; homes = homes'; views = set s.views id (e' ∷ []) }
+  slides n s id e e' c d w homes' ph h at dn node state sent held homes_long homes_else changed new =
+      let here = (h.stands.known id (e ∷ []) e at (inl refl)).0 in
+      record {
+        world = set h.world e.node e';
+        stands = moves n s.views h.world id e e' h.stands at node;
+        shown = shown_still n s.words h.world e.node e e' (c * n + d) w h.shown h.stands.long here node state sent held;
+        links = links_step n s.words s.homes homes' h.world e.node e e' c d w ph h.links h.stands.long here dn homes_long homes_else changed new;
+      }
+
+some_at : {A : Type 0} (l : List A) (i : ℕ) → i < length l → (a : A) × (get_elem? l i ≡ some a)
+some_at [] i h = absurd (omega arith)
+some_at (x ∷ xs) zero h = (x, refl)
+some_at (x ∷ xs) (suc i) h = some_at xs i (omega arith)
+
+pub some_is : {A : Type 0} (a b : A) → Some a ≡ Some b → a ≡ b
+some_is a b e = some-injective a b (ap to_maybe e)
+  where
+    to_maybe : {A : Type 0} → Option A → maybe.Option A
+    to_maybe None = none
+    to_maybe (Some x) = some x
+
+pub held_one : {S : Type 0} (l : List (ℕ × S)) (x : ℕ × S) → l ≡ x ∷ [] → l ≡ x ∷ rest l
+held_one l x is = is ∙ ap (λ z. x ∷ z) (sym (ap rest is))
+
+-- the seat holds the slot k
+pub held_at : {S : Type 0} (l : List (ℕ × S)) (k j : ℕ) (x : S) → l ≡ (j, x) ∷ [] → k ≡ j → l ≡ (k, x) ∷ rest l
+held_at l k j x is same = held_one l (k, x) (is ∙ (λ i. (sym same i, x) ∷ []))
+
+-- the slot k does not see that the node is at this stage
+abbrev Quiet : ℕ → Stage → Type 0
+Quiet k st = (Writes k st → ⊥) × (Reads k st → ⊥)
+
+quiet_idle : (k : ℕ) (st : Stage) → st ≡ Idle → Quiet k st
+quiet_idle k st is = subst (Quiet k) (sym is) ((λ h. h), (λ h. h))
+
+quiet_writing : (k j : ℕ) (st : Stage) → k ≢ j → st ≡ Writing j → Quiet k st
+quiet_writing k j st ne is = subst (Quiet k) (sym is) ((λ h. ne (sym h)), (λ h. h))
+
+quiet_reading : (k j : ℕ) (st : Stage) → k ≢ j → st ≡ Reading j → Quiet k st
+quiet_reading k j st ne is = subst (Quiet k) (sym is) ((λ h. h), (λ h. ne (sym h)))
+
+module _ {T P : Type 0} where
+  keeps_quiet : (k : ℕ) (e e' : Entry T P) → Quiet k e.stage → Quiet k e'.stage → of k e'.placed ≡ of k e.placed → of k e'.taken ≡ of k e.taken → e'.sent ≡ e.sent → Keeps k e e'
+  keeps_quiet k e e' q q' p t s =
+      record {
+        placed = p;
+        taken = t;
+        sent = (λ x h. subst (λ (z : List (ℕ × P)). IsIn x z) (sym s) h);
+        writes = ((λ h. absurd (q'.0 h)), (λ h. absurd (q.0 h)));
+        reads = ((λ h. absurd (q'.1 h)), (λ h. absurd (q.1 h)));
+      }
+
+  -- a node of the world after e has become e'
+  was : (world : List (Entry T P)) (i : ℕ) (e e' : Entry T P) (j : ℕ) (y : Entry T P) → get_elem? world i ≡ some e → get_elem? (set world i e') j ≡ some y → (old : Entry T P) × (get_elem? world j ≡ some old) × (((y ≡ e') × (old ≡ e)) ⊎ (y ≡ old))
+  was world i e e' j y at is = ⊎_elim (λ t. (e, ap (λ (z : ℕ). get_elem? world z) t.0 ∙ at, inl (sym t.1, refl))) (λ t. (y, t.1, inr refl)) (at_set world i j e' y is)
+
+module _ {P : Type 0} where
+  free_lies : (homes : List (maybe.Option (Option P))) (k : ℕ) (ph : Phase P) → face ph ≡ 0 → Lies homes k ph → get_elem? homes k ≡ some (some None)
+  free_lies homes k free e h = h
+  free_lies homes k writing e h = absurd (omega arith)
+  free_lies homes k (full p) e h = absurd (omega arith)
+  free_lies homes k reading e h = absurd (omega arith)
+
+  free_waits : (ph : Phase P) → face ph ≡ 0 → (waiting ph ≡ []) × (IsReading ph → ⊥)
+  free_waits free e = (refl, λ h. h)
+  free_waits writing e = absurd (omega arith)
+  free_waits (full p) e = absurd (omega arith)
+  free_waits reading e = absurd (omega arith)
+
+  full_is : (ph : Phase P) → face ph ≡ 2 → (p : P) × (ph ≡ full p)
+  full_is free e = absurd (omega arith)
+  full_is writing e = absurd (omega arith)
+  full_is (full p) e = (p, refl)
+  full_is reading e = absurd (omega arith)
+
+  writing_is : (ph : Phase P) → IsWriting ph → (waiting ph ≡ []) × (IsReading ph → ⊥)
+  writing_is free h = absurd h
+  writing_is writing h = (refl, λ r. r)
+  writing_is (full p) h = absurd h
+  writing_is reading h = absurd h
+
+  reading_is : (ph : Phase P) → IsReading ph → (waiting ph ≡ []) × (IsWriting ph → ⊥)
+  reading_is free h = absurd h
+  reading_is writing h = absurd h
+  reading_is (full p) h = absurd h
+  reading_is reading h = (refl, λ r. r)
+
+  not_nil : (xs : List P) (p : P) → xs ++ p ∷ [] ≡ [] → ⊥
+  not_nil xs p e = let n : length (xs ++ p ∷ []) ≡ 0 = ap length e in let m = length-append xs (p ∷ []) in absurd (omega arith)
+
+  -- a slot in use that its sender is not filling has been used
+  was_used : (xs ys : List P) (ph : Phase P) → xs ≡ ys ++ waiting ph → face ph ≢ 0 → (IsWriting ph → ⊥) → (IsReading ph → ys ≢ []) → xs ≢ []
+  was_used xs ys free log busy writes reads nil = busy refl
+  was_used xs ys writing log busy writes reads nil = writes tt
+  was_used xs ys (full p) log busy writes reads nil = not_nil ys p (sym log ∙ nil)
+  was_used xs ys reading log busy writes reads nil = reads tt (sym (append-nil ys) ∙ sym log ∙ nil)
+
+  no_wait : (ph : Phase P) → face ph ≢ 2 → waiting ph ≡ []
+  no_wait free ne = refl
+  no_wait writing ne = refl
+  no_wait (full p) ne = absurd (ne refl)
+  no_wait reading ne = refl
+
+module _ {H S M : Type 0} (core : Core H S M) (Good : World S M → Type 0) where
+  abbrev Rule : ℕ → State (Option (Parcel M)) (List (Node S M)) → Type 0
+  Rule n = Holds core Good n
+
+  -- a try that fails changes nothing
+  again : (n : ℕ) (s : State (Option (Parcel M)) (List (Node S M))) (i id : ℕ) (e : Node S M) → Rule n s → get_elem? s.views id ≡ some (e ∷ []) → Rule n (stepped s i (get_or s.words i 0) id [] (e ∷ []) keeps)
+  again n s i id e h at =
+      subst (λ (z : List ℕ × List (List (Node S M))). Rule n record { words = z.0; homes = s.homes; views = z.1 }) (λ j. (sym (set_same s.words i) j, sym (set_again s.views id (e ∷ []) at) j)) h
+
+  -- the sender takes an empty slot
+  pub claims : (n slots id b : ℕ) (e : Node S M) → b < n → e.stage ≡ Idle
+      → Allows (Rule n) slots id (e ∷ [], []) (n + (e.node * n + b)) (λ m. either (eqb m 0) 1 m) (Claimed (e.node * n + b) (e ∷ [], []))
+  claims n slots id b e bn idle s h homes at small =
+      let a : ℕ = e.node in let k : ℕ = a * n + b in let e' : Node S M = claiming k e in
+      let here = (h.stands.known id (e ∷ []) e at (inl refl)).0 in
+      let fb = some_at h.world b (subst (λ (z : ℕ). b < z) (sym h.stands.long) bn) in
+      let ph = h.links.phase k in let l = h.links.each a b e fb.0 here fb.1 in
+      let found : ℕ = get_or s.words (n + k) 0 in
+      let found_is : found ≡ face ph = word_read s.words (n + k) (face ph) l.word in
+      let in_words = within s.words (n + k) (face ph) l.word in
+      exchanged found 0 1
+      (λ m. (w : List (Node S M)) × (act : Act (Option (Parcel M))) × Valid s.homes [] act × Rule n (stepped s (n + k) m id [] w act) × Claimed k (e ∷ [], []) found (w, carried_after [] act))
+      (λ hit. let empty = sym found_is ∙ hit in let waits = free_waits ph empty in (
+        e' ∷ [],
+        takes k None,
+        free_lies s.homes k ph empty l.lies,
+        slides core Good n s id e e' a b 1 (set s.homes k none) writing h at bn refl refl refl (λ x held. h.shown.held a e x here held)
+            (length-set s.homes k none) (λ j ne. set_else s.homes k j none ne)
+            (λ j ne. keeps_quiet j e e' (quiet_idle j e.stage idle) (quiet_writing j k (Writing k) ne refl) refl refl refl)
+            (λ x y ax by. let x_is = one_at (set h.world a e') a x e' ax (set_here h.world a e' (within h.world a e here)) in
+            let oy = was h.world a e e' b y here by in
+            let old_y : oy.0 ≡ fb.0 = one_at h.world b oy.0 fb.0 oy.1 fb.1 in
+            let taken : of k y.taken ≡ of k fb.0.taken = ⊎_elim (λ t. ap (λ (z : Node S M). of k z.taken) t.0 ∙ ap (λ (z : Node S M). of k z.taken) (sym t.1 ∙ old_y)) (λ t. ap (λ (z : Node S M). of k z.taken) (t ∙ old_y)) oy.2 in
+            let not_reading : Reads k y.stage → ⊥ = ⊎_elim (λ t r. subst (λ (z : Node S M). Reads k z.stage) t.0 r) (λ t r. waits.1 (l.reader.0 (subst (λ (z : Node S M). Reads k z.stage) (t ∙ old_y) r))) oy.2 in
+            record {
+              word = set_here s.words (n + k) 1 in_words;
+              lies = tt;
+              log = ap (λ (z : Node S M). of k z.placed) x_is ∙ l.log ∙ (λ i. sym taken i ++ waits.0 i);
+              sent = tt;
+              writer = ((λ w. tt), (λ w. subst (λ (z : Node S M). Writes k z.stage) (sym x_is) refl));
+              reader = (not_reading, (λ r. absurd r));
+              used = (λ r. absurd r);
+            }),
+        ((λ _. (e, refl, refl)), (λ no_hit. absurd (no_hit hit))),
+      ))
+      (λ miss. (
+        e ∷ [],
+        keeps,
+        tt,
+        again n s (n + k) id e h at,
+        ((λ hit. absurd (miss hit)), (λ _. (refl, (e, refl, was_used (of k e.placed) (of k fb.0.taken) ph l.log (λ z. miss (found_is ∙ z)) (λ w. (quiet_idle k e.stage idle).0 (l.writer.1 w)) l.used)))),
+      ))
+
+  -- the sender gives the slot back, with a parcel that it has sent
+  pub places : (n slots id b : ℕ) (e : Node S M) (p : Parcel M) → b < n → e.stage ≡ Writing (e.node * n + b) → IsIn (b, p) e.sent
+      → Allows (Rule n) slots id (e ∷ [], (e.node * n + b, Some p) ∷ []) (n + (e.node * n + b)) (λ _. 2) (λ _ m. m ≡ (placing (e.node * n + b) p e ∷ [], []))
+  places n slots id b e p bn stage was_sent s h homes at small =
+      let a : ℕ = e.node in let k : ℕ = a * n + b in let e' : Node S M = placing k p e in
+      let here = (h.stands.known id (e ∷ []) e at (inl refl)).0 in
+      let an : a < n = subst (λ (z : ℕ). a < z) h.stands.long (within h.world a e here) in
+      let fb = some_at h.world b (subst (λ (z : ℕ). b < z) (sym h.stands.long) bn) in
+      let ph = h.links.phase k in let l = h.links.each a b e fb.0 here fb.1 in
+      let is_writing = writing_is ph (l.writer.0 (subst (Writes k) (sym stage) refl)) in
+      let in_homes : k < length s.homes = subst (λ (z : ℕ). k < z) (sym h.links.wide) (mul-add-lt a n b n an bn) in (
+        e' ∷ [],
+        gives,
+        tt,
+        slides core Good n s id e e' a b 2 (set s.homes k (some (Some p))) (full p) h at bn refl refl refl (λ x held. h.shown.held a e x here held)
+            (length-set s.homes k (some (Some p))) (λ j ne. set_else s.homes k j (some (Some p)) ne)
+            (λ j ne. keeps_quiet j e e' (quiet_writing j k e.stage ne stage) (quiet_idle j Idle refl) (of_other j k e.placed p (λ q. ne (sym q))) refl refl)
+            (λ x y ax by. let x_is = one_at (set h.world a e') a x e' ax (set_here h.world a e' (within h.world a e here)) in
+            let oy = was h.world a e e' b y here by in
+            let old_y : oy.0 ≡ fb.0 = one_at h.world b oy.0 fb.0 oy.1 fb.1 in
+            let taken : of k y.taken ≡ of k fb.0.taken = ⊎_elim (λ t. ap (λ (z : Node S M). of k z.taken) t.0 ∙ ap (λ (z : Node S M). of k z.taken) (sym t.1 ∙ old_y)) (λ t. ap (λ (z : Node S M). of k z.taken) (t ∙ old_y)) oy.2 in
+            let not_reading : Reads k y.stage → ⊥ = ⊎_elim (λ t r. subst (λ (z : Node S M). Reads k z.stage) t.0 r) (λ t r. is_writing.1 (l.reader.0 (subst (λ (z : Node S M). Reads k z.stage) (t ∙ old_y) r))) oy.2 in
+            record {
+              word = set_here s.words (n + k) 2 (within s.words (n + k) (face ph) l.word);
+              lies = set_here s.homes k (some (Some p)) in_homes;
+              log = ap (λ (z : Node S M). of k z.placed) x_is ∙ of_more k e.placed p ∙ ap (λ (z : List (Parcel M)). z ++ p ∷ []) (l.log ∙ ap (λ (z : List (Parcel M)). of k fb.0.taken ++ z) is_writing.0 ∙ append-nil (of k fb.0.taken)) ∙ ap (λ (z : List (Parcel M)). z ++ p ∷ []) (sym taken);
+              sent = subst (λ (z : Node S M). IsIn (b, p) z.sent) (sym x_is) was_sent;
+              writer = ((λ w. subst (λ (z : Node S M). Writes k z.stage) x_is w), (λ w. absurd w));
+              reader = (not_reading, (λ r. absurd r));
+              used = (λ r. absurd r);
+            }),
+        refl,
+      )
+
+  -- the receiver takes a filled slot
+  pub grabs : (n slots id a : ℕ) (e : Node S M) → a < n → e.stage ≡ Idle
+      → Allows (Rule n) slots id (e ∷ [], []) (n + (a * n + e.node)) (λ m. either (eqb m 2) 3 m) (Taken (a * n + e.node) a (e ∷ [], []))
+  grabs n slots id a e an idle s h homes at small =
+      let b : ℕ = e.node in let k : ℕ = a * n + b in
+      let here = (h.stands.known id (e ∷ []) e at (inl refl)).0 in
+      let bn : b < n = subst (λ (z : ℕ). b < z) h.stands.long (within h.world b e here) in
+      let fa = some_at h.world a (subst (λ (z : ℕ). a < z) (sym h.stands.long) an) in
+      let ph = h.links.phase k in let l = h.links.each a b fa.0 e fa.1 here in
+      let in_words = within s.words (n + k) (face ph) l.word in
+      let found : ℕ = get_or s.words (n + k) 0 in
+      let found_is : found ≡ face ph = word_read s.words (n + k) (face ph) l.word in
+      exchanged found 2 3
+      (λ m. (w : List (Node S M)) × (act : Act (Option (Parcel M))) × Valid s.homes [] act × Rule n (stepped s (n + k) m id [] w act) × Taken k a (e ∷ [], []) found (w, carried_after [] act))
+      (λ hit. let fill = full_is ph (sym found_is ∙ hit) in let p : Parcel M = fill.0 in let e' : Node S M = taking k a p e in
+      let old_log : of k fa.0.placed ≡ of k e.taken ++ p ∷ [] = l.log ∙ ap (λ (z : Phase (Parcel M)). of k e.taken ++ waiting z) fill.1 in
+      let sent : IsIn (b, p) fa.0.sent = subst (WasSent b fa.0.sent) fill.1 l.sent in
+      let letter : IsIn (a, b, p) (sent_of h.world) = subst (λ (z : ℕ). IsIn (z, b, p) (sent_of h.world)) (h.stands.numbered a fa.0 fa.1) (sent_in_world h.world a fa.0 (b, p) fa.1 sent) in (
+        e' ∷ [],
+        takes k (Some p),
+        subst (Lies s.homes k) fill.1 l.lies,
+        slides core Good n s id e e' a b 3 (set s.homes k none) reading h at bn refl refl refl
+            (λ x held. subst (λ (z : ℕ × Parcel M). IsIn (z.0, b, z.1) (sent_of h.world)) (some_is (a, p) x held) letter)
+            (length-set s.homes k none) (λ j ne. set_else s.homes k j none ne)
+            (λ j ne. keeps_quiet j e e' (quiet_idle j e.stage idle) (quiet_reading j k (Reading k) ne refl) refl (of_other j k e.taken p (λ q. ne (sym q))) refl)
+            (λ x y ax by. let y_is = one_at (set h.world b e') b y e' by (set_here h.world b e' (within h.world b e here)) in
+            let ox = was h.world b e e' a x here ax in
+            let old_x : ox.0 ≡ fa.0 = one_at h.world a ox.0 fa.0 ox.1 fa.1 in
+            let placed : of k x.placed ≡ of k fa.0.placed = ⊎_elim (λ t. ap (λ (z : Node S M). of k z.placed) t.0 ∙ ap (λ (z : Node S M). of k z.placed) (sym t.1 ∙ old_x)) (λ t. ap (λ (z : Node S M). of k z.placed) (t ∙ old_x)) ox.2 in
+            let not_writing : Writes k x.stage → ⊥ = ⊎_elim (λ t w. subst (λ (z : Node S M). Writes k z.stage) t.0 w) (λ t w. subst IsWriting fill.1 (l.writer.0 (subst (λ (z : Node S M). Writes k z.stage) (t ∙ old_x) w))) ox.2 in
+            record {
+              word = set_here s.words (n + k) 3 in_words;
+              lies = tt;
+              log = placed ∙ old_log ∙ sym (of_more k e.taken p) ∙ ap (λ (z : Node S M). of k z.taken) (sym y_is) ∙ sym (append-nil (of k y.taken));
+              sent = tt;
+              writer = (not_writing, (λ w. absurd w));
+              reader = ((λ r. tt), (λ r. subst (λ (z : Node S M). Reads k z.stage) (sym y_is) refl));
+              used = (λ r nil. not_nil (of k e.taken) p (sym (of_more k e.taken p) ∙ ap (λ (z : Node S M). of k z.taken) (sym y_is) ∙ nil));
+            }),
+        ((λ _. (e, refl, (p, refl))), (λ no_hit. absurd (no_hit hit))),
+      ))
+      (λ miss. (
+        e ∷ [],
+        keeps,
+        tt,
+        again n s (n + k) id e h at,
+        ((λ hit. absurd (miss hit)), (λ _. (refl, (e, refl, λ own. ap (λ (z : Node S M). of k z.placed) (one_at h.world b e fa.0 here (ap (λ (z : ℕ). get_elem? h.world z) (sym own) ∙ fa.1)) ∙ l.log ∙ ap (λ (z : List (Parcel M)). of k e.taken ++ z) (no_wait ph (λ z. miss (found_is ∙ z))) ∙ append-nil (of k e.taken))))),
+      ))
+
+  -- the receiver gives the emptied slot back
+  pub releases : (n slots id a : ℕ) (e : Node S M) (hand : Option (ℕ × Parcel M)) → a < n → e.stage ≡ Reading (a * n + e.node) → (hand ≡ e.hand) ⊎ (hand ≡ None)
+      → Allows (Rule n) slots id (e ∷ [], (a * n + e.node, None) ∷ []) (n + (a * n + e.node)) (λ _. 0) (λ _ m. m ≡ (releasing hand e ∷ [], []))
+  releases n slots id a e hand an stage kept s h homes at small =
+      let b : ℕ = e.node in let k : ℕ = a * n + b in let e' : Node S M = releasing hand e in
+      let here = (h.stands.known id (e ∷ []) e at (inl refl)).0 in
+      let bn : b < n = subst (λ (z : ℕ). b < z) h.stands.long (within h.world b e here) in
+      let fa = some_at h.world a (subst (λ (z : ℕ). a < z) (sym h.stands.long) an) in
+      let ph = h.links.phase k in let l = h.links.each a b fa.0 e fa.1 here in
+      let is_reading = reading_is ph (l.reader.0 (subst (Reads k) (sym stage) refl)) in
+      let in_homes : k < length s.homes = subst (λ (z : ℕ). k < z) (sym h.links.wide) (mul-add-lt a n b n an bn) in (
+        e' ∷ [],
+        gives,
+        tt,
+        slides core Good n s id e e' a b 0 (set s.homes k (some None)) free h at bn refl refl refl
+            (λ x held. h.shown.held b e x here (⊎_elim (λ same. sym same ∙ held) (λ none. absurd (cc)) kept))
+            (length-set s.homes k (some None)) (λ j ne. set_else s.homes k j (some None) ne)
+            (λ j ne. keeps_quiet j e e' (quiet_reading j k e.stage ne stage) (quiet_idle j Idle refl) refl refl refl)
+            (λ x y ax by. let y_is = one_at (set h.world b e') b y e' by (set_here h.world b e' (within h.world b e here)) in
+            let ox = was h.world b e e' a x here ax in
+            let old_x : ox.0 ≡ fa.0 = one_at h.world a ox.0 fa.0 ox.1 fa.1 in
+            let placed : of k x.placed ≡ of k fa.0.placed = ⊎_elim (λ t. ap (λ (z : Node S M). of k z.placed) t.0 ∙ ap (λ (z : Node S M). of k z.placed) (sym t.1 ∙ old_x)) (λ t. ap (λ (z : Node S M). of k z.placed) (t ∙ old_x)) ox.2 in
+            let not_writing : Writes k x.stage → ⊥ = ⊎_elim (λ t w. subst (λ (z : Node S M). Writes k z.stage) t.0 w) (λ t w. is_reading.1 (l.writer.0 (subst (λ (z : Node S M). Writes k z.stage) (t ∙ old_x) w))) ox.2 in
+            record {
+              word = set_here s.words (n + k) 0 (within s.words (n + k) (face ph) l.word);
+              lies = set_here s.homes k (some None) in_homes;
+              log = placed ∙ l.log ∙ ap (λ (z : List (Parcel M)). of k e.taken ++ z) is_reading.0 ∙ ap (λ (z : Node S M). of k z.taken ++ []) (sym y_is);
+              sent = tt;
+              writer = (not_writing, (λ w. absurd w));
+              reader = ((λ r. subst (λ (z : Node S M). Reads k z.stage) y_is r), (λ r. absurd r));
+              used = (λ r. absurd r);
+            }),
+        refl,
+      )
+
+  -- the same at a seat whose view is known
+  pub claims_at : (n key slots id : ℕ) (me : Me (Option (Parcel M)) (List (Node S M))) (node b slot k : ℕ) → key ≡ n → IsIdle me node → b < n → slot ≡ node * n + b → k ≡ node * n + b
+      → Allows (Rule key) slots id me (n + k) (λ m. either (eqb m 0) 1 m) (Claimed slot me)
+  claims_at n key slots id me node b slot k is_key idle bn is_slot is_k =
+      let e : Node S M = idle.0 in
+      let slot_is : e.node * n + b ≡ slot = ap (λ (z : ℕ). z * n + b) idle.2 ∙ sym is_slot in
+      subst (λ (z : ℕ × Me (Option (Parcel M)) (List (Node S M)) × ℕ × ℕ). Allows (Rule z.0) slots id z.1 (n + z.2) (λ m. either (eqb m 0) 1 m) (Claimed z.3 z.1)) (λ i. (sym is_key i, sym idle.1 i, (slot_is ∙ is_slot ∙ sym is_k) i, slot_is i))
+      (claims n slots id b e bn idle.3)
+
+  pub places_at : (n key slots id : ℕ) (me me0 : Me (Option (Parcel M)) (List (Node S M))) (node b k : ℕ) (p : Parcel M) (after : List (Node S M)) → key ≡ n → b < n → IsFilling me0 (node * n + b) node b p
+      → me ≡ (me0.0, (k, Some p) ∷ rest me0.1) → k ≡ node * n + b → after ≡ placed_view (node * n + b) p me0.0
+      → Allows (Rule key) slots id me (n + k) (λ _. 2) (λ _ m. m ≡ (after, rest me.1))
+  places_at n key slots id me me0 node b k p after is_key bn fill found is_k next =
+      let e : Node S M = fill.0 in
+      let is : me ≡ (me0.0, (node * n + b, Some p) ∷ rest me0.1) = found ∙ (λ i. (me0.0, (is_k i, Some p) ∷ rest me0.1)) in
+      let k_is : e.node * n + b ≡ node * n + b = ap (λ (z : ℕ). z * n + b) fill.2 in
+      let me_is : me ≡ (e ∷ [], (node * n + b, Some p) ∷ []) = is ∙ ap (λ (z : Me (Option (Parcel M)) (List (Node S M))). (z.0, (node * n + b, Some p) ∷ rest z.1)) fill.1 in
+      let after_is : after ≡ placing (node * n + b) p e ∷ [] = next ∙ ap (λ (z : Me (Option (Parcel M)) (List (Node S M))). placed_view (node * n + b) p z.0) fill.1 in
+      let base = places n slots id b e p bn (subst (λ (z : ℕ). e.stage ≡ Writing z) (sym k_is) fill.3) fill.4 in
+      let at_k = subst (λ (k : ℕ). Allows (Rule n) slots id (e ∷ [], (k, Some p) ∷ []) (n + k) (λ _. 2) (λ _ m. m ≡ (placing k p e ∷ [], []))) k_is base in
+      let at_after = subst (λ (v : List (Node S M)). Allows (Rule n) slots id (e ∷ [], (node * n + b, Some p) ∷ []) (n + (node * n + b)) (λ _. 2) (λ _ m. m ≡ (v, []))) (sym after_is) at_k in
+      subst (λ (z : ℕ × Me (Option (Parcel M)) (List (Node S M)) × ℕ). Allows (Rule z.0) slots id z.1 (n + z.2) (λ _. 2) (λ _ m. m ≡ (after, rest z.1.1))) (λ i. (sym is_key i, sym me_is i, sym is_k i)) at_after
+
+  pub grabs_at : (n key slots id : ℕ) (me : Me (Option (Parcel M)) (List (Node S M))) (node a slot from k : ℕ) → key ≡ n → IsIdle me node → a < n → slot ≡ a * n + node → from ≡ a → k ≡ a * n + node
+      → Allows (Rule key) slots id me (n + k) (λ m. either (eqb m 2) 3 m) (Taken slot from me)
+  grabs_at n key slots id me node a slot from k is_key idle an is_slot is_from is_k =
+      let e : Node S M = idle.0 in
+      let slot_is : a * n + e.node ≡ slot = ap (λ (z : ℕ). a * n + z) idle.2 ∙ sym is_slot in
+      subst (λ (z : ℕ × Me (Option (Parcel M)) (List (Node S M)) × ℕ × ℕ × ℕ). Allows (Rule z.0) slots id z.1 (n + z.2) (λ m. either (eqb m 2) 3 m) (Taken z.3 z.4 z.1)) (λ i. (sym is_key i, sym idle.1 i, (slot_is ∙ is_slot ∙ sym is_k) i, slot_is i, sym is_from i))
+      (grabs n slots id a e an idle.3)
+
+  pub releases_at : (n key slots id : ℕ) (me : Me (Option (Parcel M)) (List (Node S M))) (node a j : ℕ) (hand : Option (ℕ × Parcel M)) (after : List (Node S M)) → key ≡ n → a < n → IsHolding me (a * n + node) node None
+      → KeepsHand me.0 hand → j ≡ a * n + node → after ≡ released_view hand me.0
+      → Allows (Rule key) slots id me (n + j) (λ _. 0) (λ _ m. m ≡ (after, rest me.1))
+  releases_at n key slots id me node a j hand after is_key an hold kept is_j next =
+      let e : Node S M = hold.0 in
+      let k : ℕ = a * n + node in
+      let k_is : a * n + e.node ≡ k = ap (λ (z : ℕ). a * n + z) hold.2 in
+      let after_is : after ≡ releasing hand e ∷ [] = next ∙ ap (λ (z : Me (Option (Parcel M)) (List (Node S M))). released_view hand z.0) hold.1 in
+      let base = releases n slots id a e hand an (subst (λ (z : ℕ). e.stage ≡ Reading z) (sym k_is) hold.3) (kept e (ap (λ (z : Me (Option (Parcel M)) (List (Node S M))). z.0) hold.1)) in
+      let at_k = subst (λ (k : ℕ). Allows (Rule n) slots id (e ∷ [], (k, None) ∷ []) (n + k) (λ _. 0) (λ _ m. m ≡ (releasing hand e ∷ [], []))) k_is base in
+      let at_after = subst (λ (v : List (Node S M)). Allows (Rule n) slots id (e ∷ [], (k, None) ∷ []) (n + k) (λ _. 0) (λ _ m. m ≡ (v, []))) (sym after_is) at_k in
+      subst (λ (z : ℕ × Me (Option (Parcel M)) (List (Node S M)) × ℕ). Allows (Rule z.0) slots id z.1 (n + z.2) (λ _. 0) (λ _ m. m ≡ (after, rest z.1.1))) (λ i. (sym is_key i, sym hold.1 i, sym is_j i)) at_after

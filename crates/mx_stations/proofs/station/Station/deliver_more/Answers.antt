@@ -1,0 +1,18 @@
+use Rattle.std.proofs.Common.{rules, refl, sym, ap, ◌∙◌, inl, inr, subst, arith, ◌<◌, ◌≡◌, ◌≢◌, None}
+use Rattle.mx_stations.proofs.Going.{goes_fated, goes_had, goes_held, goes_nodes, goes_on, goes_ticking, stays}
+use Rattle.mx_stations.proofs.Posts.{match_false, match_true, on_err}
+use Rattle.mx_stations.proofs.station.Station.deliver_more.Goals as goal
+
+pub returns-then-ne-clause-goes : goal.returns-then-ne-clause-goes
+returns-then-ne-clause-goes g c = stays g.C.Exclusion.core _ _ refl
+
+pub returns-in_err-deliver_first-clause-goes : goal.returns-in_err-deliver_first-clause-goes
+returns-in_err-deliver_first-clause-goes g c = stays g.C.Exclusion.core _ _ c.in_err-deliver_first.ensures.memory
+
+pub returns-in_err-deliver_first-clause-kept : goal.returns-in_err-deliver_first-clause-kept
+returns-in_err-deliver_first-clause-kept g c =
+    let e = c.in_err-deliver_first.ensures in
+    on_err c.from_residual.result _ (subst (λ s. s.me.hand ≢ None) (sym e.memory) e.held)
+
+pub returns-clause-goes : goal.returns-clause-goes
+returns-clause-goes g c = goes_held g.C.Exclusion.core _ _ c.in_ok-deliver_first.field-0 c.in_ok-deliver_first.ensures.delivered

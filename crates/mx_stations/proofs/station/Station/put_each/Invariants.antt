@@ -1,0 +1,5 @@
+use Rattle.mx_stations.specs.Turns.{Goes}
+use Rattle.mx_stations.proofs.station.Station.put_each.Given as goal
+
+abbrev pub invariant-loop-round : goal.invariant-loop-round
+invariant-loop-round g l = Goes g.C.Exclusion.core l.fn.self l.self

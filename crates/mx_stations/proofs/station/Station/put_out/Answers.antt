@@ -1,0 +1,55 @@
+use Rattle.std.proofs.Common.{rules, refl, sym, ap, ◌∙◌, inl, inr, subst, ℕ, ◌+◌, ◌*◌, ◌<◌, Some, None, arith}
+use Rattle.std.specs.Arc.{arc_value}
+use Rattle.mx_stations.specs.Posts.{sent_in, Waits}
+use Rattle.mx_stations.proofs.Posts.{idle, same_seat}
+use Rattle.mx_stations.proofs.Crossing.{finds_none, holds_it, holds_none, keeps_hand, fetched_seat, fetches, fills, placed_seat, placed_waits, put_sent, put_full, turned_waits}
+use Rattle.mx_stamps.specs.Lists.{IsIn}
+use Rattle.mx_stations.proofs.station.Station.put_out.Goals as goal
+
+pub claim-requires-clause-nodes : goal.claim-requires-clause-nodes
+claim-requires-clause-nodes g c =
+    let i = c.self.invariant in let f = c.in-Some.ensures in
+    let to = (i.3 c.in-Some.first (subst (λ l. IsIn c.in-Some.first l) (sym f.first) (inl refl))).1 in
+    let n = ap (λ f. f.nodes) (sym c.deref-field.ensures) in
+    (subst (λ (k : ℕ). c.self.inside.node < k) n i.2, subst (λ (k : ℕ). c.in-Some.first.0 < k) n to)
+
+pub invariant_of-self-then-claim-ne0 : goal.invariant_of-self-then-claim-ne0
+invariant_of-self-then-claim-ne0 g c =
+    let i = c.self.invariant in let n = c.claim.ensures in let f = c.in-Some.ensures in
+    let same = (n.claimed.1 c.if-claim-ne0.true).0 in
+    (n.same.0 ∙ i.0, same_seat _ _ _ _ _ i.1 _ same, i.2, turned_waits _ _ _ _ _ i.1 _ _ _ _ _ _ same i.3 f.first c.push.ensures.items)
+
+pub returns-then-claim-ne0 : goal.returns-then-claim-ne0
+returns-then-claim-ne0 g c =
+    let i = c.self.invariant in let n = c.claim.ensures in let f = c.in-Some.ensures in
+    put_full _ _ _ _ _ i.1 _ _ _ _ _ _ _ _ _ _ _ _ c.self.view_is n.same.0 (ap (λ z. c.self.inside.node * z.nodes + c.in-Some.first.0) c.deref-field.ensures) n.claimed c.if-claim-ne0.true f.first c.push.ensures.items
+
+pub place-requires-clause-nodes : goal.place-requires-clause-nodes
+place-requires-clause-nodes g c =
+    let i = c.self.invariant in let f = c.in-Some.ensures in
+    let to = (i.3 c.in-Some.first (subst (λ l. IsIn c.in-Some.first l) (sym f.first) (inl refl))).1 in
+    let n = ap (λ f. f.nodes) (sym c.deref-field.ensures) in
+    (subst (λ (k : ℕ). c.self.inside.node < k) n i.2, subst (λ (k : ℕ). c.in-Some.first.0 < k) n to)
+
+pub place-requires-clause-filling : goal.place-requires-clause-filling
+place-requires-clause-filling g c =
+    let i = c.self.invariant in let f = c.in-Some.ensures in
+    let sent = (i.3 c.in-Some.first (subst (λ l. IsIn c.in-Some.first l) (sym f.first) (inl refl))).0 in
+    fills _ _ _ _ _ i.1 _ _ _ _ _ c.claim.ensures.claimed c.if-claim-ne0.false sent
+
+pub invariant_of-self-2 : goal.invariant_of-self-2
+invariant_of-self-2 g c =
+    let i = c.self.invariant in let n = c.claim.ensures in let p = c.place.ensures in let f = c.in-Some.ensures in
+    let sent = (i.3 c.in-Some.first (subst (λ l. IsIn c.in-Some.first l) (sym f.first) (inl refl))).0 in
+    (p.same.0 ∙ n.same.0 ∙ i.0, placed_seat _ _ _ _ _ i.1 _ _ _ _ _ _ n.claimed c.if-claim-ne0.false sent p.view, i.2, placed_waits _ _ _ _ _ i.1 _ _ c.in-Some.first _ _ _ _ _ n.claimed c.if-claim-ne0.false p.view i.3 f.first)
+
+pub returns : goal.returns
+returns g c =
+    let i = c.self.invariant in let n = c.claim.ensures in let p = c.place.ensures in let f = c.in-Some.ensures in
+    let sent = (i.3 c.in-Some.first (subst (λ l. IsIn c.in-Some.first l) (sym f.first) (inl refl))).0 in
+    put_sent _ _ _ _ _ i.1 _ _ _ _ _ _ _ _ _ _ _ _ c.self.view_is (p.same.0 ∙ n.same.0) (ap (λ z. c.self.inside.node * z.nodes + c.in-Some.first.0) c.deref-field.ensures) n.claimed c.if-claim-ne0.false sent p.view f.first
+
+pub invariant_of-self : goal.invariant_of-self
+invariant_of-self g c =
+    let i = c.self.invariant in let p = c.self.inside in
+    (i.0, i.1, i.2, subst (λ w. Waits (arc_value p.field).nodes (sent_in p.seat.me.0) w.items) (sym c.in_default.ensures.none.1) i.3)

@@ -1,0 +1,21 @@
+use Rattle.std.proofs.Common.{rules, refl, sym, ap, ◌∙◌, inl, inr, subst, arith, ◌<◌, ◌≡◌, ◌≢◌, None}
+use Rattle.mx_stations.proofs.Going.{goes_fated, goes_had, goes_held, goes_nodes, goes_on, goes_ticking, stays}
+use Rattle.mx_stations.proofs.Posts.{match_false, match_true, on_err}
+use Rattle.mx_stations.proofs.station.Station.take_fated.Goals as goal
+
+pub returns-in_default-clause-goes : goal.returns-in_default-clause-goes
+returns-in_default-clause-goes g c = stays g.C.Exclusion.core _ _ c.in_default.ensures.1
+
+pub returns-in_err-deliver_more-clause-goes : goal.returns-in_err-deliver_more-clause-goes
+returns-in_err-deliver_more-clause-goes g c = goes_on g.C.Exclusion.core _ _ _ (goes_fated g.C.Exclusion.core c.args.from c.in-Some.fate _ _ c.in-Some.ensures) c.deliver_more.ensures.goes
+
+pub returns-in_err-deliver-clause-goes : goal.returns-in_err-deliver-clause-goes
+returns-in_err-deliver-clause-goes g c =
+    goes_on g.C.Exclusion.core _ _ _ (goes_fated g.C.Exclusion.core c.args.from c.in-Some.fate _ _ c.in-Some.ensures) (goes_on g.C.Exclusion.core _ _ _ c.deliver_more.ensures.goes (stays g.C.Exclusion.core _ _ c.in_err-deliver.ensures.memory))
+
+pub returns-clause-goes : goal.returns-clause-goes
+returns-clause-goes g c =
+    goes_on g.C.Exclusion.core _ _ _ (goes_fated g.C.Exclusion.core c.args.from c.in-Some.fate _ _ c.in-Some.ensures) (goes_on g.C.Exclusion.core _ _ _ c.deliver_more.ensures.goes (goes_had g.C.Exclusion.core _ _ c.in_ok-deliver.field-0 c.in_ok-deliver.ensures.delivered).0)
+
+pub returns-clause-empty : goal.returns-clause-empty
+returns-clause-empty g c = (goes_had g.C.Exclusion.core _ _ c.in_ok-deliver.field-0 c.in_ok-deliver.ensures.delivered).1

@@ -1,0 +1,37 @@
+use Rattle.std.proofs.Common.{rules, refl, sym, ap, ◌∙◌, inl, inr, subst, append-nil, [], ◌∷◌}
+use Rattle.mx_member.specs.declared.acts.Act.TheVariants.{Tick}
+use Rattle.mx_stations.specs.Running.{GoToNodes}
+use Rattle.mx_stations.proofs.Posts.{acted_seat, acted_waits, acts_so, on_err, one_node, ready}
+use Rattle.mx_stations.proofs.station.Station.tick.Goals as goal
+
+pub act-requires : goal.act-requires
+act-requires g c =
+    let i = c.self.invariant in let a = c.tick.ensures in (
+      search rules,
+      (
+        search rules,
+        (
+          i.0 ∙ sym (ap (λ f. f.board.shared.table_id) c.deref.ensures),
+          (
+            ap (λ m. m.1) i.1,
+            (
+              search rules,
+              (
+                one_node _ _ _ _ _ i.1,
+                ready g.C.Exclusion.core _ _ _ _ _ i.1 _ Tick _ _ _ _ tt (inl refl) a.state a.letters (sym (append-nil _)),
+              ),
+            ),
+          ),
+        ),
+      ),
+    )
+
+pub invariant_of-self : goal.invariant_of-self
+invariant_of-self g c =
+    let i = c.self.invariant in let n = c.act.ensures in
+    (n.same.0 ∙ i.0, (acted_seat _ _ _ _ _ i.1 _ _ _ _ _ n.view).0, i.2, acted_waits _ _ _ _ _ i.1 _ _ _ _ _ _ _ _ n.view i.3 (subst (λ f. GoToNodes f.nodes c.act.new.seat.me.0) c.deref.ensures n.sent) c.store_up.ensures)
+
+pub returns : goal.returns
+returns g c =
+    let i = c.self.invariant in let n = c.act.ensures in let a = c.tick.ensures in
+    acts_so g.C.Exclusion.core _ _ _ _ _ i.1 Tick _ _ _ _ _ _ _ _ _ _ c.self.view_is n.same.0 n.view c.store_up.ensures a.state a.letters (sym (append-nil _))

@@ -1,0 +1,106 @@
+-- What callers see of a station, and what its calls do.
+use Rattle.std.specs.Prelude.{◌≡◌, ◌≢◌, ◌⊎◌, ℕ, ◌+◌, ◌*◌, ◌<◌, List, [], ◌∷◌, ◌++◌, Option, Some, None, take}
+use Rattle.atomic_table.specs.Seated.{TableId}
+use Rattle.mx_stamps.specs.Lists.{IsIn}
+use Rattle.mx_journal.specs.declared.receipts.Receipt.{Receipt}
+use Rattle.mx_nodelaws.specs.Core.{Core}
+use Rattle.mx_member.specs.declared.acts.Act.{Act}
+use Rattle.mx_member.specs.declared.acts.Act.TheVariants.{Deliver}
+use Rattle.mx_member.specs.declared.parcel.Parcel.{Parcel}
+use Rattle.mx_member.specs.Acts.{act_of}
+use Rattle.mx_member.specs.Member.{MemberState}
+use Rattle.mx_member.specs.Receipts.{closed_by}
+use Rattle.mx_stations.specs.declared.answers.PutOut.{PutOut}
+use Rattle.mx_stations.specs.declared.answers.PutOut.TheVariants.{Sent, Full, Nothing}
+use Rattle.mx_stations.specs.declared.answers.Taken.{Taken}
+use Rattle.mx_stations.specs.declared.answers.Taken.TheVariants.{Got, Empty}
+use Rattle.mx_stations.specs.Entries.{Entry}
+use Rattle.mx_stations.specs.Entries.{Idle}
+use Rattle.mx_stations.specs.Links.{of}
+use Rattle.mx_stations.specs.Running.{acted}
+use Rattle.mx_stations.specs.Slides.{placing, taking, releasing}
+
+-- its table, how many nodes that has, its node, and the parcels that wait in it, each with its addressee
+pub record Post (T P : Type 0) : Type 0 where
+  pub table : TableId
+  pub nodes : ℕ
+  pub me : Entry T P
+  pub waiting : List (ℕ × P)
+
+module _ {T P : Type 0} where
+  abbrev pub sent_in : List (Entry T P) → List (ℕ × P)
+  sent_in [] = []
+  sent_in (e ∷ v) = e.sent
+
+  abbrev pub placed_in : List (Entry T P) → List (ℕ × P)
+  placed_in [] = []
+  placed_in (e ∷ v) = e.placed
+
+  abbrev pub taken_in : List (Entry T P) → List (ℕ × P)
+  taken_in [] = []
+  taken_in (e ∷ v) = e.taken
+
+  -- the node, with what its seat alone knows; it moves no parcel
+  abbrev pub shown : ℕ → T → Option (ℕ × P) → List Receipt → List (Entry T P) → Entry T P
+  shown i x hand receipts v = record { node = i; member = x; receipts = receipts; sent = sent_in v; hand = hand; stage = Idle; placed = placed_in v; taken = taken_in v }
+
+  abbrev pub post : TableId → ℕ → Entry T P → List (ℕ × P) → Post T P
+  post table nodes me waiting = record { table = table; nodes = nodes; me = me; waiting = waiting }
+
+  -- the slot of the link to this node
+  abbrev pub slot_to : Post T P → ℕ → ℕ
+  slot_to s to = s.me.node * s.nodes + to
+
+  abbrev pub slot_from : Post T P → ℕ → ℕ
+  slot_from s from = from * s.nodes + s.me.node
+
+-- what waits was sent, to nodes that are there
+abbrev pub Waits : {P : Type 0} → ℕ → List (ℕ × P) → List (ℕ × P) → Type 0
+Waits {P} n sent waiting = (x : ℕ × P) → IsIn x waiting → IsIn x sent × (x.0 < n)
+
+-- what is sent waits, and beyond 64 it is lost
+abbrev pub waiting_after : {P : Type 0} → List (ℕ × P) → List (ℕ × P) → List (ℕ × P)
+waiting_after waiting out = take 64 (waiting ++ out)
+
+module _ {H S M : Type 0} (core : Core H S M) where
+  -- one act of the node, with this in hand after it: its receipt, if it answers one, joins its own
+  abbrev pub act_on : Act M → Option (ℕ × Parcel M) → Entry (MemberState S) (Parcel M) → Entry (MemberState S) (Parcel M)
+  act_on a hand e = acted e (act_of core a e.member).state (act_of core a e.member).letters hand (e.receipts ++ closed_by (act_of core a e.member).answer)
+
+  abbrev pub after_act : Act M → Option (ℕ × Parcel M) → Post (MemberState S) (Parcel M) → Post (MemberState S) (Parcel M)
+  after_act a hand s = post s.table s.nodes (act_on a hand s.me) (waiting_after s.waiting (act_of core a s.me.member).letters)
+
+  -- the station after one act of its own
+  abbrev pub does : Act M → Post (MemberState S) (Parcel M) → Post (MemberState S) (Parcel M)
+  does a s = after_act a s.me.hand s
+
+  -- the parcel in hand is delivered by one act
+  abbrev pub Delivers : Post (MemberState S) (Parcel M) → Post (MemberState S) (Parcel M) → Type 0
+  Delivers s t = (from : ℕ) × (p : Parcel M) × (s.me.hand ≡ Some (from, p)) × (t ≡ after_act (Deliver from p) None s)
+
+module _ {T P : Type 0} where
+  -- one parcel crosses from the link into the empty hand
+  abbrev pub Fetches : ℕ → Post T P → Post T P → Type 0
+  Fetches from s t = (s.me.hand ≡ None) × ((p : P) × (t ≡ post s.table s.nodes (releasing (Some (from, p)) (taking (slot_from s from) from p s.me)) s.waiting))
+
+  -- nothing lies there for the empty hand, and nothing changes; from the own link all that was placed was taken
+  abbrev pub FindsNone : ℕ → Post T P → Post T P → Type 0
+  FindsNone from s t = (s.me.hand ≡ None) × (t ≡ s) × (from ≡ s.me.node → of (slot_from s from) s.me.placed ≡ of (slot_from s from) s.me.taken)
+
+  -- the first that waits leaves, and is placed; or it moves to the end, and this station has placed a parcel in that slot before
+  abbrev pub PutsOut : Post T P → PutOut → Post T P → Type 0
+  PutsOut s Sent t = (to : ℕ) × (p : P) × (rest : List (ℕ × P)) × (s.waiting ≡ (to, p) ∷ rest) × (t ≡ post s.table s.nodes (placing (slot_to s to) p s.me) rest)
+  PutsOut s Full t =
+      (to : ℕ) × (p : P) × (rest : List (ℕ × P)) × (s.waiting ≡ (to, p) ∷ rest) × (t ≡ post s.table s.nodes s.me (rest ++ (to, p) ∷ [])) × (of (slot_to s to) s.me.placed ≢ [])
+  PutsOut s Nothing t = (s.waiting ≡ []) × (t ≡ s)
+
+module _ {H S M : Type 0} (core : Core H S M) where
+  -- a parcel in hand is delivered, and no other taken; else one parcel is taken and delivered, or there was none
+  abbrev pub TakesIn : ℕ → Post (MemberState S) (Parcel M) → Taken → Post (MemberState S) (Parcel M) → Type 0
+  TakesIn from s Got t = Delivers core s t ⊎ ((mid : Post (MemberState S) (Parcel M)) × Fetches from s mid × Delivers core mid t)
+  TakesIn from s Empty t = FindsNone from s t
+
+module _ {T P : Type 0} where
+  -- memory was refused, and a parcel stays in hand: the one that was there, and nothing changed, or one that was taken
+  abbrev pub KeepsInHand : ℕ → Post T P → Post T P → Type 0
+  KeepsInHand from s t = ((s.me.hand ≢ None) × (t ≡ s)) ⊎ Fetches from s t

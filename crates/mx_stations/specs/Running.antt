@@ -1,0 +1,135 @@
+-- What the seats know of the nodes, and the rule over all of them.
+use Rattle.std.specs.Prelude.{◌≡◌, ◌≢◌, ◌⊎◌, ℕ, zero, suc, ◌+◌, ◌*◌, ◌<◌, List, [], ◌∷◌, ◌++◌, map, length, Option, Some, None}
+use mathlib.Core.Option.{some}
+use lib.ListN.{get_elem?}
+use Rattle.atomic_table.specs.Table.{State, Me}
+use Rattle.mx_stamps.specs.Lists.{IsIn}
+use Rattle.mx_journal.specs.declared.receipts.Receipt.{Receipt}
+use Rattle.mx_nodelaws.specs.World.{World, sent_by}
+use Rattle.mx_nodelaws.specs.Core.{Core}
+use Rattle.mx_nodelaws.specs.declared.phase.Phase.{Phase}
+use Rattle.mx_nodelaws.specs.declared.phase.Phase.TheVariants as phase
+use Rattle.mx_member.specs.declared.acts.Act.{Act}
+use Rattle.mx_member.specs.declared.acts.Act.TheVariants as act
+use Rattle.mx_member.specs.declared.parcel.Parcel.{Parcel}
+use Rattle.mx_member.specs.Acts.{act_of}
+use Rattle.mx_member.specs.Member.{MemberState}
+use Rattle.mx_member.specs.Receipts.{closed_by}
+use Rattle.mx_member.specs.Running.{IsRunning}
+use Rattle.mx_member.specs.Steps.{IsTakeable}
+use Rattle.mx_stations.specs.Entries.{Entry, Node, owned_of}
+use Rattle.mx_stations.specs.Entries.{Idle}
+use Rattle.mx_stations.specs.Links.{Links}
+
+-- f k, f (k + 1), .., n of them
+abbrev pub all_from : {A : Type 0} → ℕ → ℕ → (ℕ → A) → List A
+all_from k zero f = []
+all_from k (suc n) f = f k ∷ all_from (suc k) n f
+
+abbrev pub all_of : {A : Type 0} → ℕ → (ℕ → A) → List A
+all_of n f = all_from 0 n f
+
+module _ {T P : Type 0} where
+  -- a node with this member, which did nothing yet
+  abbrev pub fresh : ℕ → T → Entry T P
+  fresh i x = record { node = i; member = x; receipts = []; sent = []; hand = None; stage = Idle; placed = []; taken = [] }
+
+  -- no node stands twice in a view
+  abbrev pub Once : List (Entry T P) → Type 0
+  Once [] = Unit {0}
+  Once (e ∷ v) = ((f : Entry T P) → IsIn f v → f.node ≢ e.node) × Once v
+
+  -- all that the nodes sent
+  abbrev pub sent_of : List (Entry T P) → List (ℕ × ℕ × P)
+  sent_of [] = []
+  sent_of (e ∷ es) = sent_by e.node e.sent ++ sent_of es
+
+-- each node of the world stands in exactly one view, as it is
+pub record Stands {T P : Type 0} (n : ℕ) (views : List (List (Entry T P))) (world : List (Entry T P)) : Type 0 where
+  pub owner : ℕ → ℕ
+  pub long : length world ≡ n
+  pub numbered : (i : ℕ) (e : Entry T P) → get_elem? world i ≡ some e → e.node ≡ i
+  pub known : (j : ℕ) (v : List (Entry T P)) (e : Entry T P) → get_elem? views j ≡ some v → IsIn e v → (get_elem? world e.node ≡ some e) × (owner e.node ≡ j)
+  pub there : (i : ℕ) (e : Entry T P) → get_elem? world i ≡ some e → (v : List (Entry T P)) × (get_elem? views (owner i) ≡ some v) × IsIn e v
+  pub once : (j : ℕ) (v : List (Entry T P)) → get_elem? views j ≡ some v → Once v
+
+-- what the word of a node shows: twice the number of its last section, and one more while it is inside
+abbrev pub status : Phase → ℕ → ℕ
+status phase.Idle mine = 2 * mine
+status phase.Waiting mine = 2 * mine
+status (phase.Inside n) mine = 2 * mine + 1
+
+module _ {H S M : Type 0} (core : Core H S M) where
+  abbrev pub word_of : MemberState S → ℕ
+  word_of m = status (core.phase m.core) (core.mine m.core)
+
+  -- the words show the nodes, which run as a cluster does, and a parcel in hand was sent to its holder
+  pub record Shown (Good : World S M → Type 0) (words : List ℕ) (world : List (Node S M)) : Type 0 where
+    pub shows : (i : ℕ) (e : Node S M) → get_elem? world i ≡ some e → get_elem? words i ≡ some (word_of e.member)
+    pub runs : IsRunning core Good (map owned_of world) (sent_of world)
+    pub held : (i : ℕ) (e : Node S M) (x : ℕ × Parcel M) → get_elem? world i ≡ some e → e.hand ≡ Some x → IsIn (x.0, i, x.1) (sent_of world)
+
+  -- the rule of a table of n nodes
+  pub record Holds (Good : World S M → Type 0) (n : ℕ) (s : State (Option (Parcel M)) (List (Node S M))) : Type 0 where
+    pub world : List (Node S M)
+    pub stands : Stands n s.views world
+    pub shown : Shown Good s.words world
+    pub links : Links n s.words s.homes world
+
+-- what a node of n, with this in hand, may do: a delivery is of the parcel in hand, a want goes to a node
+abbrev pub MayDo : {M : Type 0} → ℕ → Option (ℕ × Parcel M) → Act M → Type 0
+MayDo n hand act.Ask = Unit {0}
+MayDo n hand act.Enter = Unit {0}
+MayDo n hand (act.Read register) = Unit {0}
+MayDo n hand (act.Write register value) = Unit {0}
+MayDo n hand act.Leave = Unit {0}
+MayDo n hand act.Tick = Unit {0}
+MayDo n hand (act.Want to) = to < n
+MayDo n hand (act.Deliver from p) = hand ≡ Some (from, p)
+MayDo n hand act.Restart = Unit {0}
+
+-- the hand is as it was, or empty
+abbrev pub Keeps : {P : Type 0} → Option (ℕ × P) → Option (ℕ × P) → Type 0
+Keeps before after = (after ≡ before) ⊎ (after ≡ None)
+
+module _ {T P : Type 0} where
+  -- the node after an act: its member, its receipts, what it sent besides, and its hand
+  abbrev pub acted : Entry T P → T → List (ℕ × P) → Option (ℕ × P) → List Receipt → Entry T P
+  acted e y out hand receipts = record { node = e.node; member = y; receipts = receipts; sent = e.sent ++ out; hand = hand; stage = e.stage; placed = e.placed; taken = e.taken }
+
+  -- the view of a seat with one node, after an act
+  abbrev pub acted_view : List (Entry T P) → T → List (ℕ × P) → Option (ℕ × P) → List Receipt → List (Entry T P)
+  acted_view [] y out hand receipts = []
+  acted_view (e ∷ v) y out hand receipts = acted e y out hand receipts ∷ []
+
+  -- how a seat hands its first node on
+  abbrev pub all_but_first : List (Entry T P) → List (Entry T P)
+  all_but_first [] = []
+  all_but_first (e ∷ v) = v
+
+  abbrev pub only_first : List (Entry T P) → List (Entry T P)
+  only_first [] = []
+  only_first (e ∷ v) = e ∷ []
+
+-- the one node in view did one act, which made this member of it, with these parcels, this in hand and these receipts
+pub record DidAct {H S M : Type 0} (core : Core H S M) (n : ℕ) (v : List (Node S M)) (y : MemberState S) (out : List (ℕ × Parcel M)) (hand : Option (ℕ × Parcel M)) (receipts : List Receipt) : Type 0 where
+  pub node : Node S M
+  pub act : Act M
+  pub alone : v ≡ node ∷ []
+  pub may : MayDo n node.hand act
+  pub state : y ≡ (act_of core act node.member).state
+  pub letters : out ≡ (act_of core act node.member).letters
+  pub closes : receipts ≡ node.receipts ++ closed_by (act_of core act node.member).answer
+  pub kept : Keeps node.hand hand
+
+-- each parcel that a node in view sent is for one of n nodes
+abbrev pub GoToNodes : {T P : Type 0} → ℕ → List (Entry T P) → Type 0
+GoToNodes {T} {P} n v = (e : Entry T P) → IsIn e v → (x : ℕ × P) → IsIn x e.sent → x.0 < n
+
+-- a parcel in hand meets no stranger and no conflict
+abbrev pub HandFits : {S M : Type 0} → List (Node S M) → Type 0
+HandFits {S} {M} v = (e : Node S M) (x : ℕ × Parcel M) → IsIn e v → e.hand ≡ Some x → IsTakeable x.0 x.1 e.member
+
+-- the seat has just this node, which moves no parcel, and no slot
+abbrev pub IsIdle : {T P : Type 0} → Me (Option P) (List (Entry T P)) → ℕ → Type 0
+IsIdle {T} {P} m node = (e : Entry T P) × (m ≡ (e ∷ [], [])) × (e.node ≡ node) × (e.stage ≡ Idle)

@@ -1,0 +1,101 @@
+//! The table that the stations share, and the step of an act.
+
+ghost use Rattle.std.specs.Prelude.{◌≡◌, ◌+◌, ◌*◌, ◌<◌, ◌≤◌, ◌∷◌, []};
+ghost use Rattle.mx_stations.specs.Entries.{Node};
+ghost use Rattle.mx_stations.specs.Running.{DidAct, GoToNodes, HandFits, acted_view, word_of};
+
+use crate::next::{Becomes, Looks, Next};
+use crate::rule::{Law, Setup, Slot, View};
+use atomic_table::{Seat, Table};
+use mx_journal::Receipt;
+use mx_letters::Outbox;
+use mx_member::{Member, Parcel};
+use mx_nodelaws::{Exclusion, Phase};
+use mx_stamps::NodeId;
+use std::alloc::Global;
+use std::marker::Brand;
+
+/// The seat of one station.
+pub type Place<C> = Seat<Slot<C>, View<C>>;
+
+/// A status word for each node, and for each pair of nodes a slot with its word.
+#[derive(Drop)]
+pub struct Field<C: Exclusion> {
+    pub(crate) board: Table<Slot<C>, View<C>, Setup<C::Shape>, Law<C>, Global>,
+    pub(crate) nodes: u8,
+    ghost key: { board.shared.key.nodes ≡ nodes },
+    ghost words: { board.shared.table_id.words ≡ nodes + nodes * nodes },
+    ghost slots: { board.shared.table_id.slots ≡ nodes * nodes },
+    ghost some: { 0 < nodes },
+    ghost few: { nodes ≤ 21 },
+}
+
+/// What a node's word shows.
+fn status_of<C: Exclusion>(member: &Member<C>) -> u64
+    ensures { result ≡ word_of C.core member.now }
+{
+    let mine = member.mine();
+    match member.phase() {
+        Phase::Inside(_) => 2 * mine + 1,
+        Phase::Idle | Phase::Waiting => 2 * mine,
+    }
+}
+
+/// The one step of an act. The call picks the view that it leaves.
+fn store_as<C: Exclusion, N: Next<View<C>>>(
+    field: &Field<C>,
+    seat: &mut Place<C>,
+    node: NodeId,
+    member: &Member<C>,
+    out: &Outbox<Parcel<C::Msg>>,
+    hand: &Option<(NodeId, Parcel<C::Msg>)>,
+    receipts: &Vec<Receipt>,
+)
+    requires table { seat.old.table_id ≡ field.now.board.shared.table_id }
+    requires alone { seat.old.me.1 ≡ [] }
+    requires within { node < field.now.nodes }
+    requires node { (e : Node C C.Msg) × (seat.old.me.0 ≡ e ∷ []) × (e.node ≡ node) }
+    requires act { DidAct C.core field.now.nodes seat.old.me.0 member.now out.now hand.now receipts.now.items }
+    requires next { N.after seat.old.me.0 ≡ acted_view seat.old.me.0 member.now out.now hand.now receipts.now.items }
+    requires count { N.count ≡ field.now.nodes }
+    ensures same { (seat.new.table_id ≡ seat.old.table_id) × (seat.new.id ≡ seat.old.id) }
+    ensures view { seat.new.me ≡ (acted_view seat.old.me.0 member.now out.now hand.now receipts.now.items, []) }
+    ensures sent { GoToNodes field.now.nodes seat.new.me.0 }
+{
+    let new = status_of(member);
+    field
+        .board
+        .shared
+        .store::<Becomes<N>>(seat, node.get() as usize, new);
+}
+
+/// One act of a seat with one node.
+pub(crate) fn act<C: Exclusion>(
+    field: &Field<C>,
+    seat: &mut Place<C>,
+    node: NodeId,
+    member: &Member<C>,
+    out: &Outbox<Parcel<C::Msg>>,
+    hand: &Option<(NodeId, Parcel<C::Msg>)>,
+    receipts: &Vec<Receipt>,
+)
+    requires table { seat.old.table_id ≡ field.now.board.shared.table_id }
+    requires alone { seat.old.me.1 ≡ [] }
+    requires within { node < field.now.nodes }
+    requires node { (e : Node C C.Msg) × (seat.old.me.0 ≡ e ∷ []) × (e.node ≡ node) }
+    requires act { DidAct C.core field.now.nodes seat.old.me.0 member.now out.now hand.now receipts.now.items }
+    ensures same { (seat.new.table_id ≡ seat.old.table_id) × (seat.new.id ≡ seat.old.id) }
+    ensures view { seat.new.me ≡ (acted_view seat.old.me.0 member.now out.now hand.now receipts.now.items, []) }
+    ensures sent { GoToNodes field.now.nodes seat.new.me.0 }
+{
+    store_as::<C, Brand>(field, seat, node, member, out, hand, receipts);
+}
+
+/// A look at a word, which tells that the parcel in hand can be taken.
+pub(crate) fn look<C: Exclusion>(field: &Field<C>, seat: &mut Place<C>)
+    requires table { seat.old.table_id ≡ field.now.board.shared.table_id }
+    ensures same { (seat.new.table_id ≡ seat.old.table_id) × (seat.new.me ≡ seat.old.me) }
+    ensures fits { HandFits seat.new.me.0 }
+{
+    field.board.shared.load::<Looks<C>>(seat, 0);
+}

@@ -1,0 +1,25 @@
+//! Stations: each node in a value of its own, which a thread may own. The stations of one cluster
+//! share a table of atomic words; what a station does to its node is one step on one word.
+#![tactic(auto)]
+
+mod acts;
+mod answers;
+mod field;
+mod moves;
+mod next;
+mod opening;
+mod rule;
+mod slots;
+mod station;
+mod turn;
+mod waiting;
+
+pub use answers::{PutOut, TakeFault, Taken, TurnReport};
+pub use field::{Field, Place};
+pub use next::{Becomes, Gives, Looks, Next, OfSlot, TriesToClaim, TriesToTake};
+pub use rule::{HandOn, Law, Setup, Slot, View};
+pub use station::Station;
+pub use waiting::WAITING_ROOM;
+
+#[cfg(test)]
+mod tests;

@@ -1,0 +1,95 @@
+//! How the parcels of a station cross the links: each call makes one try.
+
+ghost use Rattle.std.specs.Prelude.{◌≡◌, ◌≢◌, ◌<◌, IfOk, MatchBool, None, OnErr};
+ghost use Rattle.mx_stations.specs.Posts.{Delivers, Fetches, FindsNone, KeepsInHand, PutsOut, TakesIn};
+
+use crate::answers::{PutOut, TakeFault, Taken};
+use crate::field::{act, look};
+use crate::slots::{claim, grab, lift, place, release};
+use crate::station::Station;
+use crate::waiting::{store_up, take_first};
+use mx_member::{Act, perform};
+use mx_nodelaws::Exclusion;
+use mx_stamps::NodeId;
+
+impl<C: Exclusion> Station<C> {
+    /// Delivers the parcel in hand. False where the hand is empty.
+    pub(crate) fn deliver(&mut self) -> Result<bool, TakeFault>
+        ensures delivered { IfOk result (λ had. MatchBool had (Delivers C.core self.old self.new)
+            ((self.old.me.hand ≡ None) × (self.new ≡ self.old))) }
+        ensures held { OnErr result (self.old.me.hand ≢ None) }
+        ensures memory { OnErr result (self.new ≡ self.old) }
+    {
+        let Some(held) = &self.hand else {
+            return Ok(false);
+        };
+        let from = held.0;
+        let parcel = held.1.copy();
+        look(&self.field, &mut self.seat);
+        self.out.clear();
+        perform(&mut self.member, Act::Deliver(from, parcel), &mut self.out)?;
+        let hand = None;
+        act(
+            &self.field,
+            &mut self.seat,
+            self.node,
+            &self.member,
+            &self.out,
+            &hand,
+            &self.receipts,
+        );
+        self.hand = hand;
+        store_up(&mut self.waiting, &self.out);
+        Ok(true)
+    }
+
+    /// Takes one parcel from the link into the empty hand.
+    fn fetch(&mut self, from: NodeId) -> bool
+        requires within { from < self.old.nodes }
+        requires empty { self.old.me.hand ≡ None }
+        ensures { MatchBool result (Fetches from self.old self.new) (FindsNone from self.old self.new) }
+    {
+        let field = &*self.field;
+        if grab(field, &mut self.seat, self.node, from) != 2 {
+            return false;
+        }
+        let parcel = lift(field, &mut self.seat, self.node, from);
+        let hand = Some((from, parcel));
+        release(field, &mut self.seat, self.node, from, &hand);
+        self.hand = hand;
+        true
+    }
+
+    /// Delivers the parcel in hand, or else takes one from the link and delivers it.
+    pub fn take_in(&mut self, from: NodeId) -> Result<Taken, TakeFault>
+        requires { from < self.old.nodes }
+        ensures taken { IfOk result (λ taken. TakesIn C.core from self.old taken self.new) }
+        ensures memory { OnErr result (KeepsInHand from self.old self.new) }
+    {
+        if self.deliver()? {
+            return Ok(Taken::Got);
+        }
+        if !self.fetch(from) {
+            return Ok(Taken::Empty);
+        }
+        self.deliver()?;
+        Ok(Taken::Got)
+    }
+
+    /// One try to put the first waiting parcel into a slot of its link.
+    pub fn put_out(&mut self) -> PutOut
+        ensures { PutsOut self.old result self.new }
+    {
+        let Some(first) = take_first(&mut self.waiting) else {
+            return PutOut::Nothing;
+        };
+        let to = first.0;
+        let field = &*self.field;
+        if claim(field, &mut self.seat, self.node, to) != 0 {
+            self.waiting.push(first);
+            return PutOut::Full;
+        }
+        place(field, &mut self.seat, self.node, to, first.1);
+        PutOut::Sent
+    }
+}

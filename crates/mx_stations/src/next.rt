@@ -1,0 +1,83 @@
+//! What each step tells the seat that makes it. A `Play` can't read the table's key, so what a step
+//! leaves, and of which slot it is, are picked by the call.
+
+ghost use Rattle.std.specs.Prelude.{◌≡◌, ℕ};
+ghost use Rattle.atomic_table.specs.Table.{rest};
+ghost use Rattle.mx_stations.specs.Running.{GoToNodes, HandFits};
+ghost use Rattle.mx_stations.specs.Slides.{Claimed, Taken};
+
+use crate::rule::{Slot, View};
+use atomic_table::Play;
+use mx_nodelaws::Exclusion;
+use std::marker::{Brand, PhantomData};
+
+/// What a step makes of a view, and how many nodes there are.
+pub trait Next<V> {
+    ghost after: { V → V };
+
+    ghost count: { ℕ };
+}
+
+impl<V> Next<V> for Brand {
+    ghost after = { λ v. v };
+
+    ghost count = { 0 };
+}
+
+/// An act: what the node sent goes to nodes.
+pub struct Becomes<N> {
+    of: PhantomData<N>,
+}
+
+impl<C: Exclusion, N: Next<View<C>>> Play<Slot<C>, View<C>> for Becomes<N> {
+    ghost then = { λ step before found now. (now ≡ (N.after before.0, before.1)) × GoToNodes N.count now.0 };
+}
+
+/// A look: what is in hand can be taken.
+pub struct Looks<C> {
+    of: PhantomData<C>,
+}
+
+impl<C: Exclusion> Play<Slot<C>, View<C>> for Looks<C> {
+    ghost then = { λ step before found now. (now ≡ before) × HandFits now.0 };
+}
+
+/// A slot, and who fills it.
+pub trait OfSlot {
+    ghost slot: { ℕ };
+
+    ghost from: { ℕ };
+}
+
+impl OfSlot for Brand {
+    ghost slot = { 0 };
+
+    ghost from = { 0 };
+}
+
+/// A try to claim a slot.
+pub struct TriesToClaim<N> {
+    of: PhantomData<N>,
+}
+
+impl<C: Exclusion, N: OfSlot> Play<Slot<C>, View<C>> for TriesToClaim<N> {
+    ghost then = { λ step before found now. Claimed N.slot before found now };
+}
+
+/// A try to take a slot.
+pub struct TriesToTake<N> {
+    of: PhantomData<N>,
+}
+
+impl<C: Exclusion, N: OfSlot> Play<Slot<C>, View<C>> for TriesToTake<N> {
+    ghost then = { λ step before found now. Taken N.slot N.from before found now };
+}
+
+/// The seat gives its slot back.
+pub struct Gives<N> {
+    of: PhantomData<N>,
+}
+
+impl<C: Exclusion, N: Next<View<C>>> Play<Slot<C>, View<C>> for Gives<N> {
+    ghost then = { λ step before found now. now ≡ (N.after before.0, rest before.1) };
+}

@@ -1,0 +1,58 @@
+//! The rule over the table, what its seats know, and how a seat hands nodes on.
+
+ghost use Rattle.mx_member.specs.Steps.{start_of};
+ghost use Rattle.mx_stations.specs.Running.{Holds, all_but_first, all_of, fresh, only_first};
+
+use atomic_table::{Split, TableRule};
+use mx_member::Parcel;
+use mx_nodelaws::Exclusion;
+use std::marker::{Model, PhantomData};
+
+/// What a table is told once, when it is made.
+#[derive(Clone, Copy)]
+pub struct Setup<H> {
+    pub nodes: u8,
+    pub shape: H,
+    pub origin: u64,
+    pub limit: u64,
+    pub registers: u8,
+}
+
+/// What a slot holds.
+pub type Slot<C> = Option<Parcel<<C as Exclusion>::Msg>>;
+
+/// What a seat knows: its nodes, each with its member, its receipts and its parcels. No value of it
+/// is made.
+pub struct View<C: Exclusion> {
+    of: PhantomData<C>,
+}
+
+impl<C: Exclusion> Model for View<C> {
+    ghost use Rattle.std.specs.Prelude.{List, []};
+    ghost use Rattle.mx_stations.specs.Entries.{Node};
+
+    ghost Value = { List (Node C C.Msg) };
+
+    ghost view = { λ _. [] };
+}
+
+/// Between any two steps the nodes of all seats are a cluster.
+pub struct Law<C> {
+    of: PhantomData<C>,
+}
+
+impl<C: Exclusion> TableRule<Slot<C>, View<C>, Setup<C::Shape>> for Law<C> {
+    ghost holds = { λ setup s. Holds C.core C.Good setup.nodes s };
+
+    ghost first = { λ setup. all_of setup.nodes
+        (λ i. fresh i (start_of C.core setup.shape i setup.origin setup.limit setup.registers)) };
+}
+
+/// A seat hands its first node on.
+pub struct HandOn;
+
+impl<C: Exclusion> Split<View<C>> for HandOn {
+    ghost left = { λ v. all_but_first v };
+
+    ghost right = { λ v. only_first v };
+}

@@ -1,0 +1,120 @@
+//! One node, with its seat at the table, and what it knows of itself.
+
+ghost use Rattle.std.specs.Prelude.{◌≡◌, ◌≤◌, length};
+ghost use Rattle.mx_nodelaws.specs.Core.{BearsNumber};
+ghost use Rattle.mx_registers.specs.Registers.{registers_of, value_in};
+
+use crate::field::{Field, Place};
+use crate::waiting::Waiting;
+use mx_journal::{Journal, Receipt};
+use mx_letters::Outbox;
+use mx_member::{Member, Parcel};
+use mx_nodelaws::{Exclusion, Phase};
+use mx_stamps::NodeId;
+use std::alloc::Global;
+use std::marker::Model;
+use std::sync::Arc;
+
+/// A node that a thread may own. What waits is at most 64 parcels; what is sent beyond is lost, as a
+/// network may lose it.
+#[derive(Drop)]
+pub struct Station<C: Exclusion> {
+    pub(crate) field: Arc<Field<C>, Global>,
+    pub(crate) seat: Place<C>,
+    pub(crate) node: NodeId,
+    pub(crate) member: Member<C>,
+    /// The parcel that was taken and is still to be delivered, with its sender.
+    pub(crate) hand: Option<(NodeId, Parcel<C::Msg>)>,
+    pub(crate) receipts: Vec<Receipt>,
+    /// The parcels of one act on their way to the waiting list.
+    pub(crate) out: Outbox<Parcel<C::Msg>>,
+    pub(crate) waiting: Waiting<C::Msg>,
+}
+
+impl<C: Exclusion> Model for Station<C> {
+    ghost use Rattle.std.specs.Prelude.{◌≡◌, ◌<◌, [], ◌∷◌};
+    ghost use Rattle.std.specs.Arc.{arc_value};
+    ghost use Rattle.mx_member.specs.Member.{MemberState};
+    ghost use Rattle.mx_member.specs.declared.parcel.Parcel.{Parcel};
+    ghost use Rattle.mx_stations.specs.Posts.{Post, Waits, post, sent_in, shown};
+
+    ghost Value = { Post (MemberState C) (Parcel C.Msg) };
+
+    ghost view = { λ s. post s.seat.table_id (arc_value s.field).nodes
+        (shown s.node s.member s.hand s.receipts.items s.seat.me.0) s.waiting.items };
+
+    ghost invariant = { λ s. (s.seat.table_id ≡ (arc_value s.field).board.shared.table_id)
+        × (s.seat.me ≡ (shown s.node s.member s.hand s.receipts.items s.seat.me.0 ∷ [], []))
+        × (s.node < (arc_value s.field).nodes)
+        × Waits (arc_value s.field).nodes (sent_in s.seat.me.0) s.waiting.items };
+}
+
+impl<C: Exclusion> Station<C> {
+    /// Its node.
+    pub fn node(&self) -> NodeId
+        ensures { result ≡ self.now.me.node }
+    {
+        self.node
+    }
+
+    /// How many nodes there are.
+    pub fn nodes(&self) -> u8
+        ensures { result ≡ self.now.nodes }
+    {
+        self.field.nodes
+    }
+
+    /// Where the node stands.
+    pub fn phase(&self) -> Phase
+        ensures value { result ≡ C.core.phase self.now.me.member.core }
+        ensures numbered { BearsNumber result }
+    {
+        self.member.phase()
+    }
+
+    /// Whether every permission for the current request is there.
+    pub fn can_enter(&self) -> bool
+        ensures { result ≡ C.core.can_enter self.now.me.member.core }
+    {
+        self.member.can_enter()
+    }
+
+    /// The number of the last section that this node entered, 0 before the first.
+    pub fn mine(&self) -> u64
+        ensures value { result ≡ C.core.mine self.now.me.member.core }
+        ensures high { result ≤ 1000000 }
+    {
+        self.member.mine()
+    }
+
+    /// The records that it knows.
+    pub fn journal(&self) -> &Journal
+        ensures { result.now ≡ self.now.me.member.journal }
+    {
+        self.member.journal()
+    }
+
+    /// The value of a register after all the records that it knows; there may be sections between
+    /// them that it does not know. None where there is no such register.
+    pub fn value(&self, register: u8) -> Option<u64>
+        ensures { result ≡ value_in register
+            (registers_of self.now.me.member.setting.registers self.now.me.member.journal) }
+    {
+        self.member.value(register)
+    }
+
+    /// The receipts of the sections that this node left, in order.
+    pub fn receipts(&self) -> &[Receipt]
+        ensures { result.now ≡ self.now.me.receipts }
+    {
+        self.receipts.as_slice()
+    }
+
+    /// How many parcels wait to be put out.
+    pub fn waits(&self) -> usize
+        ensures count { result ≡ length self.now.waiting }
+        ensures few { result ≤ 64 }
+    {
+        self.waiting.len()
+    }
+}
