@@ -20,6 +20,3 @@ pub use next::{Becomes, Gives, Looks, Next, OfSlot, TriesToClaim, TriesToTake};
 pub use rule::{HandOn, Law, Setup, Slot, View};
 pub use station::Station;
 pub use waiting::WAITING_ROOM;
-
-#[cfg(test)]
-mod tests;

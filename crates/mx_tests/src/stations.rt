@@ -1,6 +1,5 @@
 //! Stations of small clusters, parcel by parcel, by turns, and in threads.
 
-use crate::{Field, PutOut, Station, Taken, TurnReport};
 use mx_letters::{Fair, Fate, Fates};
 use mx_maekawa::Maekawa;
 use mx_nodelaws::{Exclusion, Phase};
@@ -8,6 +7,7 @@ use mx_quorums::Quorums;
 use mx_raymond::{Raymond, Tree};
 use mx_ricart::{Count, Ricart};
 use mx_stamps::NodeId;
+use mx_stations::{Field, PutOut, Station, Taken, TurnReport};
 use std::alloc::Global;
 use std::test::Fail;
 use std::thread;
@@ -23,11 +23,11 @@ fn two(alloc: Global) -> Result<(Station<Ricart>, Station<Ricart>), Fail> {
 
 /// One try to take a parcel in from this node.
 fn take<C: Exclusion>(station: &mut Station<C>, from: u8) -> Result<Taken, Fail> {
-    let node = NodeId::of(from).ok_or("node")?;
-    if node.get() >= station.nodes() {
+    let from = NodeId::of(from).ok_or("node")?;
+    if from.get() >= station.nodes() {
         return Err("no such node")?;
     }
-    Ok(station.take_in(node).map_err(|_| "memory")?)
+    Ok(station.take_in(from).map_err(|_| "memory")?)
 }
 
 #[test]
