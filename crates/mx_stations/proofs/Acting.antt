@@ -1,9 +1,9 @@
 -- An act of a seat with one node is one act of that node, and the nodes run on.
-use Rattle.std.proofs.Common.{◌≡◌, ◌≢◌, ◌⊎◌, inl, inr, ⊎_elim, ℕ, ◌+◌, ◌<◌, List, [], ◌∷◌, ◌++◌, map, length, set, slice_get, Option, Some, None, refl, sym, ap, ◌∙◌, subst, arith, length-set}
+use Rattle.std.proofs.Common.{◌≡◌, inl, ⊎_elim, ℕ, ◌+◌, ◌<◌, List, [], ◌∷◌, map, length, set, Option, Some, refl, sym, ap, ◌∙◌, subst, arith, length-set}
 use Rattle.std.proofs.lemmas.List.{length-map}
-use mathlib.Core.Option.{some, some-injective}
+use mathlib.Core.Option.{some}
 use lib.ListN.{get_elem?}
-use Rattle.atomic_table.specs.Table.{State, Me, Act as Move, keeps, Allows}
+use Rattle.atomic_table.specs.Table.{Me, keeps, Allows}
 use Rattle.atomic_table.proofs.Lists.{at_set, at_map, set_here, set_else, set_again}
 use Rattle.mx_stamps.specs.Lists.{IsIn}
 use Rattle.mx_stamps.proofs.Lists.{in_left}
@@ -14,13 +14,13 @@ use Rattle.mx_nodelaws.specs.Laws.{KeepsGood}
 use Rattle.mx_member.specs.declared.acts.Act.{Act}
 use Rattle.mx_member.specs.declared.acts.Act.TheVariants as act
 use Rattle.mx_member.specs.declared.parcel.Parcel.{Parcel}
-use Rattle.mx_member.specs.Acts.{Arrives, Grows, act_of}
+use Rattle.mx_member.specs.Acts.{Arrives, act_of}
 use Rattle.mx_member.specs.Member.{MemberState}
-use Rattle.mx_member.specs.Running.{IsNode, IsRunning, Owned, members_of, owned_after}
+use Rattle.mx_member.specs.Running.{IsNode, IsRunning, Owned, owned_after}
 use Rattle.mx_member.proofs.CorePart.{map_set}
 use Rattle.mx_member.proofs.Running.{members_count, running_kept}
 use Rattle.mx_member.proofs.RunningTells.{node_can_take}
-use Rattle.mx_stations.specs.Entries.{Entry, Node, owned_of}
+use Rattle.mx_stations.specs.Entries.{Node, owned_of}
 use Rattle.mx_stations.specs.Running.{DidAct, GoToNodes, HandFits, Holds, Keeps, MayDo, Shown, Stands, acted, acted_view, sent_of, word_of}
 use Rattle.mx_stations.proofs.Places.{as_slice_at, grows, in_one, moves, only_one, sent_in_world, set_same, within}
 use Rattle.mx_stations.specs.Links.{Links}

@@ -1,6 +1,6 @@
 -- What a station knows of its node before and after a move of a parcel.
-use Rattle.std.proofs.Common.{◌≡◌, ◌≢◌, ◌⊎◌, inl, inr, ⊎_elim, ℕ, ◌+◌, ◌*◌, ◌<◌, List, [], ◌∷◌, ◌++◌, Bool, true, false, MatchBool, Option, Some, None, refl, sym, ap, ◌∙◌, subst}
-use Rattle.atomic_table.specs.Table.{Me, rest}
+use Rattle.std.proofs.Common.{◌≡◌, ◌≢◌, ◌⊎◌, inl, inr, ℕ, ◌+◌, ◌*◌, List, [], ◌∷◌, ◌++◌, Bool, true, false, MatchBool, Option, Some, None, refl, sym, ap, ◌∙◌, subst}
+use Rattle.atomic_table.specs.Table.{Me}
 use Rattle.atomic_table.specs.Seated.{TableId}
 use Rattle.mx_stamps.specs.Lists.{IsIn}
 use Rattle.mx_journal.specs.declared.receipts.Receipt.{Receipt}
@@ -9,8 +9,8 @@ use Rattle.mx_letters.specs.declared.fates.Fate.TheVariants.{Pass, Drop, Twice}
 use Rattle.mx_nodelaws.specs.Core.{Core}
 use Rattle.mx_member.specs.declared.parcel.Parcel.{Parcel}
 use Rattle.mx_member.specs.Member.{MemberState}
-use Rattle.mx_stations.specs.declared.answers.PutOut.TheVariants.{Sent, Full, Nothing}
-use Rattle.mx_stations.specs.Entries.{Entry, Idle, Reading, Writing}
+use Rattle.mx_stations.specs.declared.answers.PutOut.TheVariants.{Sent, Full}
+use Rattle.mx_stations.specs.Entries.{Entry}
 use Rattle.mx_stations.specs.Links.{of}
 use Rattle.mx_stations.specs.Slides.{claiming, placing, taking, releasing, Claimed, Taken, placed_view, released_view, IsFilling, IsHolding, KeepsHand}
 use Rattle.mx_stations.specs.Posts.{Delivers, Fetches, FindsNone, KeepsInHand, Post, PutsOut, Waits, post, sent_in, shown, slot_from}

@@ -1,13 +1,13 @@
 -- Lists of acts and moves, one after another.
-use Rattle.std.proofs.Common.{◌≡◌, ◌≢◌, ◌⊎◌, inl, inr, ℕ, List, [], ◌∷◌, ◌++◌, Bool, true, false, MatchBool, MatchOption, Option, Some, None, refl, sym, ap, ◌∙◌, subst}
+use Rattle.std.proofs.Common.{◌≡◌, inl, inr, ℕ, List, [], ◌∷◌, ◌++◌, Bool, true, false, MatchBool, None, refl, ap, ◌∙◌, subst}
 use Rattle.mx_letters.specs.declared.fates.Fate.{Fate}
 use Rattle.mx_letters.specs.declared.fates.Fate.TheVariants.{Pass, Drop, Twice}
 use Rattle.mx_nodelaws.specs.Core.{Core}
 use Rattle.mx_member.specs.declared.acts.Act.TheVariants.{Tick}
 use Rattle.mx_stations.specs.declared.answers.PutOut.{PutOut}
 use Rattle.mx_stations.specs.declared.answers.PutOut.TheVariants.{Sent, Full, Nothing}
-use Rattle.mx_stations.specs.Posts.{Delivers, Fetches, FindsNone, PutsOut, does}
-use Rattle.mx_stations.specs.Turns.{Chain, DeliversFirst, Goes, IsFated, Moves, Station, Throws}
+use Rattle.mx_stations.specs.Posts.{Delivers, PutsOut, does}
+use Rattle.mx_stations.specs.Turns.{Chain, DeliversFirst, Goes, IsFated, Moves, Station}
 
 module _ {H S M : Type 0} (core : Core H S M) where
   pub stays : (s t : Station core) → t ≡ s → Goes core s t

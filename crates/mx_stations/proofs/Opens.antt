@@ -1,11 +1,11 @@
 -- A new table, and how its first seat hands its nodes on.
-use Rattle.std.proofs.Common.{◌≡◌, ◌≢◌, ◌⊎◌, inl, inr, ⊎_elim, ℕ, zero, suc, ◌+◌, ◌*◌, ◌<◌, ◌≤◌, ◌^◌, List, [], ◌∷◌, ◌++◌, map, length, set, replicate, drop, slice_index_or, Option, Some, None, Bool, true, false, refl, sym, ap, ◌∙◌, subst, arith, length-append}
+use Rattle.std.proofs.Common.{◌≡◌, inl, inr, ⊎_elim, ℕ, zero, suc, ◌+◌, ◌*◌, ◌<◌, ◌≤◌, ◌^◌, List, [], ◌∷◌, ◌++◌, map, length, replicate, drop, slice_index_or, Option, Some, None, refl, sym, ap, ◌∙◌, subst, arith, length-append}
 use mathlib.Core.Option.{some, some-injective, some-ne-none}
 use mathlib.Core.Option as maybe
 use Rattle.std.proofs.lemmas.Nat.{mul-add-lt}
-use Rattle.mx_stations.specs.Links.{Phase, free, Link, Links}
+use Rattle.mx_stations.specs.Links.{free, Link, Links}
 use lib.ListN.{get_elem?}
-use Rattle.atomic_table.specs.Table.{State, opening}
+use Rattle.atomic_table.specs.Table.{opening}
 use Rattle.atomic_table.specs.Seated.{TableId}
 use Rattle.mx_stamps.specs.Lists.{IsIn, each_below}
 use Rattle.mx_nodelaws.specs.World.{World}
@@ -19,7 +19,6 @@ use Rattle.mx_member.proofs.Running.{running_at_start}
 use Rattle.mx_stations.specs.Entries.{Entry, Node, owned_of}
 use Rattle.mx_stations.specs.Running.{Holds, Once, Stands, all_but_first, all_from, all_of, fresh, only_first, sent_of, status, word_of}
 use Rattle.mx_stations.specs.Posts.{Post}
-use Rattle.mx_stations.proofs.Places.{within, one_at}
 use Rattle.mx_stations.proofs.Seats.{at_end}
 
 module _ {A : Type 0} where

@@ -1,18 +1,16 @@
 -- How one node's change keeps the slots.
-use Rattle.std.proofs.Common.{◌≡◌, ◌≢◌, ◌⊎◌, inl, inr, ⊎_elim, ℕ, zero, suc, ◌+◌, ◌*◌, ◌<◌, ◌/◌, ◌%◌, List, [], ◌∷◌, ◌++◌, length, set, Option, Some, None, Bool, true, false, cond, eqb, eq-eqb, ne_eqb, refl, sym, ap, ◌∙◌, subst, arith, length-set, append_assoc}
-use Rattle.std.proofs.lemmas.Nat.{div-mul-add, mod-mul-add, mul-add-lt}
+use Rattle.std.proofs.Common.{◌≡◌, ◌≢◌, ⊎_elim, ℕ, ◌+◌, ◌*◌, ◌<◌, ◌/◌, ◌%◌, List, [], ◌∷◌, ◌++◌, length, set, Option, Bool, true, false, cond, eqb, eq-eqb, ne_eqb, refl, sym, ap, ◌∙◌, subst, arith, length-set}
+use Rattle.std.proofs.lemmas.Nat.{div-mul-add, mod-mul-add}
 use mathlib.Core.Option.{some, some-injective, some-ne-none}
 use mathlib.Core.Option as maybe
 use mathlib.Core.Logic.{dite}
 use native.Mathlib.Decide.{ℕ_discrete}
 use lib.ListN.{get_elem?}
-use Rattle.atomic_table.proofs.Lists.{at_set, set_here, set_else}
+use Rattle.atomic_table.proofs.Lists.{at_set, set_else}
 use Rattle.mx_stamps.specs.Lists.{IsIn}
 use Rattle.mx_stations.specs.Entries.{Entry}
-use Rattle.mx_stations.specs.Entries.{Stage}
-use Rattle.mx_stations.specs.Entries.{Idle, Writing, Reading}
-use Rattle.mx_stations.specs.Links.{Phase, free, writing, full, reading, of, Writes, Reads, face, waiting, IsWriting, IsReading, Lies, WasSent, Link, Links}
-use Rattle.mx_stations.proofs.Places.{within, one_at}
+use Rattle.mx_stations.specs.Links.{Phase, free, writing, full, reading, of, Writes, Reads, waiting, Lies, WasSent, Link, Links}
+use Rattle.mx_stations.proofs.Places.{within}
 
 -- a slot belongs to one pair of nodes
 pub one_pair : (n a b c d : ℕ) → b < n → d < n → a * n + b ≡ c * n + d → (a ≡ c) × (b ≡ d)

@@ -1,5 +1,5 @@
 -- The four steps of a parcel keep the rule.
-use Rattle.std.proofs.Common.{◌≡◌, ◌≢◌, ◌⊎◌, inl, inr, ⊎_elim, ℕ, zero, suc, ◌+◌, ◌*◌, ◌<◌, List, [], ◌∷◌, ◌++◌, map, length, set, get_or, Option, Some, None, Bool, true, false, eqb, refl, sym, ap, ◌∙◌, subst, arith, length-set, length-append, append-nil}
+use Rattle.std.proofs.Common.{◌≡◌, ◌≢◌, ◌⊎◌, inl, inr, ⊎_elim, ℕ, zero, suc, ◌+◌, ◌*◌, ◌<◌, List, [], ◌∷◌, ◌++◌, map, length, set, get_or, Option, Some, None, eqb, refl, sym, ap, ◌∙◌, subst, arith, length-set, length-append, append-nil}
 use Rattle.std.proofs.lemmas.Nat.{mul-add-lt}
 use mathlib.Core.Option.{none, some, some-injective, some-ne-none}
 use mathlib.Core.Option as maybe
@@ -11,15 +11,14 @@ use Rattle.mx_stamps.specs.Lists.{IsIn}
 use Rattle.mx_nodelaws.specs.World.{World, sent_by}
 use Rattle.mx_nodelaws.specs.Core.{Core}
 use Rattle.mx_member.specs.declared.parcel.Parcel.{Parcel}
-use Rattle.mx_member.specs.Member.{MemberState}
 use Rattle.mx_member.specs.Running.{IsRunning, Owned}
 use Rattle.mx_stations.specs.Entries.{Entry, Node, owned_of}
 use Rattle.mx_stations.specs.Entries.{Stage}
 use Rattle.mx_stations.specs.Entries.{Idle, Writing, Reading}
-use Rattle.mx_stations.specs.Links.{Phase, free, writing, full, reading, of, Writes, Reads, face, waiting, IsWriting, IsReading, Lies, WasSent, Link, Links}
-use Rattle.mx_stations.specs.Running.{Holds, IsIdle, Shown, Stands, sent_of, word_of}
+use Rattle.mx_stations.specs.Links.{Phase, free, writing, full, reading, of, Writes, Reads, face, waiting, IsWriting, IsReading, Lies, WasSent, Link}
+use Rattle.mx_stations.specs.Running.{Holds, IsIdle, Shown, sent_of, word_of}
 use Rattle.mx_stations.specs.Slides.{claiming, placing, taking, releasing, Claimed, Taken, placed_view, released_view, IsFilling, IsHolding, KeepsHand}
-use Rattle.mx_stations.proofs.Places.{within, one_at, only_one, sent_in_world, moves, set_same}
+use Rattle.mx_stations.proofs.Places.{within, one_at, sent_in_world, moves, set_same}
 use Rattle.mx_stations.proofs.Pairs.{links_step, Keeps, of_more, of_other}
 
 word_read : (ns : List ℕ) (i a : ℕ) → get_elem? ns i ≡ some a → get_or ns i 0 ≡ a

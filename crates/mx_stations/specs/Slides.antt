@@ -1,8 +1,7 @@
 -- The steps by which a parcel crosses a slot.
-use Rattle.std.specs.Prelude.{◌≡◌, ◌≢◌, ◌⊎◌, ℕ, ◌+◌, List, [], ◌∷◌, ◌++◌, Option, Some, None}
-use Rattle.atomic_table.specs.Table.{Me, Step, rest}
+use Rattle.std.specs.Prelude.{◌≡◌, ◌≢◌, ◌⊎◌, ℕ, List, [], ◌∷◌, ◌++◌, Option, Some, None}
+use Rattle.atomic_table.specs.Table.{Me}
 use Rattle.mx_stations.specs.Entries.{Entry}
-use Rattle.mx_stations.specs.Entries.{Stage}
 use Rattle.mx_stations.specs.Entries.{Idle, Writing, Reading}
 use Rattle.mx_stations.specs.Links.{of}
 use Rattle.mx_stamps.specs.Lists.{IsIn}

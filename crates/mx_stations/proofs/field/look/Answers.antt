@@ -1,4 +1,4 @@
-use Rattle.std.proofs.Common.{rules, arith, subst, sym}
+use Rattle.std.proofs.Common.{arith}
 use Rattle.mx_stations.proofs.Acting.{looks}
 use Rattle.mx_stations.proofs.field.look.Goals as goal
 

@@ -1,4 +1,4 @@
-use Rattle.std.proofs.Common.{rules, arith, subst, sym, ap, ◌∙◌}
+use Rattle.std.proofs.Common.{arith, subst}
 use Rattle.mx_stations.specs.Running.{GoToNodes}
 use Rattle.mx_stations.proofs.Acting.{acts_at}
 use Rattle.mx_stations.proofs.field.store_as.Goals as goal

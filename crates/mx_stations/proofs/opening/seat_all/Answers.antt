@@ -1,7 +1,7 @@
-use Rattle.std.proofs.Common.{rules, refl, sym, ap, ◌∙◌, arith, subst, ℕ, ◌≡◌, ◌+◌, ◌-◌, ◌<◌, ◌≤◌, Some, None, true, false, [], ◌∷◌, length, suc}
+use Rattle.std.proofs.Common.{rules, ap, ◌∙◌, arith, ℕ, ◌≡◌, true, false, [], length, suc}
 use Rattle.std.specs.Arc.{arc_value}
 use Rattle.mx_stations.specs.Opened.{starts_of}
-use Rattle.mx_stations.specs.Running.{all_but_first, all_from, fresh, only_first}
+use Rattle.mx_stations.specs.Running.{fresh}
 use Rattle.mx_stations.proofs.Opens.{all_length, one_more, first_of, first_out}
 use Rattle.mx_stations.proofs.Posts.{opened}
 use Rattle.mx_stations.proofs.Waits.{none_wait}

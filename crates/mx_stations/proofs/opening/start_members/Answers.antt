@@ -1,4 +1,4 @@
-use Rattle.std.proofs.Common.{ℕ, arith, ◌≡◌, ◌+◌, true, false, ap, ◌∙◌, sym}
+use Rattle.std.proofs.Common.{ℕ, arith, ◌≡◌, true, false, ap, ◌∙◌}
 use Rattle.mx_stations.specs.Opened.{starts_of}
 use Rattle.mx_stations.specs.Running.{all_of}
 use Rattle.mx_stations.proofs.Opens.{all_more}

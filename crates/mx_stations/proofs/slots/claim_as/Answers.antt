@@ -1,4 +1,4 @@
-use Rattle.std.proofs.Common.{rules, arith, subst, sym, ap, ◌∙◌, ℕ, ◌≤◌, ◌+◌, ◌*◌, Some, None, [], ◌∷◌}
+use Rattle.std.proofs.Common.{arith, subst, ℕ}
 use Rattle.mx_stations.specs.Slides.{Claimed}
 use Rattle.mx_stations.proofs.Slides.{claims_at}
 use Rattle.mx_stations.proofs.slots.claim_as.Goals as goal

@@ -1,4 +1,4 @@
-use Rattle.std.proofs.Common.{rules, arith, subst, sym, ap, ◌∙◌, ℕ, ◌≤◌, ◌+◌, ◌*◌, Some, None, [], ◌∷◌}
+use Rattle.std.proofs.Common.{arith, subst, ℕ}
 use Rattle.mx_stations.specs.Slides.{Taken}
 use Rattle.mx_stations.proofs.Slides.{grabs_at}
 use Rattle.mx_stations.proofs.slots.grab_as.Goals as goal

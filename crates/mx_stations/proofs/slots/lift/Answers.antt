@@ -1,4 +1,4 @@
-use Rattle.std.proofs.Common.{rules, arith, subst, sym, ap, ◌∙◌, ℕ, ◌≤◌, ◌+◌, ◌*◌, Some, None, [], ◌∷◌}
+use Rattle.std.proofs.Common.{ap, Some}
 use Rattle.mx_stations.proofs.Slides.{held_at}
 use Rattle.mx_stations.proofs.slots.lift.Goals as goal
 

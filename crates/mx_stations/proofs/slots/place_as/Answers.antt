@@ -1,4 +1,4 @@
-use Rattle.std.proofs.Common.{rules, arith, subst, sym, ap, ◌∙◌, ℕ, ◌≤◌, ◌+◌, ◌*◌, Some, None, [], ◌∷◌}
+use Rattle.std.proofs.Common.{arith, ap, ◌∙◌, None}
 use Rattle.mx_stations.proofs.Slides.{held_at, places_at}
 use Rattle.mx_stations.proofs.slots.place_as.Goals as goal
 

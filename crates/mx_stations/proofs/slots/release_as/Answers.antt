@@ -1,5 +1,4 @@
-use Rattle.std.proofs.Common.{rules, arith, subst, sym, ap, ◌∙◌, ℕ, ◌≤◌, ◌+◌, ◌*◌, Some, None, [], ◌∷◌}
-use Rattle.atomic_table.specs.Table.{rest}
+use Rattle.std.proofs.Common.{arith}
 use Rattle.mx_stations.proofs.Slides.{releases_at}
 use Rattle.mx_stations.proofs.slots.release_as.Goals as goal
 

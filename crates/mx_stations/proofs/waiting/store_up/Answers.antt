@@ -1,4 +1,4 @@
-use Rattle.std.proofs.Common.{rules, ◌≡◌, ◌++◌, ◌∷◌, [], sym, ap, ◌∙◌, take, append-nil, arith}
+use Rattle.std.proofs.Common.{◌++◌, ◌∷◌, [], sym, ap, ◌∙◌, take, append-nil, arith}
 use Rattle.std.proofs.lemmas.List.{take_all}
 use Rattle.mx_stations.proofs.Waits.{filled}
 use Rattle.mx_stations.proofs.waiting.store_up.Goals as goal

@@ -1,7 +1,7 @@
-use Rattle.std.proofs.Common.{rules, ap, ◌∙◌, arith, subst, ℕ, ◌*◌, IfOk}
+use Rattle.std.proofs.Common.{rules, ap, ◌∙◌, arith, subst, ℕ}
 use Rattle.std.proofs.lemmas.Nat.{mul-le}
 use Rattle.mx_member.specs.Steps.{start_of}
-use Rattle.mx_stations.specs.Opened.{AreFresh, starts_of}
+use Rattle.mx_stations.specs.Opened.{AreFresh}
 use Rattle.mx_stations.proofs.Opens.{begins}
 use Rattle.mx_stations.proofs.field.Field.stations.Goals as goal
 

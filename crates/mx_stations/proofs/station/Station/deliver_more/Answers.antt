@@ -1,6 +1,6 @@
-use Rattle.std.proofs.Common.{rules, refl, sym, ap, ◌∙◌, inl, inr, subst, arith, ◌<◌, ◌≡◌, ◌≢◌, None}
-use Rattle.mx_stations.proofs.Going.{goes_fated, goes_had, goes_held, goes_nodes, goes_on, goes_ticking, stays}
-use Rattle.mx_stations.proofs.Posts.{match_false, match_true, on_err}
+use Rattle.std.proofs.Common.{refl, sym, subst, ◌≢◌, None}
+use Rattle.mx_stations.proofs.Going.{goes_held, stays}
+use Rattle.mx_stations.proofs.Posts.{on_err}
 use Rattle.mx_stations.proofs.station.Station.deliver_more.Goals as goal
 
 pub returns-then-ne-clause-goes : goal.returns-then-ne-clause-goes

@@ -1,12 +1,11 @@
-use Rattle.std.proofs.Common.{rules, refl, sym, ap, ◌∙◌, inl, inr, subst, append-nil, ◌≡◌, ◌++◌, [], ◌∷◌}
-use Rattle.std.specs.Arc.{arc_value}
+use Rattle.std.proofs.Common.{rules, refl, sym, ap, ◌∙◌, inl, subst, ◌≡◌, ◌++◌, [], ◌∷◌}
 use Rattle.mx_member.specs.declared.acts.Act.TheVariants.{Leave}
 use Rattle.mx_member.specs.declared.acts.Answer.TheVariants as answer
 use Rattle.mx_member.specs.Receipts.{closed_by}
 use Rattle.mx_member.proofs.Refusing.{is_err, left, not_left}
-use Rattle.mx_stations.specs.Posts.{post, shown}
+use Rattle.mx_stations.specs.Posts.{shown}
 use Rattle.mx_stations.specs.Running.{GoToNodes}
-use Rattle.mx_stations.proofs.Posts.{acted_seat, acted_waits, acts_so, on_err, one_node, ready}
+use Rattle.mx_stations.proofs.Posts.{acted_seat, acted_waits, one_node, ready}
 use Rattle.mx_stations.proofs.station.Station.leave.Goals as goal
 
 pub act-requires : goal.act-requires

@@ -1,8 +1,8 @@
-use Rattle.std.proofs.Common.{rules, refl, sym, ap, ◌∙◌, inl, inr, subst, ℕ, ◌+◌, ◌*◌, ◌<◌, Some, None, arith}
+use Rattle.std.proofs.Common.{refl, sym, ap, ◌∙◌, inl, subst, ℕ, ◌+◌, ◌*◌, ◌<◌}
 use Rattle.std.specs.Arc.{arc_value}
 use Rattle.mx_stations.specs.Posts.{sent_in, Waits}
-use Rattle.mx_stations.proofs.Posts.{idle, same_seat}
-use Rattle.mx_stations.proofs.Crossing.{finds_none, holds_it, holds_none, keeps_hand, fetched_seat, fetches, fills, placed_seat, placed_waits, put_sent, put_full, turned_waits}
+use Rattle.mx_stations.proofs.Posts.{same_seat}
+use Rattle.mx_stations.proofs.Crossing.{fills, placed_seat, placed_waits, put_sent, put_full, turned_waits}
 use Rattle.mx_stamps.specs.Lists.{IsIn}
 use Rattle.mx_stations.proofs.station.Station.put_out.Goals as goal
 

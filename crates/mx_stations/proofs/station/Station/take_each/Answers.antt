@@ -1,7 +1,6 @@
-use Rattle.std.proofs.Common.{rules, refl, sym, ap, ◌∙◌, inl, inr, subst, arith, ◌<◌, ◌≡◌, ◌≢◌, None}
+use Rattle.std.proofs.Common.{refl, sym, ap, ◌∙◌, subst}
 use Rattle.mx_stations.specs.Turns.{Goes}
-use Rattle.mx_stations.proofs.Going.{goes_fated, goes_had, goes_held, goes_nodes, goes_on, goes_ticking, stays}
-use Rattle.mx_stations.proofs.Posts.{match_false, match_true, on_err}
+use Rattle.mx_stations.proofs.Going.{goes_nodes, goes_on, stays}
 use Rattle.mx_stations.proofs.station.Station.take_each.Goals as goal
 use Rattle.mx_stations.proofs.station.Station.take_each.Goals.{in-Some+in_ok-take_fated, in_default}
 

@@ -1,5 +1,5 @@
-use Rattle.std.proofs.Common.{rules, refl, sym, ap, ◌∙◌, inl, inr, subst, ◌<◌}
-use Rattle.mx_stations.proofs.Crossing.{kept_it, none_there, took}
+use Rattle.std.proofs.Common.{rules, sym, ap, ◌∙◌, inl, subst, ◌<◌}
+use Rattle.mx_stations.proofs.Crossing.{none_there, took}
 use Rattle.mx_stations.proofs.Posts.{match_false, match_true, on_err}
 use Rattle.mx_stations.proofs.station.Station.take_in.Goals as goal
 

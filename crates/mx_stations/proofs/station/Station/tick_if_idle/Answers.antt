@@ -1,6 +1,5 @@
-use Rattle.std.proofs.Common.{rules, refl, sym, ap, ◌∙◌, inl, inr, subst, arith, ◌<◌, ◌≡◌, ◌≢◌, None}
-use Rattle.mx_stations.proofs.Going.{goes_fated, goes_had, goes_held, goes_nodes, goes_on, goes_ticking, stays}
-use Rattle.mx_stations.proofs.Posts.{match_false, match_true, on_err}
+use Rattle.std.proofs.Common.{rules}
+use Rattle.mx_stations.proofs.Going.{goes_ticking}
 use Rattle.mx_stations.proofs.station.Station.tick_if_idle.Goals as goal
 
 pub tick-requires : goal.tick-requires

@@ -1,6 +1,6 @@
-use Rattle.std.proofs.Common.{rules, refl, sym, ap, ◌∙◌, inl, inr, subst, arith, ◌<◌, ◌≡◌, ◌≢◌, None}
-use Rattle.mx_stations.proofs.Going.{goes_fated, goes_had, goes_held, goes_nodes, goes_on, goes_ticking, stays}
-use Rattle.mx_stations.proofs.Posts.{match_false, match_true, on_err}
+use Rattle.std.proofs.Common.{rules, sym, subst, ◌≢◌, None}
+use Rattle.mx_stations.proofs.Going.{goes_had, goes_on, stays}
+use Rattle.mx_stations.proofs.Posts.{on_err}
 use Rattle.mx_stations.proofs.station.Station.turn.Goals as goal
 
 pub returns-in_err-deliver-clause-goes : goal.returns-in_err-deliver-clause-goes

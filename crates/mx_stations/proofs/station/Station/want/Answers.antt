@@ -1,7 +1,7 @@
-use Rattle.std.proofs.Common.{rules, refl, sym, ap, ◌∙◌, inl, inr, subst, append-nil, ◌<◌, [], ◌∷◌}
+use Rattle.std.proofs.Common.{rules, refl, sym, ap, ◌∙◌, inl, subst, append-nil, ◌<◌}
 use Rattle.mx_member.specs.declared.acts.Act.TheVariants.{Want}
 use Rattle.mx_stations.specs.Running.{GoToNodes}
-use Rattle.mx_stations.proofs.Posts.{acted_seat, acted_waits, acts_so, on_err, one_node, ready}
+use Rattle.mx_stations.proofs.Posts.{acted_seat, acted_waits, acts_so, one_node, ready}
 use Rattle.mx_stations.proofs.station.Station.want.Goals as goal
 
 pub act-requires : goal.act-requires
