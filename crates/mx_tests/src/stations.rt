@@ -88,9 +88,7 @@ fn what_a_fate_drops_is_not_delivered(rt: HostRuntime) -> Result<(), Fail> {
 }
 
 /// A section of the only node of a cluster, by every call of its station.
-fn visit_alone<C: Exclusion>(alloc: Global, shape: &C::Shape) -> Result<bool, Fail> {
-    let mut all = Field::<C>::stations(alloc, shape, 0, 10, 2)?;
-    let mut only = all.pop().ok_or("only")?;
+fn visit_alone<C: Exclusion>(only: &mut Station<C>) -> Result<bool, Fail> {
     only.ask().map_err(|_| "ask")?;
     for _turn in 0..4 {
         only.turn(&mut Fair).map_err(|_| "turn")?;
@@ -123,11 +121,14 @@ fn visit_alone<C: Exclusion>(alloc: Global, shape: &C::Shape) -> Result<bool, Fa
 #[test]
 fn every_call_at_each_algorithm(rt: HostRuntime) -> Result<(), Fail> {
     let count = Count::of(1).ok_or("count")?;
-    assert!(rt; visit_alone::<Ricart>(rt.alloc(), &count)?);
+    let mut ricart = Field::<Ricart>::stations(rt.alloc(), &count, 0, 10, 2)?;
+    assert!(rt; visit_alone(ricart.last_mut().ok_or("only")?)?);
     let quorums = Quorums::grid(1, 1).map_err(|_| "quorums")?;
-    assert!(rt; visit_alone::<Maekawa>(rt.alloc(), &quorums)?);
+    let mut maekawa = Field::<Maekawa>::stations(rt.alloc(), &quorums, 0, 10, 2)?;
+    assert!(rt; visit_alone(maekawa.last_mut().ok_or("only")?)?);
     let tree = Tree::of(1, &[], 0).map_err(|_| "tree")?;
-    assert!(rt; visit_alone::<Raymond>(rt.alloc(), &tree)?);
+    let mut raymond = Field::<Raymond>::stations(rt.alloc(), &tree, 0, 10, 2)?;
+    assert!(rt; visit_alone(raymond.last_mut().ok_or("only")?)?);
     Ok(())
 }
 
