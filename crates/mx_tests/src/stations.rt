@@ -1,10 +1,7 @@
 //! Stations of small clusters, parcel by parcel, by turns, and in threads.
 
 use mx_letters::{Fair, Fate, Fates};
-use mx_maekawa::Maekawa;
 use mx_nodelaws::{Exclusion, Phase};
-use mx_quorums::Quorums;
-use mx_raymond::{Raymond, Tree};
 use mx_ricart::{Count, Ricart};
 use mx_stamps::NodeId;
 use mx_stations::{Field, PutOut, Station, Taken, TurnReport};
@@ -84,51 +81,6 @@ fn what_a_fate_drops_is_not_delivered(rt: HostRuntime) -> Result<(), Fail> {
     assert_eq!(rt; zero.put_out(), PutOut::Sent);
     let report = one.turn(&mut Lossy).map_err(|_| "memory")?;
     assert_eq!(rt; (report.taken, report.dropped, report.put), (1, 1, 0));
-    Ok(())
-}
-
-/// A section of the only node of a cluster, by every call of its station.
-fn visit_alone<C: Exclusion>(only: &mut Station<C>) -> Result<bool, Fail> {
-    only.ask().map_err(|_| "ask")?;
-    for _turn in 0..4 {
-        only.turn(&mut Fair).map_err(|_| "turn")?;
-    }
-    if !only.can_enter() || only.enter() != Ok(1) || only.phase() != Phase::Inside(1) {
-        return Err("enter")?;
-    }
-    only.write(0, 5).map_err(|_| "write")?;
-    only.restart();
-    only.write(1, 6).map_err(|_| "write")?;
-    let read = only.read(1);
-    let receipt = only.leave().map_err(|_| "leave")?;
-    let me = only.node();
-    if me.get() < only.nodes() {
-        only.want(me);
-    }
-    only.tick();
-    Ok(
-        read == Ok(6)
-            && receipt.number == 1
-            && only.mine() == 1
-            && only.receipts().len() == 1
-            && only.journal().len() == 1
-            && only.value(0) == Some(0)
-            && only.value(1) == Some(6)
-            && only.waits() > 0,
-    )
-}
-
-#[test]
-fn every_call_at_each_algorithm(rt: HostRuntime) -> Result<(), Fail> {
-    let count = Count::of(1).ok_or("count")?;
-    let mut ricart = Field::<Ricart>::stations(rt.alloc(), &count, 0, 10, 2)?;
-    assert!(rt; visit_alone(ricart.last_mut().ok_or("only")?)?);
-    let quorums = Quorums::grid(1, 1).map_err(|_| "quorums")?;
-    let mut maekawa = Field::<Maekawa>::stations(rt.alloc(), &quorums, 0, 10, 2)?;
-    assert!(rt; visit_alone(maekawa.last_mut().ok_or("only")?)?);
-    let tree = Tree::of(1, &[], 0).map_err(|_| "tree")?;
-    let mut raymond = Field::<Raymond>::stations(rt.alloc(), &tree, 0, 10, 2)?;
-    assert!(rt; visit_alone(raymond.last_mut().ok_or("only")?)?);
     Ok(())
 }
 
