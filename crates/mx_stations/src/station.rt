@@ -15,8 +15,8 @@ use std::alloc::Global;
 use std::marker::Model;
 use std::sync::Arc;
 
-/// A node that a thread may own. What waits is at most 64 parcels; what is sent beyond is lost, as a
-/// network may lose it.
+/// A node that a thread may own. What waits is at most 64 parcels; what is sent beyond is lost, as
+/// a network may lose it.
 #[derive(Drop)]
 pub struct Station<C: Exclusion> {
     pub(crate) field: Arc<Field<C>, Global>,
