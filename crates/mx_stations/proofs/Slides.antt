@@ -21,7 +21,7 @@ use Rattle.mx_stations.specs.Slides.{claiming, placing, taking, releasing, Claim
 use Rattle.mx_stations.proofs.Places.{within, one_at, sent_in_world, moves, set_same}
 use Rattle.mx_stations.proofs.Pairs.{links_step, Keeps, of_more, of_other}
 
-word_read : (ns : List ℕ) (i a : ℕ) → get_elem? ns i ≡ some a → get_or ns i 0 ≡ a
+pub word_read : (ns : List ℕ) (i a : ℕ) → get_elem? ns i ≡ some a → get_or ns i 0 ≡ a
 word_read [] i a e = absurd (some-ne-none a (sym e))
 word_read (n ∷ ns) zero a e = some-injective n a e
 word_read (n ∷ ns) (suc i) a e = word_read ns i a e
@@ -76,7 +76,7 @@ module _ {H S M : Type 0} (core : Core H S M) (Good : World S M → Type 0) wher
         links = links_step n s.words s.homes homes' h.world e.node e e' c d w ph h.links h.stands.long here dn homes_long homes_else changed new;
       }
 
-some_at : {A : Type 0} (l : List A) (i : ℕ) → i < length l → (a : A) × (get_elem? l i ≡ some a)
+pub some_at : {A : Type 0} (l : List A) (i : ℕ) → i < length l → (a : A) × (get_elem? l i ≡ some a)
 some_at [] i h = absurd (omega arith)
 some_at (x ∷ xs) zero h = (x, refl)
 some_at (x ∷ xs) (suc i) h = some_at xs i (omega arith)

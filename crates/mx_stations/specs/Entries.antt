@@ -11,7 +11,8 @@ pub data Stage : Type 0 where
   Writing : ℕ → Stage
   Reading : ℕ → Stage
 
--- A parcel stands in `sent` with its addressee, in `hand` with its sender, and in `placed` and `taken` with the slot.
+-- A parcel stands in `sent` with its addressee, in `hand` with its sender, and in `placed` and
+-- `taken` with the slot.
 pub record Entry (T P : Type 0) : Type 0 where
   pub node : ℕ
   pub member : T

@@ -1,4 +1,5 @@
--- The slots between the nodes. The slot `a * n + b` carries parcels from the node a to the node b, and its word is the word n + that.
+-- The slots between the nodes. The slot `a * n + b` carries parcels from the node a to the node b,
+-- and its word is the word n + that.
 use Rattle.std.specs.Prelude.{◌≡◌, ◌≢◌, ℕ, ◌+◌, ◌*◌, List, [], ◌∷◌, ◌++◌, length, Option, Some, None, ◌==◌, cond}
 use mathlib.Core.Option.{some}
 use mathlib.Core.Option as maybe
@@ -70,7 +71,8 @@ module _ {P : Type 0} where
   WasSent to sent reading = Unit {0}
 
 -- What was taken is what was placed, in order, but for a parcel that lies there.
-pub record Link {T P : Type 0} (n : ℕ) (words : List ℕ) (homes : List (maybe.Option (Option P))) (k to : ℕ) (e f : Entry T P) (ph : Phase P) : Type 0 where
+pub record Link {T P : Type 0} (n : ℕ) (words : List ℕ) (homes : List (maybe.Option (Option P)))
+    (k to : ℕ) (e f : Entry T P) (ph : Phase P) : Type 0 where
   pub word : get_elem? words (n + k) ≡ some (face ph)
   pub lies : Lies homes k ph
   pub log : of k e.placed ≡ of k f.taken ++ waiting ph
@@ -79,7 +81,9 @@ pub record Link {T P : Type 0} (n : ℕ) (words : List ℕ) (homes : List (maybe
   pub reader : (Reads k f.stage → IsReading ph) × (IsReading ph → Reads k f.stage)
   pub used : IsReading ph → of k f.taken ≢ []
 
-pub record Links {T P : Type 0} (n : ℕ) (words : List ℕ) (homes : List (maybe.Option (Option P))) (world : List (Entry T P)) : Type 0 where
+pub record Links {T P : Type 0} (n : ℕ) (words : List ℕ) (homes : List (maybe.Option (Option P)))
+    (world : List (Entry T P)) : Type 0 where
   pub phase : ℕ → Phase P
   pub wide : length homes ≡ n * n
-  pub each : (a b : ℕ) (e f : Entry T P) → get_elem? world a ≡ some e → get_elem? world b ≡ some f → Link n words homes (a * n + b) b e f (phase (a * n + b))
+  pub each : (a b : ℕ) (e f : Entry T P) → get_elem? world a ≡ some e → get_elem? world b ≡ some f
+      → Link n words homes (a * n + b) b e f (phase (a * n + b))

@@ -16,4 +16,6 @@ starts_of core setup i = start_of core setup.shape i setup.origin setup.limit se
 
 -- one for each node, in order, at rest, all at one table
 abbrev pub AreFresh : {T P : Type 0} → ℕ → (ℕ → T) → List (Post T P) → Type 0
-AreFresh {T} {P} n starts all = (length all ≡ n) × ((table : TableId) × ((k : ℕ) (s : Post T P) → get_elem? all k ≡ some s → (s.table ≡ table) × (s.nodes ≡ n) × (s.me ≡ fresh k (starts k)) × (s.waiting ≡ [])))
+AreFresh {T} {P} n starts all =
+    (length all ≡ n) × ((table : TableId) × ((k : ℕ) (s : Post T P) → get_elem? all k ≡ some s
+    → (s.table ≡ table) × (s.nodes ≡ n) × (s.me ≡ fresh k (starts k)) × (s.waiting ≡ [])))

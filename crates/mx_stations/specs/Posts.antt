@@ -20,7 +20,8 @@ use Rattle.mx_stations.specs.Links.{of}
 use Rattle.mx_stations.specs.Running.{acted}
 use Rattle.mx_stations.specs.Slides.{placing, taking, releasing}
 
--- its table, how many nodes that has, its node, and the parcels that wait in it, each with its addressee
+-- its table, how many nodes that has, its node, and the parcels that wait in it, each with its
+-- addressee
 pub record Post (T P : Type 0) : Type 0 where
   pub table : TableId
   pub nodes : ℕ
@@ -42,7 +43,17 @@ module _ {T P : Type 0} where
 
   -- the node, with what its seat alone knows; it moves no parcel
   abbrev pub shown : ℕ → T → Option (ℕ × P) → List Receipt → List (Entry T P) → Entry T P
-  shown i x hand receipts v = record { node = i; member = x; receipts = receipts; sent = sent_in v; hand = hand; stage = Idle; placed = placed_in v; taken = taken_in v }
+  shown i x hand receipts v =
+      record {
+        node = i;
+        member = x;
+        receipts = receipts;
+        sent = sent_in v;
+        hand = hand;
+        stage = Idle;
+        placed = placed_in v;
+        taken = taken_in v;
+      }
 
   abbrev pub post : TableId → ℕ → Entry T P → List (ℕ × P) → Post T P
   post table nodes me waiting = record { table = table; nodes = nodes; me = me; waiting = waiting }
@@ -64,11 +75,17 @@ waiting_after waiting out = take 64 (waiting ++ out)
 
 module _ {H S M : Type 0} (core : Core H S M) where
   -- one act of the node, with this in hand after it: its receipt, if it answers one, joins its own
-  abbrev pub act_on : Act M → Option (ℕ × Parcel M) → Entry (MemberState S) (Parcel M) → Entry (MemberState S) (Parcel M)
-  act_on a hand e = acted e (act_of core a e.member).state (act_of core a e.member).letters hand (e.receipts ++ closed_by (act_of core a e.member).answer)
+  abbrev pub act_on : Act M → Option (ℕ × Parcel M) → Entry (MemberState S) (Parcel M)
+      → Entry (MemberState S) (Parcel M)
+  act_on a hand e =
+      acted e (act_of core a e.member).state (act_of core a e.member).letters hand
+      (e.receipts ++ closed_by (act_of core a e.member).answer)
 
-  abbrev pub after_act : Act M → Option (ℕ × Parcel M) → Post (MemberState S) (Parcel M) → Post (MemberState S) (Parcel M)
-  after_act a hand s = post s.table s.nodes (act_on a hand s.me) (waiting_after s.waiting (act_of core a s.me.member).letters)
+  abbrev pub after_act : Act M → Option (ℕ × Parcel M) → Post (MemberState S) (Parcel M)
+      → Post (MemberState S) (Parcel M)
+  after_act a hand s =
+      post s.table s.nodes (act_on a hand s.me)
+      (waiting_after s.waiting (act_of core a s.me.member).letters)
 
   -- the station after one act of its own
   abbrev pub does : Act M → Post (MemberState S) (Parcel M) → Post (MemberState S) (Parcel M)
@@ -76,31 +93,48 @@ module _ {H S M : Type 0} (core : Core H S M) where
 
   -- the parcel in hand is delivered by one act
   abbrev pub Delivers : Post (MemberState S) (Parcel M) → Post (MemberState S) (Parcel M) → Type 0
-  Delivers s t = (from : ℕ) × (p : Parcel M) × (s.me.hand ≡ Some (from, p)) × (t ≡ after_act (Deliver from p) None s)
+  Delivers s t =
+      (from : ℕ) × (p : Parcel M) × (s.me.hand ≡ Some (from, p))
+      × (t ≡ after_act (Deliver from p) None s)
 
 module _ {T P : Type 0} where
   -- one parcel crosses from the link into the empty hand
   abbrev pub Fetches : ℕ → Post T P → Post T P → Type 0
-  Fetches from s t = (s.me.hand ≡ None) × ((p : P) × (t ≡ post s.table s.nodes (releasing (Some (from, p)) (taking (slot_from s from) from p s.me)) s.waiting))
+  Fetches from s t =
+      (s.me.hand ≡ None) × ((p : P) × (t ≡ post s.table s.nodes
+      (releasing (Some (from, p)) (taking (slot_from s from) from p s.me)) s.waiting))
 
-  -- nothing lies there for the empty hand, and nothing changes; from the own link all that was placed was taken
+  -- nothing lies there for the empty hand, and nothing changes; from the own link all that was
+  -- placed was taken
   abbrev pub FindsNone : ℕ → Post T P → Post T P → Type 0
-  FindsNone from s t = (s.me.hand ≡ None) × (t ≡ s) × (from ≡ s.me.node → of (slot_from s from) s.me.placed ≡ of (slot_from s from) s.me.taken)
+  FindsNone from s t =
+      (s.me.hand ≡ None) × (t ≡ s)
+      × (from ≡ s.me.node → of (slot_from s from) s.me.placed ≡ of (slot_from s from) s.me.taken)
 
-  -- the first that waits leaves, and is placed; or it moves to the end, and this station has placed a parcel in that slot before
+  -- the first that waits leaves, and is placed; or it moves to the end, and this station has placed
+  -- a parcel in that slot before
   abbrev pub PutsOut : Post T P → PutOut → Post T P → Type 0
-  PutsOut s Sent t = (to : ℕ) × (p : P) × (rest : List (ℕ × P)) × (s.waiting ≡ (to, p) ∷ rest) × (t ≡ post s.table s.nodes (placing (slot_to s to) p s.me) rest)
+  PutsOut s Sent t =
+      (to : ℕ) × (p : P) × (rest : List (ℕ × P)) × (s.waiting ≡ (to, p) ∷ rest)
+      × (t ≡ post s.table s.nodes (placing (slot_to s to) p s.me) rest)
   PutsOut s Full t =
-      (to : ℕ) × (p : P) × (rest : List (ℕ × P)) × (s.waiting ≡ (to, p) ∷ rest) × (t ≡ post s.table s.nodes s.me (rest ++ (to, p) ∷ [])) × (of (slot_to s to) s.me.placed ≢ [])
+      (to : ℕ) × (p : P) × (rest : List (ℕ × P)) × (s.waiting ≡ (to, p) ∷ rest)
+      × (t ≡ post s.table s.nodes s.me (rest ++ (to, p) ∷ []))
+      × (of (slot_to s to) s.me.placed ≢ [])
   PutsOut s Nothing t = (s.waiting ≡ []) × (t ≡ s)
 
 module _ {H S M : Type 0} (core : Core H S M) where
-  -- a parcel in hand is delivered, and no other taken; else one parcel is taken and delivered, or there was none
-  abbrev pub TakesIn : ℕ → Post (MemberState S) (Parcel M) → Taken → Post (MemberState S) (Parcel M) → Type 0
-  TakesIn from s Got t = Delivers core s t ⊎ ((mid : Post (MemberState S) (Parcel M)) × Fetches from s mid × Delivers core mid t)
+  -- a parcel in hand is delivered, and no other taken; else one parcel is taken and delivered, or
+  -- there was none
+  abbrev pub TakesIn : ℕ → Post (MemberState S) (Parcel M) → Taken → Post (MemberState S) (Parcel M)
+      → Type 0
+  TakesIn from s Got t =
+      Delivers core s t
+      ⊎ ((mid : Post (MemberState S) (Parcel M)) × Fetches from s mid × Delivers core mid t)
   TakesIn from s Empty t = FindsNone from s t
 
 module _ {T P : Type 0} where
-  -- memory was refused, and a parcel stays in hand: the one that was there, and nothing changed, or one that was taken
+  -- memory was refused, and a parcel stays in hand: the one that was there, and nothing changed, or
+  -- one that was taken
   abbrev pub KeepsInHand : ℕ → Post T P → Post T P → Type 0
   KeepsInHand from s t = ((s.me.hand ≢ None) × (t ≡ s)) ⊎ Fetches from s t

@@ -32,7 +32,17 @@ all_of n f = all_from 0 n f
 module _ {T P : Type 0} where
   -- a node with this member, which did nothing yet
   abbrev pub fresh : ℕ → T → Entry T P
-  fresh i x = record { node = i; member = x; receipts = []; sent = []; hand = None; stage = Idle; placed = []; taken = [] }
+  fresh i x =
+      record {
+        node = i;
+        member = x;
+        receipts = [];
+        sent = [];
+        hand = None;
+        stage = Idle;
+        placed = [];
+        taken = [];
+      }
 
   -- no node stands twice in a view
   abbrev pub Once : List (Entry T P) → Type 0
@@ -45,15 +55,19 @@ module _ {T P : Type 0} where
   sent_of (e ∷ es) = sent_by e.node e.sent ++ sent_of es
 
 -- each node of the world stands in exactly one view, as it is
-pub record Stands {T P : Type 0} (n : ℕ) (views : List (List (Entry T P))) (world : List (Entry T P)) : Type 0 where
+pub record Stands {T P : Type 0} (n : ℕ) (views : List (List (Entry T P)))
+    (world : List (Entry T P)) : Type 0 where
   pub owner : ℕ → ℕ
   pub long : length world ≡ n
   pub numbered : (i : ℕ) (e : Entry T P) → get_elem? world i ≡ some e → e.node ≡ i
-  pub known : (j : ℕ) (v : List (Entry T P)) (e : Entry T P) → get_elem? views j ≡ some v → IsIn e v → (get_elem? world e.node ≡ some e) × (owner e.node ≡ j)
-  pub there : (i : ℕ) (e : Entry T P) → get_elem? world i ≡ some e → (v : List (Entry T P)) × (get_elem? views (owner i) ≡ some v) × IsIn e v
+  pub known : (j : ℕ) (v : List (Entry T P)) (e : Entry T P) → get_elem? views j ≡ some v → IsIn e v
+      → (get_elem? world e.node ≡ some e) × (owner e.node ≡ j)
+  pub there : (i : ℕ) (e : Entry T P) → get_elem? world i ≡ some e
+      → (v : List (Entry T P)) × (get_elem? views (owner i) ≡ some v) × IsIn e v
   pub once : (j : ℕ) (v : List (Entry T P)) → get_elem? views j ≡ some v → Once v
 
--- what the word of a node shows: twice the number of its last section, and one more while it is inside
+-- what the word of a node shows: twice the number of its last section, and one more while it is
+-- inside
 abbrev pub status : Phase → ℕ → ℕ
 status phase.Idle mine = 2 * mine
 status phase.Waiting mine = 2 * mine
@@ -63,20 +77,26 @@ module _ {H S M : Type 0} (core : Core H S M) where
   abbrev pub word_of : MemberState S → ℕ
   word_of m = status (core.phase m.core) (core.mine m.core)
 
-  -- the words show the nodes, which run as a cluster does, and a parcel in hand was sent to its holder
-  pub record Shown (Good : World S M → Type 0) (words : List ℕ) (world : List (Node S M)) : Type 0 where
-    pub shows : (i : ℕ) (e : Node S M) → get_elem? world i ≡ some e → get_elem? words i ≡ some (word_of e.member)
+  -- the words show the nodes, which run as a cluster does, and a parcel in hand was sent to its
+  -- holder
+  pub record Shown (Good : World S M → Type 0) (words : List ℕ)
+      (world : List (Node S M)) : Type 0 where
+    pub shows : (i : ℕ) (e : Node S M) → get_elem? world i ≡ some e
+        → get_elem? words i ≡ some (word_of e.member)
     pub runs : IsRunning core Good (map owned_of world) (sent_of world)
-    pub held : (i : ℕ) (e : Node S M) (x : ℕ × Parcel M) → get_elem? world i ≡ some e → e.hand ≡ Some x → IsIn (x.0, i, x.1) (sent_of world)
+    pub held : (i : ℕ) (e : Node S M) (x : ℕ × Parcel M) → get_elem? world i ≡ some e
+        → e.hand ≡ Some x → IsIn (x.0, i, x.1) (sent_of world)
 
   -- the rule of a table of n nodes
-  pub record Holds (Good : World S M → Type 0) (n : ℕ) (s : State (Option (Parcel M)) (List (Node S M))) : Type 0 where
+  pub record Holds (Good : World S M → Type 0) (n : ℕ)
+      (s : State (Option (Parcel M)) (List (Node S M))) : Type 0 where
     pub world : List (Node S M)
     pub stands : Stands n s.views world
     pub shown : Shown Good s.words world
     pub links : Links n s.words s.homes world
 
--- what a node of n, with this in hand, may do: a delivery is of the parcel in hand, a want goes to a node
+-- what a node of n, with this in hand, may do: a delivery is of the parcel in hand, a want goes to
+-- a node
 abbrev pub MayDo : {M : Type 0} → ℕ → Option (ℕ × Parcel M) → Act M → Type 0
 MayDo n hand act.Ask = Unit {0}
 MayDo n hand act.Enter = Unit {0}
@@ -95,10 +115,21 @@ Keeps before after = (after ≡ before) ⊎ (after ≡ None)
 module _ {T P : Type 0} where
   -- the node after an act: its member, its receipts, what it sent besides, and its hand
   abbrev pub acted : Entry T P → T → List (ℕ × P) → Option (ℕ × P) → List Receipt → Entry T P
-  acted e y out hand receipts = record { node = e.node; member = y; receipts = receipts; sent = e.sent ++ out; hand = hand; stage = e.stage; placed = e.placed; taken = e.taken }
+  acted e y out hand receipts =
+      record {
+        node = e.node;
+        member = y;
+        receipts = receipts;
+        sent = e.sent ++ out;
+        hand = hand;
+        stage = e.stage;
+        placed = e.placed;
+        taken = e.taken;
+      }
 
   -- the view of a seat with one node, after an act
-  abbrev pub acted_view : List (Entry T P) → T → List (ℕ × P) → Option (ℕ × P) → List Receipt → List (Entry T P)
+  abbrev pub acted_view : List (Entry T P) → T → List (ℕ × P) → Option (ℕ × P) → List Receipt
+      → List (Entry T P)
   acted_view [] y out hand receipts = []
   acted_view (e ∷ v) y out hand receipts = acted e y out hand receipts ∷ []
 
@@ -111,8 +142,11 @@ module _ {T P : Type 0} where
   only_first [] = []
   only_first (e ∷ v) = e ∷ []
 
--- the one node in view did one act, which made this member of it, with these parcels, this in hand and these receipts
-pub record DidAct {H S M : Type 0} (core : Core H S M) (n : ℕ) (v : List (Node S M)) (y : MemberState S) (out : List (ℕ × Parcel M)) (hand : Option (ℕ × Parcel M)) (receipts : List Receipt) : Type 0 where
+-- the one node in view did one act, which made this member of it, with these parcels, this in hand
+-- and these receipts
+pub record DidAct {H S M : Type 0} (core : Core H S M) (n : ℕ) (v : List (Node S M))
+    (y : MemberState S) (out : List (ℕ × Parcel M)) (hand : Option (ℕ × Parcel M))
+    (receipts : List Receipt) : Type 0 where
   pub node : Node S M
   pub act : Act M
   pub alone : v ≡ node ∷ []
@@ -128,7 +162,8 @@ GoToNodes {T} {P} n v = (e : Entry T P) → IsIn e v → (x : ℕ × P) → IsIn
 
 -- a parcel in hand meets no stranger and no conflict
 abbrev pub HandFits : {S M : Type 0} → List (Node S M) → Type 0
-HandFits {S} {M} v = (e : Node S M) (x : ℕ × Parcel M) → IsIn e v → e.hand ≡ Some x → IsTakeable x.0 x.1 e.member
+HandFits {S} {M} v =
+    (e : Node S M) (x : ℕ × Parcel M) → IsIn e v → e.hand ≡ Some x → IsTakeable x.0 x.1 e.member
 
 -- the seat has just this node, which moves no parcel, and no slot
 abbrev pub IsIdle : {T P : Type 0} → Me (Option P) (List (Entry T P)) → ℕ → Type 0

@@ -8,29 +8,75 @@ use Rattle.mx_stamps.specs.Lists.{IsIn}
 
 module _ {T P : Type 0} where
   abbrev pub claiming : ℕ → Entry T P → Entry T P
-  claiming k e = record { node = e.node; member = e.member; sent = e.sent; hand = e.hand; receipts = e.receipts; stage = Writing k; placed = e.placed; taken = e.taken }
+  claiming k e =
+      record {
+        node = e.node;
+        member = e.member;
+        sent = e.sent;
+        hand = e.hand;
+        receipts = e.receipts;
+        stage = Writing k;
+        placed = e.placed;
+        taken = e.taken;
+      }
 
   abbrev pub placing : ℕ → P → Entry T P → Entry T P
-  placing k p e = record { node = e.node; member = e.member; sent = e.sent; hand = e.hand; receipts = e.receipts; stage = Idle; placed = e.placed ++ (k, p) ∷ []; taken = e.taken }
+  placing k p e =
+      record {
+        node = e.node;
+        member = e.member;
+        sent = e.sent;
+        hand = e.hand;
+        receipts = e.receipts;
+        stage = Idle;
+        placed = e.placed ++ (k, p) ∷ [];
+        taken = e.taken;
+      }
 
   abbrev pub taking : ℕ → ℕ → P → Entry T P → Entry T P
-  taking k from p e = record { node = e.node; member = e.member; sent = e.sent; hand = Some (from, p); receipts = e.receipts; stage = Reading k; placed = e.placed; taken = e.taken ++ (k, p) ∷ [] }
+  taking k from p e =
+      record {
+        node = e.node;
+        member = e.member;
+        sent = e.sent;
+        hand = Some (from, p);
+        receipts = e.receipts;
+        stage = Reading k;
+        placed = e.placed;
+        taken = e.taken ++ (k, p) ∷ [];
+      }
 
   -- the parcel stays in hand, or is thrown away
   abbrev pub releasing : Option (ℕ × P) → Entry T P → Entry T P
-  releasing hand e = record { node = e.node; member = e.member; sent = e.sent; hand = hand; receipts = e.receipts; stage = Idle; placed = e.placed; taken = e.taken }
+  releasing hand e =
+      record {
+        node = e.node;
+        member = e.member;
+        sent = e.sent;
+        hand = hand;
+        receipts = e.receipts;
+        stage = Idle;
+        placed = e.placed;
+        taken = e.taken;
+      }
 
-  -- the slot was empty, and the seat has it; or nothing changed, and the seat has placed a parcel there before
-  abbrev pub Claimed : ℕ → Me (Option P) (List (Entry T P)) → ℕ → Me (Option P) (List (Entry T P)) → Type 0
+  -- the slot was empty, and the seat has it; or nothing changed, and the seat has placed a parcel
+  -- there before
+  abbrev pub Claimed : ℕ → Me (Option P) (List (Entry T P)) → ℕ → Me (Option P) (List (Entry T P))
+      → Type 0
   Claimed k m found m' =
       (found ≡ 0 → (e : Entry T P) × (m.0 ≡ e ∷ []) × (m' ≡ (claiming k e ∷ [], (k, None) ∷ m.1)))
       × (found ≢ 0 → (m' ≡ m) × ((e : Entry T P) × (m.0 ≡ e ∷ []) × (of k e.placed ≢ [])))
 
-  -- the slot had a parcel, and the seat has both; or nothing changed, and where it is the seat's own link all that was placed there was taken
-  abbrev pub Taken : ℕ → ℕ → Me (Option P) (List (Entry T P)) → ℕ → Me (Option P) (List (Entry T P)) → Type 0
+  -- the slot had a parcel, and the seat has both; or nothing changed, and where it is the seat's
+  -- own link all that was placed there was taken
+  abbrev pub Taken : ℕ → ℕ → Me (Option P) (List (Entry T P)) → ℕ → Me (Option P) (List (Entry T P))
+      → Type 0
   Taken k from m found m' =
-      (found ≡ 2 → (e : Entry T P) × (m.0 ≡ e ∷ []) × ((p : P) × (m' ≡ (taking k from p e ∷ [], (k, Some p) ∷ m.1))))
-      × (found ≢ 2 → (m' ≡ m) × ((e : Entry T P) × (m.0 ≡ e ∷ []) × (from ≡ e.node → of k e.placed ≡ of k e.taken)))
+      (found ≡ 2 → (e : Entry T P) × (m.0 ≡ e ∷ [])
+      × ((p : P) × (m' ≡ (taking k from p e ∷ [], (k, Some p) ∷ m.1))))
+      × (found ≢ 2 → (m' ≡ m) × ((e : Entry T P) × (m.0 ≡ e ∷ [])
+      × (from ≡ e.node → of k e.placed ≡ of k e.taken)))
 
   abbrev pub placed_view : ℕ → P → List (Entry T P) → List (Entry T P)
   placed_view k p [] = []
@@ -42,11 +88,14 @@ module _ {T P : Type 0} where
 
   -- the seat holds the empty slot, and may put this parcel there
   abbrev pub IsFilling : Me (Option P) (List (Entry T P)) → ℕ → ℕ → ℕ → P → Type 0
-  IsFilling m k node to p = (e : Entry T P) × (m ≡ (e ∷ [], (k, None) ∷ [])) × (e.node ≡ node) × (e.stage ≡ Writing k) × IsIn (to, p) e.sent
+  IsFilling m k node to p =
+      (e : Entry T P) × (m ≡ (e ∷ [], (k, None) ∷ [])) × (e.node ≡ node) × (e.stage ≡ Writing k)
+      × IsIn (to, p) e.sent
 
   -- the seat holds the slot, in which x lies
   abbrev pub IsHolding : Me (Option P) (List (Entry T P)) → ℕ → ℕ → Option P → Type 0
-  IsHolding m k node x = (e : Entry T P) × (m ≡ (e ∷ [], (k, x) ∷ [])) × (e.node ≡ node) × (e.stage ≡ Reading k)
+  IsHolding m k node x =
+      (e : Entry T P) × (m ≡ (e ∷ [], (k, x) ∷ [])) × (e.node ≡ node) × (e.stage ≡ Reading k)
 
   abbrev pub KeepsHand : List (Entry T P) → Option (ℕ × P) → Type 0
   KeepsHand v hand = (e : Entry T P) → v ≡ e ∷ [] → (hand ≡ e.hand) ⊎ (hand ≡ None)

@@ -19,7 +19,9 @@ fated_hand Twice x = Some x
 module _ {T P : Type 0} where
   -- one parcel is taken from the link with an empty hand, and thrown away
   abbrev pub Throws : ℕ → Post T P → Post T P → Type 0
-  Throws from s t = (s.me.hand ≡ None) × ((p : P) × (t ≡ post s.table s.nodes (releasing None (taking (slot_from s from) from p s.me)) s.waiting))
+  Throws from s t =
+      (s.me.hand ≡ None) × ((p : P) × (t ≡ post s.table s.nodes
+      (releasing None (taking (slot_from s from) from p s.me)) s.waiting))
 
   -- what becomes of a parcel that is taken
   abbrev pub IsFated : ℕ → Fate → Post T P → Post T P → Type 0
@@ -33,12 +35,17 @@ module _ {H S M : Type 0} (core : Core H S M) where
 
   -- the parcel in hand is delivered by one act, and stays there to be delivered again
   abbrev pub DeliversFirst : Station → Station → Type 0
-  DeliversFirst s t = (from : ℕ) × (p : Parcel M) × (s.me.hand ≡ Some (from, p)) × (t ≡ does core (Deliver from p) s)
+  DeliversFirst s t =
+      (from : ℕ) × (p : Parcel M) × (s.me.hand ≡ Some (from, p))
+      × (t ≡ does core (Deliver from p) s)
 
-  -- one act or move of a turn: a delivery, a parcel taken, a parcel thrown away, a try to put one out, a tick
+  -- one act or move of a turn: a delivery, a parcel taken, a parcel thrown away, a try to put one
+  -- out, a tick
   abbrev pub Moves : Station → Station → Type 0
   Moves s t =
-      DeliversFirst s t ⊎ (Delivers core s t ⊎ (((from : ℕ) × Fetches from s t) ⊎ (((from : ℕ) × Throws from s t) ⊎ (((r : PutOut) × PutsOut s r t) ⊎ (t ≡ does core Tick s)))))
+      DeliversFirst s t ⊎ (Delivers core s t ⊎ (((from : ℕ) × Fetches from s t)
+      ⊎ (((from : ℕ) × Throws from s t)
+      ⊎ (((r : PutOut) × PutsOut s r t) ⊎ (t ≡ does core Tick s)))))
 
   abbrev pub Chain : List Station → Station → Station → Type 0
   Chain [] s t = t ≡ s

@@ -165,6 +165,8 @@ impl<C: Exclusion> Station<C> {
         ensures answer { IfOk result (λ receipt.
             (leave_of C.core self.old.me.member).answer ≡ Ok receipt) }
         ensures done { OnOk result (self.new ≡ does C.core Leave self.old) }
+        ensures memory { result ≡ Err CloseFault.Memory → IsInside C.core self.old.me.member.core
+            × (self.new ≡ self.old) }
         ensures refused { OnErr result (self.new ≡ self.old) }
     {
         let Phase::Inside(_) = self.member.phase() else {

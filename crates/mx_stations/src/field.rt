@@ -55,11 +55,14 @@ fn store_as<C: Exclusion, N: Next<View<C>>>(
     requires alone { seat.old.me.1 ≡ [] }
     requires within { node < field.now.nodes }
     requires node { (e : Node C C.Msg) × (seat.old.me.0 ≡ e ∷ []) × (e.node ≡ node) }
-    requires act { DidAct C.core field.now.nodes seat.old.me.0 member.now out.now hand.now receipts.now.items }
-    requires next { N.after seat.old.me.0 ≡ acted_view seat.old.me.0 member.now out.now hand.now receipts.now.items }
+    requires act { DidAct C.core field.now.nodes seat.old.me.0 member.now out.now hand.now
+        receipts.now.items }
+    requires next { N.after seat.old.me.0
+        ≡ acted_view seat.old.me.0 member.now out.now hand.now receipts.now.items }
     requires count { N.count ≡ field.now.nodes }
     ensures same { (seat.new.table_id ≡ seat.old.table_id) × (seat.new.id ≡ seat.old.id) }
-    ensures view { seat.new.me ≡ (acted_view seat.old.me.0 member.now out.now hand.now receipts.now.items, []) }
+    ensures view { seat.new.me
+        ≡ (acted_view seat.old.me.0 member.now out.now hand.now receipts.now.items, []) }
     ensures sent { GoToNodes field.now.nodes seat.new.me.0 }
 {
     let new = status_of(member);
@@ -83,9 +86,11 @@ pub(crate) fn act<C: Exclusion>(
     requires alone { seat.old.me.1 ≡ [] }
     requires within { node < field.now.nodes }
     requires node { (e : Node C C.Msg) × (seat.old.me.0 ≡ e ∷ []) × (e.node ≡ node) }
-    requires act { DidAct C.core field.now.nodes seat.old.me.0 member.now out.now hand.now receipts.now.items }
+    requires act { DidAct C.core field.now.nodes seat.old.me.0 member.now out.now hand.now
+        receipts.now.items }
     ensures same { (seat.new.table_id ≡ seat.old.table_id) × (seat.new.id ≡ seat.old.id) }
-    ensures view { seat.new.me ≡ (acted_view seat.old.me.0 member.now out.now hand.now receipts.now.items, []) }
+    ensures view { seat.new.me
+        ≡ (acted_view seat.old.me.0 member.now out.now hand.now receipts.now.items, []) }
     ensures sent { GoToNodes field.now.nodes seat.new.me.0 }
 {
     store_as::<C, Brand>(field, seat, node, member, out, hand, receipts);

@@ -11,6 +11,7 @@ mod opening;
 mod rule;
 mod slots;
 mod station;
+mod together;
 mod turn;
 mod waiting;
 
@@ -19,4 +20,5 @@ pub use field::{Field, Place};
 pub use next::{Becomes, Gives, Looks, Next, OfSlot, TriesToClaim, TriesToTake};
 pub use rule::{HandOn, Law, Setup, Slot, View};
 pub use station::Station;
+pub use together::{Sees, TakesOver};
 pub use waiting::WAITING_ROOM;

@@ -47,7 +47,8 @@ impl<C: Exclusion> Station<C> {
     fn fetch(&mut self, from: NodeId) -> bool
         requires within { from < self.old.nodes }
         requires empty { self.old.me.hand ≡ None }
-        ensures { MatchBool result (Fetches from self.old self.new) (FindsNone from self.old self.new) }
+        ensures { MatchBool result (Fetches from self.old self.new)
+            (FindsNone from self.old self.new) }
     {
         let field = &*self.field;
         if grab(field, &mut self.seat, self.node, from) != 2 {

@@ -70,9 +70,11 @@ fn place_as<C: Exclusion, N: Next<View<C>>>(
     requires table { seat.old.table_id ≡ field.now.board.shared.table_id }
     requires nodes { (node < field.now.nodes) × (to < field.now.nodes) }
     requires filling { IsFilling seat.old.me (node * field.now.nodes + to) node to parcel }
-    requires next { N.after seat.old.me.0 ≡ placed_view (node * field.now.nodes + to) parcel seat.old.me.0 }
+    requires next { N.after seat.old.me.0
+        ≡ placed_view (node * field.now.nodes + to) parcel seat.old.me.0 }
     ensures same { (seat.new.table_id ≡ seat.old.table_id) × (seat.new.id ≡ seat.old.id) }
-    ensures view { seat.new.me ≡ (placed_view (node * field.now.nodes + to) parcel seat.old.me.0, []) }
+    ensures view { seat.new.me
+        ≡ (placed_view (node * field.now.nodes + to) parcel seat.old.me.0, []) }
 {
     let slot = slot_of(field, node, to);
     let shared = &field.board.shared;
@@ -94,7 +96,8 @@ pub(crate) fn place<C: Exclusion>(
     requires nodes { (node < field.now.nodes) × (to < field.now.nodes) }
     requires filling { IsFilling seat.old.me (node * field.now.nodes + to) node to parcel }
     ensures same { (seat.new.table_id ≡ seat.old.table_id) × (seat.new.id ≡ seat.old.id) }
-    ensures view { seat.new.me ≡ (placed_view (node * field.now.nodes + to) parcel seat.old.me.0, []) }
+    ensures view { seat.new.me
+        ≡ (placed_view (node * field.now.nodes + to) parcel seat.old.me.0, []) }
 {
     place_as::<C, Brand>(field, seat, node, to, parcel);
 }
@@ -143,7 +146,8 @@ pub(crate) fn lift<C: Exclusion>(
 ) -> Parcel<C::Msg>
     requires table { seat.old.table_id ≡ field.now.board.shared.table_id }
     requires nodes { (node < field.now.nodes) × (from < field.now.nodes) }
-    requires holding { (p : OneParcel C.Msg) × IsHolding seat.old.me (from * field.now.nodes + node) node (Some p) }
+    requires holding { (p : OneParcel C.Msg)
+        × IsHolding seat.old.me (from * field.now.nodes + node) node (Some p) }
     ensures same { (seat.new.table_id ≡ seat.old.table_id) × (seat.new.id ≡ seat.old.id) }
     ensures view { seat.new.me ≡ (seat.old.me.0, (from * field.now.nodes + node, None) ∷ []) }
     ensures parcel { seat.old.me.1 ≡ (from * field.now.nodes + node, Some result) ∷ [] }

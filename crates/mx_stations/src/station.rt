@@ -1,6 +1,6 @@
 //! One node, with its seat at the table, and what it knows of itself.
 
-ghost use Rattle.std.specs.Prelude.{◌≡◌, ◌≤◌, length};
+ghost use Rattle.std.specs.Prelude.{◌≡◌, ◌<◌, ◌≤◌, length};
 ghost use Rattle.mx_nodelaws.specs.Core.{BearsNumber};
 ghost use Rattle.mx_registers.specs.Registers.{registers_of, value_in};
 
@@ -15,8 +15,8 @@ use std::alloc::Global;
 use std::marker::Model;
 use std::sync::Arc;
 
-/// A node that a thread may own. What waits is at most 64 parcels; what is sent beyond is lost, as a
-/// network may lose it.
+/// A node that a thread may own. What waits is at most 64 parcels; what is sent beyond is lost, as
+/// a network may lose it.
 #[derive(Drop)]
 pub struct Station<C: Exclusion> {
     pub(crate) field: Arc<Field<C>, Global>,
@@ -52,7 +52,8 @@ impl<C: Exclusion> Model for Station<C> {
 impl<C: Exclusion> Station<C> {
     /// Its node.
     pub fn node(&self) -> NodeId
-        ensures { result ≡ self.now.me.node }
+        ensures value { result ≡ self.now.me.node }
+        ensures within { result < self.now.nodes }
     {
         self.node
     }

@@ -33,7 +33,8 @@ impl<C: Exclusion> Station<C> {
     /// Delivers the parcel in hand, which stays there to be delivered again. False where the hand
     /// is empty.
     fn deliver_first(&mut self) -> Result<bool, TakeFault>
-        ensures delivered { IfOk result (λ had. MatchBool had (DeliversFirst C.core self.old self.new)
+        ensures delivered { IfOk result (λ had.
+            MatchBool had (DeliversFirst C.core self.old self.new)
             ((self.old.me.hand ≡ None) × (self.new ≡ self.old))) }
         ensures held { OnErr result (self.old.me.hand ≢ None) }
         ensures memory { OnErr result (self.new ≡ self.old) }
@@ -140,9 +141,10 @@ impl<C: Exclusion> Station<C> {
         }
     }
 
-    /// A parcel in hand is delivered; one is taken from each node that has one, and delivered as its
-    /// fate says; as often as parcels wait then, one is put out; and where none was taken and none
-    /// waits, the clock ticks. Where memory is refused the turn ends, and the parcel stays in hand.
+    /// A parcel in hand is delivered; one is taken from each node that has one, and delivered as
+    /// its fate says; as often as parcels wait then, one is put out; and where none was taken and
+    /// none waits, the clock ticks. Where memory is refused the turn ends, and the parcel stays in
+    /// hand.
     pub fn turn<F: Fates>(&mut self, fates: &mut F) -> Result<TurnReport, TakeFault>
         ensures goes { Goes C.core self.old self.new }
         ensures kept { OnErr result (self.new.me.hand ≢ None) }

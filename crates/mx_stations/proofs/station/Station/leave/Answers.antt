@@ -1,9 +1,10 @@
 use Rattle.std.proofs.Common.{rules, refl, sym, ap, ◌∙◌, inl, subst, ◌≡◌, ◌++◌, [], ◌∷◌}
+use Rattle.std.specs.Arc.{arc_value}
 use Rattle.mx_member.specs.declared.acts.Act.TheVariants.{Leave}
 use Rattle.mx_member.specs.declared.acts.Answer.TheVariants as answer
 use Rattle.mx_member.specs.Receipts.{closed_by}
 use Rattle.mx_member.proofs.Refusing.{is_err, left, not_left}
-use Rattle.mx_stations.specs.Posts.{shown}
+use Rattle.mx_stations.specs.Posts.{post, shown}
 use Rattle.mx_stations.specs.Running.{GoToNodes}
 use Rattle.mx_stations.proofs.Posts.{acted_seat, acted_waits, one_node, ready}
 use Rattle.mx_stations.proofs.station.Station.leave.Goals as goal
@@ -66,3 +67,13 @@ invariant_of-self-2 g c =
 
 pub returns-clause-not_inside : goal.returns-clause-not_inside
 returns-clause-not_inside g c = left c.in_ok-receipt.receipt (c.in-Inside.field-0, ap (λ s. g.C.Exclusion.core.phase s.me.member.core) (sym c.self.view_is) ∙ sym c.phase.ensures.value ∙ c.in-Inside.is)
+
+pub returns-in_err-make_room-clause-memory : goal.returns-in_err-make_room-clause-memory
+returns-in_err-make_room-clause-memory g c =
+    let p = c.self.inside in
+    λ is. ((c.in-Inside.field-0, ap (λ s. g.C.Exclusion.core.phase s.me.member.core) (sym c.self.view_is) ∙ sym c.phase.ensures.value ∙ c.in-Inside.is), (λ j. post p.seat.table_id (arc_value p.field).nodes (shown p.node p.member p.hand (c.make_room.ensures.same j) p.seat.me.0) p.waiting.items) ∙ c.self.view_is)
+
+pub returns-in_err-receipt-clause-memory : goal.returns-in_err-receipt-clause-memory
+returns-in_err-receipt-clause-memory g c =
+    let p = c.self.inside in let e = c.in_err-receipt.ensures in
+    λ is. ((c.in-Inside.field-0, ap (λ s. g.C.Exclusion.core.phase s.me.member.core) (sym c.self.view_is) ∙ sym c.phase.ensures.value ∙ c.in-Inside.is), (λ j. post p.seat.table_id (arc_value p.field).nodes (shown p.node (e.err j) p.hand (c.make_room.ensures.same j) p.seat.me.0) p.waiting.items) ∙ c.self.view_is)

@@ -1,0 +1,27 @@
+use Rattle.std.proofs.Common.{sym, ap, ◌∙◌, subst, ℕ, ◌<◌}
+use Rattle.std.specs.Arc.{arc_value}
+use Rattle.mx_stations.specs.Posts.{Waits, sent_in}
+use Rattle.mx_stations.proofs.Posts.{same_seat}
+use Rattle.mx_stations.proofs.Tells.{even_beside, own_word, seen_by}
+use Rattle.mx_stations.proofs.station.Station.status.Goals as goal
+
+pub see-requires : goal.see-requires
+see-requires g c = record {
+  table = c.self.invariant.0 ∙ sym (ap (λ f. f.board.shared.table_id) c.deref.ensures);
+  within = subst (λ (z : ℕ × ℕ). z.0 < z.1) (λ j. (sym c.get.ensures.value j, (sym (ap (λ s. s.nodes) c.self.view_is) ∙ sym (ap (λ f. f.nodes) c.deref.ensures)) j)) c.requires;
+}
+
+pub invariant_of-self : goal.invariant_of-self
+invariant_of-self g c =
+    let i = c.self.invariant in let n = c.see.ensures in let p = c.self.inside in
+    (n.same.0 ∙ i.0, same_seat _ _ _ _ _ i.1 _ n.same.1, i.2, subst (λ m. Waits (arc_value p.field).nodes (sent_in m.0) p.waiting.items) (sym n.same.1) i.3)
+
+pub returns-clause-own : goal.returns-clause-own
+returns-clause-own g c =
+    let X = g.C.Exclusion in let laws = g.met.C.Exclusion in
+    own_word X.core X.IsShape X.Good laws.laws _ _ _ (seen_by X.core X.Good _ _ _ _ _ _ c.get.ensures.value (ap (λ m. m.0) c.self.invariant.1) (ap (λ s. s.me) c.self.view_is) c.see.ensures.seen)
+
+pub returns-clause-alone : goal.returns-clause-alone
+returns-clause-alone g c =
+    let X = g.C.Exclusion in let laws = g.met.C.Exclusion in
+    even_beside X.core X.IsShape X.Good laws.laws _ _ _ (seen_by X.core X.Good _ _ _ _ _ _ c.get.ensures.value (ap (λ m. m.0) c.self.invariant.1) (ap (λ s. s.me) c.self.view_is) c.see.ensures.seen)

@@ -1,0 +1,94 @@
+//! What stations of one table show together. Looking changes nothing: it tells what the rule of the
+//! table says of the nodes in view.
+
+ghost use Rattle.std.specs.Prelude.{◌≡◌, ◌≢◌, ◌%◌, ◌<◌, ◌++◌, [], ◌∷◌};
+ghost use Rattle.mx_journal.specs.Agreement.{AreAgreeing};
+ghost use Rattle.mx_nodelaws.specs.Core.{IsInside};
+ghost use Rattle.mx_stations.specs.Entries.{Node};
+ghost use Rattle.mx_stations.specs.Running.{word_of};
+ghost use Rattle.mx_stations.specs.Together.{RunTogether, ShowsNode};
+
+use crate::field::{Field, Place};
+use crate::rule::{HandOn, Slot, View};
+use crate::station::Station;
+use atomic_table::{Join, Play};
+use mx_nodelaws::Exclusion;
+use mx_stamps::NodeId;
+use std::marker::PhantomData;
+
+/// A look at the word of a node.
+pub struct Sees<C> {
+    of: PhantomData<C>,
+}
+
+impl<C: Exclusion> Play<Slot<C>, View<C>> for Sees<C> {
+    ghost then = { λ step before found now. (now ≡ before)
+        × ShowsNode C.core C.Good step.word found now.0 };
+}
+
+/// A seat takes in the nodes of another.
+pub struct TakesOver;
+
+impl<C: Exclusion> Join<View<C>> for TakesOver {
+    ghost both = { λ v w. w ++ v };
+
+    ghost spent = { [] };
+}
+
+/// A look at the word of a node, which tells of the nodes in view.
+fn see<C: Exclusion>(field: &Field<C>, seat: &mut Place<C>, node: u8) -> u64
+    requires table { seat.old.table_id ≡ field.now.board.shared.table_id }
+    requires within { node < field.now.nodes }
+    ensures same { (seat.new.table_id ≡ seat.old.table_id) × (seat.new.me ≡ seat.old.me) }
+    ensures seen { ShowsNode C.core C.Good node result seat.old.me.0 }
+{
+    field.board.shared.load::<Sees<C>>(seat, node as usize)
+}
+
+/// A look with two seats of one node each as one.
+fn see_both<C: Exclusion>(field: &Field<C>, one: &mut Place<C>, other: &mut Place<C>)
+    requires table { one.old.table_id ≡ field.now.board.shared.table_id }
+    requires same_table { other.old.table_id ≡ one.old.table_id }
+    requires one { (e : Node C C.Msg) × (one.old.me ≡ (e ∷ [], [])) }
+    requires other { (e : Node C C.Msg) × (other.old.me ≡ (e ∷ [], [])) }
+    ensures one { (one.new.table_id ≡ one.old.table_id) × (one.new.me ≡ one.old.me) }
+    ensures other { (other.new.table_id ≡ other.old.table_id) × (other.new.me ≡ other.old.me) }
+    ensures seen { RunTogether C.core C.Good (one.old.me.0 ++ other.old.me.0) }
+{
+    let shared = &field.board.shared;
+    let mine = shared.split_seat::<HandOn>(one);
+    shared.join_seat::<TakesOver>(other, mine);
+    see(field, other, 0);
+    let mine = shared.split_seat::<HandOn>(other);
+    shared.join_seat::<TakesOver>(one, mine);
+}
+
+impl<C: Exclusion> Station<C> {
+    /// What the status word of a node shows now: twice the number of the last section that it
+    /// entered, and one more while it is inside.
+    pub fn status(&mut self, node: NodeId) -> u64
+        requires { node < self.old.nodes }
+        ensures same { self.new ≡ self.old }
+        ensures shows { ShowsNode C.core C.Good node result (self.old.me ∷ []) }
+        ensures own { node ≡ self.old.me.node → result ≡ word_of C.core self.old.me.member }
+        ensures alone { IsInside C.core self.old.me.member.core → node ≢ self.old.me.node
+            → result % 2 ≡ 0 }
+    {
+        see(&self.field, &mut self.seat, node.get())
+    }
+
+    /// Looks at two stations of one table as one. Nothing changes by it.
+    pub fn apart(&mut self, other: &mut Station<C>)
+        requires { self.old.table ≡ other.old.table }
+        ensures same { (self.new ≡ self.old) × (other.new ≡ other.old) }
+        ensures runs { RunTogether C.core C.Good (self.old.me ∷ other.old.me ∷ []) }
+        ensures differ { self.old.me.node ≢ other.old.me.node }
+        ensures alone { IsInside C.core self.old.me.member.core
+            → IsInside C.core other.old.me.member.core → ⊥ }
+        ensures words { word_of C.core self.old.me.member % 2 ≡ 1
+            → word_of C.core other.old.me.member % 2 ≡ 1 → ⊥ }
+        ensures agreed { AreAgreeing self.old.me.member.journal other.old.me.member.journal }
+    {
+        see_both(&self.field, &mut self.seat, &mut other.seat);
+    }
+}
