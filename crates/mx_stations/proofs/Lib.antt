@@ -9,3 +9,8 @@ pub mod Posts
 pub mod Crossing
 pub mod Going
 pub mod Tells
+pub mod Numbers
+pub mod Totals
+pub mod Gathers
+pub mod Whole
+pub mod Deciding

@@ -1,9 +1,8 @@
 -- Entries: what a seat knows of one node.
 -- Links: the slots between the nodes. Running: what seats know of nodes, and the rule over all of
--- them.
--- Slides: the steps by which a parcel crosses a slot. Posts: what callers see of a station.
+-- them. Slides: the steps by which a parcel crosses a slot. Posts: what callers see of a station.
 -- Opened: the stations of a new table. Turns: what a turn does. Together: what stations show
--- together.
+-- together. Gathered: what is gathered from all of them.
 pub mod Entries
 pub mod Links
 pub mod Running
@@ -12,3 +11,4 @@ pub mod Posts
 pub mod Opened
 pub mod Turns
 pub mod Together
+pub mod Gathered

@@ -5,6 +5,8 @@
 mod acts;
 mod answers;
 mod field;
+mod gathering;
+mod joining;
 mod moves;
 mod next;
 mod opening;
@@ -17,8 +19,9 @@ mod waiting;
 
 pub use answers::{PutOut, TakeFault, Taken, TurnReport};
 pub use field::{Field, Place};
-pub use next::{Becomes, Gives, Looks, Next, OfSlot, TriesToClaim, TriesToTake};
-pub use rule::{HandOn, Law, Setup, Slot, View};
+pub use gathering::{GatherFault, Gathered, Ungathered, gather};
+pub use next::{Becomes, Gives, Learns, Looks, Next, OfCount, OfSlot, TriesToClaim, TriesToTake};
+pub use rule::{HandOn, Law, Setup, Slot, TakeIn, View};
 pub use station::Station;
 pub use together::{Sees, TakesOver};
 pub use waiting::WAITING_ROOM;
