@@ -8,3 +8,4 @@ pub mod Waits
 pub mod Posts
 pub mod Crossing
 pub mod Going
+pub mod Toils

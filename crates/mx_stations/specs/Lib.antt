@@ -9,3 +9,4 @@ pub mod Slides
 pub mod Posts
 pub mod Opened
 pub mod Turns
+pub mod Works

@@ -13,6 +13,7 @@ mod slots;
 mod station;
 mod turn;
 mod waiting;
+mod working;
 
 pub use answers::{PutOut, TakeFault, Taken, TurnReport};
 pub use field::{Field, Place};
@@ -20,3 +21,4 @@ pub use next::{Becomes, Gives, Looks, Next, OfSlot, TriesToClaim, TriesToTake};
 pub use rule::{HandOn, Law, Setup, Slot, View};
 pub use station::Station;
 pub use waiting::WAITING_ROOM;
+pub use working::{Gate, Script, Worked, work};
