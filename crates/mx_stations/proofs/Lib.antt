@@ -14,3 +14,4 @@ pub mod Totals
 pub mod Gathers
 pub mod Whole
 pub mod Deciding
+pub mod Toils

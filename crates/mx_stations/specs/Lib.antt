@@ -2,7 +2,7 @@
 -- Links: the slots between the nodes. Running: what seats know of nodes, and the rule over all of
 -- them. Slides: the steps by which a parcel crosses a slot. Posts: what callers see of a station.
 -- Opened: the stations of a new table. Turns: what a turn does. Together: what stations show
--- together. Gathered: what is gathered from all of them.
+-- together. Gathered: what is gathered from all of them. Works: what a worker does at its station.
 pub mod Entries
 pub mod Links
 pub mod Running
@@ -12,3 +12,4 @@ pub mod Opened
 pub mod Turns
 pub mod Together
 pub mod Gathered
+pub mod Works

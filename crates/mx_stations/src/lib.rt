@@ -16,6 +16,7 @@ mod station;
 mod together;
 mod turn;
 mod waiting;
+mod working;
 
 pub use answers::{PutOut, TakeFault, Taken, TurnReport};
 pub use field::{Field, Place};
@@ -25,3 +26,4 @@ pub use rule::{HandOn, Law, Setup, Slot, TakeIn, View};
 pub use station::Station;
 pub use together::{Sees, TakesOver};
 pub use waiting::WAITING_ROOM;
+pub use working::{Gate, Script, Worked, work};
