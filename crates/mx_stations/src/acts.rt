@@ -16,6 +16,23 @@ use mx_member::{CloseFault, ReadFault, WriteFault};
 use mx_nodelaws::{AskFault, EnterFault, Exclusion, Phase};
 use mx_stamps::{NodeId, Stamp};
 
+/// Ends an act of the member: the one store that tells it, and what it sent joins what waits. The
+/// station is whole again only after it, so that no method can do this.
+macro_rules! tell {
+    ($station:expr) => {
+        act(
+            &$station.field,
+            &mut $station.seat,
+            $station.node,
+            &$station.member,
+            &$station.out,
+            &$station.hand,
+            &$station.receipts,
+        );
+        store_up(&mut $station.waiting, &$station.out);
+    };
+}
+
 impl<C: Exclusion> Station<C> {
     /// Asks for the next section. The stamp is that of the request.
     pub fn ask(&mut self) -> Result<Stamp, AskFault>
@@ -25,16 +42,7 @@ impl<C: Exclusion> Station<C> {
     {
         self.out.clear();
         let stamp = self.member.ask(&mut self.out)?;
-        act(
-            &self.field,
-            &mut self.seat,
-            self.node,
-            &self.member,
-            &self.out,
-            &self.hand,
-            &self.receipts,
-        );
-        store_up(&mut self.waiting, &self.out);
+        tell!(self);
         Ok(stamp)
     }
 
@@ -46,16 +54,7 @@ impl<C: Exclusion> Station<C> {
     {
         self.out.clear();
         let number = self.member.enter()?;
-        act(
-            &self.field,
-            &mut self.seat,
-            self.node,
-            &self.member,
-            &self.out,
-            &self.hand,
-            &self.receipts,
-        );
-        store_up(&mut self.waiting, &self.out);
+        tell!(self);
         Ok(number)
     }
 
@@ -68,16 +67,7 @@ impl<C: Exclusion> Station<C> {
     {
         self.out.clear();
         let value = self.member.read(register)?;
-        act(
-            &self.field,
-            &mut self.seat,
-            self.node,
-            &self.member,
-            &self.out,
-            &self.hand,
-            &self.receipts,
-        );
-        store_up(&mut self.waiting, &self.out);
+        tell!(self);
         Ok(value)
     }
 
@@ -89,16 +79,7 @@ impl<C: Exclusion> Station<C> {
     {
         self.out.clear();
         self.member.write(register, value)?;
-        act(
-            &self.field,
-            &mut self.seat,
-            self.node,
-            &self.member,
-            &self.out,
-            &self.hand,
-            &self.receipts,
-        );
-        store_up(&mut self.waiting, &self.out);
+        tell!(self);
         Ok(())
     }
 
@@ -108,16 +89,7 @@ impl<C: Exclusion> Station<C> {
     {
         self.out.clear();
         self.member.tick(&mut self.out);
-        act(
-            &self.field,
-            &mut self.seat,
-            self.node,
-            &self.member,
-            &self.out,
-            &self.hand,
-            &self.receipts,
-        );
-        store_up(&mut self.waiting, &self.out);
+        tell!(self);
     }
 
     /// Asks another node for the records that are missing.
@@ -127,16 +99,7 @@ impl<C: Exclusion> Station<C> {
     {
         self.out.clear();
         self.member.want(to, &mut self.out);
-        act(
-            &self.field,
-            &mut self.seat,
-            self.node,
-            &self.member,
-            &self.out,
-            &self.hand,
-            &self.receipts,
-        );
-        store_up(&mut self.waiting, &self.out);
+        tell!(self);
     }
 
     /// Wakes up again: core and journal stay, the draft is emptied.
@@ -145,16 +108,7 @@ impl<C: Exclusion> Station<C> {
     {
         self.out.clear();
         self.member.restart();
-        act(
-            &self.field,
-            &mut self.seat,
-            self.node,
-            &self.member,
-            &self.out,
-            &self.hand,
-            &self.receipts,
-        );
-        store_up(&mut self.waiting, &self.out);
+        tell!(self);
     }
 
     /// Leaves the section. Its record joins the journal, and its receipt those of this station.
@@ -176,16 +130,7 @@ impl<C: Exclusion> Station<C> {
         self.out.clear();
         let receipt = self.member.leave(&mut self.out)?;
         self.receipts.push_reserved(receipt.copy());
-        act(
-            &self.field,
-            &mut self.seat,
-            self.node,
-            &self.member,
-            &self.out,
-            &self.hand,
-            &self.receipts,
-        );
-        store_up(&mut self.waiting, &self.out);
+        tell!(self);
         Ok(receipt)
     }
 }

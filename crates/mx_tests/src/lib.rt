@@ -26,6 +26,8 @@ mod sizes;
 #[cfg(test)]
 mod stamps;
 #[cfg(test)]
+mod station_calls;
+#[cfg(test)]
 mod stations;
 #[cfg(test)]
 mod texts;
