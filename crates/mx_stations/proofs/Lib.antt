@@ -13,3 +13,4 @@ pub mod Totals
 pub mod Gathers
 pub mod Whole
 pub mod Deciding
+pub mod SameTable
