@@ -15,3 +15,4 @@ pub mod Gathers
 pub mod Whole
 pub mod Deciding
 pub mod Toils
+pub mod SameTable

@@ -33,6 +33,10 @@ module _ {T P : Type 0} where
   abbrev pub OfOneTable : List (Post T P) → Type 0
   OfOneTable posts = (table : TableId) × (n : ℕ) × ((k : ℕ) (s : Post T P) → get_elem? posts k ≡ some s → (s.table ≡ table) × (s.nodes ≡ n))
 
+  -- a station that came of another by acts and moves is still at its table
+  abbrev pub KeepsTable : Post T P → Post T P → Type 0
+  KeepsTable s t = (t.table ≡ s.table) × (t.nodes ≡ s.nodes)
+
   -- how many nodes their table has: at least one, where there is no station
   abbrev pub nodes_in : List (Post T P) → ℕ
   nodes_in [] = 1
