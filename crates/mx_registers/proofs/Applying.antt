@@ -69,10 +69,14 @@ below_top [] x h = absurd h
 below_top (y ∷ ys) x (inl e) = let q : x.number ≡ y.number = ap (λ (z : Record). z.number) e in omega arith
 below_top (y ∷ ys) x (inr h) = let l = below_top ys x h in omega arith
 
+-- where no number reaches n, the records below n are all
+pub below_all : (n : ℕ) (xs : List Record) → top_of xs < n → below n xs ≡ xs
+below_all n xs l = below_whole n xs (λ x h. let m = below_top xs x h in omega arith)
+
 -- the registers of a journal whose numbers are 1 to k
 pub gapless_view : (count k : ℕ) (xs : List Record) → Ascending 1 xs → IsGapless k xs → top_of xs ≤ k → AreApplied (writes_to k xs) (registers_of count xs)
 gapless_view count k xs a g top register cell e =
-    let whole : below (suc k) xs ≡ xs = below_whole (suc k) xs (λ x h. let m = below_top xs x h in omega arith) in
+    let whole : below (suc k) xs ≡ xs = below_all (suc k) xs (omega arith) in
     ap (λ (c : Cell). c.value) (get_each_below (λ i. register_of i xs) count register cell e).1
     ∙ ap (λ l. (register_of register l).value) (sym whole)
     ∙ gapless_application register k xs a g

@@ -4,12 +4,12 @@ use Rattle.std.specs.Option.{option_map}
 use Rattle.std.proofs.lemmas.Option.{get_or_from_slice_get}
 use Rattle.std.specs.List.{refill}
 use Rattle.std.proofs.lemmas.List.{drop_all, ext_get_or, take_all}
-use Rattle.mx_stamps.specs.Lists.{IsIn, each_below}
+use Rattle.mx_stamps.specs.Lists.{each_below}
 use Rattle.mx_stamps.proofs.Lists.{append_nil, get_each_below, has_each_below, in_append, in_left, in_right, length_each_below}
 use Rattle.mx_journal.specs.declared.records.Record.{Record}
 use Rattle.mx_journal.specs.Agreement.{AgreesWith, IsConsistent, IsSubmap}
 use Rattle.mx_journal.specs.Records.{Ascending, with_record, with_records}
-use Rattle.mx_journal.proofs.Maps.{ascending_same, in_with_record, in_with_records, with_record_has, with_record_keeps, with_records_have}
+use Rattle.mx_journal.proofs.Maps.{ascending_same, consistent_across, consistent_among, in_with_records, with_records_have, with_records_keep}
 use Rattle.mx_registers.specs.declared.cells.Cell.{Cell}
 use Rattle.mx_registers.specs.Registers.{IsHeld, after_record, after_records, blank, register_of, registers_of, value_in, with_taken}
 use Rattle.mx_registers.proofs.Held.{held, same_register}
@@ -58,12 +58,19 @@ pub same_registers : (count : ℕ) (xs ys : List Record) → IsConsistent xs →
 same_registers count xs ys c s t =
     each_below_same (λ i. register_of i xs) (λ i. register_of i ys) count (λ i _. same_register i xs ys c s t)
 
+-- the registers of a journal and of records that agree with it are those of the journal with them
+pub joined_registers : (count : ℕ) (xs rs : List Record) → IsConsistent (xs ++ rs) → registers_of count (xs ++ rs) ≡ registers_of count (with_records rs xs)
+joined_registers count xs rs c =
+    same_registers count (xs ++ rs) (with_records rs xs) c
+    (λ x k. elim (in_append x xs rs k) [
+      | inl h ↦ with_records_keep rs xs x h
+      | inr h ↦ with_records_have rs xs (consistent_across xs rs c) (consistent_among xs rs c) x h
+    ])
+    (λ x k. elim (in_with_records rs xs x k) [ inl h ↦ in_left x xs rs h | inr h ↦ in_right x xs rs h ])
+
 -- the registers of agreeing records are those of the map that they make
 pub map_registers : (count : ℕ) (xs : List Record) → IsConsistent xs → registers_of count xs ≡ registers_of count (with_records xs [])
-map_registers count xs c =
-    same_registers count xs (with_records xs []) c
-    (λ x k. with_records_have xs [] (λ y z p q e. absurd p) c x k)
-    (λ x k. elim (in_with_records xs [] x k) [ inl bad ↦ absurd bad | inr m ↦ m ])
+map_registers count xs c = joined_registers count [] xs c
 
 -- the value of a register that is there
 pub value_there : (count : ℕ) (xs : List Record) (register : ℕ) → register < count → value_in register (registers_of count xs) ≡ Some (register_of register xs).value
@@ -95,12 +102,4 @@ agreed_with k xs x a agrees y z p q e = elim (in_append y xs (x ∷ []) p) [
 
 -- the view of a journal that takes a record is the view of the journal with it
 pub taken_with_record : (count : ℕ) (xs : List Record) (x : Record) → Ascending 1 xs → AgreesWith x xs → with_taken x (registers_of count xs) ≡ registers_of count (with_record x xs)
-taken_with_record count xs x a agrees =
-    taken_more count xs x
-    ∙ same_registers count (xs ++ x ∷ []) (with_record x xs) (agreed_with 1 xs x a agrees)
-    (λ y p. elim (in_append y xs (x ∷ []) p) [
-      | inl h ↦ with_record_keeps x xs y h
-      | inr (inl e) ↦ subst (λ z. IsIn z (with_record x xs)) (sym e) (with_record_has x xs agrees)
-      | inr (inr bad) ↦ absurd bad
-    ])
-    (λ y p. elim (in_with_record x xs y p) [ inl h ↦ in_left y xs (x ∷ []) h | inr e ↦ in_right y xs (x ∷ []) (inl e) ])
+taken_with_record count xs x a agrees = taken_more count xs x ∙ joined_registers count xs (x ∷ []) (agreed_with 1 xs x a agrees)
