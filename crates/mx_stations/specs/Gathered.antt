@@ -31,7 +31,8 @@ module _ {T P : Type 0} where
 
   -- the stations are of one table, of so many nodes
   abbrev pub OfOneTable : List (Post T P) → Type 0
-  OfOneTable posts = (table : TableId) × (n : ℕ) × ((k : ℕ) (s : Post T P) → get_elem? posts k ≡ some s → (s.table ≡ table) × (s.nodes ≡ n))
+  OfOneTable posts = (table : TableId) × (n : ℕ) × ((k : ℕ) (s : Post T P)
+      → get_elem? posts k ≡ some s → (s.table ≡ table) × (s.nodes ≡ n))
 
   -- a station that came of another by acts and moves is still at its table
   abbrev pub KeepsTable : Post T P → Post T P → Type 0
@@ -64,10 +65,12 @@ module _ {T P : Type 0} where
 
 module _ {H S M : Type 0} (core : Core H S M) where
   abbrev pub HasInside : List (Post (MemberState S) (Parcel M)) → ℕ → Type 0
-  HasInside posts i = (k : ℕ) × (s : Post (MemberState S) (Parcel M)) × (get_elem? posts k ≡ some s) × (s.me.node ≡ i) × IsInside core s.me.member.core
+  HasInside posts i = (k : ℕ) × (s : Post (MemberState S) (Parcel M))
+      × (get_elem? posts k ≡ some s) × (s.me.node ≡ i) × IsInside core s.me.member.core
 
   abbrev pub NotInside : List (Post (MemberState S) (Parcel M)) → ℕ → Type 0
-  NotInside posts i = (k : ℕ) (s : Post (MemberState S) (Parcel M)) → get_elem? posts k ≡ some s → s.me.node ≡ i → IsInside core s.me.member.core → ⊥
+  NotInside posts i = (k : ℕ) (s : Post (MemberState S) (Parcel M))
+      → get_elem? posts k ≡ some s → s.me.node ≡ i → IsInside core s.me.member.core → ⊥
 
   -- nobody is inside
   abbrev pub IsQuiet : List (Post (MemberState S) (Parcel M)) → Type 0
@@ -75,7 +78,8 @@ module _ {H S M : Type 0} (core : Core H S M) where
 
   -- the least node that is inside
   abbrev pub IsLeastInside : List (Post (MemberState S) (Parcel M)) → ℕ → Type 0
-  IsLeastInside posts i = (i < nodes_in posts) × HasInside posts i × ((j : ℕ) → j < i → NotInside posts j)
+  IsLeastInside posts i = (i < nodes_in posts) × HasInside posts i
+      × ((j : ℕ) → j < i → NotInside posts j)
 
   -- every station is there, and nobody is inside
   abbrev pub IsReady : List (Post (MemberState S) (Parcel M)) → Type 0
@@ -87,7 +91,7 @@ module _ {H S M : Type 0} (core : Core H S M) where
   Refuses posts (StillInside i) = IsWhole posts × IsLeastInside posts i
   Refuses posts Memory = IsReady posts
 
-  -- a look at the rule: the nodes in view are nodes of one running world of n nodes, as they are, and each once
+  -- a look at the rule: the nodes in view are nodes of one running world of n nodes, each once
   pub record Knows (Good : World S M → Type 0) (n : ℕ) (v : List (Node S M)) : Type 0 where
     pub world : List (Node S M)
     pub long : length world ≡ n
@@ -102,26 +106,33 @@ owned_in posts = map (λ s. owned_of s.me) posts
 
 -- the join of the first journals and the next one do not agree
 abbrev pub Disagree : {S : Type 0} → List (Owned S) → Type 0
-Disagree {S} nodes = (k : ℕ) × (o : Owned S) × (all : List Record) × IsNode nodes k o × IsJoinOfNodes (take k nodes) all × (AreAgreeing all o.member.journal → ⊥)
+Disagree {S} nodes = (k : ℕ) × (o : Owned S) × (all : List Record) × IsNode nodes k o
+    × IsJoinOfNodes (take k nodes) all × (AreAgreeing all o.member.journal → ⊥)
 
--- journal and receipts as they are put together: the join of all journals, and all receipts, each once, sorted by number
-pub record IsTogether {S M : Type 0} (posts : List (Post (MemberState S) (Parcel M))) (journal : List Record) (receipts : List Receipt) : Type 0 where
+-- as they are put together: the join of all journals, and all receipts, each once, by number
+pub record IsTogether {S M : Type 0} (posts : List (Post (MemberState S) (Parcel M)))
+    (journal : List Record) (receipts : List Receipt) : Type 0 where
   pub join : IsJoinOfNodes (owned_in posts) journal
   pub ordered : Ascending 1 journal
   pub each : IsPermutation (receipts_of posts) receipts
   pub sorted : IsNonDecreasingBy (λ (r : Receipt). r.number) receipts
 
 -- What is gathered is one serial order of all sections that were left.
-pub record IsGathered {T P : Type 0} (posts : List (Post T P)) (journal : List Record) (receipts : List Receipt) : Type 0 where
+pub record IsGathered {T P : Type 0} (posts : List (Post T P)) (journal : List Record)
+    (receipts : List Receipt) : Type 0 where
   -- the receipts are those of all stations, each once, and each is of the node whose station has it
   pub each : IsPermutation (receipts_of posts) receipts
-  pub own : (k : ℕ) (s : Post T P) (r : Receipt) → get_elem? posts k ≡ some s → IsIn r s.me.receipts → r.node ≡ s.me.node
+  pub own : (k : ℕ) (s : Post T P) (r : Receipt) → get_elem? posts k ≡ some s
+      → IsIn r s.me.receipts → r.node ≡ s.me.node
   -- they bear 1, 2, 3 and so on
   pub numbered : (k : ℕ) (r : Receipt) → slice_get receipts k ≡ Some r → r.number ≡ suc k
-  -- the journal has their records, in order, and nothing else; so it has no gap up to how many there are
+  -- the journal has their records, in order, and nothing else; so it has no gap up to their count
   pub records : journal ≡ map record_of receipts
   pub gapless : IsGapless (length receipts) journal
-  -- each value read is what the writes of the receipts before, in order, and the receipt's own first writes leave
-  pub reads : (k : ℕ) (r : Receipt) (x : Read) → slice_get receipts k ≡ Some r → IsIn x r.reads.items → IsSerialRead (writes_to k journal) r.writes.items x
+  -- each value read is what the writes of the receipts before, in order, and the receipt's own
+  -- first writes leave
+  pub reads : (k : ℕ) (r : Receipt) (x : Read) → slice_get receipts k ≡ Some r
+      → IsIn x r.reads.items → IsSerialRead (writes_to k journal) r.writes.items x
   -- and each register of the journal has what the writes of all receipts, in order, leave
-  pub shows : (count : ℕ) → AreApplied (writes_to (length receipts) journal) (registers_of count journal)
+  pub shows : (count : ℕ)
+      → AreApplied (writes_to (length receipts) journal) (registers_of count journal)

@@ -24,6 +24,6 @@ pub use gathering::{GatherFault, Gathered, Ungathered, gather};
 pub use next::{Becomes, Gives, Learns, Looks, Next, OfCount, OfSlot, TriesToClaim, TriesToTake};
 pub use rule::{HandOn, Law, Setup, Slot, TakeIn, View};
 pub use station::Station;
-pub use together::{Sees, TakesOver};
+pub use together::Sees;
 pub use waiting::WAITING_ROOM;
 pub use working::{Gate, Script, Worked, work};

@@ -9,9 +9,9 @@ ghost use Rattle.mx_stations.specs.Running.{word_of};
 ghost use Rattle.mx_stations.specs.Together.{RunTogether, ShowsNode};
 
 use crate::field::{Field, Place};
-use crate::rule::{HandOn, Slot, View};
+use crate::rule::{HandOn, Slot, TakeIn, View};
 use crate::station::Station;
-use atomic_table::{Join, Play};
+use atomic_table::Play;
 use mx_nodelaws::Exclusion;
 use mx_stamps::NodeId;
 use std::marker::PhantomData;
@@ -24,15 +24,6 @@ pub struct Sees<C> {
 impl<C: Exclusion> Play<Slot<C>, View<C>> for Sees<C> {
     ghost then = { λ step before found now. (now ≡ before)
         × ShowsNode C.core C.Good step.word found now.0 };
-}
-
-/// A seat takes in the nodes of another.
-pub struct TakesOver;
-
-impl<C: Exclusion> Join<View<C>> for TakesOver {
-    ghost both = { λ v w. w ++ v };
-
-    ghost spent = { [] };
 }
 
 /// A look at the word of a node, which tells of the nodes in view.
@@ -57,10 +48,10 @@ fn see_both<C: Exclusion>(field: &Field<C>, one: &mut Place<C>, other: &mut Plac
 {
     let shared = &field.board.shared;
     let mine = shared.split_seat::<HandOn>(one);
-    shared.join_seat::<TakesOver>(other, mine);
+    shared.join_seat::<TakeIn>(other, mine);
     see(field, other, 0);
     let mine = shared.split_seat::<HandOn>(other);
-    shared.join_seat::<TakesOver>(one, mine);
+    shared.join_seat::<TakeIn>(one, mine);
 }
 
 impl<C: Exclusion> Station<C> {
