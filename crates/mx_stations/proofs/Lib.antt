@@ -9,3 +9,4 @@ pub mod Posts
 pub mod Crossing
 pub mod Going
 pub mod Tells
+pub mod Turning
