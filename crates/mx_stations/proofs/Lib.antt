@@ -16,3 +16,4 @@ pub mod Whole
 pub mod Deciding
 pub mod Toils
 pub mod SameTable
+pub mod Turning

@@ -1,5 +1,5 @@
 -- A turn of a station, as a list of its acts and moves.
-use Rattle.std.specs.Prelude.{◌≡◌, ◌⊎◌, ℕ, List, [], ◌∷◌, Option, Some, None}
+use Rattle.std.specs.Prelude.{◌≡◌, ◌⊎◌, ℕ, suc, ◌+◌, ◌==◌, ◌&&◌, Bool, true, false, MatchBool, List, [], ◌∷◌, length, Option, Some, None}
 use Rattle.mx_letters.specs.declared.fates.Fate.{Fate}
 use Rattle.mx_letters.specs.declared.fates.Fate.TheVariants.{Pass, Drop, Twice}
 use Rattle.mx_nodelaws.specs.Core.{Core}
@@ -7,7 +7,9 @@ use Rattle.mx_member.specs.declared.acts.Act.TheVariants.{Deliver, Tick}
 use Rattle.mx_member.specs.declared.parcel.Parcel.{Parcel}
 use Rattle.mx_member.specs.Member.{MemberState}
 use Rattle.mx_stations.specs.declared.answers.PutOut.{PutOut}
-use Rattle.mx_stations.specs.Posts.{Delivers, Fetches, Post, PutsOut, does, post, slot_from}
+use Rattle.mx_stations.specs.declared.answers.PutOut.TheVariants.{Sent, Full, Nothing}
+use Rattle.mx_stations.specs.declared.answers.TurnReport.{TurnReport}
+use Rattle.mx_stations.specs.Posts.{Delivers, Fetches, FindsNone, Post, PutsOut, does, post, slot_from}
 use Rattle.mx_stations.specs.Slides.{releasing, taking}
 
 -- what is in hand of a parcel that is taken
@@ -54,3 +56,127 @@ module _ {H S M : Type 0} (core : Core H S M) where
   -- some list of acts and moves, one after another
   abbrev pub Goes : Station → Station → Type 0
   Goes s t = (ms : List Station) × Chain ms s t
+
+-- what a turn tells of a parcel of this fate
+abbrev pub noted_fate : Fate → TurnReport → TurnReport
+noted_fate Pass r = record {
+  taken = r.taken + 1;
+  dropped = r.dropped;
+  twice = r.twice;
+  put = r.put;
+  full = r.full;
+  ticked = r.ticked;
+}
+noted_fate Drop r = record {
+  taken = r.taken + 1;
+  dropped = r.dropped + 1;
+  twice = r.twice;
+  put = r.put;
+  full = r.full;
+  ticked = r.ticked;
+}
+noted_fate Twice r = record {
+  taken = r.taken + 1;
+  dropped = r.dropped;
+  twice = r.twice + 1;
+  put = r.put;
+  full = r.full;
+  ticked = r.ticked;
+}
+
+-- of a try on a link, at which nothing was taken, or a parcel
+abbrev pub noted : Option Fate → TurnReport → TurnReport
+noted None r = r
+noted (Some fate) r = noted_fate fate r
+
+abbrev pub noted_all : List (Option Fate) → TurnReport → TurnReport
+noted_all [] r = r
+noted_all (x ∷ xs) r = noted_all xs (noted x r)
+
+-- of a try to put a parcel out
+abbrev pub noted_put : PutOut → TurnReport → TurnReport
+noted_put Sent r = record {
+  taken = r.taken;
+  dropped = r.dropped;
+  twice = r.twice;
+  put = r.put + 1;
+  full = r.full;
+  ticked = r.ticked;
+}
+noted_put Full r = record {
+  taken = r.taken;
+  dropped = r.dropped;
+  twice = r.twice;
+  put = r.put;
+  full = r.full + 1;
+  ticked = r.ticked;
+}
+noted_put Nothing r = r
+
+abbrev pub noted_puts : List PutOut → TurnReport → TurnReport
+noted_puts [] r = r
+noted_puts (x ∷ xs) r = noted_puts xs (noted_put x r)
+
+-- of the parcel that was in hand, if there was one
+abbrev pub begun : Bool → TurnReport
+begun true = record { taken = 1; dropped = 0; twice = 0; put = 0; full = 0; ticked = false }
+begun false = record { taken = 0; dropped = 0; twice = 0; put = 0; full = 0; ticked = false }
+
+abbrev pub ending : Bool → TurnReport → TurnReport
+ending ticked r = record {
+  taken = r.taken;
+  dropped = r.dropped;
+  twice = r.twice;
+  put = r.put;
+  full = r.full;
+  ticked = ticked;
+}
+
+module _ {H S M : Type 0} (core : Core H S M) where
+  -- a parcel that is to be delivered twice is delivered a first time
+  abbrev pub DeliversMore : Fate → Station core → Station core → Type 0
+  DeliversMore Pass s t = t ≡ s
+  DeliversMore Drop s t = t ≡ s
+  DeliversMore Twice s t = DeliversFirst core s t
+
+  -- a parcel is taken from the link, and delivered as often as its fate says
+  abbrev pub Deals : ℕ → Fate → Station core → Station core → Type 0
+  Deals from Pass s t = (m : Station core) × Fetches from s m × Delivers core m t
+  Deals from Drop s t = Throws from s t
+  Deals from Twice s t =
+      (m : Station core) × (n : Station core) × Fetches from s m × DeliversFirst core m n
+      × Delivers core n t
+
+  abbrev pub TakesFated : ℕ → Option Fate → Station core → Station core → Type 0
+  TakesFated from None s t = FindsNone from s t
+  TakesFated from (Some fate) s t = Deals from fate s t
+
+  -- one try on the link of each node in order, from this node on
+  abbrev pub TakesEach : ℕ → List (Option Fate) → Station core → Station core → Type 0
+  TakesEach from [] s t = t ≡ s
+  TakesEach from (x ∷ xs) s t =
+      (m : Station core) × TakesFated from x s m × TakesEach (suc from) xs m t
+
+  -- tries to put out, one after another
+  abbrev pub PutsEach : List PutOut → Station core → Station core → Type 0
+  PutsEach [] s t = t ≡ s
+  PutsEach (x ∷ xs) s t = (m : Station core) × PutsOut s x m × PutsEach xs m t
+
+  -- A parcel in hand is delivered; one is taken from each node that has one, and dealt with by its
+  -- fate; as often as parcels wait then, one is put out; and where none was in hand and none taken,
+  -- and none waits now, the clock ticks. The report tells just that.
+  pub record Turns (s : Station core) (report : TurnReport) (t : Station core) : Type 0 where
+    pub had : Bool
+    pub after_hand : Station core
+    pub begins : MatchBool had (Delivers core s after_hand) ((s.me.hand ≡ None) × (after_hand ≡ s))
+    pub takes : List (Option Fate)
+    pub after_takes : Station core
+    pub taken : TakesEach 0 takes after_hand after_takes
+    pub each_node : length takes ≡ s.nodes
+    pub puts : List PutOut
+    pub after_puts : Station core
+    pub put : PutsEach puts after_takes after_puts
+    pub as_often : length puts ≡ length after_takes.waiting
+    pub ends : MatchBool report.ticked (t ≡ does core Tick after_puts) (t ≡ after_puts)
+    pub ticks : report.ticked ≡ ((report.taken == 0) && (length after_puts.waiting == 0))
+    pub tells : report ≡ ending report.ticked (noted_puts puts (noted_all takes (begun had)))

@@ -1,5 +1,8 @@
 //! What a station's calls answer.
 
+ghost use Rattle.std.specs.Prelude.{◌≡◌, ◌<◌};
+ghost use Rattle.mx_stations.specs.Turns.{begun, noted, noted_put};
+
 use mx_letters::Fate;
 use std::alloc::AllocError;
 use thiserror::Error;
@@ -36,21 +39,47 @@ pub struct TurnReport {
 }
 
 impl TurnReport {
-    /// One parcel more, of this fate.
-    pub(crate) fn note_taken(&mut self, fate: Fate) {
-        self.taken = self.taken.saturating_add(1);
-        match fate {
-            Fate::Pass => {}
-            Fate::Drop => self.dropped = self.dropped.saturating_add(1),
-            Fate::Twice => self.twice = self.twice.saturating_add(1),
+    /// Of a turn that begins, with a parcel in hand or without.
+    pub(crate) fn begin(had: bool) -> TurnReport
+        ensures { result ≡ begun had }
+    {
+        TurnReport {
+            taken: u32::from(had),
+            dropped: 0,
+            twice: 0,
+            put: 0,
+            full: 0,
+            ticked: false,
         }
     }
 
-    /// One try more to put a parcel out.
-    pub(crate) fn note_put(&mut self, answer: PutOut) {
+    /// A try on a link, at which nothing was taken, or a parcel of this fate.
+    pub(crate) fn note_taken(&mut self, took: Option<Fate>)
+        requires taken { self.old.taken < 1000 }
+        requires dropped { self.old.dropped < 1000 }
+        requires twice { self.old.twice < 1000 }
+        ensures { self.new ≡ noted took self.old }
+    {
+        let Some(fate) = took else {
+            return;
+        };
+        self.taken += 1;
+        match fate {
+            Fate::Pass => {}
+            Fate::Drop => self.dropped += 1,
+            Fate::Twice => self.twice += 1,
+        }
+    }
+
+    /// A try to put a parcel out.
+    pub(crate) fn note_put(&mut self, answer: PutOut)
+        requires put { self.old.put < 1000 }
+        requires full { self.old.full < 1000 }
+        ensures { self.new ≡ noted_put answer self.old }
+    {
         match answer {
-            PutOut::Sent => self.put = self.put.saturating_add(1),
-            PutOut::Full => self.full = self.full.saturating_add(1),
+            PutOut::Sent => self.put += 1,
+            PutOut::Full => self.full += 1,
             PutOut::Nothing => {}
         }
     }

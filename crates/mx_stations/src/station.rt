@@ -60,7 +60,8 @@ impl<C: Exclusion> Station<C> {
 
     /// How many nodes there are.
     pub fn nodes(&self) -> u8
-        ensures { result ≡ self.now.nodes }
+        ensures value { result ≡ self.now.nodes }
+        ensures few { result ≤ 21 }
     {
         self.field.nodes
     }

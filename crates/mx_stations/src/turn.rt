@@ -1,9 +1,13 @@
 //! A turn of a station: what waits for it comes in, what waits in it goes out, and where there was
 //! neither its clock ticks.
 
-ghost use Rattle.std.specs.Prelude.{◌≡◌, ◌≢◌, ◌<◌, IfOk, MatchBool, MatchOption, None, OnErr, OnOk};
-ghost use Rattle.mx_stations.specs.Posts.{FindsNone};
-ghost use Rattle.mx_stations.specs.Turns.{DeliversFirst, Goes, IsFated, fated_hand};
+ghost use Rattle.std.specs.Prelude.{◌≡◌, ◌≢◌, ◌<◌, ◌≤◌, ◌==◌, ◌&&◌, IfOk, List, MatchBool, MatchOption, None, OnErr, OnOk, Option, length};
+ghost use Rattle.mx_letters.specs.declared.fates.Fate.{Fate as TheFate};
+ghost use Rattle.mx_letters.specs.declared.fates.Fate.TheVariants.{Twice};
+ghost use Rattle.mx_member.specs.declared.acts.Act.TheVariants.{Tick};
+ghost use Rattle.mx_stations.specs.declared.answers.PutOut.{PutOut as ThePutOut};
+ghost use Rattle.mx_stations.specs.Posts.{FindsNone, does};
+ghost use Rattle.mx_stations.specs.Turns.{DeliversFirst, DeliversMore, Goes, IsFated, PutsEach, TakesEach, TakesFated, Turns, fated_hand, noted_all, noted_puts};
 
 use crate::answers::{TakeFault, TurnReport};
 use crate::field::{act, look};
@@ -84,31 +88,32 @@ impl<C: Exclusion> Station<C> {
         &mut self,
         from: NodeId,
         fates: &mut F,
-        report: &mut TurnReport,
-    ) -> Result<(), TakeFault>
+    ) -> Result<Option<Fate>, TakeFault>
         requires within { from < self.old.nodes }
         requires empty { self.old.me.hand ≡ None }
+        ensures taken { IfOk result (λ took. TakesFated C.core from took self.old self.new) }
         ensures goes { Goes C.core self.old self.new }
         ensures empty { OnOk result (self.new.me.hand ≡ None) }
         ensures kept { OnErr result (self.new.me.hand ≢ None) }
     {
         let Some(fate) = self.fetch_fated(from, fates) else {
-            return Ok(());
+            return Ok(None);
         };
-        report.note_taken(fate);
         self.deliver_more(fate)?;
         self.deliver()?;
-        Ok(())
+        Ok(Some(fate))
     }
 
     /// Delivers the parcel in hand a first time, where its fate is to be delivered twice.
     fn deliver_more(&mut self, fate: Fate) -> Result<(), TakeFault>
+        ensures more { OnOk result ((fate ≡ Twice → self.old.me.hand ≢ None)
+            → DeliversMore C.core fate self.old self.new) }
         ensures goes { Goes C.core self.old self.new }
         ensures kept { OnErr result (self.new.me.hand ≢ None) }
     {
-        if fate != Fate::Twice {
+        let Fate::Twice = fate else {
             return Ok(());
-        }
+        };
         self.deliver_first()?;
         Ok(())
     }
@@ -119,21 +124,30 @@ impl<C: Exclusion> Station<C> {
         fates: &mut F,
         report: &mut TurnReport,
     ) -> Result<(), TakeFault>
-        requires { self.old.me.hand ≡ None }
+        requires empty { self.old.me.hand ≡ None }
+        requires few { (report.old.taken ≤ 1) × (report.old.dropped ≤ 1) × (report.old.twice ≤ 1) }
+        ensures taken { OnOk result ((takes : List (Option TheFate))
+            × TakesEach C.core 0 takes self.old self.new × (length takes ≡ self.old.nodes)
+            × (report.new ≡ noted_all takes report.old)) }
         ensures goes { Goes C.core self.old self.new }
         ensures kept { OnErr result (self.new.me.hand ≢ None) }
     {
         for index in 0..self.nodes() {
-            if let Some(from) = NodeId::of(index) {
-                self.take_fated(from, fates, report)?;
-            }
+            let Some(from) = NodeId::of(index) else {
+                unreachable!();
+            };
+            let took = self.take_fated(from, fates)?;
+            report.note_taken(took);
         }
         Ok(())
     }
 
     /// As many tries to put a parcel out as parcels wait.
     fn put_each(&mut self, report: &mut TurnReport)
-        ensures { Goes C.core self.old self.new }
+        requires few { (report.old.put ≡ 0) × (report.old.full ≡ 0) }
+        ensures put { (puts : List ThePutOut) × PutsEach C.core puts self.old self.new
+            × (length puts ≡ length self.old.waiting) × (report.new ≡ noted_puts puts report.old) }
+        ensures goes { Goes C.core self.old self.new }
     {
         for _round in 0..self.waits() {
             let answer = self.put_out();
@@ -146,13 +160,12 @@ impl<C: Exclusion> Station<C> {
     /// none waits, the clock ticks. Where memory is refused the turn ends, and the parcel stays in
     /// hand.
     pub fn turn<F: Fates>(&mut self, fates: &mut F) -> Result<TurnReport, TakeFault>
+        ensures turns { IfOk result (λ report. Turns C.core self.old report self.new) }
         ensures goes { Goes C.core self.old self.new }
         ensures kept { OnErr result (self.new.me.hand ≢ None) }
     {
-        let mut report = TurnReport::default();
-        if self.deliver()? {
-            report.note_taken(Fate::Pass);
-        }
+        let had = self.deliver()?;
+        let mut report = TurnReport::begin(had);
         self.take_each(fates, &mut report)?;
         self.put_each(&mut report);
         report.ticked = self.tick_if_idle(report.taken);
@@ -161,12 +174,22 @@ impl<C: Exclusion> Station<C> {
 
     /// Ticks where a turn took nothing, and nothing waits.
     fn tick_if_idle(&mut self, taken: u32) -> bool
-        ensures { Goes C.core self.old self.new }
+        ensures ends { MatchBool result (self.new ≡ does C.core Tick self.old)
+            (self.new ≡ self.old) }
+        ensures idle { result ≡ ((taken == 0) && (length self.old.waiting == 0)) }
+        ensures goes { Goes C.core self.old self.new }
     {
-        if taken > 0 || self.waits() > 0 {
+        if !is_idle(taken, self.waits()) {
             return false;
         }
         self.tick();
         true
     }
+}
+
+/// Whether a turn took nothing, and nothing waits.
+fn is_idle(taken: u32, waiting: usize) -> bool
+    ensures { result ≡ ((taken == 0) && (waiting == 0)) }
+{
+    taken == 0 && waiting == 0
 }

@@ -1,26 +1,51 @@
-use Rattle.std.proofs.Common.{rules, sym, subst, ◌≢◌, None}
-use Rattle.mx_stations.proofs.Going.{goes_had, goes_on, stays}
+use Rattle.std.proofs.Common.{rules, sym, ap, ◌∙◌, subst, ◌≢◌, None}
+use Rattle.mx_stations.specs.Turns.{ending, noted_all, noted_puts}
+use Rattle.mx_stations.proofs.Going.{goes_had, goes_nodes, goes_on, stays}
 use Rattle.mx_stations.proofs.Posts.{on_err}
+use Rattle.mx_stations.proofs.Turning.{begun_few, none_put}
 use Rattle.mx_stations.proofs.station.Station.turn.Goals as goal
 
-pub returns-in_err-deliver-clause-goes : goal.returns-in_err-deliver-clause-goes
-returns-in_err-deliver-clause-goes g c = stays g.C.Exclusion.core _ _ c.in_err-deliver.ensures.memory
+pub returns-in_err-had-clause-goes : goal.returns-in_err-had-clause-goes
+returns-in_err-had-clause-goes g c = stays g.C.Exclusion.core _ _ c.in_err-had.ensures.memory
 
-pub returns-in_err-deliver-clause-kept : goal.returns-in_err-deliver-clause-kept
-returns-in_err-deliver-clause-kept g c =
-    let e = c.in_err-deliver.ensures in
+pub returns-in_err-had-clause-kept : goal.returns-in_err-had-clause-kept
+returns-in_err-had-clause-kept g c =
+    let e = c.in_err-had.ensures in
     on_err c.from_residual.result _ (subst (λ s. s.me.hand ≢ None) (sym e.memory) e.held)
 
 pub take_each-requires : goal.take_each-requires
-take_each-requires g c = (search rules, (goes_had g.C.Exclusion.core _ _ c.in_ok-deliver.field-0 c.in_ok-deliver.ensures.delivered).1)
+take_each-requires g c = (search rules, ((goes_had g.C.Exclusion.core _ _ c.in_ok-had.had c.in_ok-had.ensures.delivered).1, begun_few c.in_ok-had.had _ c.begin-report.ensures))
 
 pub returns-in_err-take_each-clause-goes : goal.returns-in_err-take_each-clause-goes
-returns-in_err-take_each-clause-goes g c = goes_on g.C.Exclusion.core _ _ _ (goes_had g.C.Exclusion.core _ _ c.in_ok-deliver.field-0 c.in_ok-deliver.ensures.delivered).0 c.take_each.ensures.goes
-
-pub returns-clause-goes : goal.returns-clause-goes
-returns-clause-goes g c =
-    goes_on g.C.Exclusion.core _ _ _ (goes_had g.C.Exclusion.core _ _ c.in_ok-deliver.field-0 c.in_ok-deliver.ensures.delivered).0
-    (goes_on g.C.Exclusion.core _ _ _ c.take_each.ensures.goes (goes_on g.C.Exclusion.core _ _ _ c.put_each.ensures c.tick_if_idle.ensures))
+returns-in_err-take_each-clause-goes g c = goes_on g.C.Exclusion.core _ _ _ (goes_had g.C.Exclusion.core _ _ c.in_ok-had.had c.in_ok-had.ensures.delivered).0 c.take_each.ensures.goes
 
 pub returns-in_err-take_each-clause-kept : goal.returns-in_err-take_each-clause-kept
 returns-in_err-take_each-clause-kept g c = on_err c.from_residual-in_err-take_each.result _ c.in_err-take_each.ensures.kept
+
+pub put_each-requires : goal.put_each-requires
+put_each-requires g c = let t = c.in_ok-take_each.ensures.taken in (search rules, none_put c.in_ok-had.had t.0 _ _ c.begin-report.ensures t.3)
+
+pub returns-clause-turns : goal.returns-clause-turns
+returns-clause-turns g c =
+    let t = c.in_ok-take_each.ensures.taken in let p = c.put_each.ensures.put in
+    let begins = c.in_ok-had.ensures.delivered in record {
+      had = c.in_ok-had.had;
+      after_hand = c.deliver.new.self;
+      begins = begins;
+      takes = t.0;
+      after_takes = c.take_each.new.self;
+      taken = t.1;
+      each_node = t.2 ∙ goes_nodes g.C.Exclusion.core _ _ (goes_had g.C.Exclusion.core _ _ c.in_ok-had.had begins).0;
+      puts = p.0;
+      after_puts = c.put_each.new.self;
+      put = p.1;
+      as_often = p.2;
+      ends = c.tick_if_idle.ensures.ends;
+      ticks = c.tick_if_idle.ensures.idle;
+      tells = ap (ending c.tick_if_idle.result) (p.3 ∙ ap (noted_puts p.0) (t.3 ∙ ap (noted_all t.0) c.begin-report.ensures));
+    }
+
+pub returns-clause-goes : goal.returns-clause-goes
+returns-clause-goes g c =
+    goes_on g.C.Exclusion.core _ _ _ (goes_had g.C.Exclusion.core _ _ c.in_ok-had.had c.in_ok-had.ensures.delivered).0
+    (goes_on g.C.Exclusion.core _ _ _ c.take_each.ensures.goes (goes_on g.C.Exclusion.core _ _ _ c.put_each.ensures.goes c.tick_if_idle.ensures.goes))
