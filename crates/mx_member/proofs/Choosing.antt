@@ -1,11 +1,15 @@
 -- What a member's reads and sends are, case by case.
-use Rattle.std.proofs.Common.{ℕ, ◌<◌, ◌≤◌, ◌≡◌, inl, inr, true, false, Ok, Err, length, sym, ◌∙◌, ap, subst, arith}
+use Rattle.std.proofs.Common.{ℕ, ◌<◌, ◌≤◌, ◌≡◌, inl, inr, true, false, List, Option, Ok, Err, length, unwrap_or, sym, ◌∙◌, ap, subst, arith}
 use Rattle.std.proofs.lemmas.Bool.Decides.{nat_tests}
 use Rattle.mx_nodelaws.specs.Core.{Core}
 use Rattle.mx_nodelaws.specs.declared.phase.Phase.TheVariants.{Inside}
+use Rattle.mx_journal.specs.declared.records.Record.{Record}
 use Rattle.mx_journal.specs.Drafted.{Drafted, with_read}
 use Rattle.mx_journal.specs.Gapless.{first_missing}
 use Rattle.mx_journal.proofs.Choices.{compared}
+use Rattle.mx_registers.specs.declared.cells.Cell.{Cell}
+use Rattle.mx_registers.specs.Registers.{register_of, registers_of, value_in}
+use Rattle.mx_registers.proofs.Taking.{value_there}
 use Rattle.mx_member.specs.declared.faults.ReadFault.TheVariants as read
 use Rattle.mx_member.specs.Member.{MemberState, with_draft}
 use Rattle.mx_member.specs.Steps.{read_at, read_inside, read_of, refusing, shown_inside}
@@ -17,6 +21,11 @@ inside_full register n m r g f = grind (arith, nat_tests)
 -- and where it is not
 inside_ok : {S : Type 0} (register n v : ℕ) (m : MemberState S) → register < m.setting.registers → n ≤ first_missing 1 m.journal → length m.draft.reads < 8 → v ≡ shown_inside register n m → read_inside register n m ≡ record { state = with_draft (with_read register v m.draft) m; answer = Ok v }
 inside_ok register n v m r g f e = grind (arith, nat_tests)
+
+-- a register that is there, of the view of some records
+pub register_shown : (count register : ℕ) (xs : List Record) (cells : List Cell) (found : Option ℕ) → cells ≡ registers_of count xs → register < count → found ≡ value_in register cells → unwrap_or found 0 ≡ (register_of register xs).value
+register_shown count register xs cells found is there looked =
+    ap (λ o. unwrap_or o 0) (looked ∙ ap (λ c. value_in register c) is ∙ value_there count xs register there)
 
 -- no number is below eight, at most eight and eight
 pub not_full : (k : ℕ) → k ≤ 8 → (k ≡ 8 → false ≡ true) → k < 8

@@ -1,7 +1,9 @@
 -- The state of a member, and the parcels that it sends.
-use Rattle.std.specs.Prelude.{ℕ, List, [], ◌∷◌}
+use Rattle.std.specs.Prelude.{ℕ, ◌≡◌, List, [], ◌∷◌}
 use Rattle.mx_journal.specs.declared.records.Record.{Record}
 use Rattle.mx_journal.specs.Drafted.{Drafted}
+use Rattle.mx_registers.specs.declared.cells.Cell.{Cell}
+use Rattle.mx_registers.specs.Registers.{registers_of}
 use Rattle.mx_member.specs.declared.parcel.Parcel.{Parcel}
 use Rattle.mx_member.specs.declared.parcel.Parcel.TheVariants.{Guard, Want, Records}
 
@@ -19,6 +21,10 @@ pub record MemberState (S : Type 0) : Type 0 where
   pub core : S
   pub journal : List Record
   pub draft : Drafted
+
+-- the cells are the registers of the journal
+unfoldable pub IsViewOf : ℕ → List Record → List Cell → Type 0
+IsViewOf count journal cells = cells ≡ registers_of count journal
 
 -- a draft in which nothing was read or written yet
 abbrev pub fresh : Drafted

@@ -1,6 +1,7 @@
 //! What a member takes from others and sends them: letters of the core, wants, and records.
 
-ghost use Rattle.std.specs.Prelude.{ℕ, ◌≡◌, ◌≤◌, ◌<◌, ◌↔◌, ◌⊎◌, [], Err, IsOk, OnErr, OnOk, take};
+ghost use Rattle.std.specs.Prelude.{ℕ, ◌≡◌, ◌≤◌, ◌<◌, ◌↔◌, ◌⊎◌, ◌++◌, [], List, Err, IsOk, OnErr, OnOk, take};
+ghost use Rattle.mx_journal.specs.declared.records.Record.{Record};
 ghost use Rattle.mx_merge.specs.Missing.{gaps_of, in_ranges};
 ghost use Rattle.mx_registers.specs.Registers.{registers_of, value_in};
 ghost use Rattle.mx_member.specs.Member.{BringsRecords, records_in};
@@ -15,7 +16,7 @@ use mx_journal::{Range, Record};
 use mx_letters::Outbox;
 use mx_merge::{answer, missing};
 use mx_nodelaws::Exclusion;
-use mx_registers::view;
+use mx_registers::View;
 use mx_stamps::NodeId;
 
 impl<C: Exclusion> Member<C> {
@@ -63,7 +64,9 @@ impl<C: Exclusion> Member<C> {
             Parcel::Guard(letter) => self.hear(from, letter, out),
             Parcel::Want(ranges) => self.answer_want(from, ranges.as_slice(), out),
             Parcel::Records(records) => {
-                self.journal.put_all(records.as_slice())?;
+                let list = records.as_slice();
+                self.journal.put_all(list)?;
+                take_all(&mut self.shown, list);
             }
         }
         Ok(())
@@ -90,11 +93,22 @@ impl<C: Exclusion> Member<C> {
         }
     }
 
+    #[tactic(auto, unfolding(crate::specs::Member::IsViewOf))]
     /// The value of a register after all the records that this member knows; it may not know every
     /// section before the newest of them. None where there is no such register.
     pub fn value(&self, register: u8) -> Option<u64>
         ensures { result ≡ value_in register (registers_of self.now.setting.registers self.now.journal) }
     {
-        view(&self.journal, self.registers).value(register)
+        self.shown.value(register)
+    }
+}
+
+/// Takes records, one after the other.
+fn take_all(shown: &mut View, records: &[Record])
+    ensures { (count : ℕ) (before : List Record) → shown.old ≡ registers_of count before
+        → shown.new ≡ registers_of count (before ++ records.now) }
+{
+    for entry in records {
+        shown.take(entry);
     }
 }

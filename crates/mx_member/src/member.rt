@@ -9,6 +9,7 @@ use crate::parcel::Parcel;
 use mx_journal::{Draft, Journal};
 use mx_letters::Outbox;
 use mx_nodelaws::{AskFault, EnterFault, Exclusion, Phase};
+use mx_registers::View;
 use mx_stamps::{NodeId, Stamp};
 use std::alloc::Global;
 use std::marker::Model;
@@ -23,6 +24,8 @@ pub struct Member<C: Exclusion> {
     pub(crate) registers: u8,
     pub(crate) core: C,
     pub(crate) journal: Journal,
+    /// The registers after all records of the journal.
+    pub(crate) shown: View,
     pub(crate) draft: Draft,
     /// The core's letters on their way. Empty between calls.
     pub(crate) letters: Outbox<C::Msg>,
@@ -30,7 +33,7 @@ pub struct Member<C: Exclusion> {
 
 impl<C: Exclusion> Model for Member<C> {
     ghost use Rattle.std.specs.Prelude.{◌≡◌, ◌≤◌, ◌<◌, [], length};
-    ghost use Rattle.mx_member.specs.Member.{MemberState};
+    ghost use Rattle.mx_member.specs.Member.{IsViewOf, MemberState};
 
     ghost Value = { MemberState C };
 
@@ -42,7 +45,8 @@ impl<C: Exclusion> Model for Member<C> {
     } };
 
     ghost invariant = { λ m. (m.letters ≡ []) × (0 < m.registers) × (m.registers ≤ 32)
-        × (length m.draft.reads ≤ 8) × (length m.draft.writes ≤ 8) };
+        × (length m.draft.reads ≤ 8) × (length m.draft.writes ≤ 8)
+        × IsViewOf m.registers m.journal m.shown };
 }
 
 impl<C: Exclusion> Member<C> {
@@ -70,6 +74,7 @@ impl<C: Exclusion> Member<C> {
             registers,
             core: C::start(shape, me, origin, limit),
             journal: Journal::new(alloc),
+            shown: View::new(registers),
             draft: Draft::new(),
             letters: Outbox::new(),
         }

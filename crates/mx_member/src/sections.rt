@@ -1,19 +1,20 @@
 //! What a member does in its section: reads, writes, leaving; and waking up again.
 
-ghost use Rattle.std.specs.Prelude.{◌≡◌, ◌≤◌, ◌<◌, ◌↔◌, [], Err, IfOk, Ok, None, OnErr, OnOk};
+ghost use Rattle.std.specs.Prelude.{ℕ, ◌≡◌, ◌≤◌, ◌<◌, ◌↔◌, [], Err, IfOk, Ok, None, OnErr, OnOk};
 ghost use Rattle.mx_journal.specs.Records.{below, record_at, with_record};
 ghost use Rattle.mx_nodelaws.specs.Core.{IsInside};
 ghost use Rattle.mx_registers.specs.Registers.{register_of};
+ghost use Rattle.mx_member.specs.Member.{IsViewOf};
 ghost use Rattle.mx_member.specs.Steps.{LacksItsRecord, leave_of, read_of, restart_of, write_of};
 
 use crate::faults::{CloseFault, ReadFault, WriteFault};
 use crate::guards::guard_all;
 use crate::member::Member;
 use crate::parcel::Parcel;
-use mx_journal::{Draft, Journal, PutFault, Receipt, Record};
+use mx_journal::{Draft, Journal, Put, PutFault, Receipt, Record};
 use mx_letters::Outbox;
 use mx_nodelaws::{Exclusion, Phase};
-use mx_registers::view_below;
+use mx_registers::{View, view_below};
 
 impl<C: Exclusion> Member<C> {
     /// Reads a register inside: the value that this section wrote last, or else what the sections
@@ -33,7 +34,7 @@ impl<C: Exclusion> Member<C> {
         if known < number - 1 {
             return Err(ReadFault::Gap(known + 1));
         }
-        let before = value_below(&self.journal, self.registers, number, register);
+        let before = self.value_below(number, register);
         let value = self.draft.last(register).unwrap_or(before);
         self.draft.read(register, value)?;
         Ok(value)
@@ -73,7 +74,7 @@ impl<C: Exclusion> Member<C> {
             return Err(CloseFault::NotInside);
         };
         let receipt = self.draft.close(number, self.me);
-        keep(&mut self.journal, receipt.to_record())?;
+        keep(&mut self.journal, &mut self.shown, &receipt.to_record())?;
         let _ = self.core.leave(&mut self.letters);
         guard_all(&mut self.letters, out);
         self.draft.clear();
@@ -86,31 +87,40 @@ impl<C: Exclusion> Member<C> {
     {
         self.draft = Draft::new();
     }
+
+    /// What the sections below a number left in a register. Where the journal knows no others, the
+    /// kept view shows it.
+    fn value_below(&self, number: u64, register: u8) -> u64
+        requires { register < self.now.setting.registers }
+        ensures { result ≡ (register_of register (below number self.now.journal)).value }
+    {
+        if self.journal.top() < number {
+            return self.shown.value(register).unwrap_or(0);
+        }
+        view_below(&self.journal, self.registers, number)
+            .value(register)
+            .unwrap_or(0)
+    }
 }
 
-/// What the sections below a number left in a register.
-fn value_below(journal: &Journal, registers: u8, number: u64, register: u8) -> u64
-    requires there { register < registers }
-    requires few { registers ≤ 32 }
-    ensures { result ≡ (register_of register (below number journal.now)).value }
-{
-    view_below(journal, registers, number)
-        .value(register)
-        .unwrap_or(0)
-}
-
-/// Puts the record, unless another bears its number.
-fn keep(journal: &mut Journal, entry: Record) -> Result<(), CloseFault>
-    requires { 0 < entry.number }
-    ensures ok { OnOk result (journal.new ≡ with_record entry journal.old) }
+/// Puts the record, unless another bears its number. A view of the journal stays its view.
+fn keep(journal: &mut Journal, shown: &mut View, entry: &Record) -> Result<(), CloseFault>
+    requires { 0 < entry.now.number }
+    ensures ok { OnOk result (journal.new ≡ with_record entry.now journal.old) }
     ensures memory { OnErr result (result ≡ Err CloseFault.Memory) }
-    ensures missing { OnErr result (record_at entry.number journal.old ≡ None) }
+    ensures missing { OnErr result (record_at entry.now.number journal.old ≡ None) }
     ensures err { OnErr result (journal.new ≡ journal.old) }
+    ensures shown { (count : ℕ) → IsViewOf count journal.old shown.old
+        → IsViewOf count journal.new shown.new }
 {
     // the order of the journal is known from its length
     let _ = journal.len();
-    match journal.put(entry) {
-        Ok(_) => Ok(()),
+    match journal.put(entry.copy()) {
+        Ok(Put::New) => {
+            shown.take(entry);
+            Ok(())
+        }
+        Ok(Put::Same) => Ok(()),
         Err(PutFault::Memory) => Err(CloseFault::Memory),
         // another record bears the number, and stays
         Err(PutFault::Conflict(_)) => Ok(()),

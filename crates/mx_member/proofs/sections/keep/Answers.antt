@@ -1,14 +1,36 @@
-use Rattle.std.proofs.Common.{sym, ap, ◌∙◌}
+use Rattle.std.proofs.Common.{◌≡◌, ◌∙◌, inl, sym, ap, subst, arith}
+use Rattle.mx_journal.specs.declared.records.Record.{Record}
+use Rattle.mx_journal.specs.declared.puts.Put.{Put}
 use Rattle.mx_journal.specs.declared.puts.PutFault.{PutFault}
-use Rattle.mx_member.proofs.Keeping.{conflict_apart, kept, ok_apart, put_err}
+use Rattle.mx_journal.specs.Records.{record_at, with_record}
+use Rattle.mx_registers.specs.Registers.{with_taken}
+use Rattle.mx_member.specs.Member.{IsViewOf}
+use Rattle.mx_member.proofs.Keeping.{conflict_apart, kept, ok_apart, put_err, put_ok, shown_with}
 use Rattle.mx_member.proofs.sections.keep.Goals as goal
 
-pub returns-in-Ok-clause-ok : goal.returns-in-Ok-clause-ok
-returns-in-Ok-clause-ok c =
-    kept c.args.journal.now c.put.new.self c.args.entry c.put.result c.len.ensures.ordered c.requires c.put.ensures.zero c.put.ensures.conflict c.put.ensures.same c.put.ensures.new c.put.ensures.kept
-    (λ e. ok_apart c.in-Ok.field-0 (sym c.in-Ok.is ∙ e))
+pub returns-in-Ok-New-clause-shown : goal.returns-in-Ok-New-clause-shown
+returns-in-Ok-New-clause-shown c = λ count is.
+    let journal = c.args.journal.now in
+    let entry = c.args.entry.now in
+    let made : c.copy.result ≡ entry = c.copy.ensures in
+    let new = c.in-Ok-New.is ∙ ap (λ (p : Put). put_ok p) c.in-Ok-New.field-0-is in
+    let free = sym (ap (λ (x : Record). record_at x.number journal) made) ∙ (c.put.ensures.fresh.0 (inl new)).1 in
+    let after = c.put.ensures.new new ∙ ap (λ x. with_record x journal) made in
+    subst (λ cells. IsViewOf count c.put.new.self cells) (sym c.take.ensures.value)
+    (subst (λ xs. IsViewOf count xs (with_taken entry c.args.shown.now)) (sym after) (shown_with count journal c.args.shown.now entry c.len.ensures.ordered free is))
+
+pub returns-in-Ok-Same-clause-ok : goal.returns-in-Ok-Same-clause-ok
+returns-in-Ok-Same-clause-ok c =
+    let made : c.copy.result ≡ c.args.entry.now = c.copy.ensures in
+    let number = ap (λ (x : Record). x.number) made in
+    kept c.args.journal.now c.put.new.self c.copy.result c.put.result c.len.ensures.ordered (omega arith) c.put.ensures.zero c.put.ensures.conflict c.put.ensures.same c.put.ensures.new c.put.ensures.kept
+    (λ e. ok_apart c.in-Ok-Same.field-0 (sym c.in-Ok-Same.is ∙ e))
+    ∙ ap (λ x. with_record x c.args.journal.now) made
 
 pub returns-in-Err-Conflict-clause-ok : goal.returns-in-Err-Conflict-clause-ok
 returns-in-Err-Conflict-clause-ok c =
-    kept c.args.journal.now c.put.new.self c.args.entry c.put.result c.len.ensures.ordered c.requires c.put.ensures.zero c.put.ensures.conflict c.put.ensures.same c.put.ensures.new c.put.ensures.kept
+    let made : c.copy.result ≡ c.args.entry.now = c.copy.ensures in
+    let number = ap (λ (x : Record). x.number) made in
+    kept c.args.journal.now c.put.new.self c.copy.result c.put.result c.len.ensures.ordered (omega arith) c.put.ensures.zero c.put.ensures.conflict c.put.ensures.same c.put.ensures.new c.put.ensures.kept
     (λ e. conflict_apart c.in-Err-Conflict.field-0-0 (ap (λ (f : PutFault). put_err f) (sym c.in-Err-Conflict.field-0-is) ∙ sym c.in-Err-Conflict.is ∙ e))
+    ∙ ap (λ x. with_record x c.args.journal.now) made

@@ -1,8 +1,9 @@
 use Rattle.std.proofs.Common.{◌≡◌, ◌∙◌, [], inl, Ok, refl, sym, ap, subst, arith}
 use Rattle.mx_member.specs.Faults.{fault_of}
-use Rattle.mx_member.specs.Member.{records_in}
+use Rattle.mx_member.specs.Member.{IsViewOf, records_in}
 use Rattle.mx_member.proofs.Refusing.{is_err}
 use Rattle.mx_member.proofs.Delivering.{Tells, fault_known, fault_tells, none_puttable, ok_tells, stranger_tells, told}
+use Rattle.mx_member.proofs.Keeping.{shown_all}
 use Rattle.mx_member.proofs.member.Member.deliver.Given.{Over}
 use Rattle.mx_member.proofs.member.Member.deliver.Goals as goal
 
@@ -38,10 +39,10 @@ refused : (g : Over) (c : goal.After-from_residual g) → Tells c.from_residual.
 refused g c =
     let e = c.in_err-put_all-in-Records.ensures in
     let is = is_err c.from_residual.result (fault_of c.in_err-put_all-in-Records.field-0.0) c.from_residual.ensures.1 in
-    told c.from_residual.result c.args.from c.as_slice-in-Records.result.now c.args.parcel _ c.args.self.now c.self.view_is
-    (ap records_in c.in-Records.is ∙ sym c.as_slice-in-Records.ensures.value)
-    (subst (λ r. Tells r c.self.inside.nodes c.args.from c.as_slice-in-Records.result.now c.self.inside.journal) (sym is)
-    (fault_tells c.in_err-put_all-in-Records.field-0.0 c.self.inside.nodes c.args.from c.as_slice-in-Records.result.now c.self.inside.journal (omega arith) e.zero e.conflict e.agreed))
+    told c.from_residual.result c.args.from c.as_slice-list.result.now c.args.parcel _ c.args.self.now c.self.view_is
+    (ap records_in c.in-Records.is ∙ sym c.as_slice-list.ensures.value)
+    (subst (λ r. Tells r c.self.inside.nodes c.args.from c.as_slice-list.result.now c.self.inside.journal) (sym is)
+    (fault_tells c.in_err-put_all-in-Records.field-0.0 c.self.inside.nodes c.args.from c.as_slice-list.result.now c.self.inside.journal (omega arith) e.zero e.conflict e.agreed))
 
 pub returns-in_err-put_all-in-Records-clause-conflict : goal.returns-in_err-put_all-in-Records-clause-conflict
 returns-in_err-put_all-in-Records-clause-conflict g c = (refused g c).0
@@ -50,14 +51,28 @@ pub returns-in_err-put_all-in-Records-clause-taken : goal.returns-in_err-put_all
 returns-in_err-put_all-in-Records-clause-taken g c = (refused g c).1
 
 -- and what its acceptance does
-taken : (g : Over) (c : goal.In_ok-put_all-in-Records g) → Tells (Ok tt) c.args.self.now.setting.nodes c.args.from (records_in c.args.parcel) c.args.self.now.journal
+taken : (g : Over) (c : goal.After-take_all g) → Tells (Ok tt) c.args.self.now.setting.nodes c.args.from (records_in c.args.parcel) c.args.self.now.journal
 taken g c =
-    told (Ok tt) c.args.from c.as_slice-in-Records.result.now c.args.parcel _ c.args.self.now c.self.view_is
-    (ap records_in c.in-Records.is ∙ sym c.as_slice-in-Records.ensures.value)
-    (ok_tells c.self.inside.nodes c.args.from c.as_slice-in-Records.result.now c.self.inside.journal (omega arith) (c.in_ok-put_all-in-Records.ensures.agreed.0 (inl refl)))
+    told (Ok tt) c.args.from c.as_slice-list.result.now c.args.parcel _ c.args.self.now c.self.view_is
+    (ap records_in c.in-Records.is ∙ sym c.as_slice-list.ensures.value)
+    (ok_tells c.self.inside.nodes c.args.from c.as_slice-list.result.now c.self.inside.journal (omega arith) (c.in_ok-put_all-in-Records.ensures.agreed.0 (inl refl)))
 
 pub returns-in_ok-put_all-in-Records-clause-conflict : goal.returns-in_ok-put_all-in-Records-clause-conflict
 returns-in_ok-put_all-in-Records-clause-conflict g c = (taken g c).0
 
 pub returns-in_ok-put_all-in-Records-clause-taken : goal.returns-in_ok-put_all-in-Records-clause-taken
 returns-in_ok-put_all-in-Records-clause-taken g c = (taken g c).1
+
+pub invariant_of-self-in-Records : goal.invariant_of-self-in-Records
+invariant_of-self-in-Records g c =
+    let was = c.self.invariant in
+    let agreed = (c.in_ok-put_all-in-Records.ensures.agreed.0 (inl refl)).1 in
+    let after = c.in_ok-put_all-in-Records.ensures.ok.0 in (
+      was.0,
+      was.1,
+      was.2,
+      was.3,
+      was.4,
+      subst (λ xs. IsViewOf c.self.inside.registers xs c.take_all.new.shown) (sym after)
+          (shown_all c.self.inside.registers c.self.inside.journal c.as_slice-list.result.now c.self.inside.shown c.take_all.new.shown agreed was.5 (c.take_all.ensures c.self.inside.registers c.self.inside.journal)),
+    )

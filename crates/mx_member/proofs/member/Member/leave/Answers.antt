@@ -11,3 +11,7 @@ pub returns-clause-not_inside : goal.returns-clause-not_inside
 returns-clause-not_inside g c =
     left c.close-receipt.result
     (c.in-Inside.number, ap (λ m. g.C.Exclusion.core.phase m.core) (sym c.self.view_is) ∙ sym c.phase.ensures.value ∙ c.in-Inside.is)
+
+pub invariant_of-self : goal.invariant_of-self
+invariant_of-self g c =
+    let was = c.self.invariant in (was.0, was.1, was.2, was.3, was.4, c.keep.ensures.shown c.self.inside.registers was.5)

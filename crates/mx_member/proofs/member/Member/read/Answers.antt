@@ -1,9 +1,22 @@
-use Rattle.std.proofs.Common.{◌∙◌, ap, sym, refl, unwrap_or, Option, ℕ, arith}
+use Rattle.std.proofs.Common.{◌≡◌, ◌∙◌, ap, sym, refl, unwrap_or, arith}
+use Rattle.std.proofs.lemmas.Grind.{common_steps}
 use Rattle.mx_journal.specs.Drafted.{last_value}
 use Rattle.mx_member.specs.declared.faults.ReadFault.TheVariants as read
+use Rattle.mx_journal.specs.Records.{below}
+use Rattle.mx_registers.specs.Registers.{register_of}
 use Rattle.mx_member.proofs.Refusing.{is_err}
 use Rattle.mx_member.proofs.Choosing.{full_answer, full_state, not_full, ok_answer, ok_state}
+use Rattle.mx_member.proofs.member.Member.read.Given.{Over}
 use Rattle.mx_member.proofs.member.Member.read.Goals as goal
+
+pub returns-in_default : goal.returns-in_default
+returns-in_default g c = grind (arith, common_steps)
+
+pub returns-then-register-self : goal.returns-then-register-self
+returns-then-register-self g c = grind (arith, common_steps)
+
+pub returns-then-known-number : goal.returns-then-known-number
+returns-then-known-number g c = grind (arith, common_steps)
 
 pub returns-in_err-read-clause-state : goal.returns-in_err-read-clause-state
 returns-in_err-read-clause-state g c =
@@ -18,12 +31,20 @@ returns-in_err-read-clause-answer g c =
     (let l = c.in-Inside.ensures.numbered in omega arith)
     (let e = c.in_err-read.ensures.full.0 refl in omega arith)
 
+-- the value is the draft's last write, or else what the sections below left
+shown : (g : Over) (c : goal.In_ok-read g) → c.unwrap_or-value.result ≡ unwrap_or (last_value c.args.register c.self.inside.draft.writes) (register_of c.args.register (below c.in-Inside.number c.self.inside.journal)).value
+shown g c =
+    let before = c.value_below-before.ensures ∙ ap (λ m. (register_of c.args.register (below c.in-Inside.number m.journal)).value) (sym c.self.view_is) in
+    c.unwrap_or-value.ensures
+    ∙ ap (λ o. unwrap_or o c.value_below-before.result) c.last.ensures
+    ∙ ap (λ k. unwrap_or (last_value c.args.register c.self.inside.draft.writes) k) before
+
 pub returns-clause-state : goal.returns-clause-state
 returns-clause-state g c =
     ok_state g.C.Exclusion.core c.args.register c.in-Inside.number c.args.self.now _ c.self.view_is (sym c.phase.ensures.value ∙ c.in-Inside.is) (omega arith)
     (let l = c.in-Inside.ensures.numbered in omega arith)
     c.unwrap_or-value.result c.read.new.self (not_full _ c.self.invariant.3 c.in_ok-read.ensures.full.1)
-    (c.unwrap_or-value.ensures ∙ ap (λ (o : Option ℕ). unwrap_or o c.value_below-before.result) c.last.ensures ∙ ap (λ (k : ℕ). unwrap_or (last_value c.args.register c.self.inside.draft.writes) k) c.value_below-before.ensures)
+    (shown g c)
     c.in_ok-read.ensures.ok
 
 pub returns-clause-answer : goal.returns-clause-answer
@@ -31,4 +52,4 @@ returns-clause-answer g c =
     ok_answer g.C.Exclusion.core c.args.register c.in-Inside.number c.args.self.now _ c.self.view_is (sym c.phase.ensures.value ∙ c.in-Inside.is) (omega arith)
     (let l = c.in-Inside.ensures.numbered in omega arith)
     c.unwrap_or-value.result (not_full _ c.self.invariant.3 c.in_ok-read.ensures.full.1)
-    (c.unwrap_or-value.ensures ∙ ap (λ (o : Option ℕ). unwrap_or o c.value_below-before.result) c.last.ensures ∙ ap (λ (k : ℕ). unwrap_or (last_value c.args.register c.self.inside.draft.writes) k) c.value_below-before.ensures)
+    (shown g c)

@@ -1,13 +1,26 @@
-use Rattle.std.proofs.Common.{◌∙◌, ap, unwrap_or}
+use Rattle.std.proofs.Common.{◌≡◌, ◌∙◌, ap, sym, arith}
 use Rattle.mx_journal.specs.Records.{below}
-use Rattle.mx_registers.specs.Registers.{value_in}
-use Rattle.mx_registers.proofs.Taking.{value_there}
-use Rattle.mx_member.proofs.sections.value_below.Goals as goal
+use Rattle.mx_registers.specs.Registers.{register_of, registers_of}
+use Rattle.mx_registers.proofs.Applying.{below_all}
+use Rattle.mx_member.specs.Member.{IsViewOf}
+use Rattle.mx_member.proofs.Choosing.{register_shown}
+use Rattle.mx_member.proofs.member.Member.value_below.Goals as goal
+
+pub returns-then-top-number : goal.returns-then-top-number
+unfolding IsViewOf
+returns-then-top-number g c =
+    let inside = c.self.inside in
+    let earlier = below c.args.number inside.journal in
+    let count = ap (λ m. m.setting.registers) c.self.view_is in
+    let shown : inside.shown ≡ registers_of inside.registers earlier = c.self.invariant.5 ∙ ap (λ xs. registers_of inside.registers xs) (sym (below_all c.args.number inside.journal (omega arith))) in
+    c.unwrap_or.ensures
+    ∙ register_shown inside.registers c.args.register earlier inside.shown c.value.result shown (omega arith) c.value.ensures
+    ∙ ap (λ m. (register_of c.args.register (below c.args.number m.journal)).value) c.self.view_is
 
 pub returns : goal.returns
-returns c =
-    c.unwrap_or.ensures
-    ∙ ap (λ o. unwrap_or o 0)
-    (c.value.ensures
-    ∙ ap (λ cells. value_in c.args.register cells) c.view_below.ensures.value
-    ∙ value_there c.args.registers (below c.args.number c.args.journal.now) c.args.register c.requires.there)
+returns g c =
+    let inside = c.self.inside in
+    let count = ap (λ m. m.setting.registers) c.self.view_is in
+    c.unwrap_or-2.ensures
+    ∙ register_shown inside.registers c.args.register (below c.args.number inside.journal) c.view_below.result c.value-2.result c.view_below.ensures.value (omega arith) c.value-2.ensures
+    ∙ ap (λ m. (register_of c.args.register (below c.args.number m.journal)).value) c.self.view_is

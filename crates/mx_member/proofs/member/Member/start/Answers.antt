@@ -1,0 +1,11 @@
+use Rattle.std.proofs.Common.{◌∙◌, length, ap, sym, arith}
+use Rattle.mx_registers.specs.Registers.{registers_of}
+use Rattle.mx_member.specs.Member.{IsViewOf}
+use Rattle.mx_member.proofs.member.Member.start.Goals as goal
+
+pub invariant_of-result : goal.invariant_of-result
+unfolding IsViewOf
+invariant_of-result g c =
+    let reads = ap (λ d. length d.reads) c.new-3.ensures in
+    let writes = ap (λ d. length d.writes) c.new-3.ensures in
+    (c.new-4.ensures, c.requires.some, c.requires.few, omega arith, omega arith, c.new-2.ensures ∙ ap (λ xs. registers_of c.args.registers xs) (sym c.new.ensures))
