@@ -42,6 +42,11 @@ abbrev pub below : ℕ → List Record → List Record
 below n [] = []
 below n (x ∷ xs) = if nat_lt x.number n then x ∷ below n xs else []
 
+-- the records numbered above n
+abbrev pub above : ℕ → List Record → List Record
+above n [] = []
+above n (x ∷ xs) = if nat_lt n x.number then x ∷ xs else above n xs
+
 -- the records whose numbers lie in the range
 abbrev pub in_range : Range → List Record → List Record
 in_range range xs = filter (λ x. nat_le range.first x.number && nat_le x.number range.last) xs

@@ -1,12 +1,11 @@
 //! The journal of a node: the records that it knows, by their numbers.
 
-ghost use Rattle.std.specs.Prelude.{ℕ, ◌≡◌, ◌+◌, ◌≤◌, ◌<◌, ◌↔◌, ◌++◌, ◌⊎◌, [], List, Some, None, Ok, Err, IsOk, IsTrue, IfOk, OnErr, MatchOption, length, slice_get, take};
+ghost use Rattle.std.specs.Prelude.{ℕ, ◌≡◌, ◌+◌, ◌≤◌, ◌<◌, ◌↔◌, ◌++◌, ◌⊎◌, [], ◌∷◌, List, Some, None, Ok, Err, IsOk, IsTrue, IfOk, OnErr, MatchOption, length, take};
 ghost use Rattle.mx_journal.specs.Agreement.{AreAgreeing, IsConsistent, IsFirstConflict, IsOther, IsSubmap};
 ghost use Rattle.mx_journal.specs.Gapless.{IsGapless, first_missing};
-ghost use Rattle.mx_journal.specs.Records.{Ascending, IsNumbered, IsThere, in_range, record_at, top_of, with_record, with_records};
-ghost use Rattle.mx_journal.specs.Searches.{place};
+ghost use Rattle.mx_journal.specs.Records.{Ascending, IsNumbered, IsThere, above, in_range, record_at, top_of, with_record, with_records};
 
-use crate::places::{find, gapless_in, insert, least_in, place_of, top_in};
+use crate::places::{find, gapless_in, insert, least_in, next_in, top_in};
 use crate::puts::{Put, PutFault, are_there, has_zero, insert_all, least_conflict};
 use crate::ranges::Range;
 use crate::records::Record;
@@ -123,20 +122,14 @@ impl Journal {
         find(&self.records, number)
     }
 
-    /// The record at a place, from 0 on, in order of number.
-    pub fn record(&self, place: usize) -> &Record
-        requires { place < length self.now }
-        ensures { slice_get self.now place ≡ Some result.now }
+    /// The record with the least number above this one. Going on from 0, and from the number of each
+    /// record that was found, meets all records in order.
+    pub fn next_after(&self, number: u64) -> Option<&Record>
+        ensures value { MatchOption result (above number self.now ≡ [])
+            (λ found. above number self.now ≡ found.now ∷ above found.now.number self.now) }
+        ensures ordered { Ascending 1 self.now }
     {
-        &self.records[place]
-    }
-
-    /// How many records bear a lower number. That is the place of the first record that does not.
-    pub fn place_of(&self, number: u64) -> usize
-        ensures value { result ≡ place number self.now }
-        ensures bound { result ≤ length self.now }
-    {
-        place_of(&self.records, number)
+        next_in(&self.records, number)
     }
 
     /// How many records it has.

@@ -1,8 +1,8 @@
 //! Where a number stands in a list of records that ascends by number.
 
-ghost use Rattle.std.specs.Prelude.{◌≡◌, ◌≢◌, ◌+◌, ◌<◌, ◌≤◌, ◌↔◌, IsTrue, IsFalse, Some, None, MatchOption, length, take, vec_len, vec_capacity};
+ghost use Rattle.std.specs.Prelude.{◌≡◌, ◌≢◌, [], ◌∷◌, ◌+◌, ◌<◌, ◌≤◌, ◌↔◌, IsTrue, IsFalse, Some, None, MatchOption, length, take, vec_len, vec_capacity};
 ghost use Rattle.mx_journal.specs.Gapless.{first_missing};
-ghost use Rattle.mx_journal.specs.Records.{Ascending, IsThere, in_range, record_at, top_of, with_record};
+ghost use Rattle.mx_journal.specs.Records.{Ascending, IsThere, above, in_range, record_at, top_of, with_record};
 ghost use Rattle.mx_journal.specs.Searches.{place};
 
 use crate::ranges::Range;
@@ -34,6 +34,19 @@ pub(crate) fn find(records: &[Record], number: u64) -> Option<&Record>
     } else {
         None
     }
+}
+
+/// The record with the least number above this one.
+pub(crate) fn next_in(records: &[Record], number: u64) -> Option<&Record>
+    requires { Ascending 1 records.now }
+    ensures { MatchOption result (above number records.now ≡ [])
+        (λ found. above number records.now ≡ found.now ∷ above found.now.number records.now) }
+{
+    let at = records.partition_point(|entry| entry.number <= number);
+    if at >= records.len() {
+        return None;
+    }
+    Some(&records[at])
 }
 
 /// Puts the record in its place, where nothing bears its number.

@@ -22,15 +22,16 @@ pub(crate) fn first_difference(journal: &Journal, other: &Journal) -> Option<u64
     ensures none { IfNone result (AreAgreeing journal.now other.now) }
     ensures ordered { Ascending 1 journal.now × Ascending 1 other.now }
 {
-    let places = other.len();
-    if journal.is_empty() {
+    let (nothing_here, nothing_there) = (journal.is_empty(), other.is_empty());
+    if nothing_here || nothing_there {
         return None;
     }
-    for place in 0..places {
-        let entry = other.record(place);
+    let mut last = 0;
+    while let Some(entry) = other.next_after(last) {
         if !agrees_with(journal, entry) {
             return Some(entry.number);
         }
+        last = entry.number;
     }
     None
 }

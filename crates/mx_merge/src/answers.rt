@@ -19,14 +19,15 @@ pub fn answer(journal: &Journal, ranges: &[Range]) -> ArrayVec<Record, RECORDS_A
     ensures known { IsSubmap result.items journal.now }
 {
     let mut found = ArrayVec::new();
-    for place in journal.place_of(least_first(ranges))..journal.len() {
+    let mut last = least_first(ranges).saturating_sub(1);
+    while let Some(entry) = journal.next_after(last) {
         if found.is_full() {
             return found;
         }
-        let entry = journal.record(place);
         if is_in_some(ranges, entry.number) {
             found.push(entry.copy());
         }
+        last = entry.number;
     }
     found
 }

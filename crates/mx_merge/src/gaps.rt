@@ -15,17 +15,15 @@ pub fn missing(journal: &Journal, limit: u64) -> ArrayVec<Range, RANGES_AT_ONCE>
     ensures gaps { IsListOfGaps 8 limit journal.now result.items }
     ensures value { result.items ≡ take 8 (gaps_of limit journal.now) }
 {
-    // up to this number nothing is missing
-    let known = journal.gapless_to();
     let mut gaps = ArrayVec::new();
-    let mut last = known;
-    for place in known as usize..journal.len() {
-        let number = journal.record(place).number;
-        if number > limit || gaps.is_full() {
+    // up to this number each one is there, or lies in a gap that was looked at
+    let mut last = journal.gapless_to();
+    while let Some(entry) = journal.next_after(last) {
+        if entry.number > limit || gaps.is_full() {
             break;
         }
-        add_gap(&mut gaps, last, number - 1);
-        last = number;
+        add_gap(&mut gaps, last, entry.number - 1);
+        last = entry.number;
     }
     add_gap(&mut gaps, last, limit);
     gaps

@@ -39,8 +39,10 @@ pub fn view(journal: &Journal, count: u8) -> View
         → AreApplied (writes_to k journal.now) result }
 {
     let mut view = View::new(count);
-    for k in 0..journal.len() {
-        view.take(journal.record(k));
+    let mut last = 0;
+    while let Some(entry) = journal.next_after(last) {
+        view.take(entry);
+        last = entry.number;
     }
     view
 }
@@ -52,12 +54,13 @@ pub fn view_below(journal: &Journal, count: u8, number: u64) -> View
     ensures value { result ≡ registers_of count (below number journal.now) }
 {
     let mut earlier = View::new(count);
-    for place in 0..journal.len() {
-        let entry = journal.record(place);
+    let mut last = 0;
+    while let Some(entry) = journal.next_after(last) {
         if entry.number >= number {
             return earlier;
         }
         earlier.take(entry);
+        last = entry.number;
     }
     earlier
 }

@@ -1,27 +1,44 @@
-use Rattle.std.proofs.Common.{◌≡◌, ◌++◌, ◌∷◌, ◌+◌, take, drop, sym, ◌∙◌, ap, subst}
-use Rattle.std.proofs.lemmas.List.{take-append-drop}
-use Rattle.mx_stamps.proofs.Lists.{drop_at, take_at}
-use Rattle.mx_journal.specs.Records.{Ascending}
+use Rattle.std.proofs.Common.{◌≡◌, ◌++◌, [], ◌∷◌, List, sym, refl, ◌∙◌, ap, subst}
+use Rattle.mx_stamps.proofs.Lists.{append_append, append_nil}
+use Rattle.mx_journal.specs.declared.records.Record.{Record}
+use Rattle.mx_journal.specs.Records.{Ascending, above}
 use Rattle.mx_journal.specs.Agreement.{AreAgreeing, IsFirstConflict}
+use Rattle.mx_journal.proofs.Going.{above_all}
 use Rattle.mx_merge.proofs.Differences.{first_opposed, one_more}
 use Rattle.mx_merge.proofs.agreement.first_difference.Goals as goal
+
+pub loop-entry-init : goal.loop-entry-init
+loop-entry-init c = ([], refl, λ x y h t e. absurd t)
 
 pub returns-then-not-agrees_with-clause-some : goal.returns-then-not-agrees_with-clause-some
 returns-then-not-agrees_with-clause-some c =
     let journal = c.args.journal.now in
     let other = c.args.other.now in
-    let entry = c.record-entry.result.now in
-    let done = take c.loop-place.place other in
-    let rest = drop (c.loop-place.place + 1) other in
-    let whole : other ≡ done ++ entry ∷ rest = sym (take-append-drop c.loop-place.place other) ∙ ap (λ l. done ++ l) (drop_at other c.loop-place.place entry c.record-entry.ensures) in
+    let entry = c.in-Some.entry.now in
+    let rest = above entry.number other in
+    let kept = c.loop-entry.invariant in
+    let done : List Record = kept.0 in
+    let order = c.next_after.ensures.ordered in
+    let whole : other ≡ done ++ entry ∷ rest = sym (above_all 0 other order) ∙ sym kept.1 ∙ ap (λ l. done ++ l) c.in-Some.ensures.value in
     subst (λ ys. IsFirstConflict entry.number (journal ++ ys)) (sym whole)
-    (first_opposed journal done rest entry c.is_empty.ensures.ordered (subst (λ l. Ascending 1 l) whole c.len-places.ensures.ordered) c.loop-place.invariant
-    (c.agrees_with.ensures.opposed c.if-not-agrees_with.true))
+    (first_opposed journal done rest entry c.is_empty-nothing_here.ensures.ordered (subst (λ l. Ascending 1 l) whole order) kept.2 (c.agrees_with.ensures.opposed c.if-not-agrees_with.true))
 
-pub loop-place-preserved : goal.loop-place-preserved
-loop-place-preserved c =
+pub loop-entry-preserved : goal.loop-entry-preserved
+loop-entry-preserved c =
     let journal = c.args.journal.now in
     let other = c.args.other.now in
-    let entry = c.record-entry.result.now in
-    subst (λ l. AreAgreeing journal l) (sym (take_at other c.loop-place.place entry c.record-entry.ensures))
-    (one_more journal (take c.loop-place.place other) entry c.loop-place.invariant (c.agrees_with.ensures.agrees c.if-not-agrees_with.false))
+    let entry = c.in-Some.entry.now in
+    let kept = c.loop-entry.invariant in
+    let done : List Record = kept.0 in (
+      done ++ entry ∷ [],
+      append_append done (entry ∷ []) (above entry.number other) ∙ ap (λ l. done ++ l) (sym c.in-Some.ensures.value) ∙ kept.1,
+      one_more journal done entry kept.2 (c.agrees_with.ensures.agrees c.if-not-agrees_with.false),
+    )
+
+pub returns-clause-none : goal.returns-clause-none
+returns-clause-none c =
+    let other = c.args.other.now in
+    let kept = c.loop-entry.invariant in
+    let done : List Record = kept.0 in
+    subst (λ ys. AreAgreeing c.args.journal.now ys)
+    (sym (append_nil done) ∙ ap (λ l. done ++ l) (sym c.in_default.ensures.value) ∙ kept.1 ∙ above_all 0 other c.next_after.ensures.ordered) kept.2
