@@ -1,5 +1,5 @@
 -- A station stays at its table, whatever it does.
-use Rattle.std.proofs.Common.{◌≡◌, inl, inr, ℕ, zero, suc, List, [], ◌∷◌, Result, Ok, Err, IfOk, OnErr, OnOk, refl, sym, ap, ◌∙◌}
+use Rattle.std.proofs.Common.{◌≡◌, inl, inr, ℕ, zero, suc, List, [], ◌∷◌, ◌++◌, Result, Ok, Err, IfOk, OnErr, OnOk, refl, sym, ap, ◌∙◌}
 use mathlib.Core.Option.{some, some-injective, some-ne-none}
 use lib.ListN.{get_elem?}
 use Rattle.mx_nodelaws.specs.Core.{Core}
@@ -13,6 +13,7 @@ use Rattle.mx_stations.specs.Gathered.{KeepsTable, OfOneTable}
 use Rattle.mx_stations.specs.Opened.{AreFresh}
 use Rattle.mx_stations.specs.Posts.{KeepsInHand, Post, PutsOut, TakesIn, does}
 use Rattle.mx_stations.specs.Turns.{Chain, Goes, Moves, Station}
+use Rattle.mx_stations.proofs.Gathers.{left_of}
 
 module _ {T P : Type 0} where
   same_post : (s t u : Post T P) → t ≡ u → KeepsTable s u → KeepsTable s t
@@ -49,6 +50,18 @@ module _ {T P : Type 0} where
       each zero u at = stays_kept s u (sym (some-injective s u at))
       each (suc zero) u at = same_post s u t (sym (some-injective t u at)) kept
       each (suc (suc k)) u at = absurd (some-ne-none u (sym at))
+
+  -- no station at all
+  pub none_there : OfOneTable {T = T} {P = P} []
+  none_there = (record { words = 0; slots = 0; views_name = 0; atom = 0; block = 0; offset = 0; slot_names = [] }, 0, λ k s at. absurd (some-ne-none s (sym at)))
+
+  -- the last two of a new table
+  pub last_two : (n : ℕ) (starts : ℕ → T) (all more left : List (Post T P)) (s t : Post T P) → AreFresh n starts all → all ≡ more ++ t ∷ [] → more ≡ left ++ s ∷ [] → KeepsTable s t
+  last_two n starts all more left s t fresh is is_more =
+      let one = fresh_table n starts all fresh in
+      let last = left_of (λ (p : Post T P). (p.table ≡ one.0) × (p.nodes ≡ one.1)) all more t is one.2 in
+      let next = left_of (λ (p : Post T P). (p.table ≡ one.0) × (p.nodes ≡ one.1)) more left s is_more last.0 in
+      (last.1.0 ∙ sym next.1.0, last.1.1 ∙ sym next.1.1)
 
 module _ {H S M : Type 0} (core : Core H S M) where
   -- an act, and a refused one

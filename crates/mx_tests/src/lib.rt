@@ -16,6 +16,8 @@ mod members;
 #[cfg(test)]
 mod merging;
 #[cfg(test)]
+mod one_slot;
+#[cfg(test)]
 mod plans;
 #[cfg(test)]
 mod registers;

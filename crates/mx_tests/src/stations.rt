@@ -1,46 +1,29 @@
 //! Stations of small clusters, parcel by parcel, by turns, and in threads.
 
+ghost use Rattle.std.specs.Prelude.{IfOk};
+ghost use Rattle.mx_stations.specs.Gathered.{KeepsTable};
+
 use mx_letters::{Fair, Fate, Fates};
-use mx_nodelaws::{Exclusion, Phase};
+use mx_nodelaws::Phase;
 use mx_ricart::{Count, Ricart};
-use mx_stamps::NodeId;
-use mx_stations::{Field, PutOut, Station, Taken, TurnReport};
+use mx_stations::{Field, PutOut, Station, TurnReport};
 use std::alloc::Global;
 use std::test::Fail;
 use std::thread;
 
 /// The two stations of a cluster of two nodes.
-fn two(alloc: Global) -> Result<(Station<Ricart>, Station<Ricart>), Fail> {
+pub(crate) fn two(alloc: Global) -> Result<(Station<Ricart>, Station<Ricart>), Fail>
+    ensures { IfOk result (λ both. KeepsTable both.0 both.1) }
+{
     let shape = Count::of(2).ok_or("count")?;
     let mut all = Field::<Ricart>::stations(alloc, &shape, 0, 1000, 1)?;
-    let one = all.pop().ok_or("one")?;
-    let zero = all.pop().ok_or("zero")?;
+    let Some(one) = all.pop() else {
+        return Err("one")?;
+    };
+    let Some(zero) = all.pop() else {
+        return Err("zero")?;
+    };
     Ok((zero, one))
-}
-
-/// One try to take a parcel in from this node.
-fn take<C: Exclusion>(station: &mut Station<C>, from: u8) -> Result<Taken, Fail> {
-    let from = NodeId::of(from).ok_or("node")?;
-    if from.get() >= station.nodes() {
-        return Err("no such node")?;
-    }
-    Ok(station.take_in(from).map_err(|_| "memory")?)
-}
-
-#[test]
-fn stations_one_slot(rt: HostRuntime) -> Result<(), Fail> {
-    let (mut zero, mut one) = two(rt.alloc())?;
-    assert!(rt; zero.ask().is_ok());
-    assert_eq!(rt; zero.put_out(), PutOut::Sent);
-    assert_eq!(rt; zero.put_out(), PutOut::Nothing);
-    zero.tick();
-    assert_eq!(rt; zero.put_out(), PutOut::Full);
-    assert_eq!(rt; take(&mut one, 0)?, Taken::Got);
-    assert_eq!(rt; take(&mut one, 0)?, Taken::Empty);
-    assert_eq!(rt; one.put_out(), PutOut::Sent);
-    assert_eq!(rt; take(&mut zero, 1)?, Taken::Got);
-    assert_eq!(rt; zero.enter(), Ok(1));
-    Ok(())
 }
 
 #[test]

@@ -1,0 +1,232 @@
+//! Two stations whose links have one slot each: what each call answers, and what is gathered.
+
+ghost use Rattle.std.specs.Prelude.{◌≡◌, [], ◌∷◌, IfOk};
+ghost use Rattle.mx_stations.specs.Gathered.{KeepsTable, OfOneTable};
+
+use crate::given::node;
+use crate::stations::two;
+use mx_nodelaws::Exclusion;
+use mx_ricart::Ricart;
+use mx_stations::{GatherFault, PutOut, Station, Taken, gather};
+use std::alloc::{AllocError, Global};
+use std::process::Abort;
+use std::test::Fail;
+
+/// A call of a station, with what it answers.
+#[derive(Drop)]
+enum Call {
+    Ask,
+    Tick,
+    PutOut(PutOut),
+    TakeIn(u8, Taken),
+    Enter(u64),
+}
+
+fn assert_asks<C: Exclusion>(rt: &impl Abort, station: &mut Station<C>)
+    ensures { KeepsTable station.old station.new }
+{
+    let asked = station.ask();
+    assert!(rt; asked.is_ok());
+}
+
+fn assert_ticks<C: Exclusion>(station: &mut Station<C>)
+    ensures { KeepsTable station.old station.new }
+{
+    station.tick();
+}
+
+fn assert_puts_out<C: Exclusion>(rt: &impl Abort, station: &mut Station<C>, answer: PutOut)
+    ensures { KeepsTable station.old station.new }
+{
+    let put = station.put_out();
+    assert_eq!(rt; put, answer);
+}
+
+fn assert_takes_in<C: Exclusion>(rt: &impl Abort, station: &mut Station<C>, from: u8, answer: Taken)
+    ensures { KeepsTable station.old station.new }
+{
+    assert!(rt; from < station.nodes() && from < 21);
+    let taken = station.take_in(node(from));
+    assert_eq!(rt; taken, Ok(answer));
+}
+
+fn assert_enters<C: Exclusion>(rt: &impl Abort, station: &mut Station<C>, number: u64)
+    ensures { KeepsTable station.old station.new }
+{
+    let entered = station.enter();
+    assert_eq!(rt; entered, Ok(number));
+}
+
+fn assert_leaves<C: Exclusion>(rt: &impl Abort, station: &mut Station<C>, number: u64)
+    ensures { KeepsTable station.old station.new }
+{
+    let left = station.leave();
+    assert_eq!(rt; left.map(|receipt| receipt.number), Ok(number));
+}
+
+/// The station answers the call so.
+fn assert_call<C: Exclusion>(rt: &impl Abort, station: &mut Station<C>, call: &Call)
+    ensures { KeepsTable station.old station.new }
+{
+    match call {
+        Call::Ask => assert_asks(rt, station),
+        Call::Tick => assert_ticks(station),
+        Call::PutOut(answer) => assert_puts_out(rt, station, *answer),
+        Call::TakeIn(from, answer) => assert_takes_in(rt, station, *from, *answer),
+        Call::Enter(number) => assert_enters(rt, station, *number),
+    }
+}
+
+/// So does that of the two whose node it is.
+fn assert_one_call<C: Exclusion>(
+    rt: &impl Abort,
+    zero: &mut Station<C>,
+    one: &mut Station<C>,
+    node: u8,
+    call: &Call,
+)
+    ensures { KeepsTable zero.old zero.new × KeepsTable one.old one.new }
+{
+    if node == 0 {
+        assert_call(rt, zero, call);
+    } else {
+        assert_call(rt, one, call);
+    }
+}
+
+/// And so do both answer all calls, one after another.
+fn assert_calls<C: Exclusion>(
+    rt: &impl Abort,
+    zero: &mut Station<C>,
+    one: &mut Station<C>,
+    calls: &[(u8, Call)],
+)
+    ensures { KeepsTable zero.old zero.new × KeepsTable one.old one.new }
+{
+    for (node, call) in calls {
+        assert_one_call(rt, zero, one, *node, call);
+    }
+}
+
+/// The stations that come back where they are not gathered, for this fault.
+fn refused<C: Exclusion>(
+    rt: &impl Abort,
+    alloc: Global,
+    stations: Vec<Station<C>>,
+    fault: GatherFault,
+) -> Result<Vec<Station<C>>, Fail>
+    requires { OfOneTable stations.items }
+    ensures { IfOk result (λ back. back.items ≡ stations.items) }
+{
+    let Err(back) = gather(alloc, stations) else {
+        return Err("gathered")?;
+    };
+    assert_eq!(rt; back.fault, fault);
+    Ok(back.stations)
+}
+
+/// A list of two stations.
+fn pair<C: Exclusion>(
+    alloc: Global,
+    zero: Station<C>,
+    one: Station<C>,
+) -> Result<Vec<Station<C>>, AllocError>
+    ensures { IfOk result (λ all. all.items ≡ zero ∷ one ∷ []) }
+{
+    let mut all = Vec::new(alloc);
+    all.reserve(2)?;
+    all.push_reserved(zero);
+    all.push_reserved(one);
+    Ok(all)
+}
+
+/// A list of one.
+fn single<C: Exclusion>(alloc: Global, one: Station<C>) -> Result<Vec<Station<C>>, AllocError>
+    ensures { IfOk result (λ all. all.items ≡ one ∷ []) }
+{
+    let mut all = Vec::new(alloc);
+    all.reserve(1)?;
+    all.push_reserved(one);
+    Ok(all)
+}
+
+/// Station 1 alone is not gathered.
+fn alone<C: Exclusion>(rt: &impl Abort, alloc: Global, one: Station<C>) -> Result<Station<C>, Fail>
+    ensures { IfOk result (λ back. back ≡ one) }
+{
+    let stations = single(alloc, one)?;
+    let mut back = refused(rt, alloc, stations, GatherFault::NotAll(node(0)))?;
+    let Some(one) = back.pop() else {
+        return Err("one")?;
+    };
+    Ok(one)
+}
+
+/// Both are not gathered while node 0 is inside.
+fn both<C: Exclusion>(
+    rt: &impl Abort,
+    alloc: Global,
+    zero: Station<C>,
+    one: Station<C>,
+) -> Result<(Station<C>, Station<C>), Fail>
+    requires { KeepsTable zero one }
+    ensures { IfOk result (λ back. (back.0 ≡ zero) × (back.1 ≡ one)) }
+{
+    let stations = pair(alloc, zero, one)?;
+    let mut back = refused(rt, alloc, stations, GatherFault::StillInside(node(0)))?;
+    let Some(one) = back.pop() else {
+        return Err("one")?;
+    };
+    let Some(zero) = back.pop() else {
+        return Err("zero")?;
+    };
+    Ok((zero, one))
+}
+
+/// Both are gathered: one section, of node 0.
+fn assert_gathers<C: Exclusion>(
+    rt: &impl Abort,
+    alloc: Global,
+    zero: Station<C>,
+    one: Station<C>,
+) -> Result<(), Fail>
+    requires { KeepsTable zero one }
+{
+    let stations = pair(alloc, zero, one)?;
+    let Ok(gathered) = gather(alloc, stations) else {
+        return Err("refused")?;
+    };
+    let receipts = gathered.receipts.as_slice();
+    assert_eq!(rt; receipts.len(), 1);
+    assert_eq!(rt; receipts[0].number, 1);
+    assert_eq!(rt; receipts[0].node, node(0));
+    assert_eq!(rt; gathered.journal.len(), 1);
+    assert_eq!(rt; gathered.journal.gapless_to(), 1);
+    Ok(())
+}
+
+#[test]
+fn stations_one_slot(rt: HostRuntime) -> Result<(), Fail> {
+    let alloc = rt.alloc();
+    let (mut zero, mut one) = two(alloc)?;
+    let calls = [
+        (0, Call::Ask),
+        (0, Call::PutOut(PutOut::Sent)),
+        (0, Call::PutOut(PutOut::Nothing)),
+        (0, Call::Tick),
+        (0, Call::PutOut(PutOut::Full)),
+        (1, Call::TakeIn(0, Taken::Got)),
+        (1, Call::TakeIn(0, Taken::Empty)),
+        (1, Call::PutOut(PutOut::Sent)),
+        (0, Call::TakeIn(1, Taken::Got)),
+        (0, Call::Enter(1)),
+    ];
+    assert_calls(&rt, &mut zero, &mut one, &calls);
+    let one = alone(&rt, alloc, one)?;
+    let nobody: Vec<Station<Ricart>> = Vec::new(alloc);
+    let none = refused(&rt, alloc, nobody, GatherFault::NotAll(node(0)))?;
+    assert!(rt; none.is_empty());
+    let (mut zero, one) = both(&rt, alloc, zero, one)?;
+    assert_leaves(&rt, &mut zero, 1);
+    assert_gathers(&rt, alloc, zero, one)
+}
