@@ -1,5 +1,5 @@
 -- Choices: comparisons. Maps: the laws of journals. Below: records below a number. Going: records above
--- a number, one after another. The others serve this crate's own proofs: Flat, PutRuns, Found and Joining
+-- a number, one after another. The others serve this crate's own proofs: Flat, PutRuns, Found, Appending and Joining
 -- are about runs.
 pub mod Choices
 pub mod Maps
@@ -8,6 +8,7 @@ pub mod Going
 pub mod Flat
 pub mod PutRuns
 pub mod Found
+pub mod Appending
 pub mod Joining
 pub mod Seeking
 pub mod Disputes

@@ -12,7 +12,7 @@ use Rattle.mx_journal.proofs.Maps.{none_in, with_record_case}
 use Rattle.mx_journal.proofs.Flat.{flatten-append, high_records, last-append, last_consecutive, low_records, there_in_run, up_to_case, up_to_within}
 
 -- a record goes between those of lower and those of higher numbers
-with_record_between : (r : Record) (before bs : List Record) → ((x : Record) → IsIn x before → x.number < r.number) → ((x : Record) → IsIn x bs → r.number < x.number) → with_record r (before ++ bs) ≡ before ++ r ∷ bs
+pub with_record_between : (r : Record) (before bs : List Record) → ((x : Record) → IsIn x before → x.number < r.number) → ((x : Record) → IsIn x bs → r.number < x.number) → with_record r (before ++ bs) ≡ before ++ r ∷ bs
 with_record_between r [] [] low high = refl
 with_record_between r [] (b ∷ bs) low high =
     let h = high b (inl refl) in
@@ -34,7 +34,7 @@ put_between r k runs i rs gone at =
     ∙ ap (λ l. with_record r l) split
 
 -- the number from which on more runs may follow
-abbrev reach : ℕ → List (List Record) → ℕ
+abbrev pub reach : ℕ → List (List Record) → ℕ
 reach k [] = k
 reach k (run ∷ runs) = reach (last_number run + 2) runs
 
@@ -43,7 +43,7 @@ runs_split k [] bs r = (tt, r)
 runs_split k ([] ∷ before) bs r = absurd r
 runs_split k ((x ∷ xs) ∷ before) bs r = let w = runs_split (last_number (x ∷ xs) + 2) before bs r.2 in ((r.0, r.1, w.0), w.1)
 
-runs_joined : (k : ℕ) (before bs : List (List Record)) → AreRuns k before → AreRuns (reach k before) bs → AreRuns k (before ++ bs)
+pub runs_joined : (k : ℕ) (before bs : List (List Record)) → AreRuns k before → AreRuns (reach k before) bs → AreRuns k (before ++ bs)
 runs_joined k [] bs a b = b
 runs_joined k ([] ∷ before) bs a b = absurd a
 runs_joined k ((x ∷ xs) ∷ before) bs a b = (a.0, a.1, runs_joined (last_number (x ∷ xs) + 2) before bs a.2 b)
@@ -54,17 +54,17 @@ reach_at k (run ∷ runs) zero l = refl
 reach_at k (run ∷ runs) (suc j) l = reach_at (last_number run + 2) runs j (omega arith)
 
 -- runs that begin higher
-runs_from : (k m : ℕ) (run : List Record) (runs : List (List Record)) → AreRuns k (run ∷ runs) → m ≤ first_number run → AreRuns m (run ∷ runs)
+pub runs_from : (k m : ℕ) (run : List Record) (runs : List (List Record)) → AreRuns k (run ∷ runs) → m ≤ first_number run → AreRuns m (run ∷ runs)
 runs_from k m [] runs r l = absurd r
 runs_from k m (x ∷ xs) runs r l = (l, r.1, r.2)
 
 -- a run with a record more at its end, or at its start
-run_more : (n : ℕ) (xs : List Record) (r : Record) → AreConsecutive n xs → r.number ≡ n + length xs → (ys : List Record) → AreConsecutive (suc r.number) ys → AreConsecutive n (xs ++ r ∷ ys)
+pub run_more : (n : ℕ) (xs : List Record) (r : Record) → AreConsecutive n xs → r.number ≡ n + length xs → (ys : List Record) → AreConsecutive (suc r.number) ys → AreConsecutive n (xs ++ r ∷ ys)
 run_more n [] r c e ys d = let q : r.number ≡ n = omega arith in (q, subst (λ m. AreConsecutive (suc m) ys) q d)
 run_more n (x ∷ xs) r c e ys d = (c.0, run_more (suc n) xs r c.1 (omega arith) ys d)
 
 -- the run at a place, and what stands before and behind it
-here : (runs : List (List Record)) (i : ℕ) → i < length runs → drop i runs ≡ get_or runs i [] ∷ drop (suc i) runs
+pub here : (runs : List (List Record)) (i : ℕ) → i < length runs → drop i runs ≡ get_or runs i [] ∷ drop (suc i) runs
 here [] i l = absurd (omega arith)
 here (run ∷ runs) zero l = refl
 here (run ∷ runs) (suc i) l = here runs i (omega arith)
@@ -75,7 +75,7 @@ up_to_here (run ∷ runs) zero l = refl
 up_to_here (run ∷ runs) (suc j) l = ap (λ l. run ∷ l) (up_to_here runs j (omega arith))
 
 -- the parts of runs around a place
-runs_around : (k : ℕ) (runs : List (List Record)) (i : ℕ) → AreRuns k runs → AreRuns k (take i runs) × AreRuns (reach k (take i runs)) (drop i runs)
+pub runs_around : (k : ℕ) (runs : List (List Record)) (i : ℕ) → AreRuns k runs → AreRuns k (take i runs) × AreRuns (reach k (take i runs)) (drop i runs)
 runs_around k runs i r = runs_split k (take i runs) (drop i runs) (subst (λ l. AreRuns k l) (sym (take-append-drop i runs)) r)
 
 -- where nothing bears n, the run before its place ends below n, and the one at it begins above
@@ -152,7 +152,7 @@ more_at_end m (x ∷ xs) runs r a e b =
     let end = last_consecutive x xs a.1 in
     (a.0, run_more (suc x.number) xs r a.1 (omega arith) [] tt, subst (λ n. AreRuns (n + 2) runs) (sym (last-append (x ∷ xs) r [])) b)
 
-before_end : (runs : List (List Record)) (j : ℕ) → j < length runs → flatten (take (suc j) runs) ≡ flatten (take j runs) ++ get_or runs j []
+pub before_end : (runs : List (List Record)) (j : ℕ) → j < length runs → flatten (take (suc j) runs) ≡ flatten (take j runs) ++ get_or runs j []
 before_end runs j l =
     ap flatten (up_to_here runs j l) ∙ flatten-append (take j runs) (get_or runs j [] ∷ []) ∙ ap (λ l. flatten (take j runs) ++ l) (append_nil (get_or runs j []))
 

@@ -1,11 +1,11 @@
 //! Runs that take in others: all or none.
 
-ghost use Rattle.std.specs.Prelude.{◌≡◌, ◌+◌, ◌≤◌, ◌<◌, IsTrue, IsFalse, IfOk, IfSome, IfNone, OnErr, [], length};
+ghost use Rattle.std.specs.Prelude.{◌≡◌, ◌+◌, ◌≤◌, ◌<◌, IsTrue, IsFalse, IfOk, IfSome, IfNone, OnOk, OnErr, [], ◌++◌, ◌-◌, get_or, length, slice_set};
 ghost use Rattle.mx_journal.specs.Agreement.{AreAgreeing};
 ghost use Rattle.mx_journal.specs.Records.{BringsNew, IsNumbered, above, with_records};
-ghost use Rattle.mx_journal.specs.Runs.{AreRuns, IsJoinedUpTo, IsNextOfBoth, flatten};
+ghost use Rattle.mx_journal.specs.Runs.{AreRuns, IsJoinedUpTo, IsNextOfBoth, TouchesBelow, first_number, flatten, last_number};
 
-use crate::places::{insert, is_there, next_in, top_in};
+use crate::places::{insert, is_there, next_in, place_of, top_in, touches_below};
 use crate::records::Record;
 use crate::runs::Run;
 use std::alloc::{AllocError, Global};
@@ -44,8 +44,67 @@ pub(crate) fn are_there(runs: &[Run], other: &[Run]) -> bool
 }
 
 /// Takes in the records of runs that agree, and answers how many were new. Where memory runs out
-/// nothing changes.
+/// nothing changes. One run that goes on from one of ours is moved there; else all is made anew.
 pub(crate) fn join_runs(runs: &mut Vec<Run>, other: &[Run]) -> Result<u64, AllocError>
+    requires runs { AreRuns 1 runs.old.items }
+    requires other { AreRuns 1 other.now }
+    requires agreeing { AreAgreeing (flatten runs.old.items) (flatten other.now) }
+    ensures records { IfOk result (λ _. flatten runs.new.items
+        ≡ with_records (flatten other.now) (flatten runs.old.items)) }
+    ensures runs { IfOk result (λ _. AreRuns 1 runs.new.items) }
+    ensures count { IfOk result (λ k. length (flatten runs.new.items)
+        ≡ length (flatten runs.old.items) + k) }
+    ensures err { OnErr result (runs.new.items ≡ runs.old.items) }
+{
+    if other.len() == 1 {
+        let more = &other[0];
+        let at = place_of(runs, more.first() - 1);
+        if goes_behind(runs, at, more) {
+            append_run(runs, at, more)?;
+            return Ok(more.len() as u64);
+        }
+    }
+    join_copies(runs, other)
+}
+
+/// Whether the run begins right behind the one before the place, and leaves a number missing before the
+/// one at it.
+fn goes_behind(runs: &[Run], at: usize, more: &Run) -> bool
+    requires { at ≤ length runs.now }
+    ensures touches { IsTrue result → TouchesBelow (first_number more.now) at runs.now }
+    ensures apart { IsTrue result → at < length runs.now
+        → last_number more.now + 2 ≤ first_number (get_or runs.now at []) }
+{
+    if !touches_below(runs, at, more.first()) {
+        return false;
+    }
+    if at >= runs.len() {
+        return true;
+    }
+    let next = runs[at].first();
+    let last = more.last();
+    last < next && next - last > 1
+}
+
+/// Puts copies of the records of a run behind those of the run before the place.
+fn append_run(runs: &mut Vec<Run>, at: usize, more: &Run) -> Result<(), AllocError>
+    requires first { 1 ≤ at }
+    requires second { at ≤ length runs.old.items }
+    requires some { 1 ≤ length more.now }
+    ensures ok { OnOk result (runs.new.items
+        ≡ slice_set runs.old.items (at - 1) (get_or runs.old.items (at - 1) [] ++ more.now)) }
+    ensures err { OnErr result (runs.new.items ≡ runs.old.items) }
+{
+    let mut rest = Run::new(*runs.allocator());
+    for place in 1..more.len() {
+        rest.push_back(more.record(place).copy())?;
+    }
+    let run = &mut runs[at - 1];
+    run.join(more.record(0).copy(), &mut rest)
+}
+
+/// The same as `join_runs`, for any runs: copies of all records of both take the place of the first.
+fn join_copies(runs: &mut Vec<Run>, other: &[Run]) -> Result<u64, AllocError>
     requires runs { AreRuns 1 runs.old.items }
     requires other { AreRuns 1 other.now }
     requires agreeing { AreAgreeing (flatten runs.old.items) (flatten other.now) }

@@ -156,6 +156,14 @@ impl Journal {
         top_in(&self.runs)
     }
 
+    /// The greatest number up to which none is missing behind this one: all between them are there, and
+    /// it too, unless it is this number itself.
+    pub fn gapless_after(&self, number: u64) -> u64
+        ensures { result + 1 ≡ first_missing (number + 1) (above number self.now) }
+    {
+        gapless_in(&self.runs, number)
+    }
+
     /// The greatest number up to which none is missing: all of 1 to it are there.
     pub fn gapless_to(&self) -> u64
         ensures all { IsGapless result self.now }

@@ -13,7 +13,7 @@ use std::alloc::AllocError;
 use std::mem;
 
 /// How many runs end at the number or below. That is the place of the first run that does not.
-fn place_of(runs: &[Run], number: u64) -> usize
+pub(crate) fn place_of(runs: &[Run], number: u64) -> usize
     requires { AreRuns 1 runs.now }
     ensures value { result ≡ runs_up_to number runs.now }
     ensures bound { result ≤ length runs.now }
@@ -177,7 +177,7 @@ pub(crate) fn insert(runs: &mut Vec<Run>, entry: Record) -> Result<(), AllocErro
 }
 
 /// Whether the run before the place ends right below the number.
-fn touches_below(runs: &[Run], at: usize, number: u64) -> bool
+pub(crate) fn touches_below(runs: &[Run], at: usize, number: u64) -> bool
     requires { at ≤ length runs.now }
     ensures { IsTrue result ↔ TouchesBelow number at runs.now }
 {
