@@ -39,9 +39,11 @@ ascending_flat k [] r = tt
 ascending_flat k ([] ∷ runs) r = absurd r
 ascending_flat k ((x ∷ xs) ∷ runs) r =
     let end = last_consecutive x xs r.1 in
-    let rest = ascending_flat (last_number (x ∷ xs) + 2) runs r.2 in
-    (r.0, ascending_run (suc x.number) (suc x.number) xs (flatten runs) r.1 (omega arith)
-    (ascending_from (suc x.number + length xs) (last_number (x ∷ xs) + 2) (flatten runs) (omega arith) rest))
+    let rest = ascending_flat (last_number (x ∷ xs) + 2) runs r.2 in (
+      r.0,
+      ascending_run (suc x.number) (suc x.number) xs (flatten runs) r.1 (omega arith)
+          (ascending_from (suc x.number + length xs) (last_number (x ∷ xs) + 2) (flatten runs) (omega arith) rest),
+    )
 
 -- the numbers of a run, and that all of them are there
 pub in_run : (n : ℕ) (xs : List Record) → AreConsecutive n xs → (x : Record) → IsIn x xs → (n ≤ x.number) × (x.number < n + length xs)

@@ -39,8 +39,8 @@ other_above m k xs y rest a e ne = none_found (suc m) xs (λ x h q.
     elim (subst (λ l. IsIn x l) e (above_has m xs x h (omega (arith, q)))) [
       | inl same ↦ ne (ap (λ (z : Record). z.number) (sym same) ∙ q)
       | inr more ↦ (
-        let low = ascending_above (suc y.number) (above y.number xs) (ascending_rest_above y.number k xs a) x (subst (λ l. IsIn x l) (sym (above_next m k xs y rest a e)) more) in
-        ne (elim (compared y.number (suc m)) [ inl l ↦ absurd (omega (arith, q)) | inr (inl s) ↦ s | inr (inr l) ↦ absurd (omega (arith, q)) ]))
+          let low = ascending_above (suc y.number) (above y.number xs) (ascending_rest_above y.number k xs a) x (subst (λ l. IsIn x l) (sym (above_next m k xs y rest a e)) more) in
+          ne (elim (compared y.number (suc m)) [ inl l ↦ absurd (omega (arith, q)) | inr (inl s) ↦ s | inr (inr l) ↦ absurd (omega (arith, q)) ]))
     ])
 
 -- a run of runs

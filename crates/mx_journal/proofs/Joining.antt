@@ -19,8 +19,8 @@ pub least_behind : (n k : ℕ) (ys : List Record) (t : Record) (rest : List Reco
 least_behind n k ys t rest a e y h l = elim (subst (λ q. IsIn y q) e (above_has n ys y h l)) [
   | inl q ↦ (let s : y.number ≡ t.number = ap (λ (z : Record). z.number) q in omega arith)
   | inr m ↦ (
-    let high = ascending_above (suc t.number) (above t.number ys) (ascending_rest_above t.number k ys a) y (subst (λ q. IsIn y q) (sym (above_next n k ys t rest a e)) m) in
-    omega arith)
+      let high = ascending_above (suc t.number) (above t.number ys) (ascending_rest_above t.number k ys a) y (subst (λ q. IsIn y q) (sym (above_next n k ys t rest a e)) m) in
+      omega arith)
 ]
 
 pub next_here : (n k : ℕ) (xs ys : List Record) (r : Record) (rest : List Record) → Ascending k xs → above n xs ≡ r ∷ rest → ((y : Record) → IsIn y ys → n < y.number → r.number ≤ y.number) → IsNextOfBoth n xs ys r
@@ -62,9 +62,9 @@ joined_more from last xs ys js r a b agree low j next =
       ];
       all = λ x w f t. elim (compared last x.number) [
         | inl l ↦ (
-          let least = next.least x w l in
-          let e : r ≡ x = same_of_both xs ys a b agree r x next.member w (let q : r.number ≡ x.number = omega arith in q) in
-          subst (λ z. IsIn z (with_record r js)) e (with_record_has r js (λ z h q. absurd (next_fresh from last xs ys js r j next z h q))))
+            let least = next.least x w l in
+            let e : r ≡ x = same_of_both xs ys a b agree r x next.member w (let q : r.number ≡ x.number = omega arith in q) in
+            subst (λ z. IsIn z (with_record r js)) e (with_record_has r js (λ z h q. absurd (next_fresh from last xs ys js r j next z h q))))
         | inr (inl e) ↦ with_record_keeps r js x (j.all x w f (omega arith))
         | inr (inr l) ↦ with_record_keeps r js x (j.all x w f (omega arith))
       ];

@@ -205,9 +205,11 @@ joined_runs m (x ∷ xs) [] runs r a e f = let b = a.2 in absurd b
 joined_runs m (x ∷ xs) (y ∷ ys) runs r a e f =
     let end = last_consecutive x xs a.1 in
     let b = a.2 in
-    let q : y.number ≡ suc r.number = omega (arith, f) in
-    (a.0, run_more (suc x.number) xs r a.1 (omega arith) (y ∷ ys) (q, subst (λ n. AreConsecutive (suc n) ys) q b.1),
-    subst (λ n. AreRuns (n + 2) runs) (sym (last-append (x ∷ xs) r (y ∷ ys))) b.2)
+    let q : y.number ≡ suc r.number = omega (arith, f) in (
+      a.0,
+      run_more (suc x.number) xs r a.1 (omega arith) (y ∷ ys) (q, subst (λ n. AreConsecutive (suc n) ys) q b.1),
+      subst (λ n. AreRuns (n + 2) runs) (sym (last-append (x ∷ xs) r (y ∷ ys))) b.2,
+    )
 
 pub put_joining : (r : Record) (runs : List (List Record)) (j : ℕ) → AreRuns 1 runs → record_at r.number (flatten runs) ≡ None → suc j ≡ runs_up_to r.number runs → last_number (get_or runs j []) + 1 ≡ r.number → TouchesAbove r.number (suc j) runs → IsPut r runs (remove (slice_set (slice_set runs (suc j) []) j (get_or runs j [] ++ r ∷ get_or runs (suc j) [])) (suc j))
 put_joining r runs j rs gone at below above =

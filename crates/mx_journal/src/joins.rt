@@ -67,8 +67,8 @@ pub(crate) fn join_runs(runs: &mut Vec<Run>, other: &[Run]) -> Result<u64, Alloc
     join_copies(runs, other)
 }
 
-/// Whether the run begins right behind the one before the place, and leaves a number missing before the
-/// one at it.
+/// Whether the run begins right behind the one before the place, and leaves a number missing before
+/// the one at it.
 fn goes_behind(runs: &[Run], at: usize, more: &Run) -> bool
     requires { at ≤ length runs.now }
     ensures touches { IsTrue result → TouchesBelow (first_number more.now) at runs.now }
@@ -122,8 +122,8 @@ fn join_copies(runs: &mut Vec<Run>, other: &[Run]) -> Result<u64, AllocError>
     Ok(count)
 }
 
-/// Copies of the records of both that are numbered above `from` up to `to`, as runs, and how many of them
-/// the first does not have.
+/// Copies of the records of both that are numbered above `from` up to `to`, as runs, and how many of
+/// them the first does not have.
 fn joined_up_to(
     alloc: Global,
     runs: &[Run],
@@ -162,7 +162,8 @@ fn joined_up_to(
 fn next_of_both<'a>(runs: &'a [Run], other: &'a [Run], number: u64) -> Option<&'a Record>
     requires runs { AreRuns 1 runs.now }
     requires other { AreRuns 1 other.now }
-    ensures some { IfSome result (λ found. IsNextOfBoth number (flatten runs.now) (flatten other.now) found.now) }
+    ensures some { IfSome result (λ found.
+        IsNextOfBoth number (flatten runs.now) (flatten other.now) found.now) }
     ensures none { IfNone result ((above number (flatten runs.now) ≡ [])
         × (above number (flatten other.now) ≡ [])) }
 {

@@ -13,7 +13,7 @@ loop-entry-init c =
     let all = flatten c.args.runs.now in
     let rest = in_range c.args.range (above c.saturating_sub-last.result all) in record {
       same = ap (λ l. l ++ take (4 - length l) rest) c.new-found.ensures
-    ∙ ap (λ l. take 4 l) (in_range_skipped c.args.range c.saturating_sub-last.result all (ascending_flat 1 c.args.runs.now c.requires) (omega (arith, c.saturating_sub-last.ensures)));
+          ∙ ap (λ l. take 4 l) (in_range_skipped c.args.range c.saturating_sub-last.result all (ascending_flat 1 c.args.runs.now c.requires) (omega (arith, c.saturating_sub-last.ensures)));
       low = omega (arith, c.saturating_sub-last.ensures);
     }
 
@@ -29,9 +29,9 @@ loop-entry-preserved c =
     let high = above_more c.loop-entry.last all entry (above entry.number all) c.in-Some.ensures in
     record {
       same = subst (λ l. l ++ take (4 - length l) rest ≡ take 4 (in_range range all)) (sym grown)
-    (sym (taken_more 4 found entry rest room)
-    ∙ ap (λ l. found ++ take (4 - length found) l) (sym (ap (λ l. in_range range l) c.in-Some.ensures ∙ in_range_here range entry (above entry.number all) (omega (arith, c.loop-entry.invariant.low)) c.if-entry-range.false))
-    ∙ c.loop-entry.invariant.same);
+          (sym (taken_more 4 found entry rest room)
+          ∙ ap (λ l. found ++ take (4 - length found) l) (sym (ap (λ l. in_range range l) c.in-Some.ensures ∙ in_range_here range entry (above entry.number all) (omega (arith, c.loop-entry.invariant.low)) c.if-entry-range.false))
+          ∙ c.loop-entry.invariant.same);
       low = omega (arith, c.loop-entry.invariant.low);
     }
 

@@ -104,7 +104,7 @@ returns-clause-ok c =
     let consistent : IsConsistent (here ++ list) = subst (λ xs. IsConsistent (xs ++ list)) (ap flatten c.deref.ensures.value) c.in_default.ensures.none in
     let done = c.in_ok-join_runs.ensures in (
       done.records ∙ ap (λ l. with_records l here) (ap flatten c.deref-2.ensures.value ∙ c.in_ok-other.ensures.records)
-      ∙ of_list_joins here list (ascending_flat 1 c.self.inside.runs.items c.self.invariant) (c.has_zero.ensures.numbered c.if-has_zero.false) consistent
-      ∙ ap (λ l. with_records list l) c.self.view_is,
+          ∙ of_list_joins here list (ascending_flat 1 c.self.inside.runs.items c.self.invariant) (c.has_zero.ensures.numbered c.if-has_zero.false) consistent
+          ∙ ap (λ l. with_records list l) c.self.view_is,
       done.count ∙ ap (λ l. length l + c.in_ok-join_runs.field-0) c.self.view_is,
     )
