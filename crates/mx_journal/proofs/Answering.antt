@@ -1,5 +1,5 @@
 -- What the answers of a journal rule out.
-use Rattle.std.proofs.Common.{ℕ, ◌≡◌, inl, inr, List, Option, Some, None, Result, Ok, Err, IsErrAnd, sym, ◌∙◌, ap, arith}
+use Rattle.std.proofs.Common.{ℕ, ◌≡◌, inl, inr, List, Option, Some, None, Result, Ok, Err, IsErrAnd, OnErr, OnOk, sym, ◌∙◌, ap, arith}
 use Rattle.mx_stamps.proofs.Lists.{none_is_no_some}
 use Rattle.mx_stamps.proofs.Choices.{compared}
 use Rattle.mx_journal.specs.declared.records.Record.{Record}
@@ -38,3 +38,12 @@ one_first m n xs h t = elim (compared m n) [
 pub is_memory : {X : Type 0} (r : Result X PutFault) → IsErrAnd r (λ fault. fault ≡ Memory) → r ≡ Err Memory
 is_memory (Ok x) h = absurd h
 is_memory (Err fault) h = ap (λ (f : PutFault). Err f) h
+
+-- what follows from what holds at a success, or at a failure
+pub on_ok : {X E : Type 0} {P Q : Type 0} (r : Result X E) → OnOk r P → (P → Q) → OnOk r Q
+on_ok (Ok x) p f = f p
+on_ok (Err e) p f = tt
+
+pub on_err : {X E : Type 0} {P Q R : Type 0} (r : Result X E) → OnErr r P → OnErr r Q → (P → Q → R) → OnErr r R
+on_err (Ok x) p q f = tt
+on_err (Err e) p q f = f p q

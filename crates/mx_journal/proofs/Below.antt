@@ -1,5 +1,5 @@
 -- The records below a number, and journals without gaps.
-use Rattle.std.proofs.Common.{ℕ, zero, suc, ◌+◌, ◌<◌, ◌≤◌, ◌≡◌, ◌≢◌, inl, inr, true, false, List, [], ◌∷◌, ◌++◌, Some, None, length, get_or, nat_lt, nat_eq, refl, sym, ◌∙◌, ap, subst, arith}
+use Rattle.std.proofs.Common.{ℕ, suc, ◌<◌, ◌≤◌, ◌≡◌, ◌≢◌, inl, inr, true, false, List, [], ◌∷◌, ◌++◌, Some, None, nat_lt, nat_eq, refl, sym, ◌∙◌, ap, subst, arith}
 use Rattle.mx_stamps.specs.Lists.{IsIn}
 use Rattle.mx_stamps.proofs.Choices.{lt_true, lt_is, lt_not, eq_true, eq_false, eq_not, compared, cond_case, cond_true, cond_false}
 use Rattle.mx_journal.specs.declared.records.Record.{Record}
@@ -78,43 +78,6 @@ pub first_missing_above : (k : ℕ) (xs : List Record) → k ≤ first_missing k
 first_missing_above k [] = omega arith
 first_missing_above k (y ∷ ys) =
     first_missing_case (λ q. k ≤ q) k y ys (λ _. let l = first_missing_above (suc k) ys in omega arith) (λ _. omega arith)
-
--- and at most the number behind all records
-pub first_missing_within : (k : ℕ) (xs : List Record) → first_missing k xs ≤ k + length xs
-first_missing_within k [] = omega arith
-first_missing_within k (y ∷ ys) =
-    first_missing_case (λ q. q ≤ k + suc (length ys)) k y ys (λ _. let l = first_missing_within (suc k) ys in omega arith) (λ _. omega arith)
-
--- the numbers grow at least as fast as the places
-number_at : (k : ℕ) (xs : List Record) (i : ℕ) (x : Record) → Ascending k xs → i < length xs → x ≡ get_or xs i x → k + i ≤ x.number
-number_at k [] i x a l is = absurd (omega arith)
-number_at k (y ∷ ys) zero x a l is = let e : x.number ≡ y.number = ap (λ (z : Record). z.number) is in let b = a.0 in omega arith
-number_at k (y ∷ ys) (suc i) x a l is =
-    let rest = number_at (suc y.number) ys i x a.1 (omega arith) is in let b = a.0 in omega arith
-
--- where a record stands at the place that its number says, nothing up to it is missing
-pub none_missing_up_to : (k : ℕ) (xs : List Record) (i : ℕ) (x : Record) → Ascending k xs → i < length xs → x ≡ get_or xs i x → x.number ≡ k + i → k + i + 1 ≤ first_missing k xs
-none_missing_up_to k [] i x a l is e = absurd (omega arith)
-none_missing_up_to k (y ∷ ys) zero x a l is e =
-    let same : x.number ≡ y.number = ap (λ (z : Record). z.number) is in
-    first_missing_case (λ q. k + 0 + 1 ≤ q) k y ys (λ _. let low = first_missing_above (suc k) ys in omega arith) (λ gone. absurd (gone (omega arith)))
-none_missing_up_to k (y ∷ ys) (suc i) x a l is e =
-    let far = number_at (suc y.number) ys i x a.1 (omega arith) is in
-    let low = a.0 in
-    first_missing_case (λ q. k + suc i + 1 ≤ q) k y ys
-    (λ here. let rest = none_missing_up_to (suc k) ys i x (subst (λ q. Ascending (suc q) ys) here a.1) (omega arith) is (omega arith) in omega arith)
-    (λ gone. absurd (gone (omega arith)))
-
--- where it does not, something up to there is missing
-pub some_missing_before : (k : ℕ) (xs : List Record) (i : ℕ) (x : Record) → Ascending k xs → i < length xs → x ≡ get_or xs i x → x.number ≢ k + i → first_missing k xs ≤ k + i
-some_missing_before k [] i x a l is e = absurd (omega arith)
-some_missing_before k (y ∷ ys) zero x a l is e =
-    let same : x.number ≡ y.number = ap (λ (z : Record). z.number) is in
-    first_missing_case (λ q. q ≤ k + 0) k y ys (λ here. absurd (e (omega arith))) (λ _. omega arith)
-some_missing_before k (y ∷ ys) (suc i) x a l is e =
-    first_missing_case (λ q. q ≤ k + suc i) k y ys
-    (λ here. let rest = some_missing_before (suc k) ys i x (subst (λ q. Ascending (suc q) ys) here a.1) (omega arith) is (λ q. e (omega arith)) in omega arith)
-    (λ _. omega arith)
 
 -- the first missing number is missing
 pub first_missing_is_missing : (k : ℕ) (xs : List Record) → Ascending k xs → record_at (first_missing k xs) xs ≡ None

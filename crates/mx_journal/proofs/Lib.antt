@@ -1,9 +1,15 @@
 -- Choices: comparisons. Maps: the laws of journals. Below: records below a number. Going: records above
--- a number, one after another. The others serve this crate's own proofs.
+-- a number, one after another. The others serve this crate's own proofs: Flat, PutRuns, Found, Appending and Joining
+-- are about runs.
 pub mod Choices
 pub mod Maps
 pub mod Below
 pub mod Going
+pub mod Flat
+pub mod PutRuns
+pub mod Found
+pub mod Appending
+pub mod Joining
 pub mod Seeking
 pub mod Disputes
 pub mod Answering

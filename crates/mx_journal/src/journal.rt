@@ -5,10 +5,12 @@ ghost use Rattle.mx_journal.specs.Agreement.{AreAgreeing, IsConsistent, IsFirstC
 ghost use Rattle.mx_journal.specs.Gapless.{IsGapless, first_missing};
 ghost use Rattle.mx_journal.specs.Records.{Ascending, IsNumbered, IsThere, above, in_range, record_at, top_of, with_record, with_records};
 
-use crate::places::{find, gapless_in, insert, least_in, next_in, top_in};
-use crate::puts::{Put, PutFault, are_there, has_zero, insert_all, least_conflict};
+use crate::joins::{are_there, join_runs, runs_of};
+use crate::places::{find, gapless_in, insert, least_in, len_of, next_in, top_in};
+use crate::puts::{Put, PutFault, has_zero, least_conflict};
 use crate::ranges::Range;
 use crate::records::Record;
+use crate::runs::Run;
 use arrayvec::ArrayVec;
 use std::alloc::{AllocError, Global};
 use std::marker::Model;
@@ -19,19 +21,19 @@ const RECORDS_AT_ONCE: usize = 4;
 /// A finite map from section numbers, 1 and above, to the records that bear them.
 #[derive(Drop)]
 pub struct Journal {
-    records: Vec<Record>,
+    runs: Vec<Run>,
 }
 
 impl Model for Journal {
     ghost use Rattle.std.specs.Prelude.{List};
-    ghost use Rattle.mx_journal.specs.Records.{Ascending};
     ghost use Rattle.mx_journal.specs.declared.records.Record.{Record};
+    ghost use Rattle.mx_journal.specs.Runs.{AreRuns, flatten};
 
     ghost Value = { List Record };
 
-    ghost view = { λ j. j.records.items };
+    ghost view = { λ j. flatten j.runs.items };
 
-    ghost invariant = { λ j. Ascending 1 j.records.items };
+    ghost invariant = { λ j. AreRuns 1 j.runs.items };
 }
 
 impl Journal {
@@ -40,7 +42,7 @@ impl Journal {
         ensures { result ≡ [] }
     {
         Journal {
-            records: Vec::new(alloc),
+            runs: Vec::new(alloc),
         }
     }
 
@@ -56,19 +58,18 @@ impl Journal {
             ↔ ((1 ≤ entry.number) × (record_at entry.number self.old ≡ None)) }
         ensures kept { (result ≡ Ok Put.New) ⊎ (self.new ≡ self.old) }
     {
-        let records = &mut self.records;
+        let runs = &mut self.runs;
         if entry.number == 0 {
             return Err(PutFault::ZeroNumber);
         }
-        if let Some(there) = find(records, entry.number) {
+        if let Some(there) = find(runs, entry.number) {
             return if there.is(&entry) {
                 Ok(Put::Same)
             } else {
                 Err(PutFault::Conflict(entry.number))
             };
         }
-        records.reserve(1)?;
-        insert(records, entry);
+        insert(runs, entry)?;
         Ok(Put::New)
     }
 
@@ -91,11 +92,11 @@ impl Journal {
         if has_zero(list) {
             return Err(PutFault::ZeroNumber);
         }
-        if let Some(number) = least_conflict(&self.records, list) {
+        if let Some(number) = least_conflict(&self.runs, list) {
             return Err(PutFault::Conflict(number));
         }
-        self.records.reserve(list.len())?;
-        Ok(insert_all(&mut self.records, list))
+        let other = runs_of(*self.runs.allocator(), list)?;
+        Ok(join_runs(&mut self.runs, &other)?)
     }
 
     /// Takes the records of an agreeing journal too, and answers how many were new. Memory is asked
@@ -107,11 +108,10 @@ impl Journal {
         ensures contained { IsSubmap other.now self.old → IsOk result }
         ensures err { OnErr result (self.new ≡ self.old) }
     {
-        if are_there(&self.records, &other.records) {
+        if are_there(&self.runs, &other.runs) {
             return Ok(0);
         }
-        self.records.reserve(other.records.len())?;
-        Ok(insert_all(&mut self.records, &other.records))
+        join_runs(&mut self.runs, &other.runs)
     }
 
     /// The record that bears the number.
@@ -119,7 +119,7 @@ impl Journal {
         ensures { MatchOption result (record_at number self.now ≡ None)
             (λ found. record_at number self.now ≡ Some found.now) }
     {
-        find(&self.records, number)
+        find(&self.runs, number)
     }
 
     /// The record with the least number above this one. Going on from 0, and from the number of each
@@ -129,7 +129,7 @@ impl Journal {
             (λ found. above number self.now ≡ found.now ∷ above found.now.number self.now) }
         ensures ordered { Ascending 1 self.now }
     {
-        next_in(&self.records, number)
+        next_in(&self.runs, number)
     }
 
     /// How many records it has.
@@ -138,7 +138,7 @@ impl Journal {
         // what every journal keeps: the numbers ascend, from 1 on
         ensures ordered { Ascending 1 self.now }
     {
-        self.records.len()
+        len_of(&self.runs)
     }
 
     /// Whether it has no record.
@@ -146,14 +146,22 @@ impl Journal {
         ensures value { IsTrue result ↔ (self.now ≡ []) }
         ensures ordered { Ascending 1 self.now }
     {
-        self.records.is_empty()
+        self.runs.is_empty()
     }
 
     /// The greatest number that a record bears, 0 where there is no record.
     pub fn top(&self) -> u64
         ensures { result ≡ top_of self.now }
     {
-        top_in(&self.records)
+        top_in(&self.runs)
+    }
+
+    /// The greatest number up to which none is missing behind this one: all between them are there, and
+    /// it too, unless it is this number itself.
+    pub fn gapless_after(&self, number: u64) -> u64
+        ensures { result + 1 ≡ first_missing (number + 1) (above number self.now) }
+    {
+        gapless_in(&self.runs, number)
     }
 
     /// The greatest number up to which none is missing: all of 1 to it are there.
@@ -162,13 +170,13 @@ impl Journal {
         ensures next { record_at (result + 1) self.now ≡ None }
         ensures value { result + 1 ≡ first_missing 1 self.now }
     {
-        gapless_in(&self.records)
+        gapless_in(&self.runs, 0)
     }
 
     /// The records in a range, ascending, or the least four where there are more.
     pub fn records_in(&self, range: Range) -> ArrayVec<Record, RECORDS_AT_ONCE>
         ensures { result.items ≡ take 4 (in_range range self.now) }
     {
-        least_in(&self.records, range)
+        least_in(&self.runs, range)
     }
 }

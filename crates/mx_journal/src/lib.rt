@@ -3,12 +3,14 @@
 #![tactic(auto)]
 
 mod draft;
+mod joins;
 mod journal;
 mod places;
 mod puts;
 mod ranges;
 mod receipts;
 mod records;
+mod runs;
 
 pub use draft::{Draft, Full};
 pub use journal::Journal;

@@ -1,13 +1,15 @@
 //! What a journal answers to records, and the conflicts among them.
 
-ghost use Rattle.std.specs.Prelude.{◌≡◌, ◌+◌, ◌≤◌, ◌↔◌, ◌++◌, IsTrue, IsFalse, IfSome, IfNone, length, vec_len, vec_capacity};
+ghost use Rattle.std.specs.Prelude.{◌≡◌, ◌↔◌, ◌++◌, IsTrue, IsFalse, IfSome, IfNone};
 ghost use Rattle.mx_stamps.specs.Lists.{IsIn};
 ghost use Rattle.mx_journal.specs.Agreement.{AgreesWith, IsConsistent, IsFirstConflict, IsOpposed};
 ghost use Rattle.mx_journal.specs.Searches.{lower_of};
-ghost use Rattle.mx_journal.specs.Records.{Ascending, BringsNew, IsNumbered, IsThere, with_records};
+ghost use Rattle.mx_journal.specs.Records.{Ascending, IsNumbered, IsThere};
+ghost use Rattle.mx_journal.specs.Runs.{AreRuns, flatten};
 
-use crate::places::{find, insert, is_there};
+use crate::places::find;
 use crate::records::Record;
+use crate::runs::Run;
 use std::alloc::AllocError;
 use thiserror::Error;
 
@@ -83,12 +85,12 @@ fn agrees_in(list: &[Record], entry: &Record) -> bool
 }
 
 /// The same, by a search by halves, in a list that ascends.
-fn agrees_at_place(records: &[Record], entry: &Record) -> bool
-    requires { Ascending 1 records.now }
-    ensures agrees { IsTrue result → AgreesWith entry.now records.now }
-    ensures opposed { IsFalse result → IsOpposed entry.now records.now }
+fn agrees_at_place(runs: &[Run], entry: &Record) -> bool
+    requires { AreRuns 1 runs.now }
+    ensures agrees { IsTrue result → AgreesWith entry.now (flatten runs.now) }
+    ensures opposed { IsFalse result → IsOpposed entry.now (flatten runs.now) }
 {
-    match find(records, entry.number) {
+    match find(runs, entry.number) {
         Some(there) => there.is(entry),
         None => true,
     }
@@ -96,28 +98,28 @@ fn agrees_at_place(records: &[Record], entry: &Record) -> bool
 
 /// The same, in a journal's records and in a list to which the record belongs. A list whose numbers
 /// ascend has no two records of the same number, so only the journal is searched then.
-fn agrees_in_both(records: &[Record], list: &[Record], in_order: bool, entry: &Record) -> bool
-    requires ascending { Ascending 1 records.now }
+fn agrees_in_both(runs: &[Run], list: &[Record], in_order: bool, entry: &Record) -> bool
+    requires ascending { AreRuns 1 runs.now }
     requires ordered { IsTrue in_order → Ascending 1 list.now }
     requires member { IsIn entry.now list.now }
-    ensures agrees { IsTrue result → AgreesWith entry.now (records.now ++ list.now) }
-    ensures opposed { IsFalse result → IsOpposed entry.now (records.now ++ list.now) }
+    ensures agrees { IsTrue result → AgreesWith entry.now (flatten runs.now ++ list.now) }
+    ensures opposed { IsFalse result → IsOpposed entry.now (flatten runs.now ++ list.now) }
 {
-    agrees_at_place(records, entry) && (in_order || agrees_in(list, entry))
+    agrees_at_place(runs, entry) && (in_order || agrees_in(list, entry))
 }
 
 /// The least number that two differing records bear, of the journal's records and the list's. Where
 /// the list ascends, the time is that of one search for each of its records; else each record is
 /// compared with the whole list, and the time grows with the square of its length. It takes no memory.
-pub(crate) fn least_conflict(records: &[Record], list: &[Record]) -> Option<u64>
-    requires { Ascending 1 records.now }
-    ensures some { IfSome result (λ n. IsFirstConflict n (records.now ++ list.now)) }
-    ensures none { IfNone result (IsConsistent (records.now ++ list.now)) }
+pub(crate) fn least_conflict(runs: &[Run], list: &[Record]) -> Option<u64>
+    requires { AreRuns 1 runs.now }
+    ensures some { IfSome result (λ n. IsFirstConflict n (flatten runs.now ++ list.now)) }
+    ensures none { IfNone result (IsConsistent (flatten runs.now ++ list.now)) }
 {
     let in_order = ascends(list);
     let mut least = None;
     for entry in list {
-        if !agrees_in_both(records, list, in_order, entry) {
+        if !agrees_in_both(runs, list, in_order, entry) {
             least = Some(lower(least, entry.number));
         }
     }
@@ -132,35 +134,4 @@ fn lower(least: Option<u64>, number: u64) -> u64
         Some(other) => other.min(number),
         None => number,
     }
-}
-
-/// Whether each number of the list is borne already, so that the list brings nothing new.
-pub(crate) fn are_there(records: &[Record], list: &[Record]) -> bool
-    requires { Ascending 1 records.now }
-    ensures there { IsTrue result → with_records list.now records.now ≡ records.now }
-    ensures missing { IsFalse result → BringsNew list.now records.now }
-{
-    for entry in list {
-        if !is_there(records, entry.number) {
-            return false;
-        }
-    }
-    true
-}
-
-/// Puts each record of the list that is not there yet, and answers how many were not.
-pub(crate) fn insert_all(records: &mut Vec<Record>, list: &[Record]) -> u64
-    requires ascending { Ascending 1 records.old.items }
-    requires numbered { IsNumbered list.now }
-    requires room { vec_len records.old + length list.now ≤ vec_capacity records.old }
-    ensures items { records.new.items ≡ with_records list.now records.old.items }
-    ensures count { vec_len records.new ≡ vec_len records.old + result }
-{
-    let before = records.len();
-    for entry in list {
-        if !is_there(records, entry.number) {
-            insert(records, entry.copy());
-        }
-    }
-    (records.len() - before) as u64
 }

@@ -59,3 +59,10 @@ none_up_to ranges least (x ∷ xs) low =
 pub ranges_skipped : (ranges : List Range) (least : ℕ) (xs : List Record) → Ascending 1 xs → ((range : Range) → IsIn range ranges → least ≤ range.first - 1) → in_ranges ranges (above least xs) ≡ in_ranges ranges xs
 ranges_skipped ranges zero xs a low = ap (λ l. in_ranges ranges l) (above_all 0 xs a)
 ranges_skipped ranges (suc least) xs a low = none_up_to ranges (suc least) xs (λ range h. let l = low range h in omega arith)
+
+-- the first number that is missing behind one
+pub first_after : (n next : ℕ) (xs : List Record) → next + 1 ≡ first_missing (n + 1) (above n xs) → first_missing (suc n) (above n xs) ≡ suc next
+first_after n next xs e = sym (let q : suc next ≡ next + 1 = omega arith in q ∙ e ∙ ap (λ m. first_missing m (above n xs)) (let q : n + 1 ≡ suc n = omega arith in q))
+
+pub gapless_high : (n next : ℕ) (xs : List Record) → next + 1 ≡ first_missing (n + 1) (above n xs) → n ≤ next
+gapless_high n next xs e = let low = first_missing_above (n + 1) (above n xs) in omega arith

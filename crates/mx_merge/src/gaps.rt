@@ -23,7 +23,7 @@ pub fn missing(journal: &Journal, limit: u64) -> ArrayVec<Range, RANGES_AT_ONCE>
             break;
         }
         add_gap(&mut gaps, last, entry.number - 1);
-        last = entry.number;
+        last = journal.gapless_after(entry.number);
     }
     add_gap(&mut gaps, last, limit);
     gaps

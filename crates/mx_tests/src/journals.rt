@@ -98,9 +98,9 @@ fn conflicts_change_nothing(rt: HostRuntime) -> Result<(), Fail> {
     Ok(())
 }
 
-/// Puts the numbers up to 1000 that leave this rest when they are halved.
-fn put_halves(rt: &impl Abort, journal: &mut Journal, rest: u64) {
-    for number in 1..=1000 {
+/// Puts the numbers up to `most` that leave this rest when they are halved.
+fn put_halves(rt: &impl Abort, journal: &mut Journal, rest: u64, most: u64) {
+    for number in 1..=most {
         if number % 2 == rest {
             let record = entry(number, &[(0, number)]);
             assert_eq!(rt; journal.put(record), Ok(Put::New), "{number}");
@@ -127,12 +127,25 @@ const NONE: [Gaps; 1] = [(1000, &[])];
 #[test]
 fn odd_then_even_numbers(rt: HostRuntime) {
     let mut journal = Journal::new(rt.alloc());
-    put_halves(&rt, &mut journal, 1);
+    put_halves(&rt, &mut journal, 1, 1000);
     assert_eq!(rt; extent(&journal), (500, 999, 1));
     assert_gaps(&rt, &journal, &ODD);
-    put_halves(&rt, &mut journal, 0);
+    put_halves(&rt, &mut journal, 0, 1000);
     assert_eq!(rt; extent(&journal), (1000, 1000, 1000));
     assert_gaps(&rt, &journal, &NONE);
+}
+
+const NONE_OF_MANY: [Gaps; 1] = [(5000, &[])];
+
+#[test]
+fn many_odd_then_even_numbers(rt: HostRuntime) {
+    let mut journal = Journal::new(rt.alloc());
+    put_halves(&rt, &mut journal, 1, 5000);
+    assert_eq!(rt; extent(&journal), (2500, 4999, 1));
+    assert_gaps(&rt, &journal, &ODD);
+    put_halves(&rt, &mut journal, 0, 5000);
+    assert_eq!(rt; extent(&journal), (5000, 5000, 5000));
+    assert_gaps(&rt, &journal, &NONE_OF_MANY);
 }
 
 #[test]

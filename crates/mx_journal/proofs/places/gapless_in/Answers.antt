@@ -1,27 +1,24 @@
-use Rattle.std.proofs.Common.{◌+◌, ◌-◌, ◌/◌, ◌<◌, length, ap, arith}
-use Rattle.mx_journal.specs.declared.records.Record.{Record}
-use Rattle.mx_journal.proofs.Below.{first_missing_above, first_missing_within, none_missing_up_to, some_missing_before}
+use Rattle.std.proofs.Common.{◌≤◌, ◌+◌, suc, sym, ◌∙◌, ap, arith}
+use Rattle.mx_journal.specs.Gapless.{first_missing}
+use Rattle.mx_journal.specs.Runs.{first_number}
+use Rattle.mx_journal.proofs.Found.{above_past, missing_at_once, missing_behind}
+use Rattle.mx_journal.proofs.places.gapless_in.Goals.{else-number-first-via-then-number-first+else-first-number-gt1, else-number-first-via-else-number-first}
 use Rattle.mx_journal.proofs.places.gapless_in.Goals as goal
 
-pub loop-low-init : goal.loop-low-init
-loop-low-init c =
-    let high = first_missing_within 1 c.args.records.now in
-    record { there = first_missing_above 1 c.args.records.now; missing = omega arith; inside = omega arith }
+pub returns-then-at-runs : goal.returns-then-at-runs
+returns-then-at-runs c =
+    sym (ap (λ l. first_missing (c.args.number + 1) l) (above_past c.args.number 1 c.args.runs.now c.requires (omega (arith, c.place_of-at.ensures.value, c.if-at-runs.true))))
 
-pub loop-low-preserved-then-records-middle : goal.loop-low-preserved-then-records-middle
-loop-low-preserved-then-records-middle c =
-    let records = c.args.records.now in
-    let middle = c.loop-low.low + (c.loop-low.high - c.loop-low.low) / 2 in
-    let inside : middle < length records = omega (arith, c.loop-low-test.true, c.loop-low.invariant.inside) in
-    let same = ap (λ (z : Record). z.number) c.index-records-middle.is in
-    let past = none_missing_up_to 1 records middle c.index-records-middle.result c.requires inside c.index-records-middle.is (omega (arith, c.if-records-middle.true)) in
-    record { there = omega arith; missing = c.loop-low.invariant.missing; inside = c.loop-low.invariant.inside }
+pub returns-then-first-number-gt1 : goal.returns-then-first-number-gt1
+returns-then-first-number-gt1 c =
+    missing_at_once c.args.number c.args.runs.now c.place_of-at.result c.index-runs-at.result c.requires c.place_of-at.ensures.value c.if-at-runs.false c.index-runs-at.is
+    (omega (arith, c.first-first.ensures, c.if-first-number-gt1.true))
 
-pub loop-low-preserved : goal.loop-low-preserved
-loop-low-preserved c =
-    let records = c.args.records.now in
-    let middle = c.loop-low.low + (c.loop-low.high - c.loop-low.low) / 2 in
-    let inside : middle < length records = omega (arith, c.loop-low-test.true, c.loop-low.invariant.inside) in
-    let same = ap (λ (z : Record). z.number) c.index-records-middle.is in
-    let before = some_missing_before 1 records middle c.index-records-middle.result c.requires inside c.index-records-middle.is (λ e. c.if-records-middle.false (omega (arith, e))) in
-    record { there = c.loop-low.invariant.there; missing = omega arith; inside = omega (arith, inside) }
+pub returns-else-number-first : goal.returns-else-number-first
+returns-else-number-first c =
+    let low : first_number c.index-runs-at.result ≤ suc c.args.number = elim c.else-number-first.branch [
+      | else-number-first-via-then-number-first+else-first-number-gt1 w ↦ omega (arith, c.first-first.ensures, w.if-first-number-gt1.false)
+      | else-number-first-via-else-number-first w ↦ omega (arith, c.first-first.ensures, w.if-number-first.false)
+    ] in
+    ap (λ n. n + 1) c.last.ensures
+    ∙ missing_behind c.args.number c.args.runs.now c.place_of-at.result c.index-runs-at.result c.requires c.place_of-at.ensures.value c.if-at-runs.false c.index-runs-at.is low

@@ -1,27 +1,33 @@
-use Rattle.std.proofs.Common.{◌≡◌, ◌+◌, ◌∙◌, ◌∷◌, nat_le, drop, rules, sym, ap, arith}
-use Rattle.std.proofs.lemmas.List.{drop_all}
-use Rattle.std.proofs.lemmas.List.Sorted.{IsPartitionPoint-from_clause}
-use Rattle.mx_stamps.proofs.Lists.{drop_here}
+use Rattle.std.proofs.Common.{◌≡◌, ◌++◌, ◌∷◌, suc, drop, sym, ◌∙◌, ap, arith}
 use Rattle.mx_journal.specs.Records.{above}
-use Rattle.mx_journal.proofs.Going.{above_is_rest, above_next, partitioned_to}
+use Rattle.mx_journal.specs.Runs.{flatten}
+use Rattle.mx_journal.proofs.Going.{above_next}
+use Rattle.mx_journal.proofs.Flat.{ascending_flat}
+use Rattle.mx_journal.proofs.Found.{above_past, above_run, run_at}
 use Rattle.mx_journal.proofs.places.next_in.Goals as goal
 
-pub returns-then-at-records : goal.returns-then-at-records
-returns-then-at-records c =
-    let at = c.partition_point-at.result in
-    let records = c.args.records.now in
-    let split = IsPartitionPoint-from_clause (λ y. nat_le y.number c.args.number) records at c.partition_point-at.ensures.partitioned (partitioned_to c.args.number 1 records c.requires) (λ a r f h. search rules) in
-    above_is_rest c.args.number records at c.partition_point-at.ensures.bound split.0 split.1
-    ∙ drop_all at records (omega (arith, c.if-at-records.true))
+pub returns-then-at-runs : goal.returns-then-at-runs
+returns-then-at-runs c = above_past c.args.number 1 c.args.runs.now c.requires (omega (arith, c.place_of-at.ensures.value, c.if-at-runs.true))
+
+pub next_in_run-requires-clause-consecutive : goal.next_in_run-requires-clause-consecutive
+next_in_run-requires-clause-consecutive c =
+    let w = run_at 1 c.args.runs.now c.place_of-at.result c.index-runs-at.result c.requires (omega (arith, c.if-at-runs.false)) c.index-runs-at.is in w.0
+
+pub next_in_run-requires-clause-least : goal.next_in_run-requires-clause-least
+next_in_run-requires-clause-least c =
+    let w = run_at 1 c.args.runs.now c.place_of-at.result c.index-runs-at.result c.requires (omega (arith, c.if-at-runs.false)) c.index-runs-at.is in w.3
+
+pub next_in_run-requires-clause-behind : goal.next_in_run-requires-clause-behind
+next_in_run-requires-clause-behind c =
+    let w = above_run c.args.number 1 c.args.runs.now c.place_of-at.result c.index-runs-at.result c.requires c.place_of-at.ensures.value (omega (arith, c.if-at-runs.false)) c.index-runs-at.is in w.0
 
 pub returns : goal.returns
 returns c =
-    let at = c.partition_point-at.result in
-    let records = c.args.records.now in
-    let found = c.index-records-at.result in
-    let behind = drop (at + 1) records in
-    let split = IsPartitionPoint-from_clause (λ y. nat_le y.number c.args.number) records at c.partition_point-at.ensures.partitioned (partitioned_to c.args.number 1 records c.requires) (λ a r f h. search rules) in
-    let here : above c.args.number records ≡ found ∷ behind =
-    above_is_rest c.args.number records at c.partition_point-at.ensures.bound split.0 split.1
-    ∙ drop_here records at found (omega (arith, c.if-at-records.false)) c.index-records-at.is in
-    here ∙ ap (λ l. found ∷ l) (sym (above_next c.args.number 1 records found behind c.requires here))
+    let runs = c.args.runs.now in
+    let run = c.index-runs-at.result in
+    let n = c.args.number in
+    let found = c.next_in_run.result.now in
+    let rest = flatten (drop (suc c.place_of-at.result) runs) in
+    let w = above_run n 1 runs c.place_of-at.result run c.requires c.place_of-at.ensures.value (omega (arith, c.if-at-runs.false)) c.index-runs-at.is in
+    let here : above n (flatten runs) ≡ found ∷ (above found.number run ++ rest) = w.1 ∙ ap (λ l. l ++ rest) c.next_in_run.ensures in
+    here ∙ ap (λ l. found ∷ l) (sym (above_next n 1 (flatten runs) found (above found.number run ++ rest) (ascending_flat 1 runs c.requires) here))

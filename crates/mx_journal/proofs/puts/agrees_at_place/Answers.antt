@@ -2,18 +2,20 @@ use Rattle.std.proofs.Common.{◌≡◌, sym, ◌∙◌, ap}
 use Rattle.std.proofs.lemmas.Option.{same_Some}
 use Rattle.mx_journal.specs.Records.{record_at}
 use Rattle.mx_journal.proofs.Maps.{found_at, found_in, none_in}
+use Rattle.mx_journal.specs.Runs.{flatten}
+use Rattle.mx_journal.proofs.Flat.{ascending_flat}
 use Rattle.mx_journal.proofs.puts.agrees_at_place.Goals as goal
 
 pub returns-in-Some-clause-agrees : goal.returns-in-Some-clause-agrees
 returns-in-Some-clause-agrees c = λ t x m e.
-    let records = c.args.records.now in
-    let there : x ≡ c.in-Some.there.now = same_Some x c.in-Some.there.now (sym (found_at 1 records c.requires x m) ∙ ap (λ n. record_at n records) e ∙ c.in-Some.ensures) in
+    let records = flatten c.args.runs.now in
+    let there : x ≡ c.in-Some.there.now = same_Some x c.in-Some.there.now (sym (found_at 1 records (ascending_flat 1 c.args.runs.now c.requires) x m) ∙ ap (λ n. record_at n records) e ∙ c.in-Some.ensures) in
     there ∙ c.is.ensures.0 t
 
 pub returns-in-Some-clause-opposed : goal.returns-in-Some-clause-opposed
 returns-in-Some-clause-opposed c = λ t.
-    let r = found_in c.args.entry.now.number c.args.records.now c.in-Some.there.now c.in-Some.ensures in
+    let r = found_in c.args.entry.now.number (flatten c.args.runs.now) c.in-Some.there.now c.in-Some.ensures in
     (c.in-Some.there.now, r.0, r.1, λ e. let s = c.is.ensures.1 e in let bad : ⊥ = cc in bad)
 
 pub returns-in-None-clause-agrees : goal.returns-in-None-clause-agrees
-returns-in-None-clause-agrees c = λ t x m e. absurd (none_in c.args.entry.now.number c.args.records.now c.in-None.ensures x m e)
+returns-in-None-clause-agrees c = λ t x m e. absurd (none_in c.args.entry.now.number (flatten c.args.runs.now) c.in-None.ensures x m e)

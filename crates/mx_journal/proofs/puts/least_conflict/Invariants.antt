@@ -1,6 +1,7 @@
 use Rattle.std.proofs.Common.{take, ◌++◌}
 use Rattle.mx_journal.proofs.Disputes.{IsLeastSoFar}
+use Rattle.mx_journal.specs.Runs.{flatten}
 use Rattle.mx_journal.proofs.puts.least_conflict.Given as goal
 
 abbrev pub invariant-loop-entry : goal.invariant-loop-entry
-invariant-loop-entry l = IsLeastSoFar l.least (take l.entry-index l.list) (l.records ++ l.list)
+invariant-loop-entry l = IsLeastSoFar l.least (take l.entry-index l.list) (flatten l.runs ++ l.list)

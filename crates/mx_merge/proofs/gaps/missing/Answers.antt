@@ -1,13 +1,13 @@
-use Rattle.std.proofs.Common.{suc, nat_lt, ◌≡◌, ◌+◌, ◌-◌, ◌++◌, ◌∙◌, ◌∷◌, take, sym, ap, subst, arith}
+use Rattle.std.proofs.Common.{suc, nat_lt, ◌≡◌, ◌≤◌, ◌+◌, ◌-◌, ◌++◌, ◌∙◌, ◌∷◌, take, sym, ap, subst, arith}
 use Rattle.std.proofs.lemmas.Bool.Decides.{nat_tests}
 use Rattle.mx_stamps.proofs.Lists.{append_append, cut_twice, cut_full}
 use Rattle.mx_stamps.proofs.Choices.{lt_is, lt_not, cond_true, cond_false}
 use Rattle.mx_journal.specs.Records.{above}
 use Rattle.mx_journal.specs.Gapless.{first_missing}
-use Rattle.mx_journal.proofs.Going.{above_more}
+use Rattle.mx_journal.proofs.Going.{above_above, above_more, ascending_rest_above}
 use Rattle.mx_merge.specs.Missing.{IsListOfGaps, gap_after, gaps_above}
 use Rattle.mx_merge.proofs.GapLists.{first_gaps}
-use Rattle.mx_merge.proofs.Skipping.{gaps_skipped}
+use Rattle.mx_merge.proofs.Skipping.{first_after, gapless_high, gaps_skipped}
 use Rattle.mx_merge.proofs.gaps.missing.Goals.{in-Some+then-entry-limit, then-entry-limit-via-then-entry-limit, then-entry-limit-via-else-entry-limit+then-is_full, in_default}
 use Rattle.mx_merge.proofs.gaps.missing.Goals as goal
 
@@ -24,17 +24,31 @@ overflow_sub-entry c =
     let low = above_more c.loop-entry.last c.args.journal.now c.in-Some.entry.now (above c.in-Some.entry.now.number c.args.journal.now) c.in-Some.ensures.value in
     omega arith
 
+pub loop-entry-smaller : goal.loop-entry-smaller
+loop-entry-smaller c =
+    let journal = c.args.journal.now in
+    let low = above_more c.loop-entry.last journal c.in-Some.entry.now (above c.in-Some.entry.now.number journal) c.in-Some.ensures.value in
+    let high = gapless_high c.in-Some.entry.now.number c.gapless_after-last.result journal c.gapless_after-last.ensures in
+    omega (arith, c.if-entry-limit.false)
+
 pub loop-entry-preserved : goal.loop-entry-preserved
 loop-entry-preserved c = λ order.
     let journal = c.args.journal.now in
+    let limit = c.args.limit in
     let entry = c.in-Some.entry.now in
     let gaps = c.loop-entry.gaps.items in
     let gap = gap_after c.loop-entry.last (entry.number - 1) in
-    let more = gaps_above entry.number c.args.limit (above entry.number journal) in
-    let split : gaps_above c.loop-entry.last c.args.limit (entry ∷ above entry.number journal) ≡ gap ++ more =
-    cond_false (nat_lt c.args.limit entry.number) (gap_after c.loop-entry.last c.args.limit) (gap ++ more) (lt_not c.args.limit entry.number c.if-entry-limit.false) in
-    ap (λ l. take 8 (l ++ more)) c.add_gap.ensures ∙ cut_twice 8 (gaps ++ gap) more ∙ ap (λ l. take 8 l) (append_append gaps gap more)
-    ∙ ap (λ l. take 8 (gaps ++ l)) (sym (ap (λ l. gaps_above c.loop-entry.last c.args.limit l) c.in-Some.ensures.value ∙ split)) ∙ c.loop-entry.invariant order
+    let next = c.gapless_after-last.result in
+    let more = gaps_above entry.number limit (above entry.number journal) in
+    let high : entry.number ≤ next = gapless_high entry.number next journal c.gapless_after-last.ensures in
+    let skipped : gaps_above next limit (above next journal) ≡ more =
+    ap (λ l. gaps_above next limit l) (sym (above_above entry.number next journal high))
+    ∙ gaps_skipped entry.number next limit (above entry.number journal) (ascending_rest_above entry.number 1 journal order) (first_after entry.number next journal c.gapless_after-last.ensures) in
+    let split : gaps_above c.loop-entry.last limit (entry ∷ above entry.number journal) ≡ gap ++ more =
+    cond_false (nat_lt limit entry.number) (gap_after c.loop-entry.last limit) (gap ++ more) (lt_not limit entry.number c.if-entry-limit.false) in
+    ap (λ l. take 8 (c.add_gap.new.gaps.items ++ l)) skipped
+    ∙ ap (λ l. take 8 (l ++ more)) c.add_gap.ensures ∙ cut_twice 8 (gaps ++ gap) more ∙ ap (λ l. take 8 l) (append_append gaps gap more)
+    ∙ ap (λ l. take 8 (gaps ++ l)) (sym (ap (λ l. gaps_above c.loop-entry.last limit l) c.in-Some.ensures.value ∙ split)) ∙ c.loop-entry.invariant order
 
 pub returns-clause-value : goal.returns-clause-value
 returns-clause-value c =

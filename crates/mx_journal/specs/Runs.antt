@@ -1,0 +1,68 @@
+-- A journal is kept as runs: lists of records with consecutive numbers, between which numbers are missing.
+use Rattle.std.specs.Prelude.{ℕ, suc, ◌+◌, ◌-◌, ◌≡◌, ◌≤◌, ◌<◌, ◌⊎◌, List, [], ◌∷◌, ◌++◌, length, get_or, slice_set, nat_le, if◌then◌else◌}
+use Rattle.std.specs.List.{remove}
+use Rattle.mx_stamps.specs.Lists.{IsIn}
+use Rattle.mx_journal.specs.declared.records.Record.{Record}
+use Rattle.mx_journal.specs.Records.{with_record}
+
+-- the records of these runs, in order
+abbrev pub flatten : List (List Record) → List Record
+flatten [] = []
+flatten (run ∷ runs) = run ++ flatten runs
+
+-- the numbers of the records are n, n + 1 and so on
+abbrev pub AreConsecutive : ℕ → List Record → Type 0
+AreConsecutive n [] = Unit {0}
+AreConsecutive n (x ∷ xs) = (x.number ≡ n) × AreConsecutive (suc n) xs
+
+-- the number of the first record, 0 without records
+abbrev pub first_number : List Record → ℕ
+first_number [] = 0
+first_number (x ∷ xs) = x.number
+
+-- the number of the last record, 0 without records
+abbrev pub last_number : List Record → ℕ
+last_number [] = 0
+last_number (x ∷ []) = x.number
+last_number (x ∷ y ∷ ys) = last_number (y ∷ ys)
+
+-- each run has a record, and its numbers are consecutive; the first number is at least `least`; behind each
+-- run at least one number is missing before the next
+abbrev pub AreRuns : ℕ → List (List Record) → Type 0
+AreRuns least [] = Unit {0}
+AreRuns least ([] ∷ runs) = ⊥
+AreRuns least ((x ∷ xs) ∷ runs) =
+    (least ≤ x.number) × AreConsecutive (suc x.number) xs × AreRuns (last_number (x ∷ xs) + 2) runs
+
+-- how many runs end at n or below: as their numbers ascend, they come first
+abbrev pub runs_up_to : ℕ → List (List Record) → ℕ
+runs_up_to n [] = 0
+runs_up_to n (run ∷ runs) = if nat_le (last_number run) n then suc (runs_up_to n runs) else 0
+
+-- the run before place i ends right below n
+abbrev pub TouchesBelow : ℕ → ℕ → List (List Record) → Type 0
+TouchesBelow n i runs = (1 ≤ i) × (last_number (get_or runs (i - 1) []) + 1 ≡ n)
+
+-- the run at place i begins right above n
+abbrev pub TouchesAbove : ℕ → ℕ → List (List Record) → Type 0
+TouchesAbove n i runs = (i < length runs) × (first_number (get_or runs i []) ≡ n + 1)
+
+-- the runs with one in place of the two before and at place i
+abbrev pub with_joined : ℕ → List Record → List (List Record) → List (List Record)
+with_joined i run runs = remove (slice_set (slice_set runs i []) (i - 1) run) i
+
+-- the new runs are those of the old records with this one
+pub record IsPut (r : Record) (old new : List (List Record)) : Type 0 where
+  pub records : flatten new ≡ with_record r (flatten old)
+  pub runs : AreRuns 1 new
+
+-- r has the least number above n in either of the two maps
+pub record IsNextOfBoth (n : ℕ) (xs ys : List Record) (r : Record) : Type 0 where
+  pub member : IsIn r xs ⊎ IsIn r ys
+  pub behind : n < r.number
+  pub least : (x : Record) → IsIn x xs ⊎ IsIn x ys → n < x.number → r.number ≤ x.number
+
+-- the joined records are those of either map that are numbered above `from` up to `to`
+pub record IsJoinedUpTo (from to : ℕ) (xs ys joined : List Record) : Type 0 where
+  pub known : (x : Record) → IsIn x joined → (IsIn x xs ⊎ IsIn x ys) × (from < x.number) × (x.number ≤ to)
+  pub all : (x : Record) → IsIn x xs ⊎ IsIn x ys → from < x.number → x.number ≤ to → IsIn x joined

@@ -1,0 +1,188 @@
+//! Runs that take in others: all or none.
+
+ghost use Rattle.std.specs.Prelude.{◌≡◌, ◌+◌, ◌≤◌, ◌<◌, IsTrue, IsFalse, IfOk, IfSome, IfNone, OnOk, OnErr, [], ◌++◌, ◌-◌, get_or, length, slice_set};
+ghost use Rattle.mx_journal.specs.Agreement.{AreAgreeing};
+ghost use Rattle.mx_journal.specs.Records.{BringsNew, IsNumbered, above, with_records};
+ghost use Rattle.mx_journal.specs.Runs.{AreRuns, IsJoinedUpTo, IsNextOfBoth, TouchesBelow, first_number, flatten, last_number};
+
+use crate::places::{insert, is_there, next_in, place_of, top_in, touches_below};
+use crate::records::Record;
+use crate::runs::Run;
+use std::alloc::{AllocError, Global};
+
+/// The runs of these records; of several that bear the same number the first counts.
+pub(crate) fn runs_of(alloc: Global, list: &[Record]) -> Result<Vec<Run>, AllocError>
+    requires { IsNumbered list.now }
+    ensures runs { IfOk result (λ runs. AreRuns 1 runs.items) }
+    ensures records { IfOk result (λ runs. flatten runs.items ≡ with_records list.now []) }
+{
+    let mut runs = Vec::new(alloc);
+    for entry in list {
+        if !is_there(&runs, entry.number) {
+            insert(&mut runs, entry.copy())?;
+        }
+    }
+    Ok(runs)
+}
+
+/// Whether each number of the other runs is borne already, so that they bring nothing new.
+pub(crate) fn are_there(runs: &[Run], other: &[Run]) -> bool
+    requires runs { AreRuns 1 runs.now }
+    requires other { AreRuns 1 other.now }
+    ensures there { IsTrue result
+        → with_records (flatten other.now) (flatten runs.now) ≡ flatten runs.now }
+    ensures missing { IsFalse result → BringsNew (flatten other.now) (flatten runs.now) }
+{
+    let mut last = 0;
+    while let Some(entry) = next_in(other, last) {
+        if !is_there(runs, entry.number) {
+            return false;
+        }
+        last = entry.number;
+    }
+    true
+}
+
+/// Takes in the records of runs that agree, and answers how many were new. Where memory runs out
+/// nothing changes. One run that goes on from one of ours is moved there; else all is made anew.
+pub(crate) fn join_runs(runs: &mut Vec<Run>, other: &[Run]) -> Result<u64, AllocError>
+    requires runs { AreRuns 1 runs.old.items }
+    requires other { AreRuns 1 other.now }
+    requires agreeing { AreAgreeing (flatten runs.old.items) (flatten other.now) }
+    ensures records { IfOk result (λ _. flatten runs.new.items
+        ≡ with_records (flatten other.now) (flatten runs.old.items)) }
+    ensures runs { IfOk result (λ _. AreRuns 1 runs.new.items) }
+    ensures count { IfOk result (λ k. length (flatten runs.new.items)
+        ≡ length (flatten runs.old.items) + k) }
+    ensures err { OnErr result (runs.new.items ≡ runs.old.items) }
+{
+    if other.len() == 1 {
+        let more = &other[0];
+        let at = place_of(runs, more.first() - 1);
+        if goes_behind(runs, at, more) {
+            append_run(runs, at, more)?;
+            return Ok(more.len() as u64);
+        }
+    }
+    join_copies(runs, other)
+}
+
+/// Whether the run begins right behind the one before the place, and leaves a number missing before
+/// the one at it.
+fn goes_behind(runs: &[Run], at: usize, more: &Run) -> bool
+    requires { at ≤ length runs.now }
+    ensures touches { IsTrue result → TouchesBelow (first_number more.now) at runs.now }
+    ensures apart { IsTrue result → at < length runs.now
+        → last_number more.now + 2 ≤ first_number (get_or runs.now at []) }
+{
+    if !touches_below(runs, at, more.first()) {
+        return false;
+    }
+    if at >= runs.len() {
+        return true;
+    }
+    let next = runs[at].first();
+    let last = more.last();
+    last < next && next - last > 1
+}
+
+/// Puts copies of the records of a run behind those of the run before the place.
+fn append_run(runs: &mut Vec<Run>, at: usize, more: &Run) -> Result<(), AllocError>
+    requires first { 1 ≤ at }
+    requires second { at ≤ length runs.old.items }
+    requires some { 1 ≤ length more.now }
+    ensures ok { OnOk result (runs.new.items
+        ≡ slice_set runs.old.items (at - 1) (get_or runs.old.items (at - 1) [] ++ more.now)) }
+    ensures err { OnErr result (runs.new.items ≡ runs.old.items) }
+{
+    let mut rest = Run::new(*runs.allocator());
+    for place in 1..more.len() {
+        rest.push_back(more.record(place).copy())?;
+    }
+    let run = &mut runs[at - 1];
+    run.join(more.record(0).copy(), &mut rest)
+}
+
+/// The same as `join_runs`, for any runs: copies of all records of both take the place of the first.
+fn join_copies(runs: &mut Vec<Run>, other: &[Run]) -> Result<u64, AllocError>
+    requires runs { AreRuns 1 runs.old.items }
+    requires other { AreRuns 1 other.now }
+    requires agreeing { AreAgreeing (flatten runs.old.items) (flatten other.now) }
+    ensures records { IfOk result (λ _. flatten runs.new.items
+        ≡ with_records (flatten other.now) (flatten runs.old.items)) }
+    ensures runs { IfOk result (λ _. AreRuns 1 runs.new.items) }
+    ensures count { IfOk result (λ k. length (flatten runs.new.items)
+        ≡ length (flatten runs.old.items) + k) }
+    ensures err { OnErr result (runs.new.items ≡ runs.old.items) }
+{
+    let to = top_in(runs).max(top_in(other));
+    let alloc = *runs.allocator();
+    let (joined, count) = joined_up_to(alloc, runs, other, 0, to)?;
+    *runs = joined;
+    Ok(count)
+}
+
+/// Copies of the records of both that are numbered above `from` up to `to`, as runs, and how many of
+/// them the first does not have.
+fn joined_up_to(
+    alloc: Global,
+    runs: &[Run],
+    other: &[Run],
+    from: u64,
+    to: u64,
+) -> Result<(Vec<Run>, u64), AllocError>
+    requires runs { AreRuns 1 runs.now }
+    requires other { AreRuns 1 other.now }
+    requires agreeing { AreAgreeing (flatten runs.now) (flatten other.now) }
+    requires order { from ≤ to }
+    ensures runs { IfOk result (λ p. AreRuns 1 p.0.items) }
+    ensures records { IfOk result (λ p. IsJoinedUpTo from to (flatten runs.now) (flatten other.now)
+        (flatten p.0.items)) }
+    ensures count { IfOk result (λ p. length (flatten p.0.items)
+        + length (above to (flatten runs.now))
+        ≡ length (above from (flatten runs.now)) + p.1) }
+{
+    let mut joined = Vec::new(alloc);
+    let mut count = 0;
+    let mut last = from;
+    while let Some(entry) = next_of_both(runs, other, last) {
+        if entry.number > to {
+            break;
+        }
+        if !is_there(runs, entry.number) {
+            count += 1;
+        }
+        insert(&mut joined, entry.copy())?;
+        last = entry.number;
+    }
+    Ok((joined, count))
+}
+
+/// The record with the least number above this one in either of the two.
+fn next_of_both<'a>(runs: &'a [Run], other: &'a [Run], number: u64) -> Option<&'a Record>
+    requires runs { AreRuns 1 runs.now }
+    requires other { AreRuns 1 other.now }
+    ensures some { IfSome result (λ found.
+        IsNextOfBoth number (flatten runs.now) (flatten other.now) found.now) }
+    ensures none { IfNone result ((above number (flatten runs.now) ≡ [])
+        × (above number (flatten other.now) ≡ [])) }
+{
+    match (next_in(runs, number), next_in(other, number)) {
+        (Some(here), Some(there)) => Some(lower(here, there)),
+        (Some(here), None) => Some(here),
+        (None, Some(there)) => Some(there),
+        (None, None) => None,
+    }
+}
+
+/// The record of the lower number, or the first where both bear the same.
+fn lower<'a>(here: &'a Record, there: &'a Record) -> &'a Record
+    ensures here { here.now.number ≤ there.now.number → result.now ≡ here.now }
+    ensures there { there.now.number < here.now.number → result.now ≡ there.now }
+{
+    if there.number < here.number {
+        there
+    } else {
+        here
+    }
+}

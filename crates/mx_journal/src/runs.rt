@@ -1,0 +1,140 @@
+//! Runs: records that stand in a row, with consecutive numbers where a journal keeps them.
+
+ghost use Rattle.std.specs.Prelude.{◌≡◌, ◌+◌, ◌<◌, ◌↔◌, [], ◌∷◌, ◌++◌, IsTrue, IfOk, OnOk, OnErr, length, get_or};
+ghost use Rattle.mx_journal.specs.Runs.{first_number, last_number};
+
+use crate::records::Record;
+use std::alloc::{AllocError, Global};
+use std::collections::VecDeque;
+use std::marker::Model;
+use std::mem;
+
+/// Records in a row. It grows at both ends without moving them.
+#[derive(Drop)]
+pub(crate) struct Run {
+    records: VecDeque<Record>,
+}
+
+impl Model for Run {
+    ghost use Rattle.std.specs.Prelude.{List};
+    ghost use Rattle.mx_journal.specs.declared.records.Record.{Record};
+
+    ghost Value = { List Record };
+
+    ghost view = { λ r. r.records.items };
+}
+
+impl Run {
+    /// A run without records.
+    pub(crate) fn new(alloc: Global) -> Run
+        ensures { result ≡ [] }
+    {
+        Run {
+            records: VecDeque::new(alloc),
+        }
+    }
+
+    /// How many records it has.
+    pub(crate) fn len(&self) -> usize
+        ensures { result ≡ length self.now }
+    {
+        self.records.len()
+    }
+
+    /// The record at a place, from 0 on.
+    pub(crate) fn record(&self, place: usize) -> &Record
+        requires { place < length self.now }
+        ensures { result.now ≡ get_or self.now place result.now }
+    {
+        &self.records[place]
+    }
+
+    /// The first number, 0 without records.
+    pub(crate) fn first(&self) -> u64
+        ensures { result ≡ first_number self.now }
+    {
+        match self.records.front() {
+            Some(entry) => entry.number,
+            None => 0,
+        }
+    }
+
+    /// The last number, 0 without records.
+    pub(crate) fn last(&self) -> u64
+        ensures { result ≡ last_number self.now }
+    {
+        match self.records.back() {
+            Some(entry) => entry.number,
+            None => 0,
+        }
+    }
+
+    /// Puts a record behind the others.
+    pub(crate) fn push_back(&mut self, entry: Record) -> Result<(), AllocError>
+        ensures ok { OnOk result (self.new ≡ self.old ++ entry ∷ []) }
+        ensures err { OnErr result (self.new ≡ self.old) }
+    {
+        self.records.push_back(entry)?;
+        Ok(())
+    }
+
+    /// Puts a record before the others.
+    pub(crate) fn push_front(&mut self, entry: Record) -> Result<(), AllocError>
+        ensures ok { OnOk result (self.new ≡ entry ∷ self.old) }
+        ensures err { OnErr result (self.new ≡ self.old) }
+    {
+        self.records.push_front(entry)?;
+        Ok(())
+    }
+
+    /// Takes the record, and then those of the next run, which is of no use afterwards. The shorter
+    /// of the two runs is moved.
+    pub(crate) fn join(&mut self, entry: Record, next: &mut Run) -> Result<(), AllocError>
+        ensures ok { OnOk result (self.new ≡ self.old ++ entry ∷ next.old) }
+        ensures err { OnErr result (self.new ≡ self.old) }
+        ensures next { OnErr result (next.new ≡ next.old) }
+    {
+        if self.records.len() >= next.records.len() {
+            return append(&mut self.records, entry, &mut next.records);
+        }
+        prepend(&mut next.records, entry, &mut self.records)?;
+        mem::swap(&mut self.records, &mut next.records);
+        Ok(())
+    }
+}
+
+/// Puts the record behind the records, and then moves the others behind it.
+fn append(
+    records: &mut VecDeque<Record>,
+    entry: Record,
+    behind: &mut VecDeque<Record>,
+) -> Result<(), AllocError>
+    ensures ok { OnOk result (records.new.items ≡ records.old.items ++ entry ∷ behind.old.items) }
+    ensures err { OnErr result (records.new.items ≡ records.old.items) }
+    ensures behind { OnErr result (behind.new.items ≡ behind.old.items) }
+{
+    records.reserve(behind.len().saturating_add(1))?;
+    records.push_back_reserved(entry);
+    while let Some(other) = behind.pop_front() {
+        records.push_back_reserved(other);
+    }
+    Ok(())
+}
+
+/// Puts the record before the records, and then moves the others before it.
+fn prepend(
+    records: &mut VecDeque<Record>,
+    entry: Record,
+    before: &mut VecDeque<Record>,
+) -> Result<(), AllocError>
+    ensures ok { OnOk result (records.new.items ≡ before.old.items ++ entry ∷ records.old.items) }
+    ensures err { OnErr result (records.new.items ≡ records.old.items) }
+    ensures before { OnErr result (before.new.items ≡ before.old.items) }
+{
+    records.reserve(before.len().saturating_add(1))?;
+    records.push_front_reserved(entry);
+    while let Some(other) = before.pop_back() {
+        records.push_front_reserved(other);
+    }
+    Ok(())
+}
