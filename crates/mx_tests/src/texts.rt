@@ -1,5 +1,6 @@
 //! What each fault says of itself.
 
+use crate::given::node;
 use mx_journal::{Full, PutFault};
 use mx_member::{CloseFault, DeliverFault, ReadFault, WriteFault};
 use mx_merge::MergeFault;
@@ -7,6 +8,7 @@ use mx_network::{RunFault, StepFault};
 use mx_nodelaws::{AskFault, EnterFault, LeaveFault};
 use mx_plan::{Place, PlanFault, ShapeFault};
 use mx_quorums::QuorumFault;
+use mx_stations::GatherFault;
 use mx_trees::TreeFault;
 use std::alloc::{AllocError, Global};
 use std::fmt::Display;
@@ -138,6 +140,16 @@ const RUN: [(RunFault, &str); 1] = [(
 fn faults_of_clusters_are_told(rt: HostRuntime) -> Result<(), AllocError> {
     assert_told(&rt, rt.alloc(), &STEP)?;
     assert_told(&rt, rt.alloc(), &RUN)
+}
+
+#[test]
+fn faults_of_gathering_are_told(rt: HostRuntime) -> Result<(), AllocError> {
+    let cases = [
+        (GatherFault::NotAll(node(0)), "not all 0"),
+        (GatherFault::StillInside(node(20)), "still inside 20"),
+        (GatherFault::Memory, "out of memory"),
+    ];
+    assert_told(&rt, rt.alloc(), &cases)
 }
 
 const PLACES: [(Place, &str); 11] = [
