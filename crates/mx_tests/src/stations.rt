@@ -47,23 +47,45 @@ fn turns_report_what_they_did(rt: HostRuntime) -> Result<(), Fail> {
     Ok(())
 }
 
-/// A network that loses all.
+/// A network with one fate for all parcels.
 #[derive(Drop)]
-struct Lossy;
+struct Always(Fate);
 
-impl Fates for Lossy {
+impl Fates for Always {
     fn fate(&mut self) -> Fate {
-        Fate::Drop
+        self.0
     }
 }
 
+/// Node 0 asks, and its request has this fate at node 1, which replies to each request that comes.
+/// One reply fits into the slot of their link.
+fn report_of(alloc: Global, fate: Fate) -> Result<TurnReport, Fail> {
+    let (mut zero, mut one) = two(alloc)?;
+    let _ = zero.ask();
+    let _ = zero.put_out();
+    Ok(one.turn(&mut Always(fate)).map_err(|_| "memory")?)
+}
+
 #[test]
-fn what_a_fate_drops_is_not_delivered(rt: HostRuntime) -> Result<(), Fail> {
-    let (mut zero, mut one) = two(rt.alloc())?;
-    assert!(rt; zero.ask().is_ok());
-    assert_eq!(rt; zero.put_out(), PutOut::Sent);
-    let report = one.turn(&mut Lossy).map_err(|_| "memory")?;
-    assert_eq!(rt; (report.taken, report.dropped, report.put), (1, 1, 0));
+fn a_fate_decides_how_often_a_parcel_comes(rt: HostRuntime) -> Result<(), Fail> {
+    let one = TurnReport {
+        taken: 1,
+        ..TurnReport::default()
+    };
+    let lost = TurnReport { dropped: 1, ..one };
+    let passed = TurnReport { put: 1, ..one };
+    let twice = TurnReport {
+        twice: 1,
+        full: 1,
+        ..passed
+    };
+    for (fate, report) in [
+        (Fate::Drop, lost),
+        (Fate::Pass, passed),
+        (Fate::Twice, twice),
+    ] {
+        assert_eq!(rt; report_of(rt.alloc(), fate)?, report);
+    }
     Ok(())
 }
 
