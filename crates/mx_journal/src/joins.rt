@@ -114,7 +114,7 @@ fn append_run(runs: &mut Vec<Run>, at: usize, more: &Run) -> Result<(), AllocErr
     run.join(more.record(0).copy(), &mut rest)
 }
 
-/// The same as `join_runs`, for any runs: copies of all records of both take the place of the first.
+/// The same as `join_runs`, for any runs: copies of all records of both take the first's place.
 fn join_copies(runs: &mut Vec<Run>, other: &[Run]) -> Result<u64, AllocError>
     requires runs { AreRuns 1 runs.old.items }
     requires other { AreRuns 1 other.now }
@@ -133,8 +133,8 @@ fn join_copies(runs: &mut Vec<Run>, other: &[Run]) -> Result<u64, AllocError>
     Ok(count)
 }
 
-/// Copies of the records of both that are numbered above `from` up to `to`, as runs, and how many of
-/// them the first does not have.
+/// Copies of the records of both that are numbered above `from` up to `to`, as runs, and how many
+/// of them the first does not have.
 fn joined_up_to(
     alloc: Global,
     runs: &[Run],

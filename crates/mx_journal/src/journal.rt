@@ -122,8 +122,8 @@ impl Journal {
         find(&self.runs, number)
     }
 
-    /// The record with the least number above this one. Going on from 0, and from the number of each
-    /// record that was found, meets all records in order.
+    /// The record with the least number above this one. Going on from 0, and from the number of
+    /// each record that was found, meets all records in order.
     pub fn next_after(&self, number: u64) -> Option<&Record>
         ensures value { MatchOption result (above number self.now ≡ [])
             (λ found. above number self.now ≡ found.now ∷ above found.now.number self.now) }
@@ -156,8 +156,8 @@ impl Journal {
         top_in(&self.runs)
     }
 
-    /// The greatest number up to which none is missing behind this one: all between them are there, and
-    /// it too, unless it is this number itself.
+    /// The greatest number up to which none is missing behind this one: all between them are there,
+    /// and it too, unless it is this number itself.
     pub fn gapless_after(&self, number: u64) -> u64
         ensures { result + 1 ≡ first_missing (number + 1) (above number self.now) }
     {

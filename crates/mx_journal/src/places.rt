@@ -148,8 +148,8 @@ pub(crate) fn least_in(runs: &[Run], range: Range) -> ArrayVec<Record, 4>
     found
 }
 
-/// Puts the record in its place, where nothing bears its number: at the end or the start of a run, or
-/// between two, which become one, or as a run of its own. Where memory runs out nothing changes.
+/// Puts the record in its place, where nothing bears its number: at the end or the start of a run,
+/// or between two, which become one, or as a run of its own. Where memory runs out nothing changes.
 pub(crate) fn insert(runs: &mut Vec<Run>, entry: Record) -> Result<(), AllocError>
     requires runs { AreRuns 1 runs.old.items }
     requires numbered { 1 ≤ entry.number }
