@@ -1,13 +1,12 @@
 -- How the records of two maps are gone through together, and joined.
 use Rattle.std.proofs.Common.{ℕ, suc, ◌+◌, ◌<◌, ◌≤◌, ◌≡◌, ◌≢◌, ◌⊎◌, inl, inr, List, [], ◌∷◌, ◌++◌, length, None, refl, sym, ◌∙◌, ap, subst, arith}
 use Rattle.mx_stamps.specs.Lists.{IsIn}
-use Rattle.mx_stamps.proofs.Lists.{in_append, in_left, in_right}
 use Rattle.mx_stamps.proofs.Choices.{compared}
 use Rattle.mx_journal.specs.declared.records.Record.{Record}
-use Rattle.mx_journal.specs.Agreement.{AreAgreeing, IsConsistent}
+use Rattle.mx_journal.specs.Agreement.{AreAgreeing, IsConsistent, IsSubmap}
 use Rattle.mx_journal.specs.Records.{Ascending, IsNumbered, IsThere, above, record_at, top_of, with_record, with_records}
-use Rattle.mx_journal.specs.Runs.{IsJoinedUpTo, IsNextOfBoth}
-use Rattle.mx_journal.proofs.Maps.{ascending_above, ascending_same, ascending_with_all, consistent_across, consistent_among, in_with_record, in_with_records, none_found, same_members, with_record_case, with_record_has, with_record_keeps, with_records_any_order, with_records_have, with_records_keep}
+use Rattle.mx_journal.specs.Runs.{AreNumbersOf, IsJoinedUpTo, IsNextOfBoth}
+use Rattle.mx_journal.proofs.Maps.{ascending_above, ascending_same, ascending_with_all, consistent_across, consistent_among, in_with_record, in_with_records, none_found, same_members, with_record_case, with_record_has, with_record_keeps, with_records_have, with_records_keep}
 use Rattle.mx_journal.proofs.Going.{above_above, above_all, above_case, above_more, above_next, ascending_rest_above}
 use Rattle.mx_journal.proofs.Found.{above_has, in_above}
 
@@ -137,16 +136,24 @@ above_none to (x ∷ xs) low =
 pub none_past : (to : ℕ) (xs : List Record) → top_of xs ≤ to → above to xs ≡ []
 none_past to xs l = above_none to xs (λ x h. let high = top_above xs x h in omega arith)
 
--- a list of records by way of the map that they make
-of_list_in : (rs : List Record) (x : Record) → IsIn x (with_records rs []) → IsIn x rs
-of_list_in rs x h = elim (in_with_records rs [] x h) [ inl bad ↦ absurd bad | inr m ↦ m ]
+-- a list of records by way of the map of those that are new
+pub of_new_agrees : (xs rs new : List Record) → IsConsistent (xs ++ rs) → IsSubmap new rs → AreAgreeing xs new
+of_new_agrees xs rs new c s x y h t e = consistent_across xs rs c x y h (s y t) e
 
-pub of_list_agrees : (xs rs : List Record) → IsConsistent (xs ++ rs) → AreAgreeing xs (with_records rs [])
-of_list_agrees xs rs c x y h t e = consistent_across xs rs c x y h (of_list_in rs y t) e
-
-pub of_list_joins : (xs rs : List Record) → Ascending 1 xs → IsNumbered rs → IsConsistent (xs ++ rs) → with_records (with_records rs []) xs ≡ with_records rs xs
-of_list_joins xs rs a n c =
-    let map : List Record = with_records rs [] in
-    let back : (x : Record) → IsIn x (xs ++ map) → IsIn x (xs ++ rs) = λ x h. elim (in_append x xs map h) [ inl m ↦ in_left x xs rs m | inr m ↦ in_right x xs rs (of_list_in rs x m) ] in
-    with_records_any_order map rs xs a (λ x h. n x (of_list_in rs x h)) (λ x y h t e. c x y (back x h) (back y t) e)
-    (of_list_in rs) (with_records_have rs [] (λ x y h t e. absurd h) (consistent_among xs rs c))
+pub of_new_joins : (xs rs new : List Record) → Ascending 1 xs → IsNumbered rs → IsConsistent (xs ++ rs) → IsSubmap new rs → AreNumbersOf rs new xs → with_records new xs ≡ with_records rs xs
+of_new_joins xs rs new a n c s numbers =
+    let across : AreAgreeing xs rs = consistent_across xs rs c in
+    let among : IsConsistent rs = consistent_among xs rs c in
+    same_members 1 1 (with_records new xs) (with_records rs xs) (ascending_with_all new xs a (λ x h. n x (s x h))) (ascending_with_all rs xs a n)
+    (λ x h. elim (in_with_records new xs x h) [
+      | inl k ↦ with_records_keep rs xs x k
+      | inr k ↦ with_records_have rs xs across among x (s x k)
+    ])
+    (λ x h. elim (in_with_records rs xs x h) [
+      | inl k ↦ with_records_keep new xs x k
+      | inr k ↦ elim (numbers x k) [
+        | inl w ↦ (let e : w.0 ≡ x = among w.0 x (s w.0 w.1) k w.2 in subst (λ z. IsIn z (with_records new xs)) e
+            (with_records_have new xs (of_new_agrees xs rs new c s) (λ y z p q. among y z (s y p) (s z q)) w.0 w.1))
+        | inr w ↦ (let e : w.0 ≡ x = across w.0 x w.1 k w.2 in with_records_keep new xs x (subst (λ z. IsIn z xs) e w.1))
+      ]
+    ])

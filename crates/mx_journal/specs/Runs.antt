@@ -3,7 +3,7 @@ use Rattle.std.specs.Prelude.{ℕ, suc, ◌+◌, ◌-◌, ◌≡◌, ◌≤◌, 
 use Rattle.std.specs.List.{remove}
 use Rattle.mx_stamps.specs.Lists.{IsIn}
 use Rattle.mx_journal.specs.declared.records.Record.{Record}
-use Rattle.mx_journal.specs.Records.{with_record}
+use Rattle.mx_journal.specs.Records.{IsThere, with_record}
 
 -- the records of these runs, in order
 abbrev pub flatten : List (List Record) → List Record
@@ -66,3 +66,7 @@ pub record IsNextOfBoth (n : ℕ) (xs ys : List Record) (r : Record) : Type 0 wh
 pub record IsJoinedUpTo (from to : ℕ) (xs ys joined : List Record) : Type 0 where
   pub known : (x : Record) → IsIn x joined → (IsIn x xs ⊎ IsIn x ys) × (from < x.number) × (x.number ≤ to)
   pub all : (x : Record) → IsIn x xs ⊎ IsIn x ys → from < x.number → x.number ≤ to → IsIn x joined
+
+-- each record of the list bears a number that some record of xs or of ys bears
+abbrev pub AreNumbersOf : List Record → List Record → List Record → Type 0
+AreNumbersOf list xs ys = (x : Record) → IsIn x list → IsThere x.number xs ⊎ IsThere x.number ys

@@ -1,24 +1,32 @@
 //! Runs that take in others: all or none.
 
 ghost use Rattle.std.specs.Prelude.{◌≡◌, ◌+◌, ◌≤◌, ◌<◌, IsTrue, IsFalse, IfOk, IfSome, IfNone, OnOk, OnErr, [], ◌++◌, ◌-◌, get_or, length, slice_set};
-ghost use Rattle.mx_journal.specs.Agreement.{AreAgreeing};
+ghost use Rattle.mx_journal.specs.Agreement.{AreAgreeing, IsSubmap};
 ghost use Rattle.mx_journal.specs.Records.{BringsNew, IsNumbered, above, with_records};
-ghost use Rattle.mx_journal.specs.Runs.{AreRuns, IsJoinedUpTo, IsNextOfBoth, TouchesBelow, first_number, flatten, last_number};
+ghost use Rattle.mx_journal.specs.Runs.{AreNumbersOf, AreRuns, IsJoinedUpTo, IsNextOfBoth, TouchesBelow, first_number, flatten, last_number};
 
 use crate::places::{insert, is_there, next_in, place_of, top_in, touches_below};
 use crate::records::Record;
 use crate::runs::Run;
 use std::alloc::{AllocError, Global};
 
-/// The runs of these records; of several that bear the same number the first counts.
-pub(crate) fn runs_of(alloc: Global, list: &[Record]) -> Result<Vec<Run>, AllocError>
-    requires { IsNumbered list.now }
+/// The runs of those records of the list whose numbers nothing bears yet; of several that bear the
+/// same number the first counts.
+pub(crate) fn runs_of_new(
+    alloc: Global,
+    known: &[Run],
+    list: &[Record],
+) -> Result<Vec<Run>, AllocError>
+    requires known { AreRuns 1 known.now }
+    requires numbered { IsNumbered list.now }
     ensures runs { IfOk result (λ runs. AreRuns 1 runs.items) }
-    ensures records { IfOk result (λ runs. flatten runs.items ≡ with_records list.now []) }
+    ensures listed { IfOk result (λ runs. IsSubmap (flatten runs.items) list.now) }
+    ensures all { IfOk result (λ runs.
+        AreNumbersOf list.now (flatten runs.items) (flatten known.now)) }
 {
     let mut runs = Vec::new(alloc);
     for entry in list {
-        if !is_there(&runs, entry.number) {
+        if !is_there(known, entry.number) && !is_there(&runs, entry.number) {
             insert(&mut runs, entry.copy())?;
         }
     }
@@ -56,6 +64,9 @@ pub(crate) fn join_runs(runs: &mut Vec<Run>, other: &[Run]) -> Result<u64, Alloc
         ≡ length (flatten runs.old.items) + k) }
     ensures err { OnErr result (runs.new.items ≡ runs.old.items) }
 {
+    if other.is_empty() {
+        return Ok(0);
+    }
     if other.len() == 1 {
         let more = &other[0];
         let at = place_of(runs, more.first() - 1);
@@ -103,7 +114,7 @@ fn append_run(runs: &mut Vec<Run>, at: usize, more: &Run) -> Result<(), AllocErr
     run.join(more.record(0).copy(), &mut rest)
 }
 
-/// The same as `join_runs`, for any runs: copies of all records of both take the place of the first.
+/// The same as `join_runs`, for any runs: copies of all records of both take the first's place.
 fn join_copies(runs: &mut Vec<Run>, other: &[Run]) -> Result<u64, AllocError>
     requires runs { AreRuns 1 runs.old.items }
     requires other { AreRuns 1 other.now }
@@ -122,8 +133,8 @@ fn join_copies(runs: &mut Vec<Run>, other: &[Run]) -> Result<u64, AllocError>
     Ok(count)
 }
 
-/// Copies of the records of both that are numbered above `from` up to `to`, as runs, and how many of
-/// them the first does not have.
+/// Copies of the records of both that are numbered above `from` up to `to`, as runs, and how many
+/// of them the first does not have.
 fn joined_up_to(
     alloc: Global,
     runs: &[Run],

@@ -5,7 +5,7 @@ ghost use Rattle.mx_journal.specs.Agreement.{AreAgreeing, IsConsistent, IsFirstC
 ghost use Rattle.mx_journal.specs.Gapless.{IsGapless, first_missing};
 ghost use Rattle.mx_journal.specs.Records.{Ascending, IsNumbered, IsThere, above, in_range, record_at, top_of, with_record, with_records};
 
-use crate::joins::{are_there, join_runs, runs_of};
+use crate::joins::{are_there, join_runs, runs_of_new};
 use crate::places::{find, gapless_in, insert, least_in, len_of, next_in, top_in};
 use crate::puts::{Put, PutFault, has_zero, least_conflict};
 use crate::ranges::Range;
@@ -95,7 +95,7 @@ impl Journal {
         if let Some(number) = least_conflict(&self.runs, list) {
             return Err(PutFault::Conflict(number));
         }
-        let other = runs_of(*self.runs.allocator(), list)?;
+        let other = runs_of_new(*self.runs.allocator(), &self.runs, list)?;
         Ok(join_runs(&mut self.runs, &other)?)
     }
 
@@ -122,8 +122,8 @@ impl Journal {
         find(&self.runs, number)
     }
 
-    /// The record with the least number above this one. Going on from 0, and from the number of each
-    /// record that was found, meets all records in order.
+    /// The record with the least number above this one. Going on from 0, and from the number of
+    /// each record that was found, meets all records in order.
     pub fn next_after(&self, number: u64) -> Option<&Record>
         ensures value { MatchOption result (above number self.now ≡ [])
             (λ found. above number self.now ≡ found.now ∷ above found.now.number self.now) }
@@ -156,8 +156,8 @@ impl Journal {
         top_in(&self.runs)
     }
 
-    /// The greatest number up to which none is missing behind this one: all between them are there, and
-    /// it too, unless it is this number itself.
+    /// The greatest number up to which none is missing behind this one: all between them are there,
+    /// and it too, unless it is this number itself.
     pub fn gapless_after(&self, number: u64) -> u64
         ensures { result + 1 ≡ first_missing (number + 1) (above number self.now) }
     {

@@ -36,7 +36,8 @@ pub(crate) fn place_of(runs: &[Run], number: u64) -> usize
 pub(crate) fn next_in(runs: &[Run], number: u64) -> Option<&Record>
     requires { AreRuns 1 runs.now }
     ensures { MatchOption result (above number (flatten runs.now) ≡ [])
-        (λ found. above number (flatten runs.now) ≡ found.now ∷ above found.now.number (flatten runs.now)) }
+        (λ found. above number (flatten runs.now)
+        ≡ found.now ∷ above found.now.number (flatten runs.now)) }
 {
     let at = place_of(runs, number);
     if at >= runs.len() {
@@ -147,8 +148,8 @@ pub(crate) fn least_in(runs: &[Run], range: Range) -> ArrayVec<Record, 4>
     found
 }
 
-/// Puts the record in its place, where nothing bears its number: at the end or the start of a run, or
-/// between two, which become one, or as a run of its own. Where memory runs out nothing changes.
+/// Puts the record in its place, where nothing bears its number: at the end or the start of a run,
+/// or between two, which become one, or as a run of its own. Where memory runs out nothing changes.
 pub(crate) fn insert(runs: &mut Vec<Run>, entry: Record) -> Result<(), AllocError>
     requires runs { AreRuns 1 runs.old.items }
     requires numbered { 1 ≤ entry.number }
@@ -204,7 +205,8 @@ fn insert_between(runs: &mut Vec<Run>, at: usize, entry: Record) -> Result<(), A
     requires first { 1 ≤ at }
     requires second { at < length runs.old.items }
     ensures ok { OnOk result (runs.new.items
-        ≡ with_joined at (get_or runs.old.items (at - 1) [] ++ entry ∷ get_or runs.old.items at []) runs.old.items) }
+        ≡ with_joined at (get_or runs.old.items (at - 1) [] ++ entry ∷ get_or runs.old.items at [])
+        runs.old.items) }
     ensures err { OnErr result (runs.new.items ≡ runs.old.items) }
 {
     let empty = Run::new(*runs.allocator());

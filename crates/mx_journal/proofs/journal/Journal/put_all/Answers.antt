@@ -1,10 +1,10 @@
 use Rattle.std.proofs.Common.{length, ◌+◌, ◌≡◌, ◌∙◌, ◌++◌, inl, inr, Err, sym, ap, subst, refl}
 use Rattle.mx_journal.specs.declared.puts.PutFault.TheVariants.{Conflict}
 use Rattle.mx_journal.specs.Records.{with_records}
-use Rattle.mx_journal.specs.Runs.{flatten}
+use Rattle.mx_journal.specs.Runs.{AreNumbersOf, flatten}
 use Rattle.mx_journal.specs.Agreement.{AreAgreeing, IsConsistent, IsFirstConflict}
 use Rattle.mx_journal.proofs.Flat.{ascending_flat}
-use Rattle.mx_journal.proofs.Joining.{of_list_agrees, of_list_joins}
+use Rattle.mx_journal.proofs.Joining.{of_new_agrees, of_new_joins}
 use Rattle.mx_journal.proofs.Answering.{is_memory, not_consistent, not_numbered, one_first}
 use Rattle.mx_journal.proofs.journal.Journal.put_all.Goals as goal
 
@@ -39,8 +39,8 @@ returns-in-Some-clause-agreed c =
       λ h. absurd (not_consistent c.in-Some.number (c.args.self.now ++ list) first h.1),
     )
 
-pub runs_of-requires : goal.runs_of-requires
-runs_of-requires c = c.has_zero.ensures.numbered c.if-has_zero.false
+pub runs_of_new-requires-clause-numbered : goal.runs_of_new-requires-clause-numbered
+runs_of_new-requires-clause-numbered c = c.has_zero.ensures.numbered c.if-has_zero.false
 
 pub returns-in_err-other-clause-conflict : goal.returns-in_err-other-clause-conflict
 returns-in_err-other-clause-conflict c = λ n.
@@ -62,8 +62,9 @@ pub join_runs-requires-clause-agreeing : goal.join_runs-requires-clause-agreeing
 join_runs-requires-clause-agreeing c =
     let list = c.args.list.now in
     let here = flatten c.self.inside.runs.items in
+    let new = flatten c.in_ok-other.other.items in
     let consistent : IsConsistent (here ++ list) = subst (λ xs. IsConsistent (xs ++ list)) (ap flatten c.deref.ensures.value) c.in_default.ensures.none in
-    subst (λ xs. AreAgreeing here xs) (sym (ap flatten c.deref-2.ensures.value ∙ c.in_ok-other.ensures.records)) (of_list_agrees here list consistent)
+    subst (λ xs. AreAgreeing here xs) (sym (ap flatten c.deref-3.ensures.value)) (of_new_agrees here list new consistent c.in_ok-other.ensures.listed)
 
 pub returns-in_err-join_runs-clause-conflict : goal.returns-in_err-join_runs-clause-conflict
 returns-in_err-join_runs-clause-conflict c = λ n.
@@ -101,10 +102,12 @@ pub returns-clause-ok : goal.returns-clause-ok
 returns-clause-ok c =
     let list = c.args.list.now in
     let here = flatten c.self.inside.runs.items in
+    let new = flatten c.in_ok-other.other.items in
     let consistent : IsConsistent (here ++ list) = subst (λ xs. IsConsistent (xs ++ list)) (ap flatten c.deref.ensures.value) c.in_default.ensures.none in
+    let numbers : AreNumbersOf list new here = subst (λ xs. AreNumbersOf list new xs) (ap flatten c.deref-2.ensures.value) c.in_ok-other.ensures.all in
     let done = c.in_ok-join_runs.ensures in (
-      done.records ∙ ap (λ l. with_records l here) (ap flatten c.deref-2.ensures.value ∙ c.in_ok-other.ensures.records)
-          ∙ of_list_joins here list (ascending_flat 1 c.self.inside.runs.items c.self.invariant) (c.has_zero.ensures.numbered c.if-has_zero.false) consistent
+      done.records ∙ ap (λ l. with_records l here) (ap flatten c.deref-3.ensures.value)
+          ∙ of_new_joins here list new (ascending_flat 1 c.self.inside.runs.items c.self.invariant) (c.has_zero.ensures.numbered c.if-has_zero.false) consistent c.in_ok-other.ensures.listed numbers
           ∙ ap (λ l. with_records list l) c.self.view_is,
       done.count ∙ ap (λ l. length l + c.in_ok-join_runs.field-0) c.self.view_is,
     )
