@@ -93,9 +93,9 @@ impl<C: Exclusion> Member<C> {
         }
     }
 
-    #[tactic(auto, unfolding(crate::specs::Member::IsViewOf))]
     /// The value of a register after all the records that this member knows; it may not know every
     /// section before the newest of them. None where there is no such register.
+    #[tactic(auto, unfolding(crate::specs::Member::IsViewOf))]
     pub fn value(&self, register: u8) -> Option<u64>
         ensures { result ≡ value_in register (registers_of self.now.setting.registers self.now.journal) }
     {
