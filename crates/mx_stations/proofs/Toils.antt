@@ -1,12 +1,18 @@
 -- Lists of a worker's acts and moves, one after another.
 use Rattle.std.proofs.Common.{◌≡◌, inl, inr, ℕ, List, [], ◌∷◌, ◌++◌, Result, Ok, Err, OnOk, OnErr, refl, ap, ◌∙◌, subst}
+use Rattle.atomic_table.specs.Seated.{TableId}
 use Rattle.mx_nodelaws.specs.Core.{Core}
 use Rattle.mx_member.specs.declared.acts.Act.{Act}
 use Rattle.mx_stations.specs.declared.answers.PutOut.{PutOut}
 use Rattle.mx_stations.specs.declared.answers.PutOut.TheVariants.{Sent, Full, Nothing}
-use Rattle.mx_stations.specs.Posts.{PutsOut, does}
+use Rattle.mx_stations.specs.Posts.{Post, PutsOut, does}
+use Rattle.mx_stations.specs.Gathered.{KeepsTable}
 use Rattle.mx_stations.specs.Turns.{Chain, Goes, Moves, Station}
-use Rattle.mx_stations.specs.Works.{IsWorkers, Row, Toils, Works, home_of}
+use Rattle.mx_stations.specs.Works.{IsWorkers, Row, Toils, Works}
+
+-- whose station it is: its table, how many nodes that has, and its node
+abbrev home_of : {T P : Type 0} → Post T P → TableId × ℕ × ℕ
+home_of s = (s.table, s.nodes, s.me.node)
 
 module _ {H S M : Type 0} (core : Core H S M) (register : ℕ) where
   pub rests : (s t : Station core) → t ≡ s → Works core register s t
@@ -55,6 +61,13 @@ module _ {H S M : Type 0} (core : Core H S M) (register : ℕ) where
   row_home [] s t same = ap home_of same
   row_home (m ∷ ms) s t did = row_home ms m t did.1 ∙ toiled_home s m did.0
 
-  -- it stays the station of its node, at its table
-  pub works_home : (s t : Station core) → Works core register s t → home_of t ≡ home_of s
+  works_home : (s t : Station core) → Works core register s t → home_of t ≡ home_of s
   works_home s t did = row_home did.0 s t did.1
+
+  -- it stays at its table
+  pub works_kept : (s t : Station core) → Works core register s t → KeepsTable s t
+  works_kept s t did = let same = works_home s t did in (ap (λ (h : TableId × ℕ × ℕ). h.0) same, ap (λ (h : TableId × ℕ × ℕ). h.1) same)
+
+  -- and stays that of its node
+  pub works_node : (s t : Station core) → Works core register s t → t.me.node ≡ s.me.node
+  works_node s t did = ap (λ (h : TableId × ℕ × ℕ). h.2) (works_home s t did)

@@ -1,15 +1,10 @@
 -- The acts and moves of a station at which a worker works.
 use Rattle.std.specs.Prelude.{◌≡◌, ◌⊎◌, ℕ, ◌<◌, List, [], ◌∷◌}
-use Rattle.atomic_table.specs.Seated.{TableId}
 use Rattle.mx_nodelaws.specs.Core.{Core}
 use Rattle.mx_member.specs.declared.acts.Act.{Act}
 use Rattle.mx_member.specs.declared.acts.Act.TheVariants as act
-use Rattle.mx_stations.specs.Posts.{Post, does}
+use Rattle.mx_stations.specs.Posts.{does}
 use Rattle.mx_stations.specs.Turns.{Moves, Station}
-
--- whose station it is: its table, how many nodes that has, and its node
-abbrev pub home_of : {T P : Type 0} → Post T P → TableId × ℕ × ℕ
-home_of s = (s.table, s.nodes, s.me.node)
 
 -- an act of a worker of n nodes: it asks, enters, leaves, reads or writes its register, or asks a node for records
 abbrev pub IsWorkers : {M : Type 0} → ℕ → ℕ → Act M → Type 0

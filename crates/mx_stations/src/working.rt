@@ -2,8 +2,8 @@
 //! register.
 
 ghost use Rattle.std.specs.Prelude.{◌≡◌, ◌<◌, ◌≤◌, ◌↔◌, ℕ, length, IsTrue};
-ghost use Rattle.mx_nodelaws.specs.Core.{IsInside};
-ghost use Rattle.mx_stations.specs.Works.{Works, home_of};
+ghost use Rattle.mx_stations.specs.Gathered.{KeepsTable};
+ghost use Rattle.mx_stations.specs.Works.{Works};
 
 use crate::answers::{TakeFault, TurnReport};
 use crate::station::Station;
@@ -48,11 +48,12 @@ struct Stance {
     wanted: NodeId,
 }
 
-/// Waits at the gate, and then works at the station for at most so many turns. In each the acts that
-/// are due come first: it asks where it is idle and lacks sections; enters where it can; inside, reads
-/// the register and writes 1 more, or where records are missing asks the next node in the circle for
-/// them; leaves once it has written. Then the station takes a turn, by these fates of parcels. It
-/// waits only where its gate waits.
+/// Waits at the gate, and then works at the station for at most so many turns. In each, the acts
+/// that are due come first: it asks where it is idle and lacks sections; enters where it can;
+/// inside, reads the register and writes 1 more, or where records are missing asks the next node in
+/// the circle for them; leaves once it has written. Then the station takes a turn, by these fates
+/// of parcels. It waits only where its gate waits. The station is not to be inside; where there is
+/// no such register the worker never gets out of its first section.
 pub fn work<C: Exclusion, G: Gate, F: Fates + Drop>(
     mut station: Station<C>,
     script: Script,
@@ -60,10 +61,9 @@ pub fn work<C: Exclusion, G: Gate, F: Fates + Drop>(
     mut fates: F,
     turns: u64,
 ) -> (Station<C>, Worked)
-    requires outside { IsInside C.core station.me.member.core → ⊥ }
-    requires register { script.register < station.me.member.setting.registers }
     ensures works { Works C.core script.register station result.0 }
-    ensures same { home_of result.0 ≡ home_of station }
+    ensures same { KeepsTable station result.0 }
+    ensures node { result.0.me.node ≡ station.me.node }
     ensures done { result.1 ≡ Worked.Done → script.sections ≤ length result.0.me.receipts }
     ensures not_yet { (n : ℕ) → result.1 ≡ Worked.NotYet n → n ≡ turns }
     ensures shut { result.1 ≡ Worked.GateShut → result.0 ≡ station }
@@ -108,8 +108,8 @@ fn has_sections<C: Exclusion>(station: &Station<C>, sections: u64) -> bool
     station.receipts().len() as u64 >= sections
 }
 
-/// The acts that are due, and a turn of the station. An act that is not due is refused, which changes
-/// nothing. A turn in which memory is refused is a turn too.
+/// The acts that are due, and a turn of the station. An act that is not due is refused, which
+/// changes nothing. A turn in which memory is refused is a turn too.
 fn take_turn<C: Exclusion, F: Fates>(
     station: &mut Station<C>,
     script: &Script,
