@@ -32,7 +32,10 @@ fn journal_of(alloc: Global, numbers: &[u64]) -> Result<Journal> {
 fn tell(rt: &HostRuntime, name: &str, journal: &Journal) -> Result<()> {
     let registers = view(journal, 1);
     let gapless = journal.gapless_to();
-    println!(rt; "{name}: {} records, without gaps up to {gapless}", journal.len())?;
+    println!(rt;
+        "{name}: {} records, without gaps up to {gapless}",
+        journal.len()
+    )?;
     if let Some(value) = registers.value(0) {
         println!(rt; "  register 0 is {value}")?;
     }

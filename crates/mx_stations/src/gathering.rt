@@ -79,7 +79,7 @@ fn has<C: Exclusion>(stations: &[Station<C>], node: NodeId) -> bool
 }
 
 /// Whether its node is inside.
-fn is_inside<C: Exclusion>(station: &Station<C>) -> bool
+pub(crate) fn is_inside<C: Exclusion>(station: &Station<C>) -> bool
     ensures { IsTrue result ↔ IsInside C.core station.now.me.member.core }
 {
     matches!(station.phase(), Phase::Inside(_))

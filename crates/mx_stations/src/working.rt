@@ -2,10 +2,12 @@
 //! register.
 
 ghost use Rattle.std.specs.Prelude.{◌≡◌, ◌<◌, ◌≤◌, ◌↔◌, ℕ, length, IsTrue};
+ghost use Rattle.mx_nodelaws.specs.Core.{IsInside};
 ghost use Rattle.mx_stations.specs.Gathered.{KeepsTable};
 ghost use Rattle.mx_stations.specs.Works.{Works};
 
 use crate::answers::{TakeFault, TurnReport};
+use crate::gathering::is_inside;
 use crate::station::Station;
 use mx_letters::Fates;
 use mx_member::ReadFault;
@@ -65,6 +67,7 @@ pub fn work<C: Exclusion, G: Gate, F: Fates + Drop>(
     ensures same { KeepsTable station result.0 }
     ensures node { result.0.me.node ≡ station.me.node }
     ensures done { result.1 ≡ Worked.Done → script.sections ≤ length result.0.me.receipts }
+    ensures outside { result.1 ≡ Worked.Done → IsInside C.core result.0.me.member.core → ⊥ }
     ensures not_yet { (n : ℕ) → result.1 ≡ Worked.NotYet n → n ≡ turns }
     ensures shut { result.1 ≡ Worked.GateShut → result.0 ≡ station }
 {
@@ -81,6 +84,7 @@ fn work_at<C: Exclusion, G: Gate, F: Fates>(
 ) -> Worked
     ensures works { Works C.core script.now.register station.old station.new }
     ensures done { result ≡ Worked.Done → script.now.sections ≤ length station.new.me.receipts }
+    ensures outside { result ≡ Worked.Done → IsInside C.core station.new.me.member.core → ⊥ }
     ensures not_yet { (n : ℕ) → result ≡ Worked.NotYet n → n ≡ turns }
     ensures shut { result ≡ Worked.GateShut → station.new ≡ station.old }
 {
@@ -94,11 +98,22 @@ fn work_at<C: Exclusion, G: Gate, F: Fates>(
     };
     for _turn in 0..turns {
         take_turn(station, script, &mut stance, fates);
-        if has_sections(station, script.sections) && gate.done(node) {
+        if is_finished(station, script.sections) && gate.done(node) {
             return Worked::Done;
         }
     }
     Worked::NotYet(turns)
+}
+
+/// Whether the station has so many sections, and is not inside another.
+fn is_finished<C: Exclusion>(station: &Station<C>, sections: u64) -> bool
+    ensures enough { IsTrue result → sections ≤ length station.now.me.receipts }
+    ensures outside { IsTrue result → IsInside C.core station.now.me.member.core → ⊥ }
+{
+    if is_inside(station) {
+        return false;
+    }
+    has_sections(station, sections)
 }
 
 /// Whether the station has so many sections.

@@ -10,3 +10,9 @@ loop-turn-preserved g c = works_on g.C.Exclusion.core c.args.script.now.register
 
 pub returns-then-done-clause-works : goal.returns-then-done-clause-works
 returns-then-done-clause-works g c = works_on g.C.Exclusion.core c.args.script.now.register _ _ _ c.loop-turn.invariant c.take_turn.ensures
+
+pub returns-then-done-clause-done : goal.returns-then-done-clause-done
+returns-then-done-clause-done g c = λ ended. c.if-is_finished.ensures.enough refl
+
+pub returns-then-done-clause-outside : goal.returns-then-done-clause-outside
+returns-then-done-clause-outside g c = λ ended. c.if-is_finished.ensures.outside refl
