@@ -8,3 +8,10 @@ pub mod Waits
 pub mod Posts
 pub mod Crossing
 pub mod Going
+pub mod Toils
+pub mod Numbers
+pub mod Totals
+pub mod Gathers
+pub mod Whole
+pub mod Deciding
+pub mod SameTable

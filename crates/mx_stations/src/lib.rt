@@ -5,6 +5,8 @@
 mod acts;
 mod answers;
 mod field;
+mod gathering;
+mod joining;
 mod moves;
 mod next;
 mod opening;
@@ -13,10 +15,15 @@ mod slots;
 mod station;
 mod turn;
 mod waiting;
+mod watching;
+mod working;
 
 pub use answers::{PutOut, TakeFault, Taken, TurnReport};
 pub use field::{Field, Place};
-pub use next::{Becomes, Gives, Looks, Next, OfSlot, TriesToClaim, TriesToTake};
-pub use rule::{HandOn, Law, Setup, Slot, View};
+pub use gathering::{GatherFault, Gathered, Ungathered, gather};
+pub use next::{Becomes, Gives, Learns, Looks, Next, OfCount, OfSlot, TriesToClaim, TriesToTake};
+pub use rule::{HandOn, Law, Setup, Slot, TakeIn, View};
 pub use station::Station;
 pub use waiting::WAITING_ROOM;
+pub use watching::Watch;
+pub use working::{Gate, Script, Worked, work};

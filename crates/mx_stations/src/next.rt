@@ -3,6 +3,7 @@
 
 ghost use Rattle.std.specs.Prelude.{◌≡◌, ℕ};
 ghost use Rattle.atomic_table.specs.Table.{rest};
+ghost use Rattle.mx_stations.specs.Gathered.{Knows};
 ghost use Rattle.mx_stations.specs.Running.{GoToNodes, HandFits};
 ghost use Rattle.mx_stations.specs.Slides.{Claimed, Taken};
 
@@ -40,6 +41,24 @@ pub struct Looks<C> {
 
 impl<C: Exclusion> Play<Slot<C>, View<C>> for Looks<C> {
     ghost then = { λ step before found now. (now ≡ before) × HandFits now.0 };
+}
+
+/// How many nodes there are.
+pub trait OfCount {
+    ghost count: { ℕ };
+}
+
+impl OfCount for Brand {
+    ghost count = { 0 };
+}
+
+/// A look at what the seat knows: its nodes are nodes of one running world.
+pub struct Learns<C, N> {
+    of: PhantomData<(C, N)>,
+}
+
+impl<C: Exclusion, N: OfCount> Play<Slot<C>, View<C>> for Learns<C, N> {
+    ghost then = { λ step before found now. (now ≡ before) × Knows C.core C.Good N.count now.0 };
 }
 
 /// A slot, and who fills it.

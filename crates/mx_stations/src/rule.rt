@@ -1,9 +1,10 @@
 //! The rule over the table, what its seats know, and how a seat hands nodes on.
 
+ghost use Rattle.std.specs.Prelude.{[], ◌++◌};
 ghost use Rattle.mx_member.specs.Steps.{start_of};
 ghost use Rattle.mx_stations.specs.Running.{Holds, all_but_first, all_of, fresh, only_first};
 
-use atomic_table::{Split, TableRule};
+use atomic_table::{Join, Split, TableRule};
 use mx_member::Parcel;
 use mx_nodelaws::Exclusion;
 use std::marker::{Model, PhantomData};
@@ -55,4 +56,13 @@ impl<C: Exclusion> Split<View<C>> for HandOn {
     ghost left = { λ v. all_but_first v };
 
     ghost right = { λ v. only_first v };
+}
+
+/// A seat takes in all nodes of another, which stand before its own.
+pub struct TakeIn;
+
+impl<C: Exclusion> Join<View<C>> for TakeIn {
+    ghost both = { λ v w. w ++ v };
+
+    ghost spent = { [] };
 }

@@ -1,0 +1,81 @@
+-- A station stays at its table, whatever it does.
+use Rattle.std.proofs.Common.{◌≡◌, inl, inr, ℕ, zero, suc, List, [], ◌∷◌, Result, Ok, Err, IfOk, OnErr, OnOk, refl, sym, ap, ◌∙◌}
+use mathlib.Core.Option.{some, some-injective, some-ne-none}
+use lib.ListN.{get_elem?}
+use Rattle.mx_nodelaws.specs.Core.{Core}
+use Rattle.mx_member.specs.declared.acts.Act.{Act}
+use Rattle.mx_stations.specs.declared.answers.PutOut.{PutOut}
+use Rattle.mx_stations.specs.declared.answers.PutOut.TheVariants.{Sent, Full, Nothing}
+use Rattle.mx_stations.specs.declared.answers.TakeFault.{TakeFault}
+use Rattle.mx_stations.specs.declared.answers.Taken.{Taken}
+use Rattle.mx_stations.specs.declared.answers.Taken.TheVariants.{Got, Empty}
+use Rattle.mx_stations.specs.Gathered.{KeepsTable, OfOneTable}
+use Rattle.mx_stations.specs.Opened.{AreFresh}
+use Rattle.mx_stations.specs.Posts.{KeepsInHand, Post, PutsOut, TakesIn, does}
+use Rattle.mx_stations.specs.Turns.{Chain, Goes, Moves, Station}
+
+module _ {T P : Type 0} where
+  same_post : (s t u : Post T P) → t ≡ u → KeepsTable s u → KeepsTable s t
+  same_post s t u is kept = (ap (λ (z : Post T P). z.table) is ∙ kept.0, ap (λ (z : Post T P). z.nodes) is ∙ kept.1)
+
+  pub stays_kept : (s t : Post T P) → t ≡ s → KeepsTable s t
+  stays_kept s t is = same_post s t s is (refl, refl)
+
+  pub kept_on : (s t u : Post T P) → KeepsTable s t → KeepsTable t u → KeepsTable s u
+  kept_on s t u a b = (b.0 ∙ a.0, b.1 ∙ a.1)
+
+  -- a try to put a parcel out
+  pub put_kept : (s t : Post T P) (r : PutOut) → PutsOut s r t → KeepsTable s t
+  put_kept s t Sent did = same_post s t _ did.4 (refl, refl)
+  put_kept s t Full did = same_post s t _ did.4 (refl, refl)
+  put_kept s t Nothing did = stays_kept s t did.1
+
+  -- the stations of a new table
+  pub fresh_table : (n : ℕ) (starts : ℕ → T) (all : List (Post T P)) → AreFresh n starts all → OfOneTable all
+  fresh_table n starts all fresh = (fresh.1.0, n, λ k s at. let r = fresh.1.1 k s at in (r.0, r.1))
+
+  -- one station, and two of one table
+  pub one_alone : (s : Post T P) → OfOneTable (s ∷ [])
+  one_alone s = (s.table, s.nodes, λ k t at. one k t at)
+    where
+      one : (k : ℕ) (t : Post T P) → get_elem? (s ∷ []) k ≡ some t → (t.table ≡ s.table) × (t.nodes ≡ s.nodes)
+      one zero t at = stays_kept s t (sym (some-injective s t at))
+      one (suc k) t at = absurd (some-ne-none t (sym at))
+
+  pub both_there : (s t : Post T P) → KeepsTable s t → OfOneTable (s ∷ t ∷ [])
+  both_there s t kept = (s.table, s.nodes, λ k u at. each k u at)
+    where
+      each : (k : ℕ) (u : Post T P) → get_elem? (s ∷ t ∷ []) k ≡ some u → (u.table ≡ s.table) × (u.nodes ≡ s.nodes)
+      each zero u at = stays_kept s u (sym (some-injective s u at))
+      each (suc zero) u at = same_post s u t (sym (some-injective t u at)) kept
+      each (suc (suc k)) u at = absurd (some-ne-none u (sym at))
+
+module _ {H S M : Type 0} (core : Core H S M) where
+  -- an act, and a refused one
+  pub act_kept : {A E : Type 0} (a : Act M) (r : Result A E) (s t : Station core) → OnOk r (t ≡ does core a s) → OnErr r (t ≡ s) → KeepsTable s t
+  act_kept a (Ok x) s t did refused = same_post s t _ did (refl, refl)
+  act_kept a (Err e) s t did refused = stays_kept s t refused
+
+  -- a try to take a parcel in
+  pub take_kept : (from : ℕ) (r : Result Taken TakeFault) (s t : Station core) → IfOk r (λ taken. TakesIn core from s taken t) → OnErr r (KeepsInHand from s t) → KeepsTable s t
+  take_kept from (Ok Got) s t (inl did) fault = same_post s t _ did.3 (refl, refl)
+  take_kept from (Ok Got) s t (inr did) fault = kept_on s did.0 t (same_post s did.0 _ did.1.1.1 (refl, refl)) (same_post did.0 t _ did.2.3 (refl, refl))
+  take_kept from (Ok Empty) s t did fault = stays_kept s t did.1
+  take_kept from (Err e) s t did (inl fault) = stays_kept s t fault.1
+  take_kept from (Err e) s t did (inr fault) = same_post s t _ fault.1.1 (refl, refl)
+
+  move_kept : (s t : Station core) → Moves core s t → KeepsTable s t
+  move_kept s t (inl did) = same_post s t _ did.3 (refl, refl)
+  move_kept s t (inr (inl did)) = same_post s t _ did.3 (refl, refl)
+  move_kept s t (inr (inr (inl did))) = same_post s t _ did.1.1.1 (refl, refl)
+  move_kept s t (inr (inr (inr (inl did)))) = same_post s t _ did.1.1.1 (refl, refl)
+  move_kept s t (inr (inr (inr (inr (inl did))))) = put_kept s t did.0 did.1
+  move_kept s t (inr (inr (inr (inr (inr did))))) = same_post s t _ did (refl, refl)
+
+  chain_kept : (ms : List (Station core)) (s t : Station core) → Chain core ms s t → KeepsTable s t
+  chain_kept [] s t same = stays_kept s t same
+  chain_kept (m ∷ ms) s t did = kept_on s m t (move_kept s m did.0) (chain_kept ms m t did.1)
+
+  -- a turn
+  pub goes_kept : (s t : Station core) → Goes core s t → KeepsTable s t
+  goes_kept s t did = chain_kept did.0 s t did.1

@@ -1,0 +1,127 @@
+-- What the stations of one table show together, and what is gathered from them.
+use Rattle.std.specs.Prelude.{◌≡◌, ◌≢◌, ℕ, suc, ◌<◌, List, [], ◌∷◌, ◌++◌, Some, map, length, take, slice_get}
+use Rattle.std.specs.List.Sorted.{IsNonDecreasingBy, IsPermutation}
+use mathlib.Core.Option.{some}
+use lib.ListN.{get_elem?}
+use Rattle.atomic_table.specs.Seated.{TableId}
+use Rattle.mx_stamps.specs.Lists.{IsIn}
+use Rattle.mx_journal.specs.declared.records.Record.{Record}
+use Rattle.mx_journal.specs.declared.receipts.Read.{Read}
+use Rattle.mx_journal.specs.declared.receipts.Receipt.{Receipt}
+use Rattle.mx_journal.specs.Agreement.{AreAgreeing}
+use Rattle.mx_journal.specs.Drafted.{record_of}
+use Rattle.mx_journal.specs.Gapless.{IsGapless}
+use Rattle.mx_journal.specs.Records.{Ascending}
+use Rattle.mx_registers.specs.Registers.{AreApplied, registers_of, writes_to}
+use Rattle.mx_nodelaws.specs.World.{World}
+use Rattle.mx_nodelaws.specs.Core.{Core, IsInside}
+use Rattle.mx_member.specs.declared.parcel.Parcel.{Parcel}
+use Rattle.mx_member.specs.Member.{MemberState}
+use Rattle.mx_member.specs.Running.{IsJoinOfNodes, IsNode, IsRunning, Owned}
+use Rattle.mx_member.specs.Serial.{IsSerialRead}
+use Rattle.mx_stations.specs.declared.gathering.GatherFault.{GatherFault}
+use Rattle.mx_stations.specs.declared.gathering.GatherFault.TheVariants.{NotAll, StillInside, Memory}
+use Rattle.mx_stations.specs.Entries.{Entry, Node, owned_of}
+use Rattle.mx_stations.specs.Posts.{Post}
+use Rattle.mx_stations.specs.Running.{Once, sent_of}
+
+module _ {T P : Type 0} where
+  abbrev pub me_of : Post T P → Entry T P
+  me_of s = s.me
+
+  -- the stations are of one table, of so many nodes
+  abbrev pub OfOneTable : List (Post T P) → Type 0
+  OfOneTable posts = (table : TableId) × (n : ℕ) × ((k : ℕ) (s : Post T P) → get_elem? posts k ≡ some s → (s.table ≡ table) × (s.nodes ≡ n))
+
+  -- a station that came of another by acts and moves is still at its table
+  abbrev pub KeepsTable : Post T P → Post T P → Type 0
+  KeepsTable s t = (t.table ≡ s.table) × (t.nodes ≡ s.nodes)
+
+  -- how many nodes their table has: at least one, where there is no station
+  abbrev pub nodes_in : List (Post T P) → ℕ
+  nodes_in [] = 1
+  nodes_in (s ∷ posts) = s.nodes
+
+  -- a node's station is there
+  abbrev pub Has : List (Post T P) → ℕ → Type 0
+  Has posts i = (k : ℕ) × (s : Post T P) × (get_elem? posts k ≡ some s) × (s.me.node ≡ i)
+
+  abbrev pub Lacks : List (Post T P) → ℕ → Type 0
+  Lacks posts i = (k : ℕ) (s : Post T P) → get_elem? posts k ≡ some s → s.me.node ≢ i
+
+  -- each node's station is there
+  abbrev pub IsWhole : List (Post T P) → Type 0
+  IsWhole posts = (i : ℕ) → i < nodes_in posts → Has posts i
+
+  -- the least node whose station is not there
+  abbrev pub IsLeastMissing : List (Post T P) → ℕ → Type 0
+  IsLeastMissing posts i = (i < nodes_in posts) × Lacks posts i × ((j : ℕ) → j < i → Has posts j)
+
+  -- the receipts of all stations, station by station
+  abbrev pub receipts_of : List (Post T P) → List Receipt
+  receipts_of [] = []
+  receipts_of (s ∷ posts) = s.me.receipts ++ receipts_of posts
+
+module _ {H S M : Type 0} (core : Core H S M) where
+  abbrev pub HasInside : List (Post (MemberState S) (Parcel M)) → ℕ → Type 0
+  HasInside posts i = (k : ℕ) × (s : Post (MemberState S) (Parcel M)) × (get_elem? posts k ≡ some s) × (s.me.node ≡ i) × IsInside core s.me.member.core
+
+  abbrev pub NotInside : List (Post (MemberState S) (Parcel M)) → ℕ → Type 0
+  NotInside posts i = (k : ℕ) (s : Post (MemberState S) (Parcel M)) → get_elem? posts k ≡ some s → s.me.node ≡ i → IsInside core s.me.member.core → ⊥
+
+  -- nobody is inside
+  abbrev pub IsQuiet : List (Post (MemberState S) (Parcel M)) → Type 0
+  IsQuiet posts = (i : ℕ) → i < nodes_in posts → NotInside posts i
+
+  -- the least node that is inside
+  abbrev pub IsLeastInside : List (Post (MemberState S) (Parcel M)) → ℕ → Type 0
+  IsLeastInside posts i = (i < nodes_in posts) × HasInside posts i × ((j : ℕ) → j < i → NotInside posts j)
+
+  -- every station is there, and nobody is inside
+  abbrev pub IsReady : List (Post (MemberState S) (Parcel M)) → Type 0
+  IsReady posts = IsWhole posts × IsQuiet posts
+
+  -- why stations are not gathered
+  abbrev pub Refuses : List (Post (MemberState S) (Parcel M)) → GatherFault → Type 0
+  Refuses posts (NotAll i) = IsLeastMissing posts i
+  Refuses posts (StillInside i) = IsWhole posts × IsLeastInside posts i
+  Refuses posts Memory = IsReady posts
+
+  -- a look at the rule: the nodes in view are nodes of one running world of n nodes, as they are, and each once
+  pub record Knows (Good : World S M → Type 0) (n : ℕ) (v : List (Node S M)) : Type 0 where
+    pub world : List (Node S M)
+    pub long : length world ≡ n
+    pub runs : IsRunning core Good (map owned_of world) (sent_of world)
+    pub numbered : (i : ℕ) (e : Node S M) → get_elem? world i ≡ some e → e.node ≡ i
+    pub stands : (e : Node S M) → IsIn e v → get_elem? world e.node ≡ some e
+    pub once : Once v
+
+-- their nodes, each with its receipts
+abbrev pub owned_in : {S M : Type 0} → List (Post (MemberState S) (Parcel M)) → List (Owned S)
+owned_in posts = map (λ s. owned_of s.me) posts
+
+-- the join of the first journals and the next one do not agree
+abbrev pub Disagree : {S : Type 0} → List (Owned S) → Type 0
+Disagree {S} nodes = (k : ℕ) × (o : Owned S) × (all : List Record) × IsNode nodes k o × IsJoinOfNodes (take k nodes) all × (AreAgreeing all o.member.journal → ⊥)
+
+-- journal and receipts as they are put together: the join of all journals, and all receipts, each once, sorted by number
+pub record IsTogether {S M : Type 0} (posts : List (Post (MemberState S) (Parcel M))) (journal : List Record) (receipts : List Receipt) : Type 0 where
+  pub join : IsJoinOfNodes (owned_in posts) journal
+  pub ordered : Ascending 1 journal
+  pub each : IsPermutation (receipts_of posts) receipts
+  pub sorted : IsNonDecreasingBy (λ (r : Receipt). r.number) receipts
+
+-- What is gathered is one serial order of all sections that were left.
+pub record IsGathered {T P : Type 0} (posts : List (Post T P)) (journal : List Record) (receipts : List Receipt) : Type 0 where
+  -- the receipts are those of all stations, each once, and each is of the node whose station has it
+  pub each : IsPermutation (receipts_of posts) receipts
+  pub own : (k : ℕ) (s : Post T P) (r : Receipt) → get_elem? posts k ≡ some s → IsIn r s.me.receipts → r.node ≡ s.me.node
+  -- they bear 1, 2, 3 and so on
+  pub numbered : (k : ℕ) (r : Receipt) → slice_get receipts k ≡ Some r → r.number ≡ suc k
+  -- the journal has their records, in order, and nothing else; so it has no gap up to how many there are
+  pub records : journal ≡ map record_of receipts
+  pub gapless : IsGapless (length receipts) journal
+  -- each value read is what the writes of the receipts before, in order, and the receipt's own first writes leave
+  pub reads : (k : ℕ) (r : Receipt) (x : Read) → slice_get receipts k ≡ Some r → IsIn x r.reads.items → IsSerialRead (writes_to k journal) r.writes.items x
+  -- and each register of the journal has what the writes of all receipts, in order, leave
+  pub shows : (count : ℕ) → AreApplied (writes_to (length receipts) journal) (registers_of count journal)

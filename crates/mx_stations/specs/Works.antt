@@ -1,0 +1,32 @@
+-- The acts and moves of a station at which a worker works.
+use Rattle.std.specs.Prelude.{◌≡◌, ◌⊎◌, ℕ, ◌<◌, List, [], ◌∷◌}
+use Rattle.mx_nodelaws.specs.Core.{Core}
+use Rattle.mx_member.specs.declared.acts.Act.{Act}
+use Rattle.mx_member.specs.declared.acts.Act.TheVariants as act
+use Rattle.mx_stations.specs.Posts.{does}
+use Rattle.mx_stations.specs.Turns.{Moves, Station}
+
+-- an act of a worker of n nodes: it asks, enters, leaves, reads or writes its register, or asks a node for records
+abbrev pub IsWorkers : {M : Type 0} → ℕ → ℕ → Act M → Type 0
+IsWorkers register n act.Ask = Unit {0}
+IsWorkers register n act.Enter = Unit {0}
+IsWorkers register n (act.Read of) = of ≡ register
+IsWorkers register n (act.Write of value) = of ≡ register
+IsWorkers register n act.Leave = Unit {0}
+IsWorkers register n act.Tick = ⊥
+IsWorkers register n (act.Want to) = to < n
+IsWorkers register n (act.Deliver from p) = ⊥
+IsWorkers register n act.Restart = ⊥
+
+module _ {H S M : Type 0} (core : Core H S M) (register : ℕ) where
+  -- one act of a worker, or one act or move of a turn
+  abbrev pub Toils : Station core → Station core → Type 0
+  Toils s t = Moves core s t ⊎ ((a : Act M) × IsWorkers register s.nodes a × (t ≡ does core a s))
+
+  abbrev pub Row : List (Station core) → Station core → Station core → Type 0
+  Row [] s t = t ≡ s
+  Row (m ∷ ms) s t = Toils s m × Row ms m t
+
+  -- some list of these, one after another
+  abbrev pub Works : Station core → Station core → Type 0
+  Works s t = (ms : List (Station core)) × Row ms s t

@@ -1,0 +1,50 @@
+//! All seats of a table become one, which knows the whole world.
+
+ghost use Rattle.std.specs.Prelude.{◌≡◌, ◌<◌, length, map};
+ghost use Rattle.mx_stations.specs.Gathered.{Knows, OfOneTable, me_of, nodes_in};
+
+use crate::field::{Field, Place};
+use crate::next::{Learns, OfCount};
+use crate::rule::TakeIn;
+use crate::station::Station;
+use mx_nodelaws::Exclusion;
+use std::marker::Brand;
+
+fn learn_as<C: Exclusion, N: OfCount>(field: &Field<C>, seat: &mut Place<C>)
+    requires table { seat.old.table_id ≡ field.now.board.shared.table_id }
+    requires count { N.count ≡ field.now.nodes }
+    ensures same { (seat.new.table_id ≡ seat.old.table_id) × (seat.new.me ≡ seat.old.me) }
+    ensures knows { Knows C.core C.Good field.now.nodes seat.new.me.0 }
+{
+    field.board.shared.load::<Learns<C, N>>(seat, 0);
+}
+
+/// A look at the rule: the nodes in view are nodes of one running world.
+fn learn<C: Exclusion>(field: &Field<C>, seat: &mut Place<C>)
+    requires table { seat.old.table_id ≡ field.now.board.shared.table_id }
+    ensures same { (seat.new.table_id ≡ seat.old.table_id) × (seat.new.me ≡ seat.old.me) }
+    ensures knows { Knows C.core C.Good field.now.nodes seat.new.me.0 }
+{
+    learn_as::<C, Brand>(field, seat);
+}
+
+/// Joins all seats, and looks at the rule.
+pub(crate) fn join_all<C: Exclusion>(mut stations: Vec<Station<C>>)
+    requires one { OfOneTable stations.items }
+    requires some { 0 < length stations.items }
+    ensures { Knows C.core C.Good (nodes_in stations.items) (map me_of stations.items) }
+{
+    let Some(last) = stations.pop() else {
+        unreachable!();
+    };
+    let Station {
+        field,
+        mut seat,
+        ..
+    } = last;
+    while let Some(next) = stations.pop() {
+        let Station { seat: other, .. } = next;
+        field.board.shared.join_seat::<TakeIn>(&mut seat, other);
+    }
+    learn(&field, &mut seat);
+}

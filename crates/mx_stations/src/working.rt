@@ -1,0 +1,205 @@
+//! A worker: it takes a station through sections of its own, and in each of them adds 1 to a
+//! register.
+
+ghost use Rattle.std.specs.Prelude.{◌≡◌, ◌<◌, ◌≤◌, ◌↔◌, ℕ, length, IsTrue};
+ghost use Rattle.mx_stations.specs.Gathered.{KeepsTable};
+ghost use Rattle.mx_stations.specs.Works.{Works};
+
+use crate::answers::{TakeFault, TurnReport};
+use crate::station::Station;
+use mx_letters::Fates;
+use mx_member::ReadFault;
+use mx_nodelaws::Exclusion;
+use mx_stamps::NodeId;
+use std::thread::yield_now;
+
+/// When workers begin, and when they may stop. Either call may wait for other workers.
+pub trait Gate {
+    /// Whether the worker of this node may begin. It is asked once, before the first act.
+    fn arrive(&self, node: NodeId) -> bool;
+
+    /// Whether the worker of this node, which has its sections, may stop. It is asked on each turn.
+    fn done(&self, node: NodeId) -> bool;
+}
+
+/// What a worker has to do: to add 1 to this register, in so many sections.
+#[derive(Clone, Copy, Debug, PartialEq, Eq)]
+pub struct Script {
+    pub register: u8,
+    pub sections: u64,
+}
+
+/// How a worker ended.
+#[derive(Clone, Copy, Debug, PartialEq, Eq)]
+pub enum Worked {
+    /// The station has its sections, and the gate let it stop.
+    Done,
+    /// All turns were made, so many.
+    NotYet(u64),
+    /// The gate did not let it begin.
+    GateShut,
+}
+
+/// Where a worker stands: whether it has written in its section, and which node it asked last for
+/// the records that it lacks.
+#[derive(Drop)]
+struct Stance {
+    written: bool,
+    wanted: NodeId,
+}
+
+/// Waits at the gate, and then works at the station for at most so many turns. In each the acts that
+/// are due come first: it asks where it is idle and lacks sections; enters where it can; inside, reads
+/// the register and writes 1 more, or where records are missing asks the next node in the circle for
+/// them; leaves once it has written. Then the station takes a turn, by these fates of parcels. It
+/// waits only where its gate waits. The station is not to be inside; where there is no such register
+/// the worker never gets out of its first section.
+pub fn work<C: Exclusion, G: Gate, F: Fates + Drop>(
+    mut station: Station<C>,
+    script: Script,
+    gate: &G,
+    mut fates: F,
+    turns: u64,
+) -> (Station<C>, Worked)
+    ensures works { Works C.core script.register station result.0 }
+    ensures same { KeepsTable station result.0 }
+    ensures node { result.0.me.node ≡ station.me.node }
+    ensures done { result.1 ≡ Worked.Done → script.sections ≤ length result.0.me.receipts }
+    ensures not_yet { (n : ℕ) → result.1 ≡ Worked.NotYet n → n ≡ turns }
+    ensures shut { result.1 ≡ Worked.GateShut → result.0 ≡ station }
+{
+    let worked = work_at(&mut station, &script, gate, &mut fates, turns);
+    (station, worked)
+}
+
+fn work_at<C: Exclusion, G: Gate, F: Fates>(
+    station: &mut Station<C>,
+    script: &Script,
+    gate: &G,
+    fates: &mut F,
+    turns: u64,
+) -> Worked
+    ensures works { Works C.core script.now.register station.old station.new }
+    ensures done { result ≡ Worked.Done → script.now.sections ≤ length station.new.me.receipts }
+    ensures not_yet { (n : ℕ) → result ≡ Worked.NotYet n → n ≡ turns }
+    ensures shut { result ≡ Worked.GateShut → station.new ≡ station.old }
+{
+    let node = station.node();
+    if !gate.arrive(node) {
+        return Worked::GateShut;
+    }
+    let mut stance = Stance {
+        written: false,
+        wanted: node,
+    };
+    for _turn in 0..turns {
+        take_turn(station, script, &mut stance, fates);
+        if has_sections(station, script.sections) && gate.done(node) {
+            return Worked::Done;
+        }
+    }
+    Worked::NotYet(turns)
+}
+
+/// Whether the station has so many sections.
+fn has_sections<C: Exclusion>(station: &Station<C>, sections: u64) -> bool
+    ensures { IsTrue result ↔ (sections ≤ length station.now.me.receipts) }
+{
+    station.receipts().len() as u64 >= sections
+}
+
+/// The acts that are due, and a turn of the station. An act that is not due is refused, which changes
+/// nothing. A turn in which memory is refused is a turn too.
+fn take_turn<C: Exclusion, F: Fates>(
+    station: &mut Station<C>,
+    script: &Script,
+    stance: &mut Stance,
+    fates: &mut F,
+)
+    ensures { Works C.core script.now.register station.old station.new }
+{
+    ask_if_due(station, script.sections);
+    let _ = station.enter();
+    add_if_due(station, script.register, stance);
+    leave_if_due(station, stance);
+    let report = station.turn(fates);
+    give_way(&report);
+}
+
+/// Lets other threads run where nothing came.
+fn give_way(report: &Result<TurnReport, TakeFault>) {
+    if let Ok(TurnReport { taken: 0, .. }) = report {
+        yield_now();
+    }
+}
+
+/// Asks where sections are lacking.
+fn ask_if_due<C: Exclusion>(station: &mut Station<C>, sections: u64)
+    ensures { (register : ℕ) → Works C.core register station.old station.new }
+{
+    if !has_sections(station, sections) {
+        let _ = station.ask();
+    }
+}
+
+/// Where nothing is written yet: reads the register and writes 1 more, or asks for missing records.
+fn add_if_due<C: Exclusion>(station: &mut Station<C>, register: u8, stance: &mut Stance)
+    ensures { Works C.core register station.old station.new }
+{
+    if stance.written {
+        return;
+    }
+    match station.read(register) {
+        Ok(value) => {
+            stance.written = station.write(register, value.wrapping_add(1)).is_ok();
+        }
+        Err(ReadFault::Gap(_)) => want_next(station, stance),
+        Err(ReadFault::NotInside | ReadFault::NoRegister | ReadFault::Full) => {}
+    }
+}
+
+/// Asks the next node in the circle for the records that are missing.
+fn want_next<C: Exclusion>(station: &mut Station<C>, stance: &mut Stance)
+    ensures { (register : ℕ) → Works C.core register station.old station.new }
+{
+    let next = node_after(stance.wanted, count_of(station));
+    station.want(next);
+    stance.wanted = next;
+}
+
+/// How many nodes there are.
+fn count_of<C: Exclusion>(station: &Station<C>) -> u8
+    ensures value { result ≡ station.now.nodes }
+    ensures some { 0 < result }
+{
+    station.field.nodes
+}
+
+/// The next of so many nodes in the circle.
+fn node_after(node: NodeId, nodes: u8) -> NodeId
+    requires { 0 < nodes }
+    ensures { result < nodes }
+{
+    match NodeId::of(node.get() + 1) {
+        Some(next) if next.get() < nodes => next,
+        _ => first_node(),
+    }
+}
+
+fn first_node() -> NodeId
+    ensures { result ≡ 0 }
+{
+    let Some(first) = NodeId::of(0) else {
+        unreachable!();
+    };
+    first
+}
+
+/// Leaves where the section has its write. Where memory is refused it stays inside.
+fn leave_if_due<C: Exclusion>(station: &mut Station<C>, stance: &mut Stance)
+    ensures { (register : ℕ) → Works C.core register station.old station.new }
+{
+    if stance.written && station.leave().is_ok() {
+        stance.written = false;
+    }
+}
