@@ -100,7 +100,7 @@ impl Journal {
     }
 
     /// Takes the records of an agreeing journal too, and answers how many were new. Memory is asked
-    /// for once, before anything changes, and only where there is something new.
+    /// for before anything changes, and only where there is something new.
     pub fn join(&mut self, other: &Journal) -> Result<u64, AllocError>
         requires { AreAgreeing self.old other.now }
         ensures ok { IfOk result (λ k. (self.new ≡ with_records other.now self.old)
