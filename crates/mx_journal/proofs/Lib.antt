@@ -1,5 +1,5 @@
 -- Choices: comparisons. Maps: the laws of journals. Below: records below a number. Going: records above
--- a number, one after another. The others serve this crate's own proofs: Flat, PutRuns, Found, Appending and Joining
+-- a number, one after another. The others serve this crate's own proofs: Flat, PutRuns, Found, Appending, Joining and Seams
 -- are about runs.
 pub mod Choices
 pub mod Maps
@@ -13,3 +13,4 @@ pub mod Joining
 pub mod Seeking
 pub mod Disputes
 pub mod Answering
+pub mod Seams

@@ -79,7 +79,7 @@ pub runs_around : (k : ℕ) (runs : List (List Record)) (i : ℕ) → AreRuns k 
 runs_around k runs i r = runs_split k (take i runs) (drop i runs) (subst (λ l. AreRuns k l) (sym (take-append-drop i runs)) r)
 
 -- where nothing bears n, the run before its place ends below n, and the one at it begins above
-ends_below : (n k : ℕ) (runs : List (List Record)) → AreRuns k runs → ((x : Record) → IsIn x (flatten runs) → x.number ≢ n) → (j : ℕ) → j < runs_up_to n runs → last_number (get_or runs j []) < n
+pub ends_below : (n k : ℕ) (runs : List (List Record)) → AreRuns k runs → ((x : Record) → IsIn x (flatten runs) → x.number ≢ n) → (j : ℕ) → j < runs_up_to n runs → last_number (get_or runs j []) < n
 ends_below n k [] r fresh j l = absurd (omega arith)
 ends_below n k ([] ∷ runs) r fresh j l = absurd r
 ends_below n k ((y ∷ ys) ∷ runs) r fresh zero was =
@@ -95,7 +95,7 @@ ends_below n k ((y ∷ ys) ∷ runs) r fresh (suc j) was =
     (λ _ l. ends_below n (last_number (y ∷ ys) + 2) runs r.2 (λ z m. fresh z (in_right z (y ∷ ys) (flatten runs) m)) j (omega arith))
     (λ _ l. absurd (omega arith)) was
 
-begins_above : (n k : ℕ) (runs : List (List Record)) → AreRuns k runs → ((x : Record) → IsIn x (flatten runs) → x.number ≢ n) → runs_up_to n runs < length runs → n < first_number (get_or runs (runs_up_to n runs) [])
+pub begins_above : (n k : ℕ) (runs : List (List Record)) → AreRuns k runs → ((x : Record) → IsIn x (flatten runs) → x.number ≢ n) → runs_up_to n runs < length runs → n < first_number (get_or runs (runs_up_to n runs) [])
 begins_above n k [] r fresh l = absurd (omega arith)
 begins_above n k ([] ∷ runs) r fresh l = absurd r
 begins_above n k ((y ∷ ys) ∷ runs) r fresh was =
@@ -242,7 +242,7 @@ put_joining r runs j rs gone at below above =
     }
 
 -- a place set to what it holds
-set_same : (xs : List (List Record)) (i : ℕ) (x : List Record) → i < length xs → x ≡ get_or xs i x → slice_set xs i x ≡ xs
+pub set_same : (xs : List (List Record)) (i : ℕ) (x : List Record) → i < length xs → x ≡ get_or xs i x → slice_set xs i x ≡ xs
 set_same [] i x l e = refl
 set_same (y ∷ ys) zero x l e = ap (λ z. z ∷ ys) e
 set_same (y ∷ ys) (suc i) x l e = ap (λ zs. y ∷ zs) (set_same ys i x (omega arith) e)

@@ -1,9 +1,9 @@
 -- A journal is kept as runs: lists of records with consecutive numbers, between which numbers are missing.
-use Rattle.std.specs.Prelude.{ℕ, suc, ◌+◌, ◌-◌, ◌≡◌, ◌≤◌, ◌<◌, ◌⊎◌, List, [], ◌∷◌, ◌++◌, length, get_or, slice_set, nat_le, if◌then◌else◌}
+use Rattle.std.specs.Prelude.{ℕ, suc, ◌+◌, ◌-◌, ◌≡◌, ◌≤◌, ◌<◌, ◌⊎◌, List, [], ◌∷◌, ◌++◌, None, length, get_or, slice_set, nat_eq, nat_le, if◌then◌else◌}
 use Rattle.std.specs.List.{remove}
 use Rattle.mx_stamps.specs.Lists.{IsIn}
 use Rattle.mx_journal.specs.declared.records.Record.{Record}
-use Rattle.mx_journal.specs.Records.{IsThere, with_record}
+use Rattle.mx_journal.specs.Records.{IsThere, record_at, with_record}
 
 -- the records of these runs, in order
 abbrev pub flatten : List (List Record) → List Record
@@ -70,3 +70,18 @@ pub record IsJoinedUpTo (from to : ℕ) (xs ys joined : List Record) : Type 0 wh
 -- each record of the list bears a number that some record of xs or of ys bears
 abbrev pub AreNumbersOf : List Record → List Record → List Record → Type 0
 AreNumbersOf list xs ys = (x : Record) → IsIn x list → IsThere x.number xs ⊎ IsThere x.number ys
+
+-- the run, which becomes one with the first of the others where that goes on from it, and then the others
+abbrev pub stitched : List Record → List (List Record) → List (List Record)
+stitched run [] = run ∷ []
+stitched run (next ∷ runs) = if nat_eq (last_number run + 1) (first_number next) then (run ++ next) ∷ runs else run ∷ next ∷ runs
+
+-- the runs, and then others. The last of the former and the first of the latter become one where it goes on from it
+abbrev pub sewn : List (List Record) → List (List Record) → List (List Record)
+sewn [] others = others
+sewn (run ∷ []) others = stitched run others
+sewn (run ∷ more ∷ runs) others = run ∷ sewn (more ∷ runs) others
+
+-- no record of xs bears the number of one of ys
+abbrev pub AreNew : List Record → List Record → Type 0
+AreNew ys xs = (x : Record) → IsIn x ys → record_at x.number xs ≡ None

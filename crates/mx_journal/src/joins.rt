@@ -3,7 +3,7 @@
 ghost use Rattle.std.specs.Prelude.{◌≡◌, ◌+◌, ◌≤◌, ◌<◌, IsTrue, IsFalse, IfOk, IfSome, IfNone, OnOk, OnErr, [], ◌++◌, ◌-◌, get_or, length, slice_set};
 ghost use Rattle.mx_journal.specs.Agreement.{AreAgreeing, IsSubmap};
 ghost use Rattle.mx_journal.specs.Records.{BringsNew, IsNumbered, above, with_records};
-ghost use Rattle.mx_journal.specs.Runs.{AreNumbersOf, AreRuns, IsJoinedUpTo, IsNextOfBoth, TouchesBelow, first_number, flatten, last_number};
+ghost use Rattle.mx_journal.specs.Runs.{AreNew, AreNumbersOf, AreRuns, IsJoinedUpTo, IsNextOfBoth, TouchesBelow, first_number, flatten, last_number};
 
 use crate::places::{insert, is_there, next_in, place_of, top_in, touches_below};
 use crate::records::Record;
@@ -21,6 +21,7 @@ pub(crate) fn runs_of_new(
     requires numbered { IsNumbered list.now }
     ensures runs { IfOk result (λ runs. AreRuns 1 runs.items) }
     ensures listed { IfOk result (λ runs. IsSubmap (flatten runs.items) list.now) }
+    ensures new { IfOk result (λ runs. AreNew (flatten runs.items) (flatten known.now)) }
     ensures all { IfOk result (λ runs.
         AreNumbersOf list.now (flatten runs.items) (flatten known.now)) }
 {
@@ -135,7 +136,7 @@ fn join_copies(runs: &mut Vec<Run>, other: &[Run]) -> Result<u64, AllocError>
 
 /// Copies of the records of both that are numbered above `from` up to `to`, as runs, and how many
 /// of them the first does not have.
-fn joined_up_to(
+pub(crate) fn joined_up_to(
     alloc: Global,
     runs: &[Run],
     other: &[Run],

@@ -11,6 +11,7 @@ use crate::puts::{Put, PutFault, has_zero, least_conflict};
 use crate::ranges::Range;
 use crate::records::Record;
 use crate::runs::Run;
+use crate::sewing::put_runs;
 use arrayvec::ArrayVec;
 use std::alloc::{AllocError, Global};
 use std::marker::Model;
@@ -96,7 +97,7 @@ impl Journal {
             return Err(PutFault::Conflict(number));
         }
         let other = runs_of_new(*self.runs.allocator(), &self.runs, list)?;
-        Ok(join_runs(&mut self.runs, &other)?)
+        Ok(put_runs(&mut self.runs, &other)?)
     }
 
     /// Takes the records of an agreeing journal too, and answers how many were new. Memory is asked

@@ -11,6 +11,7 @@ mod ranges;
 mod receipts;
 mod records;
 mod runs;
+mod sewing;
 
 pub use draft::{Draft, Full};
 pub use journal::Journal;

@@ -1,6 +1,7 @@
 //! Runs: records that stand in a row, with consecutive numbers where a journal keeps them.
 
-ghost use Rattle.std.specs.Prelude.{◌≡◌, ◌+◌, ◌<◌, ◌↔◌, [], ◌∷◌, ◌++◌, IsTrue, IfOk, OnOk, OnErr, length, get_or};
+ghost use Rattle.std.specs.Prelude.{◌≡◌, ◌+◌, ◌<◌, ◌≤◌, [], ◌∷◌, ◌++◌, OnOk, OnErr, length, get_or, take};
+ghost use Rattle.std.specs.VecDeque.{deque_capacity, deque_len};
 ghost use Rattle.mx_journal.specs.Runs.{first_number, last_number};
 
 use crate::records::Record;
@@ -87,6 +88,28 @@ impl Run {
         Ok(())
     }
 
+    /// Keeps the first records, so many, and drops the others.
+    pub(crate) fn truncate(&mut self, len: usize)
+        ensures { self.new ≡ take len self.old }
+    {
+        self.records.truncate(len);
+    }
+
+    /// Takes the records of the next run. The shorter of the two runs is moved.
+    pub(crate) fn take_next(&mut self, next: &mut Run) -> Result<(), AllocError>
+        ensures ok { OnOk result (self.new ≡ self.old ++ next.old) }
+        ensures err { OnErr result (self.new ≡ self.old) }
+        ensures next { OnErr result (next.new ≡ next.old) }
+    {
+        if self.records.len() >= next.records.len() {
+            return self.records.append(&mut next.records);
+        }
+        next.records.reserve(self.records.len())?;
+        move_before(&mut next.records, &mut self.records);
+        mem::swap(&mut self.records, &mut next.records);
+        Ok(())
+    }
+
     /// Takes the record, and then those of the next run, which is of no use afterwards. The shorter
     /// of the two runs is moved.
     pub(crate) fn join(&mut self, entry: Record, next: &mut Run) -> Result<(), AllocError>
@@ -133,8 +156,16 @@ fn prepend(
 {
     records.reserve(before.len().saturating_add(1))?;
     records.push_front_reserved(entry);
+    move_before(records, before);
+    Ok(())
+}
+
+/// Moves the other records before these, which have room for them.
+fn move_before(records: &mut VecDeque<Record>, before: &mut VecDeque<Record>)
+    requires { deque_len records.old + deque_len before.old ≤ deque_capacity records.old }
+    ensures { records.new.items ≡ before.old.items ++ records.old.items }
+{
     while let Some(other) = before.pop_back() {
         records.push_front_reserved(other);
     }
-    Ok(())
 }

@@ -55,8 +55,8 @@ impl<C: Exclusion> Member<C> {
         ensures err { OnErr result (self.new ≡ self.old) }
         ensures quiet { OnErr result (out.new ≡ []) }
     {
-        // that the records of a journal agree is known from its length
-        let _ = self.journal.len();
+        // that the records of a journal agree is known from this call
+        let _ = self.journal.is_empty();
         if from.get() >= self.nodes {
             return Err(DeliverFault::Stranger);
         }

@@ -113,8 +113,8 @@ fn keep(journal: &mut Journal, shown: &mut View, entry: &Record) -> Result<(), C
     ensures shown { (count : ℕ) → IsViewOf count journal.old shown.old
         → IsViewOf count journal.new shown.new }
 {
-    // the order of the journal is known from its length
-    let _ = journal.len();
+    // the order of the journal is known from this call
+    let _ = journal.is_empty();
     match journal.put(entry.copy()) {
         Ok(Put::New) => {
             shown.take(entry);

@@ -87,7 +87,7 @@ fn send_all<M: Copy>(
     ensures { sent.new.items ≡ sent.old.items ++ sent_by from parcels.now }
 {
     for (to, parcel) in parcels {
-        let _ = sent.push((from, *to, parcel.copy()));
+        sent.push_reserved((from, *to, parcel.copy()));
     }
 }
 
@@ -123,7 +123,7 @@ fn note(trace: &mut Vec<Entry>, event: Event, outcome: &Outcome)
     ensures { trace.new.items ≡ trace.old.items ++ (record { event = event; outcome = outcome.now }) ∷ [] }
 {
     let outcome = outcome.copy();
-    let _ = trace.push(Entry { event, outcome });
+    trace.push_reserved(Entry { event, outcome });
 }
 
 /// One event. Memory is asked for before anything changes.

@@ -1,4 +1,4 @@
-use Rattle.std.proofs.Common.{◌≡◌, ◌≤◌, ◌⊎◌, inl, inr, [], ◌∷◌, Vec, Global, List, take, refl, sym, ◌∙◌, ap, subst, arith}
+use Rattle.std.proofs.Common.{◌≡◌, ◌≤◌, ◌⊎◌, inl, inr, None, [], ◌∷◌, Vec, Global, List, take, refl, sym, ◌∙◌, ap, subst, arith}
 use Rattle.std.proofs.lemmas.List.{take_all}
 use Rattle.mx_stamps.specs.Lists.{IsIn}
 use Rattle.mx_stamps.proofs.Lists.{in_append, in_at, take_here}
@@ -19,18 +19,23 @@ record IsStep (entry : Record) (known old new : List (List Record)) : Type 0 whe
   runs : AreRuns 1 new
   only : (x : Record) → IsIn x (flatten new) → IsIn x (flatten old) ⊎ (x ≡ entry)
   keeps : (x : Record) → IsIn x (flatten old) → IsIn x (flatten new)
+  fresh : (x : Record) → IsIn x (flatten new) → IsIn x (flatten old) ⊎ (record_at x.number (flatten known) ≡ None)
   there : IsThere entry.number (flatten new) ⊎ IsThere entry.number (flatten known)
 
-step_put : (entry : Record) (known old new : List (List Record)) → IsPut entry old new → ((x : Record) → IsIn x (flatten old) → x.number ≡ entry.number → ⊥) → IsStep entry known old new
-step_put entry known old new put fresh = record {
+step_put : (entry : Record) (known old new : List (List Record)) → IsPut entry old new → ((x : Record) → IsIn x (flatten old) → x.number ≡ entry.number → ⊥) → record_at entry.number (flatten known) ≡ None → IsStep entry known old new
+step_put entry known old new put fresh unknown = record {
   runs = put.runs;
   only = λ x h. in_with_record entry (flatten old) x (subst (λ l. IsIn x l) put.records h);
   keeps = λ x h. subst (λ l. IsIn x l) (sym put.records) (with_record_keeps entry (flatten old) x h);
+  fresh = λ x h. elim (in_with_record entry (flatten old) x (subst (λ l. IsIn x l) put.records h)) [
+    | inl m ↦ inl m
+    | inr e ↦ inr (subst (λ (z : Record). record_at z.number (flatten known) ≡ None) (sym e) unknown)
+  ];
   there = inl (entry, subst (λ l. IsIn entry l) (sym put.records) (with_record_has entry (flatten old) (λ x h e. absurd (fresh x h e))), refl);
 }
 
 step_same : (entry : Record) (known old : List (List Record)) → AreRuns 1 old → IsThere entry.number (flatten old) ⊎ IsThere entry.number (flatten known) → IsStep entry known old old
-step_same entry known old r there = record { runs = r; only = λ x h. inl h; keeps = λ x h. h; there = there }
+step_same entry known old r there = record { runs = r; only = λ x h. inl h; keeps = λ x h. h; fresh = λ x h. inl h; there = there }
 
 step : (c : goal.Joined-not-is_there) → IsStep c.entry-item.result c.args.known.now c.loop-entry.runs.items c.if-not-is_there.runs.items
 step c =
@@ -42,7 +47,7 @@ step c =
           let put : IsPut entry old w.insert.new.runs.items = subst (λ (r : Record). IsPut r old w.insert.new.runs.items) w.copy.ensures w.in_ok-insert.ensures.ok in
           let gone : record_at entry.number (flatten old) ≡ _ = ap (λ l. record_at entry.number (flatten l)) (sym w.deref.ensures.value) ∙ w.is_there-then-not-is_there.ensures.missing w.if-not-is_there-2.true in
           subst (λ (v : Vec (List Record) Global). IsStep entry known old v.items) (sym w.runs-is)
-          (step_put entry known old w.insert.new.runs.items put (none_in entry.number (flatten old) gone))
+          (step_put entry known old w.insert.new.runs.items put (none_in entry.number (flatten old) gone) (c.is_there.ensures.missing w.if-not-is_there.true))
       | else-not-is_there w ↦
           let there : IsThere entry.number (flatten old) ⊎ IsThere entry.number (flatten known) = elim w.else-not-is_there.branch [
             | else-not-is_there-via-then-not-is_there+else-not-is_there-2 v ↦
@@ -64,6 +69,7 @@ loop-entry-preserved c =
         | inl m ↦ c.loop-entry.invariant.listed x m
         | inr e ↦ subst (λ z. IsIn z list) (sym e) (in_at list i entry c.loop-entry-test.true c.entry-item.is)
       ];
+      new = λ x h. elim (one.fresh x h) [ inl m ↦ c.loop-entry.invariant.new x m | inr gone ↦ gone ];
       all = λ x h. elim (in_append x (take i list) (entry ∷ []) (subst (λ l. IsIn x l) (take_here list i entry c.loop-entry-test.true c.entry-item.is) h)) [
         | inl m ↦ elim (c.loop-entry.invariant.all x m) [ inl w ↦ inl (w.0, one.keeps w.0 w.1, w.2) | inr w ↦ inr w ]
         | inr (inl e) ↦ subst (λ (z : Record). IsThere z.number (flatten c.if-not-is_there.runs.items) ⊎ IsThere z.number (flatten c.args.known.now)) (sym e) one.there

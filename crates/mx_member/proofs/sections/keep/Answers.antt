@@ -17,13 +17,13 @@ returns-in-Ok-New-clause-shown c = λ count is.
     let free = sym (ap (λ (x : Record). record_at x.number journal) made) ∙ (c.put.ensures.fresh.0 (inl new)).1 in
     let after = c.put.ensures.new new ∙ ap (λ x. with_record x journal) made in
     subst (λ cells. IsViewOf count c.put.new.self cells) (sym c.take.ensures.value)
-    (subst (λ xs. IsViewOf count xs (with_taken entry c.args.shown.now)) (sym after) (shown_with count journal c.args.shown.now entry c.len.ensures.ordered free is))
+    (subst (λ xs. IsViewOf count xs (with_taken entry c.args.shown.now)) (sym after) (shown_with count journal c.args.shown.now entry c.is_empty.ensures.ordered free is))
 
 pub returns-in-Ok-Same-clause-ok : goal.returns-in-Ok-Same-clause-ok
 returns-in-Ok-Same-clause-ok c =
     let made : c.copy.result ≡ c.args.entry.now = c.copy.ensures in
     let number = ap (λ (x : Record). x.number) made in
-    kept c.args.journal.now c.put.new.self c.copy.result c.put.result c.len.ensures.ordered (omega arith) c.put.ensures.zero c.put.ensures.conflict c.put.ensures.same c.put.ensures.new c.put.ensures.kept
+    kept c.args.journal.now c.put.new.self c.copy.result c.put.result c.is_empty.ensures.ordered (omega arith) c.put.ensures.zero c.put.ensures.conflict c.put.ensures.same c.put.ensures.new c.put.ensures.kept
     (λ e. ok_apart c.in-Ok-Same.field-0 (sym c.in-Ok-Same.is ∙ e))
     ∙ ap (λ x. with_record x c.args.journal.now) made
 
@@ -31,6 +31,6 @@ pub returns-in-Err-Conflict-clause-ok : goal.returns-in-Err-Conflict-clause-ok
 returns-in-Err-Conflict-clause-ok c =
     let made : c.copy.result ≡ c.args.entry.now = c.copy.ensures in
     let number = ap (λ (x : Record). x.number) made in
-    kept c.args.journal.now c.put.new.self c.copy.result c.put.result c.len.ensures.ordered (omega arith) c.put.ensures.zero c.put.ensures.conflict c.put.ensures.same c.put.ensures.new c.put.ensures.kept
+    kept c.args.journal.now c.put.new.self c.copy.result c.put.result c.is_empty.ensures.ordered (omega arith) c.put.ensures.zero c.put.ensures.conflict c.put.ensures.same c.put.ensures.new c.put.ensures.kept
     (λ e. conflict_apart c.in-Err-Conflict.field-0-0 (ap (λ (f : PutFault). put_err f) (sym c.in-Err-Conflict.field-0-is) ∙ sym c.in-Err-Conflict.is ∙ e))
     ∙ ap (λ x. with_record x c.args.journal.now) made

@@ -1,10 +1,10 @@
 use Rattle.std.proofs.Common.{length, ◌+◌, ◌≡◌, ◌∙◌, ◌++◌, inl, inr, Err, sym, ap, subst, refl}
 use Rattle.mx_journal.specs.declared.puts.PutFault.TheVariants.{Conflict}
 use Rattle.mx_journal.specs.Records.{with_records}
-use Rattle.mx_journal.specs.Runs.{AreNumbersOf, flatten}
-use Rattle.mx_journal.specs.Agreement.{AreAgreeing, IsConsistent, IsFirstConflict}
+use Rattle.mx_journal.specs.Runs.{AreNew, AreNumbersOf, flatten}
+use Rattle.mx_journal.specs.Agreement.{IsConsistent, IsFirstConflict}
 use Rattle.mx_journal.proofs.Flat.{ascending_flat}
-use Rattle.mx_journal.proofs.Joining.{of_new_agrees, of_new_joins}
+use Rattle.mx_journal.proofs.Joining.{of_new_joins}
 use Rattle.mx_journal.proofs.Answering.{is_memory, not_consistent, not_numbered, one_first}
 use Rattle.mx_journal.proofs.journal.Journal.put_all.Goals as goal
 
@@ -58,26 +58,24 @@ returns-in_err-other-clause-agreed c =
     subst (λ xs. IsConsistent (xs ++ list)) (ap flatten c.deref.ensures.value ∙ c.self.view_is) c.in_default.ensures.none in
     (λ _. (c.has_zero.ensures.numbered c.if-has_zero.false, consistent), λ _. inr memory)
 
-pub join_runs-requires-clause-agreeing : goal.join_runs-requires-clause-agreeing
-join_runs-requires-clause-agreeing c =
-    let list = c.args.list.now in
+pub put_runs-requires-clause-fresh : goal.put_runs-requires-clause-fresh
+put_runs-requires-clause-fresh c =
     let here = flatten c.self.inside.runs.items in
     let new = flatten c.in_ok-other.other.items in
-    let consistent : IsConsistent (here ++ list) = subst (λ xs. IsConsistent (xs ++ list)) (ap flatten c.deref.ensures.value) c.in_default.ensures.none in
-    subst (λ xs. AreAgreeing here xs) (sym (ap flatten c.deref-3.ensures.value)) (of_new_agrees here list new consistent c.in_ok-other.ensures.listed)
+    subst (λ xs. AreNew xs here) (sym (ap flatten c.deref-3.ensures.value)) (subst (λ xs. AreNew new xs) (ap flatten c.deref-2.ensures.value) c.in_ok-other.ensures.new)
 
-pub returns-in_err-join_runs-clause-conflict : goal.returns-in_err-join_runs-clause-conflict
-returns-in_err-join_runs-clause-conflict c = λ n.
+pub returns-in_err-put_runs-clause-conflict : goal.returns-in_err-put_runs-clause-conflict
+returns-in_err-put_runs-clause-conflict c = λ n.
     let list = c.args.list.now in
-    let memory = is_memory c.from_residual-in_err-join_runs.result c.from_residual-in_err-join_runs.ensures.1 in
+    let memory = is_memory c.from_residual-in_err-put_runs.result c.from_residual-in_err-put_runs.ensures.1 in
     let consistent : IsConsistent (c.args.self.now ++ list) =
     subst (λ xs. IsConsistent (xs ++ list)) (ap flatten c.deref.ensures.value ∙ c.self.view_is) c.in_default.ensures.none in
     (λ e. let bad : ⊥ = cc in absurd bad, λ h. absurd (not_consistent n (c.args.self.now ++ list) h.1 consistent))
 
-pub returns-in_err-join_runs-clause-agreed : goal.returns-in_err-join_runs-clause-agreed
-returns-in_err-join_runs-clause-agreed c =
+pub returns-in_err-put_runs-clause-agreed : goal.returns-in_err-put_runs-clause-agreed
+returns-in_err-put_runs-clause-agreed c =
     let list = c.args.list.now in
-    let memory = is_memory c.from_residual-in_err-join_runs.result c.from_residual-in_err-join_runs.ensures.1 in
+    let memory = is_memory c.from_residual-in_err-put_runs.result c.from_residual-in_err-put_runs.ensures.1 in
     let consistent : IsConsistent (c.args.self.now ++ list) =
     subst (λ xs. IsConsistent (xs ++ list)) (ap flatten c.deref.ensures.value ∙ c.self.view_is) c.in_default.ensures.none in
     (λ _. (c.has_zero.ensures.numbered c.if-has_zero.false, consistent), λ _. inr memory)
@@ -105,9 +103,9 @@ returns-clause-ok c =
     let new = flatten c.in_ok-other.other.items in
     let consistent : IsConsistent (here ++ list) = subst (λ xs. IsConsistent (xs ++ list)) (ap flatten c.deref.ensures.value) c.in_default.ensures.none in
     let numbers : AreNumbersOf list new here = subst (λ xs. AreNumbersOf list new xs) (ap flatten c.deref-2.ensures.value) c.in_ok-other.ensures.all in
-    let done = c.in_ok-join_runs.ensures in (
+    let done = c.in_ok-put_runs.ensures in (
       done.records ∙ ap (λ l. with_records l here) (ap flatten c.deref-3.ensures.value)
           ∙ of_new_joins here list new (ascending_flat 1 c.self.inside.runs.items c.self.invariant) (c.has_zero.ensures.numbered c.if-has_zero.false) consistent c.in_ok-other.ensures.listed numbers
           ∙ ap (λ l. with_records list l) c.self.view_is,
-      done.count ∙ ap (λ l. length l + c.in_ok-join_runs.field-0) c.self.view_is,
+      done.count ∙ ap (λ l. length l + c.in_ok-put_runs.field-0) c.self.view_is,
     )

@@ -20,19 +20,19 @@ returns-in_err-put_all-in-Records-clause-stranger g c =
 
 pub returns-in-Guard-clause-conflict : goal.returns-in-Guard-clause-conflict
 returns-in-Guard-clause-conflict g c =
-    (told _ c.args.from _ c.args.parcel _ c.args.self.now c.self.view_is (ap records_in c.in-Guard.is) (ok_tells c.self.inside.nodes c.args.from [] c.self.inside.journal (omega arith) (none_puttable c.self.inside.journal c.len.ensures.ordered))).0
+    (told _ c.args.from _ c.args.parcel _ c.args.self.now c.self.view_is (ap records_in c.in-Guard.is) (ok_tells c.self.inside.nodes c.args.from [] c.self.inside.journal (omega arith) (none_puttable c.self.inside.journal c.is_empty.ensures.ordered))).0
 
 pub returns-in-Guard-clause-taken : goal.returns-in-Guard-clause-taken
 returns-in-Guard-clause-taken g c =
-    (told _ c.args.from _ c.args.parcel _ c.args.self.now c.self.view_is (ap records_in c.in-Guard.is) (ok_tells c.self.inside.nodes c.args.from [] c.self.inside.journal (omega arith) (none_puttable c.self.inside.journal c.len.ensures.ordered))).1
+    (told _ c.args.from _ c.args.parcel _ c.args.self.now c.self.view_is (ap records_in c.in-Guard.is) (ok_tells c.self.inside.nodes c.args.from [] c.self.inside.journal (omega arith) (none_puttable c.self.inside.journal c.is_empty.ensures.ordered))).1
 
 pub returns-in-Want-clause-conflict : goal.returns-in-Want-clause-conflict
 returns-in-Want-clause-conflict g c =
-    (told _ c.args.from _ c.args.parcel _ c.args.self.now c.self.view_is (ap records_in c.in-Want.is) (ok_tells c.self.inside.nodes c.args.from [] c.self.inside.journal (omega arith) (none_puttable c.self.inside.journal c.len.ensures.ordered))).0
+    (told _ c.args.from _ c.args.parcel _ c.args.self.now c.self.view_is (ap records_in c.in-Want.is) (ok_tells c.self.inside.nodes c.args.from [] c.self.inside.journal (omega arith) (none_puttable c.self.inside.journal c.is_empty.ensures.ordered))).0
 
 pub returns-in-Want-clause-taken : goal.returns-in-Want-clause-taken
 returns-in-Want-clause-taken g c =
-    (told _ c.args.from _ c.args.parcel _ c.args.self.now c.self.view_is (ap records_in c.in-Want.is) (ok_tells c.self.inside.nodes c.args.from [] c.self.inside.journal (omega arith) (none_puttable c.self.inside.journal c.len.ensures.ordered))).1
+    (told _ c.args.from _ c.args.parcel _ c.args.self.now c.self.view_is (ap records_in c.in-Want.is) (ok_tells c.self.inside.nodes c.args.from [] c.self.inside.journal (omega arith) (none_puttable c.self.inside.journal c.is_empty.ensures.ordered))).1
 
 -- what the journal's refusal tells
 refused : (g : Over) (c : goal.After-from_residual g) → Tells c.from_residual.result c.args.self.now.setting.nodes c.args.from (records_in c.args.parcel) c.args.self.now.journal

@@ -1,9 +1,9 @@
-use Rattle.std.proofs.Common.{◌≡◌, ◌+◌, ◌≤◌, ◌∷◌, ◌++◌}
-use Rattle.mx_journal.proofs.runs.prepend.Given as goal
+use Rattle.std.proofs.Common.{◌≡◌, ◌+◌, ◌≤◌, ◌++◌}
+use Rattle.mx_journal.proofs.runs.move_before.Given as goal
 
 abbrev pub invariant-loop-other : goal.invariant-loop-other
 invariant-loop-other l = record {
-  moved : l.before.items ++ l.records.items ≡ l.fn.before.items ++ l.fn.entry ∷ l.fn.records.items;
+  moved : l.before.items ++ l.records.items ≡ l.fn.before.items ++ l.fn.records.items;
   room : l.records.len + l.before.len ≤ l.records.cap;
 }
 
