@@ -1,5 +1,5 @@
 -- What a station knows of its node before and after a move of a parcel.
-use Rattle.std.proofs.Common.{◌≡◌, ◌≢◌, ◌⊎◌, inl, inr, ℕ, ◌+◌, ◌*◌, List, [], ◌∷◌, ◌++◌, Bool, true, false, MatchBool, Option, Some, None, refl, sym, ap, ◌∙◌, subst}
+use Rattle.std.proofs.Common.{◌≡◌, ◌≢◌, ◌⊎◌, inl, inr, ℕ, ◌<◌, List, [], ◌∷◌, ◌++◌, Bool, true, false, MatchBool, Option, Some, None, refl, sym, ap, ◌∙◌, subst}
 use Rattle.atomic_table.specs.Table.{Me}
 use Rattle.atomic_table.specs.Seated.{TableId}
 use Rattle.mx_stamps.specs.Lists.{IsIn}
@@ -11,8 +11,8 @@ use Rattle.mx_member.specs.declared.parcel.Parcel.{Parcel}
 use Rattle.mx_member.specs.Member.{MemberState}
 use Rattle.mx_stations.specs.declared.answers.PutOut.TheVariants.{Sent, Full}
 use Rattle.mx_stations.specs.Entries.{Entry}
-use Rattle.mx_stations.specs.Links.{of}
-use Rattle.mx_stations.specs.Slides.{claiming, placing, taking, releasing, Claimed, Taken, placed_view, released_view, IsFilling, IsHolding, KeepsHand}
+use Rattle.mx_stations.specs.Links.{of, slot_at}
+use Rattle.mx_stations.specs.Slides.{claiming, placing, taking, releasing, Claims, HasEmptied, HasUsed, Takes, placed_view, released_view, IsFilling, IsHolding, KeepsHand}
 use Rattle.mx_stations.specs.Posts.{Delivers, Fetches, FindsNone, KeepsInHand, Post, PutsOut, Waits, post, sent_in, shown, slot_from}
 use Rattle.mx_stations.specs.Turns.{IsFated, fated_hand}
 use Rattle.mx_stations.proofs.Places.{only_one}
@@ -25,145 +25,144 @@ module _ {T P : Type 0} where
     abbrev me : Entry T P
     me = shown i x held r m.0
 
+    only_me : (e : Entry T P) → m.0 ≡ e ∷ [] → e ≡ me
+    only_me e at = only_one e me (sym at ∙ ap (λ (z : Me (Option P) (List (Entry T P))). z.0) is)
+
     -- the seat's slot, ready to be filled
-    filling : (k found to : ℕ) (p : P) (m1 : Me (Option P) (List (Entry T P))) → Claimed k m found m1 → found ≡ 0 → IsIn (to, p) (sent_in m.0) → (m1 ≡ (claiming k me ∷ [], (k, None) ∷ []))
-    filling k found to p m1 claimed hit sent =
-        let c = claimed.0 hit in
-        let one : c.0 ≡ me = only_one c.0 me (sym c.1 ∙ ap (λ (z : Me (Option P) (List (Entry T P))). z.0) is) in
+    filling : (k : ℕ) (m1 : Me (Option P) (List (Entry T P))) → Claims k m m1 → (m1 ≡ (claiming k me ∷ [], (k, None) ∷ []))
+    filling k m1 c =
+        let one : c.0 ≡ me = only_me c.0 c.1 in
         c.2 ∙ (λ j. (claiming k (one j) ∷ [], (k, None) ∷ (is j).1))
 
-    pub fills : (k found to : ℕ) (p : P) (m1 : Me (Option P) (List (Entry T P))) → Claimed k m found m1 → found ≡ 0 → IsIn (to, p) (sent_in m.0) → IsFilling m1 k i to p
-    fills k found to p m1 claimed hit sent = (claiming k me, filling k found to p m1 claimed hit sent, refl, refl, sent)
+    pub fills : (k to : ℕ) (p : P) (m1 : Me (Option P) (List (Entry T P))) → Claims k m m1 → IsIn (to, p) (sent_in m.0) → IsFilling m1 k i to p
+    fills k to p m1 claims sent = (claiming k me, filling k m1 claims, refl, refl, sent)
 
-    after_place : (k found to : ℕ) (p : P) (m1 m2 : Me (Option P) (List (Entry T P))) → Claimed k m found m1 → found ≡ 0 → IsIn (to, p) (sent_in m.0) → m2 ≡ (placed_view k p m1.0, []) → m2 ≡ (placing k p me ∷ [], [])
-    after_place k found to p m1 m2 claimed hit sent view = view ∙ ap (λ (z : Me (Option P) (List (Entry T P))). (placed_view k p z.0, [])) (filling k found to p m1 claimed hit sent)
+    after_place : (k : ℕ) (p : P) (m1 m2 : Me (Option P) (List (Entry T P))) → Claims k m m1 → m2 ≡ (placed_view k p m1.0, []) → m2 ≡ (placing k p me ∷ [], [])
+    after_place k p m1 m2 claims view = view ∙ ap (λ (z : Me (Option P) (List (Entry T P))). (placed_view k p z.0, [])) (filling k m1 claims)
 
-    pub placed_seat : (k found to : ℕ) (p : P) (m1 m2 : Me (Option P) (List (Entry T P))) → Claimed k m found m1 → found ≡ 0 → IsIn (to, p) (sent_in m.0) → m2 ≡ (placed_view k p m1.0, []) → m2 ≡ (shown i x held r m2.0 ∷ [], [])
-    placed_seat k found to p m1 m2 claimed hit sent view = (settled i x held r m2 (placing k p me) (after_place k found to p m1 m2 claimed hit sent view) refl).0
+    pub placed_seat : (k : ℕ) (p : P) (m1 m2 : Me (Option P) (List (Entry T P))) → Claims k m m1 → m2 ≡ (placed_view k p m1.0, []) → m2 ≡ (shown i x held r m2.0 ∷ [], [])
+    placed_seat k p m1 m2 claims view = (settled i x held r m2 (placing k p me) (after_place k p m1 m2 claims view) refl).0
 
-    pub placed_waits : (k found : ℕ) (to : ℕ × P) (m1 m2 : Me (Option P) (List (Entry T P))) (n : ℕ) (w w' : List (ℕ × P)) → Claimed k m found m1 → found ≡ 0 → m2 ≡ (placed_view k to.1 m1.0, []) → Waits n (sent_in m.0) w → w ≡ to ∷ w' → Waits n (sent_in m2.0) w'
-    placed_waits k found to m1 m2 n w w' claimed hit view waits first =
-        waits_less n (sent_in m.0) (sent_in m2.0) w w' to waits (ap (λ (z : Me (Option P) (List (Entry T P))). sent_in z.0) (after_place k found to.0 to.1 m1 m2 claimed hit (waits to (subst (λ (z : List (ℕ × P)). IsIn to z) (sym first) (inl refl))).0 view)) first
+    pub placed_waits : (k : ℕ) (to : ℕ × P) (m1 m2 : Me (Option P) (List (Entry T P))) (n : ℕ) (w w' : List (ℕ × P)) → Claims k m m1 → m2 ≡ (placed_view k to.1 m1.0, []) → Waits n (sent_in m.0) w → w ≡ to ∷ w' → Waits n (sent_in m2.0) w'
+    placed_waits k to m1 m2 n w w' claims view waits first =
+        waits_less n (sent_in m.0) (sent_in m2.0) w w' to waits (ap (λ (z : Me (Option P) (List (Entry T P))). sent_in z.0) (after_place k to.1 m1 m2 claims view)) first
 
-    pub put_sent : (k found to : ℕ) (p : P) (m1 m2 : Me (Option P) (List (Entry T P))) (table table' : TableId) (n : ℕ) (w w' : List (ℕ × P)) (s : Post T P) → post table n me w ≡ s → table' ≡ table
-        → k ≡ i * n + to → Claimed k m found m1 → found ≡ 0 → IsIn (to, p) (sent_in m.0) → m2 ≡ (placed_view k p m1.0, []) → w ≡ (to, p) ∷ w' → PutsOut s Sent (post table' n (shown i x held r m2.0) w')
-    put_sent k found to p m1 m2 table table' n w w' s same same_table k_is claimed hit sent view first =
+    pub put_sent : (k to u : ℕ) (p : P) (m1 m2 : Me (Option P) (List (Entry T P))) (table table' : TableId) (n : ℕ) (w w' : List (ℕ × P)) (s : Post T P) → post table n me w ≡ s → table' ≡ table
+        → k ≡ slot_at n i to u → u < 4 → Claims k m m1 → m2 ≡ (placed_view k p m1.0, []) → w ≡ (to, p) ∷ w' → PutsOut s Sent (post table' n (shown i x held r m2.0) w')
+    put_sent k to u p m1 m2 table table' n w w' s same same_table k_is un claims view first =
         subst (λ (z : Post T P). PutsOut z Sent (post table' n (shown i x held r m2.0) w')) same (
           to,
           p,
           w',
           first,
-          (λ j. post (same_table j) n ((settled i x held r m2 (placing k p me) (after_place k found to p m1 m2 claimed hit sent view) refl).1 j) w')
+          u,
+          un,
+          (λ j. post (same_table j) n ((settled i x held r m2 (placing k p me) (after_place k p m1 m2 claims view) refl).1 j) w')
               ∙ (λ j. post table n (placing (k_is j) p me) w'),
         )
 
-    pub put_full : (k found to : ℕ) (p : P) (m1 : Me (Option P) (List (Entry T P))) (table table' : TableId) (n : ℕ) (w w' w2 : List (ℕ × P)) (s : Post T P) → post table n me w ≡ s → table' ≡ table
-        → k ≡ i * n + to → Claimed k m found m1 → found ≢ 0 → w ≡ (to, p) ∷ w' → w2 ≡ w' ++ (to, p) ∷ [] → PutsOut s Full (post table' n (shown i x held r m1.0) w2)
-    put_full k found to p m1 table table' n w w' w2 s same same_table k_is claimed miss first turned =
-        let c = claimed.1 miss in
-        let one : c.1.0 ≡ me = only_one c.1.0 me (sym c.1.1 ∙ ap (λ (z : Me (Option P) (List (Entry T P))). z.0) is) in
+    pub put_full : (k : ℕ → ℕ) (to : ℕ) (p : P) (m1 : Me (Option P) (List (Entry T P))) (table table' : TableId) (n : ℕ) (w w' w2 : List (ℕ × P)) (s : Post T P) → post table n me w ≡ s → table' ≡ table
+        → ((u : ℕ) → k u ≡ slot_at n i to u) → m1 ≡ m → ((u : ℕ) → u < 4 → HasUsed (k u) m) → w ≡ (to, p) ∷ w' → w2 ≡ w' ++ (to, p) ∷ [] → PutsOut s Full (post table' n (shown i x held r m1.0) w2)
+    put_full k to p m1 table table' n w w' w2 s same same_table k_is still used first turned =
         subst (λ (z : Post T P). PutsOut z Full (post table' n (shown i x held r m1.0) w2)) same (
           to,
           p,
           w',
           first,
-          (λ j. post (same_table j) n (shown i x held r (c.0 j).0) (turned j)),
-          subst (λ (z : ℕ × Entry T P). of z.0 z.1.placed ≢ []) (λ j. (k_is j, one j)) c.1.2,
+          (λ j. post (same_table j) n (shown i x held r (still j).0) (turned j)),
+          (λ u un. let c = used u un in subst (λ (z : ℕ × Entry T P). of z.0 z.1.placed ≢ []) (λ j. (k_is u j, only_me c.0 c.1 j)) c.2),
         )
 
     pub turned_waits : (m1 : Me (Option P) (List (Entry T P))) (n : ℕ) (to : ℕ × P) (w w' w2 : List (ℕ × P)) → m1 ≡ m → Waits n (sent_in m.0) w → w ≡ to ∷ w' → w2 ≡ w' ++ to ∷ [] → Waits n (sent_in m1.0) w2
     turned_waits m1 n to w w' w2 same waits first turned = waits_turned n (sent_in m.0) (sent_in m1.0) w w' w2 to waits (ap (λ (z : Me (Option P) (List (Entry T P))). sent_in z.0) same) first turned
 
     -- the parcel that the seat took
-    holding : (k from found : ℕ) (m1 : Me (Option P) (List (Entry T P))) → Taken k from m found m1 → found ≡ 2 → (p : P) × (m1 ≡ (taking k from p me ∷ [], (k, Some p) ∷ []))
-    holding k from found m1 took hit =
-        let t = took.0 hit in
-        let one : t.0 ≡ me = only_one t.0 me (sym t.1 ∙ ap (λ (z : Me (Option P) (List (Entry T P))). z.0) is) in
+    holding : (k from : ℕ) (m1 : Me (Option P) (List (Entry T P))) → Takes k from m m1 → (p : P) × (m1 ≡ (taking k from p me ∷ [], (k, Some p) ∷ []))
+    holding k from m1 t =
+        let one : t.0 ≡ me = only_me t.0 t.1 in
         (t.2.0, t.2.1 ∙ (λ j. (taking k from t.2.0 (one j) ∷ [], (k, Some t.2.0) ∷ (is j).1)))
 
-    pub holds_it : (k from found : ℕ) (m1 : Me (Option P) (List (Entry T P))) → Taken k from m found m1 → found ≡ 2 → (p : P) × IsHolding m1 k i (Some p)
-    holds_it k from found m1 took hit = let h = holding k from found m1 took hit in (h.0, (taking k from h.0 me, h.1, refl, refl))
+    pub holds_it : (k from : ℕ) (m1 : Me (Option P) (List (Entry T P))) → Takes k from m m1 → (p : P) × IsHolding m1 k i (Some p)
+    holds_it k from m1 took = let h = holding k from m1 took in (h.0, (taking k from h.0 me, h.1, refl, refl))
 
-    lifted : (k from found : ℕ) (m1 m2 : Me (Option P) (List (Entry T P))) (q : P) → Taken k from m found m1 → found ≡ 2 → m1.1 ≡ (k, Some q) ∷ [] → m2 ≡ (m1.0, (k, None) ∷ []) → m2 ≡ (taking k from q me ∷ [], (k, None) ∷ [])
-    lifted k from found m1 m2 q took hit has view =
-        let h = holding k from found m1 took hit in
+    lifted : (k from : ℕ) (m1 m2 : Me (Option P) (List (Entry T P))) (q : P) → Takes k from m m1 → m1.1 ≡ (k, Some q) ∷ [] → m2 ≡ (m1.0, (k, None) ∷ []) → m2 ≡ (taking k from q me ∷ [], (k, None) ∷ [])
+    lifted k from m1 m2 q took has view =
+        let h = holding k from m1 took in
         let q_is : h.0 ≡ q = some_is h.0 q (ap (λ (z : ℕ × Option P). z.1) (only_one (k, Some h.0) (k, Some q) (sym (ap (λ (z : Me (Option P) (List (Entry T P))). z.1) h.1) ∙ has))) in
         view ∙ (λ j. ((h.1 j).0, (k, None) ∷ [])) ∙ (λ j. (taking k from (q_is j) me ∷ [], (k, None) ∷ []))
 
-    pub holds_none : (k from found : ℕ) (m1 m2 : Me (Option P) (List (Entry T P))) (q : P) → Taken k from m found m1 → found ≡ 2 → m1.1 ≡ (k, Some q) ∷ [] → m2 ≡ (m1.0, (k, None) ∷ []) → IsHolding m2 k i None
-    holds_none k from found m1 m2 q took hit has view = (taking k from q me, lifted k from found m1 m2 q took hit has view, refl, refl)
+    pub holds_none : (k from : ℕ) (m1 m2 : Me (Option P) (List (Entry T P))) (q : P) → Takes k from m m1 → m1.1 ≡ (k, Some q) ∷ [] → m2 ≡ (m1.0, (k, None) ∷ []) → IsHolding m2 k i None
+    holds_none k from m1 m2 q took has view = (taking k from q me, lifted k from m1 m2 q took has view, refl, refl)
 
-    pub keeps_hand : (k from found : ℕ) (m1 m2 : Me (Option P) (List (Entry T P))) (q : P) → Taken k from m found m1 → found ≡ 2 → m1.1 ≡ (k, Some q) ∷ [] → m2 ≡ (m1.0, (k, None) ∷ []) → KeepsHand m2.0 (Some (from, q))
-    keeps_hand k from found m1 m2 q took hit has view e at =
-        inl (ap (λ (z : Entry T P). z.hand) (only_one (taking k from q me) e (sym (ap (λ (z : Me (Option P) (List (Entry T P))). z.0) (lifted k from found m1 m2 q took hit has view)) ∙ at)))
+    pub keeps_hand : (k from : ℕ) (m1 m2 : Me (Option P) (List (Entry T P))) (q : P) → Takes k from m m1 → m1.1 ≡ (k, Some q) ∷ [] → m2 ≡ (m1.0, (k, None) ∷ []) → KeepsHand m2.0 (Some (from, q))
+    keeps_hand k from m1 m2 q took has view e at =
+        inl (ap (λ (z : Entry T P). z.hand) (only_one (taking k from q me) e (sym (ap (λ (z : Me (Option P) (List (Entry T P))). z.0) (lifted k from m1 m2 q took has view)) ∙ at)))
 
-    fetched : (k from found : ℕ) (m1 m2 m3 : Me (Option P) (List (Entry T P))) (q : P) → Taken k from m found m1 → found ≡ 2 → m1.1 ≡ (k, Some q) ∷ [] → m2 ≡ (m1.0, (k, None) ∷ []) → m3 ≡ (released_view (Some (from, q)) m2.0, [])
+    fetched : (k from : ℕ) (m1 m2 m3 : Me (Option P) (List (Entry T P))) (q : P) → Takes k from m m1 → m1.1 ≡ (k, Some q) ∷ [] → m2 ≡ (m1.0, (k, None) ∷ []) → m3 ≡ (released_view (Some (from, q)) m2.0, [])
         → m3 ≡ (releasing (Some (from, q)) (taking k from q me) ∷ [], [])
-    fetched k from found m1 m2 m3 q took hit has view given = given ∙ (λ j. (released_view (Some (from, q)) (lifted k from found m1 m2 q took hit has view j).0, []))
+    fetched k from m1 m2 m3 q took has view given = given ∙ (λ j. (released_view (Some (from, q)) (lifted k from m1 m2 q took has view j).0, []))
 
-    pub fetched_seat : (k from found : ℕ) (m1 m2 m3 : Me (Option P) (List (Entry T P))) (q : P) → Taken k from m found m1 → found ≡ 2 → m1.1 ≡ (k, Some q) ∷ [] → m2 ≡ (m1.0, (k, None) ∷ []) → m3 ≡ (released_view (Some (from, q)) m2.0, [])
+    pub fetched_seat : (k from : ℕ) (m1 m2 m3 : Me (Option P) (List (Entry T P))) (q : P) → Takes k from m m1 → m1.1 ≡ (k, Some q) ∷ [] → m2 ≡ (m1.0, (k, None) ∷ []) → m3 ≡ (released_view (Some (from, q)) m2.0, [])
         → (m3 ≡ (shown i x (Some (from, q)) r m3.0 ∷ [], [])) × (sent_in m3.0 ≡ sent_in m.0)
-    fetched_seat k from found m1 m2 m3 q took hit has view given =
-        let f = fetched k from found m1 m2 m3 q took hit has view given in
+    fetched_seat k from m1 m2 m3 q took has view given =
+        let f = fetched k from m1 m2 m3 q took has view given in
         ((settled i x (Some (from, q)) r m3 (releasing (Some (from, q)) (taking k from q me)) f refl).0, (λ j. sent_in (f j).0))
 
-    pub fetches : (k from found : ℕ) (m1 m2 m3 : Me (Option P) (List (Entry T P))) (q : P) (table table' : TableId) (n : ℕ) (w : List (ℕ × P)) (s : Post T P) → post table n me w ≡ s → table' ≡ table → s.me.hand ≡ None → k ≡ from * n + i
-        → Taken k from m found m1 → found ≡ 2 → m1.1 ≡ (k, Some q) ∷ [] → m2 ≡ (m1.0, (k, None) ∷ []) → m3 ≡ (released_view (Some (from, q)) m2.0, [])
+    pub fetches : (k from u : ℕ) (m1 m2 m3 : Me (Option P) (List (Entry T P))) (q : P) (table table' : TableId) (n : ℕ) (w : List (ℕ × P)) (s : Post T P) → post table n me w ≡ s → table' ≡ table → s.me.hand ≡ None → k ≡ slot_at n from i u → u < 4
+        → Takes k from m m1 → m1.1 ≡ (k, Some q) ∷ [] → m2 ≡ (m1.0, (k, None) ∷ []) → m3 ≡ (released_view (Some (from, q)) m2.0, [])
         → Fetches from s (post table' n (shown i x (Some (from, q)) r m3.0) w)
-    fetches k from found m1 m2 m3 q table table' n w s same same_table empty k_is took hit has view given =
-        let f = fetched k from found m1 m2 m3 q took hit has view given in
+    fetches k from u m1 m2 m3 q table table' n w s same same_table empty k_is un took has view given =
+        let f = fetched k from m1 m2 m3 q took has view given in
         let now = (settled i x (Some (from, q)) r m3 (releasing (Some (from, q)) (taking k from q me)) f refl).1 in
         subst (λ (z : Post T P). (z.me.hand ≡ None) → Fetches from z (post table' n (shown i x (Some (from, q)) r m3.0) w)) same
-        (λ none. (none, (q, (λ j. post (same_table j) n (now j) w) ∙ (λ j. post table n (releasing (Some (from, q)) (taking (k_is j) from q me)) w))))
+        (λ none. (none, (q, u, un, (λ j. post (same_table j) n (now j) w) ∙ (λ j. post table n (releasing (Some (from, q)) (taking (k_is j) from q me)) w))))
         empty
 
-    pub finds_none : (k from found : ℕ) (m1 : Me (Option P) (List (Entry T P))) (table table' : TableId) (n : ℕ) (w : List (ℕ × P)) (s : Post T P) → post table n me w ≡ s → table' ≡ table → s.me.hand ≡ None → k ≡ from * n + i
-        → Taken k from m found m1 → found ≢ 2 → FindsNone from s (post table' n (shown i x held r m1.0) w)
-    finds_none k from found m1 table table' n w s same same_table empty k_is took miss =
-        let c = took.1 miss in
-        let one : c.1.0 ≡ me = only_one c.1.0 me (sym c.1.1 ∙ ap (λ (z : Me (Option P) (List (Entry T P))). z.0) is) in
+    pub finds_none : (k : ℕ → ℕ) (from : ℕ) (m1 : Me (Option P) (List (Entry T P))) (table table' : TableId) (n : ℕ) (w : List (ℕ × P)) (s : Post T P) → post table n me w ≡ s → table' ≡ table → s.me.hand ≡ None → ((u : ℕ) → k u ≡ slot_at n from i u)
+        → m1 ≡ m → ((u : ℕ) → u < 4 → HasEmptied (k u) from m) → FindsNone from s (post table' n (shown i x held r m1.0) w)
+    finds_none k from m1 table table' n w s same same_table empty k_is still emptied =
         subst (λ (z : Post T P). (z.me.hand ≡ None) → FindsNone from z (post table' n (shown i x held r m1.0) w)) same
         (λ none. (
           none,
-          (λ j. post (same_table j) n (shown i x held r (c.0 j).0) w),
-          (λ own. subst (λ (z : ℕ × Entry T P). of z.0 z.1.placed ≡ of z.0 z.1.taken) (λ j. (k_is j, one j)) (c.1.2 (own ∙ ap (λ (z : Entry T P). z.node) (sym one)))),
+          (λ j. post (same_table j) n (shown i x held r (still j).0) w),
+          (λ own u un. let c = emptied u un in let one = only_me c.0 c.1 in subst (λ (z : ℕ × Entry T P). of z.0 z.1.placed ≡ of z.0 z.1.taken) (λ j. (k_is u j, one j)) (c.2 (own ∙ ap (λ (z : Entry T P). z.node) (sym one)))),
         ))
         empty
 
     -- the same of a parcel whose fate says what is in hand after it
-    fetched_any : (k from found : ℕ) (m1 m2 m3 : Me (Option P) (List (Entry T P))) (q : P) (h : Option (ℕ × P)) → Taken k from m found m1 → found ≡ 2 → m1.1 ≡ (k, Some q) ∷ [] → m2 ≡ (m1.0, (k, None) ∷ []) → m3 ≡ (released_view h m2.0, [])
+    fetched_any : (k from : ℕ) (m1 m2 m3 : Me (Option P) (List (Entry T P))) (q : P) (h : Option (ℕ × P)) → Takes k from m m1 → m1.1 ≡ (k, Some q) ∷ [] → m2 ≡ (m1.0, (k, None) ∷ []) → m3 ≡ (released_view h m2.0, [])
         → m3 ≡ (releasing h (taking k from q me) ∷ [], [])
-    fetched_any k from found m1 m2 m3 q h took hit has view given = given ∙ (λ j. (released_view h (lifted k from found m1 m2 q took hit has view j).0, []))
+    fetched_any k from m1 m2 m3 q h took has view given = given ∙ (λ j. (released_view h (lifted k from m1 m2 q took has view j).0, []))
 
-    pub keeps_fated : (fate : Fate) (k from found : ℕ) (m1 m2 : Me (Option P) (List (Entry T P))) (q : P) → Taken k from m found m1 → found ≡ 2 → m1.1 ≡ (k, Some q) ∷ [] → m2 ≡ (m1.0, (k, None) ∷ []) → KeepsHand m2.0 (fated_hand fate (from, q))
-    keeps_fated Pass k from found m1 m2 q took hit has view = keeps_hand k from found m1 m2 q took hit has view
-    keeps_fated Drop k from found m1 m2 q took hit has view = λ e at. inr refl
-    keeps_fated Twice k from found m1 m2 q took hit has view = keeps_hand k from found m1 m2 q took hit has view
+    pub keeps_fated : (fate : Fate) (k from : ℕ) (m1 m2 : Me (Option P) (List (Entry T P))) (q : P) → Takes k from m m1 → m1.1 ≡ (k, Some q) ∷ [] → m2 ≡ (m1.0, (k, None) ∷ []) → KeepsHand m2.0 (fated_hand fate (from, q))
+    keeps_fated Pass k from m1 m2 q took has view = keeps_hand k from m1 m2 q took has view
+    keeps_fated Drop k from m1 m2 q took has view = λ e at. inr refl
+    keeps_fated Twice k from m1 m2 q took has view = keeps_hand k from m1 m2 q took has view
 
-    pub fated_seat : (k from found : ℕ) (m1 m2 m3 : Me (Option P) (List (Entry T P))) (q : P) (h : Option (ℕ × P)) → Taken k from m found m1 → found ≡ 2 → m1.1 ≡ (k, Some q) ∷ [] → m2 ≡ (m1.0, (k, None) ∷ []) → m3 ≡ (released_view h m2.0, [])
+    pub fated_seat : (k from : ℕ) (m1 m2 m3 : Me (Option P) (List (Entry T P))) (q : P) (h : Option (ℕ × P)) → Takes k from m m1 → m1.1 ≡ (k, Some q) ∷ [] → m2 ≡ (m1.0, (k, None) ∷ []) → m3 ≡ (released_view h m2.0, [])
         → (m3 ≡ (shown i x h r m3.0 ∷ [], [])) × (sent_in m3.0 ≡ sent_in m.0)
-    fated_seat k from found m1 m2 m3 q h took hit has view given =
-        let f = fetched_any k from found m1 m2 m3 q h took hit has view given in
+    fated_seat k from m1 m2 m3 q h took has view given =
+        let f = fetched_any k from m1 m2 m3 q h took has view given in
         ((settled i x h r m3 (releasing h (taking k from q me)) f refl).0, (λ j. sent_in (f j).0))
 
-    crosses : (k from found : ℕ) (m1 m2 m3 : Me (Option P) (List (Entry T P))) (q : P) (h : Option (ℕ × P)) (table table' : TableId) (n : ℕ) (w : List (ℕ × P)) (s : Post T P) → post table n me w ≡ s → table' ≡ table → k ≡ from * n + i
-        → Taken k from m found m1 → found ≡ 2 → m1.1 ≡ (k, Some q) ∷ [] → m2 ≡ (m1.0, (k, None) ∷ []) → m3 ≡ (released_view h m2.0, [])
-        → post table' n (shown i x h r m3.0) w ≡ post s.table s.nodes (releasing h (taking (slot_from s from) from q s.me)) s.waiting
-    crosses k from found m1 m2 m3 q h table table' n w s same same_table k_is took hit has view given =
-        let f = fetched_any k from found m1 m2 m3 q h took hit has view given in
+    crosses : (k from u : ℕ) (m1 m2 m3 : Me (Option P) (List (Entry T P))) (q : P) (h : Option (ℕ × P)) (table table' : TableId) (n : ℕ) (w : List (ℕ × P)) (s : Post T P) → post table n me w ≡ s → table' ≡ table → k ≡ slot_at n from i u
+        → Takes k from m m1 → m1.1 ≡ (k, Some q) ∷ [] → m2 ≡ (m1.0, (k, None) ∷ []) → m3 ≡ (released_view h m2.0, [])
+        → post table' n (shown i x h r m3.0) w ≡ post s.table s.nodes (releasing h (taking (slot_from s from u) from q s.me)) s.waiting
+    crosses k from u m1 m2 m3 q h table table' n w s same same_table k_is took has view given =
+        let f = fetched_any k from m1 m2 m3 q h took has view given in
         let now = (settled i x h r m3 (releasing h (taking k from q me)) f refl).1 in
         (λ j. post (same_table j) n (now j) w) ∙ (λ j. post table n (releasing h (taking (k_is j) from q me)) w)
-        ∙ ap (λ (z : Post T P). post z.table z.nodes (releasing h (taking (slot_from z from) from q z.me)) z.waiting) same
+        ∙ ap (λ (z : Post T P). post z.table z.nodes (releasing h (taking (slot_from z from u) from q z.me)) z.waiting) same
 
-    pub fated : (fate : Fate) (k from found : ℕ) (m1 m2 m3 : Me (Option P) (List (Entry T P))) (q : P) (h : Option (ℕ × P)) (table table' : TableId) (n : ℕ) (w : List (ℕ × P)) (s : Post T P) → post table n me w ≡ s → table' ≡ table → s.me.hand ≡ None → k ≡ from * n + i
-        → Taken k from m found m1 → found ≡ 2 → m1.1 ≡ (k, Some q) ∷ [] → m2 ≡ (m1.0, (k, None) ∷ []) → m3 ≡ (released_view h m2.0, []) → h ≡ fated_hand fate (from, q)
+    pub fated : (fate : Fate) (k from u : ℕ) (m1 m2 m3 : Me (Option P) (List (Entry T P))) (q : P) (h : Option (ℕ × P)) (table table' : TableId) (n : ℕ) (w : List (ℕ × P)) (s : Post T P) → post table n me w ≡ s → table' ≡ table → s.me.hand ≡ None → k ≡ slot_at n from i u → u < 4
+        → Takes k from m m1 → m1.1 ≡ (k, Some q) ∷ [] → m2 ≡ (m1.0, (k, None) ∷ []) → m3 ≡ (released_view h m2.0, []) → h ≡ fated_hand fate (from, q)
         → IsFated from fate s (post table' n (shown i x h r m3.0) w)
-    fated Pass k from found m1 m2 m3 q h table table' n w s same same_table empty k_is took hit has view given is_hand =
-        (empty, (q, crosses k from found m1 m2 m3 q h table table' n w s same same_table k_is took hit has view given ∙ (λ j. post s.table s.nodes (releasing (is_hand j) (taking (slot_from s from) from q s.me)) s.waiting)))
-    fated Drop k from found m1 m2 m3 q h table table' n w s same same_table empty k_is took hit has view given is_hand =
-        (empty, (q, crosses k from found m1 m2 m3 q h table table' n w s same same_table k_is took hit has view given ∙ (λ j. post s.table s.nodes (releasing (is_hand j) (taking (slot_from s from) from q s.me)) s.waiting)))
-    fated Twice k from found m1 m2 m3 q h table table' n w s same same_table empty k_is took hit has view given is_hand =
-        (empty, (q, crosses k from found m1 m2 m3 q h table table' n w s same same_table k_is took hit has view given ∙ (λ j. post s.table s.nodes (releasing (is_hand j) (taking (slot_from s from) from q s.me)) s.waiting)))
+    fated Pass k from u m1 m2 m3 q h table table' n w s same same_table empty k_is un took has view given is_hand =
+        (empty, (q, u, un, crosses k from u m1 m2 m3 q h table table' n w s same same_table k_is took has view given ∙ (λ j. post s.table s.nodes (releasing (is_hand j) (taking (slot_from s from u) from q s.me)) s.waiting)))
+    fated Drop k from u m1 m2 m3 q h table table' n w s same same_table empty k_is un took has view given is_hand =
+        (empty, (q, u, un, crosses k from u m1 m2 m3 q h table table' n w s same same_table k_is took has view given ∙ (λ j. post s.table s.nodes (releasing (is_hand j) (taking (slot_from s from u) from q s.me)) s.waiting)))
+    fated Twice k from u m1 m2 m3 q h table table' n w s same same_table empty k_is un took has view given is_hand =
+        (empty, (q, u, un, crosses k from u m1 m2 m3 q h table table' n w s same same_table k_is took has view given ∙ (λ j. post s.table s.nodes (releasing (is_hand j) (taking (slot_from s from u) from q s.me)) s.waiting)))
 
 module _ {H S M : Type 0} (core : Core H S M) where
   abbrev P : Type 0
@@ -172,7 +171,7 @@ module _ {H S M : Type 0} (core : Core H S M) where
   -- a parcel was fetched, and what is fetched is delivered
   pub took : (from : ℕ) (s s1 s2 t : P) (b : Bool) → (s.me.hand ≡ None) × (s1 ≡ s) → Fetches from s1 s2 → MatchBool b (Delivers core s2 t) ((s2.me.hand ≡ None) × (t ≡ s2)) → Delivers core s t ⊎ ((mid : P) × Fetches from s mid × Delivers core mid t)
   took from s s1 s2 t true still got did = inr (s2, subst (λ (z : P). Fetches from z s2) still.1 got, did)
-  took from s s1 s2 t false still got did = let full : s2.me.hand ≡ Some (from, got.1.0) = ap (λ (z : P). z.me.hand) got.1.1 in let empty : s2.me.hand ≡ None = did.0 in absurd (cc)
+  took from s s1 s2 t false still got did = let full : s2.me.hand ≡ Some (from, got.1.0) = ap (λ (z : P). z.me.hand) got.1.3 in let empty : s2.me.hand ≡ None = did.0 in absurd (cc)
 
   pub none_there : (from : ℕ) (s s1 t : P) → (s.me.hand ≡ None) × (s1 ≡ s) → FindsNone from s1 t → FindsNone from s t
   none_there from s s1 t still found = subst (λ (z : P). FindsNone from z t) still.1 found

@@ -54,12 +54,12 @@ module _ {H S M : Type 0} (core : Core H S M) where
   moved_nodes : (s t : Station core) → Moves core s t → t.nodes ≡ s.nodes
   moved_nodes s t (inl did) = ap (λ (z : Station core). z.nodes) did.3
   moved_nodes s t (inr (inl did)) = ap (λ (z : Station core). z.nodes) did.3
-  moved_nodes s t (inr (inr (inl did))) = ap (λ (z : Station core). z.nodes) did.1.1.1
-  moved_nodes s t (inr (inr (inr (inl did)))) = ap (λ (z : Station core). z.nodes) did.1.1.1
+  moved_nodes s t (inr (inr (inl did))) = ap (λ (z : Station core). z.nodes) did.1.1.3
+  moved_nodes s t (inr (inr (inr (inl did)))) = ap (λ (z : Station core). z.nodes) did.1.1.3
   moved_nodes s t (inr (inr (inr (inr (inl did))))) = put_nodes s t did.0 did.1
     where
       put_nodes : (s t : Station core) (r : PutOut) → PutsOut s r t → t.nodes ≡ s.nodes
-      put_nodes s t Sent did = ap (λ (z : Station core). z.nodes) did.4
+      put_nodes s t Sent did = ap (λ (z : Station core). z.nodes) did.6
       put_nodes s t Full did = ap (λ (z : Station core). z.nodes) did.4
       put_nodes s t Nothing did = ap (λ (z : Station core). z.nodes) did.1
   moved_nodes s t (inr (inr (inr (inr (inr did))))) = ap (λ (z : Station core). z.nodes) did

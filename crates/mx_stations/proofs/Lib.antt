@@ -16,4 +16,5 @@ pub mod Whole
 pub mod Deciding
 pub mod Toils
 pub mod SameTable
+pub mod Returning
 pub mod Turning

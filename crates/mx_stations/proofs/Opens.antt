@@ -2,8 +2,7 @@
 use Rattle.std.proofs.Common.{◌≡◌, inl, inr, ⊎_elim, ℕ, zero, suc, ◌+◌, ◌*◌, ◌<◌, ◌≤◌, ◌^◌, List, [], ◌∷◌, ◌++◌, map, length, replicate, drop, slice_index_or, Option, Some, None, refl, sym, ap, ◌∙◌, subst, arith, length-append}
 use mathlib.Core.Option.{some, some-injective, some-ne-none}
 use mathlib.Core.Option as maybe
-use Rattle.std.proofs.lemmas.Nat.{mul-add-lt}
-use Rattle.mx_stations.specs.Links.{free, Link, Links}
+use Rattle.mx_stations.specs.Links.{free, Link, Links, slot_at}
 use lib.ListN.{get_elem?}
 use Rattle.atomic_table.specs.Table.{opening}
 use Rattle.atomic_table.specs.Seated.{TableId}
@@ -19,6 +18,7 @@ use Rattle.mx_member.proofs.Running.{running_at_start}
 use Rattle.mx_stations.specs.Entries.{Entry, Node, owned_of}
 use Rattle.mx_stations.specs.Running.{Holds, Once, Stands, all_but_first, all_from, all_of, fresh, only_first, sent_of, status, word_of}
 use Rattle.mx_stations.specs.Posts.{Post}
+use Rattle.mx_stations.proofs.Pairs.{slot_low}
 use Rattle.mx_stations.proofs.Seats.{at_end}
 
 module _ {A : Type 0} where
@@ -103,20 +103,20 @@ replicate_length (suc n) a = ap suc (replicate_length n a)
 
 module _ {T : Type 0} (P : Type 0) (starts : ℕ → T) where
   -- each slot is empty, and at home
-  fresh_links : (n : ℕ) → Links n (replicate (n + n * n) 0) (map some (replicate (n * n) None)) (all_of n (λ i. fresh {T = T} {P = P} i (starts i)))
+  fresh_links : (n : ℕ) → Links n (replicate (n + n * n * 4) 0) (map some (replicate (n * n * 4) None)) (all_of n (λ i. fresh {T = T} {P = P} i (starts i)))
   fresh_links n =
       let F : ℕ → Entry T P = λ i. fresh i (starts i) in
       record {
         phase = (λ k. free);
-        wide = ap length (map_replicate {B = maybe.Option (Option P)} some (n * n) None) ∙ replicate_length (n * n) (some None);
-        each = (λ a b e f ea fb.
+        wide = ap length (map_replicate {B = maybe.Option (Option P)} some (n * n * 4) None) ∙ replicate_length (n * n * 4) (some None);
+        each = (λ a b v e f in_four ea fb.
             let x = all_at 0 n F a e ea in let y = all_at 0 n F b f fb in
-            let k : ℕ = a * n + b in
-            let low : k < n * n = mul-add-lt a n b n x.0 y.0 in
-            subst (λ (z : Entry T P × Entry T P). Link n (replicate (n + n * n) 0) (map some (replicate (n * n) None)) k b z.0 z.1 free) (λ j. (sym x.1 j, sym y.1 j))
+            let k : ℕ = slot_at n a b v in
+            let low : k < n * n * 4 = slot_low n a b v x.0 y.0 in_four in
+            subst (λ (z : Entry T P × Entry T P). Link n (replicate (n + n * n * 4) 0) (map some (replicate (n * n * 4) None)) k b z.0 z.1 free) (λ j. (sym x.1 j, sym y.1 j))
             record {
-              word = replicate_at (n + n * n) 0 (n + k) (omega arith);
-              lies = ap (λ (l : List (maybe.Option (Option P))). get_elem? l k) (map_replicate {B = maybe.Option (Option P)} some (n * n) None) ∙ replicate_at (n * n) (some None) k low;
+              word = replicate_at (n + n * n * 4) 0 (n + k) (omega arith);
+              lies = ap (λ (l : List (maybe.Option (Option P))). get_elem? l k) (map_replicate {B = maybe.Option (Option P)} some (n * n * 4) None) ∙ replicate_at (n * n * 4) (some None) k low;
               log = refl;
               sent = tt;
               writer = ((λ h. h), (λ h. h));
@@ -132,8 +132,8 @@ all_each (suc n) f = last_out 0 n f ∙ (λ i. all_each n f i ++ f (let e : 0 + 
 
 module _ {H S M : Type 0} (core : Core H S M) (IsShape : H → Type 0) (Good : World S M → Type 0) (phases : KeepsPhases core) (laws : KeepsGood core IsShape Good) where
   -- nodes at rest, at words of 0 and empty slots
-  pub begins : (shape : H) (n origin limit registers : ℕ) (words : List ℕ) → n ≡ core.count shape → IsShape shape → origin < 2 ^ 64 → 0 < limit → limit ≤ 1000000 → words ≡ replicate (n + n * n) 0
-      → Holds core Good n (opening words (replicate (n * n) None) (all_of n (λ i. fresh i (start_of core shape i origin limit registers))))
+  pub begins : (shape : H) (n origin limit registers : ℕ) (words : List ℕ) → n ≡ core.count shape → IsShape shape → origin < 2 ^ 64 → 0 < limit → limit ≤ 1000000 → words ≡ replicate (n + n * n * 4) 0
+      → Holds core Good n (opening words (replicate (n * n * 4) None) (all_of n (λ i. fresh i (start_of core shape i origin limit registers))))
   begins shape n origin limit registers words count valid low some_left high is =
       let starts : ℕ → MemberState S = λ i. start_of core shape i origin limit registers in
       let F : ℕ → Node S M = λ i. fresh i (starts i) in
@@ -146,12 +146,12 @@ module _ {H S M : Type 0} (core : Core H S M) (IsShape : H → Type 0) (Good : W
           shows = (λ i e at. let r = all_at 0 n F i e at in
               let zero_word : word_of core e.member ≡ 0 = ap (λ (z : Node S M). word_of core z.member) r.1 ∙ ap (λ p. status p (core.mine (starts (0 + i)).core)) (phases.started_idle shape (0 + i) origin limit) ∙ ap (λ (k : ℕ). 2 * k) (phases.started_mine shape (0 + i) origin limit) in
               let inside = r.0 in
-              ap (λ (ws : List ℕ). get_elem? ws i) is ∙ replicate_at (n + n * n) 0 i (omega arith) ∙ ap some (sym zero_word));
+              ap (λ (ws : List ℕ). get_elem? ws i) is ∙ replicate_at (n + n * n * 4) 0 i (omega arith) ∙ ap some (sym zero_word));
           runs = subst (λ (z : List (Owned S)). IsRunning core Good z (sent_of (all_of n F))) (sym owned)
               (subst (λ (z : List (ℕ × ℕ × Parcel M)). IsRunning core Good (each_below (λ i. owned_start core shape i origin limit registers) (core.count shape)) z) (sym (fresh_sent starts 0 n)) (running_at_start core IsShape Good phases laws shape origin limit registers valid low some_left high));
           held = (λ i e x at h. let r = all_at 0 n F i e at in absurd (let no : None ≡ Some x = ap (λ (z : Node S M). z.hand) (sym r.1) ∙ h in cc));
         };
-        links = subst (λ (ws : List ℕ). Links n ws (map some (replicate (n * n) None)) (all_of n F)) (sym is) (fresh_links (Parcel M) starts n);
+        links = subst (λ (ws : List ℕ). Links n ws (map some (replicate (n * n * 4) None)) (all_of n F)) (sym is) (fresh_links (Parcel M) starts n);
       }
 
 module _ {T P : Type 0} where

@@ -1,6 +1,6 @@
 -- How one node's change keeps the slots.
 use Rattle.std.proofs.Common.{◌≡◌, ◌≢◌, ⊎_elim, ℕ, ◌+◌, ◌*◌, ◌<◌, ◌/◌, ◌%◌, List, [], ◌∷◌, ◌++◌, length, set, Option, Bool, true, false, cond, eqb, eq-eqb, ne_eqb, refl, sym, ap, ◌∙◌, subst, arith, length-set}
-use Rattle.std.proofs.lemmas.Nat.{div-mul-add, mod-mul-add}
+use Rattle.std.proofs.lemmas.Nat.{div-mul-add, mod-mul-add, mul-add-lt}
 use mathlib.Core.Option.{some, some-injective, some-ne-none}
 use mathlib.Core.Option as maybe
 use mathlib.Core.Logic.{dite}
@@ -9,13 +9,28 @@ use lib.ListN.{get_elem?}
 use Rattle.atomic_table.proofs.Lists.{at_set, set_else}
 use Rattle.mx_stamps.specs.Lists.{IsIn}
 use Rattle.mx_stations.specs.Entries.{Entry}
-use Rattle.mx_stations.specs.Links.{Phase, free, writing, full, reading, of, Writes, Reads, waiting, Lies, WasSent, Link, Links}
+use Rattle.mx_stations.specs.Links.{Phase, free, writing, full, reading, of, Writes, Reads, waiting, Lies, WasSent, Link, Links, slot_at}
 use Rattle.mx_stations.proofs.Places.{within}
 
--- a slot belongs to one pair of nodes
-pub one_pair : (n a b c d : ℕ) → b < n → d < n → a * n + b ≡ c * n + d → (a ≡ c) × (b ≡ d)
+one_pair : (n a b c d : ℕ) → b < n → d < n → a * n + b ≡ c * n + d → (a ≡ c) × (b ≡ d)
 one_pair n a b c d hb hd e =
     (sym (div-mul-add a n b hb) ∙ ap (λ (z : ℕ). z / n) e ∙ div-mul-add c n d hd, sym (mod-mul-add a n b hb) ∙ ap (λ (z : ℕ). z % n) e ∙ mod-mul-add c n d hd)
+
+one_of_four : (k l i j : ℕ) → i < 4 → j < 4 → k * 4 + i ≡ l * 4 + j → (k ≡ l) × (i ≡ j)
+one_of_four k l i j hi hj e = (omega arith, omega arith)
+
+-- a slot belongs to one pair of nodes, and has one index there
+pub one_slot : (n a b i c d j : ℕ) → b < n → d < n → i < 4 → j < 4 → slot_at n a b i ≡ slot_at n c d j → (a ≡ c) × (b ≡ d) × (i ≡ j)
+one_slot n a b i c d j hb hd hi hj e =
+    let four = one_of_four (a * n + b) (c * n + d) i j hi hj e in let pair = one_pair n a b c d hb hd four.0 in
+    (pair.0, pair.1, four.1)
+
+four_low : (k m i : ℕ) → k < m → i < 4 → k * 4 + i < m * 4
+four_low k m i low h = omega arith
+
+-- each slot is one of them all
+pub slot_low : (n a b i : ℕ) → a < n → b < n → i < 4 → slot_at n a b i < n * n * 4
+slot_low n a b i ha hb hi = four_low (a * n + b) (n * n) i (mul-add-lt a n b n ha hb) hi
 
 -- f, but for k
 abbrev pub but : {A : Type 0} → (ℕ → A) → ℕ → A → ℕ → A
@@ -93,38 +108,38 @@ module _ {T P : Type 0} where
       record {
         phase = ls.phase;
         wide = ls.wide;
-        each = (λ a b x y ax by.
-            let k : ℕ = a * n + b in
+        each = (λ a b v x y low ax by.
+            let k : ℕ = slot_at n a b v in
             let ox = after world i e e' (Keeps k) at (changed k) (unchanged k) a x ax in
             let oy = after world i e e' (Keeps k) at (changed k) (unchanged k) b y by in
-            link_stays n words words' homes homes k b ox.0 oy.0 x y (ls.phase k) (ls.each a b ox.0 oy.0 ox.1 oy.1) (same_words k) refl ox.2 oy.2);
+            link_stays n words words' homes homes k b ox.0 oy.0 x y (ls.phase k) (ls.each a b v ox.0 oy.0 low ox.1 oy.1) (same_words k) refl ox.2 oy.2);
       }
 
-  -- a change of the one slot from c to d
-  pub links_step : (n : ℕ) (words : List ℕ) (homes homes' : List (maybe.Option (Option P))) (world : List (Entry T P)) (i : ℕ) (e e' : Entry T P) (c d : ℕ) (w : ℕ) (ph : Phase P)
-      → Links n words homes world → length world ≡ n → get_elem? world i ≡ some e → d < n
-      → length homes' ≡ length homes → ((k : ℕ) → k ≢ c * n + d → get_elem? homes' k ≡ get_elem? homes k) → ((k : ℕ) → k ≢ c * n + d → Keeps k e e')
-      → ((x y : Entry T P) → get_elem? (set world i e') c ≡ some x → get_elem? (set world i e') d ≡ some y → Link n (set words (n + (c * n + d)) w) homes' (c * n + d) d x y ph)
-      → Links n (set words (n + (c * n + d)) w) homes' (set world i e')
-  links_step n words homes homes' world i e e' c d w ph ls long at in_n homes_long homes_else changed new =
-      let s : ℕ = c * n + d in
+  -- a change of the one slot from c to d with the index u
+  pub links_step : (n : ℕ) (words : List ℕ) (homes homes' : List (maybe.Option (Option P))) (world : List (Entry T P)) (i : ℕ) (e e' : Entry T P) (c d u : ℕ) (w : ℕ) (ph : Phase P)
+      → Links n words homes world → length world ≡ n → get_elem? world i ≡ some e → d < n → u < 4
+      → length homes' ≡ length homes → ((k : ℕ) → k ≢ slot_at n c d u → get_elem? homes' k ≡ get_elem? homes k) → ((k : ℕ) → k ≢ slot_at n c d u → Keeps k e e')
+      → ((x y : Entry T P) → get_elem? (set world i e') c ≡ some x → get_elem? (set world i e') d ≡ some y → Link n (set words (n + slot_at n c d u) w) homes' (slot_at n c d u) d x y ph)
+      → Links n (set words (n + slot_at n c d u) w) homes' (set world i e')
+  links_step n words homes homes' world i e e' c d u w ph ls long at in_n in_four homes_long homes_else changed new =
+      let s : ℕ = slot_at n c d u in
       record {
         phase = but ls.phase s ph;
         wide = homes_long ∙ ls.wide;
-        each = (λ a b x y ax by.
-            let k : ℕ = a * n + b in
+        each = (λ a b v x y low ax by.
+            let k : ℕ = slot_at n a b v in
             let now : List (Entry T P) = set world i e' in
             let len : length now ≡ n = length-set world i e' ∙ long in
             let bn : b < n = subst (λ (z : ℕ). b < z) len (within now b y by) in
             dite (ℕ_discrete k s)
-            (λ is. let p = one_pair n a b c d bn in_n is in
-            subst (λ (z : ℕ × ℕ). Link n (set words (n + s) w) homes' (z.0 * n + z.1) z.1 x y (but ls.phase s ph (z.0 * n + z.1))) (λ j. (sym p.0 j, sym p.1 j))
+            (λ is. let p = one_slot n a b v c d u bn in_n low in_four is in
+            subst (λ (z : ℕ × ℕ × ℕ). Link n (set words (n + s) w) homes' (slot_at n z.0 z.1 z.2) z.1 x y (but ls.phase s ph (slot_at n z.0 z.1 z.2))) (λ j. (sym p.0 j, sym p.1 j, sym p.2 j))
             (subst (λ (z : Phase P). Link n (set words (n + s) w) homes' s d x y z) (sym (but_here ls.phase s ph))
             (new x y (ap (λ (z : ℕ). get_elem? now z) (sym p.0) ∙ ax) (ap (λ (z : ℕ). get_elem? now z) (sym p.1) ∙ by))))
             (λ ne.
             let ox = after world i e e' (Keeps k) at (changed k ne) (unchanged k) a x ax in
             let oy = after world i e e' (Keeps k) at (changed k ne) (unchanged k) b y by in
             subst (λ (z : Phase P). Link n (set words (n + s) w) homes' k b x y z) (sym (but_else ls.phase s ph k ne))
-            (link_stays n words (set words (n + s) w) homes homes' k b ox.0 oy.0 x y (ls.phase k) (ls.each a b ox.0 oy.0 ox.1 oy.1)
+            (link_stays n words (set words (n + s) w) homes homes' k b ox.0 oy.0 x y (ls.phase k) (ls.each a b v ox.0 oy.0 low ox.1 oy.1)
             (set_else words (n + s) (n + k) w (λ e. ne (omega arith))) (homes_else k ne) ox.2 oy.2)));
       }

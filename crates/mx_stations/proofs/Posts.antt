@@ -1,5 +1,5 @@
 -- What a station knows of its node before and after an act.
-use Rattle.std.proofs.Common.{◌≡◌, ◌≢◌, inl, ℕ, ◌<◌, List, [], ◌∷◌, ◌++◌, Bool, true, false, MatchBool, Option, Some, None, Result, Ok, Err, OnErr, refl, sym, ap, ◌∙◌, subst}
+use Rattle.std.proofs.Common.{◌≡◌, ◌≢◌, inl, ℕ, ◌<◌, List, [], ◌∷◌, ◌++◌, Bool, true, false, MatchBool, MatchOption, Option, Some, None, Result, Ok, Err, OnErr, refl, sym, ap, ◌∙◌, subst}
 use Rattle.atomic_table.specs.Table.{Me}
 use Rattle.atomic_table.specs.Seated.{TableId}
 use Rattle.mx_stamps.specs.Lists.{IsIn}
@@ -19,6 +19,10 @@ use Rattle.mx_stations.proofs.Waits.{waits_after}
 pub on_err : {A E : Type 0} (r : Result A E) (P : Type 0) → P → OnErr r P
 on_err (Ok a) P p = tt
 on_err (Err e) P p = p
+
+pub match_none : {A X : Type 0} (Y : A → Type 0) (o : Option A) → o ≡ None → X → MatchOption o X Y
+match_none Y None e x = x
+match_none Y (Some a) e x = absurd (cc)
 
 pub match_true : {X : Type 0} (Y : Type 0) (b : Bool) → MatchBool b X Y → b ≡ true → X
 match_true Y true x e = x

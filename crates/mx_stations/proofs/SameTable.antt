@@ -27,7 +27,7 @@ module _ {T P : Type 0} where
 
   -- a try to put a parcel out
   pub put_kept : (s t : Post T P) (r : PutOut) → PutsOut s r t → KeepsTable s t
-  put_kept s t Sent did = same_post s t _ did.4 (refl, refl)
+  put_kept s t Sent did = same_post s t _ did.6 (refl, refl)
   put_kept s t Full did = same_post s t _ did.4 (refl, refl)
   put_kept s t Nothing did = stays_kept s t did.1
 
@@ -72,16 +72,16 @@ module _ {H S M : Type 0} (core : Core H S M) where
   -- a try to take a parcel in
   pub take_kept : (from : ℕ) (r : Result Taken TakeFault) (s t : Station core) → IfOk r (λ taken. TakesIn core from s taken t) → OnErr r (KeepsInHand from s t) → KeepsTable s t
   take_kept from (Ok Got) s t (inl did) fault = same_post s t _ did.3 (refl, refl)
-  take_kept from (Ok Got) s t (inr did) fault = kept_on s did.0 t (same_post s did.0 _ did.1.1.1 (refl, refl)) (same_post did.0 t _ did.2.3 (refl, refl))
+  take_kept from (Ok Got) s t (inr did) fault = kept_on s did.0 t (same_post s did.0 _ did.1.1.3 (refl, refl)) (same_post did.0 t _ did.2.3 (refl, refl))
   take_kept from (Ok Empty) s t did fault = stays_kept s t did.1
   take_kept from (Err e) s t did (inl fault) = stays_kept s t fault.1
-  take_kept from (Err e) s t did (inr fault) = same_post s t _ fault.1.1 (refl, refl)
+  take_kept from (Err e) s t did (inr fault) = same_post s t _ fault.1.3 (refl, refl)
 
   move_kept : (s t : Station core) → Moves core s t → KeepsTable s t
   move_kept s t (inl did) = same_post s t _ did.3 (refl, refl)
   move_kept s t (inr (inl did)) = same_post s t _ did.3 (refl, refl)
-  move_kept s t (inr (inr (inl did))) = same_post s t _ did.1.1.1 (refl, refl)
-  move_kept s t (inr (inr (inr (inl did)))) = same_post s t _ did.1.1.1 (refl, refl)
+  move_kept s t (inr (inr (inl did))) = same_post s t _ did.1.1.3 (refl, refl)
+  move_kept s t (inr (inr (inr (inl did)))) = same_post s t _ did.1.1.3 (refl, refl)
   move_kept s t (inr (inr (inr (inr (inl did))))) = put_kept s t did.0 did.1
   move_kept s t (inr (inr (inr (inr (inr did))))) = same_post s t _ did (refl, refl)
 

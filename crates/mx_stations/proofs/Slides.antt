@@ -1,6 +1,5 @@
 -- The four steps of a parcel keep the rule.
-use Rattle.std.proofs.Common.{◌≡◌, ◌≢◌, ◌⊎◌, inl, inr, ⊎_elim, ℕ, zero, suc, ◌+◌, ◌*◌, ◌<◌, List, [], ◌∷◌, ◌++◌, map, length, set, get_or, Option, Some, None, eqb, refl, sym, ap, ◌∙◌, subst, arith, length-set, length-append, append-nil}
-use Rattle.std.proofs.lemmas.Nat.{mul-add-lt}
+use Rattle.std.proofs.Common.{◌≡◌, ◌≢◌, ◌⊎◌, inl, inr, ⊎_elim, ℕ, zero, suc, ◌+◌, ◌<◌, List, [], ◌∷◌, ◌++◌, map, length, set, get_or, Option, Some, None, eqb, refl, sym, ap, ◌∙◌, subst, arith, length-set, length-append, append-nil}
 use mathlib.Core.Option.{none, some, some-injective, some-ne-none}
 use mathlib.Core.Option as maybe
 use lib.ListN.{get_elem?}
@@ -15,11 +14,11 @@ use Rattle.mx_member.specs.Running.{IsRunning, Owned}
 use Rattle.mx_stations.specs.Entries.{Entry, Node, owned_of}
 use Rattle.mx_stations.specs.Entries.{Stage}
 use Rattle.mx_stations.specs.Entries.{Idle, Writing, Reading}
-use Rattle.mx_stations.specs.Links.{Phase, free, writing, full, reading, of, Writes, Reads, face, waiting, IsWriting, IsReading, Lies, WasSent, Link}
+use Rattle.mx_stations.specs.Links.{Phase, free, writing, full, reading, of, Writes, Reads, face, waiting, IsWriting, IsReading, Lies, WasSent, Link, slot_at}
 use Rattle.mx_stations.specs.Running.{Holds, IsIdle, Shown, sent_of, word_of}
 use Rattle.mx_stations.specs.Slides.{claiming, placing, taking, releasing, Claimed, Taken, placed_view, released_view, IsFilling, IsHolding, KeepsHand}
 use Rattle.mx_stations.proofs.Places.{within, one_at, sent_in_world, moves, set_same}
-use Rattle.mx_stations.proofs.Pairs.{links_step, Keeps, of_more, of_other}
+use Rattle.mx_stations.proofs.Pairs.{links_step, Keeps, of_more, of_other, slot_low}
 
 pub word_read : (ns : List ℕ) (i a : ℕ) → get_elem? ns i ≡ some a → get_or ns i 0 ≡ a
 word_read [] i a e = absurd (some-ne-none a (sym e))
@@ -61,19 +60,19 @@ module _ {H S M : Type 0} (core : Core H S M) (Good : World S M → Type 0) wher
       }
 
   -- one step of a parcel: the seat's node changes, and one slot with its word
-  slides : (n : ℕ) (s : State (Option (Parcel M)) (List (Node S M))) (id : ℕ) (e e' : Node S M) (c d w : ℕ) (homes' : List (maybe.Option (Option (Parcel M)))) (ph : Phase (Parcel M))
-      → (h : Holds core Good n s) → get_elem? s.views id ≡ some (e ∷ []) → d < n → e'.node ≡ e.node → owned_of e' ≡ owned_of e → e'.sent ≡ e.sent
+  slides : (n : ℕ) (s : State (Option (Parcel M)) (List (Node S M))) (id : ℕ) (e e' : Node S M) (c d u w : ℕ) (homes' : List (maybe.Option (Option (Parcel M)))) (ph : Phase (Parcel M))
+      → (h : Holds core Good n s) → get_elem? s.views id ≡ some (e ∷ []) → d < n → u < 4 → e'.node ≡ e.node → owned_of e' ≡ owned_of e → e'.sent ≡ e.sent
       → ((x : ℕ × Parcel M) → e'.hand ≡ Some x → IsIn (x.0, e.node, x.1) (sent_of h.world))
-      → length homes' ≡ length s.homes → ((k : ℕ) → k ≢ c * n + d → get_elem? homes' k ≡ get_elem? s.homes k) → ((k : ℕ) → k ≢ c * n + d → Keeps k e e')
-      → ((x y : Node S M) → get_elem? (set h.world e.node e') c ≡ some x → get_elem? (set h.world e.node e') d ≡ some y → Link n (set s.words (n + (c * n + d)) w) homes' (c * n + d) d x y ph)
-      → Holds core Good n record { words = set s.words (n + (c * n + d)) w; homes = homes'; views = set s.views id (e' ∷ []) }
-  slides n s id e e' c d w homes' ph h at dn node state sent held homes_long homes_else changed new =
+      → length homes' ≡ length s.homes → ((k : ℕ) → k ≢ slot_at n c d u → get_elem? homes' k ≡ get_elem? s.homes k) → ((k : ℕ) → k ≢ slot_at n c d u → Keeps k e e')
+      → ((x y : Node S M) → get_elem? (set h.world e.node e') c ≡ some x → get_elem? (set h.world e.node e') d ≡ some y → Link n (set s.words (n + slot_at n c d u) w) homes' (slot_at n c d u) d x y ph)
+      → Holds core Good n record { words = set s.words (n + slot_at n c d u) w; homes = homes'; views = set s.views id (e' ∷ []) }
+  slides n s id e e' c d u w homes' ph h at dn un node state sent held homes_long homes_else changed new =
       let here = (h.stands.known id (e ∷ []) e at (inl refl)).0 in
       record {
         world = set h.world e.node e';
         stands = moves n s.views h.world id e e' h.stands at node;
-        shown = shown_still n s.words h.world e.node e e' (c * n + d) w h.shown h.stands.long here node state sent held;
-        links = links_step n s.words s.homes homes' h.world e.node e e' c d w ph h.links h.stands.long here dn homes_long homes_else changed new;
+        shown = shown_still n s.words h.world e.node e e' (slot_at n c d u) w h.shown h.stands.long here node state sent held;
+        links = links_step n s.words s.homes homes' h.world e.node e e' c d u w ph h.links h.stands.long here dn un homes_long homes_else changed new;
       }
 
 pub some_at : {A : Type 0} (l : List A) (i : ℕ) → i < length l → (a : A) × (get_elem? l i ≡ some a)
@@ -180,13 +179,13 @@ module _ {H S M : Type 0} (core : Core H S M) (Good : World S M → Type 0) wher
       subst (λ (z : List ℕ × List (List (Node S M))). Rule n record { words = z.0; homes = s.homes; views = z.1 }) (λ j. (sym (set_same s.words i) j, sym (set_again s.views id (e ∷ []) at) j)) h
 
   -- the sender takes an empty slot
-  pub claims : (n slots id b : ℕ) (e : Node S M) → b < n → e.stage ≡ Idle
-      → Allows (Rule n) slots id (e ∷ [], []) (n + (e.node * n + b)) (λ m. either (eqb m 0) 1 m) (Claimed (e.node * n + b) (e ∷ [], []))
-  claims n slots id b e bn idle s h homes at small =
-      let a : ℕ = e.node in let k : ℕ = a * n + b in let e' : Node S M = claiming k e in
+  pub claims : (n slots id b u : ℕ) (e : Node S M) → b < n → u < 4 → e.stage ≡ Idle
+      → Allows (Rule n) slots id (e ∷ [], []) (n + slot_at n e.node b u) (λ m. either (eqb m 0) 1 m) (Claimed (slot_at n e.node b u) (e ∷ [], []))
+  claims n slots id b u e bn un idle s h homes at small =
+      let a : ℕ = e.node in let k : ℕ = slot_at n a b u in let e' : Node S M = claiming k e in
       let here = (h.stands.known id (e ∷ []) e at (inl refl)).0 in
       let fb = some_at h.world b (subst (λ (z : ℕ). b < z) (sym h.stands.long) bn) in
-      let ph = h.links.phase k in let l = h.links.each a b e fb.0 here fb.1 in
+      let ph = h.links.phase k in let l = h.links.each a b u e fb.0 un here fb.1 in
       let found : ℕ = get_or s.words (n + k) 0 in
       let found_is : found ≡ face ph = word_read s.words (n + k) (face ph) l.word in
       let in_words = within s.words (n + k) (face ph) l.word in
@@ -196,7 +195,7 @@ module _ {H S M : Type 0} (core : Core H S M) (Good : World S M → Type 0) wher
         e' ∷ [],
         takes k None,
         free_lies s.homes k ph empty l.lies,
-        slides core Good n s id e e' a b 1 (set s.homes k none) writing h at bn refl refl refl (λ x held. h.shown.held a e x here held)
+        slides core Good n s id e e' a b u 1 (set s.homes k none) writing h at bn un refl refl refl (λ x held. h.shown.held a e x here held)
             (length-set s.homes k none) (λ j ne. set_else s.homes k j none ne)
             (λ j ne. keeps_quiet j e e' (quiet_idle j e.stage idle) (quiet_writing j k (Writing k) ne refl) refl refl refl)
             (λ x y ax by. let x_is = one_at (set h.world a e') a x e' ax (set_here h.world a e' (within h.world a e here)) in
@@ -224,20 +223,20 @@ module _ {H S M : Type 0} (core : Core H S M) (Good : World S M → Type 0) wher
       ))
 
   -- the sender gives the slot back, with a parcel that it has sent
-  pub places : (n slots id b : ℕ) (e : Node S M) (p : Parcel M) → b < n → e.stage ≡ Writing (e.node * n + b) → IsIn (b, p) e.sent
-      → Allows (Rule n) slots id (e ∷ [], (e.node * n + b, Some p) ∷ []) (n + (e.node * n + b)) (λ _. 2) (λ _ m. m ≡ (placing (e.node * n + b) p e ∷ [], []))
-  places n slots id b e p bn stage was_sent s h homes at small =
-      let a : ℕ = e.node in let k : ℕ = a * n + b in let e' : Node S M = placing k p e in
+  pub places : (n slots id b u : ℕ) (e : Node S M) (p : Parcel M) → b < n → u < 4 → e.stage ≡ Writing (slot_at n e.node b u) → IsIn (b, p) e.sent
+      → Allows (Rule n) slots id (e ∷ [], (slot_at n e.node b u, Some p) ∷ []) (n + slot_at n e.node b u) (λ _. 2) (λ _ m. m ≡ (placing (slot_at n e.node b u) p e ∷ [], []))
+  places n slots id b u e p bn un stage was_sent s h homes at small =
+      let a : ℕ = e.node in let k : ℕ = slot_at n a b u in let e' : Node S M = placing k p e in
       let here = (h.stands.known id (e ∷ []) e at (inl refl)).0 in
       let an : a < n = subst (λ (z : ℕ). a < z) h.stands.long (within h.world a e here) in
       let fb = some_at h.world b (subst (λ (z : ℕ). b < z) (sym h.stands.long) bn) in
-      let ph = h.links.phase k in let l = h.links.each a b e fb.0 here fb.1 in
+      let ph = h.links.phase k in let l = h.links.each a b u e fb.0 un here fb.1 in
       let is_writing = writing_is ph (l.writer.0 (subst (Writes k) (sym stage) refl)) in
-      let in_homes : k < length s.homes = subst (λ (z : ℕ). k < z) (sym h.links.wide) (mul-add-lt a n b n an bn) in (
+      let in_homes : k < length s.homes = subst (λ (z : ℕ). k < z) (sym h.links.wide) (slot_low n a b u an bn un) in (
         e' ∷ [],
         gives,
         tt,
-        slides core Good n s id e e' a b 2 (set s.homes k (some (Some p))) (full p) h at bn refl refl refl (λ x held. h.shown.held a e x here held)
+        slides core Good n s id e e' a b u 2 (set s.homes k (some (Some p))) (full p) h at bn un refl refl refl (λ x held. h.shown.held a e x here held)
             (length-set s.homes k (some (Some p))) (λ j ne. set_else s.homes k j (some (Some p)) ne)
             (λ j ne. keeps_quiet j e e' (quiet_writing j k e.stage ne stage) (quiet_idle j Idle refl) (of_other j k e.placed p (λ q. ne (sym q))) refl refl)
             (λ x y ax by. let x_is = one_at (set h.world a e') a x e' ax (set_here h.world a e' (within h.world a e here)) in
@@ -258,14 +257,14 @@ module _ {H S M : Type 0} (core : Core H S M) (Good : World S M → Type 0) wher
       )
 
   -- the receiver takes a filled slot
-  pub grabs : (n slots id a : ℕ) (e : Node S M) → a < n → e.stage ≡ Idle
-      → Allows (Rule n) slots id (e ∷ [], []) (n + (a * n + e.node)) (λ m. either (eqb m 2) 3 m) (Taken (a * n + e.node) a (e ∷ [], []))
-  grabs n slots id a e an idle s h homes at small =
-      let b : ℕ = e.node in let k : ℕ = a * n + b in
+  pub grabs : (n slots id a u : ℕ) (e : Node S M) → a < n → u < 4 → e.stage ≡ Idle
+      → Allows (Rule n) slots id (e ∷ [], []) (n + slot_at n a e.node u) (λ m. either (eqb m 2) 3 m) (Taken (slot_at n a e.node u) a (e ∷ [], []))
+  grabs n slots id a u e an un idle s h homes at small =
+      let b : ℕ = e.node in let k : ℕ = slot_at n a b u in
       let here = (h.stands.known id (e ∷ []) e at (inl refl)).0 in
       let bn : b < n = subst (λ (z : ℕ). b < z) h.stands.long (within h.world b e here) in
       let fa = some_at h.world a (subst (λ (z : ℕ). a < z) (sym h.stands.long) an) in
-      let ph = h.links.phase k in let l = h.links.each a b fa.0 e fa.1 here in
+      let ph = h.links.phase k in let l = h.links.each a b u fa.0 e un fa.1 here in
       let in_words = within s.words (n + k) (face ph) l.word in
       let found : ℕ = get_or s.words (n + k) 0 in
       let found_is : found ≡ face ph = word_read s.words (n + k) (face ph) l.word in
@@ -278,7 +277,7 @@ module _ {H S M : Type 0} (core : Core H S M) (Good : World S M → Type 0) wher
         e' ∷ [],
         takes k (Some p),
         subst (Lies s.homes k) fill.1 l.lies,
-        slides core Good n s id e e' a b 3 (set s.homes k none) reading h at bn refl refl refl
+        slides core Good n s id e e' a b u 3 (set s.homes k none) reading h at bn un refl refl refl
             (λ x held. subst (λ (z : ℕ × Parcel M). IsIn (z.0, b, z.1) (sent_of h.world)) (some_is (a, p) x held) letter)
             (length-set s.homes k none) (λ j ne. set_else s.homes k j none ne)
             (λ j ne. keeps_quiet j e e' (quiet_idle j e.stage idle) (quiet_reading j k (Reading k) ne refl) refl (of_other j k e.taken p (λ q. ne (sym q))) refl)
@@ -307,20 +306,20 @@ module _ {H S M : Type 0} (core : Core H S M) (Good : World S M → Type 0) wher
       ))
 
   -- the receiver gives the emptied slot back
-  pub releases : (n slots id a : ℕ) (e : Node S M) (hand : Option (ℕ × Parcel M)) → a < n → e.stage ≡ Reading (a * n + e.node) → (hand ≡ e.hand) ⊎ (hand ≡ None)
-      → Allows (Rule n) slots id (e ∷ [], (a * n + e.node, None) ∷ []) (n + (a * n + e.node)) (λ _. 0) (λ _ m. m ≡ (releasing hand e ∷ [], []))
-  releases n slots id a e hand an stage kept s h homes at small =
-      let b : ℕ = e.node in let k : ℕ = a * n + b in let e' : Node S M = releasing hand e in
+  pub releases : (n slots id a u : ℕ) (e : Node S M) (hand : Option (ℕ × Parcel M)) → a < n → u < 4 → e.stage ≡ Reading (slot_at n a e.node u) → (hand ≡ e.hand) ⊎ (hand ≡ None)
+      → Allows (Rule n) slots id (e ∷ [], (slot_at n a e.node u, None) ∷ []) (n + slot_at n a e.node u) (λ _. 0) (λ _ m. m ≡ (releasing hand e ∷ [], []))
+  releases n slots id a u e hand an un stage kept s h homes at small =
+      let b : ℕ = e.node in let k : ℕ = slot_at n a b u in let e' : Node S M = releasing hand e in
       let here = (h.stands.known id (e ∷ []) e at (inl refl)).0 in
       let bn : b < n = subst (λ (z : ℕ). b < z) h.stands.long (within h.world b e here) in
       let fa = some_at h.world a (subst (λ (z : ℕ). a < z) (sym h.stands.long) an) in
-      let ph = h.links.phase k in let l = h.links.each a b fa.0 e fa.1 here in
+      let ph = h.links.phase k in let l = h.links.each a b u fa.0 e un fa.1 here in
       let is_reading = reading_is ph (l.reader.0 (subst (Reads k) (sym stage) refl)) in
-      let in_homes : k < length s.homes = subst (λ (z : ℕ). k < z) (sym h.links.wide) (mul-add-lt a n b n an bn) in (
+      let in_homes : k < length s.homes = subst (λ (z : ℕ). k < z) (sym h.links.wide) (slot_low n a b u an bn un) in (
         e' ∷ [],
         gives,
         tt,
-        slides core Good n s id e e' a b 0 (set s.homes k (some None)) free h at bn refl refl refl
+        slides core Good n s id e e' a b u 0 (set s.homes k (some None)) free h at bn un refl refl refl
             (λ x held. h.shown.held b e x here (⊎_elim (λ same. sym same ∙ held) (λ none. absurd (cc)) kept))
             (length-set s.homes k (some None)) (λ j ne. set_else s.homes k j (some None) ne)
             (λ j ne. keeps_quiet j e e' (quiet_reading j k e.stage ne stage) (quiet_idle j Idle refl) refl refl refl)
@@ -342,45 +341,45 @@ module _ {H S M : Type 0} (core : Core H S M) (Good : World S M → Type 0) wher
       )
 
   -- the same at a seat whose view is known
-  pub claims_at : (n key slots id : ℕ) (me : Me (Option (Parcel M)) (List (Node S M))) (node b slot k : ℕ) → key ≡ n → IsIdle me node → b < n → slot ≡ node * n + b → k ≡ node * n + b
+  pub claims_at : (n key slots id : ℕ) (me : Me (Option (Parcel M)) (List (Node S M))) (node b u slot k : ℕ) → key ≡ n → IsIdle me node → b < n → u < 4 → slot ≡ slot_at n node b u → k ≡ slot_at n node b u
       → Allows (Rule key) slots id me (n + k) (λ m. either (eqb m 0) 1 m) (Claimed slot me)
-  claims_at n key slots id me node b slot k is_key idle bn is_slot is_k =
+  claims_at n key slots id me node b u slot k is_key idle bn un is_slot is_k =
       let e : Node S M = idle.0 in
-      let slot_is : e.node * n + b ≡ slot = ap (λ (z : ℕ). z * n + b) idle.2 ∙ sym is_slot in
+      let slot_is : slot_at n e.node b u ≡ slot = ap (λ (z : ℕ). slot_at n z b u) idle.2 ∙ sym is_slot in
       subst (λ (z : ℕ × Me (Option (Parcel M)) (List (Node S M)) × ℕ × ℕ). Allows (Rule z.0) slots id z.1 (n + z.2) (λ m. either (eqb m 0) 1 m) (Claimed z.3 z.1)) (λ i. (sym is_key i, sym idle.1 i, (slot_is ∙ is_slot ∙ sym is_k) i, slot_is i))
-      (claims n slots id b e bn idle.3)
+      (claims n slots id b u e bn un idle.3)
 
-  pub places_at : (n key slots id : ℕ) (me me0 : Me (Option (Parcel M)) (List (Node S M))) (node b k : ℕ) (p : Parcel M) (after : List (Node S M)) → key ≡ n → b < n → IsFilling me0 (node * n + b) node b p
-      → me ≡ (me0.0, (k, Some p) ∷ rest me0.1) → k ≡ node * n + b → after ≡ placed_view (node * n + b) p me0.0
+  pub places_at : (n key slots id : ℕ) (me me0 : Me (Option (Parcel M)) (List (Node S M))) (node b u k : ℕ) (p : Parcel M) (after : List (Node S M)) → key ≡ n → b < n → u < 4 → IsFilling me0 (slot_at n node b u) node b p
+      → me ≡ (me0.0, (k, Some p) ∷ rest me0.1) → k ≡ slot_at n node b u → after ≡ placed_view (slot_at n node b u) p me0.0
       → Allows (Rule key) slots id me (n + k) (λ _. 2) (λ _ m. m ≡ (after, rest me.1))
-  places_at n key slots id me me0 node b k p after is_key bn fill found is_k next =
-      let e : Node S M = fill.0 in
-      let is : me ≡ (me0.0, (node * n + b, Some p) ∷ rest me0.1) = found ∙ (λ i. (me0.0, (is_k i, Some p) ∷ rest me0.1)) in
-      let k_is : e.node * n + b ≡ node * n + b = ap (λ (z : ℕ). z * n + b) fill.2 in
-      let me_is : me ≡ (e ∷ [], (node * n + b, Some p) ∷ []) = is ∙ ap (λ (z : Me (Option (Parcel M)) (List (Node S M))). (z.0, (node * n + b, Some p) ∷ rest z.1)) fill.1 in
-      let after_is : after ≡ placing (node * n + b) p e ∷ [] = next ∙ ap (λ (z : Me (Option (Parcel M)) (List (Node S M))). placed_view (node * n + b) p z.0) fill.1 in
-      let base = places n slots id b e p bn (subst (λ (z : ℕ). e.stage ≡ Writing z) (sym k_is) fill.3) fill.4 in
+  places_at n key slots id me me0 node b u k p after is_key bn un fill found is_k next =
+      let e : Node S M = fill.0 in let at : ℕ = slot_at n node b u in
+      let is : me ≡ (me0.0, (at, Some p) ∷ rest me0.1) = found ∙ (λ i. (me0.0, (is_k i, Some p) ∷ rest me0.1)) in
+      let k_is : slot_at n e.node b u ≡ at = ap (λ (z : ℕ). slot_at n z b u) fill.2 in
+      let me_is : me ≡ (e ∷ [], (at, Some p) ∷ []) = is ∙ ap (λ (z : Me (Option (Parcel M)) (List (Node S M))). (z.0, (at, Some p) ∷ rest z.1)) fill.1 in
+      let after_is : after ≡ placing at p e ∷ [] = next ∙ ap (λ (z : Me (Option (Parcel M)) (List (Node S M))). placed_view at p z.0) fill.1 in
+      let base = places n slots id b u e p bn un (subst (λ (z : ℕ). e.stage ≡ Writing z) (sym k_is) fill.3) fill.4 in
       let at_k = subst (λ (k : ℕ). Allows (Rule n) slots id (e ∷ [], (k, Some p) ∷ []) (n + k) (λ _. 2) (λ _ m. m ≡ (placing k p e ∷ [], []))) k_is base in
-      let at_after = subst (λ (v : List (Node S M)). Allows (Rule n) slots id (e ∷ [], (node * n + b, Some p) ∷ []) (n + (node * n + b)) (λ _. 2) (λ _ m. m ≡ (v, []))) (sym after_is) at_k in
+      let at_after = subst (λ (v : List (Node S M)). Allows (Rule n) slots id (e ∷ [], (at, Some p) ∷ []) (n + at) (λ _. 2) (λ _ m. m ≡ (v, []))) (sym after_is) at_k in
       subst (λ (z : ℕ × Me (Option (Parcel M)) (List (Node S M)) × ℕ). Allows (Rule z.0) slots id z.1 (n + z.2) (λ _. 2) (λ _ m. m ≡ (after, rest z.1.1))) (λ i. (sym is_key i, sym me_is i, sym is_k i)) at_after
 
-  pub grabs_at : (n key slots id : ℕ) (me : Me (Option (Parcel M)) (List (Node S M))) (node a slot from k : ℕ) → key ≡ n → IsIdle me node → a < n → slot ≡ a * n + node → from ≡ a → k ≡ a * n + node
+  pub grabs_at : (n key slots id : ℕ) (me : Me (Option (Parcel M)) (List (Node S M))) (node a u slot from k : ℕ) → key ≡ n → IsIdle me node → a < n → u < 4 → slot ≡ slot_at n a node u → from ≡ a → k ≡ slot_at n a node u
       → Allows (Rule key) slots id me (n + k) (λ m. either (eqb m 2) 3 m) (Taken slot from me)
-  grabs_at n key slots id me node a slot from k is_key idle an is_slot is_from is_k =
+  grabs_at n key slots id me node a u slot from k is_key idle an un is_slot is_from is_k =
       let e : Node S M = idle.0 in
-      let slot_is : a * n + e.node ≡ slot = ap (λ (z : ℕ). a * n + z) idle.2 ∙ sym is_slot in
+      let slot_is : slot_at n a e.node u ≡ slot = ap (λ (z : ℕ). slot_at n a z u) idle.2 ∙ sym is_slot in
       subst (λ (z : ℕ × Me (Option (Parcel M)) (List (Node S M)) × ℕ × ℕ × ℕ). Allows (Rule z.0) slots id z.1 (n + z.2) (λ m. either (eqb m 2) 3 m) (Taken z.3 z.4 z.1)) (λ i. (sym is_key i, sym idle.1 i, (slot_is ∙ is_slot ∙ sym is_k) i, slot_is i, sym is_from i))
-      (grabs n slots id a e an idle.3)
+      (grabs n slots id a u e an un idle.3)
 
-  pub releases_at : (n key slots id : ℕ) (me : Me (Option (Parcel M)) (List (Node S M))) (node a j : ℕ) (hand : Option (ℕ × Parcel M)) (after : List (Node S M)) → key ≡ n → a < n → IsHolding me (a * n + node) node None
-      → KeepsHand me.0 hand → j ≡ a * n + node → after ≡ released_view hand me.0
+  pub releases_at : (n key slots id : ℕ) (me : Me (Option (Parcel M)) (List (Node S M))) (node a u j : ℕ) (hand : Option (ℕ × Parcel M)) (after : List (Node S M)) → key ≡ n → a < n → u < 4 → IsHolding me (slot_at n a node u) node None
+      → KeepsHand me.0 hand → j ≡ slot_at n a node u → after ≡ released_view hand me.0
       → Allows (Rule key) slots id me (n + j) (λ _. 0) (λ _ m. m ≡ (after, rest me.1))
-  releases_at n key slots id me node a j hand after is_key an hold kept is_j next =
+  releases_at n key slots id me node a u j hand after is_key an un hold kept is_j next =
       let e : Node S M = hold.0 in
-      let k : ℕ = a * n + node in
-      let k_is : a * n + e.node ≡ k = ap (λ (z : ℕ). a * n + z) hold.2 in
+      let k : ℕ = slot_at n a node u in
+      let k_is : slot_at n a e.node u ≡ k = ap (λ (z : ℕ). slot_at n a z u) hold.2 in
       let after_is : after ≡ releasing hand e ∷ [] = next ∙ ap (λ (z : Me (Option (Parcel M)) (List (Node S M))). released_view hand z.0) hold.1 in
-      let base = releases n slots id a e hand an (subst (λ (z : ℕ). e.stage ≡ Reading z) (sym k_is) hold.3) (kept e (ap (λ (z : Me (Option (Parcel M)) (List (Node S M))). z.0) hold.1)) in
+      let base = releases n slots id a u e hand an un (subst (λ (z : ℕ). e.stage ≡ Reading z) (sym k_is) hold.3) (kept e (ap (λ (z : Me (Option (Parcel M)) (List (Node S M))). z.0) hold.1)) in
       let at_k = subst (λ (k : ℕ). Allows (Rule n) slots id (e ∷ [], (k, None) ∷ []) (n + k) (λ _. 0) (λ _ m. m ≡ (releasing hand e ∷ [], []))) k_is base in
       let at_after = subst (λ (v : List (Node S M)). Allows (Rule n) slots id (e ∷ [], (k, None) ∷ []) (n + k) (λ _. 0) (λ _ m. m ≡ (v, []))) (sym after_is) at_k in
       subst (λ (z : ℕ × Me (Option (Parcel M)) (List (Node S M)) × ℕ). Allows (Rule z.0) slots id z.1 (n + z.2) (λ _. 0) (λ _ m. m ≡ (after, rest z.1.1))) (λ i. (sym is_key i, sym hold.1 i, sym is_j i)) at_after

@@ -41,15 +41,15 @@ module _ {H S M : Type 0} (core : Core H S M) (register : ℕ) where
   works_trying a (Err e) s t own did same = rests s t same
 
   put_home : (s t : Station core) (r : PutOut) → PutsOut s r t → home_of t ≡ home_of s
-  put_home s t Sent did = ap home_of did.4
+  put_home s t Sent did = ap home_of did.6
   put_home s t Full did = ap home_of did.4
   put_home s t Nothing did = ap home_of did.1
 
   moved_home : (s t : Station core) → Moves core s t → home_of t ≡ home_of s
   moved_home s t (inl did) = ap home_of did.3
   moved_home s t (inr (inl did)) = ap home_of did.3
-  moved_home s t (inr (inr (inl did))) = ap home_of did.1.1.1
-  moved_home s t (inr (inr (inr (inl did)))) = ap home_of did.1.1.1
+  moved_home s t (inr (inr (inl did))) = ap home_of did.1.1.3
+  moved_home s t (inr (inr (inr (inl did)))) = ap home_of did.1.1.3
   moved_home s t (inr (inr (inr (inr (inl did))))) = put_home s t did.0 did.1
   moved_home s t (inr (inr (inr (inr (inr did))))) = ap home_of did
 

@@ -107,7 +107,7 @@ module _ {H S M : Type 0} (core : Core H S M) where
       (let p = f.0 in let l = far.2 in omega arith, let p = f.1 in let l = far.2 in omega arith)
 
   fetched_hand : (from : ℕ) (s m : Station core) (got : Fetches from s m) → m.me.hand ≡ Some (from, got.1.0)
-  fetched_hand from s m got = ap (λ (z : Station core). z.me.hand) got.1.1
+  fetched_hand from s m got = ap (λ (z : Station core). z.me.hand) got.1.3
 
   -- a parcel was taken, and delivered as often as its fate says
   pub dealt : (from : ℕ) (fate : Fate) (s m n t : Station core) (b : Bool) → IsFated from fate s m → ((fate ≡ Twice → m.me.hand ≢ None) → DeliversMore core fate m n)
@@ -119,7 +119,7 @@ module _ {H S M : Type 0} (core : Core H S M) where
       absurd (no_none (from, got.1.0) (fetched_hand from s m got) (ap (λ (z : Station core). z.me.hand) (sym same) ∙ did.0))
   dealt from Drop s m n t true got more did =
       let same : n ≡ m = more (λ e h. absurd (cc)) in
-      absurd (no_none (did.0, did.1) did.2 (ap (λ (z : Station core). z.me.hand) same ∙ ap (λ (z : Station core). z.me.hand) got.1.1))
+      absurd (no_none (did.0, did.1) did.2 (ap (λ (z : Station core). z.me.hand) same ∙ ap (λ (z : Station core). z.me.hand) got.1.3))
   dealt from Drop s m n t false got more did =
       let same : n ≡ m = more (λ e h. absurd (cc)) in subst (λ (z : Station core). Throws from s z) (sym (did.1 ∙ same)) got
   dealt from Twice s m n t true got more did = (m, n, got, more (λ e. no_none (from, got.1.0) (fetched_hand from s m got)), did)

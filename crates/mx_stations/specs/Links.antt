@@ -1,6 +1,6 @@
--- The slots between the nodes. The slot `a * n + b` carries parcels from the node a to the node b,
--- and its word is the word n + that.
-use Rattle.std.specs.Prelude.{◌≡◌, ◌≢◌, ℕ, ◌+◌, ◌*◌, List, [], ◌∷◌, ◌++◌, length, Option, Some, None, ◌==◌, cond}
+-- The slots between the nodes: each link from a node to a node has four. A slot carries one parcel
+-- at a time, and its word is the word n + the place of the slot.
+use Rattle.std.specs.Prelude.{◌≡◌, ◌≢◌, ℕ, ◌+◌, ◌*◌, ◌<◌, List, [], ◌∷◌, ◌++◌, length, Option, Some, None, ◌==◌, cond}
 use mathlib.Core.Option.{some}
 use mathlib.Core.Option as maybe
 use lib.ListN.{get_elem?}
@@ -14,6 +14,10 @@ pub data Phase (P : Type 0) : Type 0 where
   writing : Phase P
   full : P → Phase P
   reading : Phase P
+
+-- the place of one slot of a link between two of n nodes: which of the four it is tells its index
+abbrev pub slot_at : ℕ → ℕ → ℕ → ℕ → ℕ
+slot_at n from to index = (from * n + to) * 4 + index
 
 -- the parcels of one slot, in order
 abbrev pub of : {P : Type 0} → ℕ → List (ℕ × P) → List P
@@ -84,6 +88,7 @@ pub record Link {T P : Type 0} (n : ℕ) (words : List ℕ) (homes : List (maybe
 pub record Links {T P : Type 0} (n : ℕ) (words : List ℕ) (homes : List (maybe.Option (Option P)))
     (world : List (Entry T P)) : Type 0 where
   pub phase : ℕ → Phase P
-  pub wide : length homes ≡ n * n
-  pub each : (a b : ℕ) (e f : Entry T P) → get_elem? world a ≡ some e → get_elem? world b ≡ some f
-      → Link n words homes (a * n + b) b e f (phase (a * n + b))
+  pub wide : length homes ≡ n * n * 4
+  pub each : (a b index : ℕ) (e f : Entry T P) → index < 4 → get_elem? world a ≡ some e
+      → get_elem? world b ≡ some f
+      → Link n words homes (slot_at n a b index) b e f (phase (slot_at n a b index))

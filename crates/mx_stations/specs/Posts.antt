@@ -1,5 +1,5 @@
 -- What callers see of a station, and what its calls do.
-use Rattle.std.specs.Prelude.{◌≡◌, ◌≢◌, ◌⊎◌, ℕ, ◌+◌, ◌*◌, ◌<◌, List, [], ◌∷◌, ◌++◌, Option, Some, None, take}
+use Rattle.std.specs.Prelude.{◌≡◌, ◌≢◌, ◌⊎◌, ℕ, ◌<◌, List, [], ◌∷◌, ◌++◌, Option, Some, None, take}
 use Rattle.atomic_table.specs.Seated.{TableId}
 use Rattle.mx_stamps.specs.Lists.{IsIn}
 use Rattle.mx_journal.specs.declared.receipts.Receipt.{Receipt}
@@ -16,7 +16,7 @@ use Rattle.mx_stations.specs.declared.answers.Taken.{Taken}
 use Rattle.mx_stations.specs.declared.answers.Taken.TheVariants.{Got, Empty}
 use Rattle.mx_stations.specs.Entries.{Entry}
 use Rattle.mx_stations.specs.Entries.{Idle}
-use Rattle.mx_stations.specs.Links.{of}
+use Rattle.mx_stations.specs.Links.{of, slot_at}
 use Rattle.mx_stations.specs.Running.{acted}
 use Rattle.mx_stations.specs.Slides.{placing, taking, releasing}
 
@@ -58,12 +58,12 @@ module _ {T P : Type 0} where
   abbrev pub post : TableId → ℕ → Entry T P → List (ℕ × P) → Post T P
   post table nodes me waiting = record { table = table; nodes = nodes; me = me; waiting = waiting }
 
-  -- the slot of the link to this node
-  abbrev pub slot_to : Post T P → ℕ → ℕ
-  slot_to s to = s.me.node * s.nodes + to
+  -- the slot of this index of the link to this node
+  abbrev pub slot_to : Post T P → ℕ → ℕ → ℕ
+  slot_to s to index = slot_at s.nodes s.me.node to index
 
-  abbrev pub slot_from : Post T P → ℕ → ℕ
-  slot_from s from = from * s.nodes + s.me.node
+  abbrev pub slot_from : Post T P → ℕ → ℕ → ℕ
+  slot_from s from index = slot_at s.nodes from s.me.node index
 
 -- what waits was sent, to nodes that are there
 abbrev pub Waits : {P : Type 0} → ℕ → List (ℕ × P) → List (ℕ × P) → Type 0
@@ -98,29 +98,31 @@ module _ {H S M : Type 0} (core : Core H S M) where
       × (t ≡ after_act (Deliver from p) None s)
 
 module _ {T P : Type 0} where
-  -- one parcel crosses from the link into the empty hand
+  -- one parcel crosses from a slot of the link into the empty hand
   abbrev pub Fetches : ℕ → Post T P → Post T P → Type 0
   Fetches from s t =
-      (s.me.hand ≡ None) × ((p : P) × (t ≡ post s.table s.nodes
-      (releasing (Some (from, p)) (taking (slot_from s from) from p s.me)) s.waiting))
+      (s.me.hand ≡ None) × ((p : P) × (index : ℕ) × (index < 4) × (t ≡ post s.table s.nodes
+      (releasing (Some (from, p)) (taking (slot_from s from index) from p s.me)) s.waiting))
 
-  -- nothing lies there for the empty hand, and nothing changes; from the own link all that was
-  -- placed was taken
+  -- nothing lies there for the empty hand, and nothing changes; from each slot of the own link all
+  -- that was placed was taken
   abbrev pub FindsNone : ℕ → Post T P → Post T P → Type 0
   FindsNone from s t =
       (s.me.hand ≡ None) × (t ≡ s)
-      × (from ≡ s.me.node → of (slot_from s from) s.me.placed ≡ of (slot_from s from) s.me.taken)
+      × (from ≡ s.me.node → (index : ℕ) → index < 4
+      → of (slot_from s from index) s.me.placed ≡ of (slot_from s from index) s.me.taken)
 
-  -- the first that waits leaves, and is placed; or it moves to the end, and this station has placed
-  -- a parcel in that slot before
+  -- the first that waits leaves, and is placed in a slot of its link; or it moves to the end, and
+  -- this station has placed a parcel in every slot of that link before
   abbrev pub PutsOut : Post T P → PutOut → Post T P → Type 0
   PutsOut s Sent t =
       (to : ℕ) × (p : P) × (rest : List (ℕ × P)) × (s.waiting ≡ (to, p) ∷ rest)
-      × (t ≡ post s.table s.nodes (placing (slot_to s to) p s.me) rest)
+      × (index : ℕ) × (index < 4)
+      × (t ≡ post s.table s.nodes (placing (slot_to s to index) p s.me) rest)
   PutsOut s Full t =
       (to : ℕ) × (p : P) × (rest : List (ℕ × P)) × (s.waiting ≡ (to, p) ∷ rest)
       × (t ≡ post s.table s.nodes s.me (rest ++ (to, p) ∷ []))
-      × (of (slot_to s to) s.me.placed ≢ [])
+      × ((index : ℕ) → index < 4 → of (slot_to s to index) s.me.placed ≢ [])
   PutsOut s Nothing t = (s.waiting ≡ []) × (t ≡ s)
 
 module _ {H S M : Type 0} (core : Core H S M) where

@@ -60,23 +60,38 @@ module _ {T P : Type 0} where
         taken = e.taken;
       }
 
-  -- the slot was empty, and the seat has it; or nothing changed, and the seat has placed a parcel
-  -- there before
+  -- the slot was empty, and the seat has it
+  abbrev pub Claims : ℕ → Me (Option P) (List (Entry T P)) → Me (Option P) (List (Entry T P))
+      → Type 0
+  Claims k m m' =
+      (e : Entry T P) × (m.0 ≡ e ∷ []) × (m' ≡ (claiming k e ∷ [], (k, None) ∷ m.1))
+
+  -- the seat has placed a parcel in this slot before
+  abbrev pub HasUsed : ℕ → Me (Option P) (List (Entry T P)) → Type 0
+  HasUsed k m = (e : Entry T P) × (m.0 ≡ e ∷ []) × (of k e.placed ≢ [])
+
+  -- one try to claim a slot
   abbrev pub Claimed : ℕ → Me (Option P) (List (Entry T P)) → ℕ → Me (Option P) (List (Entry T P))
       → Type 0
-  Claimed k m found m' =
-      (found ≡ 0 → (e : Entry T P) × (m.0 ≡ e ∷ []) × (m' ≡ (claiming k e ∷ [], (k, None) ∷ m.1)))
-      × (found ≢ 0 → (m' ≡ m) × ((e : Entry T P) × (m.0 ≡ e ∷ []) × (of k e.placed ≢ [])))
+  Claimed k m found m' = (found ≡ 0 → Claims k m m') × (found ≢ 0 → (m' ≡ m) × HasUsed k m)
 
-  -- the slot had a parcel, and the seat has both; or nothing changed, and where it is the seat's
-  -- own link all that was placed there was taken
+  -- the slot had a parcel, and the seat has both
+  abbrev pub Takes : ℕ → ℕ → Me (Option P) (List (Entry T P)) → Me (Option P) (List (Entry T P))
+      → Type 0
+  Takes k from m m' =
+      (e : Entry T P) × (m.0 ≡ e ∷ [])
+      × ((p : P) × (m' ≡ (taking k from p e ∷ [], (k, Some p) ∷ m.1)))
+
+  -- where the slot is of the seat's own link, all that was placed there was taken
+  abbrev pub HasEmptied : ℕ → ℕ → Me (Option P) (List (Entry T P)) → Type 0
+  HasEmptied k from m =
+      (e : Entry T P) × (m.0 ≡ e ∷ []) × (from ≡ e.node → of k e.placed ≡ of k e.taken)
+
+  -- one try to take the parcel of a slot
   abbrev pub Taken : ℕ → ℕ → Me (Option P) (List (Entry T P)) → ℕ → Me (Option P) (List (Entry T P))
       → Type 0
   Taken k from m found m' =
-      (found ≡ 2 → (e : Entry T P) × (m.0 ≡ e ∷ [])
-      × ((p : P) × (m' ≡ (taking k from p e ∷ [], (k, Some p) ∷ m.1))))
-      × (found ≢ 2 → (m' ≡ m) × ((e : Entry T P) × (m.0 ≡ e ∷ [])
-      × (from ≡ e.node → of k e.placed ≡ of k e.taken)))
+      (found ≡ 2 → Takes k from m m') × (found ≢ 2 → (m' ≡ m) × HasEmptied k from m)
 
   abbrev pub placed_view : ℕ → P → List (Entry T P) → List (Entry T P)
   placed_view k p [] = []

@@ -1,5 +1,5 @@
 -- A turn of a station, as a list of its acts and moves.
-use Rattle.std.specs.Prelude.{◌≡◌, ◌⊎◌, ℕ, suc, ◌+◌, ◌==◌, ◌&&◌, Bool, true, false, MatchBool, List, [], ◌∷◌, length, Option, Some, None}
+use Rattle.std.specs.Prelude.{◌≡◌, ◌⊎◌, ℕ, suc, ◌+◌, ◌<◌, ◌==◌, ◌&&◌, Bool, true, false, MatchBool, List, [], ◌∷◌, length, Option, Some, None}
 use Rattle.mx_letters.specs.declared.fates.Fate.{Fate}
 use Rattle.mx_letters.specs.declared.fates.Fate.TheVariants.{Pass, Drop, Twice}
 use Rattle.mx_nodelaws.specs.Core.{Core}
@@ -22,8 +22,8 @@ module _ {T P : Type 0} where
   -- one parcel is taken from the link with an empty hand, and thrown away
   abbrev pub Throws : ℕ → Post T P → Post T P → Type 0
   Throws from s t =
-      (s.me.hand ≡ None) × ((p : P) × (t ≡ post s.table s.nodes
-      (releasing None (taking (slot_from s from) from p s.me)) s.waiting))
+      (s.me.hand ≡ None) × ((p : P) × (index : ℕ) × (index < 4) × (t ≡ post s.table s.nodes
+      (releasing None (taking (slot_from s from index) from p s.me)) s.waiting))
 
   -- what becomes of a parcel that is taken
   abbrev pub IsFated : ℕ → Fate → Post T P → Post T P → Type 0

@@ -18,14 +18,15 @@ use std::marker::Brand;
 /// The seat of one station.
 pub type Place<C> = Seat<Slot<C>, View<C>>;
 
-/// A status word for each node, and for each pair of nodes a slot with its word.
+/// A status word for each node, and for each link from a node to a node four slots, each with its
+/// word.
 #[derive(Drop)]
 pub struct Field<C: Exclusion> {
     pub(crate) board: Table<Slot<C>, View<C>, Setup<C::Shape>, Law<C>, Global>,
     pub(crate) nodes: u8,
     ghost key: { board.shared.key.nodes ≡ nodes },
-    ghost words: { board.shared.table_id.words ≡ nodes + nodes * nodes },
-    ghost slots: { board.shared.table_id.slots ≡ nodes * nodes },
+    ghost words: { board.shared.table_id.words ≡ nodes + nodes * nodes * 4 },
+    ghost slots: { board.shared.table_id.slots ≡ nodes * nodes * 4 },
     ghost some: { 0 < nodes },
     ghost few: { nodes ≤ 21 },
 }

@@ -16,6 +16,7 @@ mod station;
 mod together;
 mod turn;
 mod waiting;
+mod watching;
 mod working;
 
 pub use answers::{PutOut, TakeFault, Taken, TurnReport};
@@ -26,4 +27,5 @@ pub use rule::{HandOn, Law, Setup, Slot, TakeIn, View};
 pub use station::Station;
 pub use together::Sees;
 pub use waiting::WAITING_ROOM;
+pub use watching::Watch;
 pub use working::{Gate, Script, Worked, work};

@@ -5,7 +5,7 @@ ghost use Rattle.mx_stations.specs.Posts.{Delivers, Fetches, FindsNone, KeepsInH
 
 use crate::answers::{PutOut, TakeFault, Taken};
 use crate::field::{act, look};
-use crate::slots::{claim, grab, lift, place, release};
+use crate::slots::{claim_empty, grab_filled, lift, place, release};
 use crate::station::Station;
 use crate::waiting::{store_up, take_first};
 use mx_member::{Act, perform};
@@ -43,7 +43,7 @@ impl<C: Exclusion> Station<C> {
         Ok(true)
     }
 
-    /// Takes one parcel from the link into the empty hand.
+    /// Takes one parcel from the first filled slot of the link into the empty hand.
     fn fetch(&mut self, from: NodeId) -> bool
         requires within { from < self.old.nodes }
         requires empty { self.old.me.hand ≡ None }
@@ -51,12 +51,12 @@ impl<C: Exclusion> Station<C> {
             (FindsNone from self.old self.new) }
     {
         let field = &*self.field;
-        if grab(field, &mut self.seat, self.node, from) != 2 {
+        let Some(index) = grab_filled(field, &mut self.seat, self.node, from) else {
             return false;
-        }
-        let parcel = lift(field, &mut self.seat, self.node, from);
+        };
+        let parcel = lift(field, &mut self.seat, self.node, from, index);
         let hand = Some((from, parcel));
-        release(field, &mut self.seat, self.node, from, &hand);
+        release(field, &mut self.seat, self.node, from, index, &hand);
         self.hand = hand;
         true
     }
@@ -77,7 +77,7 @@ impl<C: Exclusion> Station<C> {
         Ok(Taken::Got)
     }
 
-    /// One try to put the first waiting parcel into a slot of its link.
+    /// One try to put the first waiting parcel into the first empty slot of its link.
     pub fn put_out(&mut self) -> PutOut
         ensures { PutsOut self.old result self.new }
     {
@@ -86,11 +86,11 @@ impl<C: Exclusion> Station<C> {
         };
         let to = first.0;
         let field = &*self.field;
-        if claim(field, &mut self.seat, self.node, to) != 0 {
+        let Some(index) = claim_empty(field, &mut self.seat, self.node, to) else {
             self.waiting.push(first);
             return PutOut::Full;
-        }
-        place(field, &mut self.seat, self.node, to, first.1);
+        };
+        place(field, &mut self.seat, self.node, to, index, first.1);
         PutOut::Sent
     }
 }

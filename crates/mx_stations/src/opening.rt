@@ -8,6 +8,7 @@ ghost use Rattle.mx_stations.specs.Running.{all_of, fresh};
 
 use crate::field::{Field, Place};
 use crate::rule::{HandOn, Setup};
+use crate::slots::SLOTS;
 use crate::station::Station;
 use arrayvec::ArrayVec;
 use atomic_table::Table;
@@ -45,8 +46,9 @@ impl<C: Exclusion> Field<C> {
             registers,
         };
         let count = nodes as usize;
-        let words = Vec::from_elem(alloc, 0u64, count + count * count)?;
-        let (board, seat) = Table::vacant(alloc, words.as_slice(), count * count, &setup)?;
+        let slots = count * count * SLOTS as usize;
+        let words = Vec::from_elem(alloc, 0u64, count + slots)?;
+        let (board, seat) = Table::vacant(alloc, words.as_slice(), slots, &setup)?;
         let field = Arc::new(alloc, Field { board, nodes })?;
         let (all, _) = seat_all(alloc, &setup, field, seat)?;
         Ok(all)

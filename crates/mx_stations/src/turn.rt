@@ -11,7 +11,7 @@ ghost use Rattle.mx_stations.specs.Turns.{DeliversFirst, DeliversMore, Goes, IsF
 
 use crate::answers::{TakeFault, TurnReport};
 use crate::field::{act, look};
-use crate::slots::{grab, lift, release};
+use crate::slots::{grab_filled, lift, release};
 use crate::station::Station;
 use crate::waiting::store_up;
 use mx_letters::{Fate, Fates};
@@ -72,13 +72,11 @@ impl<C: Exclusion> Station<C> {
             (λ fate. IsFated from fate self.old self.new) }
     {
         let field = &*self.field;
-        if grab(field, &mut self.seat, self.node, from) != 2 {
-            return None;
-        }
-        let parcel = lift(field, &mut self.seat, self.node, from);
+        let index = grab_filled(field, &mut self.seat, self.node, from)?;
+        let parcel = lift(field, &mut self.seat, self.node, from, index);
         let fate = fates.fate();
         let hand = hand_of(fate, from, parcel);
-        release(field, &mut self.seat, self.node, from, &hand);
+        release(field, &mut self.seat, self.node, from, index, &hand);
         self.hand = hand;
         Some(fate)
     }

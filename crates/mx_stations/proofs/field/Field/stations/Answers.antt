@@ -5,8 +5,11 @@ use Rattle.mx_stations.specs.Opened.{AreFresh}
 use Rattle.mx_stations.proofs.Opens.{begins}
 use Rattle.mx_stations.proofs.field.Field.stations.Goals as goal
 
-pub overflow_mul-count : goal.overflow_mul-count
-overflow_mul-count g c = let n : ℕ = c.nodes-nodes.result in let h = c.nodes-nodes.ensures.high in omega (arith, mul-le n n 21 21 h h)
+pub overflow_mul-slots : goal.overflow_mul-slots
+overflow_mul-slots g c = let n : ℕ = c.nodes-nodes.result in let h = c.nodes-nodes.ensures.high in omega (arith, mul-le n n 21 21 h h)
+
+pub overflow_mul-slots-2 : goal.overflow_mul-slots-2
+overflow_mul-slots-2 g c = let n : ℕ = c.nodes-nodes.result in let h = c.nodes-nodes.ensures.high in omega (arith, mul-le n n 21 21 h h)
 
 pub overflow_add-count : goal.overflow_add-count
 overflow_add-count g c = let n : ℕ = c.nodes-nodes.result in let h = c.nodes-nodes.ensures.high in omega (arith, h, mul-le n n 21 21 h h)

@@ -1,0 +1,56 @@
+//! A look at all nodes of a field, by who has none of them.
+
+ghost use Rattle.std.specs.Prelude.{◌≡◌, IfOk};
+
+use crate::field::Field;
+use crate::station::Station;
+use mx_nodelaws::Exclusion;
+use std::alloc::{AllocError, Global};
+use std::marker::Model;
+use std::sync::Arc;
+
+/// Shows how far the nodes of a field have come, while their stations are owned by threads.
+#[derive(Drop)]
+pub struct Watch<C: Exclusion> {
+    field: Arc<Field<C>, Global>,
+}
+
+impl<C: Exclusion> Model for Watch<C> {
+    ghost use Rattle.std.specs.Prelude.{ℕ};
+    ghost use Rattle.std.specs.Arc.{arc_value};
+    ghost use Rattle.atomic_table.specs.Seated.{TableId};
+
+    ghost Value = { TableId × ℕ };
+
+    ghost view = { λ w. ((arc_value w.field).board.shared.table_id, (arc_value w.field).nodes) };
+}
+
+impl<C: Exclusion> Station<C> {
+    /// A watch over the nodes of its field.
+    pub fn watch(&self) -> Result<Watch<C>, AllocError>
+        ensures { IfOk result (λ watch. watch ≡ (self.now.table, self.now.nodes)) }
+    {
+        let field = Arc::try_clone(&self.field)?;
+        Ok(Watch { field })
+    }
+}
+
+impl<C: Exclusion> Watch<C> {
+    /// How many sections were left so far, as the words of the nodes show it one after another. It
+    /// is a look without a lock, of which nothing is proved.
+    pub fn sections(&self) -> u64 {
+        let field = &*self.field;
+        let mut left = 0;
+        for index in 0..field.nodes {
+            let word = field.board.shared.peek(index as usize);
+            left = left.max(sections_in(word));
+        }
+        left
+    }
+}
+
+/// How many sections were left when a node's word was this: those up to its last one, which is still
+/// open where the word is odd.
+fn sections_in(word: u64) -> u64 {
+    (word / 2).saturating_sub(word % 2)
+}
