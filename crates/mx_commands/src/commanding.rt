@@ -1,25 +1,20 @@
 //! The command: from words, named bytes and two outputs to a status.
 
-ghost use Rattle.std.specs.Prelude.{◌≡◌, ◌≢◌, ◌⊎◌, ◌↔◌, ◌&&◌, true, false, Err, IsSome, IsTrue, IfSome, IfOk, IfErr, OnOk, OnErr};
-ghost use Rattle.std.specs.Io.KnownBytes.{Appends, Keeps};
-ghost use Rattle.clap.specs.Words.{kind_of};
-ghost use Rattle.mx_words.specs.Words.{texts_of, names_of, task_asked, task_of, AskHelp, AreWrong, IsShown};
-ghost use Rattle.mx_commands.specs.Outputs.{IsPassedOn, refused_after, refused_by};
-ghost use Rattle.mx_commands.specs.FaultLines.{fault_line};
+ghost use Rattle.std.specs.Prelude.{◌≡◌, ◌↔◌, ◌&&◌, Err, IsSome, IsTrue, IfSome, IfOk};
+ghost use Rattle.mx_words.specs.Words.{texts_of, names_of, task_asked, task_of, AskHelp, AreWrong};
+ghost use Rattle.mx_commands.specs.Outputs.{IsPassedOn, refused_after};
 ghost use Rattle.mx_commands.specs.Jobs.{names_in};
-ghost use Rattle.mx_commands.specs.Ran.{MayTell, RanOf, Runs, IsRunStatus, Helps, Scolds, TellsFault, seen};
+ghost use Rattle.mx_commands.specs.Ran.{RanOf, Runs, IsRunStatus, Helps, Scolds, seen};
 
 use crate::checking::check;
 use crate::exploring::explore;
-use crate::fault_lines::FaultLine;
-use crate::faults::{Fault, Stop};
-use crate::output::{Output, PutFault};
+use crate::faults::Stop;
+use crate::output::Output;
 use crate::replaying::replay;
 use crate::source::Source;
-use clap::error::ErrorKind;
+use crate::telling::{refuse, tell, tell_memory};
 use mx_words::{Names, Request, asked};
 use std::alloc::Global;
-use std::fmt::Display;
 
 /// Runs the words of a command line, without the program's name, and answers the status: 0 where
 /// all went well, or help or the version was asked for, 1 where a plan, its events, a file or an
@@ -51,27 +46,6 @@ pub fn command<S: Source, O: Output, E: Output>(
         Ok(Some(request)) => run_request(alloc, &request, source, out, err),
         Ok(None) => 2,
         Err(e) => refuse(alloc, &e, out, err),
-    }
-}
-
-/// Writes the help that the words ask for, or why they are refused.
-fn refuse<O: Output, E: Output>(alloc: Global, e: &clap::Error, out: &mut O, err: &mut E) -> u8
-    ensures memory { kind_of e.now ≡ ErrorKind.OutOfMemory → (result ≡ 5)
-        × Keeps (O.written out.old) (O.written out.new) × MayTell (E.written err.old) (E.written err.new)
-        × (O.has_refused out.new ≡ O.has_refused out.old) }
-    ensures help { IsShown (kind_of e.now) → Helps (O.takes_all out.old)
-        (seen (O.written out.old) (E.written err.old) (O.has_refused out.old) (O.keeps_back out.old))
-        (seen (O.written out.new) (E.written err.new) (O.has_refused out.new) (O.keeps_back out.new))
-        result }
-    ensures wrong { ¬ (IsShown (kind_of e.now)) → Scolds
-        (seen (O.written out.old) (E.written err.old) (O.has_refused out.old) (O.keeps_back out.old))
-        (seen (O.written out.new) (E.written err.new) (O.has_refused out.new) (O.keeps_back out.new))
-        result }
-{
-    match e.kind() {
-        ErrorKind::OutOfMemory => tell_memory(err),
-        ErrorKind::DisplayHelp | ErrorKind::DisplayVersion => show(alloc, e, out, err),
-        _ => scold(alloc, e, err),
     }
 }
 
@@ -157,82 +131,4 @@ fn carry_out<S: Source, O: Output>(
         Request::Replay(names) => replay(alloc, names, source, out),
         Request::Explore(exploration) => explore(alloc, exploration, source, out),
     }
-}
-
-/// Writes the line of a fault.
-fn tell<E: Output>(alloc: Global, fault: Fault, names: &Names<'_>, err: &mut E) -> u8
-    ensures { TellsFault (E.takes_all err.old) (fault_line (names_of names.now) fault)
-        (E.written err.old) (E.written err.new) result }
-{
-    let line = FaultLine {
-        fault,
-        names: *names,
-    };
-    match put_line(alloc, err, line) {
-        Ok(()) => 1,
-        Err(PutFault::Refused) => 1,
-        Err(PutFault::Memory) => tell_memory(err),
-    }
-}
-
-/// Writes that memory ran out, where that can be written.
-fn tell_memory<E: Output>(err: &mut E) -> u8
-    ensures status { result ≡ 5 }
-    ensures told { MayTell (E.written err.old) (E.written err.new) }
-{
-    let _ = err.put("mx: out of memory\n".as_bytes());
-    5
-}
-
-/// Writes the help, or the version, that was asked for.
-fn show<O: Output, E: Output>(alloc: Global, e: &clap::Error, out: &mut O, err: &mut E) -> u8
-    ensures { Helps (O.takes_all out.old)
-        (seen (O.written out.old) (E.written err.old) (O.has_refused out.old) (O.keeps_back out.old))
-        (seen (O.written out.new) (E.written err.new) (O.has_refused out.new) (O.keeps_back out.new))
-        result }
-{
-    match put_and_flush(alloc, out, e) {
-        Ok(()) => 0,
-        Err(PutFault::Refused) => 1,
-        Err(PutFault::Memory) => tell_memory(err),
-    }
-}
-
-/// Writes what is wrong with the words.
-fn scold<E: Output>(alloc: Global, e: &clap::Error, err: &mut E) -> u8
-    ensures { (result ≡ 2) ⊎ ((result ≡ 5) × MayTell (E.written err.old) (E.written err.new)) }
-{
-    match put_line(alloc, err, e) {
-        Ok(()) | Err(PutFault::Refused) => 2,
-        Err(PutFault::Memory) => tell_memory(err),
-    }
-}
-
-fn put_and_flush<O: Output, D: Display + Drop>(
-    alloc: Global,
-    out: &mut O,
-    line: D,
-) -> Result<(), PutFault>
-    ensures takes { IfErr result (λ fault. O.takes_all out.old ≡ true → fault ≡ PutFault.Memory) }
-    ensures refused { O.has_refused out.new ≡ refused_by result (O.has_refused out.old) }
-    ensures passed { OnOk result (O.keeps_back out.new ≡ false) }
-{
-    put_line(alloc, out, line)?;
-    out.flush()
-}
-
-/// Writes a text whole, or nothing of it.
-fn put_line<O: Output, D: Display + Drop>(
-    alloc: Global,
-    out: &mut O,
-    line: D,
-) -> Result<(), PutFault>
-    ensures ok { OnOk result (IfSome (D.output line) (Appends (O.written out.old) (O.written out.new))) }
-    ensures err { OnErr result (Keeps (O.written out.old) (O.written out.new)) }
-    ensures takes { IfErr result (λ fault. O.takes_all out.old ≡ true → fault ≡ PutFault.Memory) }
-    ensures refused { O.has_refused out.new ≡ refused_by result (O.has_refused out.old) }
-    ensures stays { O.takes_all out.new ≡ O.takes_all out.old }
-{
-    let text = line.to_string(alloc)?;
-    out.put(text.as_bytes())
 }

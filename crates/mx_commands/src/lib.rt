@@ -11,11 +11,13 @@ mod planning;
 mod replaying;
 mod running;
 mod source;
+mod telling;
 mod verdicts;
 
 pub use commanding::command;
+pub use fault_lines::FaultLine;
+pub use faults::{Fault, Named, Stop};
 pub use output::{Output, PutFault};
+pub use planning::fetch_plan;
 pub use source::{Source, SourceFault, Table};
-
-#[cfg(test)]
-mod tests;
+pub use telling::{put_line, refuse, tell_memory};

@@ -28,8 +28,8 @@ pub(crate) fn fetch<S: Source>(
     }
 }
 
-/// The plan of a name.
-pub(crate) fn fetch_plan<S: Source>(alloc: Global, source: &mut S, name: &str) -> Result<Plan, Stop>
+/// The plan of a name, or why there is none. The source's other names stay as they are.
+pub fn fetch_plan<S: Source>(alloc: Global, source: &mut S, name: &str) -> Result<Plan, Stop>
     ensures told { IfSome (S.told source.old name.now) (λ telling. Reads telling result) }
     ensures taken { (before : Bool) → refused_after result before ≡ before }
     ensures stays { S.told source.new ≡ S.told source.old }

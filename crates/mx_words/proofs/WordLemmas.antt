@@ -15,7 +15,7 @@ use Rattle.clap.proofs.WalkLemmas.{one_text-rows}
 use Rattle.clap.proofs.ValueTestLemmas.{Accepts-accepts, accepts-Accepts}
 use Rattle.clap.specs.Faults.{fault_of, is_simple_and_free}
 use Rattle.clap.proofs.OnLiterals.{clap_on_literals}
-use Rattle.mx_words.specs.Words.{Task, mx_app, number_at, number_of, task_asked, task_in, where_none}
+use Rattle.mx_words.specs.Words.{mx_app, number_at, number_of, task_asked, task_in, where_none}
 
 -- ---- numbers
 
@@ -67,11 +67,11 @@ answered words (Err e) kinds rows = (tt, tt, kinds)
 
 -- ---- what an error's kind says of the words
 
-no_task : (kinds : Kinds) (k : ErrorKind) (o : Option Task) → IsAmong k kinds → IsSome (where_none kinds o) → ⊥
-no_task [] k o among s = absurd among
-no_task (x ∷ xs) k o among s = let bad : false ≡ true = s in cc
+pub none_among : {X : Type 0} (kinds : Kinds) (k : ErrorKind) (o : Option X) → IsAmong k kinds → IsSome (where_none kinds o) → ⊥
+none_among [] k o among s = absurd among
+none_among (x ∷ xs) k o among s = let bad : false ≡ true = s in cc
 
 -- words that ask for something are refused only where memory runs out
 pub no_task_among : (words : List Text) (k : ErrorKind) → IsAmong k (fault_of mx_app words) → IsSome (task_asked words) → ⊥
 unfolding task_asked
-no_task_among words k among s = no_task (fault_of mx_app words) k (task_in (subcommand_of mx_app words)) among s
+no_task_among words k among s = none_among (fault_of mx_app words) k (task_in (subcommand_of mx_app words)) among s

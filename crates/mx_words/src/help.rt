@@ -14,6 +14,9 @@ pub(crate) const REPLAY: &str =
 pub(crate) const EXPLORE: &str =
     "Lets events drawn from a seed happen, and judges what came of them";
 
+pub(crate) const LIVE: &str =
+    "Runs each node in a thread of its own, and prints what their gathered journal has";
+
 pub(crate) const MX_EXAMPLE: &str =
     "Example: three nodes by the algorithm of Ricart and Agrawala, and the events of one section.
 
@@ -23,11 +26,15 @@ pub(crate) const MX_EXAMPLE: &str =
   mx check plan.json
   mx replay plan.json events.json
   mx explore plan.json --seed 1 --steps 1000
+  mx live plan.json --sections 3 --seed 1 --turns 10000000
 
 A name - is standard input. `mx COMMAND --help` tells what a command reads; docs/FORMATS.md has all formats.
 
+`mx live` runs the nodes in threads, and has a page of its own, `mx live --help`.
+
 Status: 0 all went well; 1 a plan, its events, a file or an output at fault; 2 no such command;
-4 the verdict is that the trace is broken; 5 out of memory.";
+3 a live run has spent its turns, or its gate is shut; 4 the verdict is that the trace is broken;
+5 out of memory.";
 
 pub(crate) const CHECK_EXAMPLE: &str =
     "A plan is an object of JSON. For the algorithm of Ricart and Agrawala:
@@ -72,3 +79,22 @@ The events are asking, entering, reading, writing, leaving, ticking, wanting, re
 of one of the newest 64 parcels. The first line counts the steps, how often a node entered, and the
 parcels that were sent; the last line is the verdict. `mx check --help` tells what a plan is;
 docs/FORMATS.md has all formats.";
+
+pub(crate) const LIVE_EXAMPLE: &str =
+    "Example: three nodes, each in a thread of its own, add 1 to a register in three sections each.
+
+  plan.json    {\"algorithm\":\"ricart\",\"nodes\":[\"a\",\"b\",\"c\"],\"registers\":[\"count\"],\"sections\":10}
+
+  mx live plan.json --sections 3 --seed 1 --turns 10000000
+
+prints
+
+  receipts 9
+  gapless 9
+  count=9
+
+The links between the threads lose a parcel in 16 and repeat one in 16, as the seed draws it. The first line
+counts the receipts of the sections that were left; then comes up to which number the gathered journal has no
+gap, and what it shows of each register. Nothing is printed where a node is not done once its turns are spent:
+`mx: turns spent`, status 3. The plan has to allow as many sections as all nodes together want, else
+`mx: too few sections`, status 1. `mx check --help` tells what a plan is; docs/FORMATS.md has all formats.";

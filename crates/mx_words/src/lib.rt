@@ -2,6 +2,8 @@
 #![tactic(auto)]
 
 mod help;
+mod live_words;
 mod words;
 
+pub use live_words::{LiveRun, asked_live};
 pub use words::{Exploration, Names, Request, asked};

@@ -37,7 +37,7 @@ pub enum Request<'a> {
     Explore(Exploration<'a>),
 }
 
-fn plan_arg<'a>(alloc: Global) -> Arg<'a>
+pub(crate) fn plan_arg<'a>(alloc: Global) -> Arg<'a>
     ensures rule { rule_of result ≡ plan_rule }
     ensures local { result.global ≡ false }
 {
@@ -55,13 +55,13 @@ fn events_arg<'a>(alloc: Global) -> Arg<'a>
         .required(true)
 }
 
-fn seed_arg<'a>(alloc: Global) -> Arg<'a>
+pub(crate) fn seed_arg<'a>(alloc: Global) -> Arg<'a>
     ensures rule { rule_of result ≡ seed_rule }
     ensures local { result.global ≡ false }
 {
     Arg::new(alloc, "seed")
         .long("seed")
-        .help("The seed of the schedule, a whole number of 64 bits")
+        .help("The seed that is drawn from, a whole number of 64 bits")
         .value_parser(ValueParser::Unsigned(0, u64::MAX))
         .required(true)
 }
@@ -204,14 +204,14 @@ fn explore_in<'a>(matches: &ArgMatches<'a>) -> Option<Request<'a>>
 }
 
 /// The text that was given for an argument.
-fn text_at<'a>(matches: &ArgMatches<'a>, id: &str) -> Option<&'a str>
+pub(crate) fn text_at<'a>(matches: &ArgMatches<'a>, id: &str) -> Option<&'a str>
     ensures { option_map (λ s. s.now) result ≡ first_of id.now (rows_of (found_of matches.now)) }
 {
     matches.get_str(id)
 }
 
 /// The number that was given for an argument.
-fn number_at(matches: &ArgMatches<'_>, id: &str) -> Option<u64>
+pub(crate) fn number_at(matches: &ArgMatches<'_>, id: &str) -> Option<u64>
     ensures { result ≡ number_at id.now (rows_of (found_of matches.now)) }
 {
     matches.get_one::<u64>(id)

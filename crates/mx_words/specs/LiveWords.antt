@@ -1,0 +1,67 @@
+-- What the words of `live` ask for, as `clap` reads them.
+use Rattle.std.specs.Prelude.{◌≢◌, ℕ, List, [], Option, Some, None, true, codes, if◌then◌else◌, option_map, option_and_then}
+use Rattle.std.specs.Str.{bytes_eq}
+use Rattle.clap.specs.Words.{App, Row, Rule, Text, first_of, new_app, new_rule, subcommand_of, with_rule, with_subcommand}
+use Rattle.clap.specs.Faults.{fault_of}
+use Rattle.clap.specs.Kinds.{IsAmong}
+use Rattle.clap.specs.declared.builder.action.ArgAction.TheVariants.{SetTrue}
+use Rattle.clap.specs.declared.builder.value_parser.ValueParser.TheVariants.{Unsigned}
+use Rattle.clap.specs.declared.error.kind.ErrorKind.{ErrorKind}
+use Rattle.mx_words.specs.declared.live_words.LiveRun.{LiveRun}
+use Rattle.mx_words.specs.Words.{IsShown, mx_start, number_at, plan_rule, seed_rule, where_none}
+
+-- `--sections M`, a number to 1000000
+abbrev pub sections_rule : Rule
+sections_rule = record (new_rule (codes "sections")) { long = Some (codes "sections"); parser = Some (Unsigned 0 1000000); required = true }
+
+-- `--turns T`, a number of 64 bits
+abbrev pub turns_rule : Rule
+turns_rule = record (new_rule (codes "turns")) { long = Some (codes "turns"); parser = Some (Unsigned 0 18446744073709551615); required = true }
+
+-- `--progress`
+abbrev pub progress_rule : Rule
+progress_rule = record (new_rule (codes "progress")) { long = Some (codes "progress"); action = Some SetTrue }
+
+-- `live PLAN --sections M --seed S --turns T`, and perhaps `--progress`
+abbrev pub live_app : App
+live_app = with_rule (with_rule (with_rule (with_rule (with_rule (new_app (codes "live")) plan_rule) sections_rule) seed_rule) turns_rule) progress_rule
+
+-- the whole command line
+unfoldable pub live_line : App
+live_line = with_subcommand mx_start live_app.top
+
+-- the name of the plan, how many sections each node is to have, the seed, and how many turns each may take
+pub record Order : Type 0 where
+  pub plan : Text
+  pub sections : ℕ
+  pub seed : ℕ
+  pub turns : ℕ
+
+abbrev pub order : Text → ℕ → ℕ → ℕ → Order
+order plan sections seed turns = record { plan = plan; sections = sections; seed = seed; turns = turns }
+
+abbrev pub order_of : LiveRun → Order
+order_of run = order run.plan.now run.sections run.seed run.turns
+
+-- what was given for the arguments
+abbrev pub live_in : List Row → Option Order
+live_in rows = option_and_then (λ plan. option_and_then (λ sections. option_and_then (λ seed. option_map (order plan sections seed)
+    (number_at (codes "turns") rows)) (number_at (codes "seed") rows)) (number_at (codes "sections") rows)) (first_of (codes "PLAN") rows)
+
+abbrev pub order_in : Option (Text × List Row) → Option Order
+order_in None = None
+order_in (Some p) = if bytes_eq p.0 (codes "live") then live_in p.1 else None
+
+-- what the words ask for, where they are `live` with its arguments
+unfoldable pub order_asked : List Text → Option Order
+order_asked words = where_none (fault_of live_line words) (order_in (subcommand_of live_line words))
+
+-- the words ask for help, or for the version
+pub record AskLiveHelp (words : List Text) : Type 0 where
+  pub some : fault_of live_line words ≢ []
+  pub each : (k : ErrorKind) → IsAmong k (fault_of live_line words) → IsShown k
+
+-- the words are not those of `live`
+pub record AreWrongLive (words : List Text) : Type 0 where
+  pub some : fault_of live_line words ≢ []
+  pub each : (k : ErrorKind) → IsAmong k (fault_of live_line words) → ¬ (IsShown k)

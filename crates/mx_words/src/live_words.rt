@@ -1,0 +1,144 @@
+//! The words of `live`, which are read apart from those of the other commands.
+
+ghost use Rattle.std.specs.Prelude.{◌≡◌, [], IfOk, IfErr, false, option_map};
+ghost use Rattle.clap.specs.Words.{app_of, fault_of, found_of, rows_of, rule_of, subcommand_rows_of, HasKind};
+ghost use Rattle.mx_words.specs.Words.{HasNoGlobals, texts_of};
+ghost use Rattle.mx_words.specs.LiveWords.{live_app, live_in, live_line, order_asked, order_in, order_of, progress_rule, sections_rule, turns_rule};
+
+use crate::help;
+use crate::words::{number_at, plan_arg, seed_arg, text_at};
+use clap::builder::ValueParser;
+use clap::{Arg, ArgAction, ArgMatches, Command, Error};
+use std::alloc::{AllocError, Global};
+
+/// The greatest number of sections of a node.
+const MOST_SECTIONS: u64 = 1_000_000;
+
+/// What is to be run: the name of a plan, how many sections each node is to have, the seed of the
+/// first node's links, how many turns each node may take, and whether progress is to be told.
+#[derive(Clone, Copy, Debug, PartialEq, Eq)]
+pub struct LiveRun<'a> {
+    pub plan: &'a str,
+    pub sections: u64,
+    pub seed: u64,
+    pub turns: u64,
+    pub progress: bool,
+}
+
+fn sections_arg<'a>(alloc: Global) -> Arg<'a>
+    ensures rule { rule_of result ≡ sections_rule }
+    ensures local { result.global ≡ false }
+{
+    Arg::new(alloc, "sections")
+        .long("sections")
+        .help("How many sections each node is to have, 0 to 1000000")
+        .value_parser(ValueParser::Unsigned(0, MOST_SECTIONS))
+        .required(true)
+}
+
+fn turns_arg<'a>(alloc: Global) -> Arg<'a>
+    ensures rule { rule_of result ≡ turns_rule }
+    ensures local { result.global ≡ false }
+{
+    Arg::new(alloc, "turns")
+        .long("turns")
+        .help("How many turns each node may take, a whole number of 64 bits")
+        .value_parser(ValueParser::Unsigned(0, u64::MAX))
+        .required(true)
+}
+
+fn progress_arg<'a>(alloc: Global) -> Arg<'a>
+    ensures rule { rule_of result ≡ progress_rule }
+    ensures local { result.global ≡ false }
+{
+    Arg::new(alloc, "progress")
+        .long("progress")
+        .help("Tells on standard error, about once a second, how many sections stand so far")
+        .action(ArgAction::SetTrue)
+}
+
+fn live_command<'a>(alloc: Global) -> Result<Command<'a>, AllocError>
+    ensures app { IfOk result (λ command. app_of command ≡ live_app) }
+    ensures local { IfOk result HasNoGlobals }
+{
+    let begun = Command::new(alloc, "live")
+        .about(help::LIVE)
+        .after_help(help::LIVE_EXAMPLE);
+    let with_plan = begun.arg(plan_arg(alloc))?;
+    let with_sections = with_plan.arg(sections_arg(alloc))?;
+    let with_seed = with_sections.arg(seed_arg(alloc))?;
+    let with_turns = with_seed.arg(turns_arg(alloc))?;
+    let whole = with_turns.arg(progress_arg(alloc))?;
+    Ok(whole)
+}
+
+/// The command that is read: `live` alone.
+fn live_line<'a>(alloc: Global) -> Result<Command<'a>, AllocError>
+    ensures { IfOk result (λ command. app_of command ≡ live_line) }
+{
+    let begun = Command::new(alloc, "mx")
+        .bin_name("mx")?
+        .version(help::VERSION)
+        .about(help::MX)
+        .no_binary_name(true)
+        .subcommand_required(true)
+        .disable_help_subcommand(true);
+    let live = live_command(alloc)?;
+    let whole = begun.subcommand(live)?;
+    Ok(whole)
+}
+
+/// What the words, of which `live` is the first, ask for. Their faults are those of `clap`, and words
+/// that ask for help come as such a fault too, with the text to show.
+pub fn asked_live<'a>(alloc: Global, words: &'a [&'a str]) -> Result<Option<LiveRun<'a>>, Error>
+    ensures read { IfOk result (λ _. fault_of live_line (texts_of words.entry.now) ≡ []) }
+    ensures ok { IfOk result (λ run.
+        option_map order_of run ≡ order_asked (texts_of words.entry.now)) }
+    ensures err { IfErr result (HasKind (fault_of live_line (texts_of words.entry.now))) }
+{
+    let matches = live_matches_of(alloc, words)?;
+    Ok(run_in(&matches))
+}
+
+fn live_matches_of<'a>(alloc: Global, words: &'a [&'a str]) -> Result<ArgMatches<'a>, Error>
+    ensures read { IfOk result (λ _. fault_of live_line (texts_of words.entry.now) ≡ []) }
+    ensures ok { IfOk result (λ matches.
+        order_in (subcommand_rows_of matches) ≡ order_asked (texts_of words.entry.now)) }
+    ensures err { IfErr result (HasKind (fault_of live_line (texts_of words.entry.now))) }
+{
+    let command = live_line(alloc)?;
+    command.try_get_matches_from(words)
+}
+
+fn run_in<'a>(matches: &ArgMatches<'a>) -> Option<LiveRun<'a>>
+    ensures { option_map order_of result ≡ order_in (subcommand_rows_of matches.now) }
+{
+    match matches.subcommand() {
+        Some((name, inner)) if name == "live" => live_in(inner),
+        _ => None,
+    }
+}
+
+fn live_in<'a>(matches: &ArgMatches<'a>) -> Option<LiveRun<'a>>
+    ensures { option_map order_of result ≡ live_in (rows_of (found_of matches.now)) }
+{
+    let Some(plan) = text_at(matches, "PLAN") else {
+        return None;
+    };
+    let Some(sections) = number_at(matches, "sections") else {
+        return None;
+    };
+    let Some(seed) = number_at(matches, "seed") else {
+        return None;
+    };
+    let Some(turns) = number_at(matches, "turns") else {
+        return None;
+    };
+    Some(LiveRun {
+        plan,
+        sections,
+        seed,
+        turns,
+        progress: matches.get_flag("progress"),
+    })
+}
