@@ -1,4 +1,5 @@
-//! `mx`, the program: it hands the words, the files and the streams of the process to `command`.
+//! `mx`, the program: it hands the words, the files and the streams of the process to `command`, or
+//! to `live` where that is the first word.
 #![tactic(auto)]
 
 mod stream;
@@ -7,26 +8,46 @@ mod streams;
 use crate::stream::Stream;
 use crate::streams::Streams;
 use mx_commands::{Output, command};
-use std::io::{BufWriter, ErrorKind};
+use mx_live::live;
+use std::io::{BufWriter, ErrorKind, Write};
 use std::process::ExitCode;
+use std::rt::{Clock, Env, Files};
+use std::thread::Threads;
 use std::{env, io};
 
-/// Runs the command line of the process. An `Err` means that memory ran out, or that an argument is not UTF-8.
-fn run_words(rt: &HostRuntime) -> io::Result<u8> {
+/// Runs the command line of the process. An `Err` means that memory ran out, or that an argument is
+/// not UTF-8.
+fn run_words<
+    R: Files + Env + Clock + Input + AllocGlobal + Threads,
+    O: Write + Drop,
+    E: Write + Drop,
+>(rt: &R, out: O, err: E) -> io::Result<u8> {
     let alloc = rt.alloc();
     let given: Vec<String> = env::args(rt)?.skip(1).collect(alloc)?;
     let mut words = Vec::new(alloc);
     for word in &given {
         words.push(word.as_str())?;
     }
-    let mut out = Stream(BufWriter::new(alloc, rt.stdout())?);
-    let mut err = Stream(rt.stderr());
+    let mut out = Stream(BufWriter::new(alloc, out)?);
+    let mut err = Stream(err);
     let mut source = Streams { rt };
-    Ok(command(alloc, words.as_slice(), &mut source, &mut out, &mut err))
+    let words = words.as_slice();
+    if begins_with(words, "live") {
+        return Ok(live(rt, alloc, words, &mut source, &mut out, &mut err));
+    }
+    Ok(command(alloc, words, &mut source, &mut out, &mut err))
+}
+
+/// Whether this is the first word.
+fn begins_with(words: &[&str], first: &str) -> bool {
+    match words.first() {
+        Some(word) => *word == first,
+        None => false,
+    }
 }
 
 fn main(rt: HostRuntime) -> ExitCode {
-    match run_words(&rt) {
+    match run_words(&rt, rt.stdout(), rt.stderr()) {
         Ok(status) => ExitCode::from(status),
         Err(e) => {
             let mut err = Stream(rt.stderr());

@@ -1,0 +1,66 @@
+//! A node of any of the three algorithms, and its work.
+
+use crate::meeting::Meeting;
+use mx_letters::{Fair, Fate, Fates};
+use mx_maekawa::Maekawa;
+use mx_nodelaws::Exclusion;
+use mx_raymond::Raymond;
+use mx_ricart::Ricart;
+use mx_stations::{Script, Station, Worked, work};
+use std::sync::atomic::{AtomicU64, Ordering};
+
+/// How many turns a node takes at the most.
+const MOST_TURNS: u64 = 1_000_000_000_000;
+
+/// A station that a thread can own, whichever its algorithm.
+#[derive(Drop)]
+pub(crate) enum AnyStation {
+    Ricart(Station<Ricart>),
+    Maekawa(Station<Maekawa>),
+    Raymond(Station<Raymond>),
+}
+
+/// A network that loses nothing, and counts the parcels that it delivers.
+#[derive(Drop)]
+struct Counting<'a> {
+    parcels: &'a AtomicU64,
+}
+
+impl Fates for Counting<'_> {
+    fn fate(&mut self) -> Fate {
+        self.parcels.fetch_add(1, Ordering::SeqCst);
+        Fair.fate()
+    }
+}
+
+/// How many sections the node has entered, where it got all that it was to enter.
+fn worked<C: Exclusion>(
+    station: Station<C>,
+    meeting: &Meeting,
+    parcels: &AtomicU64,
+    sections: u64,
+) -> u64 {
+    let script = Script {
+        register: 0,
+        sections,
+    };
+    let (station, ended) = work(station, script, meeting, Counting { parcels }, MOST_TURNS);
+    match ended {
+        Worked::Done => station.receipts().len() as u64,
+        Worked::NotYet(_) | Worked::GateShut => 0,
+    }
+}
+
+/// Does the work at a station of any kind.
+pub(crate) fn sections_of(
+    station: AnyStation,
+    meeting: &Meeting,
+    parcels: &AtomicU64,
+    sections: u64,
+) -> u64 {
+    match station {
+        AnyStation::Ricart(station) => worked(station, meeting, parcels, sections),
+        AnyStation::Maekawa(station) => worked(station, meeting, parcels, sections),
+        AnyStation::Raymond(station) => worked(station, meeting, parcels, sections),
+    }
+}

@@ -1,0 +1,67 @@
+//! The clusters that are measured: arbiters are all nodes, or those of a plane where there is one;
+//! the tree is binary.
+
+use crate::nodes::AnyStation;
+use anyhow::{Result, bail};
+use mx_maekawa::Maekawa;
+use mx_quorums::Quorums;
+use mx_raymond::Raymond;
+use mx_ricart::{Count, Ricart};
+use mx_stations::Field;
+use mx_trees::Tree;
+use std::alloc::{AllocError, Global};
+
+/// The greatest number of sections that a cluster may have.
+const LIMIT: u64 = 1_000_000;
+
+fn ricart(alloc: Global, nodes: u8) -> Result<Vec<AnyStation>> {
+    let mut all = Vec::new(alloc);
+    let Some(count) = Count::of(nodes) else {
+        bail!("1 to 21 nodes");
+    };
+    for station in Field::<Ricart>::stations(alloc, &count, 0, LIMIT, 1)? {
+        all.push(AnyStation::Ricart(station))?;
+    }
+    Ok(all)
+}
+
+fn maekawa(alloc: Global, nodes: u8) -> Result<Vec<AnyStation>> {
+    let mut all = Vec::new(alloc);
+    let quorums = match Quorums::plane(nodes) {
+        Ok(quorums) => quorums,
+        Err(_) => Quorums::grid(1, nodes)?,
+    };
+    for station in Field::<Maekawa>::stations(alloc, &quorums, 0, LIMIT, 1)? {
+        all.push(AnyStation::Maekawa(station))?;
+    }
+    Ok(all)
+}
+
+/// The edges of a binary tree: node i hangs below node (i - 1) / 2.
+fn binary_edges(alloc: Global, nodes: u8) -> Result<Vec<(u8, u8)>, AllocError> {
+    let mut edges = Vec::new(alloc);
+    for node in 1..nodes {
+        edges.push(((node - 1) / 2, node))?;
+    }
+    Ok(edges)
+}
+
+fn raymond(alloc: Global, nodes: u8) -> Result<Vec<AnyStation>> {
+    let mut all = Vec::new(alloc);
+    let edges = binary_edges(alloc, nodes)?;
+    let tree = Tree::of(nodes, edges.as_slice(), 0)?;
+    for station in Field::<Raymond>::stations(alloc, &tree, 0, LIMIT, 1)? {
+        all.push(AnyStation::Raymond(station))?;
+    }
+    Ok(all)
+}
+
+/// The stations of so many nodes.
+pub(crate) fn stations_of(alloc: Global, algorithm: &str, nodes: u8) -> Result<Vec<AnyStation>> {
+    match algorithm {
+        "ricart" => ricart(alloc, nodes),
+        "maekawa" => maekawa(alloc, nodes),
+        "raymond" => raymond(alloc, nodes),
+        _ => bail!("no such algorithm"),
+    }
+}

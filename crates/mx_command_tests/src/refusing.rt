@@ -1,0 +1,87 @@
+//! Outputs that refuse.
+
+use mx_commands::{Output, PutFault, Table, command};
+use mx_live::live;
+use std::alloc::Global;
+use std::rt::Clock;
+use std::thread::Threads;
+
+const RICART: &str =
+    "{\"algorithm\":\"ricart\",\"nodes\":[\"a\",\"b\",\"c\"],\"registers\":[\"count\"],\"sections\":10}";
+
+/// An output that takes so many texts, and answers the next, or else the flush, with this.
+#[derive(Drop)]
+struct Narrow {
+    taken: u64,
+    room: u64,
+    answer: PutFault,
+}
+
+impl Output for Narrow {
+    fn put(&mut self, _text: &[u8]) -> Result<(), PutFault> {
+        if self.taken == self.room {
+            return Err(self.answer);
+        }
+        self.taken = self.taken.saturating_add(1);
+        Ok(())
+    }
+
+    fn flush(&mut self) -> Result<(), PutFault> {
+        Err(self.answer)
+    }
+}
+
+/// Runs the words, and answers the status.
+fn run_words<R: Threads + Clock>(
+    rt: &R,
+    alloc: Global,
+    words: &[&str],
+    out: &mut Narrow,
+    err: &mut Vec<u8>,
+) -> u8 {
+    let events = "[[\"ask\",\"a\"],[\"deliver\",0],[\"deliver\",1]]";
+    let entries = [("p", RICART.as_bytes()), ("e", events.as_bytes())];
+    let mut source = Table { entries: &entries };
+    match words.first() {
+        Some(word) if *word == "live" => live(rt, alloc, words, &mut source, out, err),
+        _ => command(alloc, words, &mut source, out, err),
+    }
+}
+
+#[test]
+fn refused_texts_end_the_run(rt: HostRuntime) {
+    let lines: [&[&str]; 5] = [
+        &["replay", "p", "e"],
+        &["check", "p"],
+        &["explore", "p", "--seed", "1", "--steps", "9"],
+        &[
+            "live",
+            "p",
+            "--sections",
+            "1",
+            "--seed",
+            "1",
+            "--turns",
+            "99999999",
+        ],
+        &["--version"],
+    ];
+    for words in &lines {
+        for room in [0, 1, 2, 99] {
+            for (answer, status, line) in [
+                (PutFault::Refused, 1, ""),
+                (PutFault::Memory, 5, "mx: out of memory\n"),
+            ] {
+                let mut out = Narrow {
+                    taken: 0,
+                    room,
+                    answer,
+                };
+                let mut err = Vec::new(rt.alloc());
+                let ended = run_words(&rt, rt.alloc(), words, &mut out, &mut err);
+                assert_eq!(rt; ended, status);
+                assert!(rt; err.as_slice() == line.as_bytes());
+            }
+        }
+    }
+}

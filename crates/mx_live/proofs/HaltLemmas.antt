@@ -1,0 +1,44 @@
+-- Why a live run has no journal.
+use Rattle.std.proofs.Common.{◌≡◌, ◌⊎◌, Bool, true, false, inl, inr, Option, Some, None, IfSome, Result, Err, refl, sym, subst}
+use Rattle.std.proofs.lemmas.Bool.{false≢true}
+use Rattle.std.specs.Io.KnownBytes.{Keeps}
+use Rattle.mx_plan.specs.Fields.{Fields}
+use Rattle.mx_words.specs.LiveWords.{Order}
+use Rattle.mx_commands.specs.declared.faults.Stop.{Stop}
+use Rattle.mx_commands.specs.declared.faults.Stop.TheVariants as stop
+use Rattle.mx_commands.specs.Jobs.{Reads}
+use Rattle.mx_commands.specs.Outputs.{Held, refused_after}
+use Rattle.mx_commands.specs.Told.{Telling}
+use Rattle.mx_live.specs.declared.halts.Halt.{Halt}
+use Rattle.mx_live.specs.Halts.{Fails, RanInVain, halt_of_stop}
+use Rattle.mx_live.specs.Lives.{Ends, Fits, Halts, IsPlanOf, IsSilent}
+
+same_held : (held : Held) → Keeps held held
+same_held None = tt
+same_held (Some xs) = refl
+
+module _ (takes : Bool) (told : Option Telling) (order : Order) where
+  -- a plan that was not read
+  pub plan_halts : (stopped : Stop) (held : Held) → IfSome told (λ telling. Reads telling (Err stopped))
+      → ((before : Bool) → refused_after {T = Fields} (Err stopped) before ≡ before) → Halts takes told order (halt_of_stop stopped) × IsSilent (halt_of_stop stopped) held held
+  plan_halts (stop.Fault fault) held read taken = (read, same_held held)
+  plan_halts stop.Writer held read taken = absurd (false≢true (sym (taken false)))
+  plan_halts stop.Memory held read taken = (tt, tt)
+
+  -- threads that ran in vain
+  pub vain_halts : (p : Fields) (halt : Halt) (held : Held) → IsPlanOf told p → Fits order p → RanInVain halt → Halts takes told order halt × IsSilent halt held held
+  vain_halts p halt held read fits (inl is) = subst (λ h. Halts takes told order h × IsSilent h held held) (sym is) ((p, read, fits), same_held held)
+  vain_halts p halt held read fits (inr (inl is)) = subst (λ h. Halts takes told order h × IsSilent h held held) (sym is) ((p, read, fits), same_held held)
+  vain_halts p halt held read fits (inr (inr is)) = subst (λ h. Halts takes told order h × IsSilent h held held) (sym is) (tt, tt)
+
+  -- an output that did not take what was printed
+  pub output_halts : (halt : Halt) (old new : Held) → Fails takes halt → Halts takes told order halt × IsSilent halt old new
+  output_halts halt old new (inl fails) = subst (λ h. Halts takes told order h × IsSilent h old new) (sym fails.0) (fails.1, tt)
+  output_halts halt old new (inr is) = subst (λ h. Halts takes told order h × IsSilent h old new) (sym is) (tt, tt)
+
+  -- the end of a run whose plan was not read
+  pub plan_ends : (r : Result (Unit {0}) Halt) (halt : Halt) (stopped : Stop) (held : Held) → r ≡ Err halt → halt ≡ halt_of_stop stopped → IfSome told (λ telling. Reads telling (Err stopped))
+      → ((before : Bool) → refused_after {T = Fields} (Err stopped) before ≡ before) → Ends takes told order held held r
+  plan_ends r halt stopped held is from read taken =
+      subst (λ (x : Result (Unit {0}) Halt). Ends takes told order held held x) (sym is)
+      (subst (λ h. Halts takes told order h × IsSilent h held held) (sym from) (plan_halts stopped held read taken))

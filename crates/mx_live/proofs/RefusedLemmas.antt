@@ -1,0 +1,41 @@
+-- Words of a live run that were refused.
+use Rattle.std.proofs.Common.{◌≡◌, ◌≢◌, ◌⊎◌, inl, inr, ℕ, Bool, List, Option, Some, None, IfSome, IsSome, refl, subst, sym}
+use Rattle.std.specs.Io.KnownBytes.{Keeps}
+use Rattle.clap.specs.Words.{Text, kind_of}
+use Rattle.clap.specs.Faults.{fault_of}
+use Rattle.clap.specs.Kinds.{HasKind}
+use Rattle.clap.specs.declared.error.Error.{Error}
+use Rattle.clap.specs.declared.error.kind.ErrorKind.TheVariants.{OutOfMemory}
+use Rattle.mx_words.specs.Words.{IsShown}
+use Rattle.mx_words.specs.LiveWords.{AreWrongLive, AskLiveHelp, Order, live_line, order_asked}
+use Rattle.mx_words.proofs.LiveWordLemmas.{no_order_among}
+use Rattle.mx_commands.specs.Outputs.{Held}
+use Rattle.mx_commands.specs.Ran.{Helps, MayTell, Scolds, Seen}
+use Rattle.mx_commands.specs.Told.{Telling}
+use Rattle.mx_live.specs.Lives.{Lives}
+
+module _ (t : Bool) (old new : Seen) (status : ℕ) (e : Error) (words : List Text) (kinds : HasKind (fault_of live_line words) e)
+    (memory : kind_of e ≡ OutOfMemory → (status ≡ 5) × Keeps old.out new.out × MayTell old.err new.err × (new.refused ≡ old.refused)) where
+  refused_order : (h : (kind_of e ≡ OutOfMemory) ⊎ (IsSome (order_asked words) → ⊥)) (told : Order → Option Telling) (w : Option Order) → w ≡ order_asked words
+      → IfSome w (λ order. Lives t (told order) order old.out new.out status)
+  refused_order h told None is = tt
+  refused_order (inl out) told (Some order) is = inr (inr (memory out).0)
+  refused_order (inr none) told (Some order) is = absurd (none (subst IsSome is refl))
+
+  asks_nothing : (kind_of e ≡ OutOfMemory) ⊎ (IsSome (order_asked words) → ⊥)
+  asks_nothing = elim kinds [ inl out ↦ inl out | inr among ↦ inr (no_order_among words (kind_of e) among) ]
+
+  pub order_refused : (told : Order → Option Telling) → IfSome (order_asked words) (λ order. Lives t (told order) order old.out new.out status)
+  order_refused told = refused_order asks_nothing told (order_asked words) refl
+
+  pub helps : (IsShown (kind_of e) → Helps t old new status) → AskLiveHelp words → Helps t old new status
+  helps help asks = elim kinds [
+    | inl out ↦ let m = memory out in inr (inr (m.0, m.2, m.3))
+    | inr among ↦ help (asks.each (kind_of e) among)
+  ]
+
+  pub scolds : (¬ (IsShown (kind_of e)) → Scolds old new status) → AreWrongLive words → Scolds old new status
+  scolds wrong asks = elim kinds [
+    | inl out ↦ let m = memory out in (m.1, inr (m.0, m.2))
+    | inr among ↦ wrong (asks.each (kind_of e) among)
+  ]

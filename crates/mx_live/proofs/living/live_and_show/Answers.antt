@@ -1,0 +1,10 @@
+use Rattle.std.proofs.lemmas.Result.{err_from_is_err_and}
+use Rattle.mx_words.specs.LiveWords.{order_of}
+use Rattle.mx_live.proofs.HaltLemmas.{plan_ends}
+use Rattle.mx_live.proofs.living.live_and_show.Goals as goal
+
+pub returns-in_err-plan : goal.returns-in_err-plan
+returns-in_err-plan g c =
+    let e = err_from_is_err_and c.from_residual.result c.from_residual.ensures.1 in
+    plan_ends (g.O.Output.takes_all c.args.out.now) (g.S.Source.told c.args.source.now c.args.run.now.plan.now) (order_of c.args.run.now)
+    c.from_residual.result e.0 c.in_err-plan.field-0.0 (g.O.Output.written c.args.out.now) e.1 e.2 c.in_err-plan.ensures.told c.in_err-plan.ensures.taken

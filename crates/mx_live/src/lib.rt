@@ -1,0 +1,16 @@
+//! `mx live`: one thread for each node of a plan, each of which adds 1 to the first register in
+//! sections of its own; then their journals are gathered.
+#![tactic(auto)]
+
+mod any_station;
+mod assembly;
+mod by_algorithm;
+mod halts;
+mod living;
+mod progress;
+mod running;
+mod shown;
+mod threads;
+
+pub use assembly::Assembly;
+pub use living::live;

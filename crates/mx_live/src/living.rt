@@ -1,0 +1,126 @@
+//! `live`: from words, named bytes and two outputs to a status, by threads.
+
+ghost use Rattle.std.specs.Prelude.{◌≡◌, ◌⊎◌, length, IfErr, IfSome, OnOk};
+ghost use Rattle.std.specs.Io.KnownBytes.{Appends};
+ghost use Rattle.mx_words.specs.Words.{texts_of};
+ghost use Rattle.mx_words.specs.LiveWords.{AreWrongLive, AskLiveHelp, order_asked, order_of};
+ghost use Rattle.mx_commands.specs.Ran.{Helps, Scolds, seen};
+ghost use Rattle.mx_live.specs.Halts.{Fails, halt_status};
+ghost use Rattle.mx_live.specs.Lives.{Ends, Lives};
+ghost use Rattle.mx_live.specs.Shown.{live_text};
+
+use crate::halts::{Halt, HaltLine};
+use crate::running::live_by_shape;
+use crate::shown::add_journal;
+use mx_commands::{Output, PutFault, Source, fetch_plan, put_line, refuse, tell_memory};
+use mx_plan::Plan;
+use mx_stations::Gathered;
+use mx_words::{LiveRun, asked_live};
+use std::alloc::Global;
+use std::rt::Clock;
+use std::thread::Threads;
+
+/// Runs the words of a command line of which `live` is the first, without the program's name, and
+/// answers the status: 0 where all went well, or help was asked for, 1 where the plan, its file or
+/// an output is at fault or the plan allows too few sections, 2 where the words are not those of
+/// `live`, 3 where turns were spent or the gate was shut, 5 where memory ran out or a thread could
+/// not be started.
+pub fn live<R: Threads + Clock, S: Source, O: Output, E: Output>(
+    rt: &R,
+    alloc: Global,
+    words: &[&str],
+    source: &mut S,
+    out: &mut O,
+    err: &mut E,
+) -> u8
+    ensures lives { IfSome (order_asked (texts_of words.entry.now)) (λ order.
+        Lives (O.takes_all out.old) (S.told source.old order.plan) order
+        (O.written out.old) (O.written out.new) result) }
+    ensures help { AskLiveHelp (texts_of words.entry.now) → Helps (O.takes_all out.old)
+        (seen (O.written out.old) (E.written err.old)
+        (O.has_refused out.old) (O.keeps_back out.old))
+        (seen (O.written out.new) (E.written err.new)
+        (O.has_refused out.new) (O.keeps_back out.new))
+        result }
+    ensures wrong { AreWrongLive (texts_of words.entry.now) → Scolds
+        (seen (O.written out.old) (E.written err.old)
+        (O.has_refused out.old) (O.keeps_back out.old))
+        (seen (O.written out.new) (E.written err.new)
+        (O.has_refused out.new) (O.keeps_back out.new))
+        result }
+{
+    match asked_live(alloc, words) {
+        Ok(Some(run)) => run_live(rt, alloc, &run, source, out, err),
+        Ok(None) => 2,
+        Err(e) => refuse(alloc, &e, out, err),
+    }
+}
+
+/// Runs what is asked for, and tells why there is no journal where there is none. Answers the
+/// status.
+fn run_live<R: Threads + Clock, S: Source, O: Output, E: Output>(
+    rt: &R,
+    alloc: Global,
+    run: &LiveRun<'_>,
+    source: &mut S,
+    out: &mut O,
+    err: &mut E,
+) -> u8
+    ensures { Lives (O.takes_all out.old) (S.told source.old run.now.plan.now) (order_of run.now)
+        (O.written out.old) (O.written out.new) result }
+{
+    match live_and_show(rt, alloc, run, source, out, err) {
+        Ok(()) => 0,
+        Err(halt) => tell(alloc, halt, run.plan, err),
+    }
+}
+
+/// Tells why a run has no journal, and answers the status. A writer that refuses is told nothing.
+fn tell<E: Output>(alloc: Global, halt: Halt, plan: &str, err: &mut E) -> u8
+    ensures { (result ≡ halt_status halt) ⊎ (result ≡ 5) }
+{
+    if halt == Halt::Writer {
+        return 1;
+    }
+    if halt == Halt::Memory {
+        return tell_memory(err);
+    }
+    match put_line(alloc, err, HaltLine { halt, plan }) {
+        Ok(()) | Err(PutFault::Refused) => halt.status(),
+        Err(PutFault::Memory) => tell_memory(err),
+    }
+}
+
+/// Runs the nodes of a plan, and prints what their journals have together.
+fn live_and_show<R: Threads + Clock, S: Source, O: Output, E: Output>(
+    rt: &R,
+    alloc: Global,
+    run: &LiveRun<'_>,
+    source: &mut S,
+    out: &mut O,
+    err: &mut E,
+) -> Result<(), Halt>
+    ensures { Ends (O.takes_all out.old) (S.told source.old run.now.plan.now) (order_of run.now)
+        (O.written out.old) (O.written out.new) result }
+{
+    let plan = fetch_plan(alloc, source, run.plan)?;
+    if u64::from(plan.nodes()).saturating_mul(run.sections) > plan.sections() {
+        return Err(Halt::TooFewSections);
+    }
+    let gathered = live_by_shape(rt, alloc, &plan, run, err)?;
+    show(alloc, &plan, &gathered, out)
+}
+
+/// Prints what the nodes have together.
+fn show<O: Output>(alloc: Global, plan: &Plan, gathered: &Gathered, out: &mut O) -> Result<(), Halt>
+    ensures ok { OnOk result (Appends (O.written out.old) (O.written out.new)
+        (live_text plan.now (length gathered.now.receipts.items) gathered.now.journal)) }
+    ensures err { IfErr result (Fails (O.takes_all out.old)) }
+{
+    let mut text = String::new(alloc);
+    let receipts = gathered.receipts.len() as u64;
+    add_journal(plan, receipts, &gathered.journal, &mut text)?;
+    out.put(text.as_bytes())?;
+    out.flush()?;
+    Ok(())
+}
