@@ -8,6 +8,8 @@ mod clusters;
 #[cfg(test)]
 mod exploring;
 #[cfg(test)]
+mod four_slots;
+#[cfg(test)]
 mod given;
 #[cfg(test)]
 mod journals;
@@ -15,8 +17,6 @@ mod journals;
 mod members;
 #[cfg(test)]
 mod merging;
-#[cfg(test)]
-mod one_slot;
 #[cfg(test)]
 mod plans;
 #[cfg(test)]
@@ -37,3 +37,5 @@ mod texts;
 mod told;
 #[cfg(test)]
 mod verdicts;
+#[cfg(test)]
+mod working;

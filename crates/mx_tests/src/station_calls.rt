@@ -25,7 +25,7 @@ fn exchange<C: Exclusion>(zero: &mut Station<C>, one: &mut Station<C>) -> Result
 }
 
 /// Whether a parcel came from this node.
-fn takes<C: Exclusion>(station: &mut Station<C>, from: NodeId) -> Result<bool, Fail> {
+pub(crate) fn takes<C: Exclusion>(station: &mut Station<C>, from: NodeId) -> Result<bool, Fail> {
     if from.get() >= station.nodes() {
         return Err("no such node")?;
     }

@@ -3,9 +3,11 @@
 ghost use Rattle.std.specs.Prelude.{IfOk};
 ghost use Rattle.mx_stations.specs.Gathered.{KeepsTable};
 
+use crate::station_calls::takes;
 use mx_letters::{Fair, Fate, Fates};
 use mx_nodelaws::Phase;
 use mx_ricart::{Count, Ricart};
+use mx_stamps::NodeId;
 use mx_stations::{Field, PutOut, Station, TurnReport};
 use std::alloc::Global;
 use std::test::Fail;
@@ -58,7 +60,6 @@ impl Fates for Always {
 }
 
 /// Node 0 asks, and its request has this fate at node 1, which replies to each request that comes.
-/// One reply fits into the slot of their link.
 fn report_of(alloc: Global, fate: Fate) -> Result<TurnReport, Fail> {
     let (mut zero, mut one) = two(alloc)?;
     let _ = zero.ask();
@@ -76,8 +77,8 @@ fn a_fate_decides_how_often_a_parcel_comes(rt: HostRuntime) -> Result<(), Fail> 
     let passed = TurnReport { put: 1, ..one };
     let twice = TurnReport {
         twice: 1,
-        full: 1,
-        ..passed
+        put: 2,
+        ..one
     };
     for (fate, report) in [
         (Fate::Drop, lost),
@@ -86,6 +87,42 @@ fn a_fate_decides_how_often_a_parcel_comes(rt: HostRuntime) -> Result<(), Fail> 
     ] {
         assert_eq!(rt; report_of(rt.alloc(), fate)?, report);
     }
+    Ok(())
+}
+
+/// Takes all that lies in the slots from this node.
+fn take_all(station: &mut Station<Ricart>, from: NodeId) -> Result<(), Fail> {
+    for _try in 0..5 {
+        if !takes(station, from)? {
+            return Ok(());
+        }
+    }
+    Ok(())
+}
+
+/// How many parcels node 0 puts out until none waits. Where no slot is empty node 1 takes them all.
+fn put_all(zero: &mut Station<Ricart>, one: &mut Station<Ricart>) -> Result<u32, Fail> {
+    let mut sent = 0u32;
+    for _try in 0..100 {
+        match zero.put_out() {
+            PutOut::Sent => sent = sent.saturating_add(1),
+            PutOut::Full => take_all(one, zero.node())?,
+            PutOut::Nothing => return Ok(sent),
+        }
+    }
+    Ok(sent)
+}
+
+#[test]
+fn sixty_four_parcels_wait(rt: HostRuntime) -> Result<(), Fail> {
+    let (mut zero, mut one) = two(rt.alloc())?;
+    assert!(rt; zero.ask().is_ok());
+    for _tick in 0..70 {
+        zero.tick();
+    }
+    assert_eq!(rt; zero.waits(), 64);
+    assert_eq!(rt; put_all(&mut zero, &mut one)?, 64);
+    assert_eq!(rt; zero.waits(), 0);
     Ok(())
 }
 

@@ -19,9 +19,11 @@ enum Did {
     Refused(u8),
     /// An outcome that is not its event's.
     Mispaired(u8),
+    /// What is neither of a section nor of a register.
+    Ticked,
 }
 
-use Did::{Entered, Left, Mispaired, Refused, Value, Woken, Written};
+use Did::{Entered, Left, Mispaired, Refused, Ticked, Value, Woken, Written};
 
 /// The event, and what came of it.
 fn item(did: Did) -> Entry {
@@ -51,6 +53,7 @@ fn item(did: Did) -> Entry {
             )
         }
         Mispaired(index) => (Event::Tick(node(index % 21)), Outcome::Entered(9)),
+        Ticked => (Event::Tick(node(0)), Outcome::Sent(1)),
     };
     Entry { event, outcome }
 }
@@ -200,6 +203,92 @@ fn verdicts_on_short_traces(rt: HostRuntime) -> Result<(), Fail> {
             let trace = trace(rt.alloc(), *items)?;
             assert_eq!(rt; judge(trace.as_slice()), *verdict, "{items:?}");
         }
+    }
+    Ok(())
+}
+
+/// A trace of two nodes in which node 0 enters sections 1, 3 and 4, node 1 enters section 2, and the
+/// last section reads what the second wrote, before and after a write of its own.
+const FOUR_SECTIONS: [Did; 30] = [
+    Ticked,
+    Ticked,
+    Ticked,
+    Entered(0, 1),
+    Written(0, 0, 10),
+    Left(0, 1),
+    Ticked,
+    Ticked,
+    Ticked,
+    Entered(1, 2),
+    Written(1, 0, 20),
+    Left(1, 2),
+    Ticked,
+    Ticked,
+    Ticked,
+    Entered(0, 3),
+    Written(0, 1, 5),
+    Left(0, 3),
+    Ticked,
+    Ticked,
+    Ticked,
+    Entered(0, 4),
+    Refused(0),
+    Ticked,
+    Ticked,
+    Ticked,
+    Value(0, 0, 20),
+    Written(0, 0, 21),
+    Value(0, 0, 21),
+    Left(0, 4),
+];
+
+/// What is done to one item of a trace.
+#[derive(Clone, Copy, Debug)]
+enum Edit {
+    Keep,
+    Remove,
+    Become(Did),
+}
+
+use Edit::{Become, Keep, Remove};
+
+/// The item that is edited, how, and the verdict of the trace then.
+const EDITS: [(usize, Edit, Verdict); 7] = [
+    (0, Keep, Verdict::Sound),
+    (5, Remove, Verdict::Broken(8, Clause::Overlap)),
+    (9, Become(Entered(1, 3)), Verdict::Broken(9, Clause::Number)),
+    (11, Become(Left(1, 1)), Verdict::Broken(11, Clause::Overlap)),
+    (10, Remove, Verdict::Broken(25, Clause::Read)),
+    (
+        26,
+        Become(Value(0, 0, 10)),
+        Verdict::Broken(26, Clause::Read),
+    ),
+    (
+        28,
+        Become(Value(0, 0, 20)),
+        Verdict::Broken(28, Clause::Read),
+    ),
+];
+
+/// The trace of the four sections with one item edited.
+fn edited(alloc: Global, place: usize, edit: Edit) -> Result<Vec<Entry>, AllocError> {
+    let mut trace = Vec::new(alloc);
+    for (index, did) in FOUR_SECTIONS.iter().enumerate() {
+        match edit {
+            Remove if index == place => {}
+            Become(other) if index == place => trace.push(item(other))?,
+            _ => trace.push(item(*did))?,
+        }
+    }
+    Ok(trace)
+}
+
+#[test]
+fn edited_trace_is_broken(rt: HostRuntime) -> Result<(), Fail> {
+    for (place, edit, verdict) in &EDITS {
+        let trace = edited(rt.alloc(), *place, *edit)?;
+        assert_eq!(rt; judge(trace.as_slice()), *verdict, "{place} {edit:?}");
     }
     Ok(())
 }

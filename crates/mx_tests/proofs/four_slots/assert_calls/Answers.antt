@@ -1,5 +1,5 @@
 use Rattle.mx_stations.proofs.SameTable.{kept_on}
-use Rattle.mx_tests.proofs.one_slot.assert_calls.Goals as goal
+use Rattle.mx_tests.proofs.four_slots.assert_calls.Goals as goal
 
 pub loop-node-preserved : goal.loop-node-preserved
 loop-node-preserved g c = record {

@@ -1,4 +1,4 @@
-//! Two stations whose links have one slot each: what each call answers, and what is gathered.
+//! Two stations whose links have four slots each: what each call answers, and what is gathered.
 
 ghost use Rattle.std.specs.Prelude.{◌≡◌, [], ◌∷◌, IfOk};
 ghost use Rattle.mx_stations.specs.Gathered.{KeepsTable, OfOneTable};
@@ -16,8 +16,9 @@ use std::test::Fail;
 #[derive(Drop)]
 enum Call {
     Ask,
-    Tick,
     PutOut(PutOut),
+    /// It ticks first, so that what is outstanding waits again.
+    PutOutAgain(PutOut),
     TakeIn(u8, Taken),
     Enter(u64),
 }
@@ -40,6 +41,13 @@ fn assert_puts_out<C: Exclusion>(rt: &impl Abort, station: &mut Station<C>, answ
 {
     let put = station.put_out();
     assert_eq!(rt; put, answer);
+}
+
+fn assert_puts_out_again<C: Exclusion>(rt: &impl Abort, station: &mut Station<C>, answer: PutOut)
+    ensures { KeepsTable station.old station.new }
+{
+    assert_ticks(station);
+    assert_puts_out(rt, station, answer);
 }
 
 fn assert_takes_in<C: Exclusion>(rt: &impl Abort, station: &mut Station<C>, from: u8, answer: Taken)
@@ -70,10 +78,19 @@ fn assert_call<C: Exclusion>(rt: &impl Abort, station: &mut Station<C>, call: &C
 {
     match call {
         Call::Ask => assert_asks(rt, station),
-        Call::Tick => assert_ticks(station),
         Call::PutOut(answer) => assert_puts_out(rt, station, *answer),
+        Call::PutOutAgain(answer) => assert_puts_out_again(rt, station, *answer),
         Call::TakeIn(from, answer) => assert_takes_in(rt, station, *from, *answer),
         Call::Enter(number) => assert_enters(rt, station, *number),
+    }
+}
+
+/// It does so each of several times.
+fn assert_each<C: Exclusion>(rt: &impl Abort, station: &mut Station<C>, times: u8, call: &Call)
+    ensures { KeepsTable station.old station.new }
+{
+    for _time in 0..times {
+        assert_call(rt, station, call);
     }
 }
 
@@ -83,14 +100,15 @@ fn assert_one_call<C: Exclusion>(
     zero: &mut Station<C>,
     one: &mut Station<C>,
     node: u8,
+    times: u8,
     call: &Call,
 )
     ensures { KeepsTable zero.old zero.new × KeepsTable one.old one.new }
 {
     if node == 0 {
-        assert_call(rt, zero, call);
+        assert_each(rt, zero, times, call);
     } else {
-        assert_call(rt, one, call);
+        assert_each(rt, one, times, call);
     }
 }
 
@@ -99,12 +117,12 @@ fn assert_calls<C: Exclusion>(
     rt: &impl Abort,
     zero: &mut Station<C>,
     one: &mut Station<C>,
-    calls: &[(u8, Call)],
+    calls: &[(u8, u8, Call)],
 )
     ensures { KeepsTable zero.old zero.new × KeepsTable one.old one.new }
 {
-    for (node, call) in calls {
-        assert_one_call(rt, zero, one, *node, call);
+    for (node, times, call) in calls {
+        assert_one_call(rt, zero, one, *node, *times, call);
     }
 }
 
@@ -206,20 +224,21 @@ fn assert_gathers<C: Exclusion>(
 }
 
 #[test]
-fn stations_one_slot(rt: HostRuntime) -> Result<(), Fail> {
+fn stations_four_slots(rt: HostRuntime) -> Result<(), Fail> {
     let alloc = rt.alloc();
     let (mut zero, mut one) = two(alloc)?;
     let calls = [
-        (0, Call::Ask),
-        (0, Call::PutOut(PutOut::Sent)),
-        (0, Call::PutOut(PutOut::Nothing)),
-        (0, Call::Tick),
-        (0, Call::PutOut(PutOut::Full)),
-        (1, Call::TakeIn(0, Taken::Got)),
-        (1, Call::TakeIn(0, Taken::Empty)),
-        (1, Call::PutOut(PutOut::Sent)),
-        (0, Call::TakeIn(1, Taken::Got)),
-        (0, Call::Enter(1)),
+        (0, 1, Call::Ask),
+        (0, 1, Call::PutOut(PutOut::Sent)),
+        (0, 1, Call::PutOut(PutOut::Nothing)),
+        (0, 3, Call::PutOutAgain(PutOut::Sent)),
+        (0, 1, Call::PutOutAgain(PutOut::Full)),
+        (1, 4, Call::TakeIn(0, Taken::Got)),
+        (1, 1, Call::TakeIn(0, Taken::Empty)),
+        (1, 4, Call::PutOut(PutOut::Sent)),
+        (1, 1, Call::PutOut(PutOut::Nothing)),
+        (0, 1, Call::TakeIn(1, Taken::Got)),
+        (0, 1, Call::Enter(1)),
     ];
     assert_calls(&rt, &mut zero, &mut one, &calls);
     let one = alone(&rt, alloc, one)?;

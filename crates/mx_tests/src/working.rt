@@ -1,0 +1,208 @@
+//! Workers at stations: what their gate decides, how many turns they make, and that they count.
+
+ghost use Rattle.std.specs.Prelude.{IfOk};
+ghost use Rattle.mx_stations.specs.Gathered.{KeepsTable, OfOneTable};
+
+use mx_explorer::Weather;
+use mx_letters::{Fair, Fate, Fates};
+use mx_ricart::{Count, Ricart};
+use mx_stamps::NodeId;
+use mx_stations::{Field, Gate, Script, Station, Worked, gather, work};
+use std::alloc::{AllocError, Global};
+use std::process::Abort;
+use std::sync::atomic::{AtomicU64, Ordering};
+use std::test::Fail;
+use std::thread;
+use std::thread::yield_now;
+
+/// A gate that opens once so many nodes have arrived, and stays shut once one of them has looked
+/// too often. Nobody may stop before all have their sections.
+#[derive(Drop)]
+struct Assembly {
+    nodes: u64,
+    looks: u64,
+    arrived: AtomicU64,
+    finished: AtomicU64,
+    /// How many have looked too often.
+    gone: AtomicU64,
+    /// How many parcels came before all had arrived.
+    early: AtomicU64,
+}
+
+impl Assembly {
+    fn new(nodes: u64, looks: u64) -> Assembly {
+        Assembly {
+            nodes,
+            looks,
+            arrived: AtomicU64::new(0),
+            finished: AtomicU64::new(0),
+            gone: AtomicU64::new(0),
+            early: AtomicU64::new(0),
+        }
+    }
+
+    fn is_open(&self) -> bool {
+        self.arrived.load(Ordering::SeqCst) == self.nodes
+    }
+}
+
+impl Gate for Assembly {
+    fn arrive(&self, _node: NodeId) -> bool {
+        self.arrived.fetch_add(1, Ordering::SeqCst);
+        for _look in 0..self.looks {
+            if self.gone.load(Ordering::SeqCst) > 0 {
+                return false;
+            }
+            if self.is_open() {
+                return true;
+            }
+            yield_now();
+        }
+        self.gone.fetch_add(1, Ordering::SeqCst);
+        false
+    }
+
+    fn done(&self, node: NodeId) -> bool {
+        let bit = 1u64 << node.get();
+        let finished = self.finished.fetch_or(bit, Ordering::SeqCst) | bit;
+        u64::from(finished.count_ones()) == self.nodes
+    }
+}
+
+/// A network that loses nothing, and notes each parcel that comes before the gate is open.
+#[derive(Drop)]
+struct Noting<'a>(&'a Assembly);
+
+impl Fates for Noting<'_> {
+    fn fate(&mut self) -> Fate {
+        if !self.0.is_open() {
+            self.0.early.fetch_add(1, Ordering::SeqCst);
+        }
+        Fate::Pass
+    }
+}
+
+fn stations_of(alloc: Global, nodes: u8) -> Result<Vec<Station<Ricart>>, Fail> {
+    let shape = Count::of(nodes).ok_or("count")?;
+    Ok(Field::<Ricart>::stations(alloc, &shape, 0, 1000, 1)?)
+}
+
+/// How a worker ends that counts 20 sections, and the register as its node knows it then.
+fn count_on(station: Station<Ricart>, gate: &Assembly) -> (Worked, u64) {
+    let script = Script {
+        register: 0,
+        sections: 20,
+    };
+    let (station, ended) = work(station, script, gate, Noting(gate), 100_000_000);
+    (ended, station.value(0).unwrap_or(0))
+}
+
+#[test]
+fn gate_holds_until_all_arrive(rt: HostRuntime) -> Result<(), Fail> {
+    let gate = Assembly::new(5, 100_000_000);
+    let ended = thread::map_vec(
+        &rt,
+        stations_of(rt.alloc(), 5)?,
+        &|station: Station<Ricart>| -> (Worked, u64) { count_on(station, &gate) },
+    )?;
+    let mut most = 0;
+    for (worked, value) in &ended {
+        assert_eq!(rt; *worked, Worked::Done);
+        most = most.max(*value);
+    }
+    assert_eq!(rt; most, 100);
+    assert_eq!(rt; gate.early.load(Ordering::SeqCst), 0);
+    Ok(())
+}
+
+#[test]
+fn workers_run_in_turn(rt: HostRuntime) -> Result<(), Fail> {
+    let gate = Assembly::new(5, 1000);
+    for station in stations_of(rt.alloc(), 5)? {
+        assert_eq!(rt; count_on(station, &gate), (Worked::GateShut, 0));
+    }
+    Ok(())
+}
+
+/// A gate that is open.
+#[derive(Drop)]
+struct Open {
+    may_stop: bool,
+}
+
+impl Gate for Open {
+    fn arrive(&self, _node: NodeId) -> bool {
+        true
+    }
+
+    fn done(&self, _node: NodeId) -> bool {
+        self.may_stop
+    }
+}
+
+/// How the worker of the last of these nodes ends, which is to enter once. At the others nobody
+/// works.
+fn ending(alloc: Global, nodes: u8, may_stop: bool, turns: u64) -> Result<Worked, Fail> {
+    let script = Script {
+        register: 0,
+        sections: 1,
+    };
+    let station = stations_of(alloc, nodes)?.pop().ok_or("station")?;
+    Ok(work(station, script, &Open { may_stop }, Fair, turns).1)
+}
+
+#[test]
+fn turns_run_out(rt: HostRuntime) -> Result<(), Fail> {
+    for (nodes, may_stop, turns, wanted) in [
+        (1, true, 10, Worked::Done),
+        (1, false, 10, Worked::NotYet(10)),
+        (1, true, 0, Worked::NotYet(0)),
+        (3, true, 10_000, Worked::NotYet(10_000)),
+    ] {
+        assert_eq!(rt; ending(rt.alloc(), nodes, may_stop, turns)?, wanted);
+    }
+    Ok(())
+}
+
+/// Works at a station that hears nothing, and that is to enter once.
+fn work_unheard(station: Station<Ricart>) -> (Station<Ricart>, Worked)
+    ensures { KeepsTable station result.0 }
+{
+    let script = Script {
+        register: 0,
+        sections: 1,
+    };
+    let silence = Weather::of(1, 256, 0);
+    work(station, script, &Open { may_stop: true }, silence, 1000)
+}
+
+/// Works at stations one after another while all parcels are lost: each spends its turns.
+fn all_unheard(
+    rt: &impl Abort,
+    alloc: Global,
+    stations: Vec<Station<Ricart>>,
+) -> Result<Vec<Station<Ricart>>, AllocError>
+    requires { OfOneTable stations.items }
+    ensures { IfOk result (λ all. OfOneTable all.items) }
+{
+    let mut back = Vec::new(alloc);
+    for station in stations {
+        let (station, ended) = work_unheard(station);
+        assert_eq!(rt; ended, Worked::NotYet(1000));
+        back.push(station)?;
+    }
+    Ok(back)
+}
+
+#[test]
+fn nothing_is_gathered_where_all_is_lost(rt: HostRuntime) -> Result<(), Fail> {
+    let shape = Count::of(3).ok_or("count")?;
+    let stations = Field::<Ricart>::stations(rt.alloc(), &shape, 0, 1000, 1)?;
+    let back = all_unheard(&rt, rt.alloc(), stations)?;
+    let Ok(gathered) = gather(rt.alloc(), back) else {
+        return Err("refused")?;
+    };
+    assert!(rt; gathered.receipts.is_empty());
+    assert!(rt; gathered.journal.is_empty());
+    Ok(())
+}
