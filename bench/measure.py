@@ -9,6 +9,8 @@ import time
 
 ROOT = os.path.dirname(os.path.dirname(os.path.abspath(__file__)))
 PROGRAM = os.path.join(ROOT, "crates", "mx_program", "out", "mx_program")
+# as `mx` sets it
+TUNABLES = {**os.environ, "GLIBC_TUNABLES": "glibc.malloc.mmap_threshold=131072"}
 
 
 def build():
@@ -20,7 +22,7 @@ def run(words, printed, wanted=0):
     """Seconds and megabytes of one run, which has to end with this status; its output goes to this file."""
     with open(printed, "w") as out:
         begun = time.monotonic()
-        child = subprocess.Popen([PROGRAM, *words], stdout=out, stderr=subprocess.DEVNULL)
+        child = subprocess.Popen([PROGRAM, *words], stdout=out, stderr=subprocess.DEVNULL, env=TUNABLES)
         _, status, usage = os.wait4(child.pid, 0)
         took = time.monotonic() - begun
     if os.waitstatus_to_exitcode(status) != wanted:
