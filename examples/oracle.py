@@ -82,7 +82,7 @@ def text(letter, names):
 class Core:
     """What the algorithms have in common: a node's phase, its numbers, and the letters it puts out.
 
-    An algorithm adds permitted, request (what a node sends that begins to wait), leave, tick and deliver.
+    An algorithm adds permitted, request (what a node does that begins to wait), leave, tick and deliver.
     """
 
     def __init__(self, me, plan, highest):
@@ -124,6 +124,17 @@ class Core:
 
     def entered(self):
         """What an algorithm does on entering; nothing, unless it says so."""
+
+    def cancel(self):
+        """Gives the request up that this node waits with."""
+        if self.phase != WAITING:
+            return "refused not waiting"
+        self.withdraw()
+        return "cancelled"
+
+    def withdraw(self):
+        """What an algorithm does on giving a request up: what it does on leaving, unless it says so."""
+        self.leave()
 
 
 class Ricart(Core):
@@ -452,6 +463,10 @@ class Raymond(Core):
         self.phase = IDLE
         self.go_on()
 
+    def withdraw(self):
+        self.queue.remove(self.me)
+        self.leave()
+
     def tick(self):
         """Sends once more what is unacknowledged or unanswered."""
         self.repeat_privilege()
@@ -635,6 +650,9 @@ class Member:
     def enter(self):
         return self.core.enter()
 
+    def cancel(self):
+        return self.core.cancel()
+
     def read(self, register):
         """Reads a register: the draft's write, else what all earlier sections left."""
         if self.core.phase != INSIDE:
@@ -711,6 +729,7 @@ class Member:
 ACTS = {
     "ask": Member.ask,
     "enter": Member.enter,
+    "cancel": Member.cancel,
     "read": Member.read,
     "write": Member.write,
     "leave": Member.leave,
