@@ -1,9 +1,10 @@
 """Draws events in which something happens, for `bench/replay`.
 
-Usage: walk.py PLAN EVENTS COUNT SEED. Writes the file of events and prints how many parcels are sent
-and how many sections entered. Most events deliver a letter that is on its way; one in fifty letters is
-lost, and one event in fifty repeats an old one. A node that is idle asks, one that may enter enters, one
-that is inside writes and then leaves; where nothing is on its way, nodes tick.
+Usage: walk.py PLAN EVENTS COUNT SEED [CANCELLED]. Writes the file of events and prints how many parcels
+are sent and how many sections entered. Most events deliver a letter that is on its way; one in fifty
+letters is lost, and one event in fifty repeats an old one. A node that is idle asks, one that may enter
+enters, one that is inside writes and then leaves; where nothing is on its way, nodes tick. CANCELLED, 0
+where it is not given, is the chance that a node which waits gives up when its turn comes.
 """
 import json
 import os
@@ -21,8 +22,9 @@ DELIVERED = 0.80
 class Walk:
     """A cluster, the letters that it sent and the events so far."""
 
-    def __init__(self, plan, seed):
+    def __init__(self, plan, seed, cancelled):
         self.draw = random.Random(seed)
+        self.cancelled = cancelled
         self.names, self.nodes = plan["nodes"], cores(plan)
         self.sent, self.flying, self.events = [], [], []
         self.entered, self.has_written = 0, set()
@@ -56,6 +58,9 @@ class Walk:
             self.happen(node, "ask", name)
         elif node.phase == "inside":
             self.be_inside(node, name)
+        elif self.cancelled > 0 and self.draw.random() < self.cancelled:
+            node.cancel()
+            self.happen(node, "cancel", name)
         elif node.permitted():
             node.enter()
             self.entered += 1
@@ -84,9 +89,10 @@ class Walk:
 
 
 def main():
-    plan_file, events_file, count, seed = sys.argv[1:]
+    plan_file, events_file, count, seed = sys.argv[1:5]
+    cancelled = float(sys.argv[5]) if len(sys.argv) > 5 else 0
     with open(plan_file) as file:
-        walk = Walk(json.load(file), int(seed))
+        walk = Walk(json.load(file), int(seed), cancelled)
     while len(walk.events) < int(count):
         walk.step()
     with open(events_file, "w") as file:

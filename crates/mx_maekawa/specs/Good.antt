@@ -3,10 +3,11 @@ use Rattle.std.specs.Prelude.{ℕ, ◌<◌, ◌≤◌, ◌≡◌, ◌⊎◌, tru
 use Rattle.mx_stamps.specs.declared.stamp.Stamp.{Stamp}
 use Rattle.mx_letters.specs.declared.maekawa.MaekawaMsg.{MaekawaMsg}
 use Rattle.mx_letters.specs.declared.maekawa.MaekawaMsg.TheVariants.{Request, Locked, Failed, Inquire, Relinquish, Release}
-use Rattle.mx_nodelaws.specs.World.{World, IsNode, WasSent}
+use Rattle.mx_nodelaws.specs.World.{World, IsNode, WasSent, IsEachOk}
 use Rattle.mx_nodelaws.specs.declared.phase.Phase.TheVariants.{Inside}
 use Rattle.mx_nodelaws.specs.Phases.{is_busy}
-use Rattle.mx_nodelaws.specs.Bounds.{IsU64, BoundedStamp, BoundedPhase, IsBoundedWorld}
+use Rattle.mx_nodelaws.specs.Bounds.{IsU64, BoundedStamp, BoundedPhase}
+use Rattle.mx_nodelaws.specs.Rows.{IsGoodWorld}
 use Rattle.mx_nodelaws.specs.Raised.{IsReachedBy}
 use Rattle.mx_maekawa.specs.declared.lock.Lock.{Lock}
 use Rattle.mx_maekawa.specs.Node.{RequesterState, ArbiterState, Node}
@@ -129,9 +130,8 @@ IsLetterOk w a b (Relinquish stamp g) = IsRelinquishOk w a b stamp g
 IsLetterOk w a b (Release stamp t) = IsReleaseOk w a stamp t
 
 -- each node and each letter is as above. Each part of a step keeps this
-pub record IsSound (w : NodeWorld) : Type 0 where
-  pub nodes : (i : ℕ) (s : Node) → IsNode w i s → IsNodeOk w i s
-  pub letters : (a b : ℕ) (m : MaekawaMsg) → WasSent w a b m → IsLetterOk w a b m
+abbrev pub IsSound : NodeWorld → Type 0
+IsSound w = IsEachOk IsNodeOk IsLetterOk w
 
 -- no inquiry is remembered while an arbiter has failed. A whole step keeps this, its parts do not
 abbrev pub HasNoOverdueInquiry : RequesterState → Type 0
@@ -183,6 +183,5 @@ pub record BoundedNode (n : ℕ) (s : Node) : Type 0 where
   pub requester : BoundedRequester n s.requester
   pub arbiter : BoundedArbiter n s.arbiter
 
-pub record IsGood (w : NodeWorld) : Type 0 where
-  pub safe : IsSafe w
-  pub bounded : IsBoundedWorld BoundedNode BoundedLetter w
+abbrev pub IsGood : NodeWorld → Type 0
+IsGood w = IsGoodWorld IsSafe BoundedNode BoundedLetter w

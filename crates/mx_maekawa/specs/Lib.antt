@@ -1,29 +1,8 @@
--- Definitions: Node (the state), RequesterStep and ArbiterStep (the rows of the step table by role), Step (the step
--- table), Good (the invariant).
+-- Node (the state), RequesterStep and ArbiterStep (the rows of the step table by role), Step (the step table),
+-- Good (the invariant); laws (their proofs).
 pub mod Node
 pub mod RequesterStep
 pub mod ArbiterStep
 pub mod Step
 pub mod Good
--- Proofs of the laws: Places and Tests (lemmas), Changes and Frame (what any step may change, and what it leaves as it
--- was), Parts, LockParts, GrantParts, SectionParts and Cascades (what a step is made of), RequesterKeeps,
--- ArbiterKeeps and Keeps (each step keeps a world safe), RequesterBounds, ArbiterBounds and Bounds (each number stays a
--- u64 value), Safety (exclusion and numbering), Promises, Laws.
-pub mod Places
-pub mod Tests
-pub mod Changes
-pub mod Frame
-pub mod Safety
-pub mod Parts
-pub mod LockParts
-pub mod GrantParts
-pub mod SectionParts
-pub mod Cascades
-pub mod RequesterKeeps
-pub mod ArbiterKeeps
-pub mod Keeps
-pub mod RequesterBounds
-pub mod ArbiterBounds
-pub mod Bounds
-pub mod Promises
-pub mod Laws
+pub mod laws

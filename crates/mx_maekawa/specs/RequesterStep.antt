@@ -1,6 +1,6 @@
 -- The requester's rows of the step table. Each says which part of it is published (Maekawa 1985) and
 -- which is added here.
-use Rattle.std.specs.Prelude.{ℕ, zero, suc, ◌+◌, ◌<◌, ◌≡◌, Bool, true, false, ◌||◌, ◌&&◌, not, List, [], ◌∷◌, ◌++◌, Option, Some, None, Result, Ok, max, nat_lt, nat_eq, if◌then◌else◌, slice_index_or, slice_set, replicate}
+use Rattle.std.specs.Prelude.{ℕ, zero, suc, ◌+◌, ◌<◌, ◌≡◌, Bool, true, false, ◌||◌, ◌&&◌, not, List, [], ◌∷◌, ◌++◌, Option, Some, None, Result, max, nat_lt, nat_eq, if◌then◌else◌, slice_index_or, slice_set, replicate}
 use Rattle.mx_stamps.specs.declared.stamp.Stamp.{Stamp}
 use Rattle.mx_stamps.specs.Stamp.{is_same_as}
 use Rattle.mx_letters.specs.declared.maekawa.MaekawaMsg.{MaekawaMsg}
@@ -9,10 +9,12 @@ use Rattle.mx_nodelaws.specs.World.{Done, Quiet, addressed}
 use Rattle.mx_nodelaws.specs.declared.phase.Phase.{Phase}
 use Rattle.mx_nodelaws.specs.declared.phase.Phase.TheVariants.{Idle, Waiting, Inside}
 use Rattle.mx_nodelaws.specs.declared.faults.AskFault.{AskFault}
+use Rattle.mx_nodelaws.specs.declared.faults.CancelFault.{CancelFault}
 use Rattle.mx_nodelaws.specs.declared.faults.EnterFault.{EnterFault}
 use Rattle.mx_nodelaws.specs.declared.faults.LeaveFault.{LeaveFault}
 use Rattle.mx_nodelaws.specs.Phases.{is_busy, is_waiting}
-use Rattle.mx_nodelaws.specs.Calls.{unchanged, ask_by, entered_by, enter_by, leave_by}
+use Rattle.mx_nodelaws.specs.Calls.{unchanged, ask_by, enter_by, leave_by, cancel_by}
+use Rattle.mx_nodelaws.specs.Tests.{all_below}
 use Rattle.mx_maekawa.specs.Node.{RequesterState}
 
 -- a requester that has just been started: from its node, its own set, the count, the origin and the
@@ -66,13 +68,12 @@ remembered_at r a = slice_index_or r.remembered a None
 abbrev pub HoldsAll : RequesterState → Type 0
 HoldsAll r = (a : ℕ) → a < r.count → is_own r a ≡ true → holds r a ≡ true
 
--- the same as a test of the arbiters below n, one after another
-abbrev pub holds_below : RequesterState → ℕ → Bool
-holds_below r zero = true
-holds_below r (suc n) = holds_below r n && (not (is_own r n) || holds r n)
+-- the same as a test
+abbrev pub is_granted : RequesterState → ℕ → Bool
+is_granted r a = not (is_own r a) || holds r a
 
 abbrev pub holds_all : RequesterState → Bool
-holds_all r = holds_below r r.count
+holds_all r = all_below (is_granted r) r.count
 
 -- some arbiter has failed the current request
 abbrev pub HasFailed : RequesterState → Type 0
@@ -137,8 +138,8 @@ asking r = record r { highest = r.highest + 1; issued = r.highest + 1; ours = re
 abbrev pub to_own : RequesterState → MaekawaMsg → ℕ → Option MaekawaMsg
 to_own r letter a = if is_own r a then Some letter else None
 
-abbrev pub asked : RequesterState → RequesterDone (Result Stamp AskFault)
-asked r = record { state = asking r; answer = Ok (asking r).ours; letters = addressed (to_own r (Request (asking r).ours)) r.count }
+abbrev pub asked : RequesterState → RequesterDone Stamp
+asked r = record { state = asking r; answer = (asking r).ours; letters = addressed (to_own r (Request (asking r).ours)) r.count }
 
 abbrev pub ask_in : Phase → RequesterState → RequesterDone (Result Stamp AskFault)
 ask_in p r = ask_by (λ (x : RequesterState). x.highest) asked p r
@@ -212,23 +213,24 @@ can_enter_of r = is_waiting r.phase && holds_all r
 abbrev pub entering : RequesterState → RequesterState
 entering r = record r { top = r.top + 1; mine = r.top + 1; phase = Inside (r.top + 1); remembered = replicate 21 None }
 
-abbrev pub entered : RequesterState → Quiet RequesterState (Result ℕ EnterFault)
-entered r = entered_by (λ (x : RequesterState). x.top) entering r
-
 abbrev pub enter_in : Phase → RequesterState → Quiet RequesterState (Result ℕ EnterFault)
 enter_in p r = enter_by holds_all (λ (x : RequesterState). x.top) (λ (x : RequesterState). x.limit) entering p r
 
 -- leave: each own arbiter is sent a release.
 -- Published: so.
 -- Added: the release bears the stamp that has ended, and `top`.
-abbrev pub leaving : RequesterState → RequesterState
-leaving r = record r { phase = Idle; held = replicate 21 None; failed = replicate 21 false; remembered = replicate 21 None }
+-- cancel: the same, of a node that waits. Added: its request has ended, and it enters nothing.
+abbrev pub ending : RequesterState → RequesterState
+ending r = record r { phase = Idle; held = replicate 21 None; failed = replicate 21 false; remembered = replicate 21 None }
 
-abbrev pub left : RequesterState → ℕ → RequesterDone (Result ℕ LeaveFault)
-left r n = record { state = leaving r; answer = Ok n; letters = addressed (to_own r (Release r.ours r.top)) r.count }
+abbrev pub ended : RequesterState → RequesterDone (Unit {0})
+ended r = record { state = ending r; answer = tt; letters = addressed (to_own r (Release r.ours r.top)) r.count }
 
 abbrev pub leave_in : Phase → RequesterState → RequesterDone (Result ℕ LeaveFault)
-leave_in p r = leave_by left p r
+leave_in p r = leave_by ended p r
+
+abbrev pub cancel_in : Phase → RequesterState → RequesterDone (Result (Unit {0}) CancelFault)
+cancel_in p r = cancel_by ended p r
 
 -- tick: a waiting node sends its request again to each own arbiter whose grant is missing.
 -- Added, since the request or the grant may have been lost.

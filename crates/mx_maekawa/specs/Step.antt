@@ -1,18 +1,16 @@
 -- The step table: the rows of the two roles, put together. Which part of a row is published (Maekawa
 -- 1985) and which is added here stands beside the rows, in RequesterStep and ArbiterStep.
-use Rattle.std.specs.Prelude.{ℕ, Bool, ◌&&◌, ◌++◌, Result, max, nat_eq, if◌then◌else◌}
+use Rattle.std.specs.Prelude.{ℕ, Bool, ◌&&◌, ◌++◌, max, nat_eq, if◌then◌else◌}
 use Rattle.mx_stamps.specs.declared.stamp.Stamp.{Stamp}
 use Rattle.mx_letters.specs.declared.maekawa.MaekawaMsg.{MaekawaMsg}
 use Rattle.mx_letters.specs.declared.maekawa.MaekawaMsg.TheVariants.{Request, Locked, Failed, Inquire, Relinquish, Release}
-use Rattle.mx_nodelaws.specs.World.{Done, Quiet}
+use Rattle.mx_nodelaws.specs.World.{Done}
 use Rattle.mx_nodelaws.specs.Core.{Core}
-use Rattle.mx_nodelaws.specs.declared.faults.AskFault.{AskFault}
-use Rattle.mx_nodelaws.specs.declared.faults.EnterFault.{EnterFault}
-use Rattle.mx_nodelaws.specs.declared.faults.LeaveFault.{LeaveFault}
 use Rattle.mx_nodelaws.specs.Calls.{unchanged}
+use Rattle.mx_nodelaws.specs.Rows.{Rows, core_of}
 use Rattle.mx_quorums.specs.Family.{Family, row_of, has_of}
 use Rattle.mx_maekawa.specs.Node.{RequesterState, ArbiterState, Node}
-use Rattle.mx_maekawa.specs.RequesterStep.{start_requester, ask_in, take_locked, take_failed, take_inquire, enter_in, leave_in, request_again, can_enter_of, is_own}
+use Rattle.mx_maekawa.specs.RequesterStep.{start_requester, is_own, holds_all, asked, take_locked, take_failed, take_inquire, entering, ended, request_again}
 use Rattle.mx_maekawa.specs.ArbiterStep.{start_arbiter, take_request, take_relinquish, take_release, lock_letter}
 
 -- a step of the requester alone, or of the arbiter alone
@@ -29,9 +27,6 @@ start_of shape me origin limit = record {
   requester = start_requester me (row_of shape me) shape.count origin limit;
   arbiter = start_arbiter shape.count origin;
 }
-
-abbrev pub ask_of : Node → Done Node (Result Stamp AskFault) MaekawaMsg
-ask_of s = by_requester s (ask_in s.requester.phase s.requester)
 
 -- the requester takes a letter of one of its own arbiters about one of its own stamps. Added: any
 -- other letter to it is ignored
@@ -55,29 +50,29 @@ deliver_of from (Inquire stamp g) s = if is_answer s from stamp then by_requeste
 deliver_of from (Relinquish stamp g) s = if is_call s from stamp then by_arbiter s (take_relinquish stamp g s.arbiter) else unchanged s tt
 deliver_of from (Release stamp t) s = if is_call s from stamp then by_arbiter s (take_release stamp t s.arbiter) else unchanged s tt
 
-abbrev pub enter_of : Node → Quiet Node (Result ℕ EnterFault)
-enter_of s = let did = enter_in s.requester.phase s.requester in record { state = record s { requester = did.state }; answer = did.answer }
-
-abbrev pub leave_of : Node → Done Node (Result ℕ LeaveFault) MaekawaMsg
-leave_of s = by_requester s (leave_in s.requester.phase s.requester)
-
 -- tick: the request is sent again, and then the grant of the lock. Added, since either may have been
 -- lost
 abbrev pub tick_of : Node → Done Node (Unit {0}) MaekawaMsg
 tick_of s = record { state = s; answer = tt; letters = request_again s.requester ++ lock_letter s.arbiter.lock }
 
 -- the whole table
-abbrev pub maekawa_core : Core Family Node MaekawaMsg
-maekawa_core = record {
+abbrev pub maekawa_rows : Rows Family Node MaekawaMsg
+maekawa_rows = record {
   count = λ shape. shape.count;
   start = start_of;
   phase = λ s. s.requester.phase;
   mine = λ s. s.requester.mine;
+  top = λ s. s.requester.top;
   limit = λ s. s.requester.limit;
-  can_enter = λ s. can_enter_of s.requester;
-  ask = ask_of;
+  last = λ s. s.requester.highest;
+  is_granted = λ s. holds_all s.requester;
+  ask = λ s. by_requester s (asked s.requester);
   deliver = deliver_of;
-  enter = enter_of;
-  leave = leave_of;
+  enter = λ s. record s { requester = entering s.requester };
+  leave = λ s. by_requester s (ended s.requester);
+  cancel = λ s. by_requester s (ended s.requester);
   tick = tick_of;
 }
+
+abbrev pub maekawa_core : Core Family Node MaekawaMsg
+maekawa_core = core_of maekawa_rows

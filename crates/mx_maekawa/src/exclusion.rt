@@ -4,7 +4,7 @@ use crate::arbiter::Arbiter;
 use crate::maekawa::Maekawa;
 use crate::requester::Requester;
 use mx_letters::{MaekawaMsg, Outbox};
-use mx_nodelaws::{AskFault, EnterFault, Exclusion, LeaveFault, Phase};
+use mx_nodelaws::{AskFault, CancelFault, EnterFault, Exclusion, LeaveFault, Phase};
 use mx_quorums::Quorums;
 use mx_stamps::{NodeId, Stamp};
 
@@ -19,8 +19,7 @@ impl Exclusion for Maekawa {
     ghost use Rattle.mx_maekawa.specs.RequesterStep.{HoldsAll, can_enter_of};
     ghost use Rattle.mx_maekawa.specs.Step.{maekawa_core};
     ghost use Rattle.mx_maekawa.specs.Good.{IsGood};
-    ghost use Rattle.mx_maekawa.specs.Promises.{maekawa_phases};
-    ghost use Rattle.mx_maekawa.specs.Laws.{maekawa_laws};
+    ghost use Rattle.mx_maekawa.specs.laws.Laws.{maekawa_phases, maekawa_laws};
 
     ghost core = { maekawa_core };
 
@@ -99,6 +98,10 @@ impl Exclusion for Maekawa {
 
     fn leave(&mut self, out: &mut Outbox<MaekawaMsg>) -> Result<u64, LeaveFault> {
         self.requester.leave(out)
+    }
+
+    fn cancel(&mut self, out: &mut Outbox<MaekawaMsg>) -> Result<(), CancelFault> {
+        self.requester.cancel(out)
     }
 
     fn tick(&mut self, out: &mut Outbox<MaekawaMsg>) {

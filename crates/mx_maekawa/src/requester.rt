@@ -1,7 +1,7 @@
 //! A node as a requester: what it asked for, which grants it holds, and its own calls.
 
 use mx_letters::{MaekawaMsg, Outbox};
-use mx_nodelaws::{AskFault, EnterFault, LeaveFault, Phase};
+use mx_nodelaws::{AskFault, CancelFault, EnterFault, LeaveFault, Phase};
 use mx_stamps::{Clock, NodeId, Stamp};
 use std::marker::Model;
 
@@ -67,7 +67,7 @@ impl Requester {
     ghost use Rattle.mx_nodelaws.specs.Core.{BearsNumber};
     ghost use Rattle.mx_nodelaws.specs.World.{addressed};
     ghost use Rattle.mx_nodelaws.specs.declared.phase.Phase.TheVariants.{Waiting};
-    ghost use Rattle.mx_maekawa.specs.RequesterStep.{start_requester, is_own, holds, HoldsAll, holds_all, to_own, ask_in, can_enter_of, enter_in, leave_in, to_missing, request_again};
+    ghost use Rattle.mx_maekawa.specs.RequesterStep.{start_requester, is_own, holds, HoldsAll, holds_all, to_own, ask_in, can_enter_of, enter_in, leave_in, cancel_in, ended, to_missing, request_again};
 
     /// A requester that has just been started.
     pub(crate) fn start(me: NodeId, own: &[bool; 21], count: u8, origin: u64, limit: u64) -> Self
@@ -246,6 +246,31 @@ impl Requester {
         let Phase::Inside(number) = self.phase else {
             return Err(LeaveFault::NotInside);
         };
+        self.end_request(out);
+        Ok(number)
+    }
+
+    /// Gives the request up, and sends a release to each own arbiter.
+    pub(crate) fn cancel(&mut self, out: &mut Outbox<MaekawaMsg>) -> Result<(), CancelFault>
+        requires { out.old ≡ [] }
+        ensures state { self.new ≡ (cancel_in self.old.phase self.old).state }
+        ensures answer { result ≡ (cancel_in self.old.phase self.old).answer }
+        ensures letters { out.new ≡ (cancel_in self.old.phase self.old).letters }
+    {
+        if !matches!(self.phase, Phase::Waiting) {
+            return Err(CancelFault::NotWaiting);
+        }
+        self.end_request(out);
+        Ok(())
+    }
+
+    /// Ends the current request: the node is idle and holds no grant, and each own arbiter is sent
+    /// a release.
+    fn end_request(&mut self, out: &mut Outbox<MaekawaMsg>)
+        requires { out.old ≡ [] }
+        ensures state { self.new ≡ (ended self.old).state }
+        ensures letters { out.new ≡ (ended self.old).letters }
+    {
         self.send_own(&MaekawaMsg::Release(self.ours, self.top), out);
         self.phase = Phase::Idle;
         let no_grants = [None; 21];
@@ -254,7 +279,6 @@ impl Requester {
         self.failed = no_failures;
         let no_inquiries = [None; 21];
         self.remembered = no_inquiries;
-        Ok(number)
     }
 
     /// Sends the request again, while the node waits, to each own arbiter whose grant is missing.

@@ -6,6 +6,7 @@ use Rattle.mx_nodelaws.specs.Core.{Core}
 use Rattle.mx_nodelaws.specs.declared.phase.Phase.{Phase}
 use Rattle.mx_nodelaws.specs.declared.phase.Phase.TheVariants.{Idle, Waiting, Inside}
 use Rattle.mx_nodelaws.specs.declared.faults.AskFault.{AskFault}
+use Rattle.mx_nodelaws.specs.declared.faults.CancelFault.{CancelFault}
 use Rattle.mx_nodelaws.specs.declared.faults.EnterFault.{EnterFault}
 use Rattle.mx_nodelaws.specs.declared.faults.LeaveFault.{LeaveFault}
 use Rattle.mx_nodelaws.specs.declared.faults.LeaveFault.TheVariants as leave
@@ -86,6 +87,9 @@ module _ {H S M : Type 0} (core : Core H S M) where
 
   abbrev pub tick_of : MemberState S → Done (MemberState S) (Unit {0}) (Parcel M)
   tick_of m = core_step m (core.tick m.core)
+
+  abbrev pub cancel_of : MemberState S → Done (MemberState S) (Result (Unit {0}) CancelFault) (Parcel M)
+  cancel_of m = core_step m (core.cancel m.core)
 
   abbrev pub enter_of : MemberState S → Quiet (MemberState S) (Result ℕ EnterFault)
   enter_of m = record { state = entered (core.enter m.core).answer (with_core (core.enter m.core).state m); answer = (core.enter m.core).answer }

@@ -2,13 +2,13 @@
 
 ghost use Rattle.std.specs.Prelude.{◌≡◌, ◌≤◌, ◌<◌, []};
 ghost use Rattle.mx_nodelaws.specs.Core.{BearsNumber};
-ghost use Rattle.mx_member.specs.Steps.{ask_of, enter_of, start_of, tick_of};
+ghost use Rattle.mx_member.specs.Steps.{ask_of, cancel_of, enter_of, start_of, tick_of};
 
 use crate::guards::guard_all;
 use crate::parcel::Parcel;
 use mx_journal::{Draft, Journal};
 use mx_letters::Outbox;
-use mx_nodelaws::{AskFault, EnterFault, Exclusion, Phase};
+use mx_nodelaws::{AskFault, CancelFault, EnterFault, Exclusion, Phase};
 use mx_registers::View;
 use mx_stamps::{NodeId, Stamp};
 use std::alloc::Global;
@@ -100,6 +100,18 @@ impl<C: Exclusion> Member<C> {
         let number = self.core.enter()?;
         self.draft.clear();
         Ok(number)
+    }
+
+    /// Gives the request up. Journal and draft stay as they are.
+    pub fn cancel(&mut self, out: &mut Outbox<Parcel<C::Msg>>) -> Result<(), CancelFault>
+        requires { out.old ≡ [] }
+        ensures state { self.new ≡ (cancel_of C.core self.old).state }
+        ensures answer { result ≡ (cancel_of C.core self.old).answer }
+        ensures letters { out.new ≡ (cancel_of C.core self.old).letters }
+    {
+        let answer = self.core.cancel(&mut self.letters);
+        guard_all(&mut self.letters, out);
+        answer
     }
 
     /// Sends again what is outstanding, as any letter may have been lost.

@@ -1,26 +1,24 @@
 -- The promises of calls by phase.
-use Rattle.std.proofs.Common.{ℕ, ◌+◌, ◌≡◌, ◌≢◌, ◌↔◌, Bool, true, false, cond, ◌&&◌, [], Result, Ok, Err, nat_lt, refl, sym, ◌∙◌, ap, if◌then◌else◌}
+use Rattle.std.proofs.Common.{ℕ, ◌+◌, ◌≡◌, ◌≢◌, ◌↔◌, Bool, true, false, cond, ◌&&◌, [], Result, Ok, Err, nat_lt, refl, ◌∙◌, ap, if◌then◌else◌}
 use Rattle.mx_stamps.specs.declared.stamp.Stamp.{Stamp}
 use Rattle.mx_stamps.proofs.Choices.{cond_case}
 use Rattle.mx_stamps.specs.Numbers.{last_number}
-use Rattle.mx_nodelaws.specs.World.{Done, Quiet}
+use Rattle.mx_nodelaws.specs.World.{Done, Quiet, answering}
 use Rattle.mx_nodelaws.specs.Phases.{is_waiting}
-use Rattle.mx_nodelaws.specs.Calls.{unchanged, refused, ask_by, entered_by, enter_by, leave_by}
+use Rattle.mx_nodelaws.specs.Calls.{unchanged, refused, ask_by, entered_by, enter_by, leave_by, cancel_by}
 use Rattle.mx_nodelaws.specs.declared.phase.Phase.{Phase}
 use Rattle.mx_nodelaws.specs.declared.phase.Phase.TheVariants.{Idle, Waiting, Inside}
 use Rattle.mx_nodelaws.specs.declared.faults.AskFault.{AskFault}
 use Rattle.mx_nodelaws.specs.declared.faults.AskFault.TheVariants.{NotIdle, StampsSpent}
+use Rattle.mx_nodelaws.specs.declared.faults.CancelFault.{CancelFault}
+use Rattle.mx_nodelaws.specs.declared.faults.CancelFault.TheVariants as cancel
 use Rattle.mx_nodelaws.specs.declared.faults.EnterFault.{EnterFault}
 use Rattle.mx_nodelaws.specs.declared.faults.EnterFault.TheVariants.{NotWaiting, NotGranted, NumbersSpent}
 use Rattle.mx_nodelaws.specs.declared.faults.LeaveFault.{LeaveFault}
 
--- an answer is no fault
-ok_no_err : {A E : Type 0} (r : Result A E) (x : A) (f : E) → r ≡ Ok x → r ≡ Err f → ⊥
-ok_no_err {A} {E} r x f e h = let bad : ◌≡◌ {A = Result A E} (Ok x) (Err f) = sym e ∙ h in cc
-
-module _ {S M : Type 0} (last : S → ℕ) (asked : S → Done S (Result Stamp AskFault) M) where
-  pub ask_cases : (P : Done S (Result Stamp AskFault) M → Type 0) (s : S) → (nat_lt (last s) last_number ≡ true → P (asked s)) → P (unchanged s (Err StampsSpent)) → P (ask_by last asked Idle s)
-  ask_cases P s low spent = cond_case P (nat_lt (last s) last_number) (asked s) (unchanged s (Err StampsSpent)) low (λ _. spent)
+module _ {S M : Type 0} (last : S → ℕ) (asked : S → Done S Stamp M) where
+  pub ask_cases : (P : Done S (Result Stamp AskFault) M → Type 0) (s : S) → (nat_lt (last s) last_number ≡ true → P (answering (asked s) (Ok (asked s).answer))) → P (unchanged s (Err StampsSpent)) → P (ask_by last asked Idle s)
+  ask_cases P s low spent = cond_case P (nat_lt (last s) last_number) (answering (asked s) (Ok (asked s).answer)) (unchanged s (Err StampsSpent)) low (λ _. spent)
 
   -- what asking keeps is kept, whatever the answer is
   pub ask_keeps : {X : Type 0} (part : S → X) (p : Phase) (s : S) → part (asked s).state ≡ part s → part (ask_by last asked p s).state ≡ part s
@@ -33,19 +31,18 @@ module _ {S M : Type 0} (last : S → ℕ) (asked : S → Done S (Result Stamp A
   ask_ok phase Waiting s x waits h = let bad : ⊥ = cc in absurd bad
   ask_ok phase (Inside n) s x waits h = let bad : ⊥ = cc in absurd bad
 
-  module _ (stamp : S → Stamp) (answers : (s : S) → (asked s).answer ≡ Ok (stamp s)) where
-    pub ask_err : (p : Phase) (s : S) (f : AskFault) → (ask_by last asked p s).answer ≡ Err f → ((ask_by last asked p s).state ≡ s) × ((ask_by last asked p s).letters ≡ [])
-    ask_err Idle s f h = ask_cases (λ d. d.answer ≡ Err f → (d.state ≡ s) × (d.letters ≡ [])) s (λ _ g. absurd (ok_no_err (asked s).answer (stamp s) f (answers s) g)) (λ _. (refl, refl)) h
-    ask_err Waiting s f h = (refl, refl)
-    ask_err (Inside n) s f h = (refl, refl)
+  pub ask_err : (p : Phase) (s : S) (f : AskFault) → (ask_by last asked p s).answer ≡ Err f → ((ask_by last asked p s).state ≡ s) × ((ask_by last asked p s).letters ≡ [])
+  ask_err Idle s f h = ask_cases (λ d. d.answer ≡ Err f → (d.state ≡ s) × (d.letters ≡ [])) s (λ _ g. let bad : ⊥ = cc in absurd bad) (λ _. (refl, refl)) h
+  ask_err Waiting s f h = (refl, refl)
+  ask_err (Inside n) s f h = (refl, refl)
 
-    pub ask_not_idle : (p : Phase) (s : S) → ((ask_by last asked p s).answer ≡ Err NotIdle) ↔ (p ≢ Idle)
-    ask_not_idle Idle s = (
-      λ h _. ask_cases (λ d. d.answer ≡ Err NotIdle → ⊥) s (λ _ g. ok_no_err (asked s).answer (stamp s) NotIdle (answers s) g) (λ g. let bad : ⊥ = cc in bad) h,
-      λ ne. absurd (ne refl),
-    )
-    ask_not_idle Waiting s = (λ _ e. let bad : ⊥ = cc in bad, λ _. refl)
-    ask_not_idle (Inside n) s = (λ _ e. let bad : ⊥ = cc in bad, λ _. refl)
+  pub ask_not_idle : (p : Phase) (s : S) → ((ask_by last asked p s).answer ≡ Err NotIdle) ↔ (p ≢ Idle)
+  ask_not_idle Idle s = (
+    λ h _. ask_cases (λ d. d.answer ≡ Err NotIdle → ⊥) s (λ _ g. let bad : ⊥ = cc in bad) (λ g. let bad : ⊥ = cc in bad) h,
+    λ ne. absurd (ne refl),
+  )
+  ask_not_idle Waiting s = (λ _ e. let bad : ⊥ = cc in bad, λ _. refl)
+  ask_not_idle (Inside n) s = (λ _ e. let bad : ⊥ = cc in bad, λ _. refl)
 
 -- where a permission is missing, and where every one is there
 missed : {S A : Type 0} (granted : Bool) (y z : Quiet S A) → granted ≡ false → (cond granted y z).answer ≡ z.answer
@@ -108,28 +105,46 @@ module _ {S : Type 0} (granted : S → Bool) (top limit : S → ℕ) (entering :
   granted_answer Waiting s e all = chosen (granted s) (nat_lt (top s) (limit s)) (entered_by top entering s) (refused s NumbersSpent) (refused s NotGranted) all
   granted_answer (Inside n) s e all = let bad : ⊥ = cc in absurd bad
 
-module _ {S M : Type 0} (left : S → ℕ → Done S (Result ℕ LeaveFault) M) where
+module _ {S M : Type 0} (left : S → Done S (Unit {0}) M) where
   -- what leaving keeps is kept, whatever the answer is
-  pub leave_keeps : {X : Type 0} (part : S → X) (p : Phase) (s : S) → ((n : ℕ) → part (left s n).state ≡ part s) → part (leave_by left p s).state ≡ part s
+  pub leave_keeps : {X : Type 0} (part : S → X) (p : Phase) (s : S) → part (left s).state ≡ part s → part (leave_by left p s).state ≡ part s
   leave_keeps part Idle s kept = refl
   leave_keeps part Waiting s kept = refl
-  leave_keeps part (Inside n) s kept = kept n
+  leave_keeps part (Inside n) s kept = kept
 
-  pub leave_ok : (phase : S → Phase) (p : Phase) (s : S) (n : ℕ) → ((k : ℕ) → phase (left s k).state ≡ Idle) → (leave_by left p s).answer ≡ Ok n → phase (leave_by left p s).state ≡ Idle
+  pub leave_ok : (phase : S → Phase) (p : Phase) (s : S) (n : ℕ) → phase (left s).state ≡ Idle → (leave_by left p s).answer ≡ Ok n → phase (leave_by left p s).state ≡ Idle
   leave_ok phase Idle s n rests h = let bad : ⊥ = cc in absurd bad
   leave_ok phase Waiting s n rests h = let bad : ⊥ = cc in absurd bad
-  leave_ok phase (Inside m) s n rests h = rests m
+  leave_ok phase (Inside m) s n rests h = rests
 
-  module _ (answers : (s : S) (n : ℕ) → (left s n).answer ≡ Ok n) where
-    pub leave_inside : (p : Phase) (s : S) (n : ℕ) → ((leave_by left p s).answer ≡ Ok n) ↔ (p ≡ Inside n)
-    leave_inside Idle s n = (λ h. let bad : ⊥ = cc in absurd bad, λ e. let bad : ⊥ = cc in absurd bad)
-    leave_inside Waiting s n = (λ h. let bad : ⊥ = cc in absurd bad, λ e. let bad : ⊥ = cc in absurd bad)
-    leave_inside (Inside m) s n = (
-      λ h. let same : ◌≡◌ {A = Result ℕ LeaveFault} (Ok m) (Ok n) = sym (answers s m) ∙ h in let k : m ≡ n = cc in ap Inside k,
-      λ h. let k : m ≡ n = cc in answers s m ∙ ap (λ x. Ok x) k,
-    )
+  pub leave_inside : (p : Phase) (s : S) (n : ℕ) → ((leave_by left p s).answer ≡ Ok n) ↔ (p ≡ Inside n)
+  leave_inside Idle s n = (λ h. let bad : ⊥ = cc in absurd bad, λ e. let bad : ⊥ = cc in absurd bad)
+  leave_inside Waiting s n = (λ h. let bad : ⊥ = cc in absurd bad, λ e. let bad : ⊥ = cc in absurd bad)
+  leave_inside (Inside m) s n = (λ h. let k : m ≡ n = cc in ap Inside k, λ h. let k : m ≡ n = cc in ap (λ x. Ok x) k)
 
-    pub leave_err : (p : Phase) (s : S) (f : LeaveFault) → (leave_by left p s).answer ≡ Err f → ((leave_by left p s).state ≡ s) × ((leave_by left p s).letters ≡ [])
-    leave_err Idle s f h = (refl, refl)
-    leave_err Waiting s f h = (refl, refl)
-    leave_err (Inside m) s f h = absurd (ok_no_err (left s m).answer m f (answers s m) h)
+  pub leave_err : (p : Phase) (s : S) (f : LeaveFault) → (leave_by left p s).answer ≡ Err f → ((leave_by left p s).state ≡ s) × ((leave_by left p s).letters ≡ [])
+  leave_err Idle s f h = (refl, refl)
+  leave_err Waiting s f h = (refl, refl)
+  leave_err (Inside m) s f h = let bad : ⊥ = cc in absurd bad
+
+module _ {S M : Type 0} (cancelled : S → Done S (Unit {0}) M) where
+  -- what cancelling keeps is kept, whatever the answer is
+  pub cancel_keeps : {X : Type 0} (part : S → X) (p : Phase) (s : S) → part (cancelled s).state ≡ part s → part (cancel_by cancelled p s).state ≡ part s
+  cancel_keeps part Idle s kept = refl
+  cancel_keeps part Waiting s kept = kept
+  cancel_keeps part (Inside n) s kept = refl
+
+  pub cancel_ok : (phase : S → Phase) (p : Phase) (s : S) → phase (cancelled s).state ≡ Idle → (cancel_by cancelled p s).answer ≡ Ok tt → (p ≡ Waiting) × (phase (cancel_by cancelled p s).state ≡ Idle)
+  cancel_ok phase Idle s rests h = let bad : ⊥ = cc in absurd bad
+  cancel_ok phase Waiting s rests h = (refl, rests)
+  cancel_ok phase (Inside n) s rests h = let bad : ⊥ = cc in absurd bad
+
+  pub cancel_err : (p : Phase) (s : S) (f : CancelFault) → (cancel_by cancelled p s).answer ≡ Err f → ((cancel_by cancelled p s).state ≡ s) × ((cancel_by cancelled p s).letters ≡ [])
+  cancel_err Idle s f h = (refl, refl)
+  cancel_err Waiting s f h = let bad : ⊥ = cc in absurd bad
+  cancel_err (Inside n) s f h = (refl, refl)
+
+  pub cancel_not_waiting : (p : Phase) (s : S) → ((cancel_by cancelled p s).answer ≡ Err cancel.NotWaiting) ↔ (p ≢ Waiting)
+  cancel_not_waiting Idle s = (λ _ e. let bad : ⊥ = cc in bad, λ _. refl)
+  cancel_not_waiting Waiting s = (λ h. let bad : ⊥ = cc in absurd bad, λ ne. absurd (ne refl))
+  cancel_not_waiting (Inside n) s = (λ _ e. let bad : ⊥ = cc in bad, λ _. refl)

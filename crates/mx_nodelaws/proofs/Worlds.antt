@@ -38,6 +38,10 @@ after_nothing w i s answer at =
     subst (λ ns. record { nodes = ns; sent = w.sent ++ [] } ≡ w) (sym (set_itself w.nodes i s at))
     (subst (λ ls. record { nodes = w.nodes; sent = ls } ≡ w) (sym (append_nil w.sent)) refl)
 
+-- so it keeps what holds of the world
+pub nothing_kept : {S A M : Type 0} (Safe : World S M → Type 0) (w : World S M) (i : ℕ) (s : S) (answer : A) → Safe w → IsNode w i s → Safe (after w i (record { state = s; answer = answer; letters = [] }))
+nothing_kept Safe w i s answer safe at = subst Safe (sym (after_nothing w i s answer at)) safe
+
 -- two steps of one node, one after the other, are one step with the letters of both
 pub after_twice : {S A B M : Type 0} (w : World S M) (i : ℕ) (first : Done S A M) (second : Done S B M) → after (after w i first) i second ≡ after w i (record { state = second.state; answer = second.answer; letters = first.letters ++ second.letters })
 after_twice w i first second =

@@ -2,11 +2,13 @@
 use Rattle.std.specs.Prelude.{ℕ, ◌+◌, Bool, [], Result, Ok, Err, nat_lt, if◌then◌else◌}
 use Rattle.mx_stamps.specs.declared.stamp.Stamp.{Stamp}
 use Rattle.mx_stamps.specs.Numbers.{last_number}
-use Rattle.mx_nodelaws.specs.World.{Done, Quiet}
+use Rattle.mx_nodelaws.specs.World.{Done, Quiet, answering}
 use Rattle.mx_nodelaws.specs.declared.phase.Phase.{Phase}
 use Rattle.mx_nodelaws.specs.declared.phase.Phase.TheVariants.{Idle, Waiting, Inside}
 use Rattle.mx_nodelaws.specs.declared.faults.AskFault.{AskFault}
 use Rattle.mx_nodelaws.specs.declared.faults.AskFault.TheVariants.{NotIdle, StampsSpent}
+use Rattle.mx_nodelaws.specs.declared.faults.CancelFault.{CancelFault}
+use Rattle.mx_nodelaws.specs.declared.faults.CancelFault.TheVariants as cancel
 use Rattle.mx_nodelaws.specs.declared.faults.EnterFault.{EnterFault}
 use Rattle.mx_nodelaws.specs.declared.faults.EnterFault.TheVariants.{NotWaiting, NotGranted, NumbersSpent}
 use Rattle.mx_nodelaws.specs.declared.faults.LeaveFault.{LeaveFault}
@@ -20,8 +22,8 @@ abbrev pub refused : {S : Type 0} → S → EnterFault → Quiet S (Result ℕ E
 refused s fault = record { state = s; answer = Err fault }
 
 -- ask: an idle node asks, unless the number of its last request is the greatest u64 value
-abbrev pub ask_by : {S M : Type 0} → (S → ℕ) → (S → Done S (Result Stamp AskFault) M) → Phase → S → Done S (Result Stamp AskFault) M
-ask_by last asked Idle s = if nat_lt (last s) last_number then asked s else unchanged s (Err StampsSpent)
+abbrev pub ask_by : {S M : Type 0} → (S → ℕ) → (S → Done S Stamp M) → Phase → S → Done S (Result Stamp AskFault) M
+ask_by last asked Idle s = if nat_lt (last s) last_number then answering (asked s) (Ok (asked s).answer) else unchanged s (Err StampsSpent)
 ask_by last asked Waiting s = unchanged s (Err NotIdle)
 ask_by last asked (Inside n) s = unchanged s (Err NotIdle)
 
@@ -36,8 +38,14 @@ enter_by granted top limit entering Waiting s =
     if granted s then (if nat_lt (top s) (limit s) then entered_by top entering s else refused s NumbersSpent) else refused s NotGranted
 enter_by granted top limit entering (Inside n) s = refused s NotWaiting
 
--- leave: a node that is inside leaves
-abbrev pub leave_by : {S M : Type 0} → (S → ℕ → Done S (Result ℕ LeaveFault) M) → Phase → S → Done S (Result ℕ LeaveFault) M
+-- leave: a node that is inside leaves, and answers the number of its section
+abbrev pub leave_by : {S M : Type 0} → (S → Done S (Unit {0}) M) → Phase → S → Done S (Result ℕ LeaveFault) M
 leave_by left Idle s = unchanged s (Err NotInside)
 leave_by left Waiting s = unchanged s (Err NotInside)
-leave_by left (Inside n) s = left s n
+leave_by left (Inside n) s = answering (left s) (Ok n)
+
+-- cancel: a waiting node gives its request up
+abbrev pub cancel_by : {S M : Type 0} → (S → Done S (Unit {0}) M) → Phase → S → Done S (Result (Unit {0}) CancelFault) M
+cancel_by cancelled Idle s = unchanged s (Err cancel.NotWaiting)
+cancel_by cancelled Waiting s = answering (cancelled s) (Ok tt)
+cancel_by cancelled (Inside n) s = unchanged s (Err cancel.NotWaiting)

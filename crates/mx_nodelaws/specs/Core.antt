@@ -5,6 +5,8 @@ use Rattle.mx_nodelaws.specs.declared.phase.Phase.{Phase}
 use Rattle.mx_nodelaws.specs.declared.phase.Phase.TheVariants.{Idle, Waiting, Inside}
 use Rattle.mx_nodelaws.specs.declared.faults.AskFault.{AskFault}
 use Rattle.mx_nodelaws.specs.declared.faults.AskFault.TheVariants.{NotIdle}
+use Rattle.mx_nodelaws.specs.declared.faults.CancelFault.{CancelFault}
+use Rattle.mx_nodelaws.specs.declared.faults.CancelFault.TheVariants as cancel
 use Rattle.mx_nodelaws.specs.declared.faults.EnterFault.{EnterFault}
 use Rattle.mx_nodelaws.specs.declared.faults.EnterFault.TheVariants.{NotWaiting, NotGranted}
 use Rattle.mx_nodelaws.specs.declared.faults.LeaveFault.{LeaveFault}
@@ -25,6 +27,7 @@ pub record Core (H S M : Type 0) : Type 0 where
   pub deliver : ℕ → M → S → Done S (Unit {0}) M
   pub enter : S → Quiet S (Result ℕ EnterFault)
   pub leave : S → Done S (Result ℕ LeaveFault) M
+  pub cancel : S → Done S (Result (Unit {0}) CancelFault) M
   pub tick : S → Done S (Unit {0}) M
 
 -- a node in this phase is inside
@@ -67,6 +70,12 @@ pub record KeepsPhases {H S M : Type 0} (core : Core H S M) : Type 0 where
   pub leave_err : (s : S) (e : LeaveFault) → (core.leave s).answer ≡ Err e → ((core.leave s).state ≡ s) × ((core.leave s).letters ≡ [])
   pub leave_mine : (s : S) → core.mine (core.leave s).state ≡ core.mine s
   pub leave_limit : (s : S) → core.limit (core.leave s).state ≡ core.limit s
+  -- an accepted cancel goes from Waiting to Idle, a refused one changes nothing
+  pub cancel_ok : (s : S) → (core.cancel s).answer ≡ Ok tt → (core.phase s ≡ Waiting) × (core.phase (core.cancel s).state ≡ Idle)
+  pub cancel_err : (s : S) (e : CancelFault) → (core.cancel s).answer ≡ Err e → ((core.cancel s).state ≡ s) × ((core.cancel s).letters ≡ [])
+  pub cancel_not_waiting : (s : S) → ((core.cancel s).answer ≡ Err cancel.NotWaiting) ↔ (core.phase s ≢ Waiting)
+  pub cancel_mine : (s : S) → core.mine (core.cancel s).state ≡ core.mine s
+  pub cancel_limit : (s : S) → core.limit (core.cancel s).state ≡ core.limit s
   -- a tick changes none of the three
   pub tick_phase : (s : S) → core.phase (core.tick s).state ≡ core.phase s
   pub tick_mine : (s : S) → core.mine (core.tick s).state ≡ core.mine s

@@ -24,6 +24,7 @@ module _ {H S M : Type 0} where
     pub after_deliver : (w : World S M) (i : ℕ) (s : S) (from : ℕ) (m : M) → Good w → IsNode w i s → WasSent w from i m → Good (after w i (core.deliver from m s))
     pub after_enter : (w : World S M) (i : ℕ) (s : S) → Good w → IsNode w i s → Good (after w i (quietly (core.enter s)))
     pub after_leave : (w : World S M) (i : ℕ) (s : S) → Good w → IsNode w i s → Good (after w i (core.leave s))
+    pub after_cancel : (w : World S M) (i : ℕ) (s : S) → Good w → IsNode w i s → Good (after w i (core.cancel s))
     pub after_tick : (w : World S M) (i : ℕ) (s : S) → Good w → IsNode w i s → Good (after w i (core.tick s))
     -- Good depends on which letters were sent, and not on how often or in which order
     pub by_membership : (w : World S M) (sent : List (ℕ × ℕ × M)) → ((x : ℕ × ℕ × M) → IsIn x w.sent ↔ IsIn x sent) → Good w → Good (record { nodes = w.nodes; sent = sent })

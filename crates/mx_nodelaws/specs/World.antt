@@ -1,5 +1,5 @@
 -- The core part of a world: the nodes' states, and the letters ever sent.
-use Rattle.std.specs.Prelude.{ℕ, zero, suc, ◌≡◌, List, [], ◌∷◌, ◌++◌, Option, Some, None, slice_get, slice_set}
+use Rattle.std.specs.Prelude.{ℕ, zero, suc, ◌≤◌, ◌≡◌, List, length, [], ◌∷◌, ◌++◌, Option, Some, None, slice_get, slice_set}
 use Rattle.mx_stamps.specs.Lists.{IsIn}
 
 -- what one act of a node gives: its next state, its answer, and its letters in order, each with its addressee
@@ -51,3 +51,12 @@ letter_to n (Some m) = (n, m) ∷ []
 abbrev pub addressed : {M : Type 0} → (ℕ → Option M) → ℕ → List (ℕ × M)
 addressed f zero = []
 addressed f (suc n) = addressed f n ++ letter_to n (f n)
+
+-- the letters to the nodes below n are sent, so far at most one to each
+abbrev pub AreSentBelow : {M : Type 0} → (ℕ → Option M) → ℕ → List (ℕ × M) → Type 0
+AreSentBelow f n out = (out ≡ addressed f n) × (length out ≤ n)
+
+-- a world of which each node and each letter sent is as it should be
+pub record IsEachOk {S M : Type 0} (NodeOk : World S M → ℕ → S → Type 0) (LetterOk : World S M → ℕ → ℕ → M → Type 0) (w : World S M) : Type 0 where
+  pub nodes : (i : ℕ) (s : S) → IsNode w i s → NodeOk w i s
+  pub letters : (a b : ℕ) (m : M) → WasSent w a b m → LetterOk w a b m

@@ -2,7 +2,7 @@
 
 ghost use Rattle.std.specs.Prelude.{◌≡◌, ◌<◌, ◌≤◌, []};
 
-use crate::faults::{AskFault, EnterFault, LeaveFault};
+use crate::faults::{AskFault, CancelFault, EnterFault, LeaveFault};
 use crate::phase::Phase;
 use mx_letters::Outbox;
 use mx_stamps::{NodeId, Stamp};
@@ -75,6 +75,13 @@ pub trait Exclusion: Drop {
         ensures state { self.new ≡ (core.leave self.old).state }
         ensures answer { result ≡ (core.leave self.old).answer }
         ensures letters { out.new ≡ (core.leave self.old).letters };
+
+    /// Gives the request up: the node no longer waits, and enters no section for it.
+    fn cancel(&mut self, out: &mut Outbox<Self::Msg>) -> Result<(), CancelFault>
+        requires { out.old ≡ [] }
+        ensures state { self.new ≡ (core.cancel self.old).state }
+        ensures answer { result ≡ (core.cancel self.old).answer }
+        ensures letters { out.new ≡ (core.cancel self.old).letters };
 
     /// Sends again what is outstanding, as any letter may have been lost.
     fn tick(&mut self, out: &mut Outbox<Self::Msg>)

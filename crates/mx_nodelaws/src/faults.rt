@@ -27,6 +27,14 @@ pub enum EnterFault {
     NumbersSpent,
 }
 
+/// Why a call of `cancel` is refused.
+#[derive(Clone, Copy, Debug, PartialEq, Eq, Error)]
+pub enum CancelFault {
+    /// The node has not asked, or is inside already.
+    #[error("not waiting")]
+    NotWaiting,
+}
+
 /// Why a call of `leave` is refused.
 #[derive(Clone, Copy, Debug, PartialEq, Eq, Error)]
 pub enum LeaveFault {

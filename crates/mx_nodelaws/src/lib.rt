@@ -7,5 +7,5 @@ mod faults;
 mod phase;
 
 pub use exclusion::Exclusion;
-pub use faults::{AskFault, EnterFault, LeaveFault};
+pub use faults::{AskFault, CancelFault, EnterFault, LeaveFault};
 pub use phase::Phase;

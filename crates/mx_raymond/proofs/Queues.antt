@@ -1,14 +1,14 @@
 -- A queue is still one after a name joins or leaves it, and has room for each name that is not in it.
-use Rattle.std.proofs.Common.{ℕ, ◌<◌, ◌≤◌, ◌≡◌, inl, inr, false, nat_eq, List, [], ◌∷◌, ◌++◌, Some, length, refl, subst, arith, length-append}
+use Rattle.std.proofs.Common.{ℕ, ◌<◌, ◌≤◌, ◌≡◌, inl, inr, Bool, false, not, nat_eq, List, [], ◌∷◌, ◌++◌, Some, filter, length, refl, subst, arith, length-append}
 use Rattle.std.specs.Cmp.{nat_eq_equiv}
 use Rattle.std.specs.List.{AllByRecursion, IsDistinct}
 use Rattle.std.proofs.lemmas.Option.{same_Some}
-use Rattle.std.proofs.lemmas.Map.Keys.{IsDistinct-push, IsDistinct-head, IsDistinct-tail}
+use Rattle.std.proofs.lemmas.Map.Keys.{IsDistinct-push, IsDistinct-cons, IsDistinct-head, IsDistinct-tail}
 use Rattle.std.proofs.lemmas.Map.Steps.{length-le_from_distinct_below}
 use Rattle.mx_stamps.proofs.Lists.{none_is_no_some}
-use Rattle.mx_stamps.proofs.Choices.{or_right, neither_true}
-use Rattle.mx_raymond.specs.Queue.{is_queued, head_of, rest_of, IsQueue}
-use Rattle.mx_raymond.specs.Tests.{queued_pushed}
+use Rattle.mx_stamps.proofs.Choices.{or_right, neither_true, is_false, cond_case}
+use Rattle.mx_raymond.specs.Queue.{is_queued, head_of, rest_of, without, IsQueue}
+use Rattle.mx_raymond.specs.laws.Tests.{queued_pushed, queued_without}
 
 pub is_queue_pushed : (queue : List ℕ) (name : ℕ) → IsQueue queue → name < 21 → is_queued queue name ≡ false → IsQueue (queue ++ name ∷ [])
 is_queue_pushed queue name ok lt absent = record {
@@ -43,3 +43,27 @@ head_once (first ∷ rest) node ok h =
 pub is_queue_empty : IsQueue []
 unfolding IsDistinct
 is_queue_empty = record { once = tt; nodes = λ node h. let bad : ⊥ = cc in absurd bad }
+
+-- the names that pass a test are each there once, where all are
+absent_kept : (test : ℕ → Bool) (name : ℕ) (queue : List ℕ) → AllByRecursion (λ y. nat_eq name y ≡ false) queue → AllByRecursion (λ y. nat_eq name y ≡ false) (filter test queue)
+absent_kept test name [] h = tt
+absent_kept test name (first ∷ rest) h =
+    cond_case (λ q. AllByRecursion (λ y. nat_eq name y ≡ false) q) (test first) (first ∷ filter test rest) (filter test rest)
+    (λ _. (h.0, absent_kept test name rest h.1)) (λ _. absent_kept test name rest h.1)
+
+once_kept : (test : ℕ → Bool) (queue : List ℕ) → IsDistinct nat_eq queue → IsDistinct nat_eq (filter test queue)
+once_kept test [] once = once
+once_kept test (first ∷ rest) once =
+    cond_case (λ q. IsDistinct nat_eq q) (test first) (first ∷ filter test rest) (filter test rest)
+    (λ _. IsDistinct-cons nat_eq first (filter test rest) (absent_kept test first rest (IsDistinct-head nat_eq first rest once)) (once_kept test rest (IsDistinct-tail nat_eq first rest once)))
+    (λ _. once_kept test rest (IsDistinct-tail nat_eq first rest once))
+
+pub is_queue_without : (queue : List ℕ) (name : ℕ) → IsQueue queue → IsQueue (without queue name)
+is_queue_without queue name ok = record {
+  once = once_kept (λ x. not (nat_eq x name)) queue ok.once;
+  nodes = λ node h. ok.nodes node (queued_without queue name node h).0;
+}
+
+-- a name that has gone is not in the queue
+pub gone : (queue : List ℕ) (name : ℕ) → is_queued (without queue name) name ≡ false
+gone queue name = is_false (is_queued (without queue name) name) (λ h. (queued_without queue name name h).1 refl)

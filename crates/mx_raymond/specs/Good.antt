@@ -4,7 +4,8 @@ use Rattle.mx_letters.specs.declared.raymond.RaymondMsg.{RaymondMsg}
 use Rattle.mx_letters.specs.declared.raymond.RaymondMsg.TheVariants.{Request, Privilege, Got}
 use Rattle.mx_nodelaws.specs.World.{World, IsNode, WasSent}
 use Rattle.mx_nodelaws.specs.declared.phase.Phase.TheVariants.{Inside}
-use Rattle.mx_nodelaws.specs.Bounds.{IsU64, BoundedPhase, IsBoundedWorld}
+use Rattle.mx_nodelaws.specs.Bounds.{IsU64, BoundedPhase}
+use Rattle.mx_nodelaws.specs.Rows.{IsGoodWorld}
 use Rattle.mx_nodelaws.specs.Raised.{IsReachedBy, HasComeTo}
 use Rattle.mx_raymond.specs.declared.unacked.Unacked.{Unacked}
 use Rattle.mx_raymond.specs.Queue.{is_queued}
@@ -109,6 +110,5 @@ pub record BoundedNode (n : ℕ) (s : Node) : Type 0 where
   pub top : IsU64 s.top
   pub mine : IsU64 s.mine
 
-pub record IsGood (w : World Node RaymondMsg) : Type 0 where
-  pub safe : IsSafe w
-  pub bounded : IsBoundedWorld BoundedNode BoundedLetter w
+abbrev pub IsGood : World Node RaymondMsg → Type 0
+IsGood w = IsGoodWorld IsSafe BoundedNode BoundedLetter w

@@ -1,19 +1,6 @@
--- Definitions: Queue and Node (the state), Step (the step table), Good (the invariant).
--- Proofs: Tests (what the table's tests mean), Frame (what any step leaves as it was), PrivilegeStays and
--- PrivilegeMoves (steps that leave the privilege in its place, and steps that do not), Keeps (each row keeps
--- a world safe), ServingBounds and Bounds (numbers are u64 values, and names are nodes), Safety (exclusion and
--- numbering), Promises (on phases), Laws (all together).
+-- Queue and Node (the state), Step (the step table), Good (the invariant); laws (their proofs).
 pub mod Queue
 pub mod Node
 pub mod Step
 pub mod Good
-pub mod Tests
-pub mod Frame
-pub mod PrivilegeStays
-pub mod PrivilegeMoves
-pub mod Keeps
-pub mod ServingBounds
-pub mod Bounds
-pub mod Safety
-pub mod Promises
-pub mod Laws
+pub mod laws

@@ -1,5 +1,5 @@
 -- The queue of a node: names of nodes, each once, the oldest first.
-use Rattle.std.specs.Prelude.{ℕ, ◌<◌, ◌≡◌, Bool, true, false, List, [], ◌∷◌, ◌++◌, Option, Some, None, nat_eq, if◌then◌else◌}
+use Rattle.std.specs.Prelude.{ℕ, ◌<◌, ◌≡◌, Bool, true, false, not, List, [], ◌∷◌, ◌++◌, Option, Some, None, filter, nat_eq, if◌then◌else◌}
 use Rattle.std.specs.List.{list_any, IsDistinct}
 
 -- whether this name is in the queue
@@ -23,6 +23,10 @@ rest_of (name ∷ rest) = rest
 -- the queue with this name at its end, where it is not in the queue
 abbrev pub joined : List ℕ → ℕ → List ℕ
 joined queue node = if is_queued queue node then queue else queue ++ node ∷ []
+
+-- the queue without this name
+abbrev pub without : List ℕ → ℕ → List ℕ
+without queue node = filter (λ name. not (nat_eq name node)) queue
 
 -- each name is in it at most once, and each is the name of a node
 pub record IsQueue (queue : List ℕ) : Type 0 where

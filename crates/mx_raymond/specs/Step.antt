@@ -1,22 +1,20 @@
 -- The step table: for each call the node's next state, the answer, and the letters that are sent.
--- Each row says which part of it is published (Raymond 1989) and which is added here.
-use Rattle.std.specs.Prelude.{ℕ, ◌+◌, ◌≡◌, Bool, true, false, ◌&&◌, not, List, [], ◌∷◌, ◌++◌, Option, Some, None, Result, Ok, max, nat_lt, nat_eq, if◌then◌else◌, slice_index_or, slice_set, replicate}
+-- Each row says which part of it is published (Raymond 1989) and which is added here. What a phase refuses
+-- stands in mx_nodelaws, specs/Calls.antt.
+use Rattle.std.specs.Prelude.{ℕ, ◌+◌, ◌≡◌, Bool, true, false, ◌&&◌, not, List, [], ◌∷◌, ◌++◌, Option, Some, None, max, nat_lt, nat_eq, if◌then◌else◌, slice_index_or, slice_set, replicate}
 use Rattle.mx_stamps.specs.declared.stamp.Stamp.{Stamp}
 use Rattle.mx_stamps.specs.Numbers.{last_number}
 use Rattle.mx_letters.specs.declared.raymond.RaymondMsg.{RaymondMsg}
 use Rattle.mx_letters.specs.declared.raymond.RaymondMsg.TheVariants.{Request, Privilege, Got}
-use Rattle.mx_nodelaws.specs.World.{Done, Quiet}
+use Rattle.mx_nodelaws.specs.World.{Done}
 use Rattle.mx_nodelaws.specs.Core.{Core}
-use Rattle.mx_nodelaws.specs.declared.phase.Phase.{Phase}
 use Rattle.mx_nodelaws.specs.declared.phase.Phase.TheVariants.{Idle, Waiting, Inside}
-use Rattle.mx_nodelaws.specs.declared.faults.AskFault.{AskFault}
-use Rattle.mx_nodelaws.specs.declared.faults.EnterFault.{EnterFault}
-use Rattle.mx_nodelaws.specs.declared.faults.LeaveFault.{LeaveFault}
-use Rattle.mx_nodelaws.specs.Phases.{is_waiting, is_inside}
-use Rattle.mx_nodelaws.specs.Calls.{unchanged, ask_by, entered_by, enter_by, leave_by}
+use Rattle.mx_nodelaws.specs.Phases.{is_inside}
+use Rattle.mx_nodelaws.specs.Calls.{unchanged}
+use Rattle.mx_nodelaws.specs.Rows.{Rows, core_of, becoming}
 use Rattle.mx_trees.specs.Tree.{Rooted, toward_of, are_neighbours}
 use Rattle.mx_raymond.specs.declared.unacked.Unacked.{Unacked}
-use Rattle.mx_raymond.specs.Queue.{is_empty, head_of, rest_of, joined}
+use Rattle.mx_raymond.specs.Queue.{is_empty, head_of, rest_of, joined, without}
 use Rattle.mx_raymond.specs.Node.{Node}
 
 abbrev pub NodeDone : Type 0 → Type 0
@@ -111,14 +109,8 @@ serving step = and_then (and_then step assign_privilege) make_request
 abbrev pub asking : Node → Node
 asking s = record s { phase = Waiting; queue = s.queue ++ s.me ∷ []; asks = s.asks + 1 }
 
-abbrev pub asked : Node → NodeDone (Result Stamp AskFault)
-asked s = serving (unchanged (asking s) (Ok (record { number = s.asks + 1; node = s.me })))
-
-abbrev pub ask_in : Phase → Node → NodeDone (Result Stamp AskFault)
-ask_in p s = ask_by (λ (x : Node). x.asks) asked p s
-
-abbrev pub ask_of : Node → NodeDone (Result Stamp AskFault)
-ask_of s = ask_in s.phase s
+abbrev pub asked : Node → NodeDone Stamp
+asked s = serving (unchanged (asking s) (record { number = s.asks + 1; node = s.me }))
 
 -- the privilege that it sent last is sent again, while its arrival is not known
 abbrev pub privilege_again : Option Unacked → List (ℕ × RaymondMsg)
@@ -185,9 +177,6 @@ deliver_of from (Request number) s = if is_neighbour s from then take_request fr
 deliver_of from (Privilege hop last) s = if is_neighbour s from then take_privilege from hop last s else unchanged s tt
 deliver_of from (Got hop) s = if is_neighbour s from then take_got from hop s else unchanged s tt
 
-abbrev pub can_enter_of : Node → Bool
-can_enter_of s = is_waiting s.phase && has_permission s
-
 -- enter: the node leaves the head of its queue, and the section's number is one above the highest that
 -- it knows.
 -- Published: procedure ASSIGN_PRIVILEGE, where the node that has the privilege heads its own queue.
@@ -195,29 +184,23 @@ can_enter_of s = is_waiting s.phase && has_permission s
 abbrev pub entering : Node → Node
 entering s = record s { phase = Inside (s.top + 1); queue = rest_of s.queue; top = s.top + 1; mine = s.top + 1 }
 
-abbrev pub entered : Node → Quiet Node (Result ℕ EnterFault)
-entered s = entered_by (λ (x : Node). x.top) entering s
-
-abbrev pub enter_in : Phase → Node → Quiet Node (Result ℕ EnterFault)
-enter_in p s = enter_by has_permission (λ (x : Node). x.top) (λ (x : Node). x.limit) entering p s
-
-abbrev pub enter_of : Node → Quiet Node (Result ℕ EnterFault)
-enter_of s = enter_in s.phase s
-
 -- leave: then Assign and Make.
 -- Published: the node exits the critical section.
 -- Added: nothing.
 abbrev pub leaving : Node → Node
 leaving s = record s { phase = Idle }
 
-abbrev pub left : Node → ℕ → NodeDone (Result ℕ LeaveFault)
-left s n = serving (unchanged (leaving s) (Ok n))
+abbrev pub left : Node → NodeDone (Unit {0})
+left s = serving (becoming (leaving s))
 
-abbrev pub leave_in : Phase → Node → NodeDone (Result ℕ LeaveFault)
-leave_in p s = leave_by left p s
+-- cancel: the node leaves its own queue; then Assign and Make. A request that it has sent its holder stands, and
+-- the privilege that comes for it is kept, or passed on.
+-- Added, as the publication has no way to give a request up.
+abbrev pub withdrawing : Node → Node
+withdrawing s = record s { phase = Idle; queue = without s.queue s.me }
 
-abbrev pub leave_of : Node → NodeDone (Result ℕ LeaveFault)
-leave_of s = leave_in s.phase s
+abbrev pub cancelled : Node → NodeDone (Unit {0})
+cancelled s = serving (becoming (withdrawing s))
 
 -- tick: the privilege that it sent last is sent again, and then its latest request.
 -- Added, since either may have been lost.
@@ -228,17 +211,23 @@ abbrev pub tick_of : Node → NodeDone (Unit {0})
 tick_of s = record { state = s; answer = tt; letters = privilege_again s.unacked ++ request_again s }
 
 -- the whole table
-abbrev pub raymond_core : Core Rooted Node RaymondMsg
-raymond_core = record {
+abbrev pub raymond_rows : Rows Rooted Node RaymondMsg
+raymond_rows = record {
   count = λ tree. tree.count;
   start = start_of;
   phase = λ s. s.phase;
   mine = λ s. s.mine;
+  top = λ s. s.top;
   limit = λ s. s.limit;
-  can_enter = can_enter_of;
-  ask = ask_of;
+  last = λ s. s.asks;
+  is_granted = has_permission;
+  ask = asked;
   deliver = deliver_of;
-  enter = enter_of;
-  leave = leave_of;
+  enter = entering;
+  leave = left;
+  cancel = cancelled;
   tick = tick_of;
 }
+
+abbrev pub raymond_core : Core Rooted Node RaymondMsg
+raymond_core = core_of raymond_rows

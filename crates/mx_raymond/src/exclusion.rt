@@ -3,7 +3,7 @@
 use crate::queue::Queue;
 use crate::raymond::Raymond;
 use mx_letters::{Outbox, RaymondMsg};
-use mx_nodelaws::{AskFault, EnterFault, Exclusion, LeaveFault, Phase};
+use mx_nodelaws::{AskFault, CancelFault, EnterFault, Exclusion, LeaveFault, Phase};
 use mx_stamps::{NodeId, Stamp};
 use mx_trees::Tree;
 
@@ -15,10 +15,9 @@ impl Exclusion for Raymond {
     ghost use Rattle.std.specs.Prelude.{◌≡◌, ◌↔◌, IsTrue};
     ghost use Rattle.mx_nodelaws.specs.declared.phase.Phase.TheVariants.{Waiting};
     ghost use Rattle.mx_trees.specs.Tree.{IsRooted};
-    ghost use Rattle.mx_raymond.specs.Step.{raymond_core, HasPermission, can_enter_of};
+    ghost use Rattle.mx_raymond.specs.Step.{raymond_core, HasPermission};
     ghost use Rattle.mx_raymond.specs.Good.{IsGood};
-    ghost use Rattle.mx_raymond.specs.Promises.{raymond_phases};
-    ghost use Rattle.mx_raymond.specs.Laws.{raymond_laws};
+    ghost use Rattle.mx_raymond.specs.laws.Laws.{raymond_phases, raymond_laws};
 
     ghost core = { raymond_core };
 
@@ -82,7 +81,7 @@ impl Exclusion for Raymond {
     }
 
     fn can_enter(&self) -> bool
-        ensures value { result ≡ can_enter_of self.now }
+        ensures value { result ≡ raymond_core.can_enter self.now }
         ensures granted { IsTrue result ↔ ((self.now.phase ≡ Waiting) × HasPermission self.now) }
     {
         matches!(self.phase, Phase::Waiting) && self.has_permission()
@@ -112,6 +111,15 @@ impl Exclusion for Raymond {
         self.phase = Phase::Idle;
         self.serve(out);
         Ok(number)
+    }
+
+    fn cancel(&mut self, out: &mut Outbox<RaymondMsg>) -> Result<(), CancelFault> {
+        if !matches!(self.phase, Phase::Waiting) {
+            return Err(CancelFault::NotWaiting);
+        }
+        self.withdraw();
+        self.serve(out);
+        Ok(())
     }
 
     fn tick(&mut self, out: &mut Outbox<RaymondMsg>) {

@@ -1,7 +1,7 @@
 //! The queue of a node.
 
 ghost use Rattle.std.specs.Prelude.{ℕ, ◌≡◌, false, [], ◌∷◌, ◌++◌, Some};
-ghost use Rattle.mx_raymond.specs.Queue.{is_queued, is_empty, head_of, rest_of, joined};
+ghost use Rattle.mx_raymond.specs.Queue.{is_queued, is_empty, head_of, rest_of, joined, without};
 
 use arrayvec::ArrayVec;
 use mx_stamps::{MAX_NODES, NodeId};
@@ -72,6 +72,14 @@ impl Queue {
         if !self.contains(node) {
             self.push(node);
         }
+    }
+
+    /// Removes a name, wherever it stands.
+    pub fn remove(&mut self, node: NodeId)
+        ensures value { self.new ≡ without self.old node }
+        ensures gone { is_queued self.new node ≡ false }
+    {
+        self.names.retain(|name| name.get() != node.get());
     }
 
     /// Removes the oldest name.

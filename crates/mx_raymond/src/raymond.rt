@@ -66,7 +66,7 @@ impl Model for Raymond {
 
 impl Raymond {
     ghost use Rattle.std.specs.Prelude.{◌≡◌, ◌+◌, ◌<◌, ◌≤◌, ◌≢◌, ◌↔◌, [], ◌++◌, length, IsTrue, true};
-    ghost use Rattle.mx_raymond.specs.Step.{is_holder, HasPermission, has_permission, assign_privilege, make_request, privilege_again, request_again, is_neighbour, take_request, take_privilege, take_got};
+    ghost use Rattle.mx_raymond.specs.Step.{is_holder, HasPermission, has_permission, assign_privilege, make_request, withdrawing, privilege_again, request_again, is_neighbour, take_request, take_privilege, take_got};
 
     /// Whether the node has the privilege.
     fn is_holder(&self) -> bool
@@ -133,6 +133,14 @@ impl Raymond {
     {
         self.assign_privilege(out);
         self.make_request(out);
+    }
+
+    /// Gives the request up: the node leaves its own queue, and is idle.
+    pub(crate) fn withdraw(&mut self)
+        ensures { self.new ≡ withdrawing self.old }
+    {
+        self.queue.remove(self.me);
+        self.phase = Phase::Idle;
     }
 
     /// Sends the latest privilege again, while its arrival is not known.

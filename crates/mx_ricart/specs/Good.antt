@@ -4,10 +4,11 @@ use Rattle.mx_stamps.specs.declared.stamp.Stamp.{Stamp}
 use Rattle.mx_stamps.specs.Stamp.{Before}
 use Rattle.mx_letters.specs.declared.ricart.RicartMsg.{RicartMsg}
 use Rattle.mx_letters.specs.declared.ricart.RicartMsg.TheVariants.{Request, Reply}
-use Rattle.mx_nodelaws.specs.World.{World, IsNode, WasSent}
+use Rattle.mx_nodelaws.specs.World.{World, IsNode, WasSent, IsEachOk}
 use Rattle.mx_nodelaws.specs.declared.phase.Phase.TheVariants.{Inside}
 use Rattle.mx_nodelaws.specs.Phases.{is_busy}
-use Rattle.mx_nodelaws.specs.Bounds.{IsU64, BoundedStamp, BoundedPhase, IsBoundedWorld}
+use Rattle.mx_nodelaws.specs.Bounds.{IsU64, BoundedStamp, BoundedPhase}
+use Rattle.mx_nodelaws.specs.Rows.{IsGoodWorld}
 use Rattle.mx_nodelaws.specs.Raised.{IsReachedBy, HasComeTo}
 use Rattle.mx_ricart.specs.Node.{Node}
 use Rattle.mx_ricart.specs.Step.{has_reply, deferred_at}
@@ -62,9 +63,8 @@ IsLetterOk w a b (Request stamp) = IsRequestOk w a stamp
 IsLetterOk w a b (Reply stamp top) = IsReplyOk w a b stamp top
 
 -- each node and each letter is as above
-pub record IsSafe (w : World Node RicartMsg) : Type 0 where
-  pub nodes : (i : ℕ) (s : Node) → IsNode w i s → IsNodeOk w i s
-  pub letters : (a b : ℕ) (m : RicartMsg) → WasSent w a b m → IsLetterOk w a b m
+abbrev pub IsSafe : World Node RicartMsg → Type 0
+IsSafe w = IsEachOk IsNodeOk IsLetterOk w
 
 -- each number in a letter is a u64 value, and each name a node
 abbrev pub BoundedLetter : ℕ → RicartMsg → Type 0
@@ -83,6 +83,5 @@ pub record BoundedNode (n : ℕ) (s : Node) : Type 0 where
   pub top : IsU64 s.top
   pub mine : IsU64 s.mine
 
-pub record IsGood (w : World Node RicartMsg) : Type 0 where
-  pub safe : IsSafe w
-  pub bounded : IsBoundedWorld BoundedNode BoundedLetter w
+abbrev pub IsGood : World Node RicartMsg → Type 0
+IsGood w = IsGoodWorld IsSafe BoundedNode BoundedLetter w

@@ -1,19 +1,18 @@
 -- The step table: for each call the node's next state, the answer, and the letters that are sent.
--- Each row says which part of it is published (Ricart and Agrawala 1981) and which is added here.
-use Rattle.std.specs.Prelude.{ℕ, zero, suc, ◌+◌, ◌<◌, ◌≤◌, ◌≡◌, ◌≢◌, Bool, true, false, ◌||◌, ◌&&◌, not, [], ◌∷◌, Option, Some, None, Result, Ok, max, nat_lt, nat_eq, if◌then◌else◌, slice_index_or, slice_set, replicate}
+-- Each row says which part of it is published (Ricart and Agrawala 1981) and which is added here. What a
+-- phase refuses stands in mx_nodelaws, specs/Calls.antt.
+use Rattle.std.specs.Prelude.{ℕ, ◌+◌, ◌<◌, ◌≤◌, ◌≡◌, ◌≢◌, Bool, true, false, ◌||◌, ◌&&◌, not, [], ◌∷◌, Option, Some, None, max, nat_lt, nat_eq, if◌then◌else◌, slice_index_or, slice_set, replicate}
 use Rattle.mx_stamps.specs.declared.stamp.Stamp.{Stamp}
 use Rattle.mx_stamps.specs.Stamp.{is_before_of, is_same_as}
 use Rattle.mx_letters.specs.declared.ricart.RicartMsg.{RicartMsg}
 use Rattle.mx_letters.specs.declared.ricart.RicartMsg.TheVariants.{Request, Reply}
-use Rattle.mx_nodelaws.specs.World.{Done, Quiet, addressed}
+use Rattle.mx_nodelaws.specs.World.{Done, addressed}
 use Rattle.mx_nodelaws.specs.Core.{Core}
-use Rattle.mx_nodelaws.specs.declared.phase.Phase.{Phase}
 use Rattle.mx_nodelaws.specs.declared.phase.Phase.TheVariants.{Idle, Waiting, Inside}
-use Rattle.mx_nodelaws.specs.declared.faults.AskFault.{AskFault}
-use Rattle.mx_nodelaws.specs.declared.faults.EnterFault.{EnterFault}
-use Rattle.mx_nodelaws.specs.declared.faults.LeaveFault.{LeaveFault}
 use Rattle.mx_nodelaws.specs.Phases.{is_busy, is_waiting}
-use Rattle.mx_nodelaws.specs.Calls.{unchanged, ask_by, entered_by, enter_by, leave_by}
+use Rattle.mx_nodelaws.specs.Calls.{unchanged}
+use Rattle.mx_nodelaws.specs.Tests.{all_below}
+use Rattle.mx_nodelaws.specs.Rows.{Rows, core_of}
 use Rattle.mx_ricart.specs.Node.{Node}
 
 -- the numbers of nodes that a cluster may have
@@ -51,13 +50,12 @@ deferred_at s j = slice_index_or s.deferred j None
 abbrev pub HasAllReplies : Node → Type 0
 HasAllReplies s = (j : ℕ) → j < s.count → j ≢ s.me → has_reply s j ≡ true
 
--- the same as a test of the nodes below n, one after another
-abbrev pub has_replies_below : Node → ℕ → Bool
-has_replies_below s zero = true
-has_replies_below s (suc n) = has_replies_below s n && (nat_eq n s.me || has_reply s n)
+-- the same as a test
+abbrev pub is_replied : Node → ℕ → Bool
+is_replied s j = nat_eq j s.me || has_reply s j
 
 abbrev pub has_all_replies : Node → Bool
-has_all_replies s = has_replies_below s s.count
+has_all_replies s = all_below (is_replied s) s.count
 
 -- ask: the clock's next stamp, no reply yet, and a request to every other node.
 -- Published: the process that invokes mutual exclusion, up to its wait for the replies.
@@ -68,14 +66,8 @@ asking s = record s { highest = s.highest + 1; ours = record { number = s.highes
 abbrev pub request_others : Node → ℕ → Option RicartMsg
 request_others s j = if nat_eq j s.me then None else Some (Request s.ours)
 
-abbrev pub asked : Node → Done Node (Result Stamp AskFault) RicartMsg
-asked s = record { state = asking s; answer = Ok (asking s).ours; letters = addressed (request_others (asking s)) s.count }
-
-abbrev pub ask_in : Phase → Node → Done Node (Result Stamp AskFault) RicartMsg
-ask_in p s = ask_by (λ (x : Node). x.highest) asked p s
-
-abbrev pub ask_of : Node → Done Node (Result Stamp AskFault) RicartMsg
-ask_of s = ask_in s.phase s
+abbrev pub asked : Node → Done Node Stamp RicartMsg
+asked s = record { state = asking s; answer = (asking s).ours; letters = addressed (request_others (asking s)) s.count }
 
 -- a request comes: the clock sees its number, and the reply is sent at once or deferred.
 -- Published: the process that receives REQUEST messages.
@@ -123,29 +115,18 @@ abbrev pub deliver_of : ℕ → RicartMsg → Node → Done Node (Unit {0}) Rica
 deliver_of from (Request stamp) s = if is_other s from && nat_eq stamp.node from then take_request s stamp else unchanged s tt
 deliver_of from (Reply stamp top) s = if is_other s from then take_reply s from stamp top else unchanged s tt
 
-abbrev pub can_enter_of : Node → Bool
-can_enter_of s = is_waiting s.phase && has_all_replies s
-
 -- enter: the section's number is one above the highest that the node knows.
 -- Published: the process that invokes mutual exclusion, where no reply is outstanding any more.
 -- Added: the section's number, and the refusal where the limit is reached.
 abbrev pub entering : Node → Node
 entering s = record s { top = s.top + 1; mine = s.top + 1; phase = Inside (s.top + 1) }
 
-abbrev pub entered : Node → Quiet Node (Result ℕ EnterFault)
-entered s = entered_by (λ (x : Node). x.top) entering s
-
-abbrev pub enter_in : Phase → Node → Quiet Node (Result ℕ EnterFault)
-enter_in p s = enter_by has_all_replies (λ (x : Node). x.top) (λ (x : Node). x.limit) entering p s
-
-abbrev pub enter_of : Node → Quiet Node (Result ℕ EnterFault)
-enter_of s = enter_in s.phase s
-
 -- leave: each deferred reply is sent.
 -- Published: the end of the process that invokes mutual exclusion.
 -- Added: the stamp and `top` in each reply.
-abbrev pub leaving : Node → Node
-leaving s = record s { phase = Idle; deferred = replicate 21 None }
+-- cancel: the same, of a node that waits. Added: its request has ended, and it enters nothing.
+abbrev pub ending : Node → Node
+ending s = record s { phase = Idle; deferred = replicate 21 None }
 
 abbrev pub reply_to : Option Stamp → ℕ → Option RicartMsg
 reply_to None top = None
@@ -154,14 +135,8 @@ reply_to (Some stamp) top = Some (Reply stamp top)
 abbrev pub reply_deferred : Node → ℕ → Option RicartMsg
 reply_deferred s j = reply_to (deferred_at s j) s.top
 
-abbrev pub left : Node → ℕ → Done Node (Result ℕ LeaveFault) RicartMsg
-left s n = record { state = leaving s; answer = Ok n; letters = addressed (reply_deferred s) s.count }
-
-abbrev pub leave_in : Phase → Node → Done Node (Result ℕ LeaveFault) RicartMsg
-leave_in p s = leave_by left p s
-
-abbrev pub leave_of : Node → Done Node (Result ℕ LeaveFault) RicartMsg
-leave_of s = leave_in s.phase s
+abbrev pub ended : Node → Done Node (Unit {0}) RicartMsg
+ended s = record { state = ending s; answer = tt; letters = addressed (reply_deferred s) s.count }
 
 -- tick: a waiting node sends its request again to each other node whose reply is missing.
 -- Added, since the request or its reply may have been lost.
@@ -175,17 +150,23 @@ abbrev pub tick_of : Node → Done Node (Unit {0}) RicartMsg
 tick_of s = if is_waiting s.phase then ticked s else unchanged s tt
 
 -- the whole table
-abbrev pub ricart_core : Core ℕ Node RicartMsg
-ricart_core = record {
+abbrev pub ricart_rows : Rows ℕ Node RicartMsg
+ricart_rows = record {
   count = λ count. count;
   start = start_of;
   phase = λ s. s.phase;
   mine = λ s. s.mine;
+  top = λ s. s.top;
   limit = λ s. s.limit;
-  can_enter = can_enter_of;
-  ask = ask_of;
+  last = λ s. s.highest;
+  is_granted = has_all_replies;
+  ask = asked;
   deliver = deliver_of;
-  enter = enter_of;
-  leave = leave_of;
+  enter = entering;
+  leave = ended;
+  cancel = ended;
   tick = tick_of;
 }
+
+abbrev pub ricart_core : Core ℕ Node RicartMsg
+ricart_core = core_of ricart_rows

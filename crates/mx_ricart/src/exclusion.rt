@@ -3,7 +3,7 @@
 use crate::count::Count;
 use crate::ricart::Ricart;
 use mx_letters::{Outbox, RicartMsg};
-use mx_nodelaws::{AskFault, EnterFault, Exclusion, LeaveFault, Phase};
+use mx_nodelaws::{AskFault, CancelFault, EnterFault, Exclusion, LeaveFault, Phase};
 use mx_stamps::{Clock, NodeId, Stamp};
 
 impl Exclusion for Ricart {
@@ -13,10 +13,9 @@ impl Exclusion for Ricart {
 
     ghost use Rattle.std.specs.Prelude.{◌≡◌, ◌↔◌, IsTrue};
     ghost use Rattle.mx_nodelaws.specs.declared.phase.Phase.TheVariants.{Waiting};
-    ghost use Rattle.mx_ricart.specs.Step.{ricart_core, IsCount, HasAllReplies, can_enter_of};
+    ghost use Rattle.mx_ricart.specs.Step.{ricart_core, IsCount, HasAllReplies};
     ghost use Rattle.mx_ricart.specs.Good.{IsGood};
-    ghost use Rattle.mx_ricart.specs.Promises.{ricart_phases};
-    ghost use Rattle.mx_ricart.specs.Laws.{ricart_laws};
+    ghost use Rattle.mx_ricart.specs.laws.Laws.{ricart_phases, ricart_laws};
 
     ghost core = { ricart_core };
 
@@ -78,7 +77,7 @@ impl Exclusion for Ricart {
     }
 
     fn can_enter(&self) -> bool
-        ensures value { result ≡ can_enter_of self.now }
+        ensures value { result ≡ ricart_core.can_enter self.now }
         ensures granted { IsTrue result ↔ ((self.now.phase ≡ Waiting) × HasAllReplies self.now) }
     {
         matches!(self.phase, Phase::Waiting) && self.has_all_replies()
@@ -104,11 +103,16 @@ impl Exclusion for Ricart {
         let Phase::Inside(number) = self.phase else {
             return Err(LeaveFault::NotInside);
         };
-        self.send_replies(out);
-        self.phase = Phase::Idle;
-        let none = [None; 21];
-        self.deferred = none;
+        self.end_request(out);
         Ok(number)
+    }
+
+    fn cancel(&mut self, out: &mut Outbox<RicartMsg>) -> Result<(), CancelFault> {
+        if !matches!(self.phase, Phase::Waiting) {
+            return Err(CancelFault::NotWaiting);
+        }
+        self.end_request(out);
+        Ok(())
     }
 
     fn tick(&mut self, out: &mut Outbox<RicartMsg>) {

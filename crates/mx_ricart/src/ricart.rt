@@ -58,7 +58,7 @@ impl Ricart {
     ghost use Rattle.std.specs.Prelude.{◌≡◌, ◌↔◌, [], IsTrue};
     ghost use Rattle.mx_nodelaws.specs.World.{addressed};
     ghost use Rattle.mx_nodelaws.specs.Phases.{is_busy};
-    ghost use Rattle.mx_ricart.specs.Step.{is_other, HasAllReplies, has_all_replies, request_others, request_missing, reply_deferred, take_request, take_reply};
+    ghost use Rattle.mx_ricart.specs.Step.{is_other, HasAllReplies, has_all_replies, request_others, request_missing, reply_deferred, ended, take_request, take_reply};
 
     /// Whether this is a node of the cluster, and not this one.
     pub(crate) fn is_other(&self, node: NodeId) -> bool
@@ -117,7 +117,7 @@ impl Ricart {
     }
 
     /// Sends a reply to each request that waits for one.
-    pub(crate) fn send_replies(&self, out: &mut Outbox<RicartMsg>)
+    fn send_replies(&self, out: &mut Outbox<RicartMsg>)
         requires { out.old ≡ [] }
         ensures { out.new ≡ addressed (reply_deferred self.now) self.now.count }
     {
@@ -128,6 +128,18 @@ impl Ricart {
                 }
             }
         }
+    }
+
+    /// Ends the current request: the node is idle, and sends each deferred reply.
+    pub(crate) fn end_request(&mut self, out: &mut Outbox<RicartMsg>)
+        requires { out.old ≡ [] }
+        ensures state { self.new ≡ (ended self.old).state }
+        ensures letters { out.new ≡ (ended self.old).letters }
+    {
+        self.send_replies(out);
+        self.phase = Phase::Idle;
+        let none = [None; 21];
+        self.deferred = none;
     }
 
     /// Takes a request of another node. Its reply has to wait where our own request is current and

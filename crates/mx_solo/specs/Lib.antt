@@ -1,5 +1,5 @@
--- Definitions: Node (a node's state), Step (the step table), Good. Proofs: Laws.
+-- Node (a node's state), Step (the step table), Good (the invariant); laws (their proofs).
 pub mod Node
 pub mod Step
 pub mod Good
-pub mod Laws
+pub mod laws

@@ -1,7 +1,7 @@
 //! The one node, and its calls.
 
 use mx_letters::Outbox;
-use mx_nodelaws::{AskFault, EnterFault, Exclusion, LeaveFault, Phase};
+use mx_nodelaws::{AskFault, CancelFault, EnterFault, Exclusion, LeaveFault, Phase};
 use mx_stamps::{NodeId, Stamp};
 use std::marker::Model;
 
@@ -38,7 +38,7 @@ impl Exclusion for Solo {
 
     ghost use Rattle.mx_solo.specs.Step.{solo_core};
     ghost use Rattle.mx_solo.specs.Good.{IsOne, IsGood};
-    ghost use Rattle.mx_solo.specs.Laws.{solo_phases, solo_laws};
+    ghost use Rattle.mx_solo.specs.laws.Laws.{solo_phases, solo_laws};
 
     ghost core = { solo_core 1 };
 
@@ -108,6 +108,15 @@ impl Exclusion for Solo {
         };
         self.phase = Phase::Idle;
         Ok(number)
+    }
+
+    fn cancel(&mut self, out: &mut Outbox<u8>) -> Result<(), CancelFault> {
+        let _ = out;
+        if !matches!(self.phase, Phase::Waiting) {
+            return Err(CancelFault::NotWaiting);
+        }
+        self.phase = Phase::Idle;
+        Ok(())
     }
 
     fn tick(&mut self, out: &mut Outbox<u8>) {

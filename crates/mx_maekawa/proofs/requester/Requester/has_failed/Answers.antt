@@ -1,7 +1,7 @@
 use Rattle.std.proofs.Common.{◌≡◌, true, arith, subst, sym}
 use Rattle.std.proofs.lemmas.Grind.{common_steps}
 use Rattle.mx_maekawa.specs.RequesterStep.{HasFailed, has_failed_below}
-use Rattle.mx_maekawa.specs.Tests.{has_failed_is}
+use Rattle.mx_maekawa.specs.laws.Tests.{has_failed_is}
 use Rattle.mx_maekawa.proofs.requester.Requester.has_failed.Goals as goal
 
 pub returns-clause-some : goal.returns-clause-some

@@ -1,7 +1,7 @@
 use Rattle.std.proofs.Common.{◌≡◌, true, arith, subst, sym}
 use Rattle.std.proofs.lemmas.Grind.{common_steps}
 use Rattle.mx_maekawa.specs.RequesterStep.{HoldsAll, holds_all}
-use Rattle.mx_maekawa.specs.Tests.{holds_all_is}
+use Rattle.mx_maekawa.specs.laws.Tests.{holds_all_is}
 use Rattle.mx_maekawa.proofs.requester.Requester.holds_all.Goals as goal
 
 pub returns-clause-all : goal.returns-clause-all

@@ -1,6 +1,6 @@
 use Rattle.std.proofs.Common.{rules, ◌≡◌}
 use Rattle.mx_ricart.specs.Step.{has_all_replies}
-use Rattle.mx_ricart.specs.Tests.{permission_is}
+use Rattle.mx_ricart.specs.laws.Tests.{permission_is}
 use Rattle.mx_ricart.proofs.ricart.Ricart.has_all_replies.Goals as goal
 
 pub returns-clause-all : goal.returns-clause-all

@@ -1,10 +1,6 @@
-use Rattle.std.proofs.Common.{◌≡◌, ◌≤◌, length}
-use Rattle.mx_nodelaws.specs.World.{addressed}
+use Rattle.mx_nodelaws.specs.World.{AreSentBelow}
 use Rattle.mx_ricart.specs.Step.{request_missing}
 use Rattle.mx_ricart.proofs.ricart.Ricart.send_missing.Given as goal
 
 abbrev pub invariant-loop-i : goal.invariant-loop-i
-invariant-loop-i l = record {
-  sent : l.out ≡ addressed (request_missing l.self) l.i;
-  few : length l.out ≤ l.i;
-}
+invariant-loop-i l = AreSentBelow (request_missing l.self) l.i l.out

@@ -1,0 +1,2 @@
+-- Laws (all together, with the promises on phases).
+pub mod Laws
