@@ -97,7 +97,7 @@ map_replicate : {A B : Type 0} (f : A → B) (n : ℕ) (a : A) → map f (replic
 map_replicate f zero a = refl
 map_replicate f (suc n) a = λ i. f a ∷ map_replicate f n a i
 
-replicate_length : {A : Type 0} (n : ℕ) (a : A) → length (replicate n a) ≡ n
+pub replicate_length : {A : Type 0} (n : ℕ) (a : A) → length (replicate n a) ≡ n
 replicate_length zero a = refl
 replicate_length (suc n) a = ap suc (replicate_length n a)
 

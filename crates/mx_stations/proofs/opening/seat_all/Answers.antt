@@ -63,3 +63,9 @@ returns g c =
     let i = c.loop-index.invariant in
     let e : c.loop-index.index ≡ c.args.setup.now.nodes = (let t = c.loop-index-test.false in let a = c.loop-index.auto.index-end in omega arith) in
     (i.3.0 ∙ e, ((arc_value c.args.field).board.shared.table_id, λ j s at. i.3.1 j s at))
+
+pub start_members-requires : goal.start_members-requires
+start_members-requires g c = let r = c.requires in (search rules, (r.counted, (r.named, (r.low, (r.high, (r.some, r.few))))))
+
+pub push_reserved-requires : goal.push_reserved-requires
+push_reserved-requires g c = search rules

@@ -6,3 +6,18 @@ returns-clause-same g c = works_kept g.C.Exclusion.core c.args.script.register _
 
 pub returns-clause-node : goal.returns-clause-node
 returns-clause-node g c = works_node g.C.Exclusion.core c.args.script.register _ _ c.work_at-worked.ensures.works
+
+pub returns-clause-works : goal.returns-clause-works
+returns-clause-works g c = c.work_at-worked.ensures.works
+
+pub returns-clause-done : goal.returns-clause-done
+returns-clause-done g c = c.work_at-worked.ensures.done
+
+pub returns-clause-outside : goal.returns-clause-outside
+returns-clause-outside g c = c.work_at-worked.ensures.outside
+
+pub returns-clause-not_yet : goal.returns-clause-not_yet
+returns-clause-not_yet g c = c.work_at-worked.ensures.not_yet
+
+pub returns-clause-shut : goal.returns-clause-shut
+returns-clause-shut g c = c.work_at-worked.ensures.shut

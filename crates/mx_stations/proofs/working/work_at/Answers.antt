@@ -1,6 +1,41 @@
-use Rattle.std.proofs.Common.{refl}
+use Rattle.std.proofs.Common.{◌≡◌, ℕ, refl, sym}
+use Rattle.mx_stations.specs.declared.working.Worked.{Worked}
+use Rattle.mx_stations.specs.declared.working.Worked.TheVariants.{Done, NotYet, GateShut}
 use Rattle.mx_stations.proofs.Toils.{rests, works_on}
 use Rattle.mx_stations.proofs.working.work_at.Goals as goal
+
+shut_done : GateShut ≡ Done → ⊥
+shut_done e = cc
+
+shut_not_yet : (n : ℕ) → GateShut ≡ NotYet n → ⊥
+shut_not_yet n e = cc
+
+done_not_yet : (n : ℕ) → Done ≡ NotYet n → ⊥
+done_not_yet n e = cc
+
+done_shut : Done ≡ GateShut → ⊥
+done_shut e = cc
+
+not_yet_shut : (n : ℕ) → NotYet n ≡ GateShut → ⊥
+not_yet_shut n e = cc
+
+same_turns : (m n : ℕ) → NotYet m ≡ NotYet n → n ≡ m
+same_turns m n e = cc
+
+pub returns-then-not-arrive-clause-works : goal.returns-then-not-arrive-clause-works
+returns-then-not-arrive-clause-works g c = rests g.C.Exclusion.core c.args.script.now.register _ _ refl
+
+pub returns-then-not-arrive-clause-done : goal.returns-then-not-arrive-clause-done
+returns-then-not-arrive-clause-done g c = λ ended. absurd (shut_done ended)
+
+pub returns-then-not-arrive-clause-outside : goal.returns-then-not-arrive-clause-outside
+returns-then-not-arrive-clause-outside g c = λ ended. absurd (shut_done ended)
+
+pub returns-then-not-arrive-clause-not_yet : goal.returns-then-not-arrive-clause-not_yet
+returns-then-not-arrive-clause-not_yet g c = λ n ended. absurd (shut_not_yet n ended)
+
+pub returns-then-not-arrive-clause-shut : goal.returns-then-not-arrive-clause-shut
+returns-then-not-arrive-clause-shut g c = λ shut. refl
 
 pub loop-turn-init : goal.loop-turn-init
 loop-turn-init g c = rests g.C.Exclusion.core c.args.script.now.register _ _ refl
@@ -16,3 +51,24 @@ returns-then-done-clause-done g c = λ ended. c.if-is_finished.ensures.enough re
 
 pub returns-then-done-clause-outside : goal.returns-then-done-clause-outside
 returns-then-done-clause-outside g c = λ ended. c.if-is_finished.ensures.outside refl
+
+pub returns-then-done-clause-not_yet : goal.returns-then-done-clause-not_yet
+returns-then-done-clause-not_yet g c = λ n ended. absurd (done_not_yet n ended)
+
+pub returns-then-done-clause-shut : goal.returns-then-done-clause-shut
+returns-then-done-clause-shut g c = λ shut. absurd (done_shut shut)
+
+pub returns-clause-works : goal.returns-clause-works
+returns-clause-works g c = c.loop-turn.invariant
+
+pub returns-clause-done : goal.returns-clause-done
+returns-clause-done g c = λ ended. absurd (done_not_yet c.args.turns (sym ended))
+
+pub returns-clause-outside : goal.returns-clause-outside
+returns-clause-outside g c = λ ended. absurd (done_not_yet c.args.turns (sym ended))
+
+pub returns-clause-not_yet : goal.returns-clause-not_yet
+returns-clause-not_yet g c = λ n ended. same_turns c.args.turns n ended
+
+pub returns-clause-shut : goal.returns-clause-shut
+returns-clause-shut g c = λ shut. absurd (not_yet_shut c.args.turns shut)

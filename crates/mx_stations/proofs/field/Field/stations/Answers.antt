@@ -1,8 +1,8 @@
-use Rattle.std.proofs.Common.{rules, ap, ◌∙◌, arith, subst, ℕ}
+use Rattle.std.proofs.Common.{rules, length, sym, ap, ◌∙◌, arith, subst, ℕ}
 use Rattle.std.proofs.lemmas.Nat.{mul-le}
 use Rattle.mx_member.specs.Steps.{start_of}
 use Rattle.mx_stations.specs.Opened.{AreFresh}
-use Rattle.mx_stations.proofs.Opens.{begins}
+use Rattle.mx_stations.proofs.Opens.{begins, replicate_length}
 use Rattle.mx_stations.proofs.field.Field.stations.Goals as goal
 
 pub overflow_mul-slots : goal.overflow_mul-slots
@@ -23,12 +23,13 @@ vacant-requires g c =
 pub invariant_of-new : goal.invariant_of-new
 invariant_of-new g c =
     let b = c.in_ok-board.ensures in
-    record { key = ap (λ k. k.nodes) b.5; words = search rules; slots = b.1; some = c.nodes-nodes.ensures.low; few = c.nodes-nodes.ensures.high }
+    let all = c.as_slice.ensures.value ∙ c.in_ok-words.ensures.items_if_clones_equal (λ y e. e) in
+    record { key = ap (λ k. k.nodes) b.5; words = b.0 ∙ ap length all ∙ replicate_length _ 0; slots = b.1; some = c.nodes-nodes.ensures.low; few = c.nodes-nodes.ensures.high }
 
 pub seat_all-requires : goal.seat_all-requires
 seat_all-requires g c =
     let b = c.in_ok-board.ensures in let f = c.in_ok-field.ensures in let n = c.nodes-nodes.ensures in let r = c.requires in
-    (search rules, (search rules, (search rules, (search rules, (n.high, (n.value, (r.low, (r.high, (r.some, (r.few, b.4))))))))))
+    (search rules, (search rules, (b.2 ∙ sym (ap (λ z. z.board.shared.table_id) f.ok), (ap (λ z. z.nodes) f.ok, (n.high, (n.value, (r.low, (r.high, (r.some, (r.few, b.4))))))))))
 
 pub returns : goal.returns
 returns g c = subst (λ (n : ℕ). AreFresh n (λ i. start_of g.C.Exclusion.core c.args.shape.now i c.args.origin c.args.limit c.args.registers) c.in_ok-all.all.items) c.nodes-nodes.ensures.value c.in_ok-all.ensures

@@ -1,4 +1,4 @@
-use Rattle.std.proofs.Common.{rules, refl, sym, ap, ◌∙◌, inr, subst, append-nil, ◌≡◌, Some, [], ◌∷◌}
+use Rattle.std.proofs.Common.{rules, refl, sym, ap, ◌∙◌, inr, subst, append-nil, ◌≡◌, Some, [], ◌∷◌, ◌<◌}
 use Rattle.std.specs.Arc.{arc_value}
 use Rattle.mx_member.specs.declared.acts.Act.TheVariants.{Deliver}
 use Rattle.mx_stations.specs.Posts.{Waits, post, sent_in, shown}
@@ -26,7 +26,7 @@ act-requires g c =
           (
             ap (λ m. m.1) is,
             (
-              search rules,
+              subst (λ f. c.self.inside.node < f.nodes) (sym c.deref-2.ensures) i.2,
               (
                 one_node _ _ _ _ _ is,
                 ready g.C.Exclusion.core _ _ c.self.inside.hand _ _ is c.deref-2.result.now.nodes (Deliver c.in-Some.held.0 c.copy-parcel.result) _ _ _ _ (c.in-Some.is ∙ ap (λ z. Some (c.in-Some.held.0, z)) (sym c.copy-parcel.ensures)) (inr refl) a.state a.letters (sym (append-nil _)),

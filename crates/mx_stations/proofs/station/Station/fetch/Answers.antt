@@ -1,10 +1,43 @@
-use Rattle.std.proofs.Common.{sym, ap, ◌∙◌, subst, ℕ}
+use Rattle.std.proofs.Common.{sym, ap, ◌∙◌, subst, ℕ, ◌<◌}
 use Rattle.std.specs.Arc.{arc_value}
 use Rattle.mx_stations.specs.Links.{slot_at}
 use Rattle.mx_stations.specs.Posts.{sent_in, Waits}
-use Rattle.mx_stations.proofs.Posts.{same_seat}
+use Rattle.mx_stations.proofs.Posts.{idle, same_seat}
 use Rattle.mx_stations.proofs.Crossing.{finds_none, holds_it, holds_none, keeps_hand, fetched_seat, fetches}
 use Rattle.mx_stations.proofs.station.Station.fetch.Goals as goal
+
+pub grab_filled-requires-clause-table : goal.grab_filled-requires-clause-table
+grab_filled-requires-clause-table g c = c.self.invariant.0 ∙ sym (ap (λ f. f.board.shared.table_id) c.deref-field.ensures)
+
+pub grab_filled-requires-clause-nodes : goal.grab_filled-requires-clause-nodes
+grab_filled-requires-clause-nodes g c =
+    let n = ap (λ f. f.nodes) (sym c.deref-field.ensures) in
+    (subst (λ (k : ℕ). c.self.inside.node < k) n c.self.invariant.2, subst (λ (k : ℕ). c.args.from < k) (ap (λ s. s.nodes) (sym c.self.view_is) ∙ n) c.requires.within)
+
+pub grab_filled-requires-clause-idle : goal.grab_filled-requires-clause-idle
+grab_filled-requires-clause-idle g c = idle _ _ _ _ _ c.self.invariant.1
+
+pub lift-parcel-requires-clause-table : goal.lift-parcel-requires-clause-table
+lift-parcel-requires-clause-table g c = c.in-Some.ensures.same.0 ∙ c.self.invariant.0 ∙ sym (ap (λ f. f.board.shared.table_id) c.deref-field.ensures)
+
+pub lift-parcel-requires-clause-nodes : goal.lift-parcel-requires-clause-nodes
+lift-parcel-requires-clause-nodes g c =
+    let n = ap (λ f. f.nodes) (sym c.deref-field.ensures) in
+    (subst (λ (k : ℕ). c.self.inside.node < k) n c.self.invariant.2, subst (λ (k : ℕ). c.args.from < k) (ap (λ s. s.nodes) (sym c.self.view_is) ∙ n) c.requires.within)
+
+pub lift-parcel-requires-clause-index : goal.lift-parcel-requires-clause-index
+lift-parcel-requires-clause-index g c = c.in-Some.ensures.some.0
+
+pub release-requires-clause-table : goal.release-requires-clause-table
+release-requires-clause-table g c = c.lift-parcel.ensures.same.0 ∙ c.in-Some.ensures.same.0 ∙ c.self.invariant.0 ∙ sym (ap (λ f. f.board.shared.table_id) c.deref-field.ensures)
+
+pub release-requires-clause-nodes : goal.release-requires-clause-nodes
+release-requires-clause-nodes g c =
+    let n = ap (λ f. f.nodes) (sym c.deref-field.ensures) in
+    (subst (λ (k : ℕ). c.self.inside.node < k) n c.self.invariant.2, subst (λ (k : ℕ). c.args.from < k) (ap (λ s. s.nodes) (sym c.self.view_is) ∙ n) c.requires.within)
+
+pub release-requires-clause-index : goal.release-requires-clause-index
+release-requires-clause-index g c = c.in-Some.ensures.some.0
 
 pub invariant_of-self : goal.invariant_of-self
 invariant_of-self g c =

@@ -1,4 +1,4 @@
-use Rattle.std.proofs.Common.{rules, refl, sym, ap, ◌∙◌, inl, subst, ◌≡◌, ◌++◌, [], ◌∷◌}
+use Rattle.std.proofs.Common.{rules, refl, sym, ap, ◌∙◌, inl, subst, ◌≡◌, ◌++◌, [], ◌∷◌, ◌<◌}
 use Rattle.std.specs.Arc.{arc_value}
 use Rattle.mx_member.specs.declared.acts.Act.TheVariants.{Leave}
 use Rattle.mx_member.specs.declared.acts.Answer.TheVariants as answer
@@ -21,7 +21,7 @@ act-requires g c =
           (
             ap (λ m. m.1) i.1,
             (
-              search rules,
+              subst (λ f. c.self.inside.node < f.nodes) (sym c.deref.ensures) i.2,
               (
                 one_node _ _ _ _ _ i.1,
                 ready g.C.Exclusion.core _ _ _ _ _ i.1 _ Leave _ _ _ _ tt (inl refl) a.state a.letters closes,

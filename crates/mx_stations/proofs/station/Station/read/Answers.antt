@@ -1,4 +1,4 @@
-use Rattle.std.proofs.Common.{rules, refl, sym, ap, ◌∙◌, inl, subst, append-nil, ◌≡◌, [], ◌∷◌}
+use Rattle.std.proofs.Common.{rules, refl, sym, ap, ◌∙◌, inl, subst, append-nil, ◌≡◌, [], ◌∷◌, ◌<◌}
 use Rattle.std.specs.Arc.{arc_value}
 use Rattle.mx_member.specs.declared.acts.Act.TheVariants.{Read}
 use Rattle.mx_member.specs.declared.acts.Answer.TheVariants as answer
@@ -20,7 +20,7 @@ act-requires g c =
           (
             ap (λ m. m.1) i.1,
             (
-              search rules,
+              subst (λ f. c.self.inside.node < f.nodes) (sym c.deref.ensures) i.2,
               (
                 one_node _ _ _ _ _ i.1,
                 ready g.C.Exclusion.core _ _ _ _ _ i.1 _ (Read c.args.register) _ _ _ _ tt (inl refl) a.state c.clear.ensures (sym (append-nil _)),

@@ -1,4 +1,4 @@
-use Rattle.std.proofs.Common.{rules, refl, sym, ap, ◌∙◌, inl, subst, append-nil}
+use Rattle.std.proofs.Common.{rules, refl, sym, ap, ◌∙◌, inl, subst, append-nil, ◌<◌}
 use Rattle.mx_member.specs.declared.acts.Act.TheVariants.{Tick}
 use Rattle.mx_stations.specs.Running.{GoToNodes}
 use Rattle.mx_stations.proofs.Posts.{acted_seat, acted_waits, acts_so, one_node, ready}
@@ -15,7 +15,7 @@ act-requires g c =
           (
             ap (λ m. m.1) i.1,
             (
-              search rules,
+              subst (λ f. c.self.inside.node < f.nodes) (sym c.deref.ensures) i.2,
               (
                 one_node _ _ _ _ _ i.1,
                 ready g.C.Exclusion.core _ _ _ _ _ i.1 _ Tick _ _ _ _ tt (inl refl) a.state a.letters (sym (append-nil _)),

@@ -15,7 +15,7 @@ act-requires g c =
           (
             ap (λ m. m.1) i.1,
             (
-              search rules,
+              subst (λ f. c.self.inside.node < f.nodes) (sym c.deref.ensures) i.2,
               (
                 one_node _ _ _ _ _ i.1,
                 ready g.C.Exclusion.core _ _ _ _ _ i.1 c.deref.result.now.nodes (Want c.args.to) _ _ _ _ (subst (λ k. c.args.to < k) (sym (ap (λ s. s.nodes) c.self.view_is) ∙ sym (ap (λ f. f.nodes) c.deref.ensures)) c.requires) (inl refl) refl a.letters (sym (append-nil _)),
@@ -35,3 +35,6 @@ pub returns : goal.returns
 returns g c =
     let i = c.self.invariant in let n = c.act.ensures in let a = c.want.ensures in
     acts_so g.C.Exclusion.core _ _ _ _ _ i.1 (Want c.args.to) _ _ _ _ _ _ _ _ _ _ c.self.view_is n.same.0 n.view c.store_up.ensures refl a.letters (sym (append-nil _))
+
+pub want-requires : goal.want-requires
+want-requires g c = (search rules, (search rules, c.clear.ensures))
