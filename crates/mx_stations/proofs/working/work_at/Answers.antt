@@ -1,5 +1,4 @@
 use Rattle.std.proofs.Common.{◌≡◌, ℕ, refl, sym}
-use Rattle.mx_stations.specs.declared.working.Worked.{Worked}
 use Rattle.mx_stations.specs.declared.working.Worked.TheVariants.{Done, NotYet, GateShut}
 use Rattle.mx_stations.proofs.Toils.{rests, works_on}
 use Rattle.mx_stations.proofs.working.work_at.Goals as goal

@@ -52,3 +52,6 @@ pub returns-clause-done : goal.returns-clause-done
 returns-clause-done g c =
     let i = c.self.invariant in let n = c.act.ensures in let a = c.ask.ensures in
     acts_so g.C.Exclusion.core _ _ _ _ _ i.1 Ask _ _ _ _ _ _ _ _ _ _ c.self.view_is n.same.0 n.view c.store_up.ensures a.state a.letters (sym (append-nil _))
+
+pub ask-requires : goal.ask-requires
+ask-requires g c = (search rules, (search rules, c.clear.ensures))

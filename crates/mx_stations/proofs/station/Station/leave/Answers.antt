@@ -77,3 +77,6 @@ pub returns-in_err-receipt-clause-memory : goal.returns-in_err-receipt-clause-me
 returns-in_err-receipt-clause-memory g c =
     let p = c.self.inside in let e = c.in_err-receipt.ensures in
     λ is. ((c.in-Inside.field-0, ap (λ s. g.C.Exclusion.core.phase s.me.member.core) (sym c.self.view_is) ∙ sym c.phase.ensures.value ∙ c.in-Inside.is), (λ j. post p.seat.table_id (arc_value p.field).nodes (shown p.node (e.err j) p.hand (c.make_room.ensures.same j) p.seat.me.0) p.waiting.items) ∙ c.self.view_is)
+
+pub leave-requires : goal.leave-requires
+leave-requires g c = (search rules, (search rules, c.clear.ensures))

@@ -1,4 +1,4 @@
-use Rattle.std.proofs.Common.{◌≡◌, ℕ, true, false, [], refl, ◌∙◌, subst, arith}
+use Rattle.std.proofs.Common.{rules, ◌≡◌, ℕ, true, false, [], refl, ◌∙◌, subst, arith}
 use Rattle.mx_stations.specs.Turns.{TakesFated}
 use Rattle.mx_stations.proofs.Going.{goes_nodes, goes_on, stays}
 use Rattle.mx_stations.proofs.Turning.{few_so_far, one_more_taken}
@@ -36,3 +36,8 @@ returns-clause-taken g c =
     let i = c.loop-index.invariant in let far = i.0 in
     let end : c.loop-index.index ≡ c.args.self.now.nodes = (let t = c.loop-index-test.false in let a = c.loop-index.auto.index-end in let n = c.nodes-index-end.ensures.value in omega arith) in
     (far.0, far.1, far.2 ∙ end, far.3)
+
+pub take_fated-requires : goal.take_fated-requires
+take_fated-requires g c =
+    let is = c.in-Some.ensures.value in let low = c.loop-index-test.true in let count = c.nodes-index-end.ensures.value in let i = c.loop-index.invariant in
+    (search rules, (omega (arith, is, low, count, i.3), i.2))

@@ -1,3 +1,4 @@
+use Rattle.std.proofs.Common.{rules}
 use Rattle.mx_stations.proofs.Going.{goes_fated, goes_had, goes_on, stays}
 use Rattle.mx_stations.proofs.Posts.{on_err}
 use Rattle.mx_stations.proofs.Turning.{dealt}
@@ -25,3 +26,6 @@ returns-clause-empty g c = (goes_had g.C.Exclusion.core _ _ c.in_ok-deliver.fiel
 
 pub returns-in_err-deliver_more-clause-kept : goal.returns-in_err-deliver_more-clause-kept
 returns-in_err-deliver_more-clause-kept g c = on_err c.from_residual.result _ c.in_err-deliver_more.ensures.kept
+
+pub fetch_fated-requires : goal.fetch_fated-requires
+fetch_fated-requires g c = (search rules, (c.requires.within, c.requires.empty))

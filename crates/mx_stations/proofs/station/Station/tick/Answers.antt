@@ -35,3 +35,6 @@ pub returns : goal.returns
 returns g c =
     let i = c.self.invariant in let n = c.act.ensures in let a = c.tick.ensures in
     acts_so g.C.Exclusion.core _ _ _ _ _ i.1 Tick _ _ _ _ _ _ _ _ _ _ c.self.view_is n.same.0 n.view c.store_up.ensures a.state a.letters (sym (append-nil _))
+
+pub tick-requires : goal.tick-requires
+tick-requires g c = (search rules, (search rules, c.clear.ensures))
