@@ -2,6 +2,7 @@
 //! to `live` where that is the first word.
 #![tactic(auto)]
 
+mod counted;
 mod stream;
 mod streams;
 

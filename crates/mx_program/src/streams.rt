@@ -1,5 +1,6 @@
 //! The files and the streams of the process.
 
+use crate::counted::Counted;
 use mx_commands::{Source, SourceFault};
 use std::alloc::Global;
 use std::io::{ErrorKind, Read};
@@ -8,6 +9,9 @@ use std::{fs, io};
 
 /// A longer file, or a longer standard input, can't be read.
 const MOST_BYTES: u64 = 268_435_456;
+
+/// Nor can one that takes more reads, as where each gives one byte, or each is interrupted.
+const MOST_READS: u64 = 268_435_456;
 
 /// Files by their paths, and standard input by the name `-`.
 #[derive(Drop)]
@@ -29,8 +33,11 @@ impl<R: Files + Input> Source for Streams<'_, R> {
 
 fn read_all<R: Read + Drop>(alloc: Global, reader: R) -> Result<Vec<u8>, SourceFault> {
     let mut bytes = Vec::new(alloc);
-    let mut limited = reader.take(MOST_BYTES + 1);
-    match limited.read_to_end(&mut bytes) {
+    let mut counted = Counted {
+        inner: reader.take(MOST_BYTES + 1),
+        left: MOST_READS,
+    };
+    match counted.read_to_end(&mut bytes) {
         Ok(_) if bytes.len() as u64 > MOST_BYTES => Err(SourceFault::Unreadable),
         Ok(_) => Ok(bytes),
         Err(e) => Err(source_fault(&e)),
