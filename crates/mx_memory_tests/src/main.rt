@@ -1,0 +1,22 @@
+//! Each call of the libraries that may be refused memory, made while something outside refuses it.
+//! A line `call NAME` comes before such a call, and `back` after it. Where it answered that memory
+//! ran out, what has to stand is looked at, `refused NAME` is told, and the call is made again,
+//! which has to succeed. Whatever else comes ends the program with status 1.
+#![tactic(auto)]
+
+mod clusters;
+mod journals;
+mod members;
+mod readers;
+mod stations;
+mod telling;
+
+use anyhow::Result;
+
+fn main(rt: HostRuntime) -> Result<()> {
+    journals::each(&rt)?;
+    members::each(&rt)?;
+    clusters::each(&rt)?;
+    stations::each(&rt)?;
+    readers::each(&rt)
+}
