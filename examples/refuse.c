@@ -1,8 +1,8 @@
-/* Preloaded into a program, counts what it asks of memory and refuses the one of the number REFUSE, or all
-   from there on where that begins with `+`. Where CALLS is set, the count begins anew, and lasts, from a
-   line that begins with `call` to one that begins with `back`. Each refusal is told by one byte on the
-   descriptor 9. Where READS is `none` each read is interrupted, and where it is `one` each gives one space.
-   It needs no header, so that the kit's own compiler makes it. */
+/* Preloaded into a program, counts what it asks of memory and refuses the one of the number REFUSE,
+   or all from there on where that begins with `+`. Where CALLS is set, the count begins anew, and
+   lasts, from a line that begins with `call` to one that begins with `back`. Each refusal is told by
+   one byte on the descriptor 9. Where READS is `none` each read is interrupted, and where it is `one`
+   each gives one space. It needs no header, so that the kit's own compiler makes it. */
 typedef unsigned long size_t;
 typedef long ssize_t;
 
