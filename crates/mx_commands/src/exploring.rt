@@ -101,6 +101,7 @@ fn add_summary_of(
 fn happen<C: Exclusion>(cluster: &mut Cluster<C>, events: &[Event]) -> Result<(), AllocError>
     ensures { OnOk result (after_drawn C.core cluster.old events.now ≡ cluster.new) }
 {
+    cluster.make_room(events.len());
     for event in events {
         step(cluster, event)?;
     }
@@ -115,7 +116,7 @@ fn step<C: Exclusion>(cluster: &mut Cluster<C>, event: &Event) -> Result<(), All
     let Some(placed) = place(*event, cluster.sent()) else {
         return Ok(());
     };
-    match cluster.step(placed) {
+    match cluster.advance(placed) {
         Err(StepFault::Memory) => Err(AllocError),
         Ok(_) | Err(StepFault::NoNode | StepFault::NoParcel) => Ok(()),
     }

@@ -57,8 +57,8 @@ impl Draft {
     {
         let after = self.writes.len() as u8;
         let read = Read {
-            register,
             value,
+            register,
             after,
         };
         self.reads.try_push(read).map_err(|_| Full)

@@ -10,8 +10,8 @@ use mx_stamps::NodeId;
 /// A read of a value from a register, with the count of the writes of the same section before it.
 #[derive(Clone, Copy, Debug, Default, PartialEq, Eq)]
 pub struct Read {
-    pub register: u8,
     pub value: u64,
+    pub register: u8,
     pub after: u8,
 }
 

@@ -55,13 +55,37 @@ impl<C: Exclusion> Member<C> {
         ensures err { OnErr result (self.new ≡ self.old) }
         ensures quiet { OnErr result (out.new ≡ []) }
     {
+        self.receive(from, &parcel, out)
+    }
+
+    /// The same of a parcel that stays where it is.
+    pub fn receive(
+        &mut self,
+        from: NodeId,
+        parcel: &Parcel<C::Msg>,
+        out: &mut Outbox<Parcel<C::Msg>>,
+    ) -> Result<(), DeliverFault>
+        requires { out.old ≡ [] }
+        ensures stranger { (result ≡ Err DeliverFault.Stranger)
+            ↔ (self.old.setting.nodes ≤ from) }
+        ensures conflict { (n : ℕ) → (result ≡ Err (DeliverFault.Conflict n))
+            ↔ ((from < self.old.setting.nodes)
+            × IsDisputed n (records_in parcel.now) self.old.journal) }
+        ensures taken { (IsOk result ⊎ (result ≡ Err DeliverFault.Memory))
+            ↔ IsTakeable from parcel.now self.old }
+        ensures memory { (result ≡ Err DeliverFault.Memory) → BringsRecords parcel.now }
+        ensures state { OnOk result (self.new ≡ (take_of C.core from parcel.now self.old).state) }
+        ensures letters { OnOk result (out.new ≡ (take_of C.core from parcel.now self.old).letters) }
+        ensures err { OnErr result (self.new ≡ self.old) }
+        ensures quiet { OnErr result (out.new ≡ []) }
+    {
         // that the records of a journal agree is known from this call
         let _ = self.journal.is_empty();
         if from.get() >= self.nodes {
             return Err(DeliverFault::Stranger);
         }
         match parcel {
-            Parcel::Guard(letter) => self.hear(from, letter, out),
+            Parcel::Guard(letter) => self.hear(from, *letter, out),
             Parcel::Want(ranges) => self.answer_want(from, ranges.as_slice(), out),
             Parcel::Records(records) => {
                 let list = records.as_slice();

@@ -1,6 +1,7 @@
 //! What members send one another.
 
 ghost use Rattle.std.specs.Prelude.{◌≡◌};
+ghost use Rattle.mx_member.specs.declared.parcel.Parcel.TheVariants.{Records};
 
 use arrayvec::ArrayVec;
 use mx_journal::{Range, Record};
@@ -35,9 +36,15 @@ impl<M: Copy> Parcel<M> {
         match self {
             Parcel::Guard(letter) => Parcel::Guard(*letter),
             Parcel::Want(ranges) => Parcel::Want(copy_of_ranges(ranges)),
-            Parcel::Records(records) => Parcel::Records(copy_of_records(records)),
+            Parcel::Records(records) => copy_of_gossip(records),
         }
     }
+}
+
+fn copy_of_gossip<M>(records: &ArrayVec<Record, 4>) -> Parcel<M>
+    ensures { result ≡ Records records.now }
+{
+    Parcel::Records(copy_of_records(records))
 }
 
 fn copy_of_ranges(ranges: &ArrayVec<Range, 8>) -> ArrayVec<Range, 8>

@@ -1,5 +1,5 @@
 -- The part of an event: what it tells, and that it may be done.
-use Rattle.std.proofs.Common.{ℕ, ◌<◌, ◌≡◌, List, Option, Some, None, Result, Ok, Err, nat_lt, slice_get, length, refl, subst, if◌then◌else◌}
+use Rattle.std.proofs.Common.{ℕ, ◌<◌, ◌≡◌, List, Option, Some, None, Result, Ok, Err, IsSome, nat_lt, slice_get, length, refl, subst, if◌then◌else◌}
 use Rattle.mx_stamps.proofs.Lists.{cond_case, in_get}
 use Rattle.mx_journal.proofs.Choices.{lt_true}
 use Rattle.mx_nodelaws.specs.Core.{Core}
@@ -14,7 +14,7 @@ use Rattle.mx_network.specs.declared.event.Event.{Event}
 use Rattle.mx_network.specs.declared.event.Event.TheVariants as event
 use Rattle.mx_network.specs.declared.faults.StepFault.{StepFault}
 use Rattle.mx_network.specs.declared.faults.StepFault.TheVariants.{NoNode, NoParcel}
-use Rattle.mx_network.specs.Step.{answer_of, delivery_of, part_of}
+use Rattle.mx_network.specs.Step.{answer_of, delivery_of, part_of, IsOfSent}
 use Rattle.mx_network.specs.Trace.{mark_of}
 use Rattle.mx_network.proofs.Marks.{entering, reading, writing, leaving}
 
@@ -35,6 +35,15 @@ delivered : {M : Type 0} (nodes k : ℕ) (sent : List (ℕ × ℕ × Parcel M)) 
 delivered nodes k sent p None was is = absurd (err_no_ok NoParcel p is)
 delivered {M} nodes k sent p (Some q) was is =
     subst (λ (x : ℕ × Act M). Arrives nodes sent x.0 x.1) (same_Ok (q.1, act.Deliver q.0 q.2) p is) (in_get sent k q was)
+
+-- a delivery that has a part is of a parcel that was sent
+of_sent : {M : Type 0} (p : ℕ × Act M) (o : Option (ℕ × ℕ × Parcel M)) → delivery_of o ≡ Ok p → IsSome o
+of_sent p None is = absurd (err_no_ok NoParcel p is)
+of_sent p (Some q) is = refl
+
+pub was_sent : {M : Type 0} (nodes : ℕ) (sent : List (ℕ × ℕ × Parcel M)) (e : Event) (p : ℕ × Act M) → part_of nodes sent e ≡ Ok p → IsOfSent sent e
+was_sent nodes sent (event.Deliver k) p is = of_sent p (slice_get sent k) is
+was_sent nodes sent _ p is = tt
 
 -- whatever an event's part is, it may be done
 pub arrives : {M : Type 0} (nodes : ℕ) (sent : List (ℕ × ℕ × Parcel M)) (e : Event) (p : ℕ × Act M) → part_of nodes sent e ≡ Ok p → Arrives nodes sent p.0 p.1

@@ -13,12 +13,12 @@ use Rattle.mx_network.specs.declared.outcome.Outcome.{Outcome}
 use Rattle.mx_network.specs.declared.outcome.Entry.{Entry}
 use Rattle.mx_network.specs.declared.faults.StepFault.{StepFault}
 use Rattle.mx_network.specs.declared.faults.StepFault.TheVariants.{NoNode, Memory}
-use Rattle.mx_network.specs.Step.{ClusterState, answer_of, at_member, at_part, grown, part_of, step_of, IsFaultOf}
+use Rattle.mx_network.specs.Step.{ClusterState, act_in, answer_of, at_member, at_part, grown, part_of, step_of, IsFaultOf}
 
 -- the part of an event, by what was found out about it
-pub part_is : {M : Type 0} (n k : ℕ) (xs ys : List (ℕ × ℕ × Parcel M)) (e : Event) (r : Result (ℕ × Act M) StepFault) (p : ℕ × Act M) → n ≡ k → xs ≡ ys → r ≡ part_of n xs e → r ≡ Ok p → part_of k ys e ≡ Ok p
-part_is {M} n k xs ys e r p same_n same_xs is ok =
-    subst (λ m. part_of m ys e ≡ Ok p) same_n (subst (λ (l : List (ℕ × ℕ × Parcel M)). part_of n l e ≡ Ok p) same_xs (sym is ∙ ok))
+pub part_is : {M : Type 0} (n k : ℕ) (xs ys : List (ℕ × ℕ × Parcel M)) (e : Event) (i : ℕ) → n ≡ k → xs ≡ ys → part_of n xs e ≡ Ok (i, act_in xs e) → part_of k ys e ≡ Ok (i, act_in ys e)
+part_is {M} n k xs ys e i same_n same_xs is =
+    subst (λ m. part_of m ys e ≡ Ok (i, act_in ys e)) same_n (subst (λ (l : List (ℕ × ℕ × Parcel M)). part_of n l e ≡ Ok (i, act_in l e)) same_xs is)
 
 -- a place below the length holds something
 pub held : {X : Type 0} (xs : List X) (k : ℕ) → k < length xs → (x : X) × (slice_get xs k ≡ Some x)

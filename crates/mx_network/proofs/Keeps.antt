@@ -16,7 +16,6 @@ use Rattle.mx_member.proofs.ActsKept.{doable}
 use Rattle.mx_member.proofs.Histories.{AllFit-append, after_marks-append}
 use Rattle.mx_member.proofs.Owners.{owners_at_start, owners_kept}
 use Rattle.mx_network.specs.declared.event.Event.{Event}
-use Rattle.mx_network.specs.declared.outcome.Outcome.{Outcome}
 use Rattle.mx_network.specs.declared.outcome.Entry.{Entry}
 use Rattle.mx_network.specs.declared.faults.StepFault.{StepFault}
 use Rattle.mx_network.specs.declared.faults.StepFault.TheVariants.{NoNode}
@@ -60,7 +59,7 @@ module _ {H S M : Type 0} (core : Core H S M) (IsShape : H → Type 0) (Good : W
   step_kept g e new step kept = at_parted g e new (part_of (length g.members) g.sent e) refl step kept
 
   -- so does one that did not happen
-  pub result_kept : (g : ClusterState S M) (e : Event) (new : ClusterState S M) (r : Result Outcome StepFault) → IfOk r (λ o. step_of core g e ≡ Ok new) → OnErr r (new ≡ g) → IsKept core Good g → IsKept core Good new
+  pub result_kept : {A : Type 0} (g : ClusterState S M) (e : Event) (new : ClusterState S M) (r : Result A StepFault) → IfOk r (λ o. step_of core g e ≡ Ok new) → OnErr r (new ≡ g) → IsKept core Good g → IsKept core Good new
   result_kept g e new (Ok o) ok err kept = step_kept g e new ok kept
   result_kept g e new (Err f) ok err kept = subst (λ x. IsKept core Good x) (sym err) kept
 

@@ -10,7 +10,6 @@ use Rattle.mx_member.specs.declared.acts.Act.TheVariants as act
 use Rattle.mx_member.specs.declared.parcel.Parcel.{Parcel}
 use Rattle.mx_network.specs.declared.event.Event.{Event}
 use Rattle.mx_network.specs.declared.event.Event.TheVariants as event
-use Rattle.mx_network.specs.declared.outcome.Outcome.{Outcome}
 use Rattle.mx_network.specs.declared.faults.StepFault.{StepFault}
 use Rattle.mx_network.specs.declared.faults.StepFault.TheVariants.{NoNode, NoParcel, Memory}
 use Rattle.mx_network.specs.Kept.{IsKept}
@@ -95,15 +94,15 @@ module _ {H S M : Type 0} (core : Core H S M) (Good : World S M → Type 0) wher
   class_of g (event.Restart i) kept = of_one_node g (event.Restart i) i act.Restart (λ h. h) (λ h. h) (λ none. none) refl
 
   -- where the step has this fault other than for memory, the answer is that fault, and only there
-  tells : (g new : ClusterState S M) (e : Event) (fault : StepFault) (r : Result Outcome StepFault) → step_of core g e ≡ Err fault → IfOk r (λ o. step_of core g e ≡ Ok new) → IfErr r (IsFaultOf (step_of core g e)) → r ≡ Err fault
+  tells : {A : Type 0} (g new : ClusterState S M) (e : Event) (fault : StepFault) (r : Result A StepFault) → step_of core g e ≡ Err fault → IfOk r (λ o. step_of core g e ≡ Ok new) → IfErr r (IsFaultOf (step_of core g e)) → r ≡ Err fault
   tells g new e fault (Ok o) is ok refusal = absurd (err_no_ok fault new (sym is ∙ ok))
   tells g new e fault (Err f) is ok (inl m) = absurd (no_ok (ClusterState S M) fault (subst (λ s. IsOk s) is m.1))
   tells g new e fault (Err f) is ok (inr q) = ap (λ x. Err x) (same_Err {A = ClusterState S M} f fault (sym q ∙ is))
 
-  told : (g : ClusterState S M) (e : Event) (fault : StepFault) (r : Result Outcome StepFault) → (fault ≡ Memory → ⊥) → r ≡ Err fault → IfErr r (IsFaultOf (step_of core g e)) → step_of core g e ≡ Err fault
+  told : {A : Type 0} (g : ClusterState S M) (e : Event) (fault : StepFault) (r : Result A StepFault) → (fault ≡ Memory → ⊥) → r ≡ Err fault → IfErr r (IsFaultOf (step_of core g e)) → step_of core g e ≡ Err fault
   told g e fault r other is refusal = elim (subst (λ x. IfErr x (IsFaultOf (step_of core g e))) is refusal) [ inl m ↦ absurd (other m.0) | inr q ↦ q ]
 
-  pub no_node : (g new : ClusterState S M) (e : Event) (r : Result Outcome StepFault) → IsKept core Good g → IfOk r (λ o. step_of core g e ≡ Ok new) → IfErr r (IsFaultOf (step_of core g e)) → (r ≡ Err NoNode) ↔ NamesNoNode g e
+  pub no_node : {A : Type 0} (g new : ClusterState S M) (e : Event) (r : Result A StepFault) → IsKept core Good g → IfOk r (λ o. step_of core g e ≡ Ok new) → IfErr r (IsFaultOf (step_of core g e)) → (r ≡ Err NoNode) ↔ NamesNoNode g e
   no_node g new e r kept ok refusal = (
     λ is. let step = told g e NoNode r memory_apart is refusal in elim (class_of g e kept) [
       | inl c ↦ c.0
@@ -115,7 +114,7 @@ module _ {H S M : Type 0} (core : Core H S M) (Good : World S M → Type 0) wher
     ],
   )
 
-  pub no_parcel : (g new : ClusterState S M) (e : Event) (r : Result Outcome StepFault) → IsKept core Good g → IfOk r (λ o. step_of core g e ≡ Ok new) → IfErr r (IsFaultOf (step_of core g e)) → (r ≡ Err NoParcel) ↔ NamesNoParcel g e
+  pub no_parcel : {A : Type 0} (g new : ClusterState S M) (e : Event) (r : Result A StepFault) → IsKept core Good g → IfOk r (λ o. step_of core g e ≡ Ok new) → IfErr r (IsFaultOf (step_of core g e)) → (r ≡ Err NoParcel) ↔ NamesNoParcel g e
   no_parcel g new e r kept ok refusal = (
     λ is. let step = told g e NoParcel r memory_apart_too is refusal in elim (class_of g e kept) [
       | inl c ↦ absurd (faults_apart (same_Err {A = ClusterState S M} NoNode NoParcel (sym c.2 ∙ step)))

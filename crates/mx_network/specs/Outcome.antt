@@ -10,6 +10,8 @@ use Rattle.mx_member.specs.declared.faults.WriteFault.TheVariants as write
 use Rattle.mx_network.specs.declared.outcome.Outcome.{Outcome}
 use Rattle.mx_network.specs.declared.outcome.Outcome.TheVariants.{Asked, Entered, Value, Written, Left, Sent, Delivered, Woken, Refused}
 use Rattle.mx_network.specs.declared.outcome.Cause.TheVariants as cause
+use Rattle.mx_network.specs.declared.outcome.Brief.{Brief}
+use Rattle.mx_network.specs.declared.outcome.Brief.TheVariants as brief
 
 -- the outcome of an answer, and of the number of parcels that went out with it
 abbrev pub outcome_of : Answer → ℕ → Outcome
@@ -35,3 +37,14 @@ outcome_of answer.Ticked sent = Sent sent
 outcome_of answer.Wanted sent = Sent sent
 outcome_of answer.Delivered sent = Delivered
 outcome_of answer.Woken sent = Woken
+
+-- the answer that is told briefly
+abbrev pub answer_by : Brief → Answer
+answer_by (brief.Asked asked) = answer.Asked asked
+answer_by (brief.Entered entered) = answer.Entered entered
+answer_by (brief.Read value) = answer.Read value
+answer_by (brief.Written done) = answer.Written done
+answer_by brief.Ticked = answer.Ticked
+answer_by brief.Wanted = answer.Wanted
+answer_by brief.Delivered = answer.Delivered
+answer_by brief.Woken = answer.Woken

@@ -1,5 +1,5 @@
 -- One event of a cluster.
-use Rattle.std.specs.Prelude.{ℕ, ◌≡◌, ◌≤◌, ◌⊎◌, List, [], ◌∷◌, ◌++◌, Option, Some, None, Result, Ok, Err, Vec, IsOk, slice_get, slice_set, length, nat_lt, if◌then◌else◌}
+use Rattle.std.specs.Prelude.{ℕ, Bool, true, false, ◌≡◌, ◌≤◌, ◌⊎◌, List, [], ◌∷◌, ◌++◌, Option, Some, None, Result, Ok, Err, Vec, IsOk, IsSome, slice_get, slice_set, length, nat_lt, if◌then◌else◌}
 use Rattle.std.specs.declared.alloc.Global.{Global}
 use Rattle.mx_nodelaws.specs.World.{Done, answering, sent_by}
 use Rattle.mx_nodelaws.specs.Core.{Core, IsInside}
@@ -47,6 +47,32 @@ part_of nodes sent (event.Want i j) = if nat_lt j nodes then Ok (i, act.Want j) 
 part_of nodes sent (event.Deliver k) = delivery_of (slice_get sent k)
 part_of nodes sent (event.Restart i) = Ok (i, act.Restart)
 
+-- the act of a delivery. There is none of a parcel that was not sent; waking up stands in for it
+abbrev pub act_of_delivery : {M : Type 0} → Option (ℕ × ℕ × Parcel M) → Act M
+act_of_delivery None = act.Restart
+act_of_delivery (Some p) = act.Deliver p.0 p.2
+
+-- the act of an event, whoever's it is
+abbrev pub act_in : {M : Type 0} → List (ℕ × ℕ × Parcel M) → Event → Act M
+act_in sent (event.Ask i) = act.Ask
+act_in sent (event.Enter i) = act.Enter
+act_in sent (event.Read i register) = act.Read register
+act_in sent (event.Write i register value) = act.Write register value
+act_in sent (event.Leave i) = act.Leave
+act_in sent (event.Tick i) = act.Tick
+act_in sent (event.Want i j) = act.Want j
+act_in sent (event.Deliver k) = act_of_delivery (slice_get sent k)
+act_in sent (event.Restart i) = act.Restart
+
+-- if the event delivers a parcel, that was sent
+abbrev pub IsOfSent : {M : Type 0} → List (ℕ × ℕ × Parcel M) → Event → Type 0
+IsOfSent sent (event.Deliver k) = IsSome (slice_get sent k)
+IsOfSent sent _ = Unit {0}
+
+abbrev pub is_leaving : Event → Bool
+is_leaving (event.Leave i) = true
+is_leaving _ = false
+
 -- node i has taken its step: its parcels join those sent, and the event its trace
 abbrev pub grown : {S M : Type 0} → ClusterState S M → Event → ℕ → Done (MemberState S) Outcome (Parcel M) → ClusterState S M
 grown g event i done = record {
@@ -62,6 +88,16 @@ at_member core g event i a (Some m) = Ok (grown g event i (answer_of core a m))
 abbrev pub at_part : {H S M : Type 0} → Core H S M → ClusterState S M → Event → Result (ℕ × Act M) StepFault → Result (ClusterState S M) StepFault
 at_part core g event (Err fault) = Err fault
 at_part core g event (Ok p) = at_member core g event p.0 p.1 (slice_get g.members p.0)
+
+-- the event joins the trace, with some outcome
+abbrev pub Notes : Event → List Entry → List Entry → Type 0
+Notes event old new = (outcome : Outcome) × (new ≡ old ++ (record { event = event; outcome = outcome }) ∷ [])
+
+-- a member has done its act, what it sends is put out, and the event joins the trace with its outcome
+pub record NotesAct {H S M : Type 0} (core : Core H S M) (event : Event) (a : Act M) (old : MemberState S) (before : List Entry) (new : MemberState S) (out : List (ℕ × Parcel M)) (trace : List Entry) : Type 0 where
+  pub state : new ≡ (answer_of core a old).state
+  pub letters : out ≡ (answer_of core a old).letters
+  pub noted : trace ≡ before ++ (record { event = event; outcome = (answer_of core a old).answer }) ∷ []
 
 -- the cluster after an event, or why there is no such event
 abbrev pub step_of : {H S M : Type 0} → Core H S M → ClusterState S M → Event → Result (ClusterState S M) StepFault

@@ -16,7 +16,7 @@ ghost use Rattle.mx_network.specs.Trace.{IsExclusive, IsNumbered};
 use crate::event::Event;
 use crate::faults::{RunFault, StepFault};
 use crate::outcome::{Cause, Entry, Outcome};
-use crate::parts::{happen, start_members};
+use crate::parts::{advance, happen, start_members};
 use mx_journal::Journal;
 use mx_letters::Outbox;
 use mx_member::{Member, Parcel};
@@ -103,6 +103,35 @@ impl<C: Exclusion> Cluster<C> {
         )
     }
 
+    /// The same as `step`, without the outcome: that is the newest of the trace.
+    pub fn advance(&mut self, event: Event) -> Result<(), StepFault>
+        ensures ok { OnOk result (step_of C.core self.old event ≡ Ok self.new) }
+        ensures fault { IfErr result (IsFaultOf (step_of C.core self.old event)) }
+        ensures no_node { (result ≡ Err StepFault.NoNode) ↔ NamesNoNode self.old event }
+        ensures no_parcel { (result ≡ Err StepFault.NoParcel) ↔ NamesNoParcel self.old event }
+        ensures err { OnErr result (self.new ≡ self.old) }
+        ensures exclusive { IsExclusive self.new.trace }
+        ensures numbered { IsNumbered self.new.trace }
+        ensures serial { IsSerial self.new.trace }
+    {
+        advance(
+            &mut self.members,
+            &mut self.sent,
+            &mut self.trace,
+            &mut self.out,
+            event,
+        )
+    }
+
+    /// Makes room for so many events and parcels more, where there is memory for it, so that their
+    /// lists need not grow step by step. Nothing else changes.
+    pub fn make_room(&mut self, events: usize)
+        ensures { self.new ≡ self.old }
+    {
+        let _ = self.trace.reserve(events);
+        let _ = self.sent.reserve(events);
+    }
+
     /// Does these events in order, up to the first that can't happen.
     pub fn run(&mut self, events: &[Event]) -> Result<(), RunFault>
         ensures ok { OnOk result (RunsTo C.core self.old events.now self.new) }
@@ -115,7 +144,7 @@ impl<C: Exclusion> Cluster<C> {
         // for the prover: what a cluster keeps is known from where a field is used
         let _ = &self.trace;
         for (index, event) in events.iter().enumerate() {
-            if let Err(fault) = self.step(*event) {
+            if let Err(fault) = self.advance(*event) {
                 return Err(RunFault {
                     index: index as u64,
                     fault,

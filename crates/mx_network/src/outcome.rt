@@ -1,12 +1,12 @@
 //! What comes of an event, and the items of the trace.
 
 ghost use Rattle.std.specs.Prelude.{◌≡◌};
-ghost use Rattle.mx_network.specs.Outcome.{outcome_of};
+ghost use Rattle.mx_network.specs.Outcome.{answer_by, outcome_of};
 
 use crate::event::Event;
 use mx_journal::Receipt;
-use mx_member::{Answer, ReadFault, WriteFault};
-use mx_nodelaws::{AskFault, EnterFault, LeaveFault};
+use mx_member::{ReadFault, WriteFault};
+use mx_nodelaws::{AskFault, EnterFault};
 use mx_stamps::Stamp;
 
 /// Why a node refused.
@@ -71,31 +71,42 @@ pub struct Entry {
     pub outcome: Outcome,
 }
 
+/// What a member answers to an event other than to leave, whose receipt takes much room.
+pub(crate) enum Brief {
+    Asked(Result<Stamp, AskFault>),
+    Entered(Result<u64, EnterFault>),
+    Read(Result<u64, ReadFault>),
+    Written(Result<(), WriteFault>),
+    Ticked,
+    Wanted,
+    Delivered,
+    Woken,
+}
+
 /// The outcome that a member's answer stands for, where the member sent this many parcels.
-pub(crate) fn outcome_from(answer: Answer, sent: u64) -> Outcome
-    ensures { result ≡ outcome_of answer sent }
+#[inline(always)]
+pub(crate) fn outcome_from(brief: Brief, sent: u64) -> Outcome
+    ensures { result ≡ outcome_of (answer_by brief) sent }
 {
-    match answer {
-        Answer::Asked(Ok(stamp)) => Outcome::Asked(stamp),
-        Answer::Asked(Err(AskFault::NotIdle)) => Outcome::Refused(Cause::NotIdle),
-        Answer::Asked(Err(AskFault::StampsSpent)) => Outcome::Refused(Cause::StampsSpent),
-        Answer::Entered(Ok(number)) => Outcome::Entered(number),
-        Answer::Entered(Err(EnterFault::NotWaiting)) => Outcome::Refused(Cause::NotWaiting),
-        Answer::Entered(Err(EnterFault::NotGranted)) => Outcome::Refused(Cause::NotGranted),
-        Answer::Entered(Err(EnterFault::NumbersSpent)) => Outcome::Refused(Cause::NumbersSpent),
-        Answer::Read(Ok(value)) => Outcome::Value(value),
-        Answer::Read(Err(ReadFault::NotInside)) => Outcome::Refused(Cause::NotInside),
-        Answer::Read(Err(ReadFault::NoRegister)) => Outcome::Refused(Cause::NoRegister),
-        Answer::Read(Err(ReadFault::Gap(number))) => Outcome::Refused(Cause::Gap(number)),
-        Answer::Read(Err(ReadFault::Full)) => Outcome::Refused(Cause::Full),
-        Answer::Written(Ok(())) => Outcome::Written,
-        Answer::Written(Err(WriteFault::NotInside)) => Outcome::Refused(Cause::NotInside),
-        Answer::Written(Err(WriteFault::NoRegister)) => Outcome::Refused(Cause::NoRegister),
-        Answer::Written(Err(WriteFault::Full)) => Outcome::Refused(Cause::Full),
-        Answer::Left(Ok(receipt)) => Outcome::Left(receipt),
-        Answer::Left(Err(LeaveFault::NotInside)) => Outcome::Refused(Cause::NotInside),
-        Answer::Ticked | Answer::Wanted => Outcome::Sent(sent),
-        Answer::Delivered => Outcome::Delivered,
-        Answer::Woken => Outcome::Woken,
+    match brief {
+        Brief::Asked(Ok(stamp)) => Outcome::Asked(stamp),
+        Brief::Asked(Err(AskFault::NotIdle)) => Outcome::Refused(Cause::NotIdle),
+        Brief::Asked(Err(AskFault::StampsSpent)) => Outcome::Refused(Cause::StampsSpent),
+        Brief::Entered(Ok(number)) => Outcome::Entered(number),
+        Brief::Entered(Err(EnterFault::NotWaiting)) => Outcome::Refused(Cause::NotWaiting),
+        Brief::Entered(Err(EnterFault::NotGranted)) => Outcome::Refused(Cause::NotGranted),
+        Brief::Entered(Err(EnterFault::NumbersSpent)) => Outcome::Refused(Cause::NumbersSpent),
+        Brief::Read(Ok(value)) => Outcome::Value(value),
+        Brief::Read(Err(ReadFault::NotInside)) => Outcome::Refused(Cause::NotInside),
+        Brief::Read(Err(ReadFault::NoRegister)) => Outcome::Refused(Cause::NoRegister),
+        Brief::Read(Err(ReadFault::Gap(number))) => Outcome::Refused(Cause::Gap(number)),
+        Brief::Read(Err(ReadFault::Full)) => Outcome::Refused(Cause::Full),
+        Brief::Written(Ok(())) => Outcome::Written,
+        Brief::Written(Err(WriteFault::NotInside)) => Outcome::Refused(Cause::NotInside),
+        Brief::Written(Err(WriteFault::NoRegister)) => Outcome::Refused(Cause::NoRegister),
+        Brief::Written(Err(WriteFault::Full)) => Outcome::Refused(Cause::Full),
+        Brief::Ticked | Brief::Wanted => Outcome::Sent(sent),
+        Brief::Delivered => Outcome::Delivered,
+        Brief::Woken => Outcome::Woken,
     }
 }

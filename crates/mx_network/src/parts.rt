@@ -1,17 +1,19 @@
 //! One event, over the parts of a cluster. Nothing here uses the laws of an algorithm.
 
-ghost use Rattle.std.specs.Prelude.{◌≡◌, ◌+◌, ◌^◌, ◌≤◌, ◌<◌, [], ◌∷◌, ◌++◌, length, slice_get, IfErr, IfOk, OnErr, vec_len, vec_capacity};
+ghost use Rattle.std.specs.Prelude.{◌≡◌, ◌+◌, ◌^◌, ◌≤◌, ◌<◌, false, List, [], ◌∷◌, ◌++◌, Ok, Err, length, slice_get, IfErr, IfOk, IsSome, OnErr, OnOk, vec_len, vec_capacity};
 ghost use Rattle.mx_stamps.specs.Lists.{each_below};
 ghost use Rattle.mx_nodelaws.specs.World.{sent_by};
-ghost use Rattle.mx_member.specs.Acts.{IsDoable};
+ghost use Rattle.mx_member.specs.Acts.{IsDoable, act_of};
+ghost use Rattle.mx_member.specs.declared.acts.Act.TheVariants.{Leave};
 ghost use Rattle.mx_member.specs.Steps.{start_of};
-ghost use Rattle.mx_network.specs.Step.{answer_of, delivery_of, cluster_state_of, part_of, step_of, IsDoableAt, IsFaultOf};
+ghost use Rattle.mx_network.specs.Outcome.{answer_by};
+ghost use Rattle.mx_network.specs.Step.{act_in, act_of_delivery, answer_of, cluster_state_of, delivery_of, is_leaving, part_of, step_of, IsDoableAt, IsFaultOf, IsOfSent, Notes, NotesAct};
 
 use crate::event::Event;
 use crate::faults::StepFault;
-use crate::outcome::{Entry, Outcome, outcome_from};
+use crate::outcome::{Brief, Cause, Entry, Outcome, outcome_from};
 use mx_letters::{OUTBOX_ROOM, Outbox};
-use mx_member::{Act, Member, Parcel, perform};
+use mx_member::{CloseFault, Member, Parcel};
 use mx_nodelaws::Exclusion;
 use mx_stamps::NodeId;
 use std::alloc::{AllocError, Global};
@@ -42,38 +44,58 @@ pub(crate) fn start_members<C: Exclusion>(
     Ok(members)
 }
 
-/// The parcel of this number, on its way to its addressee.
-fn delivery_at<M: Copy>(
+/// To whom the parcel of this number goes.
+fn addressee_of<M: Copy>(
     sent: &[(NodeId, NodeId, Parcel<M>)],
     number: u64,
-) -> Result<(NodeId, Act<M>), StepFault>
-    ensures { result ≡ delivery_of (slice_get sent.now number) }
+) -> Result<NodeId, StepFault>
+    ensures ok { IfOk result (λ node. delivery_of (slice_get sent.now number) ≡ Ok (node, act_of_delivery (slice_get sent.now number))) }
+    ensures err { IfErr result (λ fault. delivery_of (slice_get sent.now number) ≡ Err fault) }
 {
     match sent.get(number as usize) {
-        Some((from, to, parcel)) => Ok((*to, Act::Deliver(*from, parcel.copy()))),
+        Some((_, to, _)) => Ok(*to),
         None => Err(StepFault::NoParcel),
     }
 }
 
-/// The node whose event it is, and the act that it does, in a cluster of this many nodes.
-fn part_at<M: Copy>(
+/// The node whose event it is, in a cluster of this many nodes.
+fn node_of<M: Copy>(
     nodes: usize,
     sent: &[(NodeId, NodeId, Parcel<M>)],
     event: &Event,
-) -> Result<(NodeId, Act<M>), StepFault>
-    ensures { result ≡ part_of nodes sent.now event.now }
+) -> Result<NodeId, StepFault>
+    ensures ok { IfOk result (λ node. part_of nodes sent.now event.now ≡ Ok (node, act_in sent.now event.now)) }
+    ensures err { IfErr result (λ fault. part_of nodes sent.now event.now ≡ Err fault) }
 {
     match *event {
-        Event::Ask(node) => Ok((node, Act::Ask)),
-        Event::Enter(node) => Ok((node, Act::Enter)),
-        Event::Read(node, register) => Ok((node, Act::Read(register))),
-        Event::Write(node, register, value) => Ok((node, Act::Write(register, value))),
-        Event::Leave(node) => Ok((node, Act::Leave)),
-        Event::Tick(node) => Ok((node, Act::Tick)),
         Event::Want(_, other) if other.get() as usize >= nodes => Err(StepFault::NoNode),
-        Event::Want(node, other) => Ok((node, Act::Want(other))),
-        Event::Deliver(number) => delivery_at(sent, number),
-        Event::Restart(node) => Ok((node, Act::Restart)),
+        Event::Deliver(number) => addressee_of(sent, number),
+        Event::Ask(node)
+        | Event::Enter(node)
+        | Event::Read(node, _)
+        | Event::Write(node, _, _)
+        | Event::Leave(node)
+        | Event::Tick(node)
+        | Event::Want(node, _)
+        | Event::Restart(node) => Ok(node),
+    }
+}
+
+/// Adds a parcel to those sent. There is room for it.
+fn send<M: Copy>(
+    sent: &mut Vec<(NodeId, NodeId, Parcel<M>)>,
+    from: NodeId,
+    to: NodeId,
+    parcel: &Parcel<M>,
+)
+    requires { vec_len sent.old < vec_capacity sent.old }
+    ensures items { sent.new.items ≡ sent.old.items ++ (from, to, parcel.now) ∷ [] }
+    ensures len { vec_len sent.new ≡ vec_len sent.old + 1 }
+    ensures capacity { vec_capacity sent.new ≡ vec_capacity sent.old }
+{
+    match parcel {
+        Parcel::Guard(letter) => sent.push_reserved((from, to, Parcel::Guard(*letter))),
+        Parcel::Want(_) | Parcel::Records(_) => sent.push_reserved((from, to, parcel.copy())),
     }
 }
 
@@ -87,46 +109,233 @@ fn send_all<M: Copy>(
     ensures { sent.new.items ≡ sent.old.items ++ sent_by from parcels.now }
 {
     for (to, parcel) in parcels {
-        sent.push_reserved((from, *to, parcel.copy()));
+        send(sent, from, *to, parcel);
     }
 }
 
-/// Does an act of a member, and sends its parcels. There is room for them, and the outbox is left empty.
+/// Delivers a parcel of those sent.
+fn deliver<C: Exclusion>(
+    member: &mut Member<C>,
+    sent: &[(NodeId, NodeId, Parcel<C::Msg>)],
+    number: u64,
+    out: &mut Outbox<Parcel<C::Msg>>,
+) -> Result<Brief, AllocError>
+    requires empty { out.old ≡ [] }
+    requires there { IsSome (slice_get sent.now number) }
+    requires doable { IsDoable (act_of_delivery (slice_get sent.now number)) member.old }
+    ensures state { OnOk result (member.new
+        ≡ (act_of C.core (act_of_delivery (slice_get sent.now number)) member.old).state) }
+    ensures answer { IfOk result (λ brief. answer_by brief
+        ≡ (act_of C.core (act_of_delivery (slice_get sent.now number)) member.old).answer) }
+    ensures letters { OnOk result (out.new
+        ≡ (act_of C.core (act_of_delivery (slice_get sent.now number)) member.old).letters) }
+    ensures err { OnErr result (member.new ≡ member.old) }
+    ensures quiet { OnErr result (out.new ≡ []) }
+{
+    match sent.get(number as usize) {
+        Some((from, _, parcel)) => match member.receive(*from, parcel, out) {
+            Ok(()) => Ok(Brief::Delivered),
+            Err(_) => Err(AllocError),
+        },
+        None => unreachable!(),
+    }
+}
+
+/// Does the act of an event that is no leaving.
+fn act<C: Exclusion>(
+    member: &mut Member<C>,
+    sent: &[(NodeId, NodeId, Parcel<C::Msg>)],
+    event: &Event,
+    out: &mut Outbox<Parcel<C::Msg>>,
+) -> Result<Brief, AllocError>
+    requires empty { out.old ≡ [] }
+    requires stays { is_leaving event.now ≡ false }
+    requires there { IsOfSent sent.now event.now }
+    requires doable { IsDoable (act_in sent.now event.now) member.old }
+    ensures state { OnOk result (member.new
+        ≡ (act_of C.core (act_in sent.now event.now) member.old).state) }
+    ensures answer { IfOk result (λ brief. answer_by brief
+        ≡ (act_of C.core (act_in sent.now event.now) member.old).answer) }
+    ensures letters { OnOk result (out.new
+        ≡ (act_of C.core (act_in sent.now event.now) member.old).letters) }
+    ensures err { OnErr result (member.new ≡ member.old) }
+    ensures quiet { OnErr result (out.new ≡ []) }
+{
+    match *event {
+        Event::Ask(_) => Ok(Brief::Asked(member.ask(out))),
+        Event::Enter(_) => Ok(Brief::Entered(member.enter())),
+        Event::Read(_, register) => Ok(Brief::Read(member.read(register))),
+        Event::Write(_, register, value) => Ok(Brief::Written(member.write(register, value))),
+        Event::Tick(_) => {
+            member.tick(out);
+            Ok(Brief::Ticked)
+        }
+        Event::Want(_, to) => {
+            member.want(to, out);
+            Ok(Brief::Wanted)
+        }
+        Event::Deliver(number) => deliver(member, sent, number, out),
+        Event::Restart(_) => {
+            member.restart();
+            Ok(Brief::Woken)
+        }
+        Event::Leave(_) => unreachable!(),
+    }
+}
+
+/// The act of an event that is no leaving, and what joins the trace. There is room for it.
+fn act_and_note<C: Exclusion>(
+    member: &mut Member<C>,
+    sent: &[(NodeId, NodeId, Parcel<C::Msg>)],
+    event: Event,
+    out: &mut Outbox<Parcel<C::Msg>>,
+    trace: &mut Vec<Entry>,
+) -> Result<(), AllocError>
+    requires empty { out.old ≡ [] }
+    requires stays { is_leaving event ≡ false }
+    requires there { IsOfSent sent.now event }
+    requires doable { IsDoable (act_in sent.now event) member.old }
+    requires room { vec_len trace.old < vec_capacity trace.old }
+    ensures ok { OnOk result (NotesAct C.core event (act_in sent.now event)
+        member.old trace.old.items member.new out.new trace.new.items) }
+    ensures err { OnErr result ((member.new ≡ member.old) × (out.new ≡ [])
+        × (trace.new.items ≡ trace.old.items)) }
+{
+    let brief = act(member, sent, &event, out)?;
+    note(trace, event, outcome_from(brief, out.len() as u64));
+    Ok(())
+}
+
+/// A member leaves, and that joins the trace. There is room for it.
+fn leave_and_note<C: Exclusion>(
+    member: &mut Member<C>,
+    event: Event,
+    out: &mut Outbox<Parcel<C::Msg>>,
+    trace: &mut Vec<Entry>,
+) -> Result<(), AllocError>
+    requires empty { out.old ≡ [] }
+    requires room { vec_len trace.old < vec_capacity trace.old }
+    ensures ok { OnOk result (NotesAct C.core event Leave
+        member.old trace.old.items member.new out.new trace.new.items) }
+    ensures err { OnErr result ((member.new ≡ member.old) × (out.new ≡ [])
+        × (trace.new.items ≡ trace.old.items)) }
+{
+    match member.leave(out) {
+        Ok(receipt) => {
+            note(trace, event, Outcome::Left(receipt));
+            Ok(())
+        }
+        Err(CloseFault::NotInside) => {
+            note(trace, event, Outcome::Refused(Cause::NotInside));
+            Ok(())
+        }
+        Err(CloseFault::Memory) => Err(AllocError),
+    }
+}
+
+/// Whether the event is a leaving, whose receipt takes much room.
+fn is_leaving(event: &Event) -> bool
+    ensures { result ≡ is_leaving event.now }
+{
+    matches!(event, Event::Leave(_))
+}
+
+/// The act of an event, and what joins the trace. There is room for it.
+fn do_and_note<C: Exclusion>(
+    member: &mut Member<C>,
+    sent: &[(NodeId, NodeId, Parcel<C::Msg>)],
+    event: Event,
+    out: &mut Outbox<Parcel<C::Msg>>,
+    trace: &mut Vec<Entry>,
+) -> Result<(), AllocError>
+    requires empty { out.old ≡ [] }
+    requires there { IsOfSent sent.now event }
+    requires doable { IsDoable (act_in sent.now event) member.old }
+    requires room { vec_len trace.old < vec_capacity trace.old }
+    ensures ok { OnOk result (NotesAct C.core event (act_in sent.now event)
+        member.old trace.old.items member.new out.new trace.new.items) }
+    ensures err { OnErr result ((member.new ≡ member.old) × (out.new ≡ [])
+        × (trace.new.items ≡ trace.old.items)) }
+{
+    if is_leaving(&event) {
+        leave_and_note(member, event, out, trace)
+    } else {
+        act_and_note(member, sent, event, out, trace)
+    }
+}
+
+/// The act of an event: its parcels are sent, and it joins the trace. There is room for both, and
+/// the outbox is left empty.
 fn act_and_send<C: Exclusion>(
     member: &mut Member<C>,
     node: NodeId,
-    act: Act<C::Msg>,
+    event: Event,
     out: &mut Outbox<Parcel<C::Msg>>,
     sent: &mut Vec<(NodeId, NodeId, Parcel<C::Msg>)>,
-) -> Result<Outcome, AllocError>
+    trace: &mut Vec<Entry>,
+) -> Result<(), AllocError>
     requires empty { out.old ≡ [] }
-    requires doable { IsDoable act member.old }
+    requires there { IsOfSent sent.old.items event }
+    requires doable { IsDoable (act_in sent.old.items event) member.old }
     requires room { vec_len sent.old + 32 ≤ vec_capacity sent.old }
-    ensures state { IfOk result (λ outcome. member.new ≡ (answer_of C.core act member.old).state) }
-    ensures outcome { IfOk result (λ outcome. outcome ≡ (answer_of C.core act member.old).answer) }
-    ensures sent { IfOk result (λ outcome. sent.new.items
-        ≡ sent.old.items ++ sent_by node (answer_of C.core act member.old).letters) }
+    requires item { vec_len trace.old < vec_capacity trace.old }
+    ensures state { OnOk result (member.new
+        ≡ (answer_of C.core (act_in sent.old.items event) member.old).state) }
+    ensures sent { OnOk result (sent.new.items ≡ sent.old.items
+        ++ sent_by node (answer_of C.core (act_in sent.old.items event) member.old).letters) }
+    ensures noted { OnOk result (trace.new.items ≡ trace.old.items ++ (record {
+      event = event;
+      outcome = (answer_of C.core (act_in sent.old.items event) member.old).answer;
+    }) ∷ []) }
     ensures same { OnErr result (member.new ≡ member.old) }
     ensures unsent { OnErr result (sent.new.items ≡ sent.old.items) }
+    ensures unnoted { OnErr result (trace.new.items ≡ trace.old.items) }
     ensures out { out.new ≡ [] }
 {
-    let answer = perform(member, act, out)?;
-    let outcome = outcome_from(answer, out.len() as u64);
+    do_and_note(member, sent, event, out, trace)?;
     send_all(sent, node, out.as_slice());
     out.clear();
-    Ok(outcome)
+    Ok(())
 }
 
 /// Adds an item to the trace. There is room for it.
-fn note(trace: &mut Vec<Entry>, event: Event, outcome: &Outcome)
+#[inline(always)]
+fn note(trace: &mut Vec<Entry>, event: Event, outcome: Outcome)
     requires { vec_len trace.old < vec_capacity trace.old }
-    ensures { trace.new.items ≡ trace.old.items ++ (record { event = event; outcome = outcome.now }) ∷ [] }
+    ensures { trace.new.items ≡ trace.old.items ++ (record { event = event; outcome = outcome }) ∷ [] }
 {
-    let outcome = outcome.copy();
     trace.push_reserved(Entry { event, outcome });
 }
 
 /// One event. Memory is asked for before anything changes.
+pub(crate) fn advance<C: Exclusion>(
+    members: &mut Vec<Member<C>>,
+    sent: &mut Vec<(NodeId, NodeId, Parcel<C::Msg>)>,
+    trace: &mut Vec<Entry>,
+    out: &mut Outbox<Parcel<C::Msg>>,
+    event: Event,
+) -> Result<(), StepFault>
+    requires empty { out.old ≡ [] }
+    requires doable { IsDoableAt (cluster_state_of members.old sent.old trace.old) event }
+    ensures out { out.new ≡ [] }
+    ensures ok { OnOk result (step_of C.core (cluster_state_of members.old sent.old trace.old) event ≡ Ok (cluster_state_of members.new sent.new trace.new)) }
+    ensures noted { OnOk result (Notes event trace.old.items trace.new.items) }
+    ensures fault { IfErr result (IsFaultOf (step_of C.core (cluster_state_of members.old sent.old trace.old) event)) }
+    ensures err { OnErr result (cluster_state_of members.new sent.new trace.new ≡ cluster_state_of members.old sent.old trace.old) }
+{
+    let nodes = members.as_slice().len();
+    let node = node_of(nodes, sent, &event)?;
+    let index = node.get() as usize;
+    if index >= nodes {
+        return Err(StepFault::NoNode);
+    }
+    sent.reserve(OUTBOX_ROOM)?;
+    trace.reserve(1)?;
+    act_and_send(&mut members[index], node, event, out, sent, trace)?;
+    Ok(())
+}
+
+/// One event, and its outcome.
 pub(crate) fn happen<C: Exclusion>(
     members: &mut Vec<Member<C>>,
     sent: &mut Vec<(NodeId, NodeId, Parcel<C::Msg>)>,
@@ -142,15 +351,14 @@ pub(crate) fn happen<C: Exclusion>(
     ensures fault { IfErr result (IsFaultOf (step_of C.core (cluster_state_of members.old sent.old trace.old) event)) }
     ensures err { OnErr result (cluster_state_of members.new sent.new trace.new ≡ cluster_state_of members.old sent.old trace.old) }
 {
-    let nodes = members.as_slice().len();
-    let (node, act) = part_at(nodes, sent, &event)?;
-    let index = node.get() as usize;
-    if index >= nodes {
-        return Err(StepFault::NoNode);
-    }
-    sent.reserve(OUTBOX_ROOM)?;
-    trace.reserve(1)?;
-    let outcome = act_and_send(&mut members[index], node, act, out, sent)?;
-    note(trace, event, &outcome);
-    Ok(outcome)
+    advance(members, sent, trace, out, event)?;
+    Ok(newest(trace))
+}
+
+/// The outcome of the newest item.
+fn newest(trace: &[Entry]) -> Outcome
+    requires { 0 < length trace.now }
+    ensures { (front : List Entry) (entry : Entry) → trace.now ≡ front ++ entry ∷ [] → result ≡ entry.outcome }
+{
+    trace[trace.len() - 1].outcome.copy()
 }

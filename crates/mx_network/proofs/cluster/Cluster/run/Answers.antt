@@ -17,9 +17,9 @@ loop-index-init g c = rw (← c.self.view_is) (record {
 
 pub loop-index-preserved : goal.loop-index-preserved
 loop-index-preserved g c = record {
-  runs = subst (λ (es : List Event). RunsTo g.C.Exclusion.core c.args.self.now es c.step.new.self)
+  runs = subst (λ (es : List Event). RunsTo g.C.Exclusion.core c.args.self.now es c.advance.new.self)
       (sym (take_more c.args.events.now c.loop-index.index c.index-events-index.result c.loop-index-test.true ∙ ap (λ (x : Event). take c.loop-index.index c.args.events.now ++ x ∷ []) (sym c.index-events-index.is)))
-      (RunsTo-snoc g.C.Exclusion.core c.args.self.now c.loop-index.self c.step.new.self (take c.loop-index.index c.args.events.now) c.index-events-index.result c.loop-index.invariant.runs c.in_default.ensures.ok);
+      (RunsTo-snoc g.C.Exclusion.core c.args.self.now c.loop-index.self c.advance.new.self (take c.loop-index.index c.args.events.now) c.index-events-index.result c.loop-index.invariant.runs c.in_default.ensures.ok);
   exclusive = c.in_default.ensures.exclusive;
   numbered = c.in_default.ensures.numbered;
   serial = c.in_default.ensures.serial;
@@ -27,7 +27,7 @@ loop-index-preserved g c = record {
 
 pub returns-in-Err-clause-fault : goal.returns-in-Err-clause-fault
 returns-in-Err-clause-fault g c =
-    subst (λ (o : Option Event). IfSome o (λ e. IsFaultOf (step_of g.C.Exclusion.core c.step.new.self e) c.in-Err.fault))
+    subst (λ (o : Option Event). IfSome o (λ e. IsFaultOf (step_of g.C.Exclusion.core c.advance.new.self e) c.in-Err.fault))
     (sym (at_place c.args.events.now c.loop-index.index c.index-events-index.result c.loop-index-test.true c.index-events-index.is))
     (subst (λ (s : ClusterState g.row.C.Denot g.row.C-Msg.Denot). IsFaultOf (step_of g.C.Exclusion.core s c.index-events-index.result) c.in-Err.fault) (sym c.in-Err.ensures.err) c.in-Err.ensures.fault)
 

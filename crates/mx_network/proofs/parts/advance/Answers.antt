@@ -1,0 +1,97 @@
+use Rattle.std.proofs.Common.{rules, ℕ, arith, ◌≡◌, List, [], ◌∷◌, ◌++◌, Ok, length, refl, sym, subst, ap, ◌∙◌, slice_get}
+use Rattle.mx_nodelaws.specs.World.{sent_by}
+use Rattle.mx_member.specs.declared.parcel.Parcel.{Parcel}
+use Rattle.mx_member.specs.Acts.{IsDoable}
+use Rattle.mx_network.specs.declared.outcome.Entry.{Entry}
+use Rattle.mx_network.specs.Step.{act_in, answer_of, cluster_state_of, IsOfSent}
+use Rattle.mx_network.proofs.EventParts.{was_sent}
+use Rattle.mx_network.proofs.Happening.{at_err, at_place, gone, grown_parts, memory_alone, memory_told, part_is, unchanged}
+use Rattle.mx_network.proofs.parts.advance.Given.{Over}
+use Rattle.mx_network.proofs.parts.advance.Goals as goal
+
+pub returns-then-index-nodes-clause-fault : goal.returns-then-index-nodes-clause-fault
+returns-then-index-nodes-clause-fault g c =
+    gone g.C.Exclusion.core (cluster_state_of c.args.members.now c.args.sent.now c.args.trace.now) c.args.event (c.in_ok-node.node, act_in c.args.sent.now.items c.args.event)
+    (part_is _ _ _ _ _ _ (ap length c.as_slice-nodes.ensures.value) c.deref.ensures.value c.in_ok-node.ensures.ok)
+    (let t = c.if-index-nodes.true in let l = ap length c.as_slice-nodes.ensures.value in let i = c.get-index.ensures.value in omega arith)
+
+pub returns-in_err-reserve-clause-fault : goal.returns-in_err-reserve-clause-fault
+returns-in_err-reserve-clause-fault g c =
+    memory_told _ _ c.from_residual-in_err-reserve.ensures.1
+    (memory_alone g.C.Exclusion.core (cluster_state_of c.args.members.now c.args.sent.now c.args.trace.now) c.args.event (c.in_ok-node.node, act_in c.args.sent.now.items c.args.event)
+    (part_is _ _ _ _ _ _ (ap length c.as_slice-nodes.ensures.value) c.deref.ensures.value c.in_ok-node.ensures.ok)
+    (let t = c.if-index-nodes.false in let l = ap length c.as_slice-nodes.ensures.value in let i = c.get-index.ensures.value in omega arith))
+
+pub returns-in_err-reserve-2-clause-fault : goal.returns-in_err-reserve-2-clause-fault
+returns-in_err-reserve-2-clause-fault g c =
+    memory_told _ _ c.from_residual-in_err-reserve-2.ensures.1
+    (memory_alone g.C.Exclusion.core (cluster_state_of c.args.members.now c.args.sent.now c.args.trace.now) c.args.event (c.in_ok-node.node, act_in c.args.sent.now.items c.args.event)
+    (part_is _ _ _ _ _ _ (ap length c.as_slice-nodes.ensures.value) c.deref.ensures.value c.in_ok-node.ensures.ok)
+    (let t = c.if-index-nodes.false in let l = ap length c.as_slice-nodes.ensures.value in let i = c.get-index.ensures.value in omega arith))
+
+pub act_and_send-requires : goal.act_and_send-requires
+act_and_send-requires g c =
+    let at = at_place c.args.members.now.items c.get-index.result c.index_mut.result.now (let t = c.if-index-nodes.false in let l = ap length c.as_slice-nodes.ensures.value in omega arith) c.index_mut.ensures.value in
+    let part = part_is _ _ _ _ _ _ (ap length c.as_slice-nodes.ensures.value) c.deref.ensures.value c.in_ok-node.ensures.ok in
+    let there = was_sent (length c.args.members.now.items) c.args.sent.now.items c.args.event (c.in_ok-node.node, act_in c.args.sent.now.items c.args.event) part in
+    let doable = c.requires.doable (c.in_ok-node.node, act_in c.args.sent.now.items c.args.event) c.index_mut.result.now part (ap (λ k. slice_get c.args.members.now.items k) (sym c.get-index.ensures.value) ∙ at) in (
+      search rules,
+      (
+        -- an outbox has a size
+        c.requires-raw.1.1.1.1.0,
+        (
+          c.requires.empty,
+          (
+            subst (λ (l : List (ℕ × ℕ × Parcel g.row.C-Msg.Denot)). IsOfSent l c.args.event) (sym c.in_ok-reserve.ensures.items) there,
+            (
+              subst (λ (l : List (ℕ × ℕ × Parcel g.row.C-Msg.Denot)). IsDoable (act_in l c.args.event) c.index_mut.result.now) (sym c.in_ok-reserve.ensures.items) doable,
+              (
+                (let k = c.in_ok-reserve.ensures.ok in let l = c.in_ok-reserve.ensures.len in omega arith),
+                (let k = c.in_ok-reserve-2.ensures.ok in let l = c.in_ok-reserve-2.ensures.len in omega arith),
+              ),
+            ),
+          ),
+        ),
+      ),
+    )
+
+pub returns-in_err-act_and_send-clause-fault : goal.returns-in_err-act_and_send-clause-fault
+returns-in_err-act_and_send-clause-fault g c =
+    memory_told _ _ c.from_residual-in_err-act_and_send.ensures.1
+    (memory_alone g.C.Exclusion.core (cluster_state_of c.args.members.now c.args.sent.now c.args.trace.now) c.args.event (c.in_ok-node.node, act_in c.args.sent.now.items c.args.event)
+    (part_is _ _ _ _ _ _ (ap length c.as_slice-nodes.ensures.value) c.deref.ensures.value c.in_ok-node.ensures.ok)
+    (let t = c.if-index-nodes.false in let l = ap length c.as_slice-nodes.ensures.value in let i = c.get-index.ensures.value in omega arith))
+
+pub returns-in_err-act_and_send-clause-err : goal.returns-in_err-act_and_send-clause-err
+returns-in_err-act_and_send-clause-err g c =
+    let at = at_place c.args.members.now.items c.get-index.result c.index_mut.result.now (let t = c.if-index-nodes.false in let l = ap length c.as_slice-nodes.ensures.value in omega arith) c.index_mut.ensures.value in
+    let e = c.in_err-act_and_send.ensures in
+    at_err _ _ (unchanged c.args.members.now.items c.args.sent.now.items c.act_and_send.new.sent.items c.args.trace.now.items c.act_and_send.new.trace.items c.get-index.result c.index_mut.result.now c.act_and_send.new.member
+    at e.same (e.unsent ∙ c.in_ok-reserve.ensures.items) (e.unnoted ∙ c.in_ok-reserve-2.ensures.items))
+
+-- what joins the trace is the act's outcome
+noted : (g : Over) (c : goal.In_ok-act_and_send g) → c.act_and_send.new.trace.items ≡ c.args.trace.now.items ++ record { event = c.args.event; outcome = (answer_of g.C.Exclusion.core (act_in c.args.sent.now.items c.args.event) c.index_mut.result.now).answer } ∷ []
+noted g c =
+    c.in_ok-act_and_send.ensures.noted
+    ∙ ap (λ (l : List Entry). l ++ record { event = c.args.event; outcome = (answer_of g.C.Exclusion.core (act_in c.reserve.new.self.items c.args.event) c.index_mut.result.now).answer } ∷ []) c.in_ok-reserve-2.ensures.items
+    ∙ ap (λ (l : List (ℕ × ℕ × Parcel g.row.C-Msg.Denot)). c.args.trace.now.items ++ record { event = c.args.event; outcome = (answer_of g.C.Exclusion.core (act_in l c.args.event) c.index_mut.result.now).answer } ∷ []) c.in_ok-reserve.ensures.items
+
+pub returns-clause-noted : goal.returns-clause-noted
+returns-clause-noted g c = ((answer_of g.C.Exclusion.core (act_in c.args.sent.now.items c.args.event) c.index_mut.result.now).answer, noted g c)
+
+pub returns-clause-ok : goal.returns-clause-ok
+returns-clause-ok g c =
+    let core = g.C.Exclusion.core in
+    let a = act_in c.args.sent.now.items c.args.event in
+    let m = c.index_mut.result.now in
+    let at = at_place c.args.members.now.items c.get-index.result c.index_mut.result.now (let t = c.if-index-nodes.false in let l = ap length c.as_slice-nodes.ensures.value in omega arith) c.index_mut.ensures.value in
+    let part = part_is _ _ _ _ _ _ (ap length c.as_slice-nodes.ensures.value) c.deref.ensures.value c.in_ok-node.ensures.ok in
+    let e = c.in_ok-act_and_send.ensures in
+    let same = c.in_ok-reserve.ensures.items in
+    grown_parts core (cluster_state_of c.args.members.now c.args.sent.now c.args.trace.now) c.args.event (c.get-index.result, a)
+    (part ∙ ap (λ (n : ℕ). Ok (n, a)) (sym c.get-index.ensures.value))
+    m c.act_and_send.new.member (answer_of core a m).answer c.act_and_send.new.sent.items c.act_and_send.new.trace.items
+    at (e.state ∙ ap (λ (l : List (ℕ × ℕ × Parcel g.row.C-Msg.Denot)). (answer_of core (act_in l c.args.event) m).state) same) refl
+    (e.sent ∙ ap (λ (l : List (ℕ × ℕ × Parcel g.row.C-Msg.Denot)). l ++ sent_by c.in_ok-node.node (answer_of core (act_in l c.args.event) m).letters) same
+    ∙ ap (λ (n : ℕ). c.args.sent.now.items ++ sent_by n (answer_of core a m).letters) (sym c.get-index.ensures.value))
+    (noted g c)
