@@ -17,7 +17,7 @@ use Rattle.mx_member.specs.Acts.{Arrives, Grows, IsDoable, act_of}
 use Rattle.mx_member.specs.Sections.{Section, after_marks, section_journal, told}
 use Rattle.mx_member.specs.Serial.{AllFit}
 use Rattle.mx_member.specs.World.{IsMember, IsSound}
-use Rattle.mx_member.proofs.CallsKept.{Keeps, ask_kept, enter_kept, leave_kept, read_kept, take_kept, tick_kept, want_kept, write_kept}
+use Rattle.mx_member.proofs.CallsKept.{Keeps, ask_kept, cancel_kept, enter_kept, leave_kept, read_kept, take_kept, tick_kept, want_kept, write_kept}
 use Rattle.mx_member.proofs.DraftSteps.{wake_sound}
 use Rattle.mx_member.proofs.Moments.{Moment}
 use Rattle.mx_member.proofs.SectionLists.{submap_numbered, submaps_agree}
@@ -40,6 +40,7 @@ module _ {H S M : Type 0} (core : Core H S M) (IsShape : H → Type 0) (Good : W
       by (act.Read register) arrives grows = read_kept core IsShape Good phases laws w register grown (core.phase m.core) refl grows
       by (act.Write register value) arrives grows = write_kept core IsShape Good phases laws w register value grown (core.phase m.core) refl grows
       by act.Leave arrives grows = leave_kept core IsShape Good phases laws w grown (core.phase m.core) refl grows
+      by act.Cancel arrives grows = cancel_kept core IsShape Good phases laws w grown grows
       by act.Tick arrives grows = tick_kept core IsShape Good phases laws w grown grows
       by (act.Want to) arrives grows = want_kept core IsShape Good phases laws w to (take 8 (gaps_of m.setting.limit m.journal)) grown arrives grows
       by (act.Deliver from parcel) arrives grows = take_kept core IsShape Good phases laws w from parcel grown arrives grows
@@ -64,6 +65,7 @@ doable core Good ss members sent i act.Enter m sound at arrives = tt
 doable core Good ss members sent i (act.Read register) m sound at arrives = tt
 doable core Good ss members sent i (act.Write register value) m sound at arrives = tt
 doable core Good ss members sent i act.Leave m sound at arrives = tt
+doable core Good ss members sent i act.Cancel m sound at arrives = tt
 doable core Good ss members sent i act.Tick m sound at arrives = tt
 doable core Good ss members sent i (act.Want to) m sound at arrives = tt
 doable core Good ss members sent i (act.Deliver from parcel) m sound at arrives = taken core Good ss members sent i from parcel m sound at arrives

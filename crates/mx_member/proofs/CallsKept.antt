@@ -9,6 +9,7 @@ use Rattle.mx_nodelaws.specs.Laws.{KeepsGood}
 use Rattle.mx_nodelaws.specs.declared.phase.Phase.{Phase}
 use Rattle.mx_nodelaws.specs.declared.phase.Phase.TheVariants.{Idle, Waiting, Inside}
 use Rattle.mx_nodelaws.specs.declared.faults.AskFault.{AskFault}
+use Rattle.mx_nodelaws.specs.declared.faults.CancelFault.{CancelFault}
 use Rattle.mx_nodelaws.specs.declared.faults.EnterFault.{EnterFault}
 use Rattle.mx_journal.specs.declared.records.Record.{Record}
 use Rattle.mx_journal.specs.declared.ranges.Range.{Range}
@@ -54,6 +55,19 @@ module _ {H S M : Type 0} (core : Core H S M) (IsShape : H → Type 0) (Good : W
     core_sound core IsShape Good phases laws w (core.ask w.member.core) grown
         (laws.after_ask (part_of w) w.node w.member.core w.sound.good (core_here w))
         (phases.ask_mine w.member.core) (ask_phase w.member.core (core.ask w.member.core).answer refl) grows,
+  )
+
+  cancel_phase : (s : S) (r : Result (Unit {0}) CancelFault) → (core.cancel s).answer ≡ r → (n : ℕ) → (core.phase (core.cancel s).state ≡ Inside n) ↔ (core.phase s ≡ Inside n)
+  cancel_phase s (Ok done) is n =
+      let p = phases.cancel_ok s is in (λ h. absurd (idle_apart n (sym p.1 ∙ h)), λ h. absurd (waiting_apart n (sym p.0 ∙ h)))
+  cancel_phase s (Err fault) is n = let e = ap core.phase (phases.cancel_err s fault is).0 in (λ h. sym e ∙ h, λ h. e ∙ h)
+
+  pub cancel_kept : (w : Moment core Good) (grown : List (ℕ × ℕ × Parcel M)) → GrowsBy w (guarded (core.cancel w.member.core).letters) grown → Keeps w [] (with_core (core.cancel w.member.core).state w.member) grown
+  cancel_kept w grown grows = (
+    tt,
+    core_sound core IsShape Good phases laws w (core.cancel w.member.core) grown
+        (laws.after_cancel (part_of w) w.node w.member.core w.sound.good (core_here w))
+        (phases.cancel_mine w.member.core) (cancel_phase w.member.core (core.cancel w.member.core).answer refl) grows,
   )
 
   pub tick_kept : (w : Moment core Good) (grown : List (ℕ × ℕ × Parcel M)) → GrowsBy w (guarded (core.tick w.member.core).letters) grown → Keeps w [] (with_core (core.tick w.member.core).state w.member) grown

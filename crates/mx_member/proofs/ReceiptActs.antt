@@ -57,6 +57,7 @@ module _ {H S M : Type 0} (core : Core H S M) where
   tells_receipts i (act.Read register) m = read_tells M i register (read_at core register m (core.phase m.core)).answer
   tells_receipts i (act.Write register value) m = write_tells M i register value (write_at core register value m (core.phase m.core)).answer
   tells_receipts i act.Leave m = leave_tells M i (leave_at core m (core.phase m.core)).answer
+  tells_receipts i act.Cancel m = refl
   tells_receipts i act.Tick m = refl
   tells_receipts i (act.Want to) m = refl
   tells_receipts i (act.Deliver from parcel) m = refl
@@ -75,6 +76,7 @@ module _ {H S M : Type 0} (core : Core H S M) where
   closed_here (act.Read register) m r h = absurd h
   closed_here (act.Write register value) m r h = absurd h
   closed_here act.Leave m r h = left_by m (core.phase m.core) r h
+  closed_here act.Cancel m r h = absurd h
   closed_here act.Tick m r h = absurd h
   closed_here (act.Want to) m r h = absurd h
   closed_here (act.Deliver from parcel) m r h = absurd h
@@ -124,6 +126,7 @@ module _ {H S M : Type 0} (core : Core H S M) where
   journal_grows (act.Read register) m x h = read_grows register m (core.phase m.core) x h
   journal_grows (act.Write register value) m x h = write_grows register value m (core.phase m.core) x h
   journal_grows act.Leave m x h = leave_grows m (core.phase m.core) x h
+  journal_grows act.Cancel m x h = h
   journal_grows act.Tick m x h = h
   journal_grows (act.Want to) m x h = h
   journal_grows (act.Deliver from parcel) m x h = take_grows from parcel m x h
@@ -152,6 +155,7 @@ module _ {H S M : Type 0} (core : Core H S M) (Good : World S M → Type 0) (ss 
   closed_recorded (act.Read register) r h = absurd h
   closed_recorded (act.Write register value) r h = absurd h
   closed_recorded act.Leave r h = left_recorded (core.phase m.core) refl r h
+  closed_recorded act.Cancel r h = absurd h
   closed_recorded act.Tick r h = absurd h
   closed_recorded (act.Want to) r h = absurd h
   closed_recorded (act.Deliver from parcel) r h = absurd h

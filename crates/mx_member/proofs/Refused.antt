@@ -9,6 +9,7 @@ use Rattle.mx_nodelaws.specs.Core.{Core, KeepsPhases}
 use Rattle.mx_nodelaws.specs.declared.phase.Phase.{Phase}
 use Rattle.mx_nodelaws.specs.declared.phase.Phase.TheVariants.{Idle, Waiting, Inside}
 use Rattle.mx_nodelaws.specs.declared.faults.AskFault.{AskFault}
+use Rattle.mx_nodelaws.specs.declared.faults.CancelFault.{CancelFault}
 use Rattle.mx_nodelaws.specs.declared.faults.EnterFault.{EnterFault}
 use Rattle.mx_member.specs.declared.acts.Act.{Act}
 use Rattle.mx_member.specs.declared.acts.Act.TheVariants as act
@@ -18,7 +19,7 @@ use Rattle.mx_member.specs.declared.faults.WriteFault.{WriteFault}
 use Rattle.mx_member.specs.declared.parcel.Parcel.{Parcel}
 use Rattle.mx_member.specs.Acts.{IsRefusal, act_of}
 use Rattle.mx_member.specs.Member.{MemberState, guarded, with_core, with_draft}
-use Rattle.mx_member.specs.Steps.{ask_of, enter_of, entered, leave_at, read_at, read_inside, read_of, shown_inside, write_at, write_inside, write_of}
+use Rattle.mx_member.specs.Steps.{ask_of, cancel_of, enter_of, entered, leave_at, read_at, read_inside, read_of, shown_inside, write_at, write_inside, write_of}
 
 ok_no_err : {A F : Type 0} (x : A) (f : F) → ◌≡◌ {A = Result A F} (Ok x) (Err f) → ⊥
 ok_no_err x f e = cc
@@ -50,6 +51,10 @@ module _ {H S M : Type 0} (core : Core H S M) (phases : KeepsPhases core) (m : M
   asked (Ok stamp) was refusal = absurd refusal
   asked (Err f) was refusal = let same = phases.ask_err m.core f was in (ap (λ s. with_core s m) same.0, ap guarded same.1)
 
+  cancelled : (r : Result (Unit {0}) CancelFault) → (core.cancel m.core).answer ≡ r → IsRefusal (answer.Cancelled r) → Stays (cancel_of core m)
+  cancelled (Ok done) was refusal = absurd refusal
+  cancelled (Err f) was refusal = let same = phases.cancel_err m.core f was in (ap (λ s. with_core s m) same.0, ap guarded same.1)
+
   came : (r : Result ℕ EnterFault) → (core.enter m.core).answer ≡ r → IsRefusal (answer.Entered r) → (enter_of core m).state ≡ m
   came (Ok n) was refusal = absurd refusal
   came (Err f) was refusal =
@@ -79,4 +84,5 @@ module _ {H S M : Type 0} (core : Core H S M) (phases : KeepsPhases core) (m : M
   refused_stays (act.Read register) refusal = (got register (core.phase m.core) (read_of core register m).answer refl refusal, refl)
   refused_stays (act.Write register value) refusal = (wrote register value (core.phase m.core) (write_of core register value m).answer refl refusal, refl)
   refused_stays act.Leave refusal = went (core.phase m.core) refusal
+  refused_stays act.Cancel refusal = cancelled (core.cancel m.core).answer refl refusal
   refused_stays _ refusal = absurd refusal

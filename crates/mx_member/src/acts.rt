@@ -8,7 +8,7 @@ use crate::member::Member;
 use crate::parcel::Parcel;
 use mx_journal::Receipt;
 use mx_letters::Outbox;
-use mx_nodelaws::{AskFault, EnterFault, Exclusion, LeaveFault};
+use mx_nodelaws::{AskFault, CancelFault, EnterFault, Exclusion, LeaveFault};
 use mx_stamps::{NodeId, Stamp};
 use std::alloc::AllocError;
 
@@ -22,6 +22,8 @@ pub enum Act<M> {
     /// The register, and the value.
     Write(u8, u64),
     Leave,
+    /// A waiting node gives its request up.
+    Cancel,
     Tick,
     /// The node that is asked for the records that are missing.
     Want(NodeId),
@@ -38,6 +40,7 @@ pub enum Answer {
     Read(Result<u64, ReadFault>),
     Written(Result<(), WriteFault>),
     Left(Result<Receipt, LeaveFault>),
+    Cancelled(Result<(), CancelFault>),
     Ticked,
     Wanted,
     Delivered,
@@ -70,6 +73,7 @@ pub fn perform<C: Exclusion>(
             Err(CloseFault::NotInside) => Ok(Answer::Left(Err(LeaveFault::NotInside))),
             Err(CloseFault::Memory) => Err(AllocError),
         },
+        Act::Cancel => Ok(Answer::Cancelled(member.cancel(out))),
         Act::Tick => {
             member.tick(out);
             Ok(Answer::Ticked)

@@ -52,6 +52,7 @@ arrives {M} nodes sent (event.Enter i) p is = subst (λ (x : ℕ × Act M). Arri
 arrives {M} nodes sent (event.Read i register) p is = subst (λ (x : ℕ × Act M). Arrives nodes sent x.0 x.1) (same_Ok (i, act.Read register) p is) tt
 arrives {M} nodes sent (event.Write i register value) p is = subst (λ (x : ℕ × Act M). Arrives nodes sent x.0 x.1) (same_Ok (i, act.Write register value) p is) tt
 arrives {M} nodes sent (event.Leave i) p is = subst (λ (x : ℕ × Act M). Arrives nodes sent x.0 x.1) (same_Ok (i, act.Leave) p is) tt
+arrives {M} nodes sent (event.Cancel i) p is = subst (λ (x : ℕ × Act M). Arrives nodes sent x.0 x.1) (same_Ok (i, act.Cancel) p is) tt
 arrives {M} nodes sent (event.Tick i) p is = subst (λ (x : ℕ × Act M). Arrives nodes sent x.0 x.1) (same_Ok (i, act.Tick) p is) tt
 arrives {M} nodes sent (event.Want i j) p is = let w = wanted nodes i j p is in subst (λ (x : ℕ × Act M). Arrives nodes sent x.0 x.1) w.1 w.0
 arrives nodes sent (event.Deliver k) p is = delivered nodes k sent p (slice_get sent k) refl is
@@ -74,6 +75,7 @@ module _ {H S M : Type 0} (core : Core H S M) (m : MemberState S) where
   tells nodes sent (event.Write i register value) p is =
       subst (Tells (event.Write i register value)) (same_Ok (i, act.Write register value) p is) (writing M i (length (act_of core (act.Write register value) m).letters) register value (write_of core register value m).answer)
   tells nodes sent (event.Leave i) p is = subst (Tells (event.Leave i)) (same_Ok (i, act.Leave) p is) (leaving M i (length (act_of core act.Leave m).letters) (leave_of core m).answer)
+  tells nodes sent (event.Cancel i) p is = subst (Tells (event.Cancel i)) (same_Ok (i, act.Cancel) p is) refl
   tells nodes sent (event.Tick i) p is = subst (Tells (event.Tick i)) (same_Ok (i, act.Tick) p is) refl
   tells nodes sent (event.Want i j) p is = subst (Tells (event.Want i j)) (wanted nodes i j p is).1 refl
   tells nodes sent (event.Deliver k) p is = delivery_tells k p (slice_get sent k) is

@@ -27,6 +27,7 @@ refusal (answer.Entered (Err fault)) k cause e = tt
 refusal (answer.Read (Err fault)) k cause e = tt
 refusal (answer.Written (Err fault)) k cause e = tt
 refusal (answer.Left (Err fault)) k cause e = tt
+refusal (answer.Cancelled (Err fault)) k cause e = tt
 refusal _ k cause e = cc
 
 -- the items that make two lists longer are the same

@@ -1,6 +1,7 @@
 -- The outcome that a member's answer stands for.
 use Rattle.std.specs.Prelude.{ℕ, Ok, Err}
 use Rattle.mx_nodelaws.specs.declared.faults.AskFault.TheVariants as ask
+use Rattle.mx_nodelaws.specs.declared.faults.CancelFault.TheVariants as cancel
 use Rattle.mx_nodelaws.specs.declared.faults.EnterFault.TheVariants as enter
 use Rattle.mx_nodelaws.specs.declared.faults.LeaveFault.TheVariants as leave
 use Rattle.mx_member.specs.declared.acts.Answer.{Answer}
@@ -8,7 +9,7 @@ use Rattle.mx_member.specs.declared.acts.Answer.TheVariants as answer
 use Rattle.mx_member.specs.declared.faults.ReadFault.TheVariants as read
 use Rattle.mx_member.specs.declared.faults.WriteFault.TheVariants as write
 use Rattle.mx_network.specs.declared.outcome.Outcome.{Outcome}
-use Rattle.mx_network.specs.declared.outcome.Outcome.TheVariants.{Asked, Entered, Value, Written, Left, Sent, Delivered, Woken, Refused}
+use Rattle.mx_network.specs.declared.outcome.Outcome.TheVariants.{Asked, Entered, Value, Written, Left, Cancelled, Sent, Delivered, Woken, Refused}
 use Rattle.mx_network.specs.declared.outcome.Cause.TheVariants as cause
 use Rattle.mx_network.specs.declared.outcome.Brief.{Brief}
 use Rattle.mx_network.specs.declared.outcome.Brief.TheVariants as brief
@@ -33,6 +34,8 @@ outcome_of (answer.Written (Err write.NoRegister)) sent = Refused cause.NoRegist
 outcome_of (answer.Written (Err write.Full)) sent = Refused cause.Full
 outcome_of (answer.Left (Ok receipt)) sent = Left receipt
 outcome_of (answer.Left (Err leave.NotInside)) sent = Refused cause.NotInside
+outcome_of (answer.Cancelled (Ok done)) sent = Cancelled
+outcome_of (answer.Cancelled (Err cancel.NotWaiting)) sent = Refused cause.NotWaiting
 outcome_of answer.Ticked sent = Sent sent
 outcome_of answer.Wanted sent = Sent sent
 outcome_of answer.Delivered sent = Delivered
@@ -44,6 +47,7 @@ answer_by (brief.Asked asked) = answer.Asked asked
 answer_by (brief.Entered entered) = answer.Entered entered
 answer_by (brief.Read value) = answer.Read value
 answer_by (brief.Written done) = answer.Written done
+answer_by (brief.Cancelled done) = answer.Cancelled done
 answer_by brief.Ticked = answer.Ticked
 answer_by brief.Wanted = answer.Wanted
 answer_by brief.Delivered = answer.Delivered

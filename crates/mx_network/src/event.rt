@@ -13,6 +13,8 @@ pub enum Event {
     /// The node writes a value to a register.
     Write(NodeId, u8, u64),
     Leave(NodeId),
+    /// The waiting node gives its request up.
+    Cancel(NodeId),
     /// The node sends again what is outstanding.
     Tick(NodeId),
     /// The first node asks the second for the records that it lacks.

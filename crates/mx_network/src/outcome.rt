@@ -6,7 +6,7 @@ ghost use Rattle.mx_network.specs.Outcome.{answer_by, outcome_of};
 use crate::event::Event;
 use mx_journal::Receipt;
 use mx_member::{ReadFault, WriteFault};
-use mx_nodelaws::{AskFault, EnterFault};
+use mx_nodelaws::{AskFault, CancelFault, EnterFault};
 use mx_stamps::Stamp;
 
 /// Why a node refused.
@@ -37,6 +37,7 @@ pub enum Outcome {
     Written,
     /// The reads and the writes of the section.
     Left(Receipt),
+    Cancelled,
     /// How many parcels were sent.
     Sent(u64),
     Delivered,
@@ -56,6 +57,7 @@ impl Outcome {
             Outcome::Value(value) => Outcome::Value(*value),
             Outcome::Written => Outcome::Written,
             Outcome::Left(receipt) => Outcome::Left(receipt.copy()),
+            Outcome::Cancelled => Outcome::Cancelled,
             Outcome::Sent(count) => Outcome::Sent(*count),
             Outcome::Delivered => Outcome::Delivered,
             Outcome::Woken => Outcome::Woken,
@@ -77,6 +79,7 @@ pub(crate) enum Brief {
     Entered(Result<u64, EnterFault>),
     Read(Result<u64, ReadFault>),
     Written(Result<(), WriteFault>),
+    Cancelled(Result<(), CancelFault>),
     Ticked,
     Wanted,
     Delivered,
@@ -105,6 +108,8 @@ pub(crate) fn outcome_from(brief: Brief, sent: u64) -> Outcome
         Brief::Written(Err(WriteFault::NotInside)) => Outcome::Refused(Cause::NotInside),
         Brief::Written(Err(WriteFault::NoRegister)) => Outcome::Refused(Cause::NoRegister),
         Brief::Written(Err(WriteFault::Full)) => Outcome::Refused(Cause::Full),
+        Brief::Cancelled(Ok(())) => Outcome::Cancelled,
+        Brief::Cancelled(Err(CancelFault::NotWaiting)) => Outcome::Refused(Cause::NotWaiting),
         Brief::Ticked | Brief::Wanted => Outcome::Sent(sent),
         Brief::Delivered => Outcome::Delivered,
         Brief::Woken => Outcome::Woken,

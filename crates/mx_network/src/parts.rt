@@ -75,6 +75,7 @@ fn node_of<M: Copy>(
         | Event::Read(node, _)
         | Event::Write(node, _, _)
         | Event::Leave(node)
+        | Event::Cancel(node)
         | Event::Tick(node)
         | Event::Want(node, _)
         | Event::Restart(node) => Ok(node),
@@ -166,6 +167,7 @@ fn act<C: Exclusion>(
         Event::Enter(_) => Ok(Brief::Entered(member.enter())),
         Event::Read(_, register) => Ok(Brief::Read(member.read(register))),
         Event::Write(_, register, value) => Ok(Brief::Written(member.write(register, value))),
+        Event::Cancel(_) => Ok(Brief::Cancelled(member.cancel(out))),
         Event::Tick(_) => {
             member.tick(out);
             Ok(Brief::Ticked)
