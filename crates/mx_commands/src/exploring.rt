@@ -101,6 +101,7 @@ fn add_summary_of(
 fn happen<C: Exclusion>(cluster: &mut Cluster<C>, events: &[Event]) -> Result<(), AllocError>
     ensures { OnOk result (after_drawn C.core cluster.old events.now ≡ cluster.new) }
 {
+    cluster.make_room(events.len())?;
     for event in events {
         step(cluster, event)?;
     }

@@ -123,13 +123,13 @@ impl<C: Exclusion> Cluster<C> {
         )
     }
 
-    /// Makes room for so many events and parcels more, where there is memory for it, so that their
-    /// lists need not grow step by step. Nothing else changes.
-    pub fn make_room(&mut self, events: usize)
+    /// Makes room for so many events and parcels more, so that their lists need not grow step by
+    /// step. Nothing else changes, also where memory is refused.
+    pub fn make_room(&mut self, events: usize) -> Result<(), AllocError>
         ensures { self.new ≡ self.old }
     {
-        let _ = self.trace.reserve(events);
-        let _ = self.sent.reserve(events);
+        self.trace.reserve(events)?;
+        self.sent.reserve(events)
     }
 
     /// Does these events in order, up to the first that can't happen.
