@@ -18,15 +18,21 @@ def build():
     subprocess.run([os.path.join(ROOT, "mx"), "--help"], check=True, stdout=subprocess.DEVNULL)
 
 
-def run(words, printed, wanted=0):
-    """Seconds and megabytes of one run, which has to end with this status; its output goes to this file."""
+def measured(words, printed, wanted=0, program=PROGRAM, environment=TUNABLES):
+    """What one run was charged with; it has to end with this status, and its output goes to this file."""
     with open(printed, "w") as out:
         begun = time.monotonic()
-        child = subprocess.Popen([PROGRAM, *words], stdout=out, stderr=subprocess.DEVNULL, env=TUNABLES)
+        child = subprocess.Popen([program, *words], stdout=out, stderr=subprocess.DEVNULL, env=environment)
         _, status, usage = os.wait4(child.pid, 0)
         took = time.monotonic() - begun
     if os.waitstatus_to_exitcode(status) != wanted:
         raise SystemExit("mx %s: status %d" % (" ".join(words), os.waitstatus_to_exitcode(status)))
+    return took, usage
+
+
+def run(words, printed, wanted=0):
+    """Seconds and megabytes of one run."""
+    took, usage = measured(words, printed, wanted)
     return took, usage.ru_maxrss / 1024
 
 
