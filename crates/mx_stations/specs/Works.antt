@@ -13,6 +13,7 @@ IsWorkers register n act.Enter = Unit {0}
 IsWorkers register n (act.Read of) = of ≡ register
 IsWorkers register n (act.Write of value) = of ≡ register
 IsWorkers register n act.Leave = Unit {0}
+IsWorkers register n act.Cancel = ⊥
 IsWorkers register n act.Tick = ⊥
 IsWorkers register n (act.Want to) = to < n
 IsWorkers register n (act.Deliver from p) = ⊥

@@ -4,8 +4,8 @@
 ghost use Rattle.std.specs.Prelude.{◌≡◌, ◌<◌, ◌↔◌, Err, IfOk, Ok, OnErr, OnOk};
 ghost use Rattle.std.specs.Vec.{vec_capacity, vec_len};
 ghost use Rattle.mx_nodelaws.specs.Core.{IsInside};
-ghost use Rattle.mx_member.specs.Steps.{ask_of, enter_of, leave_of, read_of, write_of};
-ghost use Rattle.mx_member.specs.declared.acts.Act.TheVariants.{Ask, Enter, Leave, Read, Restart, Tick, Want, Write};
+ghost use Rattle.mx_member.specs.Steps.{ask_of, cancel_of, enter_of, leave_of, read_of, write_of};
+ghost use Rattle.mx_member.specs.declared.acts.Act.TheVariants.{Ask, Cancel, Enter, Leave, Read, Restart, Tick, Want, Write};
 ghost use Rattle.mx_stations.specs.Posts.{does};
 
 use crate::field::act;
@@ -13,7 +13,7 @@ use crate::station::Station;
 use crate::waiting::store_up;
 use mx_journal::Receipt;
 use mx_member::{CloseFault, ReadFault, WriteFault};
-use mx_nodelaws::{AskFault, EnterFault, Exclusion, Phase};
+use mx_nodelaws::{AskFault, CancelFault, EnterFault, Exclusion, Phase};
 use mx_stamps::{NodeId, Stamp};
 
 /// Ends an act of the member: the one store that tells it, and what it sent joins what waits. The
@@ -44,6 +44,18 @@ impl<C: Exclusion> Station<C> {
         let stamp = self.member.ask(&mut self.out)?;
         tell!(self);
         Ok(stamp)
+    }
+
+    /// Gives the request up: the node is idle again, and may ask anew.
+    pub fn cancel(&mut self) -> Result<(), CancelFault>
+        ensures answer { result ≡ (cancel_of C.core self.old.me.member).answer }
+        ensures done { OnOk result (self.new ≡ does C.core Cancel self.old) }
+        ensures refused { OnErr result (self.new ≡ self.old) }
+    {
+        self.out.clear();
+        self.member.cancel(&mut self.out)?;
+        tell!(self);
+        Ok(())
     }
 
     /// Enters the section with an empty draft, and answers its number.

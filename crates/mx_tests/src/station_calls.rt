@@ -5,7 +5,7 @@ ghost use Rattle.std.specs.Prelude.{◌≡◌, IfOk};
 use mx_letters::Fair;
 use mx_maekawa::Maekawa;
 use mx_member::ReadFault;
-use mx_nodelaws::{Exclusion, Phase};
+use mx_nodelaws::{CancelFault, Exclusion, Phase};
 use mx_quorums::Quorums;
 use mx_raymond::Raymond;
 use mx_ricart::{Count, Ricart};
@@ -141,11 +141,23 @@ fn first_section<C: Exclusion>(
     first(zero, one)
 }
 
-/// Node 1 asks, and goes through section 2.
+/// A station gives a request up, which it can do once.
+fn gives_up<C: Exclusion>(station: &mut Station<C>) -> Result<(), Fail> {
+    station.ask().map_err(|_| "ask")?;
+    station.cancel().map_err(|_| "cancel")?;
+    if station.cancel() == Err(CancelFault::NotWaiting) {
+        Ok(())
+    } else {
+        Err("given up twice")?
+    }
+}
+
+/// Node 0 gives a request up. Node 1 asks, and goes through section 2.
 fn second_section<C: Exclusion>(
     zero: &mut Station<C>,
     one: &mut Station<C>,
 ) -> Result<(u64, u64), Fail> {
+    gives_up(zero)?;
     let number = second(zero, one)?;
     wants(zero, one)?;
     let value = read_last(one)?;
