@@ -1,5 +1,5 @@
 -- The events that a JSON value lists.
-use Rattle.std.specs.Prelude.{◌&&◌, ℕ, List, [], ◌∷◌, length, nat_lt, codes, if◌then◌else◌, Option, Some, None, Result, Ok, Err}
+use Rattle.std.specs.Prelude.{◌&&◌, ℕ, List, [], ◌∷◌, length, nat_lt, codes, if◌then◌else◌, Some, Result, Ok, Err}
 use Rattle.std.specs.Option.{option_map_or}
 use Rattle.std.specs.Str.{bytes_eq}
 use Rattle.serde_json.specs.Data.{Data}
@@ -11,25 +11,7 @@ use Rattle.mx_plan.specs.declared.place.Place.TheVariants as place
 use Rattle.mx_plan.specs.declared.faults.PlanFault.{PlanFault}
 use Rattle.mx_plan.specs.declared.faults.PlanFault.TheVariants.{NotPlan}
 use Rattle.mx_network.specs.declared.event.Event.{Event}
-use Rattle.mx_network.specs.declared.event.Event.TheVariants.{Ask, Enter, Read, Write, Leave, Tick, Want, Deliver, Restart}
-use Rattle.mx_plan.specs.declared.act.Act.{Act}
-use Rattle.mx_plan.specs.declared.act.Act.TheVariants as act
-
--- the act that a word names
-abbrev pub act_of : Text → Option Act
-act_of w = if bytes_eq w (codes "ask") then Some act.Ask
-    else if bytes_eq w (codes "enter") then Some act.Enter
-    else if bytes_eq w (codes "leave") then Some act.Leave
-    else if bytes_eq w (codes "tick") then Some act.Tick
-    else if bytes_eq w (codes "restart") then Some act.Restart
-    else None
-
-abbrev pub by_node : Act → ℕ → Event
-by_node act.Ask n = Ask n
-by_node act.Enter n = Enter n
-by_node act.Leave n = Leave n
-by_node act.Tick n = Tick n
-by_node act.Restart n = Restart n
+use Rattle.mx_network.specs.declared.event.Event.TheVariants.{Ask, Enter, Read, Write, Leave, Cancel, Tick, Want, Deliver, Restart}
 
 -- the k-th event has no such form
 abbrev pub misfit : {T : Type 0} → ℕ → Result T PlanFault
@@ -48,9 +30,13 @@ module _ (p : Fields) (k : ℕ) where
   abbrev pub register_in : Data → Result ℕ PlanFault
   register_in d = number_in (place.Event k) p.registers d
 
+  -- the node of an event that has no more than its node
+  abbrev pub lone_node : Data → Result ℕ PlanFault
+  lone_node n = if is_name_value n then node_in n else misfit k
+
   -- ["ask",N] and the like
-  abbrev pub acting : Act → Data → Result Event PlanFault
-  acting a n = if is_name_value n then and_then (node_in n) (λ i. Ok (by_node a i)) else misfit k
+  abbrev pub acting : (ℕ → Event) → Data → Result Event PlanFault
+  acting make n = and_then (lone_node n) (λ i. Ok (make i))
 
   -- ["read",N,R]
   abbrev pub reading : Data → Data → Result Event PlanFault
@@ -79,7 +65,14 @@ module _ (p : Fields) (k : ℕ) where
   -- a word and what follows it
   abbrev pub with_one : Text → Data → Result Event PlanFault
   with_one w a =
-      if bytes_eq w (codes "deliver") then delivery k a else option_map_or (λ act. acting act a) (act_of w) (misfit k)
+      if bytes_eq w (codes "ask") then acting Ask a
+      else if bytes_eq w (codes "enter") then acting Enter a
+      else if bytes_eq w (codes "leave") then acting Leave a
+      else if bytes_eq w (codes "cancel") then acting Cancel a
+      else if bytes_eq w (codes "tick") then acting Tick a
+      else if bytes_eq w (codes "restart") then acting Restart a
+      else if bytes_eq w (codes "deliver") then delivery k a
+      else misfit k
 
   abbrev pub with_two : Text → Data → Data → Result Event PlanFault
   with_two w a b =

@@ -5,7 +5,6 @@ ghost use Rattle.serde_json.specs.View.{view};
 ghost use Rattle.mx_plan.specs.Values.{Gives};
 ghost use Rattle.mx_plan.specs.Events as spec;
 
-use crate::act::{Act, act_of};
 use crate::faults::PlanFault;
 use crate::name_reader::is_name_value;
 use crate::place::Place;
@@ -21,9 +20,9 @@ const MOST_EVENTS: usize = 1_000_000;
 
 /// Reads a list of at most 1,000,000 events. Each is an array of a word and of names of the plan's
 /// nodes and registers, and of whole numbers of 64 bits: `["ask",N]`, `["enter",N]`, `["read",N,R]`,
-/// `["write",N,R,V]`, `["leave",N]`, `["tick",N]`, `["want",N,M]`, `["deliver",K]` and `["restart",N]`.
-/// Each event is checked first for its form and then for its names; a longer list is refused at
-/// event 1,000,000, before its events are looked at.
+/// `["write",N,R,V]`, `["leave",N]`, `["cancel",N]`, `["tick",N]`, `["want",N,M]`, `["deliver",K]`
+/// and `["restart",N]`. Each event is checked first for its form and then for its names; a longer
+/// list is refused at event 1,000,000, before its events are looked at.
 pub fn read_events(alloc: Global, text: &[u8], plan: &Plan) -> Result<Vec<Event>, PlanFault>
     ensures { Gives (spec.events_at plan.now text.now) result }
 {
@@ -69,15 +68,21 @@ fn event_in(plan: &Plan, value: &Value, k: u64) -> Result<Event, PlanFault>
     }
 }
 
+/// What a node does alone, or a delivery. What is wrong with the node's name counts only after a word
+/// that wants one.
 fn with_one(plan: &Plan, word: &str, a: &Value, k: u64) -> Result<Event, PlanFault>
     ensures { result ≡ spec.with_one plan.now k word.now (view a.now) }
 {
-    if word == "deliver" {
-        return delivery(a, k);
-    }
-    match act_of(word) {
-        Some(act) => acting(plan, act, a, k),
-        None => Err(PlanFault::NotPlan(Place::Event(k))),
+    let node = lone_node(plan, a, k);
+    match word {
+        "ask" => Ok(Event::Ask(node?)),
+        "enter" => Ok(Event::Enter(node?)),
+        "leave" => Ok(Event::Leave(node?)),
+        "cancel" => Ok(Event::Cancel(node?)),
+        "tick" => Ok(Event::Tick(node?)),
+        "restart" => Ok(Event::Restart(node?)),
+        "deliver" => delivery(a, k),
+        _ => Err(PlanFault::NotPlan(Place::Event(k))),
     }
 }
 
@@ -120,14 +125,15 @@ fn delivery(number: &Value, k: u64) -> Result<Event, PlanFault>
     }
 }
 
-fn acting(plan: &Plan, act: Act, node: &Value, k: u64) -> Result<Event, PlanFault>
-    ensures { result ≡ spec.acting plan.now k act (view node.now) }
+/// The node of an event that has no more than its node.
+fn lone_node(plan: &Plan, name: &Value, k: u64) -> Result<NodeId, PlanFault>
+    ensures { result ≡ spec.lone_node plan.now k (view name.now) }
 {
-    if !is_name_value(node) {
-        return Err(PlanFault::NotPlan(Place::Event(k)));
+    if is_name_value(name) {
+        node_in(plan, name, k)
+    } else {
+        Err(PlanFault::NotPlan(Place::Event(k)))
     }
-    let node = node_in(plan, node, k)?;
-    Ok(act.by_node(node))
 }
 
 fn reading(plan: &Plan, node: &Value, register: &Value, k: u64) -> Result<Event, PlanFault>

@@ -2,7 +2,6 @@
 //! shape for one of the three algorithms, and what is to happen in it.
 #![tactic(auto)]
 
-mod act;
 mod algorithm;
 mod event_reader;
 mod faults;
