@@ -1,11 +1,11 @@
 -- The lines of events.
 use Rattle.std.specs.Prelude.{ℕ, [], ◌++◌, codes, decimal, length, slice_get, unwrap_or}
 use Rattle.mx_network.specs.declared.event.Event.{Event}
-use Rattle.mx_network.specs.declared.event.Event.TheVariants.{Ask, Enter, Read, Write, Leave, Tick, Want, Restart, Deliver}
+use Rattle.mx_network.specs.declared.event.Event.TheVariants.{Ask, Enter, Read, Write, Leave, Cancel, Tick, Want, Restart, Deliver}
 use Rattle.mx_network.specs.declared.outcome.Cause.{Cause}
 use Rattle.mx_network.specs.declared.outcome.Cause.TheVariants.{NotIdle, StampsSpent, NotWaiting, NotGranted, NumbersSpent, NotInside, NoRegister, Gap, Full}
 use Rattle.mx_network.specs.declared.outcome.Outcome.{Outcome}
-use Rattle.mx_network.specs.declared.outcome.Outcome.TheVariants.{Asked, Entered, Value, Written, Left, Sent, Delivered, Woken, Refused}
+use Rattle.mx_network.specs.declared.outcome.Outcome.TheVariants.{Asked, Entered, Value, Written, Left, Cancelled, Sent, Delivered, Woken, Refused}
 use Rattle.mx_plan.specs.Text.{Text}
 use Rattle.mx_plan.specs.Fields.{Fields}
 use Rattle.mx_texts.specs.Lines.{line_feed}
@@ -35,6 +35,7 @@ outcome_text (Entered n) = codes "entered " ++ decimal n
 outcome_text (Value value) = codes "value " ++ decimal value
 outcome_text Written = codes "written"
 outcome_text (Left receipt) = codes "left " ++ decimal receipt.number ++ codes " writes " ++ decimal (length receipt.writes.items)
+outcome_text Cancelled = codes "cancelled"
 outcome_text (Sent count) = codes "sent " ++ decimal count
 outcome_text Delivered = codes "delivered"
 outcome_text Woken = codes "woken"
@@ -48,6 +49,7 @@ event_text p (Read node register) = codes "read " ++ name_of p node ++ codes " "
 event_text p (Write node register value) =
     codes "write " ++ name_of p node ++ codes " " ++ register_name_of p register ++ codes " " ++ decimal value
 event_text p (Leave node) = codes "leave " ++ name_of p node
+event_text p (Cancel node) = codes "cancel " ++ name_of p node
 event_text p (Tick node) = codes "tick " ++ name_of p node
 event_text p (Want node other) = codes "want " ++ name_of p node ++ codes " " ++ name_of p other
 event_text p (Restart node) = codes "restart " ++ name_of p node

@@ -61,6 +61,7 @@ impl fmt::Display for OutcomeText<'_> {
                 let writes = receipt.writes.len();
                 write!(f, "left {} writes {writes}", receipt.number)
             }
+            Outcome::Cancelled => write!(f, "cancelled"),
             Outcome::Sent(count) => write!(f, "sent {count}"),
             Outcome::Delivered => write!(f, "delivered"),
             Outcome::Woken => write!(f, "woken"),
@@ -94,6 +95,7 @@ impl fmt::Display for EventText<'_> {
                 write!(f, "write {name} {register} {value}")
             }
             Event::Leave(node) => write!(f, "leave {}", name_of(self.plan, *node)),
+            Event::Cancel(node) => write!(f, "cancel {}", name_of(self.plan, *node)),
             Event::Tick(node) => write!(f, "tick {}", name_of(self.plan, *node)),
             Event::Want(node, other) => {
                 let name = name_of(self.plan, *node);
