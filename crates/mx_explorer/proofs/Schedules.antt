@@ -1,29 +1,46 @@
--- Drawn events name nodes and registers that are there.
-use Rattle.std.proofs.Common.{ℕ, zero, suc, ◌<◌, ◌%◌, inl, inr, sym, subst}
+-- Drawn events, and that they name nodes and registers that are there.
+use Rattle.std.proofs.Common.{ℕ, zero, suc, ◌≡◌, ◌≤◌, ◌<◌, ◌%◌, arith, Bool, true, false, if◌then◌else◌, nat_lt, inl, inr, sym, subst}
 use Rattle.std.proofs.Math.Nat.{mod-lt}
+use Rattle.std.proofs.lemmas.Bool.Decides.{nat_tests}
 use Rattle.rand_pcg.specs.Lcg.{Lcg}
 use Rattle.mx_network.specs.declared.event.Event.{Event}
+use Rattle.mx_network.specs.declared.event.Event.TheVariants.{Leave, Deliver}
 use Rattle.mx_stamps.specs.Lists.{IsIn}
-use Rattle.mx_explorer.specs.declared.kind.Kind.{Kind}
-use Rattle.mx_explorer.specs.declared.kind.Kind.TheVariants.{Ask, Enter, Read, Write, Leave, Tick, Want, Restart, Deliver}
-use Rattle.mx_explorer.specs.Drawn.{IsDrawn, after_drawn, after_words, drawn_list, event_of, kind_by, word}
+use Rattle.mx_explorer.specs.Drawn.{IsDrawn, after_drawn, after_words, drawn, drawn_list, event_by, word}
 
-below : (x n : ℕ) → 0 < n → x % n < n
-below x n pos = mod-lt x pos
+-- which numbers leave, and which deliver
+module _ (n nodes registers : ℕ) (g : Lcg) where
+  pub leaves : 6 ≤ n → n < 8 → event_by n nodes registers g ≡ Leave (word g % nodes)
+  leaves more less = grind (arith, nat_tests)
 
-event_is_drawn : (kind : Kind) (nodes registers : ℕ) (g : Lcg) → 0 < nodes → 0 < registers → IsDrawn nodes registers (event_of kind nodes registers g)
-event_is_drawn Ask nodes registers g n r = below (word g) nodes n
-event_is_drawn Enter nodes registers g n r = below (word g) nodes n
-event_is_drawn Read nodes registers g n r = (below (word g) nodes n, below (word (after_words 1 g)) registers r)
-event_is_drawn Write nodes registers g n r = (below (word g) nodes n, below (word (after_words 1 g)) registers r)
-event_is_drawn Leave nodes registers g n r = below (word g) nodes n
-event_is_drawn Tick nodes registers g n r = below (word g) nodes n
-event_is_drawn Want nodes registers g n r = (below (word g) nodes n, below (word (after_words 1 g)) nodes n)
-event_is_drawn Restart nodes registers g n r = below (word g) nodes n
-event_is_drawn Deliver nodes registers g n r = tt
+  pub delivers : 11 ≤ n → n < 15 → event_by n nodes registers g ≡ Deliver (word g)
+  delivers more less = grind (arith, nat_tests)
+
+module _ (nodes registers : ℕ) (g : Lcg) (n : 0 < nodes) (r : 0 < registers) where
+  either : (b : Bool) (x y : Event) → IsDrawn nodes registers x → IsDrawn nodes registers y → IsDrawn nodes registers (if b then x else y)
+  either true x y first second = first
+  either false x y first second = second
+
+  node : word g % nodes < nodes
+  node = mod-lt (word g) n
+
+  register : word (after_words 1 g) % registers < registers
+  register = mod-lt (word (after_words 1 g)) r
+
+  event_is_drawn : (k : ℕ) → IsDrawn nodes registers (event_by k nodes registers g)
+  event_is_drawn k =
+      either (nat_lt k 2) _ _ node
+      (either (nat_lt k 4) _ _ node
+      (either (nat_lt k 5) _ _ (node, register)
+      (either (nat_lt k 6) _ _ (node, register)
+      (either (nat_lt k 8) _ _ node
+      (either (nat_lt k 9) _ _ node
+      (either (nat_lt k 10) _ _ (node, mod-lt (word (after_words 1 g)) n)
+      (either (nat_lt k 11) _ _ node
+      (either (nat_lt k 15) _ _ tt node))))))))
 
 pub all_drawn : (steps nodes registers : ℕ) (g : Lcg) → 0 < nodes → 0 < registers → (e : Event) → IsIn e (drawn_list steps nodes registers g) → IsDrawn nodes registers e
 all_drawn zero nodes registers g n r e h = absurd h
 all_drawn (suc steps) nodes registers g n r e (inl is) =
-    subst (λ (x : Event). IsDrawn nodes registers x) (sym is) (event_is_drawn (kind_by (word g % 16)) nodes registers (after_words 1 g) n r)
-all_drawn (suc steps) nodes registers g n r e (inr h) = all_drawn steps nodes registers (after_drawn g) n r e h
+    subst (λ (x : Event). IsDrawn nodes registers x) (sym is) (event_is_drawn nodes registers (after_words 1 g) n r (word g % 16))
+all_drawn (suc steps) nodes registers g n r e (inr h) = all_drawn steps nodes registers (after_drawn (drawn nodes registers g) g) n r e h

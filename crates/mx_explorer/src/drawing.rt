@@ -2,10 +2,9 @@
 
 ghost use Rattle.std.specs.Prelude.{◌≡◌, ◌<◌, ◌≤◌, ◌%◌, IfOk, length, vec_len};
 ghost use Rattle.mx_stamps.specs.Lists.{IsIn};
-ghost use Rattle.mx_explorer.specs.Drawn.{IsDrawn, after_drawn, after_words, drawn, drawn_list, word};
+ghost use Rattle.mx_explorer.specs.Drawn.{IsDrawn, after_drawn, after_words, arguments, drawn, drawn_list, event_by, word};
 ghost use Rattle.mx_explorer.specs.Weather.{generator_of};
 
-use crate::kind::{Kind, kind_of};
 use mx_network::Event;
 use mx_plan::Plan;
 use mx_stamps::NodeId;
@@ -55,28 +54,41 @@ fn draw(words: &mut Pcg32, nodes: u8, registers: u8) -> Event
     requires nodes { (0 < nodes) × (nodes ≤ 21) }
     requires registers { 0 < registers }
     ensures value { result ≡ drawn nodes registers words.old }
-    ensures next { words.new ≡ after_drawn words.old }
+    ensures next { words.new ≡ after_drawn result words.old }
 {
-    match kind_of(words.next_word()) {
-        Kind::Ask => Event::Ask(draw_node(words, nodes)),
-        Kind::Enter => Event::Enter(draw_node(words, nodes)),
-        Kind::Read => {
+    let number = words.next_word() % 16;
+    draw_by(number, words, nodes, registers)
+}
+
+/// The event that a number below 16 stands for. Deliveries are the most frequent.
+#[tactic(auto, using(crate::proofs::Schedules::leaves, crate::proofs::Schedules::delivers))]
+fn draw_by(number: u32, words: &mut Pcg32, nodes: u8, registers: u8) -> Event
+    requires nodes { (0 < nodes) × (nodes ≤ 21) }
+    requires registers { 0 < registers }
+    ensures value { result ≡ event_by number nodes registers words.old }
+    ensures next { words.new ≡ after_words (arguments result) words.old }
+{
+    match number {
+        0 | 1 => Event::Ask(draw_node(words, nodes)),
+        2 | 3 => Event::Enter(draw_node(words, nodes)),
+        4 => {
             let node = draw_node(words, nodes);
             Event::Read(node, draw_below(words, registers))
         }
-        Kind::Write => {
+        5 => {
             let node = draw_node(words, nodes);
             let register = draw_below(words, registers);
             Event::Write(node, register, u64::from(words.next_word()))
         }
-        Kind::Leave => Event::Leave(draw_node(words, nodes)),
-        Kind::Tick => Event::Tick(draw_node(words, nodes)),
-        Kind::Want => {
+        6 | 7 => Event::Leave(draw_node(words, nodes)),
+        8 => Event::Tick(draw_node(words, nodes)),
+        9 => {
             let node = draw_node(words, nodes);
             Event::Want(node, draw_node(words, nodes))
         }
-        Kind::Restart => Event::Restart(draw_node(words, nodes)),
-        Kind::Deliver => Event::Deliver(u64::from(words.next_word())),
+        10 => Event::Restart(draw_node(words, nodes)),
+        11..=14 => Event::Deliver(u64::from(words.next_word())),
+        _ => Event::Cancel(draw_node(words, nodes)),
     }
 }
 

@@ -3,7 +3,6 @@
 
 mod drawing;
 mod judging;
-mod kind;
 mod ledger;
 mod placing;
 mod verdict;

@@ -1,7 +1,7 @@
 use Rattle.std.proofs.Common.{suc, ◌≡◌, ◌+◌, ◌++◌, [], ◌∷◌, sym, ◌∙◌, ap, subst, arith}
 use Rattle.mx_stamps.specs.Lists.{IsIn}
 use Rattle.mx_stamps.proofs.Lists.{append_append, append_nil}
-use Rattle.mx_explorer.specs.Drawn.{drawn, drawn_list}
+use Rattle.mx_explorer.specs.Drawn.{after_drawn, drawn_list}
 use Rattle.mx_explorer.specs.Weather.{generator_of}
 use Rattle.mx_explorer.proofs.Schedules.{all_drawn}
 use Rattle.mx_explorer.proofs.drawing.schedule_over.Goals as goal
@@ -16,8 +16,8 @@ loop-preserved c =
       value = λ rest is.
           ap (λ l. l ++ drawn_list rest nodes registers c.draw.new.words) c.in_ok-push.ensures.items
           ∙ append_append items (c.draw.result ∷ []) (drawn_list rest nodes registers c.draw.new.words)
-          ∙ ap (λ e. items ++ e ∷ drawn_list rest nodes registers c.draw.new.words) c.draw.ensures.value
-          ∙ ap (λ g. items ++ drawn nodes registers c.loop.words ∷ drawn_list rest nodes registers g) c.draw.ensures.next
+          ∙ ap (λ g. items ++ c.draw.result ∷ drawn_list rest nodes registers g) c.draw.ensures.next
+          ∙ ap (λ e. items ++ e ∷ drawn_list rest nodes registers (after_drawn e c.loop.words)) c.draw.ensures.value
           ∙ c.loop.invariant.value (suc rest) (omega (arith, is));
     }
 
