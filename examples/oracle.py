@@ -837,16 +837,18 @@ class Words:
         return word
 
 
-# Of 16 kinds that a word draws, so many are of each; the rest are deliveries. What follows is what it names.
+# Of 16 kinds that a word draws, in this order, so many are of each. What follows is what each takes.
 KINDS = (
     ("ask", 2, ("node",)),
     ("enter", 2, ("node",)),
     ("read", 1, ("node", "register")),
-    ("write", 1, ("node", "register", "value")),
+    ("write", 1, ("node", "register", "word")),
     ("leave", 2, ("node",)),
     ("tick", 1, ("node",)),
     ("want", 1, ("node", "node")),
     ("restart", 1, ("node",)),
+    ("deliver", 4, ("word",)),
+    ("cancel", 1, ("node",)),
 )
 
 WINDOW = 64  # a delivery is of one of the newest parcels
@@ -857,9 +859,9 @@ def drawn(words, plan):
     below = words.next() % 16
     for kind, count, arguments in KINDS:
         if below < count:
-            return [kind] + [drawn_argument(words, plan, argument) for argument in arguments]
+            break
         below -= count
-    return ["deliver", words.next()]
+    return [kind] + [drawn_argument(words, plan, argument) for argument in arguments]
 
 
 def drawn_argument(words, plan, argument):
