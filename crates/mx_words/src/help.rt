@@ -62,12 +62,12 @@ pub(crate) const REPLAY_EXAMPLE: &str =
   mx replay plan.json events.json
 
 Events are [\"ask\",NODE], [\"enter\",NODE], [\"read\",NODE,REGISTER], [\"write\",NODE,REGISTER,VALUE],
-[\"leave\",NODE], [\"tick\",NODE], [\"want\",NODE,NODE], [\"restart\",NODE] and [\"deliver\",K], where K counts the
-parcels sent so far from 0. For each event a line tells what came of it, and for each parcel that it sent,
-from whom to whom it goes and what it says. Then a line for each node tells where it stands and what its
-journal has, and the last line is the verdict. A name - is standard input. Where both are -, its first
-line is the plan and the rest is the events. `mx check --help` tells what a plan is; docs/FORMATS.md has
-all formats.";
+[\"leave\",NODE], [\"cancel\",NODE], [\"tick\",NODE], [\"want\",NODE,NODE], [\"restart\",NODE] and [\"deliver\",K],
+where K counts the parcels sent so far from 0. For each event a line tells what came of it, and for each
+parcel that it sent, from whom to whom it goes and what it says. Then a line for each node tells where it
+stands and what its journal has, and the last line is the verdict. A name - is standard input. Where both
+are -, its first line is the plan and the rest is the events. `mx check --help` tells what a plan is;
+docs/FORMATS.md has all formats.";
 
 pub(crate) const EXPLORE_EXAMPLE: &str = "Example: a thousand steps drawn from the seed 1.
 
@@ -75,9 +75,9 @@ pub(crate) const EXPLORE_EXAMPLE: &str = "Example: a thousand steps drawn from t
 
   mx explore plan.json --seed 1 --steps 1000
 
-The events are asking, entering, reading, writing, leaving, ticking, wanting, restarting and the delivery
-of one of the newest 64 parcels. The first line counts the steps, how often a node entered, and the
-parcels that were sent; the last line is the verdict. `mx check --help` tells what a plan is;
+The events are asking, entering, reading, writing, leaving, cancelling, ticking, wanting, restarting and
+the delivery of one of the newest 64 parcels. The first line counts the steps, how often a node entered,
+and the parcels that were sent; the last line is the verdict. `mx check --help` tells what a plan is;
 docs/FORMATS.md has all formats.";
 
 pub(crate) const LIVE_EXAMPLE: &str =
