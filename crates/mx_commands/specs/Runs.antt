@@ -5,7 +5,7 @@ use Rattle.mx_nodelaws.specs.Core.{Core}
 use Rattle.mx_member.specs.Steps.{start_of}
 use Rattle.mx_network.specs.Step.{ClusterState, step_of}
 use Rattle.mx_network.specs.declared.event.Event.{Event}
-use Rattle.mx_network.specs.declared.event.Event.TheVariants.{Ask, Enter, Read, Write, Leave, Tick, Want, Restart, Deliver}
+use Rattle.mx_network.specs.declared.event.Event.TheVariants.{Ask, Enter, Read, Write, Leave, Cancel, Tick, Want, Restart, Deliver}
 use Rattle.mx_network.specs.declared.faults.StepFault.{StepFault}
 use Rattle.mx_network.specs.declared.outcome.Entry.{Entry}
 use Rattle.mx_plan.specs.Text.{Text}
@@ -41,6 +41,7 @@ NamesNodes n (Enter node) = node < n
 NamesNodes n (Read node register) = node < n
 NamesNodes n (Write node register value) = node < n
 NamesNodes n (Leave node) = node < n
+NamesNodes n (Cancel node) = node < n
 NamesNodes n (Tick node) = node < n
 NamesNodes n (Want node other) = (node < n) × (other < n)
 NamesNodes n (Restart node) = node < n
