@@ -44,9 +44,13 @@ fn one_node_acts_alone(rt: HostRuntime) -> Result<(), Fail> {
     let a = node(0);
     let steps = [
         (Event::Enter(a), Told::Refused(Cause::NotWaiting)),
+        (Event::Cancel(a), Told::Refused(Cause::NotWaiting)),
+        (Event::Ask(a), Told::Asked(0)),
+        (Event::Cancel(a), Told::Cancelled),
         (Event::Ask(a), Told::Asked(0)),
         (Event::Ask(a), Told::Refused(Cause::NotIdle)),
         (Event::Enter(a), Told::Entered(1)),
+        (Event::Cancel(a), Told::Refused(Cause::NotWaiting)),
         (Event::Tick(a), Told::Sent(0)),
         (Event::Restart(a), Told::Woken),
         (Event::Leave(a), Told::Left(1)),

@@ -85,7 +85,8 @@ fn wanted_act(word: u32, node: NodeId) -> Event {
         2..=3 => Event::Enter(node),
         6..=7 => Event::Leave(node),
         8 => Event::Tick(node),
-        _ => Event::Restart(node),
+        10 => Event::Restart(node),
+        _ => Event::Cancel(node),
     }
 }
 
@@ -94,7 +95,7 @@ fn wanted_event(words: &mut Pcg32) -> Event {
         4 => wanted_read(words),
         5 => wanted_write(words),
         9 => wanted_want(words),
-        11..=15 => Event::Deliver(u64::from(words.next_u32())),
+        11..=14 => Event::Deliver(u64::from(words.next_u32())),
         word => wanted_act(word, wanted_node(words)),
     }
 }

@@ -5,7 +5,7 @@ use mx_journal::{Full, PutFault};
 use mx_member::{CloseFault, DeliverFault, ReadFault, WriteFault};
 use mx_merge::MergeFault;
 use mx_network::{RunFault, StepFault};
-use mx_nodelaws::{AskFault, EnterFault, LeaveFault};
+use mx_nodelaws::{AskFault, CancelFault, EnterFault, LeaveFault};
 use mx_plan::{Place, PlanFault, ShapeFault};
 use mx_quorums::QuorumFault;
 use mx_stations::GatherFault;
@@ -42,7 +42,8 @@ fn refusals_of_nodes_are_told(rt: HostRuntime) -> Result<(), AllocError> {
     let alloc = rt.alloc();
     assert_told(&rt, alloc, &ASK)?;
     assert_told(&rt, alloc, &ENTER)?;
-    assert_told(&rt, alloc, &[(LeaveFault::NotInside, "not inside")])
+    assert_told(&rt, alloc, &[(LeaveFault::NotInside, "not inside")])?;
+    assert_told(&rt, alloc, &[(CancelFault::NotWaiting, "not waiting")])
 }
 
 const QUORUMS: [(QuorumFault, &str); 7] = [

@@ -10,7 +10,7 @@ use std::test::Fail;
 
 /// One event of each kind.
 const EVENTS: &str =
-    "[[\"ask\",\"a\"],[\"enter\",\"b\"],[\"read\",\"b\",\"count\"],[\"write\",\"c\",\"count\",18446744073709551615],[\"leave\",\"c\"],[\"tick\",\"a\"],[\"want\",\"b\",\"a\"],[\"deliver\",18446744073709551615],[\"restart\",\"b\"]]";
+    "[[\"ask\",\"a\"],[\"enter\",\"b\"],[\"read\",\"b\",\"count\"],[\"write\",\"c\",\"count\",18446744073709551615],[\"leave\",\"c\"],[\"cancel\",\"a\"],[\"tick\",\"a\"],[\"want\",\"b\",\"a\"],[\"deliver\",18446744073709551615],[\"restart\",\"b\"]]";
 
 /// Why the text lists no events.
 fn events_fault(alloc: Global, text: &str) -> Result<Option<PlanFault>, Fail> {
@@ -29,6 +29,7 @@ fn each_event_is_read(rt: HostRuntime) -> Result<(), Fail> {
         Event::Read(b, 0),
         Event::Write(c, 0, 18446744073709551615),
         Event::Leave(c),
+        Event::Cancel(a),
         Event::Tick(a),
         Event::Want(b, a),
         Event::Deliver(18446744073709551615),
@@ -39,11 +40,13 @@ fn each_event_is_read(rt: HostRuntime) -> Result<(), Fail> {
 }
 
 /// Lists of one event that is of no such form.
-const MISFITS: [&str; 18] = [
+const MISFITS: [&str; 20] = [
     "[\"ask\"]",
     "[[]]",
     "[[1,\"a\"]]",
-    "[[\"cancel\",\"a\"]]",
+    "[[\"cancel\"]]",
+    "[[\"cancel\",\"a\",\"b\"]]",
+    "[[\"give_up\",\"z\"]]",
     "[[\"ask\",\"a b\"]]",
     "[[\"ask\",\"a\",\"b\"]]",
     "[[\"deliver\",\"a\"]]",
@@ -61,8 +64,9 @@ const MISFITS: [&str; 18] = [
 ];
 
 /// Lists of one event with a name that the plan does not have, or not in this place.
-const STRANGERS: [&str; 7] = [
+const STRANGERS: [&str; 8] = [
     "[[\"ask\",\"z\"]]",
+    "[[\"cancel\",\"z\"]]",
     "[[\"ask\",\"count\"]]",
     "[[\"read\",\"a\",\"z\"]]",
     "[[\"read\",\"z\",\"count\"]]",
