@@ -98,26 +98,6 @@ module _ {T P : Type 0} where
     keeps_hand k from m1 m2 q took has view e at =
         inl (ap (λ (z : Entry T P). z.hand) (only_one (taking k from q me) e (sym (ap (λ (z : Me (Option P) (List (Entry T P))). z.0) (lifted k from m1 m2 q took has view)) ∙ at)))
 
-    fetched : (k from : ℕ) (m1 m2 m3 : Me (Option P) (List (Entry T P))) (q : P) → Takes k from m m1 → m1.1 ≡ (k, Some q) ∷ [] → m2 ≡ (m1.0, (k, None) ∷ []) → m3 ≡ (released_view (Some (from, q)) m2.0, [])
-        → m3 ≡ (releasing (Some (from, q)) (taking k from q me) ∷ [], [])
-    fetched k from m1 m2 m3 q took has view given = given ∙ (λ j. (released_view (Some (from, q)) (lifted k from m1 m2 q took has view j).0, []))
-
-    pub fetched_seat : (k from : ℕ) (m1 m2 m3 : Me (Option P) (List (Entry T P))) (q : P) → Takes k from m m1 → m1.1 ≡ (k, Some q) ∷ [] → m2 ≡ (m1.0, (k, None) ∷ []) → m3 ≡ (released_view (Some (from, q)) m2.0, [])
-        → (m3 ≡ (shown i x (Some (from, q)) r m3.0 ∷ [], [])) × (sent_in m3.0 ≡ sent_in m.0)
-    fetched_seat k from m1 m2 m3 q took has view given =
-        let f = fetched k from m1 m2 m3 q took has view given in
-        ((settled i x (Some (from, q)) r m3 (releasing (Some (from, q)) (taking k from q me)) f refl).0, (λ j. sent_in (f j).0))
-
-    pub fetches : (k from u : ℕ) (m1 m2 m3 : Me (Option P) (List (Entry T P))) (q : P) (table table' : TableId) (n : ℕ) (w : List (ℕ × P)) (s : Post T P) → post table n me w ≡ s → table' ≡ table → s.me.hand ≡ None → k ≡ slot_at n from i u → u < 4
-        → Takes k from m m1 → m1.1 ≡ (k, Some q) ∷ [] → m2 ≡ (m1.0, (k, None) ∷ []) → m3 ≡ (released_view (Some (from, q)) m2.0, [])
-        → Fetches from s (post table' n (shown i x (Some (from, q)) r m3.0) w)
-    fetches k from u m1 m2 m3 q table table' n w s same same_table empty k_is un took has view given =
-        let f = fetched k from m1 m2 m3 q took has view given in
-        let now = (settled i x (Some (from, q)) r m3 (releasing (Some (from, q)) (taking k from q me)) f refl).1 in
-        subst (λ (z : Post T P). (z.me.hand ≡ None) → Fetches from z (post table' n (shown i x (Some (from, q)) r m3.0) w)) same
-        (λ none. (none, (q, u, un, (λ j. post (same_table j) n (now j) w) ∙ (λ j. post table n (releasing (Some (from, q)) (taking (k_is j) from q me)) w))))
-        empty
-
     pub finds_none : (k : ℕ → ℕ) (from : ℕ) (m1 : Me (Option P) (List (Entry T P))) (table table' : TableId) (n : ℕ) (w : List (ℕ × P)) (s : Post T P) → post table n me w ≡ s → table' ≡ table → s.me.hand ≡ None → ((u : ℕ) → k u ≡ slot_at n from i u)
         → m1 ≡ m → ((u : ℕ) → u < 4 → HasEmptied (k u) from m) → FindsNone from s (post table' n (shown i x held r m1.0) w)
     finds_none k from m1 table table' n w s same same_table empty k_is still emptied =
@@ -129,10 +109,10 @@ module _ {T P : Type 0} where
         ))
         empty
 
-    -- the same of a parcel whose fate says what is in hand after it
-    fetched_any : (k from : ℕ) (m1 m2 m3 : Me (Option P) (List (Entry T P))) (q : P) (h : Option (ℕ × P)) → Takes k from m m1 → m1.1 ≡ (k, Some q) ∷ [] → m2 ≡ (m1.0, (k, None) ∷ []) → m3 ≡ (released_view h m2.0, [])
+    -- the seat with what is in hand of the parcel, by its fate
+    fetched : (k from : ℕ) (m1 m2 m3 : Me (Option P) (List (Entry T P))) (q : P) (h : Option (ℕ × P)) → Takes k from m m1 → m1.1 ≡ (k, Some q) ∷ [] → m2 ≡ (m1.0, (k, None) ∷ []) → m3 ≡ (released_view h m2.0, [])
         → m3 ≡ (releasing h (taking k from q me) ∷ [], [])
-    fetched_any k from m1 m2 m3 q h took has view given = given ∙ (λ j. (released_view h (lifted k from m1 m2 q took has view j).0, []))
+    fetched k from m1 m2 m3 q h took has view given = given ∙ (λ j. (released_view h (lifted k from m1 m2 q took has view j).0, []))
 
     pub keeps_fated : (fate : Fate) (k from : ℕ) (m1 m2 : Me (Option P) (List (Entry T P))) (q : P) → Takes k from m m1 → m1.1 ≡ (k, Some q) ∷ [] → m2 ≡ (m1.0, (k, None) ∷ []) → KeepsHand m2.0 (fated_hand fate (from, q))
     keeps_fated Pass k from m1 m2 q took has view = keeps_hand k from m1 m2 q took has view
@@ -142,27 +122,24 @@ module _ {T P : Type 0} where
     pub fated_seat : (k from : ℕ) (m1 m2 m3 : Me (Option P) (List (Entry T P))) (q : P) (h : Option (ℕ × P)) → Takes k from m m1 → m1.1 ≡ (k, Some q) ∷ [] → m2 ≡ (m1.0, (k, None) ∷ []) → m3 ≡ (released_view h m2.0, [])
         → (m3 ≡ (shown i x h r m3.0 ∷ [], [])) × (sent_in m3.0 ≡ sent_in m.0)
     fated_seat k from m1 m2 m3 q h took has view given =
-        let f = fetched_any k from m1 m2 m3 q h took has view given in
+        let f = fetched k from m1 m2 m3 q h took has view given in
         ((settled i x h r m3 (releasing h (taking k from q me)) f refl).0, (λ j. sent_in (f j).0))
 
-    crosses : (k from u : ℕ) (m1 m2 m3 : Me (Option P) (List (Entry T P))) (q : P) (h : Option (ℕ × P)) (table table' : TableId) (n : ℕ) (w : List (ℕ × P)) (s : Post T P) → post table n me w ≡ s → table' ≡ table → k ≡ slot_at n from i u
-        → Takes k from m m1 → m1.1 ≡ (k, Some q) ∷ [] → m2 ≡ (m1.0, (k, None) ∷ []) → m3 ≡ (released_view h m2.0, [])
-        → post table' n (shown i x h r m3.0) w ≡ post s.table s.nodes (releasing h (taking (slot_from s from u) from q s.me)) s.waiting
-    crosses k from u m1 m2 m3 q h table table' n w s same same_table k_is took has view given =
-        let f = fetched_any k from m1 m2 m3 q h took has view given in
+    crosses : (fate : Fate) (k from u : ℕ) (m1 m2 m3 : Me (Option P) (List (Entry T P))) (q : P) (h : Option (ℕ × P)) (table table' : TableId) (n : ℕ) (w : List (ℕ × P)) (s : Post T P) → post table n me w ≡ s → table' ≡ table → k ≡ slot_at n from i u
+        → Takes k from m m1 → m1.1 ≡ (k, Some q) ∷ [] → m2 ≡ (m1.0, (k, None) ∷ []) → m3 ≡ (released_view h m2.0, []) → h ≡ fated_hand fate (from, q)
+        → post table' n (shown i x h r m3.0) w ≡ post s.table s.nodes (releasing (fated_hand fate (from, q)) (taking (slot_from s from u) from q s.me)) s.waiting
+    crosses fate k from u m1 m2 m3 q h table table' n w s same same_table k_is took has view given is_hand =
+        let f = fetched k from m1 m2 m3 q h took has view given in
         let now = (settled i x h r m3 (releasing h (taking k from q me)) f refl).1 in
-        (λ j. post (same_table j) n (now j) w) ∙ (λ j. post table n (releasing h (taking (k_is j) from q me)) w)
-        ∙ ap (λ (z : Post T P). post z.table z.nodes (releasing h (taking (slot_from z from u) from q z.me)) z.waiting) same
+        (λ j. post (same_table j) n (now j) w) ∙ (λ j. post table n (releasing (is_hand j) (taking (k_is j) from q me)) w)
+        ∙ ap (λ (z : Post T P). post z.table z.nodes (releasing (fated_hand fate (from, q)) (taking (slot_from z from u) from q z.me)) z.waiting) same
 
     pub fated : (fate : Fate) (k from u : ℕ) (m1 m2 m3 : Me (Option P) (List (Entry T P))) (q : P) (h : Option (ℕ × P)) (table table' : TableId) (n : ℕ) (w : List (ℕ × P)) (s : Post T P) → post table n me w ≡ s → table' ≡ table → s.me.hand ≡ None → k ≡ slot_at n from i u → u < 4
         → Takes k from m m1 → m1.1 ≡ (k, Some q) ∷ [] → m2 ≡ (m1.0, (k, None) ∷ []) → m3 ≡ (released_view h m2.0, []) → h ≡ fated_hand fate (from, q)
         → IsFated from fate s (post table' n (shown i x h r m3.0) w)
-    fated Pass k from u m1 m2 m3 q h table table' n w s same same_table empty k_is un took has view given is_hand =
-        (empty, (q, u, un, crosses k from u m1 m2 m3 q h table table' n w s same same_table k_is took has view given ∙ (λ j. post s.table s.nodes (releasing (is_hand j) (taking (slot_from s from u) from q s.me)) s.waiting)))
-    fated Drop k from u m1 m2 m3 q h table table' n w s same same_table empty k_is un took has view given is_hand =
-        (empty, (q, u, un, crosses k from u m1 m2 m3 q h table table' n w s same same_table k_is took has view given ∙ (λ j. post s.table s.nodes (releasing (is_hand j) (taking (slot_from s from u) from q s.me)) s.waiting)))
-    fated Twice k from u m1 m2 m3 q h table table' n w s same same_table empty k_is un took has view given is_hand =
-        (empty, (q, u, un, crosses k from u m1 m2 m3 q h table table' n w s same same_table k_is took has view given ∙ (λ j. post s.table s.nodes (releasing (is_hand j) (taking (slot_from s from u) from q s.me)) s.waiting)))
+    fated Pass k from u m1 m2 m3 q h table table' n w s same same_table empty k_is un took has view given is_hand = (empty, (q, u, un, crosses Pass k from u m1 m2 m3 q h table table' n w s same same_table k_is took has view given is_hand))
+    fated Drop k from u m1 m2 m3 q h table table' n w s same same_table empty k_is un took has view given is_hand = (empty, (q, u, un, crosses Drop k from u m1 m2 m3 q h table table' n w s same same_table k_is took has view given is_hand))
+    fated Twice k from u m1 m2 m3 q h table table' n w s same same_table empty k_is un took has view given is_hand = (empty, (q, u, un, crosses Twice k from u m1 m2 m3 q h table table' n w s same same_table k_is took has view given is_hand))
 
 module _ {H S M : Type 0} (core : Core H S M) where
   abbrev P : Type 0

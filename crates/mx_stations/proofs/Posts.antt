@@ -79,19 +79,22 @@ module _ {T P : Type 0} where
     same_seat m1 same = subst (λ (z : Me (Option P) (List (Entry T P))). z ≡ (shown i x held r z.0 ∷ [], [])) (sym same) is
 
 module _ {H S M : Type 0} (core : Core H S M) (i : ℕ) (x : MemberState S) (held : Option (ℕ × Parcel M)) (r : List Receipt) (m : Me (Option (Parcel M)) (List (Node S M))) (is : m ≡ (shown i x held r m.0 ∷ [], [])) where
-  -- an act that the hand allows
-  pub ready : (n : ℕ) (a : Act M) (y : MemberState S) (out : List (ℕ × Parcel M)) (hand : Option (ℕ × Parcel M)) (r' : List Receipt) → MayDo n held a → Keeps held hand
-      → y ≡ (act_of core a x).state → out ≡ (act_of core a x).letters → r' ≡ r ++ closed_by (act_of core a x).answer → DidAct core n m.0 y out hand r'
-  ready n a y out hand r' may kept state letters closes = record {
-    node = shown i x held r m.0;
-    act = a;
-    alone = ap (λ (z : Me (Option (Parcel M)) (List (Node S M))). z.0) is;
-    may = may;
-    state = state;
-    letters = letters;
-    closes = closes;
-    kept = kept;
-  }
+  -- an act that the hand allows: what its step asks for
+  pub ready : (table at : TableId) (count n : ℕ) (a : Act M) (y : MemberState S) (out : List (ℕ × Parcel M)) (hand : Option (ℕ × Parcel M)) (r' : List Receipt) → table ≡ at → count ≡ n → i < n → MayDo count held a → Keeps held hand
+      → y ≡ (act_of core a x).state → out ≡ (act_of core a x).letters → r' ≡ r ++ closed_by (act_of core a x).answer
+      → (table ≡ at) × ((m.1 ≡ []) × ((i < count) × (((e : Node S M) × (m.0 ≡ e ∷ []) × (e.node ≡ i)) × DidAct core count m.0 y out hand r')))
+  ready table at count n a y out hand r' same is_count low may kept state letters closes =
+      let did : DidAct core count m.0 y out hand r' = record {
+        node = shown i x held r m.0;
+        act = a;
+        alone = ap (λ (z : Me (Option (Parcel M)) (List (Node S M))). z.0) is;
+        may = may;
+        state = state;
+        letters = letters;
+        closes = closes;
+        kept = kept;
+      } in
+      (same, (ap (λ (z : Me (Option (Parcel M)) (List (Node S M))). z.1) is, (subst (λ (k : ℕ). i < k) (sym is_count) low, (one_node i x held r m is, did))))
 
   -- and what the station is after it
   pub happens : (a : Act M) (m' : Me (Option (Parcel M)) (List (Node S M))) (y : MemberState S) (out : List (ℕ × Parcel M)) (hand : Option (ℕ × Parcel M)) (r' : List Receipt) (table table' : TableId) (n : ℕ) (w w' : List (ℕ × Parcel M)) (s : Post (MemberState S) (Parcel M))

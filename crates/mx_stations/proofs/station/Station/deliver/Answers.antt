@@ -3,7 +3,7 @@ use Rattle.std.specs.Arc.{arc_value}
 use Rattle.mx_member.specs.declared.acts.Act.TheVariants.{Deliver}
 use Rattle.mx_stations.specs.Posts.{Waits, post, sent_in, shown}
 use Rattle.mx_stations.specs.Running.{GoToNodes}
-use Rattle.mx_stations.proofs.Posts.{acted_seat, acted_waits, happens, no_none, on_err, one_node, ready, same_seat, takeable}
+use Rattle.mx_stations.proofs.Posts.{acted_seat, acted_waits, happens, no_none, on_err, ready, same_seat, takeable}
 use Rattle.mx_stations.proofs.station.Station.deliver.Goals as goal
 
 pub look-requires : goal.look-requires
@@ -17,25 +17,9 @@ perform-requires g c =
 pub act-requires : goal.act-requires
 act-requires g c =
     let i = c.self.invariant in let l = c.look.ensures in let a = c.in_ok-perform.ensures in
-    let is = same_seat _ _ _ _ _ i.1 _ l.same.1 in (
-      search rules,
-      (
-        search rules,
-        (
-          l.same.0 ∙ i.0 ∙ sym (ap (λ f. f.board.shared.table_id) c.deref-2.ensures),
-          (
-            ap (λ m. m.1) is,
-            (
-              subst (λ f. c.self.inside.node < f.nodes) (sym c.deref-2.ensures) i.2,
-              (
-                one_node _ _ _ _ _ is,
-                ready g.C.Exclusion.core _ _ c.self.inside.hand _ _ is c.deref-2.result.now.nodes (Deliver c.in-Some.held.0 c.copy-parcel.result) _ _ _ _ (c.in-Some.is ∙ ap (λ z. Some (c.in-Some.held.0, z)) (sym c.copy-parcel.ensures)) (inr refl) a.state a.letters (sym (append-nil _)),
-              ),
-            ),
-          ),
-        ),
-      ),
-    )
+    let is = same_seat _ _ _ _ _ i.1 _ l.same.1 in
+    let same = l.same.0 ∙ i.0 ∙ sym (ap (λ f. f.board.shared.table_id) c.deref-2.ensures) in
+    (search rules, (search rules, ready g.C.Exclusion.core _ _ c.self.inside.hand _ _ is _ _ _ _ (Deliver c.in-Some.held.0 c.copy-parcel.result) _ _ _ _ same (ap (λ f. f.nodes) c.deref-2.ensures) i.2 (c.in-Some.is ∙ ap (λ z. Some (c.in-Some.held.0, z)) (sym c.copy-parcel.ensures)) (inr refl) a.state a.letters (sym (append-nil _))))
 
 pub invariant_of-self : goal.invariant_of-self
 invariant_of-self g c =

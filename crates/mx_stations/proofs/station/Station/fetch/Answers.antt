@@ -1,9 +1,10 @@
-use Rattle.std.proofs.Common.{sym, ap, ◌∙◌, subst, ℕ, ◌<◌}
+use Rattle.std.proofs.Common.{refl, sym, ap, ◌∙◌, subst, ℕ, ◌<◌}
 use Rattle.std.specs.Arc.{arc_value}
+use Rattle.mx_letters.specs.declared.fates.Fate.TheVariants.{Pass}
 use Rattle.mx_stations.specs.Links.{slot_at}
 use Rattle.mx_stations.specs.Posts.{sent_in, Waits}
 use Rattle.mx_stations.proofs.Posts.{idle, same_seat}
-use Rattle.mx_stations.proofs.Crossing.{finds_none, holds_it, holds_none, keeps_hand, fetched_seat, fetches}
+use Rattle.mx_stations.proofs.Crossing.{fated, fated_seat, finds_none, holds_it, holds_none, keeps_hand}
 use Rattle.mx_stations.proofs.station.Station.fetch.Goals as goal
 
 pub grab_filled-requires-clause-table : goal.grab_filled-requires-clause-table
@@ -64,10 +65,10 @@ release-requires-clause-hand g c =
 pub invariant_of-self-2 : goal.invariant_of-self-2
 invariant_of-self-2 g c =
     let i = c.self.invariant in let r = c.release.ensures in let l = c.lift-parcel.ensures in let n = c.in-Some.ensures in
-    let f = fetched_seat _ _ _ _ _ i.1 _ _ _ _ _ _ n.some.1 l.parcel l.view r.view in
+    let f = fated_seat _ _ _ _ _ i.1 _ _ _ _ _ _ _ n.some.1 l.parcel l.view r.view in
     (r.same.0 ∙ l.same.0 ∙ n.same.0 ∙ i.0, f.0, i.2, subst (λ z. Waits (arc_value c.self.inside.field).nodes z c.self.inside.waiting.items) (sym f.1) i.3)
 
 pub returns : goal.returns
 returns g c =
     let i = c.self.invariant in let r = c.release.ensures in let l = c.lift-parcel.ensures in let n = c.in-Some.ensures in
-    fetches _ _ _ _ _ i.1 _ _ _ _ _ _ _ _ _ _ _ _ c.self.view_is (r.same.0 ∙ l.same.0 ∙ n.same.0) c.requires.empty (ap (λ f. slot_at f.nodes c.args.from c.self.inside.node c.in-Some.index) c.deref-field.ensures) n.some.0 n.some.1 l.parcel l.view r.view
+    fated _ _ _ _ _ i.1 Pass _ _ _ _ _ _ _ _ _ _ _ _ _ c.self.view_is (r.same.0 ∙ l.same.0 ∙ n.same.0) c.requires.empty (ap (λ f. slot_at f.nodes c.args.from c.self.inside.node c.in-Some.index) c.deref-field.ensures) n.some.0 n.some.1 l.parcel l.view r.view refl

@@ -6,31 +6,15 @@ use Rattle.mx_member.specs.Receipts.{closed_by}
 use Rattle.mx_member.proofs.Refusing.{is_err, left, not_left}
 use Rattle.mx_stations.specs.Posts.{post, shown}
 use Rattle.mx_stations.specs.Running.{GoToNodes}
-use Rattle.mx_stations.proofs.Posts.{acted_seat, acted_waits, one_node, ready}
+use Rattle.mx_stations.proofs.Posts.{acted_seat, acted_waits, ready}
 use Rattle.mx_stations.proofs.station.Station.leave.Goals as goal
 
 pub act-requires : goal.act-requires
 act-requires g c =
     let i = c.self.invariant in let a = c.in_ok-receipt.ensures in
-    let closes = c.push_reserved.ensures.items ∙ (λ j. c.make_room.ensures.same j ++ c.copy.ensures j ∷ []) ∙ ap (λ r. c.self.inside.receipts.items ++ closed_by (answer.Left r)) (sym a.answer) in (
-      search rules,
-      (
-        search rules,
-        (
-          i.0 ∙ sym (ap (λ f. f.board.shared.table_id) c.deref.ensures),
-          (
-            ap (λ m. m.1) i.1,
-            (
-              subst (λ f. c.self.inside.node < f.nodes) (sym c.deref.ensures) i.2,
-              (
-                one_node _ _ _ _ _ i.1,
-                ready g.C.Exclusion.core _ _ _ _ _ i.1 _ Leave _ _ _ _ tt (inl refl) a.state a.letters closes,
-              ),
-            ),
-          ),
-        ),
-      ),
-    )
+    let closes = c.push_reserved.ensures.items ∙ (λ j. c.make_room.ensures.same j ++ c.copy.ensures j ∷ []) ∙ ap (λ r. c.self.inside.receipts.items ++ closed_by (answer.Left r)) (sym a.answer) in
+    let same = i.0 ∙ sym (ap (λ f. f.board.shared.table_id) c.deref.ensures) in
+    (search rules, (search rules, ready g.C.Exclusion.core _ _ _ _ _ i.1 _ _ _ _ Leave _ _ _ _ same (ap (λ f. f.nodes) c.deref.ensures) i.2 tt (inl refl) a.state a.letters closes))
 
 pub returns-in_default-clause-not_inside : goal.returns-in_default-clause-not_inside
 returns-in_default-clause-not_inside g c = (

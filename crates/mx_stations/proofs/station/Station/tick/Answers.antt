@@ -1,30 +1,14 @@
 use Rattle.std.proofs.Common.{rules, refl, sym, ap, ◌∙◌, inl, subst, append-nil, ◌<◌}
 use Rattle.mx_member.specs.declared.acts.Act.TheVariants.{Tick}
 use Rattle.mx_stations.specs.Running.{GoToNodes}
-use Rattle.mx_stations.proofs.Posts.{acted_seat, acted_waits, acts_so, one_node, ready}
+use Rattle.mx_stations.proofs.Posts.{acted_seat, acted_waits, acts_so, ready}
 use Rattle.mx_stations.proofs.station.Station.tick.Goals as goal
 
 pub act-requires : goal.act-requires
 act-requires g c =
-    let i = c.self.invariant in let a = c.tick.ensures in (
-      search rules,
-      (
-        search rules,
-        (
-          i.0 ∙ sym (ap (λ f. f.board.shared.table_id) c.deref.ensures),
-          (
-            ap (λ m. m.1) i.1,
-            (
-              subst (λ f. c.self.inside.node < f.nodes) (sym c.deref.ensures) i.2,
-              (
-                one_node _ _ _ _ _ i.1,
-                ready g.C.Exclusion.core _ _ _ _ _ i.1 _ Tick _ _ _ _ tt (inl refl) a.state a.letters (sym (append-nil _)),
-              ),
-            ),
-          ),
-        ),
-      ),
-    )
+    let i = c.self.invariant in let a = c.tick.ensures in
+    let same = i.0 ∙ sym (ap (λ f. f.board.shared.table_id) c.deref.ensures) in
+    (search rules, (search rules, ready g.C.Exclusion.core _ _ _ _ _ i.1 _ _ _ _ Tick _ _ _ _ same (ap (λ f. f.nodes) c.deref.ensures) i.2 tt (inl refl) a.state a.letters (sym (append-nil _))))
 
 pub invariant_of-self : goal.invariant_of-self
 invariant_of-self g c =
