@@ -1,5 +1,5 @@
 -- What a station knows of its node before and after an act.
-use Rattle.std.proofs.Common.{◌≡◌, ◌≢◌, inl, ℕ, ◌<◌, List, [], ◌∷◌, ◌++◌, Bool, true, false, MatchBool, MatchOption, Option, Some, None, Result, Ok, Err, OnErr, refl, sym, ap, ◌∙◌, subst}
+use Rattle.std.proofs.Common.{◌≡◌, ◌≢◌, inl, inr, ℕ, ◌<◌, List, [], ◌∷◌, ◌++◌, Bool, true, false, MatchBool, MatchOption, Option, Some, None, Result, Ok, Err, OnErr, refl, sym, ap, ◌∙◌, subst}
 use Rattle.atomic_table.specs.Table.{Me}
 use Rattle.atomic_table.specs.Seated.{TableId}
 use Rattle.mx_stamps.specs.Lists.{IsIn}
@@ -13,7 +13,7 @@ use Rattle.mx_member.specs.Receipts.{closed_by}
 use Rattle.mx_member.specs.Steps.{IsTakeable}
 use Rattle.mx_stations.specs.Entries.{Entry, Node}
 use Rattle.mx_stations.specs.Running.{DidAct, GoToNodes, HandFits, IsIdle, Keeps, MayDo, acted, acted_view, fresh}
-use Rattle.mx_stations.specs.Posts.{Post, Waits, after_act, does, post, sent_in, shown, waiting_after}
+use Rattle.mx_stations.specs.Posts.{Post, Waits, after_act, does, left_in, post, sent_in, shown, waiting_after}
 use Rattle.mx_stations.proofs.Waits.{waits_after}
 
 pub on_err : {A E : Type 0} (r : Result A E) (P : Type 0) → P → OnErr r P
@@ -34,6 +34,11 @@ match_false X false y e = y
 
 pub no_none : {A : Type 0} {o : Option A} (a : A) → o ≡ Some a → o ≢ None
 no_none a e n = let both : Some a ≡ None = sym e ∙ n in absurd (cc)
+
+-- the hand after a delivery is as it was, or empty
+pub keeps_left : {P : Type 0} (again : Bool) (hand left : Option (ℕ × P)) → left ≡ left_in again hand → Keeps hand left
+keeps_left true hand left is = inl is
+keeps_left false hand left is = inr is
 
 module _ {T P : Type 0} where
   -- the seat knows this node, and the station shows it

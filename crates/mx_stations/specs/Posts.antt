@@ -1,5 +1,5 @@
 -- What callers see of a station, and what its calls do.
-use Rattle.std.specs.Prelude.{◌≡◌, ◌≢◌, ◌⊎◌, ℕ, ◌<◌, List, [], ◌∷◌, ◌++◌, Option, Some, None, take}
+use Rattle.std.specs.Prelude.{◌≡◌, ◌≢◌, ◌⊎◌, ℕ, ◌<◌, Bool, true, false, List, [], ◌∷◌, ◌++◌, Option, Some, None, take}
 use Rattle.atomic_table.specs.Seated.{TableId}
 use Rattle.mx_stamps.specs.Lists.{IsIn}
 use Rattle.mx_journal.specs.declared.receipts.Receipt.{Receipt}
@@ -73,6 +73,11 @@ Waits {P} n sent waiting = (x : ℕ × P) → IsIn x waiting → IsIn x sent × 
 abbrev pub waiting_after : {P : Type 0} → List (ℕ × P) → List (ℕ × P) → List (ℕ × P)
 waiting_after waiting out = take 64 (waiting ++ out)
 
+-- what a delivery leaves in hand
+abbrev pub left_in : {P : Type 0} → Bool → Option (ℕ × P) → Option (ℕ × P)
+left_in true hand = hand
+left_in false hand = None
+
 module _ {H S M : Type 0} (core : Core H S M) where
   -- one act of the node, with this in hand after it: its receipt, if it answers one, joins its own
   abbrev pub act_on : Act M → Option (ℕ × Parcel M) → Entry (MemberState S) (Parcel M)
@@ -96,6 +101,13 @@ module _ {H S M : Type 0} (core : Core H S M) where
   Delivers s t =
       (from : ℕ) × (p : Parcel M) × (s.me.hand ≡ Some (from, p))
       × (t ≡ after_act (Deliver from p) None s)
+
+  -- the same, or the parcel stays there to be delivered again
+  abbrev pub DeliversAs : Bool → Post (MemberState S) (Parcel M) → Post (MemberState S) (Parcel M)
+      → Type 0
+  DeliversAs again s t =
+      (from : ℕ) × (p : Parcel M) × (s.me.hand ≡ Some (from, p))
+      × (t ≡ after_act (Deliver from p) (left_in again s.me.hand) s)
 
 module _ {T P : Type 0} where
   -- one parcel crosses from a slot of the link into the empty hand

@@ -1,21 +1,32 @@
 //! How the parcels of a station cross the links: each call makes one try.
 
 ghost use Rattle.std.specs.Prelude.{◌≡◌, ◌≢◌, ◌<◌, IfOk, MatchBool, None, OnErr};
-ghost use Rattle.mx_stations.specs.Posts.{Delivers, Fetches, FindsNone, KeepsInHand, PutsOut, TakesIn};
+ghost use Rattle.mx_stations.specs.Posts.{Delivers, DeliversAs, Fetches, FindsNone, KeepsInHand, PutsOut, TakesIn, left_in};
 
 use crate::answers::{PutOut, TakeFault, Taken};
 use crate::field::{act, look};
 use crate::slots::{claim_empty, grab_filled, lift, place, release};
 use crate::station::Station;
 use crate::waiting::{store_up, take_first};
-use mx_member::{Act, perform};
+use mx_member::{Act, Parcel, perform};
 use mx_nodelaws::Exclusion;
 use mx_stamps::NodeId;
 
+/// Empties the hand, but where its parcel is to be delivered again.
+fn let_go<M: Copy + Default>(hand: &mut Option<(NodeId, Parcel<M>)>, again: bool)
+    ensures { hand.new ≡ left_in again hand.old }
+{
+    if !again {
+        *hand = None;
+    }
+}
+
 impl<C: Exclusion> Station<C> {
-    /// Delivers the parcel in hand. False where the hand is empty.
-    pub(crate) fn deliver(&mut self) -> Result<bool, TakeFault>
-        ensures delivered { IfOk result (λ had. MatchBool had (Delivers C.core self.old self.new)
+    /// Delivers the parcel in hand, which stays there where it is to be delivered again. False
+    /// where the hand is empty.
+    pub(crate) fn deliver_as(&mut self, again: bool) -> Result<bool, TakeFault>
+        ensures delivered { IfOk result (λ had.
+            MatchBool had (DeliversAs C.core again self.old self.new)
             ((self.old.me.hand ≡ None) × (self.new ≡ self.old))) }
         ensures held { OnErr result (self.old.me.hand ≢ None) }
         ensures memory { OnErr result (self.new ≡ self.old) }
@@ -28,19 +39,28 @@ impl<C: Exclusion> Station<C> {
         look(&self.field, &mut self.seat);
         self.out.clear();
         perform(&mut self.member, Act::Deliver(from, parcel), &mut self.out)?;
-        let hand = None;
+        let_go(&mut self.hand, again);
         act(
             &self.field,
             &mut self.seat,
             self.node,
             &self.member,
             &self.out,
-            &hand,
+            &self.hand,
             &self.receipts,
         );
-        self.hand = hand;
         store_up(&mut self.waiting, &self.out);
         Ok(true)
+    }
+
+    /// Delivers the parcel in hand. False where the hand is empty.
+    pub(crate) fn deliver(&mut self) -> Result<bool, TakeFault>
+        ensures delivered { IfOk result (λ had. MatchBool had (Delivers C.core self.old self.new)
+            ((self.old.me.hand ≡ None) × (self.new ≡ self.old))) }
+        ensures held { OnErr result (self.old.me.hand ≢ None) }
+        ensures memory { OnErr result (self.new ≡ self.old) }
+    {
+        self.deliver_as(false)
     }
 
     /// Takes one parcel from the first filled slot of the link into the empty hand.

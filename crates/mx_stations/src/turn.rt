@@ -10,12 +10,10 @@ ghost use Rattle.mx_stations.specs.Posts.{FindsNone, does};
 ghost use Rattle.mx_stations.specs.Turns.{DeliversFirst, DeliversMore, Goes, IsFated, PutsEach, TakesEach, TakesFated, Turns, fated_hand, noted_all, noted_puts};
 
 use crate::answers::{TakeFault, TurnReport};
-use crate::field::{act, look};
 use crate::slots::{grab_filled, lift, release};
 use crate::station::Station;
-use crate::waiting::store_up;
 use mx_letters::{Fate, Fates};
-use mx_member::{Act, Parcel, perform};
+use mx_member::Parcel;
 use mx_nodelaws::Exclusion;
 use mx_stamps::NodeId;
 
@@ -43,25 +41,7 @@ impl<C: Exclusion> Station<C> {
         ensures held { OnErr result (self.old.me.hand ≢ None) }
         ensures memory { OnErr result (self.new ≡ self.old) }
     {
-        let Some(held) = &self.hand else {
-            return Ok(false);
-        };
-        let from = held.0;
-        let parcel = held.1.copy();
-        look(&self.field, &mut self.seat);
-        self.out.clear();
-        perform(&mut self.member, Act::Deliver(from, parcel), &mut self.out)?;
-        act(
-            &self.field,
-            &mut self.seat,
-            self.node,
-            &self.member,
-            &self.out,
-            &self.hand,
-            &self.receipts,
-        );
-        store_up(&mut self.waiting, &self.out);
-        Ok(true)
+        self.deliver_as(true)
     }
 
     /// Takes one parcel from the link into the empty hand, or throws it away, by its fate.

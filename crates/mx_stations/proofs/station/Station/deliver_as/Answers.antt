@@ -1,10 +1,10 @@
-use Rattle.std.proofs.Common.{rules, refl, sym, ap, ◌∙◌, inl, subst, append-nil, ◌≡◌, Some, [], ◌∷◌, ◌<◌}
+use Rattle.std.proofs.Common.{rules, refl, sym, ap, ◌∙◌, subst, append-nil, ◌≡◌, Some, [], ◌∷◌, ◌<◌}
 use Rattle.std.specs.Arc.{arc_value}
 use Rattle.mx_member.specs.declared.acts.Act.TheVariants.{Deliver}
-use Rattle.mx_stations.specs.Posts.{Waits, post, sent_in, shown}
+use Rattle.mx_stations.specs.Posts.{Waits, after_act, left_in, post, sent_in, shown}
 use Rattle.mx_stations.specs.Running.{GoToNodes}
-use Rattle.mx_stations.proofs.Posts.{acted_seat, acted_waits, acts_so, no_none, on_err, ready, same_seat, takeable}
-use Rattle.mx_stations.proofs.station.Station.deliver_first.Goals as goal
+use Rattle.mx_stations.proofs.Posts.{acted_seat, acted_waits, happens, keeps_left, no_none, on_err, ready, same_seat, takeable}
+use Rattle.mx_stations.proofs.station.Station.deliver_as.Goals as goal
 
 pub look-requires : goal.look-requires
 look-requires g c = record { table = c.self.invariant.0 ∙ sym (ap (λ f. f.board.shared.table_id) c.deref.ensures) }
@@ -19,7 +19,7 @@ act-requires g c =
     let i = c.self.invariant in let l = c.look.ensures in let a = c.in_ok-perform.ensures in
     let is = same_seat _ _ _ _ _ i.1 _ l.same.1 in
     let same = l.same.0 ∙ i.0 ∙ sym (ap (λ f. f.board.shared.table_id) c.deref-2.ensures) in
-    (search rules, (search rules, ready g.C.Exclusion.core _ _ c.self.inside.hand _ _ is _ _ _ _ (Deliver c.in-Some.held.0 c.copy-parcel.result) _ _ _ _ same (ap (λ f. f.nodes) c.deref-2.ensures) i.2 (c.in-Some.is ∙ ap (λ z. Some (c.in-Some.held.0, z)) (sym c.copy-parcel.ensures)) (inl refl) a.state a.letters (sym (append-nil _))))
+    (search rules, (search rules, ready g.C.Exclusion.core _ _ c.self.inside.hand _ _ is _ _ _ _ (Deliver c.in-Some.held.0 c.copy-parcel.result) _ _ _ _ same (ap (λ f. f.nodes) c.deref-2.ensures) i.2 (c.in-Some.is ∙ ap (λ z. Some (c.in-Some.held.0, z)) (sym c.copy-parcel.ensures)) (keeps_left c.args.again _ _ c.let_go.ensures) a.state a.letters (sym (append-nil _))))
 
 pub invariant_of-self : goal.invariant_of-self
 invariant_of-self g c =
@@ -51,5 +51,6 @@ returns-clause-delivered g c =
       c.in-Some.held.0,
       c.copy-parcel.result,
       ap (λ s. s.me.hand) (sym c.self.view_is) ∙ c.in-Some.is ∙ ap (λ z. Some (c.in-Some.held.0, z)) (sym c.copy-parcel.ensures),
-      acts_so g.C.Exclusion.core _ _ c.self.inside.hand _ _ is (Deliver c.in-Some.held.0 c.copy-parcel.result) _ _ _ _ _ _ _ _ _ _ view (n.same.0 ∙ l.same.0) n.view c.store_up.ensures a.state a.letters (sym (append-nil _)),
+      happens g.C.Exclusion.core _ _ c.self.inside.hand _ _ is (Deliver c.in-Some.held.0 c.copy-parcel.result) _ _ _ _ _ _ _ _ _ _ _ view (n.same.0 ∙ l.same.0) n.view c.store_up.ensures a.state a.letters (sym (append-nil _))
+          ∙ ap (λ h. after_act g.C.Exclusion.core (Deliver c.in-Some.held.0 c.copy-parcel.result) h c.args.self.now) (c.let_go.ensures ∙ ap (λ s. left_in c.args.again s.me.hand) c.self.view_is),
     )
