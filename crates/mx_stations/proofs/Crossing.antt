@@ -12,12 +12,11 @@ use Rattle.mx_member.specs.Member.{MemberState}
 use Rattle.mx_stations.specs.declared.answers.PutOut.TheVariants.{Sent, Full}
 use Rattle.mx_stations.specs.Entries.{Entry}
 use Rattle.mx_stations.specs.Links.{of, slot_at}
-use Rattle.mx_stations.specs.Slides.{claiming, placing, taking, releasing, Claims, HasEmptied, HasUsed, Takes, placed_view, released_view, IsFilling, IsHolding, KeepsHand}
+use Rattle.mx_stations.specs.Slides.{claiming, placing, taking, releasing, Claims, HasEmptied, HasUsed, Lifts, placed_view, released_view, IsFilling, IsHolding, KeepsHand}
 use Rattle.mx_stations.specs.Posts.{Delivers, Fetches, FindsNone, KeepsInHand, Post, PutsOut, Waits, post, sent_in, shown, slot_from}
 use Rattle.mx_stations.specs.Turns.{IsFated, fated_hand}
 use Rattle.mx_stations.proofs.Places.{only_one}
 use Rattle.mx_stations.proofs.Posts.{settled}
-use Rattle.mx_stations.proofs.Slides.{some_is}
 use Rattle.mx_stations.proofs.Waits.{waits_less, waits_turned}
 
 module _ {T P : Type 0} where
@@ -76,27 +75,18 @@ module _ {T P : Type 0} where
     pub turned_waits : (m1 : Me (Option P) (List (Entry T P))) (n : ℕ) (to : ℕ × P) (w w' w2 : List (ℕ × P)) → m1 ≡ m → Waits n (sent_in m.0) w → w ≡ to ∷ w' → w2 ≡ w' ++ to ∷ [] → Waits n (sent_in m1.0) w2
     turned_waits m1 n to w w' w2 same waits first turned = waits_turned n (sent_in m.0) (sent_in m1.0) w w' w2 to waits (ap (λ (z : Me (Option P) (List (Entry T P))). sent_in z.0) same) first turned
 
-    -- the parcel that the seat took
-    holding : (k from : ℕ) (m1 : Me (Option P) (List (Entry T P))) → Takes k from m m1 → (p : P) × (m1 ≡ (taking k from p me ∷ [], (k, Some p) ∷ []))
-    holding k from m1 t =
-        let one : t.0 ≡ me = only_me t.0 t.1 in
-        (t.2.0, t.2.1 ∙ (λ j. (taking k from t.2.0 (one j) ∷ [], (k, Some t.2.0) ∷ (is j).1)))
+    -- the parcel that the seat took out of its slot
+    lifted : (k from : ℕ) (m2 : Me (Option P) (List (Entry T P))) (q : P) → Lifts k from q m m2 → m2 ≡ (taking k from q me ∷ [], (k, None) ∷ [])
+    lifted k from m2 q took =
+        let one : took.0 ≡ me = only_me took.0 took.1 in
+        took.2 ∙ (λ j. (taking k from q (one j) ∷ [], (k, None) ∷ []))
 
-    pub holds_it : (k from : ℕ) (m1 : Me (Option P) (List (Entry T P))) → Takes k from m m1 → (p : P) × IsHolding m1 k i (Some p)
-    holds_it k from m1 took = let h = holding k from m1 took in (h.0, (taking k from h.0 me, h.1, refl, refl))
+    pub holds_none : (k from : ℕ) (m2 : Me (Option P) (List (Entry T P))) (q : P) → Lifts k from q m m2 → IsHolding m2 k i None
+    holds_none k from m2 q took = (taking k from q me, lifted k from m2 q took, refl, refl)
 
-    lifted : (k from : ℕ) (m1 m2 : Me (Option P) (List (Entry T P))) (q : P) → Takes k from m m1 → m1.1 ≡ (k, Some q) ∷ [] → m2 ≡ (m1.0, (k, None) ∷ []) → m2 ≡ (taking k from q me ∷ [], (k, None) ∷ [])
-    lifted k from m1 m2 q took has view =
-        let h = holding k from m1 took in
-        let q_is : h.0 ≡ q = some_is h.0 q (ap (λ (z : ℕ × Option P). z.1) (only_one (k, Some h.0) (k, Some q) (sym (ap (λ (z : Me (Option P) (List (Entry T P))). z.1) h.1) ∙ has))) in
-        view ∙ (λ j. ((h.1 j).0, (k, None) ∷ [])) ∙ (λ j. (taking k from (q_is j) me ∷ [], (k, None) ∷ []))
-
-    pub holds_none : (k from : ℕ) (m1 m2 : Me (Option P) (List (Entry T P))) (q : P) → Takes k from m m1 → m1.1 ≡ (k, Some q) ∷ [] → m2 ≡ (m1.0, (k, None) ∷ []) → IsHolding m2 k i None
-    holds_none k from m1 m2 q took has view = (taking k from q me, lifted k from m1 m2 q took has view, refl, refl)
-
-    pub keeps_hand : (k from : ℕ) (m1 m2 : Me (Option P) (List (Entry T P))) (q : P) → Takes k from m m1 → m1.1 ≡ (k, Some q) ∷ [] → m2 ≡ (m1.0, (k, None) ∷ []) → KeepsHand m2.0 (Some (from, q))
-    keeps_hand k from m1 m2 q took has view e at =
-        inl (ap (λ (z : Entry T P). z.hand) (only_one (taking k from q me) e (sym (ap (λ (z : Me (Option P) (List (Entry T P))). z.0) (lifted k from m1 m2 q took has view)) ∙ at)))
+    pub keeps_hand : (k from : ℕ) (m2 : Me (Option P) (List (Entry T P))) (q : P) → Lifts k from q m m2 → KeepsHand m2.0 (Some (from, q))
+    keeps_hand k from m2 q took e at =
+        inl (ap (λ (z : Entry T P). z.hand) (only_one (taking k from q me) e (sym (ap (λ (z : Me (Option P) (List (Entry T P))). z.0) (lifted k from m2 q took)) ∙ at)))
 
     pub finds_none : (k : ℕ → ℕ) (from : ℕ) (m1 : Me (Option P) (List (Entry T P))) (table table' : TableId) (n : ℕ) (w : List (ℕ × P)) (s : Post T P) → post table n me w ≡ s → table' ≡ table → s.me.hand ≡ None → ((u : ℕ) → k u ≡ slot_at n from i u)
         → m1 ≡ m → ((u : ℕ) → u < 4 → HasEmptied (k u) from m) → FindsNone from s (post table' n (shown i x held r m1.0) w)
@@ -110,36 +100,36 @@ module _ {T P : Type 0} where
         empty
 
     -- the seat with what is in hand of the parcel, by its fate
-    fetched : (k from : ℕ) (m1 m2 m3 : Me (Option P) (List (Entry T P))) (q : P) (h : Option (ℕ × P)) → Takes k from m m1 → m1.1 ≡ (k, Some q) ∷ [] → m2 ≡ (m1.0, (k, None) ∷ []) → m3 ≡ (released_view h m2.0, [])
+    fetched : (k from : ℕ) (m2 m3 : Me (Option P) (List (Entry T P))) (q : P) (h : Option (ℕ × P)) → Lifts k from q m m2 → m3 ≡ (released_view h m2.0, [])
         → m3 ≡ (releasing h (taking k from q me) ∷ [], [])
-    fetched k from m1 m2 m3 q h took has view given = given ∙ (λ j. (released_view h (lifted k from m1 m2 q took has view j).0, []))
+    fetched k from m2 m3 q h took given = given ∙ (λ j. (released_view h (lifted k from m2 q took j).0, []))
 
-    pub keeps_fated : (fate : Fate) (k from : ℕ) (m1 m2 : Me (Option P) (List (Entry T P))) (q : P) → Takes k from m m1 → m1.1 ≡ (k, Some q) ∷ [] → m2 ≡ (m1.0, (k, None) ∷ []) → KeepsHand m2.0 (fated_hand fate (from, q))
-    keeps_fated Pass k from m1 m2 q took has view = keeps_hand k from m1 m2 q took has view
-    keeps_fated Drop k from m1 m2 q took has view = λ e at. inr refl
-    keeps_fated Twice k from m1 m2 q took has view = keeps_hand k from m1 m2 q took has view
+    pub keeps_fated : (fate : Fate) (k from : ℕ) (m2 : Me (Option P) (List (Entry T P))) (q : P) → Lifts k from q m m2 → KeepsHand m2.0 (fated_hand fate (from, q))
+    keeps_fated Pass k from m2 q took = keeps_hand k from m2 q took
+    keeps_fated Drop k from m2 q took = λ e at. inr refl
+    keeps_fated Twice k from m2 q took = keeps_hand k from m2 q took
 
-    pub fated_seat : (k from : ℕ) (m1 m2 m3 : Me (Option P) (List (Entry T P))) (q : P) (h : Option (ℕ × P)) → Takes k from m m1 → m1.1 ≡ (k, Some q) ∷ [] → m2 ≡ (m1.0, (k, None) ∷ []) → m3 ≡ (released_view h m2.0, [])
+    pub fated_seat : (k from : ℕ) (m2 m3 : Me (Option P) (List (Entry T P))) (q : P) (h : Option (ℕ × P)) → Lifts k from q m m2 → m3 ≡ (released_view h m2.0, [])
         → (m3 ≡ (shown i x h r m3.0 ∷ [], [])) × (sent_in m3.0 ≡ sent_in m.0)
-    fated_seat k from m1 m2 m3 q h took has view given =
-        let f = fetched k from m1 m2 m3 q h took has view given in
+    fated_seat k from m2 m3 q h took given =
+        let f = fetched k from m2 m3 q h took given in
         ((settled i x h r m3 (releasing h (taking k from q me)) f refl).0, (λ j. sent_in (f j).0))
 
-    crosses : (fate : Fate) (k from u : ℕ) (m1 m2 m3 : Me (Option P) (List (Entry T P))) (q : P) (h : Option (ℕ × P)) (table table' : TableId) (n : ℕ) (w : List (ℕ × P)) (s : Post T P) → post table n me w ≡ s → table' ≡ table → k ≡ slot_at n from i u
-        → Takes k from m m1 → m1.1 ≡ (k, Some q) ∷ [] → m2 ≡ (m1.0, (k, None) ∷ []) → m3 ≡ (released_view h m2.0, []) → h ≡ fated_hand fate (from, q)
+    crosses : (fate : Fate) (k from u : ℕ) (m2 m3 : Me (Option P) (List (Entry T P))) (q : P) (h : Option (ℕ × P)) (table table' : TableId) (n : ℕ) (w : List (ℕ × P)) (s : Post T P) → post table n me w ≡ s → table' ≡ table → k ≡ slot_at n from i u
+        → Lifts k from q m m2 → m3 ≡ (released_view h m2.0, []) → h ≡ fated_hand fate (from, q)
         → post table' n (shown i x h r m3.0) w ≡ post s.table s.nodes (releasing (fated_hand fate (from, q)) (taking (slot_from s from u) from q s.me)) s.waiting
-    crosses fate k from u m1 m2 m3 q h table table' n w s same same_table k_is took has view given is_hand =
-        let f = fetched k from m1 m2 m3 q h took has view given in
+    crosses fate k from u m2 m3 q h table table' n w s same same_table k_is took given is_hand =
+        let f = fetched k from m2 m3 q h took given in
         let now = (settled i x h r m3 (releasing h (taking k from q me)) f refl).1 in
         (λ j. post (same_table j) n (now j) w) ∙ (λ j. post table n (releasing (is_hand j) (taking (k_is j) from q me)) w)
         ∙ ap (λ (z : Post T P). post z.table z.nodes (releasing (fated_hand fate (from, q)) (taking (slot_from z from u) from q z.me)) z.waiting) same
 
-    pub fated : (fate : Fate) (k from u : ℕ) (m1 m2 m3 : Me (Option P) (List (Entry T P))) (q : P) (h : Option (ℕ × P)) (table table' : TableId) (n : ℕ) (w : List (ℕ × P)) (s : Post T P) → post table n me w ≡ s → table' ≡ table → s.me.hand ≡ None → k ≡ slot_at n from i u → u < 4
-        → Takes k from m m1 → m1.1 ≡ (k, Some q) ∷ [] → m2 ≡ (m1.0, (k, None) ∷ []) → m3 ≡ (released_view h m2.0, []) → h ≡ fated_hand fate (from, q)
+    pub fated : (fate : Fate) (k from u : ℕ) (m2 m3 : Me (Option P) (List (Entry T P))) (q : P) (h : Option (ℕ × P)) (table table' : TableId) (n : ℕ) (w : List (ℕ × P)) (s : Post T P) → post table n me w ≡ s → table' ≡ table → s.me.hand ≡ None → k ≡ slot_at n from i u → u < 4
+        → Lifts k from q m m2 → m3 ≡ (released_view h m2.0, []) → h ≡ fated_hand fate (from, q)
         → IsFated from fate s (post table' n (shown i x h r m3.0) w)
-    fated Pass k from u m1 m2 m3 q h table table' n w s same same_table empty k_is un took has view given is_hand = (empty, (q, u, un, crosses Pass k from u m1 m2 m3 q h table table' n w s same same_table k_is took has view given is_hand))
-    fated Drop k from u m1 m2 m3 q h table table' n w s same same_table empty k_is un took has view given is_hand = (empty, (q, u, un, crosses Drop k from u m1 m2 m3 q h table table' n w s same same_table k_is took has view given is_hand))
-    fated Twice k from u m1 m2 m3 q h table table' n w s same same_table empty k_is un took has view given is_hand = (empty, (q, u, un, crosses Twice k from u m1 m2 m3 q h table table' n w s same same_table k_is took has view given is_hand))
+    fated Pass k from u m2 m3 q h table table' n w s same same_table empty k_is un took given is_hand = (empty, (q, u, un, crosses Pass k from u m2 m3 q h table table' n w s same same_table k_is took given is_hand))
+    fated Drop k from u m2 m3 q h table table' n w s same same_table empty k_is un took given is_hand = (empty, (q, u, un, crosses Drop k from u m2 m3 q h table table' n w s same same_table k_is took given is_hand))
+    fated Twice k from u m2 m3 q h table table' n w s same same_table empty k_is un took given is_hand = (empty, (q, u, un, crosses Twice k from u m2 m3 q h table table' n w s same same_table k_is took given is_hand))
 
 module _ {H S M : Type 0} (core : Core H S M) where
   abbrev P : Type 0

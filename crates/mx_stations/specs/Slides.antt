@@ -82,6 +82,12 @@ module _ {T P : Type 0} where
       (e : Entry T P) × (m.0 ≡ e ∷ [])
       × ((p : P) × (m' ≡ (taking k from p e ∷ [], (k, Some p) ∷ m.1)))
 
+  -- the slot had this parcel, and the seat has taken it out
+  abbrev pub Lifts : ℕ → ℕ → P → Me (Option P) (List (Entry T P)) → Me (Option P) (List (Entry T P))
+      → Type 0
+  Lifts k from p m m' =
+      (e : Entry T P) × (m.0 ≡ e ∷ []) × (m' ≡ (taking k from p e ∷ [], (k, None) ∷ []))
+
   -- where the slot is of the seat's own link, all that was placed there was taken
   abbrev pub HasEmptied : ℕ → ℕ → Me (Option P) (List (Entry T P)) → Type 0
   HasEmptied k from m =

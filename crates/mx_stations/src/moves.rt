@@ -5,7 +5,7 @@ ghost use Rattle.mx_stations.specs.Posts.{Delivers, DeliversAs, Fetches, FindsNo
 
 use crate::answers::{PutOut, TakeFault, Taken};
 use crate::field::{act, look};
-use crate::slots::{claim_empty, grab_filled, lift, place, release};
+use crate::slots::{claim_empty, place, release, take_up};
 use crate::station::Station;
 use crate::waiting::{store_up, take_first};
 use mx_member::{Act, Parcel, perform};
@@ -71,12 +71,11 @@ impl<C: Exclusion> Station<C> {
             (FindsNone from self.old self.new) }
     {
         let field = &*self.field;
-        let Some(index) = grab_filled(field, &mut self.seat, self.node, from) else {
+        let Some(found) = take_up(field, &mut self.seat, self.node, from) else {
             return false;
         };
-        let parcel = lift(field, &mut self.seat, self.node, from, index);
-        let hand = Some((from, parcel));
-        release(field, &mut self.seat, self.node, from, index, &hand);
+        let hand = Some((from, found.1));
+        release(field, &mut self.seat, self.node, from, found.0, &hand);
         self.hand = hand;
         true
     }

@@ -5,7 +5,7 @@ ghost use Rattle.std.specs.Prelude.{◌≡◌, ◌⊎◌, ℕ, ◌+◌, ◌*◌,
 ghost use Rattle.mx_member.specs.declared.parcel.Parcel.{Parcel as OneParcel};
 ghost use Rattle.mx_stations.specs.Links.{slot_at};
 ghost use Rattle.mx_stations.specs.Running.{IsIdle, Keeps};
-ghost use Rattle.mx_stations.specs.Slides.{Claimed, Claims, HasEmptied, HasUsed, IsFilling, IsHolding, KeepsHand, Taken, Takes, placed_view, released_view};
+ghost use Rattle.mx_stations.specs.Slides.{Claimed, Claims, HasEmptied, HasUsed, IsFilling, IsHolding, KeepsHand, Lifts, Taken, Takes, placed_view, released_view};
 
 use crate::field::{Field, Place};
 use crate::next::{Gives, Next, OfSlot, TriesToClaim, TriesToTake};
@@ -180,7 +180,7 @@ fn grab<C: Exclusion>(
 }
 
 /// Tries the slots of the link in order, and takes the first that is filled.
-pub(crate) fn grab_filled<C: Exclusion>(
+fn grab_filled<C: Exclusion>(
     field: &Field<C>,
     seat: &mut Place<C>,
     node: NodeId,
@@ -204,7 +204,7 @@ pub(crate) fn grab_filled<C: Exclusion>(
 }
 
 /// Takes the parcel out of the slot that the seat holds.
-pub(crate) fn lift<C: Exclusion>(
+fn lift<C: Exclusion>(
     field: &Field<C>,
     seat: &mut Place<C>,
     node: NodeId,
@@ -222,6 +222,29 @@ pub(crate) fn lift<C: Exclusion>(
 {
     let slot = slot_of(field, from, node, index);
     field.board.shared.exchange(seat, slot, None).unwrap()
+}
+
+/// Takes the parcel out of the first filled slot of the link. The seat holds that slot then.
+pub(crate) fn take_up<C: Exclusion>(
+    field: &Field<C>,
+    seat: &mut Place<C>,
+    node: NodeId,
+    from: NodeId,
+) -> Option<(u8, Parcel<C::Msg>)>
+    requires table { seat.old.table_id ≡ field.now.board.shared.table_id }
+    requires nodes { (node < field.now.nodes) × (from < field.now.nodes) }
+    requires idle { IsIdle seat.old.me node }
+    ensures same { (seat.new.table_id ≡ seat.old.table_id) × (seat.new.id ≡ seat.old.id) }
+    ensures some { IfSome result (λ found. (found.0 < 4) × Lifts
+        (slot_at field.now.nodes from node found.0) from found.1 seat.old.me seat.new.me) }
+    ensures none { IfNone result ((seat.new.me ≡ seat.old.me) × ((index : ℕ) → index < 4
+        → HasEmptied (slot_at field.now.nodes from node index) from seat.old.me)) }
+{
+    let Some(index) = grab_filled(field, seat, node, from) else {
+        return None;
+    };
+    let parcel = lift(field, seat, node, from, index);
+    Some((index, parcel))
 }
 
 /// Gives the emptied slot back. The parcel stays in hand, or is thrown away.

@@ -10,7 +10,7 @@ ghost use Rattle.mx_stations.specs.Posts.{FindsNone, does};
 ghost use Rattle.mx_stations.specs.Turns.{DeliversFirst, DeliversMore, Goes, IsFated, PutsEach, TakesEach, TakesFated, Turns, fated_hand, noted_all, noted_puts};
 
 use crate::answers::{TakeFault, TurnReport};
-use crate::slots::{grab_filled, lift, release};
+use crate::slots::{release, take_up};
 use crate::station::Station;
 use mx_letters::{Fate, Fates};
 use mx_member::Parcel;
@@ -52,11 +52,10 @@ impl<C: Exclusion> Station<C> {
             (λ fate. IsFated from fate self.old self.new) }
     {
         let field = &*self.field;
-        let index = grab_filled(field, &mut self.seat, self.node, from)?;
-        let parcel = lift(field, &mut self.seat, self.node, from, index);
+        let found = take_up(field, &mut self.seat, self.node, from)?;
         let fate = fates.fate();
-        let hand = hand_of(fate, from, parcel);
-        release(field, &mut self.seat, self.node, from, index, &hand);
+        let hand = hand_of(fate, from, found.1);
+        release(field, &mut self.seat, self.node, from, found.0, &hand);
         self.hand = hand;
         Some(fate)
     }

@@ -1,4 +1,4 @@
-use Rattle.std.proofs.Common.{rules, refl, sym, ap, ◌∙◌, subst, append-nil, ◌≡◌, Some, [], ◌∷◌, ◌<◌}
+use Rattle.std.proofs.Common.{rules, sym, ap, ◌∙◌, subst, append-nil, ◌≡◌, Some, [], ◌∷◌}
 use Rattle.std.specs.Arc.{arc_value}
 use Rattle.mx_member.specs.declared.acts.Act.TheVariants.{Deliver}
 use Rattle.mx_stations.specs.Posts.{Waits, after_act, left_in, post, sent_in, shown}

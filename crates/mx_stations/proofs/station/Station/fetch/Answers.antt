@@ -4,33 +4,22 @@ use Rattle.mx_letters.specs.declared.fates.Fate.TheVariants.{Pass}
 use Rattle.mx_stations.specs.Links.{slot_at}
 use Rattle.mx_stations.specs.Posts.{sent_in, Waits}
 use Rattle.mx_stations.proofs.Posts.{idle, same_seat}
-use Rattle.mx_stations.proofs.Crossing.{fated, fated_seat, finds_none, holds_it, holds_none, keeps_hand}
+use Rattle.mx_stations.proofs.Crossing.{fated, fated_seat, finds_none, holds_none, keeps_hand}
 use Rattle.mx_stations.proofs.station.Station.fetch.Goals as goal
 
-pub grab_filled-requires-clause-table : goal.grab_filled-requires-clause-table
-grab_filled-requires-clause-table g c = c.self.invariant.0 ∙ sym (ap (λ f. f.board.shared.table_id) c.deref-field.ensures)
+pub take_up-requires-clause-table : goal.take_up-requires-clause-table
+take_up-requires-clause-table g c = c.self.invariant.0 ∙ sym (ap (λ f. f.board.shared.table_id) c.deref-field.ensures)
 
-pub grab_filled-requires-clause-nodes : goal.grab_filled-requires-clause-nodes
-grab_filled-requires-clause-nodes g c =
+pub take_up-requires-clause-nodes : goal.take_up-requires-clause-nodes
+take_up-requires-clause-nodes g c =
     let n = ap (λ f. f.nodes) (sym c.deref-field.ensures) in
     (subst (λ (k : ℕ). c.self.inside.node < k) n c.self.invariant.2, subst (λ (k : ℕ). c.args.from < k) (ap (λ s. s.nodes) (sym c.self.view_is) ∙ n) c.requires.within)
 
-pub grab_filled-requires-clause-idle : goal.grab_filled-requires-clause-idle
-grab_filled-requires-clause-idle g c = idle _ _ _ _ _ c.self.invariant.1
-
-pub lift-parcel-requires-clause-table : goal.lift-parcel-requires-clause-table
-lift-parcel-requires-clause-table g c = c.in-Some.ensures.same.0 ∙ c.self.invariant.0 ∙ sym (ap (λ f. f.board.shared.table_id) c.deref-field.ensures)
-
-pub lift-parcel-requires-clause-nodes : goal.lift-parcel-requires-clause-nodes
-lift-parcel-requires-clause-nodes g c =
-    let n = ap (λ f. f.nodes) (sym c.deref-field.ensures) in
-    (subst (λ (k : ℕ). c.self.inside.node < k) n c.self.invariant.2, subst (λ (k : ℕ). c.args.from < k) (ap (λ s. s.nodes) (sym c.self.view_is) ∙ n) c.requires.within)
-
-pub lift-parcel-requires-clause-index : goal.lift-parcel-requires-clause-index
-lift-parcel-requires-clause-index g c = c.in-Some.ensures.some.0
+pub take_up-requires-clause-idle : goal.take_up-requires-clause-idle
+take_up-requires-clause-idle g c = idle _ _ _ _ _ c.self.invariant.1
 
 pub release-requires-clause-table : goal.release-requires-clause-table
-release-requires-clause-table g c = c.lift-parcel.ensures.same.0 ∙ c.in-Some.ensures.same.0 ∙ c.self.invariant.0 ∙ sym (ap (λ f. f.board.shared.table_id) c.deref-field.ensures)
+release-requires-clause-table g c = c.in-Some.ensures.same.0 ∙ c.self.invariant.0 ∙ sym (ap (λ f. f.board.shared.table_id) c.deref-field.ensures)
 
 pub release-requires-clause-nodes : goal.release-requires-clause-nodes
 release-requires-clause-nodes g c =
@@ -39,6 +28,12 @@ release-requires-clause-nodes g c =
 
 pub release-requires-clause-index : goal.release-requires-clause-index
 release-requires-clause-index g c = c.in-Some.ensures.some.0
+
+pub release-requires-clause-holding : goal.release-requires-clause-holding
+release-requires-clause-holding g c = holds_none _ _ _ _ _ c.self.invariant.1 _ _ _ _ c.in-Some.ensures.some.1
+
+pub release-requires-clause-hand : goal.release-requires-clause-hand
+release-requires-clause-hand g c = keeps_hand _ _ _ _ _ c.self.invariant.1 _ _ _ _ c.in-Some.ensures.some.1
 
 pub invariant_of-self : goal.invariant_of-self
 invariant_of-self g c =
@@ -51,24 +46,13 @@ returns-in_default g c =
     let at : ℕ → ℕ → ℕ = λ nodes u. slot_at nodes c.args.from c.self.inside.node u in
     finds_none _ _ _ _ _ i.1 (at c.deref-field.result.now.nodes) _ _ _ _ _ _ _ c.self.view_is n.same.0 c.requires.empty (λ u. ap (λ f. at f.nodes u) c.deref-field.ensures) n.none.0 n.none.1
 
-pub lift-parcel-requires-clause-holding : goal.lift-parcel-requires-clause-holding
-lift-parcel-requires-clause-holding g c = holds_it _ _ _ _ _ c.self.invariant.1 _ _ _ c.in-Some.ensures.some.1
-
-pub release-requires-clause-holding : goal.release-requires-clause-holding
-release-requires-clause-holding g c =
-    let l = c.lift-parcel.ensures in holds_none _ _ _ _ _ c.self.invariant.1 _ _ _ _ _ c.in-Some.ensures.some.1 l.parcel l.view
-
-pub release-requires-clause-hand : goal.release-requires-clause-hand
-release-requires-clause-hand g c =
-    let l = c.lift-parcel.ensures in keeps_hand _ _ _ _ _ c.self.invariant.1 _ _ _ _ _ c.in-Some.ensures.some.1 l.parcel l.view
-
 pub invariant_of-self-2 : goal.invariant_of-self-2
 invariant_of-self-2 g c =
-    let i = c.self.invariant in let r = c.release.ensures in let l = c.lift-parcel.ensures in let n = c.in-Some.ensures in
-    let f = fated_seat _ _ _ _ _ i.1 _ _ _ _ _ _ _ n.some.1 l.parcel l.view r.view in
-    (r.same.0 ∙ l.same.0 ∙ n.same.0 ∙ i.0, f.0, i.2, subst (λ z. Waits (arc_value c.self.inside.field).nodes z c.self.inside.waiting.items) (sym f.1) i.3)
+    let i = c.self.invariant in let r = c.release.ensures in let n = c.in-Some.ensures in
+    let f = fated_seat _ _ _ _ _ i.1 _ _ _ _ _ _ n.some.1 r.view in
+    (r.same.0 ∙ n.same.0 ∙ i.0, f.0, i.2, subst (λ z. Waits (arc_value c.self.inside.field).nodes z c.self.inside.waiting.items) (sym f.1) i.3)
 
 pub returns : goal.returns
 returns g c =
-    let i = c.self.invariant in let r = c.release.ensures in let l = c.lift-parcel.ensures in let n = c.in-Some.ensures in
-    fated _ _ _ _ _ i.1 Pass _ _ _ _ _ _ _ _ _ _ _ _ _ c.self.view_is (r.same.0 ∙ l.same.0 ∙ n.same.0) c.requires.empty (ap (λ f. slot_at f.nodes c.args.from c.self.inside.node c.in-Some.index) c.deref-field.ensures) n.some.0 n.some.1 l.parcel l.view r.view refl
+    let i = c.self.invariant in let r = c.release.ensures in let n = c.in-Some.ensures in
+    fated _ _ _ _ _ i.1 Pass _ _ _ _ _ _ _ _ _ _ _ _ c.self.view_is (r.same.0 ∙ n.same.0) c.requires.empty (ap (λ f. slot_at f.nodes c.args.from c.self.inside.node c.in-Some.found.0) c.deref-field.ensures) n.some.0 n.some.1 r.view refl

@@ -1,4 +1,4 @@
-use Rattle.std.proofs.Common.{rules, refl, sym, ap, ◌∙◌, inl, subst, ◌≡◌, ◌++◌, [], ◌∷◌, ◌<◌}
+use Rattle.std.proofs.Common.{rules, refl, sym, ap, ◌∙◌, inl, subst, ◌≡◌, ◌++◌, [], ◌∷◌}
 use Rattle.std.specs.Arc.{arc_value}
 use Rattle.mx_member.specs.declared.acts.Act.TheVariants.{Leave}
 use Rattle.mx_member.specs.declared.acts.Answer.TheVariants as answer

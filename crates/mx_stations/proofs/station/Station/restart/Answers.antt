@@ -1,4 +1,4 @@
-use Rattle.std.proofs.Common.{rules, refl, sym, ap, ◌∙◌, inl, subst, append-nil, ◌<◌}
+use Rattle.std.proofs.Common.{rules, refl, sym, ap, ◌∙◌, inl, subst, append-nil}
 use Rattle.mx_member.specs.declared.acts.Act.TheVariants.{Restart}
 use Rattle.mx_stations.specs.Running.{GoToNodes}
 use Rattle.mx_stations.proofs.Posts.{acted_seat, acted_waits, acts_so, ready}
