@@ -41,7 +41,8 @@ after_section_of : (k n : ℕ) (o : Option ℕ) (cell : Cell) → 1 ≤ n → n 
 after_section_of k n None cell l m h = h
 after_section_of k n (Some v) cell l m h = (m, inl l)
 
-cell_of : (k : ℕ) (cells : List Cell) (i : ℕ) → AreCellsOf k cells → IsCellOf k (get_or cells i unwritten)
+-- a register's cell is, too
+pub cell_of : (k : ℕ) (cells : List Cell) (i : ℕ) → AreCellsOf k cells → IsCellOf k (get_or cells i unwritten)
 cell_of k [] i h = (omega arith, inr refl)
 cell_of k (c ∷ cs) zero h = h c (inl refl)
 cell_of k (c ∷ cs) (suc i) h = cell_of k cs i (λ x m. h x (inr m))
