@@ -43,6 +43,7 @@ pub fn merge(journal: &mut Journal, other: &Journal) -> Result<u64, MergeFault>
         × (covered journal.new ≡ covered journal.old + k)) }
     ensures join { OnOk result (IsLeastJournal journal.old other.now journal.new) }
     ensures ordered { Ascending (suc journal.new.base.upto) journal.new.records }
+    ensures there { Ascending (suc other.now.base.upto) other.now.records }
     ensures contained { IsWithin other.now journal.old → IsOk result }
     ensures err { OnErr result (journal.new ≡ journal.old) }
 {
