@@ -85,7 +85,7 @@ above_consecutive n f (x ∷ xs) c =
     (λ l. above_consecutive n (suc f) xs c.1 ∙ ap (λ j. drop j (x ∷ xs)) (let q : suc (suc n - suc f) ≡ suc n - f = omega arith in q))
 
 -- and what follows the run stays
-above_in_run : (n : ℕ) (x : Record) (xs ys : List Record) → AreConsecutive (suc x.number) xs → n < x.number + length xs → above n ((x ∷ xs) ++ ys) ≡ above n (x ∷ xs) ++ ys
+pub above_in_run : (n : ℕ) (x : Record) (xs ys : List Record) → AreConsecutive (suc x.number) xs → n < x.number + length xs → above n ((x ∷ xs) ++ ys) ≡ above n (x ∷ xs) ++ ys
 above_in_run n x [] ys c l =
     above_case (λ l. l ≡ above n (x ∷ []) ++ ys) n x ys
     (λ _. above_case (λ l. x ∷ ys ≡ l ++ ys) n x [] (λ _. refl) (λ bad. absurd (omega arith)))
@@ -103,7 +103,7 @@ above_low n (x ∷ xs) ys low =
     let l = low x (inl refl) in
     above_case (λ l. l ≡ above n ys) n x (xs ++ ys) (λ bad. absurd (omega arith)) (λ _. above_low n xs ys (λ z h. low z (inr h)))
 
-low_run : (n : ℕ) (x : Record) (xs ys : List Record) → AreConsecutive (suc x.number) xs → last_number (x ∷ xs) ≤ n → above n ((x ∷ xs) ++ ys) ≡ above n ys
+pub low_run : (n : ℕ) (x : Record) (xs ys : List Record) → AreConsecutive (suc x.number) xs → last_number (x ∷ xs) ≤ n → above n ((x ∷ xs) ++ ys) ≡ above n ys
 low_run n x xs ys c l =
     let end = last_consecutive x xs c in
     above_low n (x ∷ xs) ys (λ z h. let w = in_run x.number (x ∷ xs) (refl, c) z h in let q = w.1 in omega arith)

@@ -1,5 +1,5 @@
 -- Going on from a number: the records above it.
-use Rattle.std.proofs.Common.{ℕ, suc, ◌<◌, ◌≤◌, ◌≡◌, List, [], ◌∷◌, nat_lt, refl, ◌∙◌, subst, arith}
+use Rattle.std.proofs.Common.{ℕ, suc, ◌+◌, ◌<◌, ◌≤◌, ◌≡◌, List, [], ◌∷◌, length, nat_lt, refl, ◌∙◌, subst, arith}
 use Rattle.mx_stamps.proofs.Choices.{lt_true, lt_false, cond_case}
 use Rattle.mx_journal.specs.declared.records.Record.{Record}
 use Rattle.mx_journal.specs.Records.{Ascending, above}
@@ -47,3 +47,17 @@ above_above m n [] l = refl
 above_above m n (x ∷ xs) l =
     above_case (λ zs. above n zs ≡ above n (x ∷ xs)) m x xs (λ _. refl)
     (λ low. above_above m n xs l ∙ above_case (λ zs. above n xs ≡ zs) n x xs (λ bad. absurd (omega arith)) (λ _. refl))
+
+-- how many records are above a number: no more than there are, and fewer by no more than the numbers up to it
+pub above_shorter : (n : ℕ) (xs : List Record) → length (above n xs) ≤ length xs
+above_shorter n [] = omega arith
+above_shorter n (x ∷ xs) =
+    let rest = above_shorter n xs in
+    above_case (λ l. length l ≤ suc (length xs)) n x xs (λ _. omega arith) (λ _. omega arith)
+
+pub few_up_to : (n k : ℕ) (xs : List Record) → Ascending (suc k) xs → k ≤ n → k + length xs ≤ n + length (above n xs)
+few_up_to n k [] a l = omega arith
+few_up_to n k (x ∷ xs) a l =
+    let low = a.0 in
+    above_case (λ q. k + suc (length xs) ≤ n + length q) n x xs (λ _. omega arith)
+    (λ here. let rest = few_up_to n x.number xs a.1 here in omega arith)

@@ -6,7 +6,7 @@ use Rattle.mx_journal.specs.declared.records.Record.{Record}
 use Rattle.mx_journal.specs.Agreement.{AreAgreeing, IsConsistent, IsSubmap}
 use Rattle.mx_journal.specs.Records.{Ascending, IsNumbered, IsThere, above, record_at, top_of, with_record, with_records}
 use Rattle.mx_journal.specs.Runs.{AreNumbersOf, IsJoinedUpTo, IsNextOfBoth}
-use Rattle.mx_journal.proofs.Maps.{ascending_above, ascending_same, ascending_with_all, consistent_across, consistent_among, in_with_record, in_with_records, none_found, same_members, with_record_case, with_record_has, with_record_keeps, with_records_have, with_records_keep}
+use Rattle.mx_journal.proofs.Maps.{ascending_above, ascending_from, ascending_same, ascending_with_all, consistent_across, consistent_among, in_with_record, in_with_records, none_found, same_members, with_record_case, with_record_has, with_record_keeps, with_records_have, with_records_keep}
 use Rattle.mx_journal.proofs.Going.{above_above, above_all, above_case, above_more, above_next, ascending_rest_above}
 use Rattle.mx_journal.proofs.Found.{above_has, in_above}
 
@@ -118,14 +118,21 @@ top_above [] x h = absurd h
 top_above (y ∷ ys) x (inl e) = let s : x.number ≡ y.number = ap (λ (z : Record). z.number) e in omega arith
 top_above (y ∷ ys) x (inr h) = let rest = top_above ys x h in omega arith
 
--- all records of both, joined, are the join
-pub joined_is : (to : ℕ) (xs ys js : List Record) → Ascending 1 xs → Ascending 1 ys → Ascending 1 js → AreAgreeing xs ys → top_of xs ≤ to → top_of ys ≤ to → IsJoinedUpTo 0 to xs ys js → js ≡ with_records ys xs
-joined_is to xs ys js a b c agree l m j =
-    same_members 1 1 js (with_records ys xs) c (ascending_with_all ys xs a (ascending_above 1 ys b))
-    (λ x h. let w = j.known x h in elim w.0 [ inl t ↦ with_records_keep ys xs x t | inr t ↦ with_records_have ys xs agree (ascending_same 1 ys b) x t ])
-    (λ x h. elim (in_with_records ys xs x h) [
-      | inl t ↦ (let low = ascending_above 1 xs a x t in let high = top_above xs x t in j.all x (inl t) (omega arith) (omega arith))
-      | inr t ↦ (let low = ascending_above 1 ys b x t in let high = top_above ys x t in j.all x (inr t) (omega arith) (omega arith))
+-- all records of both above a number that ours are above, joined, are the join
+pub joined_is : (from to : ℕ) (xs ys js : List Record) → Ascending (suc from) xs → Ascending 1 ys → Ascending 1 js → AreAgreeing xs ys → top_of xs ≤ to → top_of ys ≤ to → IsJoinedUpTo from to xs ys js → js ≡ with_records (above from ys) xs
+joined_is from to xs ys js a b c agree l m j =
+    let zs = above from ys in
+    let order = ascending_rest_above from 1 ys b in
+    let high = ascending_above (suc from) zs order in
+    let agrees : AreAgreeing xs zs = λ x y h t e. agree x y h (in_above from ys y t) e in
+    same_members 1 1 js (with_records zs xs) c (ascending_with_all zs xs (ascending_from 1 (suc from) xs (omega arith) a) (λ x h. let q = high x h in omega arith))
+    (λ x h. let w = j.known x h in elim w.0 [
+      | inl t ↦ with_records_keep zs xs x t
+      | inr t ↦ with_records_have zs xs agrees (ascending_same (suc from) zs order) x (above_has from ys x t w.1)
+    ])
+    (λ x h. elim (in_with_records zs xs x h) [
+      | inl t ↦ (let low = ascending_above (suc from) xs a x t in let top = top_above xs x t in j.all x (inl t) (omega arith) (omega arith))
+      | inr t ↦ (let low = high x t in let k = in_above from ys x t in let top = top_above ys x k in j.all x (inr k) (omega arith) (omega arith))
     ])
 
 above_none : (to : ℕ) (xs : List Record) → ((x : Record) → IsIn x xs → x.number ≤ to) → above to xs ≡ []

@@ -1,6 +1,6 @@
 -- Choices: comparisons. Maps: the laws of journals. Below: records below a number. Going: records above
--- a number, one after another. The others serve this crate's own proofs: Flat, PutRuns, Found, Appending, Joining and Seams
--- are about runs.
+-- a number, one after another. Bases: the cells of bases. Settled: journals with a base. Beyond: lists above a number. The others serve this crate's own proofs: Flat, PutRuns, Found,
+-- Appending, Joining, Skipped and Seams are about runs, CellWrites about the writes of one section.
 pub mod Choices
 pub mod Maps
 pub mod Below
@@ -14,3 +14,8 @@ pub mod Seeking
 pub mod Disputes
 pub mod Answering
 pub mod Seams
+pub mod Beyond
+pub mod Skipped
+pub mod CellWrites
+pub mod Bases
+pub mod Settled

@@ -1,48 +1,63 @@
 //! Runs that take in others: all or none.
 
-ghost use Rattle.std.specs.Prelude.{◌≡◌, ◌+◌, ◌≤◌, ◌<◌, IsTrue, IsFalse, IfOk, IfSome, IfNone, OnOk, OnErr, [], ◌++◌, ◌-◌, get_or, length, slice_set};
+ghost use Rattle.std.specs.Prelude.{suc, ◌≡◌, ◌+◌, ◌≤◌, ◌<◌, ◌⊎◌, IsTrue, IsFalse, IfOk, IfSome, IfNone, None, OnOk, OnErr, [], ◌++◌, ◌-◌, get_or, length, slice_set};
 ghost use Rattle.mx_journal.specs.Agreement.{AreAgreeing, IsSubmap};
-ghost use Rattle.mx_journal.specs.Records.{BringsNew, IsNumbered, above, with_records};
+ghost use Rattle.mx_journal.specs.Records.{Ascending, BringsNew, IsNumbered, IsThere, above, record_at, with_records};
 ghost use Rattle.mx_journal.specs.Runs.{AreNew, AreNumbersOf, AreRuns, IsJoinedUpTo, IsNextOfBoth, TouchesBelow, first_number, flatten, last_number};
+ghost use Rattle.mx_journal.specs.Settled.{beyond};
 
 use crate::places::{insert, is_there, next_in, place_of, top_in, touches_below};
 use crate::records::Record;
 use crate::runs::Run;
 use std::alloc::{AllocError, Global};
 
-/// The runs of those records of the list whose numbers nothing bears yet; of several that bear the
-/// same number the first counts.
+/// Whether the number is not above `from`, or a record bears it.
+fn is_known(known: &[Run], from: u64, number: u64) -> bool
+    requires { AreRuns 1 known.now }
+    ensures known { IsTrue result → (number ≤ from) ⊎ IsThere number (flatten known.now) }
+    ensures new { IsFalse result → (from < number)
+        × (record_at number (flatten known.now) ≡ None) }
+{
+    number <= from || is_there(known, number)
+}
+
+/// The runs of those records of the list that are numbered above `from` and whose numbers nothing
+/// bears yet; of several that bear the same number the first counts.
 pub(crate) fn runs_of_new(
     alloc: Global,
     known: &[Run],
+    from: u64,
     list: &[Record],
 ) -> Result<Vec<Run>, AllocError>
     requires known { AreRuns 1 known.now }
     requires numbered { IsNumbered list.now }
     ensures runs { IfOk result (λ runs. AreRuns 1 runs.items) }
-    ensures listed { IfOk result (λ runs. IsSubmap (flatten runs.items) list.now) }
+    ensures listed { IfOk result (λ runs.
+        IsSubmap (flatten runs.items) (beyond from list.now)) }
     ensures new { IfOk result (λ runs. AreNew (flatten runs.items) (flatten known.now)) }
     ensures all { IfOk result (λ runs.
-        AreNumbersOf list.now (flatten runs.items) (flatten known.now)) }
+        AreNumbersOf (beyond from list.now) (flatten runs.items) (flatten known.now)) }
 {
     let mut runs = Vec::new(alloc);
     for entry in list {
-        if !is_there(known, entry.number) && !is_there(&runs, entry.number) {
+        if !is_known(known, from, entry.number) && !is_there(&runs, entry.number) {
             insert(&mut runs, entry.copy())?;
         }
     }
     Ok(runs)
 }
 
-/// Whether each number of the other runs is borne already, so that they bring nothing new.
-pub(crate) fn are_there(runs: &[Run], other: &[Run]) -> bool
+/// Whether each number of the other runs above `from` is borne already, so that they bring nothing
+/// new.
+pub(crate) fn are_there(runs: &[Run], from: u64, other: &[Run]) -> bool
     requires runs { AreRuns 1 runs.now }
     requires other { AreRuns 1 other.now }
     ensures there { IsTrue result
-        → with_records (flatten other.now) (flatten runs.now) ≡ flatten runs.now }
-    ensures missing { IsFalse result → BringsNew (flatten other.now) (flatten runs.now) }
+        → with_records (above from (flatten other.now)) (flatten runs.now) ≡ flatten runs.now }
+    ensures missing { IsFalse result
+        → BringsNew (above from (flatten other.now)) (flatten runs.now) }
 {
-    let mut last = 0;
+    let mut last = from;
     while let Some(entry) = next_in(other, last) {
         if !is_there(runs, entry.number) {
             return false;
@@ -52,14 +67,16 @@ pub(crate) fn are_there(runs: &[Run], other: &[Run]) -> bool
     true
 }
 
-/// Takes in the records of runs that agree, and answers how many were new. Where memory runs out
-/// nothing changes. One run that goes on from one of ours is moved there; else all is made anew.
-pub(crate) fn join_runs(runs: &mut Vec<Run>, other: &[Run]) -> Result<u64, AllocError>
+/// Takes in the records of runs that agree that are numbered above `from`, as all of ours are, and
+/// answers how many were new. Where memory runs out nothing changes. One run that goes on from one
+/// of ours is moved there; else all is made anew.
+pub(crate) fn join_runs(runs: &mut Vec<Run>, from: u64, other: &[Run]) -> Result<u64, AllocError>
     requires runs { AreRuns 1 runs.old.items }
     requires other { AreRuns 1 other.now }
     requires agreeing { AreAgreeing (flatten runs.old.items) (flatten other.now) }
+    requires behind { Ascending (suc from) (flatten runs.old.items) }
     ensures records { IfOk result (λ _. flatten runs.new.items
-        ≡ with_records (flatten other.now) (flatten runs.old.items)) }
+        ≡ with_records (above from (flatten other.now)) (flatten runs.old.items)) }
     ensures runs { IfOk result (λ _. AreRuns 1 runs.new.items) }
     ensures count { IfOk result (λ k. length (flatten runs.new.items)
         ≡ length (flatten runs.old.items) + k) }
@@ -71,12 +88,12 @@ pub(crate) fn join_runs(runs: &mut Vec<Run>, other: &[Run]) -> Result<u64, Alloc
     if other.len() == 1 {
         let more = &other[0];
         let at = place_of(runs, more.first() - 1);
-        if goes_behind(runs, at, more) {
+        if more.first() > from && goes_behind(runs, at, more) {
             append_run(runs, at, more)?;
             return Ok(more.len() as u64);
         }
     }
-    join_copies(runs, other)
+    join_copies(runs, from, other)
 }
 
 /// Whether the run begins right behind the one before the place, and leaves a number missing before
@@ -116,20 +133,21 @@ fn append_run(runs: &mut Vec<Run>, at: usize, more: &Run) -> Result<(), AllocErr
 }
 
 /// The same as `join_runs`, for any runs: copies of all records of both take the first's place.
-fn join_copies(runs: &mut Vec<Run>, other: &[Run]) -> Result<u64, AllocError>
+fn join_copies(runs: &mut Vec<Run>, from: u64, other: &[Run]) -> Result<u64, AllocError>
     requires runs { AreRuns 1 runs.old.items }
     requires other { AreRuns 1 other.now }
     requires agreeing { AreAgreeing (flatten runs.old.items) (flatten other.now) }
+    requires behind { Ascending (suc from) (flatten runs.old.items) }
     ensures records { IfOk result (λ _. flatten runs.new.items
-        ≡ with_records (flatten other.now) (flatten runs.old.items)) }
+        ≡ with_records (above from (flatten other.now)) (flatten runs.old.items)) }
     ensures runs { IfOk result (λ _. AreRuns 1 runs.new.items) }
     ensures count { IfOk result (λ k. length (flatten runs.new.items)
         ≡ length (flatten runs.old.items) + k) }
     ensures err { OnErr result (runs.new.items ≡ runs.old.items) }
 {
-    let to = top_in(runs).max(top_in(other));
+    let to = top_in(runs).max(top_in(other)).max(from);
     let alloc = *runs.allocator();
-    let (joined, count) = joined_up_to(alloc, runs, other, 0, to)?;
+    let (joined, count) = joined_up_to(alloc, runs, other, from, to)?;
     *runs = joined;
     Ok(count)
 }

@@ -1,183 +1,260 @@
-//! The journal of a node: the records that it knows, by their numbers.
+//! The journal of a node: the sections that it knows. Their records are kept by number, and those
+//! of the first ones may be settled: then a base, the registers after them, stands in their place.
 
-ghost use Rattle.std.specs.Prelude.{ℕ, ◌≡◌, ◌+◌, ◌≤◌, ◌<◌, ◌↔◌, ◌++◌, ◌⊎◌, [], ◌∷◌, List, Some, None, Ok, Err, IsOk, IsTrue, IfOk, OnErr, MatchOption, length, take};
-ghost use Rattle.mx_journal.specs.Agreement.{AreAgreeing, IsConsistent, IsFirstConflict, IsOther, IsSubmap};
-ghost use Rattle.mx_journal.specs.Gapless.{IsGapless, first_missing};
-ghost use Rattle.mx_journal.specs.Records.{Ascending, IsNumbered, IsThere, above, in_range, record_at, top_of, with_record, with_records};
+ghost use Rattle.std.specs.Prelude.{ℕ, suc, ◌≡◌, ◌+◌, ◌≤◌, ◌<◌, ◌↔◌, ◌++◌, ◌⊎◌, [], ◌∷◌, List, Some, None, Ok, Err, IsOk, IsTrue, IfOk, OnOk, OnErr, MatchOption, max, length, take};
+ghost use Rattle.mx_journal.specs.Agreement.{IsConsistent, IsFirstConflict, IsOther};
+ghost use Rattle.mx_journal.specs.Bases.{AreOpposed};
+ghost use Rattle.mx_journal.specs.Gapless.{first_missing};
+ghost use Rattle.mx_journal.specs.declared.settling.SettleFault.TheVariants.{Below, Gap};
+ghost use Rattle.mx_journal.specs.Records.{Ascending, IsNumbered, IsThere, above, in_range, record_at};
+ghost use Rattle.mx_journal.specs.Settled.{Covers, DoAgree, IsCovered, IsFirstGap, IsSettled, IsWithin, beyond, covered, joined, settled, top_covered, unsettled, with_base, with_entry, with_list};
 
-use crate::joins::{are_there, join_runs, runs_of_new};
-use crate::places::{find, gapless_in, insert, least_in, len_of, next_in, top_in};
-use crate::puts::{Put, PutFault, has_zero, least_conflict};
+use crate::base::Base;
+use crate::puts::{Put, PutFault};
 use crate::ranges::Range;
+use crate::record_map::{RECORDS_AT_ONCE, RecordMap};
 use crate::records::Record;
-use crate::runs::Run;
-use crate::sewing::put_runs;
+use crate::settling::{BaseFault, SettleFault, settled_base};
 use arrayvec::ArrayVec;
 use std::alloc::{AllocError, Global};
 use std::marker::Model;
 
-/// The greatest number of records that `records_in` answers at once.
-const RECORDS_AT_ONCE: usize = 4;
-
-/// A finite map from section numbers, 1 and above, to the records that bear them.
+/// A base, which covers the sections up to its own number, and a finite map from section numbers
+/// above that to the records that bear them.
 #[derive(Drop)]
 pub struct Journal {
-    runs: Vec<Run>,
+    base: Base,
+    records: RecordMap,
 }
 
 impl Model for Journal {
-    ghost use Rattle.std.specs.Prelude.{List};
-    ghost use Rattle.mx_journal.specs.declared.records.Record.{Record};
-    ghost use Rattle.mx_journal.specs.Runs.{AreRuns, flatten};
+    ghost use Rattle.std.specs.Prelude.{suc};
+    ghost use Rattle.mx_journal.specs.Records.{Ascending};
+    ghost use Rattle.mx_journal.specs.Settled.{JournalState};
 
-    ghost Value = { List Record };
+    ghost Value = { JournalState };
 
-    ghost view = { λ j. flatten j.runs.items };
+    ghost view = { λ j. record { base = j.base; records = j.records } };
 
-    ghost invariant = { λ j. AreRuns 1 j.runs.items };
+    ghost invariant = { λ j. Ascending (suc j.base.upto) j.records };
 }
 
 impl Journal {
-    /// A journal without records.
+    /// A journal that covers nothing.
     pub fn new(alloc: Global) -> Journal
-        ensures { result ≡ [] }
+        ensures { result ≡ unsettled [] }
     {
         Journal {
-            runs: Vec::new(alloc),
+            base: Base::origin(),
+            records: RecordMap::new(alloc),
         }
     }
 
-    /// Puts a record. `Conflict` means that the journal has another record of the same number, and
-    /// names that number. Memory is asked for only where the record is new.
+    /// Puts a record. One whose number the base covers is `Same`, whatever it wrote. `Conflict`
+    /// means that the journal has another record of the same number, and names that number. Memory
+    /// is asked for only where the record is new.
     pub fn put(&mut self, entry: Record) -> Result<Put, PutFault>
         ensures zero { (result ≡ Err PutFault.ZeroNumber) ↔ (entry.number ≡ 0) }
         ensures conflict { (n : ℕ) → (result ≡ Err (PutFault.Conflict n))
-            ↔ ((n ≡ entry.number) × IsOther entry (record_at n self.old)) }
-        ensures same { (result ≡ Ok Put.Same) ↔ (record_at entry.number self.old ≡ Some entry) }
-        ensures new { (result ≡ Ok Put.New) → self.new ≡ with_record entry self.old }
+            ↔ ((n ≡ entry.number) × IsOther entry (record_at n self.old.records)) }
+        ensures same { (result ≡ Ok Put.Same) ↔ (IsSettled entry.number self.old
+            ⊎ (record_at entry.number self.old.records ≡ Some entry)) }
+        ensures new { (result ≡ Ok Put.New) → self.new ≡ with_entry entry self.old }
         ensures fresh { ((result ≡ Ok Put.New) ⊎ (result ≡ Err PutFault.Memory))
-            ↔ ((1 ≤ entry.number) × (record_at entry.number self.old ≡ None)) }
+            ↔ ((self.old.base.upto < entry.number)
+            × (record_at entry.number self.old.records ≡ None)) }
         ensures kept { (result ≡ Ok Put.New) ⊎ (self.new ≡ self.old) }
     {
-        let runs = &mut self.runs;
-        if entry.number == 0 {
-            return Err(PutFault::ZeroNumber);
+        if is_settled(&self.base, entry.number) {
+            return Ok(Put::Same);
         }
-        if let Some(there) = find(runs, entry.number) {
-            return if there.is(&entry) {
-                Ok(Put::Same)
-            } else {
-                Err(PutFault::Conflict(entry.number))
-            };
-        }
-        insert(runs, entry)?;
-        Ok(Put::New)
+        self.records.put(entry)
     }
 
     /// Puts all records of a list, or none where one of them can't be put, and answers how many
-    /// were new. A record may stand in the list more than once. `Conflict` names the least number
-    /// that two differing records bear; both may be in the list, or one in the journal. `Memory` comes
-    /// only where there is no other fault. The time is that of a put for each record where the list
-    /// ascends by number; in any other list each record is compared with each other one, so that the
-    /// time grows with the square of the length.
+    /// were new. Those whose numbers the base covers are passed over, whatever they wrote. A record
+    /// may stand in the list more than once. `Conflict` names the least number that two differing
+    /// records bear; both may be in the list, or one in the journal. `Memory` comes only where
+    /// there is no other fault. The time is that of a put for each record where the list ascends by
+    /// number; in any other list each record is compared with each other one, so that the time
+    /// grows with the square of the length.
     pub fn put_all(&mut self, list: &[Record]) -> Result<u64, PutFault>
         ensures zero { (result ≡ Err PutFault.ZeroNumber) ↔ IsThere 0 list.now }
         ensures conflict { (n : ℕ) → (result ≡ Err (PutFault.Conflict n))
-            ↔ (IsNumbered list.now × IsFirstConflict n (self.old ++ list.now)) }
+            ↔ (IsNumbered list.now × IsFirstConflict n
+            (self.old.records ++ beyond self.old.base.upto list.now)) }
         ensures agreed { (IsOk result ⊎ (result ≡ Err PutFault.Memory))
-            ↔ (IsNumbered list.now × IsConsistent (self.old ++ list.now)) }
-        ensures ok { IfOk result (λ k. (self.new ≡ with_records list.now self.old)
-            × (length self.new ≡ length self.old + k)) }
+            ↔ (IsNumbered list.now × IsConsistent
+            (self.old.records ++ beyond self.old.base.upto list.now)) }
+        ensures ok { IfOk result (λ k. (self.new ≡ with_list list.now self.old)
+            × (length self.new.records ≡ length self.old.records + k)) }
         ensures err { OnErr result (self.new ≡ self.old) }
     {
-        if has_zero(list) {
-            return Err(PutFault::ZeroNumber);
-        }
-        if let Some(number) = least_conflict(&self.runs, list) {
-            return Err(PutFault::Conflict(number));
-        }
-        let other = runs_of_new(*self.runs.allocator(), &self.runs, list)?;
-        Ok(put_runs(&mut self.runs, &other)?)
+        self.records.put_all(self.base.upto(), list)
     }
 
-    /// Takes the records of an agreeing journal too, and answers how many were new. Memory is asked
-    /// for before anything changes, and only where there is something new.
+    /// Takes what an agreeing journal covers too, its base where that is above the own one, and
+    /// answers how many numbers are newly covered. Memory is asked for before anything changes, and
+    /// only where there is a record that is new.
     pub fn join(&mut self, other: &Journal) -> Result<u64, AllocError>
-        requires { AreAgreeing self.old other.now }
-        ensures ok { IfOk result (λ k. (self.new ≡ with_records other.now self.old)
-            × (length self.new ≡ length self.old + k)) }
-        ensures contained { IsSubmap other.now self.old → IsOk result }
+        requires { DoAgree self.old other.now }
+        ensures ok { IfOk result (λ k. (self.new ≡ joined other.now self.old)
+            × (covered self.new ≡ covered self.old + k)) }
+        ensures contained { IsWithin other.now self.old → IsOk result }
         ensures err { OnErr result (self.new ≡ self.old) }
     {
-        if are_there(&self.runs, &other.runs) {
-            return Ok(0);
-        }
-        join_runs(&mut self.runs, &other.runs)
+        let count = self.records.join(self.base.upto(), &other.records)?;
+        let more = self.rise_to(&other.base);
+        // that the sum fits is known from this call
+        let _ = self.top();
+        Ok(count + more)
     }
 
-    /// The record that bears the number.
-    pub fn get(&self, number: u64) -> Option<&Record>
-        ensures { MatchOption result (record_at number self.now ≡ None)
-            (λ found. record_at number self.now ≡ Some found.now) }
+    /// The base, at 0 where nothing is settled.
+    pub fn base(&self) -> &Base
+        ensures { result.now ≡ self.now.base }
     {
-        find(&self.runs, number)
+        &self.base
+    }
+
+    /// Whether the base covers the number, or a record bears it.
+    pub fn covers(&self, number: u64) -> bool
+        ensures { IsTrue result ↔ Covers number self.now }
+    {
+        is_settled(&self.base, number) || self.records.has(number)
+    }
+
+    /// Puts the registers after sections 1 to `upto` in place of their records. It takes no memory,
+    /// and the time of dropping these records.
+    pub fn settle(&mut self, upto: u64) -> Result<(), SettleFault>
+        ensures below { (n : ℕ) → (result ≡ Err (Below n))
+            ↔ ((upto < self.old.base.upto) × (n ≡ self.old.base.upto)) }
+        ensures gap { (n : ℕ) → (result ≡ Err (Gap n))
+            ↔ ((self.old.base.upto ≤ upto) × (n ≤ upto) × IsFirstGap n self.old) }
+        ensures gapless { IsOk result ↔ ((self.old.base.upto ≤ upto) × IsCovered upto self.old) }
+        ensures ok { OnOk result (self.new ≡ settled upto self.old) }
+        ensures same { upto ≡ self.old.base.upto → self.new ≡ self.old }
+        ensures err { OnErr result (self.new ≡ self.old) }
+    {
+        let own = self.base.upto();
+        if upto < own {
+            return Err(SettleFault::Below(own));
+        }
+        let known = self.records.gapless_after(own);
+        if known < upto {
+            return Err(SettleFault::Gap(known + 1));
+        }
+        self.base = settled_base(&self.base, &self.records, upto);
+        let _ = self.records.drop_up_to(upto);
+        Ok(())
+    }
+
+    /// Takes a base in place of the own one and of the records up to it, where it is above the own
+    /// one, and answers how many numbers are newly covered. It takes no memory.
+    pub fn take_base(&mut self, base: &Base) -> Result<u64, BaseFault>
+        ensures conflict { (n : ℕ) → (result ≡ Err (BaseFault.Conflict n))
+            ↔ ((n ≡ base.now.upto) × AreOpposed self.old.base base.now) }
+        ensures agreed { IsOk result
+            ↔ (self.old.base.upto ≡ base.now.upto → self.old.base ≡ base.now) }
+        ensures ok { IfOk result (λ k. (self.new ≡ with_base base.now self.old)
+            × (covered self.new ≡ covered self.old + k)) }
+        ensures err { OnErr result (self.new ≡ self.old) }
+    {
+        if self.base.upto() == base.upto() && !self.base.is(base) {
+            return Err(BaseFault::Conflict(base.upto()));
+        }
+        Ok(self.rise_to(base))
+    }
+
+    /// The same, of a base that does not differ from the own one if both are of the same sections.
+    fn rise_to(&mut self, base: &Base) -> u64
+        ensures value { self.new ≡ with_base base.now self.old }
+        ensures count { covered self.new ≡ covered self.old + result }
+    {
+        let (own, upto) = (self.base.upto(), base.upto());
+        if upto <= own {
+            return 0;
+        }
+        let dropped = self.records.drop_up_to(upto);
+        self.base = *base;
+        upto - own - dropped as u64
+    }
+
+    /// The record that bears the number. None up to the base.
+    pub fn get(&self, number: u64) -> Option<&Record>
+        ensures { MatchOption result (record_at number self.now.records ≡ None)
+            (λ found. record_at number self.now.records ≡ Some found.now) }
+    {
+        self.records.get(number)
     }
 
     /// The record with the least number above this one. Going on from 0, and from the number of
-    /// each record that was found, meets all records in order.
+    /// each record that was found, meets all records above the base in order.
     pub fn next_after(&self, number: u64) -> Option<&Record>
-        ensures value { MatchOption result (above number self.now ≡ [])
-            (λ found. above number self.now ≡ found.now ∷ above found.now.number self.now) }
-        ensures ordered { Ascending 1 self.now }
+        ensures value { MatchOption result (above number self.now.records ≡ [])
+            (λ found. above number self.now.records
+            ≡ found.now ∷ above found.now.number self.now.records) }
+        ensures ordered { Ascending (suc self.now.base.upto) self.now.records }
     {
-        next_in(&self.runs, number)
+        self.records.next_after(number)
     }
 
-    /// How many records it has.
+    /// How many records it has, all above the base.
     pub fn len(&self) -> usize
-        ensures value { result ≡ length self.now }
-        // what every journal keeps: the numbers ascend, from 1 on
-        ensures ordered { Ascending 1 self.now }
+        ensures value { result ≡ length self.now.records }
+        // what every journal keeps: the numbers ascend, from above the base on
+        ensures ordered { Ascending (suc self.now.base.upto) self.now.records }
     {
-        len_of(&self.runs)
+        self.records.len()
     }
 
-    /// Whether it has no record.
+    /// Whether it has no record above the base.
     pub fn is_empty(&self) -> bool
-        ensures value { IsTrue result ↔ (self.now ≡ []) }
-        ensures ordered { Ascending 1 self.now }
+        ensures value { IsTrue result ↔ (self.now.records ≡ []) }
+        ensures ordered { Ascending (suc self.now.base.upto) self.now.records }
     {
-        self.runs.is_empty()
+        self.records.is_empty()
     }
 
-    /// The greatest number that a record bears, 0 where there is no record.
+    /// The greatest number that it covers, 0 where there is none.
     pub fn top(&self) -> u64
-        ensures { result ≡ top_of self.now }
+        ensures value { result ≡ top_covered self.now }
+        // no more numbers are covered than there are up to the greatest
+        ensures bound { covered self.now ≤ result }
     {
-        top_in(&self.runs)
+        self.base.upto().max(self.records.top())
     }
 
-    /// The greatest number up to which none is missing behind this one: all between them are there,
-    /// and it too, unless it is this number itself.
+    /// The greatest number up to which none is missing behind this one: all between them are
+    /// covered, and it too, unless it is this number itself.
     pub fn gapless_after(&self, number: u64) -> u64
-        ensures { result + 1 ≡ first_missing (number + 1) (above number self.now) }
+        ensures { result + 1 ≡ first_missing (max number self.now.base.upto + 1)
+            (above (max number self.now.base.upto) self.now.records) }
     {
-        gapless_in(&self.runs, number)
+        self.records.gapless_after(number.max(self.base.upto()))
     }
 
-    /// The greatest number up to which none is missing: all of 1 to it are there.
+    /// The greatest number up to which none is missing: all of 1 to it are covered.
     pub fn gapless_to(&self) -> u64
-        ensures all { IsGapless result self.now }
-        ensures next { record_at (result + 1) self.now ≡ None }
-        ensures value { result + 1 ≡ first_missing 1 self.now }
+        ensures all { IsCovered result self.now }
+        ensures next { Covers (result + 1) self.now → ⊥ }
+        ensures value { result + 1 ≡ first_missing (suc self.now.base.upto) self.now.records }
     {
-        gapless_in(&self.runs, 0)
+        self.records.gapless_after(self.base.upto())
     }
 
-    /// The records in a range, ascending, or the least four where there are more.
+    /// The records in a range, ascending, or the least four where there are more. None of them is
+    /// up to the base.
     pub fn records_in(&self, range: Range) -> ArrayVec<Record, RECORDS_AT_ONCE>
-        ensures { result.items ≡ take 4 (in_range range self.now) }
+        ensures { result.items ≡ take 4 (in_range range self.now.records) }
     {
-        least_in(&self.runs, range)
+        self.records.records_in(range)
     }
+}
+
+/// Whether the base covers the number.
+fn is_settled(base: &Base, number: u64) -> bool
+    ensures { IsTrue result ↔ ((1 ≤ number) × (number ≤ base.now.upto)) }
+{
+    1 <= number && number <= base.upto()
 }

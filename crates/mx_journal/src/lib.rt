@@ -1,7 +1,10 @@
 //! Drafts of sections, the records and receipts that close them, and journals: finite maps from
-//! section numbers to records.
+//! section numbers to records, of which the first ones may be settled into registers.
 #![tactic(auto)]
 
+mod base;
+mod cells;
+mod cutting;
 mod draft;
 mod joins;
 mod journal;
@@ -9,13 +12,18 @@ mod places;
 mod puts;
 mod ranges;
 mod receipts;
+mod record_map;
 mod records;
 mod runs;
+mod settling;
 mod sewing;
 
+pub use base::Base;
+pub use cells::Cell;
 pub use draft::{Draft, Full};
 pub use journal::Journal;
 pub use puts::{Put, PutFault};
 pub use ranges::Range;
 pub use receipts::{Read, Receipt};
 pub use records::{Record, Write};
+pub use settling::{BaseFault, SettleFault};

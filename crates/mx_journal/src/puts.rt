@@ -1,11 +1,12 @@
 //! What a journal answers to records, and the conflicts among them.
 
-ghost use Rattle.std.specs.Prelude.{◌≡◌, ◌↔◌, ◌++◌, IsTrue, IsFalse, IfSome, IfNone};
+ghost use Rattle.std.specs.Prelude.{◌≡◌, ◌≤◌, ◌<◌, ◌↔◌, ◌++◌, ◌⊎◌, IsTrue, IsFalse, IfSome, IfNone};
 ghost use Rattle.mx_stamps.specs.Lists.{IsIn};
 ghost use Rattle.mx_journal.specs.Agreement.{AgreesWith, IsConsistent, IsFirstConflict, IsOpposed};
 ghost use Rattle.mx_journal.specs.Searches.{lower_of};
 ghost use Rattle.mx_journal.specs.Records.{Ascending, IsNumbered, IsThere};
 ghost use Rattle.mx_journal.specs.Runs.{AreRuns, flatten};
+ghost use Rattle.mx_journal.specs.Settled.{beyond};
 
 use crate::places::find;
 use crate::records::Record;
@@ -108,18 +109,34 @@ fn agrees_in_both(runs: &[Run], list: &[Record], in_order: bool, entry: &Record)
     agrees_at_place(runs, entry) && (in_order || agrees_in(list, entry))
 }
 
-/// The least number that two differing records bear, of the journal's records and the list's. Where
-/// the list ascends, the time is that of one search for each of its records; else each record is
-/// compared with the whole list, and the time grows with the square of its length. It takes no memory.
-pub(crate) fn least_conflict(runs: &[Run], list: &[Record]) -> Option<u64>
+/// Whether the record is numbered above `from`, and differs from one of its number in a journal's
+/// records or in a list to which it belongs.
+fn is_disputed(runs: &[Run], from: u64, list: &[Record], in_order: bool, entry: &Record) -> bool
+    requires ascending { AreRuns 1 runs.now }
+    requires ordered { IsTrue in_order → Ascending 1 list.now }
+    requires member { IsIn entry.now list.now }
+    ensures opposed { IsTrue result → (from < entry.now.number)
+        × IsOpposed entry.now (flatten runs.now ++ beyond from list.now) }
+    ensures agrees { IsFalse result → (entry.now.number ≤ from)
+        ⊎ AgreesWith entry.now (flatten runs.now ++ beyond from list.now) }
+{
+    entry.number > from && !agrees_in_both(runs, list, in_order, entry)
+}
+
+/// The least number that two differing records bear, of the journal's records and of those in the
+/// list that are numbered above `from`. Where the list ascends, the time is that of one search for
+/// each of its records; else each record is compared with the whole list, and the time grows with
+/// the square of its length. It takes no memory.
+pub(crate) fn least_conflict(runs: &[Run], from: u64, list: &[Record]) -> Option<u64>
     requires { AreRuns 1 runs.now }
-    ensures some { IfSome result (λ n. IsFirstConflict n (flatten runs.now ++ list.now)) }
-    ensures none { IfNone result (IsConsistent (flatten runs.now ++ list.now)) }
+    ensures some { IfSome result (λ n.
+        IsFirstConflict n (flatten runs.now ++ beyond from list.now)) }
+    ensures none { IfNone result (IsConsistent (flatten runs.now ++ beyond from list.now)) }
 {
     let in_order = ascends(list);
     let mut least = None;
     for entry in list {
-        if !agrees_in_both(runs, list, in_order, entry) {
+        if is_disputed(runs, from, list, in_order, entry) {
             least = Some(lower(least, entry.number));
         }
     }

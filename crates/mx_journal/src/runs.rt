@@ -1,6 +1,6 @@
 //! Runs: records that stand in a row, with consecutive numbers where a journal keeps them.
 
-ghost use Rattle.std.specs.Prelude.{◌≡◌, ◌+◌, ◌<◌, ◌≤◌, [], ◌∷◌, ◌++◌, OnOk, OnErr, length, get_or, take};
+ghost use Rattle.std.specs.Prelude.{◌≡◌, ◌+◌, ◌<◌, ◌≤◌, [], ◌∷◌, ◌++◌, OnOk, OnErr, length, get_or, take, drop};
 ghost use Rattle.std.specs.VecDeque.{deque_capacity, deque_len};
 ghost use Rattle.mx_journal.specs.Runs.{first_number, last_number};
 
@@ -95,6 +95,13 @@ impl Run {
         self.records.truncate(len);
     }
 
+    /// Drops the first records, so many.
+    pub(crate) fn skip(&mut self, count: usize)
+        ensures { self.new ≡ drop count self.old }
+    {
+        drop_first(&mut self.records, count);
+    }
+
     /// Takes the records of the next run. The shorter of the two runs is moved.
     pub(crate) fn take_next(&mut self, next: &mut Run) -> Result<(), AllocError>
         ensures ok { OnOk result (self.new ≡ self.old ++ next.old) }
@@ -123,6 +130,15 @@ impl Run {
         prepend(&mut next.records, entry, &mut self.records)?;
         mem::swap(&mut self.records, &mut next.records);
         Ok(())
+    }
+}
+
+/// Drops the first records, so many.
+fn drop_first(records: &mut VecDeque<Record>, count: usize)
+    ensures { records.new.items ≡ drop count records.old.items }
+{
+    for _ in 0..count {
+        let _ = records.pop_front();
     }
 }
 

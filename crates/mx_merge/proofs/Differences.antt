@@ -5,8 +5,10 @@ use Rattle.mx_stamps.proofs.Lists.{in_append, in_left, in_right}
 use Rattle.mx_journal.specs.declared.records.Record.{Record}
 use Rattle.mx_journal.specs.Records.{Ascending}
 use Rattle.mx_journal.specs.Agreement.{AgreesWith, AreAgreeing, IsConsistent, IsFirstConflict, IsOpposed, IsSubmap}
-use Rattle.mx_journal.proofs.Answering.{not_consistent}
+use Rattle.mx_journal.specs.Settled.{DoAgree, JournalState}
+use Rattle.mx_journal.proofs.Answering.{not_consistent, one_first}
 use Rattle.mx_journal.proofs.Maps.{ascending_above, ascending_same}
+use Rattle.mx_merge.specs.Join.{IsFirstDifference}
 
 -- the records gone through agree with the journal, and so does one more
 pub one_more : (xs done : List Record) (r : Record) → AreAgreeing xs done → AgreesWith r xs → AreAgreeing xs (done ++ r ∷ [])
@@ -51,9 +53,30 @@ contained_agrees xs ys a s x y h k e = ascending_same 1 xs a x y h (s y k) e
 pub no_conflict : (n : ℕ) (xs ys : List Record) → Ascending 1 xs → Ascending 1 ys → AreAgreeing xs ys → IsFirstConflict n (xs ++ ys) → ⊥
 no_conflict n xs ys a b h w = not_consistent n (xs ++ ys) w (consistent_both xs ys a b h)
 
+-- no first difference of journals that agree
+pub no_difference : (n : ℕ) (a b : JournalState) → Ascending 1 a.records → Ascending 1 b.records → DoAgree a b → IsFirstDifference n a b → ⊥
+no_difference n a b oa ob agree (inl w) = (w.0).1 (agree.bases (w.0).0)
+no_difference n a b oa ob agree (inr w) = no_conflict n a.records b.records oa ob agree.records w.1
+
+-- there is one first difference
+pub one_difference : (m n : ℕ) (a b : JournalState) → IsFirstDifference m a b → IsFirstDifference n a b → m ≡ n
+one_difference m n a b (inl h) (inl t) = h.1 ∙ sym t.1
+one_difference m n a b (inl h) (inr t) = absurd (t.0 h.0)
+one_difference m n a b (inr h) (inl t) = absurd (h.0 t.0)
+one_difference m n a b (inr h) (inr t) = one_first m n (a.records ++ b.records) h.1 t.1
+
 -- there is no least difference exactly where journals agree
-pub none_where_agreeing : (least : Option ℕ) (none : Bool) (xs ys : List Record) → is_some least ≡ not none → Ascending 1 xs → Ascending 1 ys → IfSome least (λ n. IsFirstConflict n (xs ++ ys)) → IfNone least (AreAgreeing xs ys) → IsTrue none ↔ AreAgreeing xs ys
-none_where_agreeing None true xs ys e a b first agree = (λ _. agree, λ _. refl)
-none_where_agreeing None false xs ys e a b first agree = let bad : ⊥ = cc in absurd bad
-none_where_agreeing (Some n) true xs ys e a b first agree = let bad : ⊥ = cc in absurd bad
-none_where_agreeing (Some n) false xs ys e a b first agree = (λ t. let bad : ⊥ = cc in absurd bad, λ h. absurd (no_conflict n xs ys a b h first))
+pub none_where_agreeing : (least : Option ℕ) (none : Bool) (a b : JournalState) → is_some least ≡ not none → Ascending 1 a.records → Ascending 1 b.records → IfSome least (λ n. IsFirstDifference n a b) → IfNone least (DoAgree a b) → IsTrue none ↔ DoAgree a b
+none_where_agreeing None true a b e oa ob first agree = (λ _. agree, λ _. refl)
+none_where_agreeing None false a b e oa ob first agree = let bad : ⊥ = cc in absurd bad
+none_where_agreeing (Some n) true a b e oa ob first agree = let bad : ⊥ = cc in absurd bad
+none_where_agreeing (Some n) false a b e oa ob first agree = (λ t. let bad : ⊥ = cc in absurd bad, λ h. absurd (no_difference n a b oa ob h first))
+
+-- the answer of a search for conflicts among the records, where the bases do not differ
+pub some_difference : (least : Option ℕ) (a b : JournalState) → (a.base.upto ≡ b.base.upto → a.base ≡ b.base) → IfSome least (λ n. IsFirstConflict n (a.records ++ b.records)) → IfSome least (λ n. IsFirstDifference n a b)
+some_difference None a b same h = tt
+some_difference (Some n) a b same h = inr (λ w. w.1 (same w.0), h)
+
+pub none_different : (least : Option ℕ) (a b : JournalState) → (a.base.upto ≡ b.base.upto → a.base ≡ b.base) → IfNone least (AreAgreeing a.records b.records) → IfNone least (DoAgree a b)
+none_different None a b same h = record { records = h; bases = same }
+none_different (Some n) a b same h = tt

@@ -2,13 +2,13 @@
 use Rattle.std.proofs.Common.{ℕ, zero, suc, ◌+◌, ◌-◌, ◌<◌, ◌≤◌, ◌≡◌, ◌⊎◌, inl, inr, List, [], ◌∷◌, ◌++◌, take, nat_lt, refl, sym, ap, subst, arith}
 use Rattle.mx_stamps.specs.Lists.{IsIn}
 use Rattle.mx_stamps.proofs.Lists.{in_append, in_left, in_right, in_first}
-use Rattle.mx_stamps.proofs.Choices.{lt_true, lt_false, compared, cond_case}
+use Rattle.mx_stamps.proofs.Choices.{lt_true, lt_false, compared, cond_case, dec_le}
 use Rattle.mx_journal.specs.declared.records.Record.{Record}
 use Rattle.mx_journal.specs.declared.ranges.Range.{Range}
 use Rattle.mx_journal.specs.Records.{Ascending, IsThere}
-use Rattle.mx_journal.specs.Agreement.{IsSubmap}
+use Rattle.mx_journal.specs.Settled.{Covers, JournalState}
 use Rattle.mx_journal.proofs.Maps.{ascending_above}
-use Rattle.mx_merge.specs.Missing.{AscendingRanges, IsGap, IsLeftOut, IsListOfGaps, gap_after, gaps_above, gaps_of}
+use Rattle.mx_merge.specs.Missing.{AscendingRanges, IsGap, IsLeftOut, IsListOfGaps, gap_after, gaps_above, gaps_in}
 
 -- what holds of the range above `before` up to `last`
 pub gap_after_case : (P : List Range → Type 0) (before last : ℕ) → (before < last → P (record { first = before + 1; last = last } ∷ [])) → (last ≤ before → P []) → P (gap_after before last)
@@ -22,14 +22,14 @@ gaps_above_case P before limit x xs past within =
     (λ t. past (lt_true limit x.number t)) (λ f. within (lt_false limit x.number f))
 
 -- how a rest of a journal stands in it: it has all numbers above `before`, which is there or 0
-pub record IsRest (before : ℕ) (rest journal : List Record) : Type 0 where
+pub record IsRest (before : ℕ) (rest : List Record) (journal : JournalState) : Type 0 where
   pub ascending : Ascending (suc before) rest
-  pub inside : IsSubmap rest journal
-  pub whole : (n : ℕ) → before < n → IsThere n journal → IsThere n rest
-  pub edge : (before ≡ 0) ⊎ IsThere before journal
+  pub inside : (x : Record) → IsIn x rest → Covers x.number journal
+  pub whole : (n : ℕ) → before < n → Covers n journal → IsThere n rest
+  pub edge : (before ≡ 0) ⊎ Covers before journal
 
 -- the rest behind the first record stands in it in the same way
-rest_more : (before : ℕ) (x : Record) (xs journal : List Record) → IsRest before (x ∷ xs) journal → IsRest x.number xs journal
+rest_more : (before : ℕ) (x : Record) (xs : List Record) (journal : JournalState) → IsRest before (x ∷ xs) journal → IsRest x.number xs journal
 rest_more before x xs journal h = record {
   ascending = h.ascending.1;
   inside = λ y m. h.inside y (inr m);
@@ -37,23 +37,23 @@ rest_more before x xs journal h = record {
     | inl e ↦ absurd (let q : w.0.number ≡ x.number = ap (λ (z : Record). z.number) e in let s = w.2 in omega arith)
     | inr m ↦ (w.0, m, w.2)
   ];
-  edge = inr (x, h.inside x (inl refl), refl);
+  edge = inr (h.inside x (inl refl));
 }
 
 -- no number above `before` and below the first record of the rest is there
-none_between : (before : ℕ) (x : Record) (xs journal : List Record) → IsRest before (x ∷ xs) journal → (n : ℕ) → before < n → n < x.number → IsThere n journal → ⊥
+none_between : (before : ℕ) (x : Record) (xs : List Record) (journal : JournalState) → IsRest before (x ∷ xs) journal → (n : ℕ) → before < n → n < x.number → Covers n journal → ⊥
 none_between before x xs journal h n l u t =
     let w = h.whole n l t in
     let low = ascending_above x.number (x ∷ xs) ((omega arith), h.ascending.1) w.0 w.1 in
     let e = w.2 in absurd (omega arith)
 
 -- the number before a gap's first is the edge
-left_edge : (before : ℕ) (journal : List Record) → (before ≡ 0) ⊎ IsThere before journal → (before + 1 ≡ 1) ⊎ IsThere (before + 1 - 1) journal
+left_edge : (before : ℕ) (journal : JournalState) → (before ≡ 0) ⊎ Covers before journal → (before + 1 ≡ 1) ⊎ Covers (before + 1 - 1) journal
 left_edge before journal (inl e) = inl (omega arith)
-left_edge before journal (inr t) = inr (subst (λ n. IsThere n journal) (omega arith) t)
+left_edge before journal (inr t) = inr (subst (λ n. Covers n journal) (omega arith) t)
 
 -- a range up to the limit, with nothing behind `before`, is a gap
-gap_to_limit : (limit before : ℕ) (journal : List Record) (r : Range) → (before ≡ 0) ⊎ IsThere before journal → ((n : ℕ) → before < n → n ≤ limit → IsThere n journal → ⊥) → IsIn r (gap_after before limit) → IsGap limit journal r × (before < r.first)
+gap_to_limit : (limit before : ℕ) (journal : JournalState) (r : Range) → (before ≡ 0) ⊎ Covers before journal → ((n : ℕ) → before < n → n ≤ limit → Covers n journal → ⊥) → IsIn r (gap_after before limit) → IsGap limit journal r × (before < r.first)
 gap_to_limit limit before journal r edge none was =
     gap_after_case (λ l. IsIn r l → IsGap limit journal r × (before < r.first)) before limit
     (λ t h. elim h [
@@ -66,12 +66,12 @@ gap_to_limit limit before journal r edge none was =
     (λ _ h. absurd h) was
 
 -- a range up to the number below a record is a gap
-gap_to_record : (limit before : ℕ) (journal : List Record) (x : Record) (r : Range) → (before ≡ 0) ⊎ IsThere before journal → IsIn x journal → before < x.number → x.number ≤ limit → ((n : ℕ) → before < n → n < x.number → IsThere n journal → ⊥) → IsIn r (gap_after before (x.number - 1)) → IsGap limit journal r × (before < r.first)
+gap_to_record : (limit before : ℕ) (journal : JournalState) (x : Record) (r : Range) → (before ≡ 0) ⊎ Covers before journal → Covers x.number journal → before < x.number → x.number ≤ limit → ((n : ℕ) → before < n → n < x.number → Covers n journal → ⊥) → IsIn r (gap_after before (x.number - 1)) → IsGap limit journal r × (before < r.first)
 gap_to_record limit before journal x r edge there above within none was =
     gap_after_case (λ l. IsIn r l → IsGap limit journal r × (before < r.first)) before (x.number - 1)
     (λ t h. elim h [
       | inl e ↦ subst (λ q. IsGap limit journal q × (before < q.first)) (sym e) (
-        record { low = omega arith; some = omega arith; high = omega arith; gone = λ n l u w. none n (omega arith) (omega arith) w; left = left_edge before journal edge; right = inr (x, there, omega arith) },
+        record { low = omega arith; some = omega arith; high = omega arith; gone = λ n l u w. none n (omega arith) (omega arith) w; left = left_edge before journal edge; right = inr (subst (λ n. Covers n journal) (let q : x.number ≡ x.number - 1 + 1 = omega arith in q) there) },
         omega arith,
       )
       | inr bad ↦ absurd bad
@@ -79,7 +79,7 @@ gap_to_record limit before journal x r edge there above within none was =
     (λ _ h. absurd h) was
 
 -- each range of the list is a gap
-pub all_gaps : (limit before : ℕ) (rest journal : List Record) → IsRest before rest journal → (r : Range) → IsIn r (gaps_above before limit rest) → IsGap limit journal r × (before < r.first)
+pub all_gaps : (limit before : ℕ) (rest : List Record) (journal : JournalState) → IsRest before rest journal → (r : Range) → IsIn r (gaps_above before limit rest) → IsGap limit journal r × (before < r.first)
 all_gaps limit before [] journal h r m =
     gap_to_limit limit before journal r h.edge (λ n l u t. let w = h.whole n l t in w.1) m
 all_gaps limit before (x ∷ xs) journal h r was =
@@ -91,7 +91,7 @@ all_gaps limit before (x ∷ xs) journal h r was =
     ]) was
 
 -- a gap that begins above `before`, where nothing of `before` up to its last is there, begins there
-begins_here : (limit before : ℕ) (journal : List Record) (r : Range) → IsGap limit journal r → before < r.first → ((n : ℕ) → before < n → n < r.first → IsThere n journal → ⊥) → r.first ≡ before + 1
+begins_here : (limit before : ℕ) (journal : JournalState) (r : Range) → IsGap limit journal r → before < r.first → ((n : ℕ) → before < n → n < r.first → Covers n journal → ⊥) → r.first ≡ before + 1
 begins_here limit before journal r g l none = elim (compared r.first (before + 1)) [
   | inl t ↦ absurd (omega arith)
   | inr (inl e) ↦ e
@@ -113,14 +113,14 @@ in_gap_after before last r e f some =
     (λ t. absurd (omega arith))
 
 -- each gap above `before` is in the list
-pub each_gap : (limit before : ℕ) (rest journal : List Record) → IsRest before rest journal → (r : Range) → IsGap limit journal r → before < r.first → IsIn r (gaps_above before limit rest)
+pub each_gap : (limit before : ℕ) (rest : List Record) (journal : JournalState) → IsRest before rest journal → (r : Range) → IsGap limit journal r → before < r.first → IsIn r (gaps_above before limit rest)
 each_gap limit before [] journal h r g l =
-    let none : (n : ℕ) → before < n → IsThere n journal → ⊥ = λ n k t. (let w = h.whole n k t in w.1) in
+    let none : (n : ℕ) → before < n → Covers n journal → ⊥ = λ n k t. (let w = h.whole n k t in w.1) in
     in_gap_after before limit r (begins_here limit before journal r g l (λ n k u t. none n k t))
     (elim g.right [ inl e ↦ e | inr t ↦ absurd (none (r.last + 1) (let s = g.some in omega arith) t) ]) g.some
 each_gap limit before (x ∷ xs) journal h r g l =
     let low : before < x.number = (let a = h.ascending.0 in omega arith) in
-    let here : IsThere x.number journal = (x, h.inside x (inl refl), refl) in
+    let here : Covers x.number journal = h.inside x (inl refl) in
     let none = none_between before x xs journal h in
     gaps_above_case (λ q. IsIn r q) before limit x xs
     (λ past.
@@ -205,13 +205,25 @@ first_or_behind (suc count) k (r ∷ rs) q a some (inr h) =
     ]
 
 -- the first gaps of a journal are a list of its gaps
-pub first_gaps : (count limit : ℕ) (journal : List Record) → Ascending 1 journal → IsListOfGaps count limit journal (take count (gaps_of limit journal))
+pub first_gaps : (count limit : ℕ) (journal : JournalState) → Ascending (suc journal.base.upto) journal.records → IsListOfGaps count limit journal (take count (gaps_in limit journal))
 first_gaps count limit journal a =
-    let whole : IsRest 0 journal journal = record { ascending = a; inside = λ x h. h; whole = λ n l t. t; edge = inl refl } in
-    let gap : (r : Range) → IsIn r (gaps_of limit journal) → IsGap limit journal r = λ r m. (let g = all_gaps limit 0 journal journal whole r m in g.0) in
-    let order : AscendingRanges 1 (gaps_of limit journal) = gaps_ascend limit 0 journal a in
+    let base = journal.base.upto in
+    let edge : (base ≡ 0) ⊎ Covers base journal = elim (dec_le 1 base) [ inl l ↦ inr (inl (l, omega arith)) | inr l ↦ inl (omega arith) ] in
+    let whole : IsRest base journal.records journal = record {
+      ascending = a;
+      inside = λ x h. inr (x, h, refl);
+      whole = λ n l t. elim t [ inl s ↦ absurd (let q = s.1 in omega arith) | inr there ↦ there ];
+      edge = edge;
+    } in
+    let gaps = gaps_in limit journal in
+    let gap : (r : Range) → IsIn r gaps → IsGap limit journal r = λ r m. (let g = all_gaps limit base journal.records journal whole r m in g.0) in
+    let order : AscendingRanges 1 gaps = ranges_from 1 (base + 1) gaps (omega arith) (gaps_ascend limit base journal.records a) in
+    let behind : (r : Range) → IsGap limit journal r → base < r.first = λ r g. elim (dec_le r.first base) [
+      | inl l ↦ absurd (g.gone r.first (omega arith) g.some (inl (g.low, l)))
+      | inr l ↦ l
+    ] in
     record {
-      gaps = λ r m. gap r (in_first count (gaps_of limit journal) r m);
-      ascending = ranges_first count 1 (gaps_of limit journal) order;
-      all = λ r g. first_or_behind count 1 (gaps_of limit journal) r order (λ q m. let w = gap q m in w.some) (each_gap limit 0 journal journal whole r g (let l = g.low in omega arith));
+      gaps = λ r m. gap r (in_first count gaps r m);
+      ascending = ranges_first count 1 gaps order;
+      all = λ r g. first_or_behind count 1 gaps r order (λ q m. let w = gap q m in w.some) (each_gap limit base journal.records journal whole r g (behind r g));
     }

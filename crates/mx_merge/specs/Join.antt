@@ -1,14 +1,23 @@
--- The join of two journals in the order of maps: a is below b where a is a sub-map of b.
-use Rattle.std.specs.Prelude.{List}
+-- The join of two maps of records, and of two journals with their bases.
+use Rattle.std.specs.Prelude.{ℕ, ◌≡◌, ◌⊎◌, ◌++◌, List}
 use Rattle.mx_journal.specs.declared.records.Record.{Record}
-use Rattle.mx_journal.specs.Agreement.{IsConsistent, IsSubmap}
+use Rattle.mx_journal.specs.Agreement.{IsFirstConflict, IsSubmap}
+use Rattle.mx_journal.specs.Bases.{AreOpposed}
+use Rattle.mx_journal.specs.Settled.{IsWithin, JournalState}
 
--- j is above both, and each map above both is above j
+-- j is above both maps, and each map above both is above j
 pub record IsLeastUpperBound (a b j : List Record) : Type 0 where
   pub left : IsSubmap a j
   pub right : IsSubmap b j
   pub least : (m : List Record) → IsSubmap a m → IsSubmap b m → IsSubmap j m
 
--- both are sub-maps of one map, in which no two differing records bear the same number
-abbrev pub AreOfOneMap : List Record → List Record → Type 0
-AreOfOneMap a b = (m : List Record) × IsConsistent m × IsSubmap a m × IsSubmap b m
+-- j is above both journals, and each journal above both is above j
+pub record IsLeastJournal (a b j : JournalState) : Type 0 where
+  pub left : IsWithin a j
+  pub right : IsWithin b j
+  pub least : (m : JournalState) → IsWithin a m → IsWithin b m → IsWithin j m
+
+-- n is the least number at which the journals differ: that of both bases, or one that records bear
+abbrev pub IsFirstDifference : ℕ → JournalState → JournalState → Type 0
+IsFirstDifference n a b =
+    (AreOpposed a.base b.base × (n ≡ a.base.upto)) ⊎ ((AreOpposed a.base b.base → ⊥) × IsFirstConflict n (a.records ++ b.records))

@@ -4,17 +4,17 @@ use Rattle.std.specs.List.{list_any}
 use Rattle.mx_stamps.specs.Lists.{IsIn}
 use Rattle.mx_journal.specs.declared.records.Record.{Record}
 use Rattle.mx_journal.specs.declared.ranges.Range.{Range}
-use Rattle.mx_journal.specs.Records.{IsThere}
+use Rattle.mx_journal.specs.Settled.{Covers, JournalState}
 
--- a widest range of missing numbers: all of it is missing, from 1 to the limit, and it can be extended
+-- a widest range of missing numbers: none of it is covered, from 1 to the limit, and it can be extended
 -- neither to the left nor to the right
-pub record IsGap (limit : ℕ) (journal : List Record) (range : Range) : Type 0 where
+pub record IsGap (limit : ℕ) (journal : JournalState) (range : Range) : Type 0 where
   pub low : 1 ≤ range.first
   pub some : range.first ≤ range.last
   pub high : range.last ≤ limit
-  pub gone : (n : ℕ) → range.first ≤ n → n ≤ range.last → IsThere n journal → ⊥
-  pub left : (range.first ≡ 1) ⊎ IsThere (range.first - 1) journal
-  pub right : (range.last ≡ limit) ⊎ IsThere (range.last + 1) journal
+  pub gone : (n : ℕ) → range.first ≤ n → n ≤ range.last → Covers n journal → ⊥
+  pub left : (range.first ≡ 1) ⊎ Covers (range.first - 1) journal
+  pub right : (range.last ≡ limit) ⊎ Covers (range.last + 1) journal
 
 -- each range begins behind the end of the one before it, and the first at `least` or behind it
 abbrev pub AscendingRanges : ℕ → List Range → Type 0
@@ -26,7 +26,7 @@ abbrev pub IsLeftOut : ℕ → Range → List Range → Type 0
 IsLeftOut count gap ranges = (length ranges ≡ count) × ((r : Range) → IsIn r ranges → r.last < gap.first)
 
 -- the ranges are gaps, ascending; each gap is among them, or is left out
-pub record IsListOfGaps (count limit : ℕ) (journal : List Record) (ranges : List Range) : Type 0 where
+pub record IsListOfGaps (count limit : ℕ) (journal : JournalState) (ranges : List Range) : Type 0 where
   pub gaps : (r : Range) → IsIn r ranges → IsGap limit journal r
   pub ascending : AscendingRanges 1 ranges
   pub all : (gap : Range) → IsGap limit journal gap → IsIn gap ranges ⊎ IsLeftOut count gap ranges
@@ -35,15 +35,19 @@ pub record IsListOfGaps (count limit : ℕ) (journal : List Record) (ranges : Li
 abbrev pub gap_after : ℕ → ℕ → List Range
 gap_after before last = if nat_lt before last then record { first = before + 1; last = last } ∷ [] else []
 
--- the gaps above `before` up to the limit, in a journal whose numbers are above `before`
+-- the gaps above `before` up to the limit, in a map whose numbers are above `before`
 abbrev pub gaps_above : ℕ → ℕ → List Record → List Range
 gaps_above before limit [] = gap_after before limit
 gaps_above before limit (x ∷ xs) =
     if nat_lt limit x.number then gap_after before limit else gap_after before (x.number - 1) ++ gaps_above x.number limit xs
 
--- all gaps of a journal, ascending
+-- all gaps of a map of records, ascending
 abbrev pub gaps_of : ℕ → List Record → List Range
 gaps_of limit journal = gaps_above 0 limit journal
+
+-- all gaps of a journal, ascending: its base covers all numbers up to its own
+abbrev pub gaps_in : ℕ → JournalState → List Range
+gaps_in limit journal = gaps_above journal.base.upto limit journal.records
 
 -- whether the number lies in one of the ranges
 abbrev pub lies_in : List Range → ℕ → Bool

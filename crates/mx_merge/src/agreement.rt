@@ -1,26 +1,54 @@
-//! Whether two journals agree: no number bears differing records.
+//! Whether two journals agree: no number bears differing records, and no two bases of the same
+//! sections differ.
 
-ghost use Rattle.std.specs.Prelude.{◌↔◌, ◌++◌, IsTrue, IsFalse, IfSome, IfNone};
+ghost use Rattle.std.specs.Prelude.{suc, ◌≡◌, ◌↔◌, ◌++◌, IsTrue, IsFalse, IfSome, IfNone};
 ghost use Rattle.mx_journal.specs.Agreement.{AgreesWith, AreAgreeing, IsFirstConflict, IsOpposed};
+ghost use Rattle.mx_journal.specs.Bases.{AreOpposed};
 ghost use Rattle.mx_journal.specs.Records.{Ascending};
-ghost use Rattle.mx_merge.specs.Join.{AreOfOneMap};
+ghost use Rattle.mx_journal.specs.Settled.{AreOfOneMap, DoAgree};
+ghost use Rattle.mx_merge.specs.Join.{IsFirstDifference};
 
-use mx_journal::{Journal, Record};
+use mx_journal::{Base, Journal, Record};
 
-/// Whether the journals have the same record at each number that both have. Two journals that are
-/// parts of one map always agree.
+/// Whether the journals have the same record at each number that both have one of, and equal bases
+/// where they are of the same sections. Two journals that know of the same sections always agree.
 pub fn agree(journal: &Journal, other: &Journal) -> bool
-    ensures agreeing { IsTrue result ↔ AreAgreeing journal.now other.now }
+    ensures agreeing { IsTrue result ↔ DoAgree journal.now other.now }
     ensures submaps { AreOfOneMap journal.now other.now → IsTrue result }
 {
     first_difference(journal, other).is_none()
 }
 
-/// The least number at which the journals have different records.
+/// The least number at which the journals differ, in their bases or in a record.
 pub(crate) fn first_difference(journal: &Journal, other: &Journal) -> Option<u64>
-    ensures some { IfSome result (λ n. IsFirstConflict n (journal.now ++ other.now)) }
-    ensures none { IfNone result (AreAgreeing journal.now other.now) }
-    ensures ordered { Ascending 1 journal.now × Ascending 1 other.now }
+    ensures some { IfSome result (λ n. IsFirstDifference n journal.now other.now) }
+    ensures none { IfNone result (DoAgree journal.now other.now) }
+    ensures here { Ascending (suc journal.now.base.upto) journal.now.records }
+    ensures there { Ascending (suc other.now.base.upto) other.now.records }
+{
+    if are_opposed(journal.base(), other.base()) {
+        // that the numbers of a journal ascend is known from these calls
+        let _ = (journal.is_empty(), other.is_empty());
+        return Some(journal.base().upto());
+    }
+    first_conflict(journal, other)
+}
+
+/// Whether the bases are of the same sections and differ.
+fn are_opposed(base: &Base, other: &Base) -> bool
+    ensures opposed { IsTrue result → AreOpposed base.now other.now }
+    ensures agreed { IsFalse result → base.now.upto ≡ other.now.upto → base.now ≡ other.now }
+{
+    base.upto() == other.upto() && !base.is(other)
+}
+
+/// The least number at which the journals have different records.
+fn first_conflict(journal: &Journal, other: &Journal) -> Option<u64>
+    ensures some { IfSome result (λ n.
+        IsFirstConflict n (journal.now.records ++ other.now.records)) }
+    ensures none { IfNone result (AreAgreeing journal.now.records other.now.records) }
+    ensures here { Ascending (suc journal.now.base.upto) journal.now.records }
+    ensures there { Ascending (suc other.now.base.upto) other.now.records }
 {
     let (nothing_here, nothing_there) = (journal.is_empty(), other.is_empty());
     if nothing_here || nothing_there {
@@ -38,9 +66,9 @@ pub(crate) fn first_difference(journal: &Journal, other: &Journal) -> Option<u64
 
 /// Whether the journal has this very record or none of its number.
 fn agrees_with(journal: &Journal, entry: &Record) -> bool
-    requires { Ascending 1 journal.now }
-    ensures agrees { IsTrue result → AgreesWith entry.now journal.now }
-    ensures opposed { IsFalse result → IsOpposed entry.now journal.now }
+    requires { Ascending 1 journal.now.records }
+    ensures agrees { IsTrue result → AgreesWith entry.now journal.now.records }
+    ensures opposed { IsFalse result → IsOpposed entry.now journal.now.records }
 {
     match journal.get(entry.number) {
         Some(there) => there.is(entry),

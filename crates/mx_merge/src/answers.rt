@@ -12,11 +12,11 @@ use mx_journal::{Journal, Range, Record};
 /// The greatest number of records in one answer.
 const RECORDS_AT_ONCE: usize = 4;
 
-/// The records whose numbers lie in one of the ranges, ascending; where there are more than four, the
-/// least four.
+/// The records above the base whose numbers lie in one of the ranges, ascending; where there are
+/// more than four, the least four.
 pub fn answer(journal: &Journal, ranges: &[Range]) -> ArrayVec<Record, RECORDS_AT_ONCE>
-    ensures value { result.items ≡ take 4 (in_ranges ranges.now journal.now) }
-    ensures known { IsSubmap result.items journal.now }
+    ensures value { result.items ≡ take 4 (in_ranges ranges.now journal.now.records) }
+    ensures known { IsSubmap result.items journal.now.records }
 {
     let mut found = ArrayVec::new();
     let mut last = least_first(ranges).saturating_sub(1);

@@ -1,7 +1,7 @@
 //! What a journal lacks.
 
 ghost use Rattle.std.specs.Prelude.{◌≡◌, ◌≤◌, ◌++◌, take, length};
-ghost use Rattle.mx_merge.specs.Missing.{IsListOfGaps, gap_after, gaps_of};
+ghost use Rattle.mx_merge.specs.Missing.{IsListOfGaps, gap_after, gaps_in};
 
 use arrayvec::ArrayVec;
 use mx_journal::{Journal, Range};
@@ -9,11 +9,11 @@ use mx_journal::{Journal, Range};
 /// The greatest number of ranges that `missing` answers at once.
 const RANGES_AT_ONCE: usize = 8;
 
-/// The ranges of the numbers from 1 to `limit` that the journal lacks, ascending, each as wide as it can
-/// be; where there are more than eight, the least eight.
+/// The ranges of the numbers from 1 to `limit` that the journal does not cover, ascending, each as
+/// wide as it can be; where there are more than eight, the least eight.
 pub fn missing(journal: &Journal, limit: u64) -> ArrayVec<Range, RANGES_AT_ONCE>
     ensures gaps { IsListOfGaps 8 limit journal.now result.items }
-    ensures value { result.items ≡ take 8 (gaps_of limit journal.now) }
+    ensures value { result.items ≡ take 8 (gaps_in limit journal.now) }
 {
     let mut gaps = ArrayVec::new();
     // up to this number each one is there, or lies in a gap that was looked at

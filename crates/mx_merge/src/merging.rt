@@ -1,9 +1,9 @@
 //! Merging one journal into another.
 
-ghost use Rattle.std.specs.Prelude.{ℕ, ◌≡◌, ◌+◌, ◌↔◌, ◌++◌, ◌⊎◌, Err, IsOk, IfOk, OnOk, OnErr, length};
-ghost use Rattle.mx_journal.specs.Agreement.{AreAgreeing, IsFirstConflict, IsSubmap};
-ghost use Rattle.mx_journal.specs.Records.{Ascending, with_records};
-ghost use Rattle.mx_merge.specs.Join.{IsLeastUpperBound};
+ghost use Rattle.std.specs.Prelude.{ℕ, suc, ◌≡◌, ◌+◌, ◌↔◌, ◌⊎◌, Err, IsOk, IfOk, OnOk, OnErr};
+ghost use Rattle.mx_journal.specs.Records.{Ascending};
+ghost use Rattle.mx_journal.specs.Settled.{DoAgree, IsWithin, covered, joined};
+ghost use Rattle.mx_merge.specs.Join.{IsFirstDifference, IsLeastJournal};
 
 use crate::agreement::first_difference;
 use mx_journal::Journal;
@@ -30,19 +30,21 @@ impl From<AllocError> for MergeFault {
     }
 }
 
-/// Takes the other journal's records into the journal, and answers how many were new. `Conflict`
-/// names the least number at which the two differ; `Memory` comes only where they agree and
-/// something is new. At a fault the journal stays as it was.
+/// Takes what the other journal covers into the journal, with its base where that is above the own
+/// one, and answers how many numbers are newly covered. `Conflict` names the least number at which
+/// the two differ; `Memory` comes only where they agree and there is a record that is new. At a
+/// fault the journal stays as it was.
 pub fn merge(journal: &mut Journal, other: &Journal) -> Result<u64, MergeFault>
     ensures conflict { (n : ℕ) → (result ≡ Err (MergeFault.Conflict n))
-        ↔ IsFirstConflict n (journal.old ++ other.now) }
+        ↔ IsFirstDifference n journal.old other.now }
     ensures agreed { (IsOk result ⊎ (result ≡ Err MergeFault.Memory))
-        ↔ AreAgreeing journal.old other.now }
-    ensures ok { IfOk result (λ k. (journal.new ≡ with_records other.now journal.old)
-        × (length journal.new ≡ length journal.old + k)) }
-    ensures join { OnOk result (IsLeastUpperBound journal.old other.now journal.new) }
-    ensures ordered { Ascending 1 journal.new }
-    ensures contained { IsSubmap other.now journal.old → IsOk result }
+        ↔ DoAgree journal.old other.now }
+    ensures ok { IfOk result (λ k. (journal.new ≡ joined other.now journal.old)
+        × (covered journal.new ≡ covered journal.old + k)) }
+    ensures join { OnOk result (IsLeastJournal journal.old other.now journal.new) }
+    ensures ordered { Ascending (suc journal.new.base.upto) journal.new.records }
+    ensures there { Ascending (suc other.now.base.upto) other.now.records }
+    ensures contained { IsWithin other.now journal.old → IsOk result }
     ensures err { OnErr result (journal.new ≡ journal.old) }
 {
     if let Some(number) = first_difference(journal, other) {

@@ -35,7 +35,7 @@ pub applied_last : (register : ℕ) (ws : List Write) (v : ℕ) → applied regi
 applied_last register ws v = applied_from register ws None v
 
 -- the last write of a section counts where no later section has written the register
-value_after : (n : ℕ) (o : Option ℕ) (cell : Cell) → number_by cell.by ≤ n → (after_write n o cell).value ≡ unwrap_or o cell.value
+pub value_after : (n : ℕ) (o : Option ℕ) (cell : Cell) → number_by cell.by ≤ n → (after_write n o cell).value ≡ unwrap_or o cell.value
 value_after n None cell l = refl
 value_after n (Some v) cell l =
     ap (λ (c : Cell). c.value) (cond_true (nat_le (number_by cell.by) n) (record { value = v; by = Some n }) cell (grind (arith, nat_tests)))

@@ -15,7 +15,7 @@ use Rattle.mx_registers.specs.Registers.{IsHeld, after_record, after_records, bl
 use Rattle.mx_registers.proofs.Held.{held, same_register}
 
 -- functions that agree below n make one list
-each_below_same : {X : Type 0} (f g : ℕ → X) (n : ℕ) → ((i : ℕ) → i < n → f i ≡ g i) → each_below f n ≡ each_below g n
+pub each_below_same : {X : Type 0} (f g : ℕ → X) (n : ℕ) → ((i : ℕ) → i < n → f i ≡ g i) → each_below f n ≡ each_below g n
 each_below_same f g zero h = refl
 each_below_same f g (suc n) h =
     ap (λ l. l ++ f n ∷ []) (each_below_same f g n (λ i l. h i (omega arith))) ∙ ap (λ x. each_below g n ++ x ∷ []) (h n (omega arith))
@@ -30,7 +30,7 @@ taken_is entry old new size each =
     ext_get_or blank new (with_taken entry old) (size ∙ sym (length_each_below f (length old)))
     (λ i l. each i (omega (arith, l, size)) ∙ sym (get_or_each_below f (length old) i blank (omega (arith, l, size))))
 
-after_records_more : (register : ℕ) (xs : List Record) (x : Record) (cell : Cell) → after_records register (xs ++ x ∷ []) cell ≡ after_record register x (after_records register xs cell)
+pub after_records_more : (register : ℕ) (xs : List Record) (x : Record) (cell : Cell) → after_records register (xs ++ x ∷ []) cell ≡ after_record register x (after_records register xs cell)
 after_records_more register [] x cell = refl
 after_records_more register (y ∷ xs) x cell = after_records_more register xs x (after_record register y cell)
 
@@ -38,14 +38,17 @@ after_records_more register (y ∷ xs) x cell = after_records_more register xs x
 pub register_more : (register : ℕ) (xs : List Record) (x : Record) → register_of register (xs ++ x ∷ []) ≡ after_record register x (register_of register xs)
 register_more register xs x = after_records_more register xs x blank
 
--- the view of some records that takes one more is the view of these
-pub taken_more : (count : ℕ) (xs : List Record) (x : Record) → with_taken x (registers_of count xs) ≡ registers_of count (xs ++ x ∷ [])
-taken_more count xs x =
-    let f : ℕ → Cell = λ register. register_of register xs in
-    let cells = registers_of count xs in
+-- the view of some records that takes one more is the view of these, whatever it began with
+pub taken_more_from : (start : ℕ → Cell) (count : ℕ) (xs : List Record) (x : Record) → with_taken x (each_below (λ i. after_records i xs (start i)) count) ≡ each_below (λ i. after_records i (xs ++ x ∷ []) (start i)) count
+taken_more_from start count xs x =
+    let f : ℕ → Cell = λ register. after_records register xs (start register) in
+    let cells = each_below f count in
     ap (λ n. each_below (λ register. after_record register x (get_or cells register blank)) n) (length_each_below f count)
-    ∙ each_below_same (λ register. after_record register x (get_or cells register blank)) (λ register. register_of register (xs ++ x ∷ [])) count
-    (λ i l. ap (λ c. after_record i x c) (get_or_each_below f count i blank l) ∙ sym (register_more i xs x))
+    ∙ each_below_same (λ register. after_record register x (get_or cells register blank)) (λ register. after_records register (xs ++ x ∷ []) (start register)) count
+    (λ i l. ap (λ c. after_record i x c) (get_or_each_below f count i blank l) ∙ sym (after_records_more i xs x (start i)))
+
+pub taken_more : (count : ℕ) (xs : List Record) (x : Record) → with_taken x (registers_of count xs) ≡ registers_of count (xs ++ x ∷ [])
+taken_more count xs x = taken_more_from (λ _. blank) count xs x
 
 -- each register of a view is the last write to it
 pub view_held : (count : ℕ) (xs : List Record) (register : ℕ) (cell : Cell) → slice_get (registers_of count xs) register ≡ Some cell → IsHeld register xs cell

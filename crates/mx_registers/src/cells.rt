@@ -2,10 +2,11 @@
 
 ghost use Rattle.std.specs.Prelude.{ℕ, ◌≡◌, ◌<◌, length, get_or};
 ghost use Rattle.mx_journal.specs.Drafted.{last_value};
+ghost use Rattle.mx_registers.specs.Based.{shown_cell};
 ghost use Rattle.mx_registers.specs.Registers.{after_write, blank};
 ghost use Rattle.mx_registers.specs.Writes.{after_one};
 
-use mx_journal::Write;
+use mx_journal::{Cell as BaseCell, Write};
 
 /// What a register holds: a value, and the number of the section that wrote it. A register that no
 /// section wrote has the value 0.
@@ -17,6 +18,19 @@ pub struct Cell {
 
 /// A register that no section wrote.
 pub(crate) const BLANK: Cell = Cell { value: 0, by: None };
+
+/// A base's cell, in which the number 0 says that no section wrote it.
+pub(crate) fn shown_cell(cell: BaseCell) -> Cell
+    ensures { result ≡ shown_cell cell }
+{
+    if cell.number == 0 {
+        return BLANK;
+    }
+    Cell {
+        value: cell.value,
+        by: Some(cell.number),
+    }
+}
 
 /// Takes the writes of a section, in order.
 pub(crate) fn write_all(cells: &mut [Cell], number: u64, writes: &[Write])

@@ -3,12 +3,14 @@
 ghost use Rattle.std.specs.Prelude.{ℕ, ◌≡◌, ◌≤◌, List, [], ◌∷◌, ◌++◌, length};
 ghost use Rattle.mx_journal.specs.declared.records.Record.{Record};
 ghost use Rattle.mx_journal.specs.Agreement.{AgreesWith};
+ghost use Rattle.mx_journal.specs.Bases.{AreCellsOf, BaseState};
 ghost use Rattle.mx_journal.specs.Records.{Ascending, with_record};
+ghost use Rattle.mx_registers.specs.Based.{registers_from};
 ghost use Rattle.mx_registers.specs.Registers.{registers_of, value_in, with_taken, writer_in};
 
-use crate::cells::{BLANK, Cell, write_all};
+use crate::cells::{BLANK, Cell, shown_cell, write_all};
 use arrayvec::ArrayVec;
-use mx_journal::Record;
+use mx_journal::{Base, Record};
 use std::marker::Model;
 
 /// The greatest number of registers.
@@ -44,6 +46,22 @@ impl View {
         View { cells }
     }
 
+    /// A view of this many registers after the sections of a base.
+    pub(crate) fn at(base: &Base, count: u8) -> View
+        requires least { 1 ≤ count }
+        requires most { count ≤ 32 }
+        ensures value { result ≡ registers_from base.now count [] }
+        ensures cells { AreCellsOf base.now.upto base.now.cells }
+    {
+        // that the cells are of the base's sections is known from this call
+        let _ = base.upto();
+        let mut cells = ArrayVec::new();
+        for register in 0..count {
+            cells.push(shown_cell(base.cells()[usize::from(register)]));
+        }
+        View { cells }
+    }
+
     /// Takes a record: each register that it writes has the last of these writes, unless a section
     /// of a greater number wrote it. Writes to registers that are not there are passed over.
     pub fn take(&mut self, entry: &Record)
@@ -51,6 +69,9 @@ impl View {
         ensures more { (count : ℕ) (records : List Record)
             → self.old ≡ registers_of count records
             → self.new ≡ registers_of count (records ++ entry.now ∷ []) }
+        ensures from { (base : BaseState) (count : ℕ) (records : List Record)
+            → self.old ≡ registers_from base count records
+            → self.new ≡ registers_from base count (records ++ entry.now ∷ []) }
         ensures map { (count : ℕ) (records : List Record) → Ascending 1 records
             → AgreesWith entry.now records → self.old ≡ registers_of count records
             → self.new ≡ registers_of count (with_record entry.now records) }

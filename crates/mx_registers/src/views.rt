@@ -1,11 +1,12 @@
 //! The registers of journals and of lists of records.
 
-ghost use Rattle.std.specs.Prelude.{ℕ, ◌≡◌, ◌≤◌, [], List};
+ghost use Rattle.std.specs.Prelude.{ℕ, suc, ◌≡◌, ◌≤◌, [], List};
 ghost use Rattle.mx_journal.specs.declared.records.Record.{Record};
 ghost use Rattle.mx_journal.specs.Agreement.{IsConsistent};
-ghost use Rattle.mx_journal.specs.Gapless.{IsGapless};
-ghost use Rattle.mx_journal.specs.Records.{below, top_of, with_records};
-ghost use Rattle.mx_registers.specs.Registers.{AreApplied, AreHeld, HaveSameMembers, registers_of, writes_to};
+ghost use Rattle.mx_journal.specs.Records.{Ascending, top_of, with_records};
+ghost use Rattle.mx_journal.specs.Settled.{AreOfOneMap, CoverSame, JournalState, settled};
+ghost use Rattle.mx_registers.specs.Based.{AreAppliedTo, AreHeldIn, registers_below, registers_in};
+ghost use Rattle.mx_registers.specs.Registers.{AreHeld, HaveSameMembers, registers_of, writes_to};
 
 use crate::registers::View;
 use mx_journal::{Journal, Record};
@@ -29,16 +30,23 @@ pub fn view_of(records: &[Record], count: u8) -> View
     shown
 }
 
-/// The registers of a journal.
+/// The registers of a journal: what its base has, changed by the records above it.
 pub fn view(journal: &Journal, count: u8) -> View
     requires least { 1 ≤ count }
     requires most { count ≤ 32 }
-    ensures value { result ≡ registers_of count journal.now }
-    ensures held { AreHeld journal.now result }
-    ensures gapless { (k : ℕ) → IsGapless k journal.now → top_of journal.now ≤ k
-        → AreApplied (writes_to k journal.now) result }
+    ensures value { result ≡ registers_in count journal.now }
+    ensures held { AreHeldIn journal.now result }
+    // the writes of the sections up to k, applied in their order
+    ensures order { (k : ℕ) → top_of journal.now.records ≤ k
+        → AreAppliedTo journal.now.base (writes_to k journal.now.records) result }
+    // settling keeps each register
+    ensures settled { (k : ℕ) → registers_in count (settled k journal.now) ≡ result }
+    // journals of the same sections that cover the same numbers show the same registers
+    ensures covered { (other : JournalState) → Ascending (suc other.base.upto) other.records
+        → AreOfOneMap journal.now other → CoverSame journal.now other
+        → registers_in count other ≡ result }
 {
-    let mut view = View::new(count);
+    let mut view = View::at(journal.base(), count);
     let mut last = 0;
     while let Some(entry) = journal.next_after(last) {
         view.take(entry);
@@ -47,13 +55,14 @@ pub fn view(journal: &Journal, count: u8) -> View
     view
 }
 
-/// The registers of a journal's sections below a number, as a section of that number finds them.
+/// The registers of a journal's sections below a number, as a section of that number finds them,
+/// where the journal's base is below it too.
 pub fn view_below(journal: &Journal, count: u8, number: u64) -> View
     requires least { 1 ≤ count }
     requires most { count ≤ 32 }
-    ensures value { result ≡ registers_of count (below number journal.now) }
+    ensures value { result ≡ registers_below number count journal.now }
 {
-    let mut earlier = View::new(count);
+    let mut earlier = View::at(journal.base(), count);
     let mut last = 0;
     while let Some(entry) = journal.next_after(last) {
         if entry.number >= number {

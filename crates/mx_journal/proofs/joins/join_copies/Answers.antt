@@ -16,8 +16,8 @@ returns-clause-records c =
     let here : c.top_in.result ≡ top_of xs = c.top_in.ensures ∙ ap top_of same in
     let low : top_of xs ≤ to = omega (arith, c.max-to.ensures) in
     let high : top_of ys ≤ to = omega (arith, c.max-to.ensures, c.top_in-2.ensures) in
-    joined_is to xs ys js (ascending_flat 1 c.args.runs.now.items c.requires.runs) (ascending_flat 1 c.args.other.now c.requires.other) (ascending_flat 1 c.in_ok-joined.joined.items c.in_ok-joined.ensures.runs)
-    c.requires.agreeing low high (subst (λ l. IsJoinedUpTo 0 to l ys js) (ap flatten c.deref-2.ensures.value) c.in_ok-joined.ensures.records)
+    joined_is c.args.from to xs ys js c.requires.behind (ascending_flat 1 c.args.other.now c.requires.other) (ascending_flat 1 c.in_ok-joined.joined.items c.in_ok-joined.ensures.runs)
+    c.requires.agreeing low high (subst (λ l. IsJoinedUpTo c.args.from to l ys js) (ap flatten c.deref-2.ensures.value) c.in_ok-joined.ensures.records)
 
 pub returns-clause-count : goal.returns-clause-count
 returns-clause-count c =
@@ -27,5 +27,5 @@ returns-clause-count c =
     let again : flatten c.deref-2.result.now ≡ xs = ap flatten c.deref-2.ensures.value in
     let here : c.top_in.result ≡ top_of xs = c.top_in.ensures ∙ ap top_of same in
     let past : length (above to (flatten c.deref-2.result.now)) ≡ 0 = ap (λ l. length (above to l)) again ∙ ap length (none_past to xs (omega (arith, c.max-to.ensures))) in
-    let whole : length (above 0 (flatten c.deref-2.result.now)) ≡ length xs = ap (λ l. length (above 0 l)) again ∙ ap length (above_all 0 xs (ascending_flat 1 c.args.runs.now.items c.requires.runs)) in
+    let whole : length (above c.args.from (flatten c.deref-2.result.now)) ≡ length xs = ap (λ l. length (above c.args.from l)) again ∙ ap length (above_all c.args.from xs c.requires.behind) in
     omega (arith, c.in_ok-joined.ensures.count)

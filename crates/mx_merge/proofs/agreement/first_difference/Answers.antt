@@ -1,44 +1,19 @@
-use Rattle.std.proofs.Common.{◌≡◌, ◌++◌, [], ◌∷◌, List, sym, refl, ◌∙◌, ap, subst}
-use Rattle.mx_stamps.proofs.Lists.{append_append, append_nil}
-use Rattle.mx_journal.specs.declared.records.Record.{Record}
-use Rattle.mx_journal.specs.Records.{Ascending, above}
-use Rattle.mx_journal.specs.Agreement.{AreAgreeing, IsFirstConflict}
-use Rattle.mx_journal.proofs.Going.{above_all}
-use Rattle.mx_merge.proofs.Differences.{first_opposed, one_more}
+use Rattle.std.proofs.Common.{◌≡◌, subst}
+use Rattle.mx_journal.specs.Bases.{BaseState}
+use Rattle.mx_merge.proofs.Differences.{none_different, some_difference}
 use Rattle.mx_merge.proofs.agreement.first_difference.Goals as goal
 
-pub loop-entry-init : goal.loop-entry-init
-loop-entry-init c = ([], refl, λ x y h t e. absurd t)
+-- what is known of bases that were compared
+same_bases : (seen other here there : BaseState) → seen ≡ here → other ≡ there → (seen.upto ≡ other.upto → seen ≡ other) → here.upto ≡ there.upto → here ≡ there
+same_bases seen other here there e f h =
+    subst (λ b. here.upto ≡ b.upto → here ≡ b) f (subst (λ b. b.upto ≡ other.upto → b ≡ other) e h)
 
-pub returns-then-not-agrees_with-clause-some : goal.returns-then-not-agrees_with-clause-some
-returns-then-not-agrees_with-clause-some c =
-    let journal = c.args.journal.now in
-    let other = c.args.other.now in
-    let entry = c.in-Some.entry.now in
-    let rest = above entry.number other in
-    let kept = c.loop-entry.invariant in
-    let done : List Record = kept.0 in
-    let order = c.next_after.ensures.ordered in
-    let whole : other ≡ done ++ entry ∷ rest = sym (above_all 0 other order) ∙ sym kept.1 ∙ ap (λ l. done ++ l) c.in-Some.ensures.value in
-    subst (λ ys. IsFirstConflict entry.number (journal ++ ys)) (sym whole)
-    (first_opposed journal done rest entry c.is_empty-nothing_here.ensures.ordered (subst (λ l. Ascending 1 l) whole order) kept.2 (c.agrees_with.ensures.opposed c.if-not-agrees_with.true))
-
-pub loop-entry-preserved : goal.loop-entry-preserved
-loop-entry-preserved c =
-    let journal = c.args.journal.now in
-    let other = c.args.other.now in
-    let entry = c.in-Some.entry.now in
-    let kept = c.loop-entry.invariant in
-    let done : List Record = kept.0 in (
-      done ++ entry ∷ [],
-      append_append done (entry ∷ []) (above entry.number other) ∙ ap (λ l. done ++ l) (sym c.in-Some.ensures.value) ∙ kept.1,
-      one_more journal done entry kept.2 (c.agrees_with.ensures.agrees c.if-not-agrees_with.false),
-    )
+pub returns-clause-some : goal.returns-clause-some
+returns-clause-some c =
+    some_difference c.first_conflict.result c.args.journal.now c.args.other.now
+    (same_bases c.base.result.now c.base-2.result.now c.args.journal.now.base c.args.other.now.base c.base.ensures c.base-2.ensures (c.are_opposed.ensures.agreed c.if-are_opposed.false)) c.first_conflict.ensures.some
 
 pub returns-clause-none : goal.returns-clause-none
 returns-clause-none c =
-    let other = c.args.other.now in
-    let kept = c.loop-entry.invariant in
-    let done : List Record = kept.0 in
-    subst (λ ys. AreAgreeing c.args.journal.now ys)
-    (sym (append_nil done) ∙ ap (λ l. done ++ l) (sym c.in_default.ensures.value) ∙ kept.1 ∙ above_all 0 other c.next_after.ensures.ordered) kept.2
+    none_different c.first_conflict.result c.args.journal.now c.args.other.now
+    (same_bases c.base.result.now c.base-2.result.now c.args.journal.now.base c.args.other.now.base c.base.ensures c.base-2.ensures (c.are_opposed.ensures.agreed c.if-are_opposed.false)) c.first_conflict.ensures.none

@@ -8,6 +8,7 @@ use Rattle.mx_stamps.proofs.Choices.{cond_true, cond_false}
 use Rattle.mx_journal.specs.declared.records.Record.{Record}
 use Rattle.mx_journal.specs.Agreement.{IsSubmap}
 use Rattle.mx_journal.specs.Records.{above}
+use Rattle.mx_journal.proofs.Settled.{from_one}
 use Rattle.mx_merge.specs.Missing.{in_ranges, lies_in}
 use Rattle.mx_merge.proofs.Answered.{answered_known}
 use Rattle.mx_merge.proofs.Skipping.{ranges_skipped}
@@ -17,33 +18,33 @@ use Rattle.mx_merge.proofs.answers.answer.Goals as goal
 pub returns-then-is_full-clause-value : goal.returns-then-is_full-clause-value
 returns-then-is_full-clause-value c =
     let found = c.loop-entry.found.items in
-    let left = in_ranges c.args.ranges.now (above c.loop-entry.last c.args.journal.now) in
+    let left = in_ranges c.args.ranges.now (above c.loop-entry.last c.args.journal.now.records) in
     let many : 4 ≤ length found = grind (arith, nat_tests, c.is_full.ensures.value, c.if-is_full.true) in
-    sym (take_all 4 found c.loop-entry.invariant.room) ∙ sym (take-append-le 4 found left many) ∙ c.loop-entry.invariant.same c.next_after.ensures.ordered
+    sym (take_all 4 found c.loop-entry.invariant.room) ∙ sym (take-append-le 4 found left many) ∙ c.loop-entry.invariant.same (from_one c.args.journal.now.base.upto c.args.journal.now.records c.next_after.ensures.ordered)
 
 pub returns-then-is_full-clause-known : goal.returns-then-is_full-clause-known
 returns-then-is_full-clause-known c =
-    subst (λ l. IsSubmap l c.args.journal.now) (sym (returns-then-is_full-clause-value c)) (answered_known 4 c.args.ranges.now c.args.journal.now)
+    subst (λ l. IsSubmap l c.args.journal.now.records) (sym (returns-then-is_full-clause-value c)) (answered_known 4 c.args.ranges.now c.args.journal.now.records)
 
 pub loop-entry-init : goal.loop-entry-init
 loop-entry-init c =
     let none : c.new-found.result.items ≡ [] = c.new-found.ensures in
     record {
       same = λ order.
-          ap (λ l. take 4 (l ++ in_ranges c.args.ranges.now (above c.saturating_sub-last.result c.args.journal.now))) none
-          ∙ ap (λ l. take 4 l) (ranges_skipped c.args.ranges.now c.saturating_sub-last.result c.args.journal.now order (λ range h. let low = c.least_first.ensures range h in omega arith));
+          ap (λ l. take 4 (l ++ in_ranges c.args.ranges.now (above c.saturating_sub-last.result c.args.journal.now.records))) none
+          ∙ ap (λ l. take 4 l) (ranges_skipped c.args.ranges.now c.saturating_sub-last.result c.args.journal.now.records order (λ range h. let low = c.least_first.ensures range h in omega arith));
       room = subst (λ (l : List Record). length l ≤ 4) (sym none) (omega arith);
     }
 
 pub loop-entry-preserved : goal.loop-entry-preserved
 loop-entry-preserved c =
     let ranges = c.args.ranges.now in
-    let journal = c.args.journal.now in
+    let journal = c.args.journal.now.records in
     let entry = c.in-Some.entry.now in
     let found = c.loop-entry.found.items in
     let rest = above entry.number journal in
     let same : take 4 (found ++ in_ranges ranges (entry ∷ rest)) ≡ take 4 (in_ranges ranges journal) =
-    subst (λ l. take 4 (found ++ in_ranges ranges l) ≡ take 4 (in_ranges ranges journal)) c.in-Some.ensures.value (c.loop-entry.invariant.same c.next_after.ensures.ordered) in
+    subst (λ l. take 4 (found ++ in_ranges ranges l) ≡ take 4 (in_ranges ranges journal)) c.in-Some.ensures.value (c.loop-entry.invariant.same (from_one c.args.journal.now.base.upto c.args.journal.now.records c.next_after.ensures.ordered)) in
     elim c.if-is_in_some.branch [
       | then-is_in_some w ↦
           let lies : lies_in ranges entry.number ≡ true = sym c.is_in_some.ensures ∙ w.if-is_in_some.true in
@@ -71,8 +72,8 @@ pub returns-clause-value : goal.returns-clause-value
 returns-clause-value c =
     let found = c.loop-entry.found.items in
     let none = ap (λ l. found ++ in_ranges c.args.ranges.now l) c.in_default.ensures.value ∙ append_nil found in
-    sym (take_all 4 found c.loop-entry.invariant.room) ∙ sym (ap (λ l. take 4 l) none) ∙ c.loop-entry.invariant.same c.next_after.ensures.ordered
+    sym (take_all 4 found c.loop-entry.invariant.room) ∙ sym (ap (λ l. take 4 l) none) ∙ c.loop-entry.invariant.same (from_one c.args.journal.now.base.upto c.args.journal.now.records c.next_after.ensures.ordered)
 
 pub returns-clause-known : goal.returns-clause-known
 returns-clause-known c =
-    subst (λ l. IsSubmap l c.args.journal.now) (sym (returns-clause-value c)) (answered_known 4 c.args.ranges.now c.args.journal.now)
+    subst (λ l. IsSubmap l c.args.journal.now.records) (sym (returns-clause-value c)) (answered_known 4 c.args.ranges.now c.args.journal.now.records)

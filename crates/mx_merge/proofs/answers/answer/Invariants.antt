@@ -5,9 +5,9 @@ use Rattle.mx_merge.proofs.answers.answer.Given as goal
 
 abbrev pub invariant-loop-entry : goal.invariant-loop-entry
 invariant-loop-entry l = record {
-  same : Ascending 1 l.journal → take 4 (l.found.items ++ in_ranges l.ranges (above l.last l.journal)) ≡ take 4 (in_ranges l.ranges l.journal);
+  same : Ascending 1 l.journal.records → take 4 (l.found.items ++ in_ranges l.ranges (above l.last l.journal.records)) ≡ take 4 (in_ranges l.ranges l.journal.records);
   room : length l.found.items ≤ 4;
 }
 
 abbrev pub decreases-loop-entry : goal.decreases-loop-entry
-decreases-loop-entry l = length (above l.last l.journal)
+decreases-loop-entry l = length (above l.last l.journal.records)

@@ -1,18 +1,29 @@
-use Rattle.std.proofs.Common.{◌∙◌, sym, subst}
-use Rattle.mx_stamps.proofs.Lists.{none_is_no_some}
+use Rattle.std.proofs.Common.{suc, ◌<◌, inl, inr, sym, subst, arith}
+use Rattle.mx_stamps.proofs.Choices.{dec_le}
 use Rattle.mx_journal.specs.Records.{Ascending, record_at}
-use Rattle.mx_journal.proofs.Flat.{ascending_flat}
-use Rattle.mx_journal.proofs.Answering.{no_other, zero_none}
+use Rattle.mx_journal.specs.Settled.{JournalState}
+use Rattle.mx_journal.proofs.Answering.{no_other}
+use Rattle.mx_journal.proofs.Maps.{ascending_with}
+use Rattle.mx_journal.proofs.Settled.{none_settled}
 use Rattle.mx_journal.proofs.journal.Journal.put.Goals as goal
 
-pub returns-then-entry-eq0-clause-conflict : goal.returns-then-entry-eq0-clause-conflict
-returns-then-entry-eq0-clause-conflict c = λ n. (
-  λ e. let bad : ⊥ = cc in absurd bad,
-  λ h. absurd (no_other c.args.entry (record_at n c.args.self.now) (zero_none n c.args.self.now (subst (λ xs. Ascending 1 xs) c.self.view_is (ascending_flat 1 c.self.inside.runs.items c.self.invariant)) (h.0 ∙ c.if-entry-eq0.true)) h.1),
-)
+pub returns-then-is_settled-clause-conflict : goal.returns-then-is_settled-clause-conflict
+returns-then-is_settled-clause-conflict c = λ n.
+    let low = (c.is_settled.ensures.0 c.if-is_settled.true).1 in
+    let records = c.args.self.now.records in
+    let order : Ascending (suc c.self.inside.base.upto) records = subst (λ (j : JournalState). Ascending (suc c.self.inside.base.upto) j.records) c.self.view_is c.self.invariant in
+    (λ e. let bad : ⊥ = cc in absurd bad, λ h. absurd (no_other c.args.entry (record_at n records) (none_settled n c.self.inside.base.upto records order (omega (arith, h.0))) h.1))
 
-pub returns-then-entry-eq0-clause-same : goal.returns-then-entry-eq0-clause-same
-returns-then-entry-eq0-clause-same c = (
-  λ e. let bad : ⊥ = cc in absurd bad,
-  λ h. absurd (none_is_no_some c.args.entry (sym (zero_none c.args.entry.number c.args.self.now (subst (λ xs. Ascending 1 xs) c.self.view_is (ascending_flat 1 c.self.inside.runs.items c.self.invariant)) c.if-entry-eq0.true) ∙ h)),
-)
+pub invariant_of-self : goal.invariant_of-self
+invariant_of-self c =
+    let k = c.self.inside.base.upto in
+    elim c.put.ensures.kept [
+      | inl e ↦
+          let low = (c.put.ensures.fresh.0 (inl e)).0 in
+          let high : k < c.args.entry.number = elim (dec_le c.args.entry.number k) [
+            | inl l ↦ (let t = c.is_settled.ensures.1 (low, l) in let bad : ⊥ = cc in absurd bad)
+            | inr l ↦ l
+          ] in
+          subst (λ l. Ascending (suc k) l) (sym (c.put.ensures.new e)) (ascending_with (suc k) c.args.entry c.self.inside.records c.self.invariant (omega arith))
+      | inr e ↦ subst (λ l. Ascending (suc k) l) (sym e) c.self.invariant
+    ]

@@ -3,8 +3,9 @@ use Rattle.std.specs.List.{refill}
 use Rattle.mx_journal.specs.declared.records.Write.{Write}
 use Rattle.mx_journal.specs.Drafted.{last_value}
 use Rattle.mx_registers.specs.declared.cells.Cell.{Cell}
+use Rattle.mx_registers.specs.Based.{cell_in}
 use Rattle.mx_registers.specs.Registers.{after_write, blank, with_taken}
-use Rattle.mx_registers.proofs.Taking.{rewritten, taken_is, taken_more, taken_with_record}
+use Rattle.mx_registers.proofs.Taking.{rewritten, taken_is, taken_more, taken_more_from, taken_with_record}
 use Rattle.mx_registers.proofs.registers.View.take.Goals as goal
 
 taken : (c : goal.After-self-1) → refill (length c.self.inside.cells.items) c.self.inside.cells.items c.write_all.new.cells ≡ with_taken c.args.entry.now c.args.self.now
@@ -32,3 +33,7 @@ returns-clause-more c = λ count records e.
 pub returns-clause-map : goal.returns-clause-map
 returns-clause-map c = λ count records a agrees e.
     taken c ∙ ap (λ v. with_taken c.args.entry.now v) e ∙ taken_with_record count records c.args.entry.now a agrees
+
+pub returns-clause-from : goal.returns-clause-from
+returns-clause-from c = λ base count records e.
+    taken c ∙ ap (λ v. with_taken c.args.entry.now v) e ∙ taken_more_from (λ register. cell_in register base) count records c.args.entry.now

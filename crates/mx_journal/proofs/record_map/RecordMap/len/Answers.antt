@@ -1,7 +1,7 @@
 use Rattle.std.proofs.Common.{subst}
 use Rattle.mx_journal.specs.Records.{Ascending}
 use Rattle.mx_journal.proofs.Flat.{ascending_flat}
-use Rattle.mx_journal.proofs.journal.Journal.next_after.Goals as goal
+use Rattle.mx_journal.proofs.record_map.RecordMap.len.Goals as goal
 
 pub returns-clause-ordered : goal.returns-clause-ordered
 returns-clause-ordered c = subst (λ l. Ascending 1 l) c.self.view_is (ascending_flat 1 c.self.inside.runs.items c.self.invariant)

@@ -1,7 +1,7 @@
 use Rattle.std.proofs.Common.{◌≡◌, ◌↔◌, [], IsTrue, length, vec_len, subst, arith}
 use Rattle.mx_journal.specs.Records.{Ascending}
 use Rattle.mx_journal.proofs.Flat.{ascending_flat, empty_runs}
-use Rattle.mx_journal.proofs.journal.Journal.is_empty.Goals as goal
+use Rattle.mx_journal.proofs.record_map.RecordMap.is_empty.Goals as goal
 
 pub returns-clause-value : goal.returns-clause-value
 returns-clause-value c =
