@@ -1,7 +1,9 @@
 -- Why a live run has no journal.
-use Rattle.std.proofs.Common.{◌≡◌, ◌⊎◌, Bool, true, false, inl, inr, Option, Some, None, IfSome, Result, Err, refl, sym, subst}
+use Rattle.std.proofs.Common.{◌≡◌, ◌⊎◌, Bool, true, false, inl, inr, List, Option, Some, None, IfSome, Result, Ok, Err, IfErr, OnOk, length, refl, sym, subst}
 use Rattle.std.proofs.lemmas.Bool.{false≢true}
-use Rattle.std.specs.Io.KnownBytes.{Keeps}
+use Rattle.std.specs.Io.KnownBytes.{Appends, Keeps}
+use Rattle.mx_journal.specs.declared.records.Record.{Record}
+use Rattle.mx_journal.specs.declared.receipts.Receipt.{Receipt}
 use Rattle.mx_plan.specs.Fields.{Fields}
 use Rattle.mx_words.specs.LiveWords.{Order}
 use Rattle.mx_commands.specs.declared.faults.Stop.{Stop}
@@ -11,7 +13,8 @@ use Rattle.mx_commands.specs.Outputs.{Held, refused_after}
 use Rattle.mx_commands.specs.Told.{Telling}
 use Rattle.mx_live.specs.declared.halts.Halt.{Halt}
 use Rattle.mx_live.specs.Halts.{Fails, RanInVain, halt_of_stop}
-use Rattle.mx_live.specs.Lives.{Ends, Fits, Halts, IsPlanOf, IsSilent}
+use Rattle.mx_live.specs.Lives.{AreSerial, Ends, Fits, Halts, HaveSections, IsPlanOf, IsSilent}
+use Rattle.mx_live.specs.Shown.{live_text}
 
 same_held : (held : Held) → Keeps held held
 same_held None = tt
@@ -42,3 +45,9 @@ module _ (takes : Bool) (told : Option Telling) (order : Order) where
   plan_ends r halt stopped held is from read taken =
       subst (λ (x : Result (Unit {0}) Halt). Ends takes told order held held x) (sym is)
       (subst (λ h. Halts takes told order h × IsSilent h held held) (sym from) (plan_halts stopped held read taken))
+
+  -- the end of a run that came to a journal, which was printed, or not
+  pub shown_ends : (p : Fields) (receipts : List Receipt) (journal : List Record) (r : Result (Unit {0}) Halt) (old new : Held) → IsPlanOf told p → Fits order p → AreSerial receipts journal
+      → HaveSections (length p.nodes) order.sections receipts → OnOk r (Appends old new (live_text p (length receipts) journal)) → IfErr r (Fails takes) → Ends takes told order old new r
+  shown_ends p receipts journal (Ok done) old new plan fits serial have ok err = (p, receipts, journal, plan, fits, serial, have, ok)
+  shown_ends p receipts journal (Err halt) old new plan fits serial have ok err = output_halts halt old new err

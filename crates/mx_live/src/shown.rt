@@ -1,6 +1,7 @@
 //! What a live run prints.
 
 ghost use Rattle.std.specs.Prelude.{◌≡◌, ◌++◌, Some, codes, string_bytes, OnOk};
+ghost use Rattle.mx_journal.specs.Bases.{origin};
 ghost use Rattle.mx_texts.specs.EventTexts.{register_name_of};
 ghost use Rattle.mx_live.specs.Shown.{count_line, live_text, value_line, value_lines};
 
@@ -40,15 +41,16 @@ impl fmt::Display for ValueLine<'_> {
     }
 }
 
-/// Appends how many receipts there are, and what the journal has and shows.
+/// Appends how many receipts there are, and what the journal has and shows, which has settled nothing.
 pub(crate) fn add_journal(
     plan: &Plan,
     receipts: u64,
     journal: &Journal,
     text: &mut String,
 ) -> Result<(), AllocError>
+    requires { journal.now.base ≡ origin }
     ensures { OnOk result (string_bytes text.new
-        ≡ string_bytes text.old ++ live_text plan.now receipts journal.now) }
+        ≡ string_bytes text.old ++ live_text plan.now receipts journal.now.records) }
 {
     text.write(CountLine {
         name: "receipts",
@@ -63,8 +65,9 @@ pub(crate) fn add_journal(
 
 /// Appends a line for each register.
 fn add_values(plan: &Plan, journal: &Journal, text: &mut String) -> Result<(), AllocError>
+    requires { journal.now.base ≡ origin }
     ensures { OnOk result (string_bytes text.new
-        ≡ string_bytes text.old ++ value_lines plan.now journal.now) }
+        ≡ string_bytes text.old ++ value_lines plan.now journal.now.records) }
 {
     let shown = view(journal, plan.registers());
     for register in 0..plan.registers() {

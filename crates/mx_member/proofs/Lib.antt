@@ -47,3 +47,4 @@ pub mod Sending
 pub mod Refusing
 pub mod Delivering
 pub mod Leaving
+pub mod AtBaseZero

@@ -14,7 +14,6 @@ use crate::parcel::Parcel;
 use arrayvec::ArrayVec;
 use mx_journal::{Range, Record};
 use mx_letters::Outbox;
-use mx_merge::{answer, missing};
 use mx_nodelaws::Exclusion;
 use mx_registers::View;
 use mx_stamps::NodeId;
@@ -26,7 +25,7 @@ impl<C: Exclusion> Member<C> {
         requires { out.old ≡ [] }
         ensures letters { out.new ≡ (want_of C.core to self.now).letters }
     {
-        let gaps = missing(&self.journal, self.limit);
+        let gaps = self.journal.missing(self.limit);
         if !gaps.is_empty() {
             out.add(to, Parcel::Want(gaps));
         }
@@ -111,7 +110,7 @@ impl<C: Exclusion> Member<C> {
         requires { out.old ≡ [] }
         ensures { out.new ≡ records_to from (take 4 (in_ranges ranges.now self.now.journal)) }
     {
-        let known = answer(&self.journal, ranges);
+        let known = self.journal.answer(ranges);
         if !known.is_empty() {
             out.add(from, Parcel::Records(known));
         }

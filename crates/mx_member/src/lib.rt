@@ -11,6 +11,7 @@ mod guards;
 mod member;
 mod parcel;
 mod sections;
+mod unsettled;
 
 pub use acts::{Act, Answer, perform};
 pub use faults::{CloseFault, DeliverFault, ReadFault, WriteFault};

@@ -1,11 +1,13 @@
 //! The member itself, and what it passes on to its core.
 
 ghost use Rattle.std.specs.Prelude.{◌≡◌, ◌≤◌, ◌<◌, []};
+ghost use Rattle.mx_journal.specs.Settled.{unsettled};
 ghost use Rattle.mx_nodelaws.specs.Core.{BearsNumber};
 ghost use Rattle.mx_member.specs.Steps.{ask_of, cancel_of, enter_of, start_of, tick_of};
 
 use crate::guards::guard_all;
 use crate::parcel::Parcel;
+use crate::unsettled::Unsettled;
 use mx_journal::{Draft, Journal};
 use mx_letters::Outbox;
 use mx_nodelaws::{AskFault, CancelFault, EnterFault, Exclusion, Phase};
@@ -23,7 +25,7 @@ pub struct Member<C: Exclusion> {
     pub(crate) limit: u64,
     pub(crate) registers: u8,
     pub(crate) core: C,
-    pub(crate) journal: Journal,
+    pub(crate) journal: Unsettled,
     /// The registers after all records of the journal.
     pub(crate) shown: View,
     pub(crate) draft: Draft,
@@ -73,7 +75,7 @@ impl<C: Exclusion> Member<C> {
             limit,
             registers,
             core: C::start(shape, me, origin, limit),
-            journal: Journal::new(alloc),
+            journal: Unsettled::new(alloc),
             shown: View::new(registers),
             draft: Draft::new(),
             letters: Outbox::new(),
@@ -147,10 +149,10 @@ impl<C: Exclusion> Member<C> {
         self.core.mine()
     }
 
-    /// The records that it knows.
+    /// The records that it knows, as a journal that has settled nothing.
     pub fn journal(&self) -> &Journal
-        ensures { result.now ≡ self.now.journal }
+        ensures { result.now ≡ unsettled self.now.journal }
     {
-        &self.journal
+        self.journal.journal()
     }
 }

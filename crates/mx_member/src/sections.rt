@@ -11,10 +11,11 @@ use crate::faults::{CloseFault, ReadFault, WriteFault};
 use crate::guards::guard_all;
 use crate::member::Member;
 use crate::parcel::Parcel;
-use mx_journal::{Draft, Journal, Put, PutFault, Receipt, Record};
+use crate::unsettled::Unsettled;
+use mx_journal::{Draft, Put, PutFault, Receipt, Record};
 use mx_letters::Outbox;
 use mx_nodelaws::{Exclusion, Phase};
-use mx_registers::{View, view_below};
+use mx_registers::View;
 
 impl<C: Exclusion> Member<C> {
     /// Reads a register inside: the value that this section wrote last, or else what the sections
@@ -97,14 +98,15 @@ impl<C: Exclusion> Member<C> {
         if self.journal.top() < number {
             return self.shown.value(register).unwrap_or(0);
         }
-        view_below(&self.journal, self.registers, number)
+        self.journal
+            .view_below(self.registers, number)
             .value(register)
             .unwrap_or(0)
     }
 }
 
 /// Puts the record, unless another bears its number. A view of the journal stays its view.
-fn keep(journal: &mut Journal, shown: &mut View, entry: &Record) -> Result<(), CloseFault>
+fn keep(journal: &mut Unsettled, shown: &mut View, entry: &Record) -> Result<(), CloseFault>
     requires { 0 < entry.now.number }
     ensures ok { OnOk result (journal.new ≡ with_record entry.now journal.old) }
     ensures memory { OnErr result (result ≡ Err CloseFault.Memory) }

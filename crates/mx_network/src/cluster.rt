@@ -3,6 +3,7 @@
 ghost use Rattle.std.specs.Prelude.{◌≡◌, ◌≤◌, ◌<◌, ◌↔◌, ℕ, [], ◌∷◌, ◌++◌, length, OnOk, OnErr, IfOk, IfErr, IfSome, MatchOption, slice_get, take};
 ghost use Rattle.mx_stamps.specs.Lists.{each_below};
 ghost use Rattle.mx_journal.specs.Agreement.{AreAgreeing, IsSubmap};
+ghost use Rattle.mx_journal.specs.Bases.{origin};
 ghost use Rattle.mx_journal.specs.Records.{Ascending};
 ghost use Rattle.mx_member.specs.Member.{MemberState};
 ghost use Rattle.mx_member.specs.Steps.{start_of};
@@ -208,12 +209,17 @@ impl<C: Exclusion> Cluster<C> {
     /// gives their least upper bound. They never conflict, so that memory alone can be wanting. A
     /// node that isn't there adds nothing. Those of all nodes are the journal of the sections.
     pub fn merged(&self, alloc: Global, nodes: &[NodeId]) -> Result<Journal, MergeFault>
-        ensures all { IfOk result (IsAboveAll self.now.members nodes.now) }
-        ensures least { IfOk result (IsBelowEach self.now.members nodes.now) }
-        ensures sections { IfOk result (λ journal. IsSubmap journal (journal_of self.now.trace)) }
+        ensures base { IfOk result (λ journal. journal.base ≡ origin) }
+        ensures all { IfOk result (λ journal.
+            IsAboveAll self.now.members nodes.now journal.records) }
+        ensures least { IfOk result (λ journal.
+            IsBelowEach self.now.members nodes.now journal.records) }
+        ensures sections { IfOk result (λ journal.
+            IsSubmap journal.records (journal_of self.now.trace)) }
         ensures whole { IsOfAll self.now.members nodes.now
-            → IfOk result (λ journal. journal ≡ journal_of self.now.trace) }
-        ensures in_order { IfOk result (ShowsInOrder self.now.trace) }
+            → IfOk result (λ journal. journal.records ≡ journal_of self.now.trace) }
+        ensures in_order { IfOk result (λ journal.
+            ShowsInOrder self.now.trace journal.records) }
         ensures conflict { (n : ℕ) → (result ≡ Err (MergeFault.Conflict n)) → ⊥ }
     {
         // for the prover: what a cluster keeps is known from where a field is used

@@ -4,6 +4,7 @@
 
 ghost use Rattle.std.specs.Prelude.{ℕ, ◌≡◌, ◌≤◌, ◌↔◌, ◌++◌, ◌⊎◌, Err, IfErr, IfNone, IfOk, IfSome, IsErrAnd, IsOk, IsTrue, MatchBool, OnOk};
 ghost use Rattle.std.specs.List.Sorted.{IsNonDecreasingBy, IsPermutation};
+ghost use Rattle.mx_journal.specs.Bases.{origin};
 ghost use Rattle.mx_journal.specs.Records.{Ascending};
 ghost use Rattle.mx_journal.specs.declared.receipts.Receipt.{Receipt as OneReceipt};
 ghost use Rattle.mx_nodelaws.specs.Core.{IsInside};
@@ -146,8 +147,10 @@ fn fault_of<C: Exclusion>(stations: &[Station<C>]) -> Option<GatherFault>
 
 /// The journals of all stations, merged one after another into an empty one.
 fn merge_all<C: Exclusion>(alloc: Global, stations: &[Station<C>]) -> Result<Journal, MergeFault>
-    ensures join { IfOk result (λ journal. IsJoinOfNodes (owned_in stations.now) journal) }
-    ensures ordered { IfOk result (λ journal. Ascending 1 journal) }
+    ensures base { IfOk result (λ journal. journal.base ≡ origin) }
+    ensures join { IfOk result (λ journal.
+        IsJoinOfNodes (owned_in stations.now) journal.records) }
+    ensures ordered { IfOk result (λ journal. Ascending 1 journal.records) }
     ensures conflict { (n : ℕ) → (result ≡ Err (MergeFault.Conflict n))
         → Disagree (owned_in stations.now) }
 {
@@ -191,7 +194,9 @@ fn put_together<C: Exclusion>(
     alloc: Global,
     stations: &[Station<C>],
 ) -> Result<Gathered, MergeFault>
-    ensures ok { IfOk result (λ all. IsTogether stations.now all.journal all.receipts.items) }
+    ensures ok { IfOk result (λ all.
+        IsTogether stations.now all.journal.records all.receipts.items) }
+    ensures base { IfOk result (λ all. all.journal.base ≡ origin) }
     ensures conflict { (n : ℕ) → (result ≡ Err (MergeFault.Conflict n))
         → Disagree (owned_in stations.now) }
 {
@@ -208,7 +213,9 @@ pub fn gather<C: Exclusion>(
     stations: Vec<Station<C>>,
 ) -> Result<Gathered, Ungathered<C>>
     requires { OfOneTable stations.items }
-    ensures ok { IfOk result (λ all. IsGathered stations.items all.journal all.receipts.items) }
+    ensures ok { IfOk result (λ all.
+        IsGathered stations.items all.journal.records all.receipts.items) }
+    ensures base { IfOk result (λ all. all.journal.base ≡ origin) }
     ensures not_all { (i : ℕ) → IsErrAnd result (λ back. back.fault ≡ GatherFault.NotAll i)
         ↔ IsLeastMissing stations.items i }
     ensures still_inside { (i : ℕ) →

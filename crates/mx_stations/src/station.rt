@@ -1,6 +1,7 @@
 //! One node, with its seat at the table, and what it knows of itself.
 
 ghost use Rattle.std.specs.Prelude.{◌≡◌, ◌<◌, ◌≤◌, length};
+ghost use Rattle.mx_journal.specs.Settled.{unsettled};
 ghost use Rattle.mx_nodelaws.specs.Core.{BearsNumber};
 ghost use Rattle.mx_registers.specs.Registers.{registers_of, value_in};
 
@@ -89,9 +90,9 @@ impl<C: Exclusion> Station<C> {
         self.member.mine()
     }
 
-    /// The records that it knows.
+    /// The records that it knows, as a journal that has settled nothing.
     pub fn journal(&self) -> &Journal
-        ensures { result.now ≡ self.now.me.member.journal }
+        ensures { result.now ≡ unsettled self.now.me.member.journal }
     {
         self.member.journal()
     }

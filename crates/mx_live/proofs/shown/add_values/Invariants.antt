@@ -7,6 +7,6 @@ use Rattle.mx_live.proofs.shown.add_values.Given as goal
 abbrev pub invariant-loop-register : goal.invariant-loop-register
 invariant-loop-register l = record {
   in_range : l.register ≤ length l.plan.registers;
-  written : string_bytes l.initial.text ++ value_lines l.plan l.journal
-      ≡ string_bytes l.text ++ texts_from (λ register name. value_line name (register_of register l.journal).value) l.register (drop l.register l.plan.registers);
+  written : string_bytes l.initial.text ++ value_lines l.plan l.journal.records
+      ≡ string_bytes l.text ++ texts_from (λ register name. value_line name (register_of register l.journal.records).value) l.register (drop l.register l.plan.registers);
 }

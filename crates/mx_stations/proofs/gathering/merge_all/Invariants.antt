@@ -1,4 +1,5 @@
-use Rattle.std.proofs.Common.{take}
+use Rattle.std.proofs.Common.{◌≡◌, take}
+use Rattle.mx_journal.specs.Bases.{origin}
 use Rattle.mx_journal.specs.Records.{Ascending}
 use Rattle.mx_member.specs.Running.{IsJoinOfNodes}
 use Rattle.mx_stations.specs.Gathered.{owned_in}
@@ -6,6 +7,7 @@ use Rattle.mx_stations.proofs.gathering.merge_all.Given as goal
 
 abbrev pub invariant-loop-station : goal.invariant-loop-station
 invariant-loop-station g l = record {
-  join : IsJoinOfNodes (take l.station-index (owned_in l.stations)) l.all;
-  ordered : Ascending 1 l.all;
+  base : l.all.base ≡ origin;
+  join : IsJoinOfNodes (take l.station-index (owned_in l.stations)) l.all.records;
+  ordered : Ascending 1 l.all.records;
 }
