@@ -1,8 +1,11 @@
 //! Journals: what they take, what they refuse, what they lack, and how they merge.
 
 use crate::given::{entries, entry, journal_of};
-use mx_journal::{Draft, Full, Journal, Put, PutFault, Range, Record};
+use mx_journal::{
+    Base, BaseFault, Cell, Draft, Full, Journal, Put, PutFault, Range, Record, SettleFault,
+};
 use mx_merge::{MergeFault, agree, answer, merge, missing};
+use mx_registers::view;
 use std::alloc::{AllocError, Global};
 use std::process::Abort;
 use std::test::Fail;
@@ -83,6 +86,77 @@ fn merge_and_missing(rt: HostRuntime) -> Result<(), Fail> {
     let found = answer(&journal, &[Range { first: 2, last: 4 }]);
     assert_numbers(&rt, found.as_slice(), &[2, 3]);
     Ok(())
+}
+
+/// The base of sections 1 to `upto`, the last of which wrote this value to register 0.
+fn base_of(upto: u64, value: u64) -> Option<Base> {
+    let mut cells = [Cell {
+        value: 0,
+        number: 0,
+    }; 32];
+    cells[0] = Cell {
+        value,
+        number: upto,
+    };
+    Base::of(upto, cells)
+}
+
+/// What `take_base` of such a base answers.
+fn taken(journal: &mut Journal, upto: u64, value: u64) -> Option<Result<u64, BaseFault>> {
+    let base = base_of(upto, value)?;
+    Some(journal.take_base(&base))
+}
+
+/// Settles the records 1, 2 and 3 of 1, 2, 3 and 5 in two steps, between calls that are refused or change
+/// nothing.
+fn settle_three(rt: &impl Abort, journal: &mut Journal) {
+    assert_eq!(rt; journal.settle(2), Ok(()));
+    assert_eq!(rt; extent(journal), (2, 5, 3));
+    assert_gaps(rt, journal, &KEPT);
+    assert_eq!(rt; journal.settle(1), Err(SettleFault::Below(2)));
+    assert_eq!(rt; journal.settle(4), Err(SettleFault::Gap(4)));
+    assert_eq!(rt; journal.put(entry(2, &[(0, 9)])), Ok(Put::Same));
+    assert_eq!(rt; journal.settle(3), Ok(()));
+    assert_eq!(rt; journal.len(), 1);
+}
+
+/// Register 0 of a journal: its value, and the section that wrote it.
+fn first_register(journal: &Journal) -> (Option<u64>, Option<u64>) {
+    let shown = view(journal, 1);
+    (shown.value(0), shown.written_by(0))
+}
+
+/// Takes bases of the sections that a journal has settled, and of fewer.
+fn take_bases(rt: &impl Abort, journal: &mut Journal) {
+    assert_eq!(rt; taken(journal, 3, 9), Some(Err(BaseFault::Conflict(3))));
+    assert_eq!(rt; extent(journal), (1, 5, 3));
+    assert_eq!(rt; taken(journal, 2, 2), Some(Ok(0)));
+}
+
+#[test]
+fn settle_and_take_base(rt: HostRuntime) -> Result<(), Fail> {
+    let mut journal = journal_of(rt.alloc(), &[1, 2, 3, 5])?;
+    settle_three(&rt, &mut journal);
+    let mut other = journal_of(rt.alloc(), &[2, 3])?;
+    assert_eq!(rt; merge(&mut other, &journal), Ok(2));
+    assert_eq!(rt; other.base().upto(), 3);
+    assert_eq!(rt; first_register(&other), (Some(5), Some(5)));
+    take_bases(&rt, &mut other);
+    assert_eq!(rt; other.base().upto(), 3);
+    Ok(())
+}
+
+#[test]
+fn bases_are_of_their_sections(rt: HostRuntime) {
+    assert!(rt; base_of(0, 0).is_some());
+    // a cell of no section, beside a value
+    assert!(rt; base_of(0, 7).is_none());
+    let cell = Cell {
+        value: 1,
+        number: 4,
+    };
+    assert!(rt; Base::of(3, [cell; 32]).is_none());
+    assert!(rt; Base::of(4, [cell; 32]).is_some());
 }
 
 #[test]
