@@ -1,5 +1,7 @@
 //! Times the journal against a plain `BTreeMap`: puts in order, in reverse and in a seeded shuffle,
-//! and merges of two halves. Usage: bench_journal RECORDS SEED. Without words it says so.
+//! and merges of two halves. Usage: bench_journal RECORDS SEED. Besides, bench_journal settle RECORDS
+//! EVERY puts records in order, and settles the journal after so many each time, or never where that
+//! is 0. Without words it says so.
 #![tactic(auto)]
 
 use anyhow::{Result, bail};
@@ -76,11 +78,26 @@ fn time_puts(rt: &HostRuntime, name: &str, numbers: &[u64]) -> Result<()> {
     Ok(())
 }
 
+/// Whether the other's records were merged into the journal, and in how many milliseconds.
+fn timed_merge(rt: &HostRuntime, journal: &mut Journal, other: &Journal) -> Result<(bool, u128)> {
+    let begun = Instant::now(rt)?;
+    let merged = merge(journal, other).is_ok();
+    Ok((merged, begun.elapsed(rt)?.as_millis()))
+}
+
+/// Merges the records of the second numbers into those of the first.
+fn time_merge(rt: &HostRuntime, name: &str, into: &[u64], from: &[u64]) -> Result<()> {
+    let mut journal = put_each(rt.alloc(), into)?;
+    let other = put_each(rt.alloc(), from)?;
+    let (merged, took) = timed_merge(rt, &mut journal, &other)?;
+    println!(rt; "merge of {name}: {merged}, {took} ms")?;
+    Ok(())
+}
+
 /// Odd numbers into even ones, and the greater half into the lesser.
 fn time_merges(rt: &HostRuntime, numbers: &[u64]) -> Result<()> {
-    let alloc = rt.alloc();
-    let mut odd = Vec::new(alloc);
-    let mut even = Vec::new(alloc);
+    let mut odd = Vec::new(rt.alloc());
+    let mut even = Vec::new(rt.alloc());
     for number in numbers {
         if *number % 2 == 1 {
             odd.push(*number)?;
@@ -88,20 +105,9 @@ fn time_merges(rt: &HostRuntime, numbers: &[u64]) -> Result<()> {
             even.push(*number)?;
         }
     }
-    let mut journal = put_each(alloc, even.as_slice())?;
-    let other = put_each(alloc, odd.as_slice())?;
-    let begun = Instant::now(rt)?;
-    let merged = merge(&mut journal, &other).is_ok();
-    let took = begun.elapsed(rt)?.as_millis();
-    println!(rt; "merge of odd into even numbers: {merged}, {took} ms")?;
-    let middle = numbers.len() / 2;
-    let mut journal = put_each(alloc, &numbers[..middle])?;
-    let other = put_each(alloc, &numbers[middle..])?;
-    let begun = Instant::now(rt)?;
-    let merged = merge(&mut journal, &other).is_ok();
-    let took = begun.elapsed(rt)?.as_millis();
-    println!(rt; "merge of the greater half into the lesser: {merged}, {took} ms")?;
-    Ok(())
+    time_merge(rt, "odd into even numbers", even.as_slice(), odd.as_slice())?;
+    let (lesser, greater) = numbers.split_at(numbers.len() / 2);
+    time_merge(rt, "the greater half into the lesser", lesser, greater)
 }
 
 fn measure(rt: &HostRuntime, records: u64, seed: u64) -> Result<()> {
@@ -115,17 +121,46 @@ fn measure(rt: &HostRuntime, records: u64, seed: u64) -> Result<()> {
     Ok(())
 }
 
+/// Whether a journal of records 1 to `number` is to be settled now.
+fn is_due(number: u64, every: u64) -> bool {
+    every > 0 && number % every == 0
+}
+
+/// Puts records in order, and settles all that are there after so many each time.
+fn put_and_settle(alloc: Global, records: u64, every: u64) -> Result<Journal> {
+    let mut journal = Journal::new(alloc);
+    for last in 0..records {
+        let number = last.saturating_add(1);
+        if journal.put(entry(number)).is_err() {
+            bail!("a record was refused");
+        }
+        if is_due(number, every) && journal.settle(number).is_err() {
+            bail!("a journal without gaps was not settled");
+        }
+    }
+    Ok(journal)
+}
+
+fn time_settling(rt: &HostRuntime, records: u64, every: u64) -> Result<()> {
+    let begun = Instant::now(rt)?;
+    let journal = put_and_settle(rt.alloc(), records, every)?;
+    let took = begun.elapsed(rt)?.as_millis();
+    let base = journal.base().upto();
+    let len = journal.len();
+    println!(rt; "put in order, settled each {every}: base {base}, {len} records above it, {took} ms")?;
+    Ok(())
+}
+
 fn main(rt: HostRuntime) -> Result<()> {
     let alloc = rt.alloc();
     let words: Vec<String> = env::args(&rt)?.skip(1).collect(alloc)?;
     match words.as_slice() {
-        [records, seed] => {
-            let records: u64 = records.as_str().parse()?;
-            let seed: u64 = seed.as_str().parse()?;
-            measure(&rt, records, seed)
+        [records, seed] => measure(&rt, records.as_str().parse()?, seed.as_str().parse()?),
+        [word, records, every] if word.as_str() == "settle" => {
+            time_settling(&rt, records.as_str().parse()?, every.as_str().parse()?)
         }
         _ => {
-            println!(rt; "usage: bench_journal RECORDS SEED")?;
+            println!(rt; "usage: bench_journal RECORDS SEED, or bench_journal settle RECORDS EVERY")?;
             Ok(())
         }
     }
