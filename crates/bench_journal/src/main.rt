@@ -147,7 +147,9 @@ fn time_settling(rt: &HostRuntime, records: u64, every: u64) -> Result<()> {
     let took = begun.elapsed(rt)?.as_millis();
     let base = journal.base().upto();
     let len = journal.len();
-    println!(rt; "put in order, settled each {every}: base {base}, {len} records above it, {took} ms")?;
+    println!(rt;
+        "put in order, settled each {every}: base {base}, {len} records above it, {took} ms"
+    )?;
     Ok(())
 }
 
@@ -160,7 +162,9 @@ fn main(rt: HostRuntime) -> Result<()> {
             time_settling(&rt, records.as_str().parse()?, every.as_str().parse()?)
         }
         _ => {
-            println!(rt; "usage: bench_journal RECORDS SEED, or bench_journal settle RECORDS EVERY")?;
+            println!(rt;
+                "usage: bench_journal RECORDS SEED, or bench_journal settle RECORDS EVERY"
+            )?;
             Ok(())
         }
     }
