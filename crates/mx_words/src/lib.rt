@@ -5,5 +5,9 @@ mod help;
 mod live_words;
 mod words;
 
+pub use help::VERSION;
 pub use live_words::{LiveRun, asked_live};
-pub use words::{Exploration, Names, Request, asked};
+pub use words::{
+    Exploration, Names, Request, asked, events_arg, number_at, plan_arg, seed_arg, steps_arg,
+    text_at,
+};

@@ -37,7 +37,8 @@ pub enum Request<'a> {
     Explore(Exploration<'a>),
 }
 
-pub(crate) fn plan_arg<'a>(alloc: Global) -> Arg<'a>
+/// The argument that names a plan.
+pub fn plan_arg<'a>(alloc: Global) -> Arg<'a>
     ensures rule { rule_of result ≡ plan_rule }
     ensures local { result.global ≡ false }
 {
@@ -46,7 +47,8 @@ pub(crate) fn plan_arg<'a>(alloc: Global) -> Arg<'a>
         .required(true)
 }
 
-fn events_arg<'a>(alloc: Global) -> Arg<'a>
+/// The argument that names the events.
+pub fn events_arg<'a>(alloc: Global) -> Arg<'a>
     ensures rule { rule_of result ≡ events_rule }
     ensures local { result.global ≡ false }
 {
@@ -55,7 +57,8 @@ fn events_arg<'a>(alloc: Global) -> Arg<'a>
         .required(true)
 }
 
-pub(crate) fn seed_arg<'a>(alloc: Global) -> Arg<'a>
+/// The argument `--seed`.
+pub fn seed_arg<'a>(alloc: Global) -> Arg<'a>
     ensures rule { rule_of result ≡ seed_rule }
     ensures local { result.global ≡ false }
 {
@@ -66,7 +69,8 @@ pub(crate) fn seed_arg<'a>(alloc: Global) -> Arg<'a>
         .required(true)
 }
 
-fn steps_arg<'a>(alloc: Global) -> Arg<'a>
+/// The argument `--steps`.
+pub fn steps_arg<'a>(alloc: Global) -> Arg<'a>
     ensures rule { rule_of result ≡ steps_rule }
     ensures local { result.global ≡ false }
 {
@@ -204,14 +208,14 @@ fn explore_in<'a>(matches: &ArgMatches<'a>) -> Option<Request<'a>>
 }
 
 /// The text that was given for an argument.
-pub(crate) fn text_at<'a>(matches: &ArgMatches<'a>, id: &str) -> Option<&'a str>
+pub fn text_at<'a>(matches: &ArgMatches<'a>, id: &str) -> Option<&'a str>
     ensures { option_map (λ s. s.now) result ≡ first_of id.now (rows_of (found_of matches.now)) }
 {
     matches.get_str(id)
 }
 
 /// The number that was given for an argument.
-pub(crate) fn number_at(matches: &ArgMatches<'_>, id: &str) -> Option<u64>
+pub fn number_at(matches: &ArgMatches<'_>, id: &str) -> Option<u64>
     ensures { result ≡ number_at id.now (rows_of (found_of matches.now)) }
 {
     matches.get_one::<u64>(id)
