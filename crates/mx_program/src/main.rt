@@ -9,6 +9,7 @@ mod streams;
 use crate::stream::Stream;
 use crate::streams::Streams;
 use mx_commands::{Output, command};
+use mx_count::count;
 use mx_live::live;
 use std::io::{BufWriter, ErrorKind, Write};
 use std::process::ExitCode;
@@ -34,6 +35,10 @@ fn run_words<
     let mut source = Streams { rt };
     let words = words.as_slice();
     Ok(match first_of(words) {
+        "count" => count(alloc, words, &mut source, &mut out, &mut err),
+        "explore" if has_word(words, "--count") => {
+            count(alloc, words, &mut source, &mut out, &mut err)
+        }
         "live" => live(rt, alloc, words, &mut source, &mut out, &mut err),
         _ => command(alloc, words, &mut source, &mut out, &mut err),
     })
@@ -45,6 +50,11 @@ fn first_of<'a>(words: &[&'a str]) -> &'a str {
         Some(word) => word,
         None => "",
     }
+}
+
+/// Whether this is among the words.
+fn has_word(words: &[&str], wanted: &str) -> bool {
+    words.iter().any(|word| *word == wanted)
 }
 
 fn main(rt: HostRuntime) -> ExitCode {

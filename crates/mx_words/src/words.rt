@@ -37,7 +37,8 @@ pub enum Request<'a> {
     Explore(Exploration<'a>),
 }
 
-pub(crate) fn plan_arg<'a>(alloc: Global) -> Arg<'a>
+/// The argument of a plan's name.
+pub fn plan_arg<'a>(alloc: Global) -> Arg<'a>
     ensures rule { rule_of result ≡ plan_rule }
     ensures local { result.global ≡ false }
 {
@@ -46,7 +47,8 @@ pub(crate) fn plan_arg<'a>(alloc: Global) -> Arg<'a>
         .required(true)
 }
 
-fn events_arg<'a>(alloc: Global) -> Arg<'a>
+/// The argument of the name of a plan's events.
+pub fn events_arg<'a>(alloc: Global) -> Arg<'a>
     ensures rule { rule_of result ≡ events_rule }
     ensures local { result.global ≡ false }
 {
@@ -88,7 +90,8 @@ fn check_command<'a>(alloc: Global) -> Result<Command<'a>, AllocError>
     Ok(whole)
 }
 
-fn replay_command<'a>(alloc: Global) -> Result<Command<'a>, AllocError>
+/// `replay PLAN EVENTS`.
+pub fn replay_command<'a>(alloc: Global) -> Result<Command<'a>, AllocError>
     ensures app { IfOk result (λ command. app_of command ≡ replay_app) }
     ensures local { IfOk result HasNoGlobals }
 {
@@ -100,7 +103,8 @@ fn replay_command<'a>(alloc: Global) -> Result<Command<'a>, AllocError>
     Ok(whole)
 }
 
-fn explore_command<'a>(alloc: Global) -> Result<Command<'a>, AllocError>
+/// `explore PLAN --seed S --steps K`.
+pub fn explore_command<'a>(alloc: Global) -> Result<Command<'a>, AllocError>
     ensures app { IfOk result (λ command. app_of command ≡ explore_app) }
     ensures local { IfOk result HasNoGlobals }
 {
@@ -204,14 +208,14 @@ fn explore_in<'a>(matches: &ArgMatches<'a>) -> Option<Request<'a>>
 }
 
 /// The text that was given for an argument.
-pub(crate) fn text_at<'a>(matches: &ArgMatches<'a>, id: &str) -> Option<&'a str>
+pub fn text_at<'a>(matches: &ArgMatches<'a>, id: &str) -> Option<&'a str>
     ensures { option_map (λ s. s.now) result ≡ first_of id.now (rows_of (found_of matches.now)) }
 {
     matches.get_str(id)
 }
 
 /// The number that was given for an argument.
-pub(crate) fn number_at(matches: &ArgMatches<'_>, id: &str) -> Option<u64>
+pub fn number_at(matches: &ArgMatches<'_>, id: &str) -> Option<u64>
     ensures { result ≡ number_at id.now (rows_of (found_of matches.now)) }
 {
     matches.get_one::<u64>(id)
