@@ -1,4 +1,7 @@
-"""Draws the plot of docs/LETTERS.md: letters for each section against the number of nodes, as static SVG."""
+"""Draws the plot of docs/LETTERS.md: letters for each section, by powers of two, against the number of
+nodes, as static SVG.
+"""
+from math import log2
 
 WIDTH, HEIGHT = 720, 460
 LEFT, RIGHT, TOP, BOTTOM = 64, 150, 46, 56  # margins
@@ -10,18 +13,18 @@ MARKS = {"ricart": "circle", "maekawa": "square", "raymond": "triangle"}
 def plot(table, algorithms, sizes, courses):
     """The plot of a table: by algorithm and number of nodes, the letters for each section of each course."""
     most = max(share for shares in table.values() for share in shares.values())
-    top = int(most // 10 + 1) * 10
+    octaves = int(log2(most)) + 1
 
     def at(size, share):
         x = LEFT + (WIDTH - LEFT - RIGHT) * size / max(sizes)
-        y = HEIGHT - BOTTOM - (HEIGHT - TOP - BOTTOM) * share / top
+        y = HEIGHT - BOTTOM - (HEIGHT - TOP - BOTTOM) * (log2(share) - 1) / (octaves - 1)
         return round(x, 1), round(y, 1)
 
-    parts = [head(), *axes(sizes, top, at)]
+    parts = [head(), *axes(sizes, octaves, at)]
     for algorithm in algorithms:
         for course in courses:
             parts += line(algorithm, course, [at(size, table[algorithm, size][course]) for size in sizes])
-        x, y = at(max(sizes), table[algorithm, max(sizes)]["alone"])
+        x, y = at(max(sizes), table[algorithm, max(sizes)][courses[-1]])
         parts.append(text(x + 12, y + 4, algorithm, fill=COLOURS[algorithm]))
     parts += legend(courses)
     return "\n".join(parts) + "\n</svg>\n"
@@ -48,17 +51,17 @@ def rule(from_, to, colour, width=1, dash=""):
     )
 
 
-def axes(sizes, top, at):
+def axes(sizes, octaves, at):
     parts = []
-    for share in range(0, top + 1, 10):
+    for share in (2 ** octave for octave in range(1, octaves + 1)):
         x, y = at(0, share)
         parts.append(rule((x, y), (WIDTH - RIGHT, y), "#cccccc"))
         parts.append(text(x - 8, y + 4, share, anchor="end"))
     for size in sizes:
-        x, y = at(size, 0)
+        x, y = at(size, 2)
         parts.append(rule((x, y), (x, y + 5), "#000000"))
         parts.append(text(x, y + 20, size, anchor="middle"))
-    left, right = at(0, 0), at(max(sizes), 0)
+    left, right = at(0, 2), at(max(sizes), 2)
     parts.append(rule(left, right, "#000000"))
     parts.append(text((left[0] + right[0]) / 2, HEIGHT - 12, "nodes", anchor="middle"))
     return parts

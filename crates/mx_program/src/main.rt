@@ -11,6 +11,7 @@ use crate::streams::Streams;
 use mx_commands::{Output, command};
 use mx_count::count;
 use mx_live::live;
+use mx_views::replay_view;
 use std::io::{BufWriter, ErrorKind, Write};
 use std::process::ExitCode;
 use std::rt::{Clock, Env, Files};
@@ -39,6 +40,9 @@ fn run_words<
         "explore" if has_word(words, "--count") => {
             count(alloc, words, &mut source, &mut out, &mut err)
         }
+        "replay" if is_view(words) => {
+            replay_view(alloc, words, &mut source, &mut out, &mut err)
+        }
         "live" => live(rt, alloc, words, &mut source, &mut out, &mut err),
         _ => command(alloc, words, &mut source, &mut out, &mut err),
     })
@@ -50,6 +54,13 @@ fn first_of<'a>(words: &[&'a str]) -> &'a str {
         Some(word) => word,
         None => "",
     }
+}
+
+/// Whether one of the words says how a replay is to be shown.
+fn is_view(words: &[&str]) -> bool {
+    words
+        .iter()
+        .any(|word| *word == "--quiet" || *word == "--json" || word.starts_with("--node"))
 }
 
 /// Whether this is among the words.
