@@ -11,7 +11,6 @@ use Rattle.mx_network.specs.declared.outcome.Outcome.{Outcome}
 use Rattle.mx_network.specs.declared.outcome.Outcome.TheVariants.{Asked, Refused}
 use Rattle.mx_plan.specs.Text.{Text}
 use Rattle.mx_texts.specs.Lines.{each_text, line_feed}
-use Rattle.mx_count.specs.declared.kinds.TheConstants.{REFUSALS}
 use Rattle.mx_count.specs.Kinds.{is_refused_under, is_under}
 
 -- a name and its count
@@ -78,8 +77,8 @@ abbrev pub head_text : ℕ → ℕ → ℕ → Text
 head_text events sections parcels =
     tally_line (codes "events") events ++ tally_line (codes "sections") sections ++ tally_line (codes "parcels") parcels
 
--- what is counted of a cluster of which so many sections were entered, by the names of its parcels
-abbrev pub tallies_text : {S M : Type 0} → (M → Text) → ClusterState S M → ℕ → List (Bor Text) → Text
-tallies_text kind_text g sections names =
+-- what is counted of a cluster of which so many sections were entered, by the names of its parcels and refusals
+abbrev pub tallies_text : {S M : Type 0} → (M → Text) → ClusterState S M → ℕ → List (Bor Text) → List (Bor Text) → Text
+tallies_text kind_text g sections names causes =
     parcels_text kind_text g.sent names ++ share_text (count_by (is_under kind_text (codes "letters")) g.sent) sections
-    ++ refusals_text g.trace REFUSALS ++ tally_line (codes "longest wait") (longest_wait g.trace)
+    ++ refusals_text g.trace causes ++ tally_line (codes "longest wait") (longest_wait g.trace)

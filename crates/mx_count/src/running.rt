@@ -103,7 +103,7 @@ where
             sent: cluster.sent(),
         })?,
     }
-    add_tallies(cluster, entered, names, text)?;
+    add_tallies(cluster, entered, names, &REFUSALS, text)?;
     let verdict = judge(trace);
     text.write(VerdictLine(verdict))?;
     Ok(verdict_status(verdict))
@@ -133,17 +133,19 @@ fn add_tallies<C: Exclusion>(
     cluster: &Cluster<C>,
     entered: u64,
     names: &[&str],
+    causes: &[&str],
     text: &mut String,
 ) -> Result<(), AllocError>
 where
     C::Msg: Kinded,
     ensures { OnOk result (string_bytes text.new
-        ≡ string_bytes text.old ++ tallies_text C.Msg.kind_text cluster.now entered names.now) }
+        ≡ string_bytes text.old
+        ++ tallies_text C.Msg.kind_text cluster.now entered names.now causes.now) }
 {
     let trace = cluster.trace();
     add_parcel_counts(cluster, names, text)?;
     add_share(count_parcels(cluster, "letters"), entered, text)?;
-    add_refusal_counts(trace, &REFUSALS, text)?;
+    add_refusal_counts(trace, causes, text)?;
     text.write(TallyLine {
         name: "longest wait",
         count: longest_wait(trace),
