@@ -10,6 +10,7 @@ use crate::stream::Stream;
 use crate::streams::Streams;
 use mx_commands::{Output, command};
 use mx_live::live;
+use mx_picture::picture;
 use std::io::{BufWriter, ErrorKind, Write};
 use std::process::ExitCode;
 use std::rt::{Clock, Env, Files};
@@ -35,6 +36,7 @@ fn run_words<
     let words = words.as_slice();
     Ok(match first_of(words) {
         "live" => live(rt, alloc, words, &mut source, &mut out, &mut err),
+        "picture" => picture(alloc, words, &mut source, &mut out, &mut err),
         _ => command(alloc, words, &mut source, &mut out, &mut err),
     })
 }

@@ -1,0 +1,3 @@
+mod PictureWordLemmas
+mod RefusedLemmas
+mod EndLemmas
