@@ -31,7 +31,7 @@ pub(crate) fn add_page(plan: &Plan, sheet: &Sheet, text: &mut String) -> Result<
 
 /// Appends the size of the picture, which has room for all texts, the styles and the legend.
 fn add_head(plan: &Plan, sheet: &Sheet, left: u64, text: &mut String) -> Result<(), AllocError> {
-    let last = LANE * u64::from(plan.nodes());
+    let last = LANE * u64::from(plan.nodes() - 1);
     let right = sheet.right.max(last).saturating_add(MARGIN);
     let width = left.saturating_add(right).max(LEGEND_WIDTH);
     let height = y_of(sheet.row) + HEAD + FOOT;
