@@ -2,6 +2,7 @@
 #![tactic(auto)]
 
 mod checking;
+mod closing;
 mod commanding;
 mod exploring;
 mod fault_lines;
@@ -14,6 +15,7 @@ mod source;
 mod telling;
 mod verdicts;
 
+pub use closing::close;
 pub use commanding::command;
 pub use fault_lines::FaultLine;
 pub use faults::{Fault, Named, Stop};
