@@ -16,10 +16,11 @@ mod telling;
 mod verdicts;
 
 pub use closing::close;
-pub use commanding::command;
+pub use commanding::{carry_out, command, names_in};
 pub use fault_lines::FaultLine;
 pub use faults::{Fault, Named, Stop};
 pub use output::{Output, PutFault};
 pub use planning::fetch_plan;
+pub use replaying::split_line;
 pub use source::{Source, SourceFault, Table};
 pub use telling::{put_line, refuse, tell_memory};

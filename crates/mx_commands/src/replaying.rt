@@ -64,7 +64,7 @@ fn replay_one<O: Output>(alloc: Global, bytes: &[u8], out: &mut O) -> Result<u8,
 }
 
 /// The bytes before the first line feed, and those behind it.
-fn split_line(bytes: &[u8]) -> (&[u8], &[u8])
+pub fn split_line(bytes: &[u8]) -> (&[u8], &[u8])
     ensures line { result.0.now ≡ before_first (λ b. b == 10) bytes.now }
     ensures rest { result.1.now ≡ after_first (λ b. b == 10) bytes.now }
 {

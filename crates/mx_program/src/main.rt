@@ -3,12 +3,15 @@
 #![tactic(auto)]
 
 mod counted;
+mod kept;
 mod stream;
 mod streams;
 
+use crate::kept::Kept;
 use crate::stream::Stream;
 use crate::streams::Streams;
 use mx_commands::{Output, command};
+use mx_explain::explain;
 use mx_live::live;
 use std::io::{BufWriter, ErrorKind, Write};
 use std::process::ExitCode;
@@ -34,6 +37,10 @@ fn run_words<
     let mut source = Streams { rt };
     let words = words.as_slice();
     Ok(match first_of(words) {
+        "explain" => {
+            let mut kept = Kept::new(alloc, source);
+            explain(alloc, words, &mut kept, &mut out, &mut err)
+        }
         "live" => live(rt, alloc, words, &mut source, &mut out, &mut err),
         _ => command(alloc, words, &mut source, &mut out, &mut err),
     })
