@@ -89,7 +89,7 @@ fn explain_arguments(
 ) -> Result<(), AllocError> {
     for (i, value) in list.iter().enumerate() {
         let items = [k, i];
-        explain_argument(page, Path::item("events", &items), wanted(word, i), value, known)?;
+        explain_argument(page, Path::item("events", &items), item_of(word, i), value, known)?;
     }
     Ok(())
 }
@@ -104,7 +104,7 @@ enum Wanted {
 }
 
 /// What the i-th item of the event of a word is.
-fn wanted(word: &str, i: usize) -> Wanted {
+fn item_of(word: &str, i: usize) -> Wanted {
     if i == 0 {
         Wanted::Word
     } else if i == 3 || word == "deliver" {

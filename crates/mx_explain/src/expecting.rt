@@ -34,12 +34,12 @@ pub(crate) fn expect_word(
     if is_among(word, words) {
         return Ok(());
     }
-    let nearest = nearest(page.alloc, word, words)?;
+    let meant = nearest(page.alloc, word, words)?;
     page.say(Expected {
         path,
         found,
         expected,
-        nearest,
+        nearest: meant,
     })
 }
 
@@ -74,10 +74,10 @@ pub(crate) fn warn_of_unread(
     };
     for (key, _) in members.iter() {
         if !is_among(key.as_str(), read) {
-            let nearest = nearest(page.alloc, key.as_str(), read)?;
+            let meant = nearest(page.alloc, key.as_str(), read)?;
             page.say(Unread {
                 key: key.as_str(),
-                nearest,
+                nearest: meant,
             })?;
         }
     }

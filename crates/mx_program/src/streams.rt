@@ -56,7 +56,7 @@ pub(crate) fn read_name<R: Files + Input>(
     }
     match fs::open(rt, name) {
         Ok(file) => read_all(alloc, file),
-        Err(e) => Err(refusal(&e)),
+        Err(e) => Err(refused_for(&e)),
     }
 }
 
@@ -71,11 +71,11 @@ fn read_all<R: Read + Drop>(alloc: Global, reader: R) -> Result<Vec<u8>, Refusal
             Err(Refusal::Because("it has more than 268435456 bytes"))
         }
         Ok(_) => Ok(bytes),
-        Err(e) => Err(refusal(&e)),
+        Err(e) => Err(refused_for(&e)),
     }
 }
 
-fn refusal(e: &io::Error) -> Refusal {
+fn refused_for(e: &io::Error) -> Refusal {
     match e.kind() {
         ErrorKind::OutOfMemory => Refusal::Memory,
         ErrorKind::NotFound => Refusal::Because("there is no file of this name"),
