@@ -16,7 +16,7 @@ use Rattle.mx_commands.specs.Jobs.{run_by, where_read}
 use Rattle.mx_commands.specs.Outputs.{Held, stop_of}
 use Rattle.mx_commands.specs.Ran.{Ran, StopsAt}
 use Rattle.mx_commands.specs.Runs.{Report, run_from}
-use Rattle.mx_commands.proofs.RunLemmas.{Keeps-refl, rest, rest_err}
+use Rattle.mx_commands.proofs.RunLemmas.{Appends-keeps, Keeps-refl, rest, rest_err}
 use Rattle.mx_picture.specs.Pictures.{Draws, StopsAs}
 
 -- a run that stops at an event stops as its report
@@ -59,3 +59,14 @@ drawn_none a r s is = subst (λ (x : Result ℕ Stop). Draws a a x) (sym is) (Ke
 
 pub drawn_not : (a b : Held) (r : Result ℕ Stop) (s : Stop) → r ≡ Err s → Keeps a b → Draws a b r
 drawn_not a b r s is h = subst (λ (x : Result ℕ Stop). Draws a b x) (sym is) h
+
+keeps_on : (a b d : Held) → Keeps a b → Keeps b d → Keeps a d
+keeps_on None b d p q = tt
+keeps_on (Some x) None d p q = absurd p
+keeps_on (Some x) (Some y) None p q = absurd q
+keeps_on (Some x) (Some y) (Some z) p q = q ∙ p
+
+-- what was drawn stays where nothing is added
+pub drawn_kept : (a b d : Held) (r : Result ℕ Stop) → Draws a b r → Keeps b d → Draws a d r
+drawn_kept a b d (Ok status) h keeps = (h.0, (h.1.0, Appends-keeps a b d h.1.0 h.1.1 keeps))
+drawn_kept a b d (Err end) h keeps = keeps_on a b d h keeps

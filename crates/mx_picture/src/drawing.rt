@@ -80,14 +80,26 @@ where
     ensures err { IfErr result (StopsAt index (step_of C.core cluster.old event.now)) }
 {
     let before = cluster.sent();
+    let outcome = happen(index, event, cluster)?;
+    drawing.sheet.begin(index)?;
+    draw_happened(plan, event, &outcome, cluster, drawing)?;
+    draw_sent(plan, cluster, before, drawing)?;
+    drawing.sheet.go_down()?;
+    Ok(())
+}
+
+/// One event, of this index.
+fn happen<C: Exclusion>(
+    index: u64,
+    event: &Event,
+    cluster: &mut Cluster<C>,
+) -> Result<Outcome, Stop>
+    requires named { NamesNodes (length cluster.old.members) event.now }
+    ensures ok { OnOk result (step_of C.core cluster.old event.now ≡ Ok cluster.new) }
+    ensures err { IfErr result (StopsAt index (step_of C.core cluster.old event.now)) }
+{
     match cluster.step(*event) {
-        Ok(outcome) => {
-            drawing.sheet.begin(index)?;
-            draw_happened(plan, event, &outcome, cluster, drawing)?;
-            draw_sent(plan, cluster, before, drawing)?;
-            drawing.sheet.go_down()?;
-            Ok(())
-        }
+        Ok(outcome) => Ok(outcome),
         Err(StepFault::NoParcel) => Err(Stop::Fault(Fault::NoParcel(index))),
         Err(StepFault::Memory) => Err(Stop::Memory),
         Err(StepFault::NoNode) => unreachable!(),
@@ -131,7 +143,9 @@ fn draw_act(
     let came = OutcomeText(outcome);
     drawing.label.clear();
     write!(drawing.label, "{done}: {came}")?;
-    drawing.sheet.text(node, Spot::Right, drawing.label.as_str())?;
+    drawing
+        .sheet
+        .text(node, Spot::Right, drawing.label.as_str())?;
     match outcome {
         Outcome::Entered(number) => drawing.sheet.change(node, Phase::Inside(*number)),
         Outcome::Asked(_) => drawing.sheet.turn(node, Phase::Waiting),

@@ -1,8 +1,7 @@
 //! What is the same in each picture: its styles and its legend.
 
 /// The styles, in colours of Okabe and Ito, which the colour-blind can tell; and the tips of arrows.
-pub(crate) const STYLES: &str =
-    "<style>
+pub(crate) const STYLES: &str = "<style>
 text{font:11px Helvetica,Arial,sans-serif;stroke:#fff;stroke-width:3px;stroke-linejoin:round;paint-order:stroke}
 path{fill:none;stroke-width:1.2px}
 .paper{fill:#fff}.node{stroke:#999}.name{font-weight:bold;text-anchor:middle}.index{fill:#666;text-anchor:end}

@@ -9,6 +9,7 @@ use std::alloc::AllocError;
 
 /// What stands above the first row, the legend and the names of the nodes, and below the last one.
 const HEAD: u64 = 64;
+
 const FOOT: u64 = 30;
 
 /// What stands at the left: the indices of the events.
@@ -31,20 +32,32 @@ pub(crate) fn add_page(plan: &Plan, sheet: &Sheet, text: &mut String) -> Result<
 
 /// Appends the size of the picture, which has room for all texts, the styles and the legend.
 fn add_head(plan: &Plan, sheet: &Sheet, left: u64, text: &mut String) -> Result<(), AllocError> {
-    let last = LANE * u64::from(plan.nodes());
+    let last = LANE * u64::from(plan.nodes() - 1);
     let right = sheet.right.max(last).saturating_add(MARGIN);
     let width = left.saturating_add(right).max(LEGEND_WIDTH);
     let height = y_of(sheet.row) + HEAD + FOOT;
-    write!(text, "<svg xmlns=\"http://www.w3.org/2000/svg\" width=\"{width}\" height=\"{height}\"")?;
-    write!(text, " viewBox=\"-{left} -{HEAD} {width} {height}\">\n{STYLES}")?;
+    write!(
+        text,
+        "<svg xmlns=\"http://www.w3.org/2000/svg\" width=\"{width}\" height=\"{height}\""
+    )?;
+    write!(
+        text,
+        " viewBox=\"-{left} -{HEAD} {width} {height}\">\n{STYLES}"
+    )?;
     write!(text, "<g transform=\"translate(-{left} -{HEAD})\">\n")?;
-    write!(text, "<path class=\"paper\" d=\"M0 0h{width}v{height}h-{width}z\"/>\n{LEGEND}</g>\n")
+    write!(
+        text,
+        "<path class=\"paper\" d=\"M0 0h{width}v{height}h-{width}z\"/>\n{LEGEND}</g>\n"
+    )
 }
 
 /// Appends the indices of the events.
 fn add_indices(sheet: &Sheet, left: u64, text: &mut String) -> Result<(), AllocError> {
     let aside = left.saturating_sub(INDICES / 2 + 10);
-    write!(text, "<g class=\"index\" transform=\"translate(-{aside})\">\n")?;
+    write!(
+        text,
+        "<g class=\"index\" transform=\"translate(-{aside})\">\n"
+    )?;
     text.push_str(sheet.indices.as_str())?;
     text.push_str("</g>\n")
 }
@@ -63,7 +76,10 @@ fn add_lane(name: &str, x: u64, bottom: u64, text: &mut String) -> Result<(), Al
     write!(text, "<path class=\"node\" d=\"M{x}-12V{bottom}\"/>\n")?;
     write!(text, "<text class=\"name\" x=\"{x}\" y=\"-18\">")?;
     add_escaped(name, text)?;
-    write!(text, "</text>\n<text class=\"name\" x=\"{x}\" y=\"{bottom}\" dy=\"20\">")?;
+    write!(
+        text,
+        "</text>\n<text class=\"name\" x=\"{x}\" y=\"{bottom}\" dy=\"20\">"
+    )?;
     add_escaped(name, text)?;
     text.push_str("</text>\n")
 }

@@ -31,6 +31,7 @@ pub(crate) fn draw<S: Source, O: Output>(
     ensures ran { RanOf (O.takes_all out.old) None None (S.told source.old)
         (task.replay (names_of names.now)) result }
     ensures drawn { Draws (O.written out.old) (O.written out.new) result }
+    ensures stays { O.takes_all out.new ≡ O.takes_all out.old }
 {
     if are_dashes(names) {
         let one = fetch(alloc, source, names.plan, Named::Plan)?;
@@ -45,6 +46,7 @@ pub(crate) fn draw<S: Source, O: Output>(
 fn draw_one<O: Output>(alloc: Global, bytes: &[u8], out: &mut O) -> Result<u8, Stop>
     ensures ran { RanOn (O.takes_all out.old) None None (replay_one (Some bytes.now)) result }
     ensures drawn { Draws (O.written out.old) (O.written out.new) result }
+    ensures stays { O.takes_all out.new ≡ O.takes_all out.old }
 {
     let (line, rest) = split_line(bytes);
     let plan = plan_in(alloc, line)?;
@@ -55,6 +57,7 @@ fn draw_one<O: Output>(alloc: Global, bytes: &[u8], out: &mut O) -> Result<u8, S
 fn draw_text<O: Output>(alloc: Global, plan: &Plan, text: &[u8], out: &mut O) -> Result<u8, Stop>
     ensures ran { Ran (O.takes_all out.old) None None (report_of_events text.now plan.now) result }
     ensures drawn { Draws (O.written out.old) (O.written out.new) result }
+    ensures stays { O.takes_all out.new ≡ O.takes_all out.old }
 {
     let events = read_events(alloc, text, plan)?;
     let page = page_of(alloc, plan, events.as_slice())?;

@@ -1,6 +1,6 @@
 //! A picture that is being drawn, row by row from the top.
 
-ghost use Rattle.std.specs.Prelude.{◌≡◌, ◌≤◌, IsTrue, nat_le};
+ghost use Rattle.std.specs.Prelude.{◌<◌, ◌≤◌, IsTrue, length, nat_le};
 ghost use Rattle.std.specs.List.{list_all};
 
 use crate::escaping::add_escaped;
@@ -101,12 +101,7 @@ impl Sheet {
     }
 
     /// A text beside a node.
-    pub(crate) fn text(
-        &mut self,
-        node: NodeId,
-        spot: Spot,
-        text: &str,
-    ) -> Result<(), AllocError> {
+    pub(crate) fn text(&mut self, node: NodeId, spot: Spot, text: &str) -> Result<(), AllocError> {
         let x = x_of(node);
         let y = y_of(self.row);
         self.make_room(x, spot, text.len() as u64);
@@ -161,11 +156,7 @@ impl Sheet {
         if index >= self.trips.len() {
             return Ok(());
         }
-        let trip = self.trips[index];
-        self.trips[index] = Trip {
-            row: trip.row,
-            delivered: true,
-        };
+        let trip = self.deliver(index);
         let again = if trip.delivered { " again" } else { "" };
         let x = x_of(from);
         let y = y_of(trip.row);
@@ -174,6 +165,19 @@ impl Sheet {
         write!(arrows, "<path class=\"{ink}{again}\" d=\"M{x} {y}")?;
         add_way(x, x_of(to), down, arrows)?;
         write!(arrows, "\" marker-end=\"url(#{ink})\"/>\n")
+    }
+
+    /// Notes that a parcel is delivered, and answers what was known of it.
+    fn deliver(&mut self, index: usize) -> Trip
+        requires { index < length self.old.trips.items }
+        ensures { result.row ≤ self.new.row }
+    {
+        let trip = self.trips[index];
+        self.trips[index] = Trip {
+            row: trip.row,
+            delivered: true,
+        };
+        trip
     }
 
     /// The phase of a node changes: what it was until now gets its bar, or its box.

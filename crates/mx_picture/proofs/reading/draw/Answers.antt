@@ -8,6 +8,7 @@ use Rattle.mx_commands.specs.Ran.{Fetches, Ran, RanOn}
 use Rattle.mx_commands.proofs.JobLemmas.{by_two, events_fetched, events_unfetched, in_some, two_read}
 use Rattle.mx_commands.proofs.RunLemmas.{err_is}
 use Rattle.mx_picture.proofs.reading.draw.Goals as goal
+
 pub returns-in_err-events-clause-ran : goal.returns-in_err-events-clause-ran
 returns-in_err-events-clause-ran g c =
     let s = c.in_err-events.field-0.0 in
@@ -22,6 +23,7 @@ returns-in_err-events-clause-ran g c =
     (λ x read. two_read t None None events p (Err s) x read (events_unfetched t None p s events fetched)) c.in_ok-plan.ensures.told) in
     let is : c.from_residual-in_err-events.result ≡ Err s = err_is c.from_residual-in_err-events.result s c.from_residual-in_err-events.ensures.1 in
     rw is final
+
 pub returns-clause-ran : goal.returns-clause-ran
 returns-clause-ran g c =
     let v = c.in_ok-events.events in

@@ -4,6 +4,7 @@ use Rattle.mx_commands.specs.Ran.{Ran}
 use Rattle.mx_commands.proofs.JobLemmas.{line_read, line_unread}
 use Rattle.mx_commands.proofs.RunLemmas.{err_is}
 use Rattle.mx_picture.proofs.reading.draw_one.Goals as goal
+
 pub returns-in_err-plan-clause-ran : goal.returns-in_err-plan-clause-ran
 returns-in_err-plan-clause-ran g c =
     let s = c.in_err-plan.field-0.0 in
@@ -11,6 +12,7 @@ returns-in_err-plan-clause-ran g c =
     let final = line_unread (g.O.Output.takes_all c.args.out.now) None c.args.bytes.now s read in
     let is : c.from_residual.result ≡ Err s = err_is c.from_residual.result s c.from_residual.ensures.1 in
     rw is final
+
 pub returns-clause-ran : goal.returns-clause-ran
 returns-clause-ran g c =
     let t = g.O.Output.takes_all c.args.out.now in

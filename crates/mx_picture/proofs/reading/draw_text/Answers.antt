@@ -15,7 +15,7 @@ use Rattle.mx_picture.proofs.reading.draw_text.Goals as goal
 pub page_of-requires : goal.page_of-requires
 page_of-requires g c =
     let p = c.args.plan.now in
-    (search rules, subst (λ (es : List Event). AllNameNodes (length p.nodes) es) (sym c.as_slice.ensures.value) (events_named p c.args.text.now c.in_ok-events.events.items c.in_ok-events.ensures))
+    subst (λ (es : List Event). AllNameNodes (length p.nodes) es) (sym c.as_slice.ensures.value) (events_named p c.args.text.now c.in_ok-events.events.items c.in_ok-events.ensures)
 
 pub returns-in_err-page-clause-ran : goal.returns-in_err-page-clause-ran
 returns-in_err-page-clause-ran g c =
