@@ -1,26 +1,27 @@
 -- Each act of one member fits the sections so far, and leaves a sound world of the sections after it.
-use Rattle.std.proofs.Common.{ℕ, ◌<◌, inl, inr, List, ◌++◌, length, take, slice_set, refl, sym, subst}
+use Rattle.std.proofs.Common.{ℕ, ◌<◌, List, length, take, slice_set, refl, sym, subst}
 use Rattle.mx_stamps.specs.Lists.{IsIn}
-use Rattle.mx_stamps.proofs.Lists.{in_append}
 use Rattle.mx_nodelaws.specs.World.{World}
 use Rattle.mx_nodelaws.specs.Core.{Core, KeepsPhases}
 use Rattle.mx_nodelaws.specs.Laws.{KeepsGood}
-use Rattle.mx_journal.specs.declared.records.Record.{Record}
-use Rattle.mx_journal.specs.Agreement.{IsSubmap}
-use Rattle.mx_merge.specs.Missing.{gaps_of}
+use Rattle.mx_journal.specs.Settled.{JournalState}
+use Rattle.mx_merge.specs.Missing.{gaps_in}
 use Rattle.mx_member.specs.declared.acts.Act.{Act}
 use Rattle.mx_member.specs.declared.acts.Act.TheVariants as act
 use Rattle.mx_member.specs.declared.parcel.Parcel.{Parcel}
-use Rattle.mx_member.specs.Member.{MemberState, records_in}
-use Rattle.mx_member.specs.Steps.{IsTakeable}
+use Rattle.mx_member.specs.declared.parcel.Parcel.TheVariants.{Guard, Want, Base, Records}
+use Rattle.mx_member.specs.Journals.{IsJournalOf, IsParcelOf}
+use Rattle.mx_member.specs.Member.{MemberState}
+use Rattle.mx_member.specs.Steps.{IsAcceptable, IsTakeable}
 use Rattle.mx_member.specs.Acts.{Arrives, Grows, IsDoable, act_of}
 use Rattle.mx_member.specs.Sections.{Section, after_marks, section_journal, told}
 use Rattle.mx_member.specs.Serial.{AllFit}
 use Rattle.mx_member.specs.World.{IsMember, IsSound}
-use Rattle.mx_member.proofs.CallsKept.{Keeps, ask_kept, cancel_kept, enter_kept, leave_kept, read_kept, take_kept, tick_kept, want_kept, write_kept}
+use Rattle.mx_member.proofs.CallsKept.{Keeps, ask_kept, cancel_kept, enter_kept, leave_kept, read_kept, settle_kept, take_kept, tick_kept, want_kept, write_kept}
 use Rattle.mx_member.proofs.DraftSteps.{wake_sound}
 use Rattle.mx_member.proofs.Moments.{Moment}
-use Rattle.mx_member.proofs.SectionLists.{submap_numbered, submaps_agree}
+use Rattle.mx_member.proofs.OfSections.{bases_of_one, puttable_of}
+use Rattle.mx_member.proofs.SectionLists.{journal_ascends}
 
 module _ {H S M : Type 0} (core : Core H S M) (IsShape : H → Type 0) (Good : World S M → Type 0) (phases : KeepsPhases core) (laws : KeepsGood core IsShape Good) where
   -- what every act of a member tells fits, and it leaves a sound world
@@ -41,21 +42,26 @@ module _ {H S M : Type 0} (core : Core H S M) (IsShape : H → Type 0) (Good : W
       by (act.Write register value) arrives grows = write_kept core IsShape Good phases laws w register value grown (core.phase m.core) refl grows
       by act.Leave arrives grows = leave_kept core IsShape Good phases laws w grown (core.phase m.core) refl grows
       by act.Cancel arrives grows = cancel_kept core IsShape Good phases laws w grown grows
+      by (act.Settle k) arrives grows = settle_kept core IsShape Good phases laws w k grown grows
       by act.Tick arrives grows = tick_kept core IsShape Good phases laws w grown grows
-      by (act.Want to) arrives grows = want_kept core IsShape Good phases laws w to (take 8 (gaps_of m.setting.limit m.journal)) grown arrives grows
+      by (act.Want to) arrives grows = want_kept core IsShape Good phases laws w to (take 8 (gaps_in m.setting.limit m.journal)) grown arrives grows
       by (act.Deliver from parcel) arrives grows = take_kept core IsShape Good phases laws w from parcel grown arrives grows
       by act.Restart arrives grows = ((tt, tt), wake_sound core IsShape Good phases laws w grown grows)
+
+-- what a parcel of the sections brings, a journal of them can take
+acceptable : {M : Type 0} (ss : List Section) (p : Parcel M) (journal : JournalState) → IsJournalOf (section_journal ss) journal → IsParcelOf (section_journal ss) p → IsAcceptable p journal
+acceptable ss (Guard letter) journal of known = tt
+acceptable ss (Want ranges) journal of known = tt
+acceptable ss (Base base) journal of known = bases_of_one (section_journal ss) journal.base base of.base known
+acceptable ss (Records records) journal of known = puttable_of (section_journal ss) records.items journal (journal_ascends ss) of known
 
 -- a parcel that was sent to a member is of no stranger and meets no conflict
 taken : {H S M : Type 0} (core : Core H S M) (Good : World S M → Type 0) (ss : List Section) (members : List (MemberState S)) (sent : List (ℕ × ℕ × Parcel M)) (i from : ℕ) (parcel : Parcel M) (m : MemberState S) →
     IsSound core Good ss members sent → IsMember members i m → IsIn (from, i, parcel) sent → IsTakeable from parcel m
-taken core Good ss members sent i from parcel m sound at was =
-    let known = sound.parcels from i parcel was in
-    let all : List Record = m.journal ++ records_in parcel in
-    let both : IsSubmap all (section_journal ss) = λ x h. elim (in_append x m.journal (records_in parcel) h) [ inl a ↦ sound.journals i m at x a | inr b ↦ known x b ] in (
-      subst (λ n. from < n) (sym (sound.known i m at)) (sound.between from i parcel was).0,
-      (submap_numbered ss (records_in parcel) known, submaps_agree ss all all both both),
-    )
+taken core Good ss members sent i from parcel m sound at was = (
+  subst (λ n. from < n) (sym (sound.known i m at)) (sound.between from i parcel was).0,
+  acceptable ss parcel m.journal (sound.journals i m at) (sound.parcels from i parcel was),
+)
 
 -- so a member can do whatever arrives
 pub doable : {H S M : Type 0} (core : Core H S M) (Good : World S M → Type 0) (ss : List Section) (members : List (MemberState S)) (sent : List (ℕ × ℕ × Parcel M)) (i : ℕ) (a : Act M) (m : MemberState S) →
@@ -66,6 +72,7 @@ doable core Good ss members sent i (act.Read register) m sound at arrives = tt
 doable core Good ss members sent i (act.Write register value) m sound at arrives = tt
 doable core Good ss members sent i act.Leave m sound at arrives = tt
 doable core Good ss members sent i act.Cancel m sound at arrives = tt
+doable core Good ss members sent i (act.Settle k) m sound at arrives = tt
 doable core Good ss members sent i act.Tick m sound at arrives = tt
 doable core Good ss members sent i (act.Want to) m sound at arrives = tt
 doable core Good ss members sent i (act.Deliver from parcel) m sound at arrives = taken core Good ss members sent i from parcel m sound at arrives

@@ -1,9 +1,10 @@
 -- Each call of one member fits the sections so far, and leaves a sound world of the sections after it.
-use Rattle.std.proofs.Common.{ℕ, ◌<◌, ◌≡◌, ◌↔◌, inl, inr, List, [], ◌∷◌, Result, Ok, Err, length, nat_lt, nat_le, take, refl, sym, ◌∙◌, ap, subst, if◌then◌else◌}
+use Rattle.std.proofs.Common.{ℕ, ◌<◌, ◌≡◌, ◌↔◌, inl, inr, List, [], ◌∷◌, ◌++◌, Result, Ok, Err, length, nat_lt, nat_le, take, refl, sym, ◌∙◌, ap, subst, if◌then◌else◌}
 use Rattle.mx_stamps.specs.declared.stamp.Stamp.{Stamp}
 use Rattle.mx_stamps.specs.Lists.{IsIn}
-use Rattle.mx_stamps.proofs.Lists.{cond_case}
-use Rattle.mx_nodelaws.specs.World.{World, Quiet}
+use Rattle.std.specs.List.{list_any}
+use Rattle.mx_stamps.proofs.Lists.{cond_case, in_append}
+use Rattle.mx_nodelaws.specs.World.{World, Quiet, sent_by}
 use Rattle.mx_nodelaws.specs.Core.{Core, KeepsPhases}
 use Rattle.mx_nodelaws.specs.Laws.{KeepsGood}
 use Rattle.mx_nodelaws.specs.declared.phase.Phase.{Phase}
@@ -13,31 +14,46 @@ use Rattle.mx_nodelaws.specs.declared.faults.CancelFault.{CancelFault}
 use Rattle.mx_nodelaws.specs.declared.faults.EnterFault.{EnterFault}
 use Rattle.mx_journal.specs.declared.records.Record.{Record}
 use Rattle.mx_journal.specs.declared.ranges.Range.{Range}
+use Rattle.mx_journal.specs.declared.settling.SettleFault.TheVariants as settle
+use Rattle.mx_journal.specs.declared.settling.SettleFault.{SettleFault}
 use Rattle.mx_journal.specs.Agreement.{IsSubmap}
 use Rattle.mx_journal.specs.Drafted.{with_read, with_write}
-use Rattle.mx_journal.specs.Gapless.{first_missing}
-use Rattle.mx_journal.proofs.Choices.{lt_false}
+use Rattle.mx_journal.specs.Settled.{JournalState, settled, with_base, with_list}
+use Rattle.mx_journal.proofs.Settled.{ascending_beyond}
+use Rattle.mx_stamps.proofs.Choices.{le_false, lt_false}
 use Rattle.mx_merge.specs.Missing.{in_ranges}
 use Rattle.mx_merge.proofs.Answered.{answered_known}
 use Rattle.mx_member.specs.declared.acts.Act.TheVariants as act
 use Rattle.mx_member.specs.declared.acts.Answer.TheVariants as answer
 use Rattle.mx_member.specs.declared.parcel.Parcel.{Parcel}
-use Rattle.mx_member.specs.declared.parcel.Parcel.TheVariants.{Guard, Want, Records}
+use Rattle.mx_member.specs.declared.parcel.Parcel.TheVariants.{Guard, Want, Base, Records}
 use Rattle.mx_member.specs.declared.faults.ReadFault.{ReadFault}
 use Rattle.mx_member.specs.declared.faults.ReadFault.TheVariants as read
 use Rattle.mx_member.specs.declared.faults.WriteFault.{WriteFault}
 use Rattle.mx_member.specs.declared.faults.WriteFault.TheVariants as write
-use Rattle.mx_member.specs.Member.{MemberState, guarded, records_in, with_core, with_draft}
-use Rattle.mx_member.specs.Steps.{entered, leave_at, read_at, records_to, refusing, shown_inside, take_of, want_to, write_at}
+use Rattle.mx_member.specs.Journals.{IsParcelOf}
+use Rattle.mx_member.specs.Member.{MemberState, first_gap, guarded, with_core, with_draft, with_journal}
+use Rattle.mx_member.specs.Steps.{answers_to, base_to, entered, leave_at, read_at, reaches, records_to, refusing, settle_of, shown_inside, take_of, want_to, write_at}
 use Rattle.mx_member.specs.Sections.{Mark, after_marks, section_journal, told}
 use Rattle.mx_member.specs.Serial.{AllFit}
-use Rattle.mx_member.specs.World.{IsSound}
+use Rattle.mx_member.specs.World.{IsSound, letters_in}
 use Rattle.mx_member.proofs.CorePart.{letter_of}
 use Rattle.mx_member.proofs.DraftSteps.{read_sound, write_sound}
 use Rattle.mx_member.proofs.EntrySteps.{enter_sound, leave_sound}
 use Rattle.mx_member.proofs.Moments.{GrowsBy, Moment, moved_in, core_here, part_of}
+use Rattle.mx_member.proofs.Covering.{covered_to_gap}
+use Rattle.mx_member.proofs.OfSections.{put_of, settled_ascends, settled_of, taken_ascends, taken_of}
 use Rattle.mx_member.proofs.Phases.{idle_apart, waiting_apart}
+use Rattle.mx_member.proofs.SectionLists.{journal_ascends}
 use Rattle.mx_member.proofs.UntoldSteps.{core_sound, gossip_sound, refused_sound, still_sound}
+
+-- parcels of two lists, neither of which has a letter
+no_letters : {M : Type 0} (i : ℕ) (ps qs : List (ℕ × Parcel M)) → letters_in (sent_by i ps) ≡ [] → letters_in (sent_by i qs) ≡ [] → letters_in (sent_by i (ps ++ qs)) ≡ []
+no_letters i [] qs a b = b
+no_letters i ((to, Guard letter) ∷ ps) qs a b = absurd (let bad : ⊥ = cc in bad)
+no_letters i ((to, Want ranges) ∷ ps) qs a b = no_letters i ps qs a b
+no_letters i ((to, Base base) ∷ ps) qs a b = no_letters i ps qs a b
+no_letters i ((to, Records records) ∷ ps) qs a b = no_letters i ps qs a b
 
 module _ {H S M : Type 0} (core : Core H S M) (IsShape : H → Type 0) (Good : World S M → Type 0) (phases : KeepsPhases core) (laws : KeepsGood core IsShape Good) where
   -- what the act tells fits, and the world after it is sound
@@ -100,15 +116,20 @@ module _ {H S M : Type 0} (core : Core H S M) (IsShape : H → Type 0) (Good : W
       let m : MemberState S = w.member in
       let value : ℕ = shown_inside register n m in
       let done : Quiet (MemberState S) (Result ℕ ReadFault) = record { state = with_draft (with_read register value m.draft) m; answer = Ok value } in
-      let room = if nat_le 8 (length m.draft.reads) then refusing m read.Full else done in
-      let gap = if nat_lt (first_missing 1 m.journal) n then refusing m (read.Gap (first_missing 1 m.journal)) else room in
+      let free = if nat_le n m.journal.base.upto then refusing m (read.Settled m.journal.base.upto) else done in
+      let room = if nat_le 8 (length m.draft.reads) then refusing m read.Full else free in
+      let gap = if nat_lt (first_gap m.journal) n then refusing m (read.Gap (first_gap m.journal)) else room in
       cond_case (λ q. KeepsRead w register grown q) (nat_le m.setting.registers register) (refusing m read.NoRegister) gap
       (λ _. read_refused w register grown read.NoRegister grows)
-      (λ _. cond_case (λ q. KeepsRead w register grown q) (nat_lt (first_missing 1 m.journal) n) (refusing m (read.Gap (first_missing 1 m.journal))) room
-      (λ _. read_refused w register grown (read.Gap (first_missing 1 m.journal)) grows)
-      (λ all. cond_case (λ q. KeepsRead w register grown q) (nat_le 8 (length m.draft.reads)) (refusing m read.Full) done
+      (λ there. cond_case (λ q. KeepsRead w register grown q) (nat_lt (first_gap m.journal) n) (refusing m (read.Gap (first_gap m.journal))) room
+      (λ _. read_refused w register grown (read.Gap (first_gap m.journal)) grows)
+      (λ all. cond_case (λ q. KeepsRead w register grown q) (nat_le 8 (length m.draft.reads)) (refusing m read.Full) free
       (λ _. read_refused w register grown read.Full grows)
-      (λ _. let k = read_sound core IsShape Good phases laws w n register grown is (lt_false (first_missing 1 m.journal) n all) grows in ((k.0, tt), k.1))))
+      (λ _. cond_case (λ q. KeepsRead w register grown q) (nat_le n m.journal.base.upto) (refusing m (read.Settled m.journal.base.upto)) done
+      (λ _. read_refused w register grown (read.Settled m.journal.base.upto) grows)
+      (λ _.
+      let k = read_sound core IsShape Good phases laws w n register grown is (le_false m.setting.registers register there) (lt_false (first_gap m.journal) n all) grows in
+      ((k.0, tt), k.1)))))
 
   -- the same of a write
   abbrev KeepsWrite : Moment core Good → ℕ → ℕ → List (ℕ × ℕ × Parcel M) → Quiet (MemberState S) (Result (Unit {0}) WriteFault) → Type 0
@@ -136,33 +157,88 @@ module _ {H S M : Type 0} (core : Core H S M) (IsShape : H → Type 0) (Good : W
   leave_kept w grown Waiting is grows = (tt, refused_sound core IsShape Good phases laws w grown grows)
   leave_kept w grown (Inside n) is grows = let k = leave_sound core IsShape Good phases laws w n grown is grows in ((k.0, tt), k.1)
 
-  -- a want goes to a node, carries no record, and is no letter
+  -- what settling makes of the member
+  abbrev KeepsSettled : Moment core Good → ℕ → List (ℕ × ℕ × Parcel M) → Quiet (MemberState S) (Result (Unit {0}) SettleFault) → Type 0
+  KeepsSettled w k grown done = Keeps w [] done.state grown
+
+  pub settle_kept : (w : Moment core Good) (k : ℕ) (grown : List (ℕ × ℕ × Parcel M)) → GrowsBy w [] grown → KeepsSettled w k grown (settle_of k w.member)
+  settle_kept w k grown grows =
+      let m : MemberState S = w.member in
+      let done : Quiet (MemberState S) (Result (Unit {0}) SettleFault) = record { state = with_journal (settled k m.journal) m; answer = Ok tt } in
+      let gap = if nat_le (first_gap m.journal) k then refusing m (settle.Gap (first_gap m.journal)) else done in
+      cond_case (λ q. KeepsSettled w k grown q) (nat_lt k m.journal.base.upto) (refusing m (settle.Below m.journal.base.upto)) gap
+      (λ _. (tt, refused_sound core IsShape Good phases laws w grown grows))
+      (λ high. cond_case (λ q. KeepsSettled w k grown q) (nat_le (first_gap m.journal) k) (refusing m (settle.Gap (first_gap m.journal))) done
+      (λ _. (tt, refused_sound core IsShape Good phases laws w grown grows))
+      (λ past.
+      let order = journal_ascends w.sections in
+      let mine = w.sound.ordered w.node m w.here in
+      let of = w.sound.journals w.node m w.here in
+      let low = lt_false k m.journal.base.upto high in
+      let all = covered_to_gap k m.journal (le_false (first_gap m.journal) k past) in (
+        tt,
+        gossip_sound core IsShape Good phases laws w (settled k m.journal) [] grown
+            (settled_of (section_journal w.sections) m.journal k order mine of low all) (settled_ascends (section_journal w.sections) m.journal k order mine of low all) refl (λ b p h. absurd h) grows,
+      )))
+
+  -- a want goes to a node, brings nothing, and is no letter
   pub want_kept : (w : Moment core Good) (to : ℕ) (ranges : List Range) (grown : List (ℕ × ℕ × Parcel M)) → to < length w.members → GrowsBy w (want_to to ranges) grown → Keeps w [] w.member grown
   want_kept w to [] grown l grows = (tt, refused_sound core IsShape Good phases laws w grown grows)
   want_kept w to (r ∷ rs) grown l grows = (
     tt,
     still_sound core IsShape Good phases laws w (want_to to (r ∷ rs)) grown refl
         (λ b p h. elim h [
-          | inl e ↦ subst (λ (q : ℕ × Parcel M). (q.0 < length w.members) × IsSubmap (records_in q.1) (section_journal w.sections)) (sym e) (l, λ x k. absurd k)
+          | inl e ↦ subst (λ (q : ℕ × Parcel M). (q.0 < length w.members) × IsParcelOf (section_journal w.sections) q.1) (sym e) (l, tt)
           | inr bad ↦ absurd bad
         ])
         grows,
   )
 
-  -- records of the own journal go to a node
-  answer_kept : (w : Moment core Good) (to : ℕ) (records : List Record) (grown : List (ℕ × ℕ × Parcel M)) → to < length w.members → IsSubmap records w.member.journal → GrowsBy w (records_to to records) grown → Keeps w [] w.member grown
-  answer_kept w to [] grown l known grows = (tt, refused_sound core IsShape Good phases laws w grown grows)
-  answer_kept w to (r ∷ rs) grown l known grows = (
-    tt,
-    still_sound core IsShape Good phases laws w (records_to to (r ∷ rs)) grown refl
-        (λ b p h. elim h [
+  -- the own base, and records of the own journal, go to a node, and are no letters
+  base_known : (w : Moment core Good) (to : ℕ) (ranges : List Range) → to < length w.members →
+      (letters_in (sent_by w.node (base_to {M = M} to ranges w.member.journal)) ≡ [])
+      × ((b : ℕ) (p : Parcel M) → IsIn (b, p) (base_to to ranges w.member.journal) → (b < length w.members) × IsParcelOf (section_journal w.sections) p)
+  base_known w to ranges l =
+      cond_case (λ (ls : List (ℕ × Parcel M)). (letters_in (sent_by w.node ls) ≡ []) × ((b : ℕ) (p : Parcel M) → IsIn (b, p) ls → (b < length w.members) × IsParcelOf (section_journal w.sections) p))
+      (list_any (reaches w.member.journal.base.upto) ranges) ((to, Base w.member.journal.base) ∷ []) []
+      (λ _. (
+        refl,
+        λ b p h. elim h [
           | inl e ↦
-              subst (λ (q : ℕ × Parcel M). (q.0 < length w.members) × IsSubmap (records_in q.1) (section_journal w.sections)) (sym e)
-              (l, λ x k. w.sound.journals w.node w.member w.here x (known x k))
+              subst (λ (q : ℕ × Parcel M). (q.0 < length w.members) × IsParcelOf (section_journal w.sections) q.1) (sym e)
+              (l, (w.sound.journals w.node w.member w.here).base)
           | inr bad ↦ absurd bad
-        ])
-        grows,
+        ],
+      ))
+      (λ _. (refl, λ b p h. absurd h))
+
+  records_known : (w : Moment core Good) (to : ℕ) (records : List Record) → to < length w.members → IsSubmap records w.member.journal.records →
+      (letters_in (sent_by w.node (records_to {M = M} to records)) ≡ [])
+      × ((b : ℕ) (p : Parcel M) → IsIn (b, p) (records_to to records) → (b < length w.members) × IsParcelOf (section_journal w.sections) p)
+  records_known w to [] l known = (refl, λ b p h. absurd h)
+  records_known w to (r ∷ rs) l known = (
+    refl,
+    λ b p h. elim h [
+      | inl e ↦
+          subst (λ (q : ℕ × Parcel M). (q.0 < length w.members) × IsParcelOf (section_journal w.sections) q.1) (sym e)
+          (l, λ x k. (w.sound.journals w.node w.member w.here).records x (known x k))
+      | inr bad ↦ absurd bad
+    ],
   )
+
+  answer_kept : (w : Moment core Good) (to : ℕ) (ranges : List Range) (grown : List (ℕ × ℕ × Parcel M)) → to < length w.members → GrowsBy w (answers_to to ranges w.member.journal) grown → Keeps w [] w.member grown
+  answer_kept w to ranges grown l grows =
+      let records : List Record = take 4 (in_ranges ranges w.member.journal.records) in
+      let first : List (ℕ × Parcel M) = base_to to ranges w.member.journal in
+      let rest : List (ℕ × Parcel M) = records_to to records in
+      let a = base_known w to ranges l in
+      let b = records_known w to records l (answered_known 4 ranges w.member.journal.records) in (
+        tt,
+        still_sound core IsShape Good phases laws w (answers_to to ranges w.member.journal) grown
+            (no_letters w.node first rest a.0 b.0)
+            (λ n p h. elim (in_append (n, p) first rest h) [ inl x ↦ a.1 n p x | inr x ↦ b.1 n p x ])
+            grows,
+      )
 
   pub take_kept : (w : Moment core Good) (from : ℕ) (p : Parcel M) (grown : List (ℕ × ℕ × Parcel M)) → IsIn (from, w.node, p) w.sent → GrowsBy w (take_of core from p w.member).letters grown → Keeps w [] (take_of core from p w.member).state grown
   take_kept w from (Guard letter) grown was grows =
@@ -173,6 +249,16 @@ module _ {H S M : Type 0} (core : Core H S M) (IsShape : H → Type 0) (Good : W
             (phases.deliver_mine from letter w.member.core) (λ n. let e = phases.deliver_phase from letter w.member.core in (λ h. sym e ∙ h, λ h. e ∙ h)) grows,
       )
   take_kept w from (Want ranges) grown was grows =
-      answer_kept w from (take 4 (in_ranges ranges.items w.member.journal)) grown (w.sound.between from w.node (Want ranges) was).0 (answered_known 4 ranges.items w.member.journal) grows
-  take_kept w from (Records records) grown was grows =
-      (tt, gossip_sound core IsShape Good phases laws w records.items [] grown (w.sound.parcels from w.node (Records records) was) refl (λ b p h. absurd h) grows)
+      answer_kept w from ranges.items grown (w.sound.between from w.node (Want ranges) was).0 grows
+  take_kept w from (Base base) grown was grows = (
+    tt,
+    gossip_sound core IsShape Good phases laws w (with_base base w.member.journal) [] grown
+        (taken_of (section_journal w.sections) base w.member.journal (w.sound.journals w.node w.member w.here) (w.sound.parcels from w.node (Base base) was))
+        (taken_ascends base w.member.journal (w.sound.ordered w.node w.member w.here)) refl (λ b p h. absurd h) grows,
+  )
+  take_kept w from (Records records) grown was grows = (
+    tt,
+    gossip_sound core IsShape Good phases laws w (with_list records.items w.member.journal) [] grown
+        (put_of (section_journal w.sections) records.items w.member.journal (w.sound.journals w.node w.member w.here) (w.sound.parcels from w.node (Records records) was))
+        (ascending_beyond w.member.journal.base.upto records.items w.member.journal.records (w.sound.ordered w.node w.member w.here)) refl (λ b p h. absurd h) grows,
+  )

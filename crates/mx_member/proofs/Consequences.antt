@@ -1,20 +1,29 @@
 -- What a sound world says of its members: who is inside, and what their journals show.
-use Rattle.std.proofs.Common.{ℕ, ◌≤◌, ◌≡◌, List, [], ◌∷◌, length}
-use Rattle.mx_nodelaws.specs.World.{World}
+use Rattle.std.proofs.Common.{ℕ, suc, ◌<◌, ◌≤◌, ◌≡◌, List, [], ◌∷◌, Result, Ok, Err, length, nat_le, nat_lt, refl, subst, arith, if◌then◌else◌}
+use Rattle.mx_stamps.proofs.Choices.{le_true}
+use Rattle.mx_stamps.proofs.Lists.{cond_case}
+use Rattle.mx_nodelaws.specs.World.{World, Quiet}
 use Rattle.mx_nodelaws.specs.Core.{Core, IsInside}
 use Rattle.mx_nodelaws.specs.Laws.{KeepsGood}
-use Rattle.mx_nodelaws.specs.declared.phase.Phase.TheVariants.{Inside}
-use Rattle.mx_journal.specs.Agreement.{AreAgreeing}
-use Rattle.mx_journal.specs.Gapless.{IsGapless}
-use Rattle.mx_journal.specs.Records.{top_of}
-use Rattle.mx_registers.specs.Registers.{AreApplied, registers_of}
+use Rattle.mx_nodelaws.specs.declared.phase.Phase.{Phase}
+use Rattle.mx_nodelaws.specs.declared.phase.Phase.TheVariants.{Idle, Waiting, Inside}
+use Rattle.mx_journal.specs.Drafted.{with_read}
+use Rattle.mx_journal.specs.Settled.{DoAgree, IsCovered, top_covered}
+use Rattle.mx_registers.specs.Based.{registers_in}
+use Rattle.mx_registers.specs.Registers.{AreApplied}
 use Rattle.mx_member.specs.declared.parcel.Parcel.{Parcel}
-use Rattle.mx_member.specs.Member.{MemberState}
-use Rattle.mx_member.specs.Sections.{Section, oldest, writes_in}
+use Rattle.mx_member.specs.declared.faults.ReadFault.{ReadFault}
+use Rattle.mx_member.specs.declared.faults.ReadFault.TheVariants as read
+use Rattle.mx_member.specs.Journals.{IsJournalOf}
+use Rattle.mx_member.specs.Member.{MemberState, first_gap, with_draft}
+use Rattle.mx_member.specs.Steps.{read_at, read_of, refusing, shown_inside}
+use Rattle.mx_member.specs.Sections.{Section, oldest, section_journal, writes_in}
 use Rattle.mx_member.specs.World.{IsDraftOf, IsMember, IsSound, core_part}
 use Rattle.mx_member.proofs.CorePart.{get_map}
-use Rattle.mx_member.proofs.SectionLists.{submaps_agree}
-use Rattle.mx_member.proofs.SectionWrites.{gapless_shows}
+use Rattle.mx_member.proofs.EntrySteps.{drafted, journal_rest}
+use Rattle.mx_member.proofs.OfSections.{journals_of_one}
+use Rattle.mx_member.proofs.SectionLists.{base_high, journal_ascends}
+use Rattle.mx_member.proofs.SectionWrites.{covered_shows}
 
 newest_number : {S : Type 0} (m : MemberState S) (n : ℕ) (ss : List Section) → IsDraftOf m n ss → n ≡ length ss
 newest_number m n [] d = absurd d
@@ -32,10 +41,40 @@ module _ {H S M : Type 0} (core : Core H S M) (Good : World S M → Type 0) (ss 
   pub inside_newest : (i n : ℕ) (m : MemberState S) → IsMember members i m → core.phase m.core ≡ Inside n → n ≡ length ss
   inside_newest i n m at h = newest_number m n ss (sound.inside i n m at h)
 
+  -- no base reaches the section that its node is inside
+  pub never_settled : (i n : ℕ) (m : MemberState S) → IsMember members i m → core.phase m.core ≡ Inside n → m.journal.base.upto < n
+  never_settled i n m at h =
+      let d = drafted m n ss (sound.inside i n m at h) in
+      let high = base_high d.0 m.journal (subst (λ l. IsJournalOf l m.journal) (journal_rest m ss d.0 d.1) (sound.journals i m at)) in
+      omega (arith, d.2)
+
+  -- so no read is refused since its section is settled
+  unsettled_at : (i register k : ℕ) (m : MemberState S) (p : Phase) → IsMember members i m → core.phase m.core ≡ p → (read_at core register m p).answer ≡ Err (read.Settled k) → ⊥
+  unsettled_at i register k m Idle at is e = let bad : ⊥ = cc in bad
+  unsettled_at i register k m Waiting at is e = let bad : ⊥ = cc in bad
+  unsettled_at i register k m (Inside n) at is was =
+      let low = never_settled i n m at is in
+      let done : Quiet (MemberState S) (Result ℕ ReadFault) = record { state = with_draft (with_read register (shown_inside register n m) m.draft) m; answer = Ok (shown_inside register n m) } in
+      let free = if nat_le n m.journal.base.upto then refusing m (read.Settled m.journal.base.upto) else done in
+      let room = if nat_le 8 (length m.draft.reads) then refusing m read.Full else free in
+      let gap = if nat_lt (first_gap m.journal) n then refusing m (read.Gap (first_gap m.journal)) else room in
+      cond_case (λ q. q.answer ≡ Err (read.Settled k) → ⊥) (nat_le m.setting.registers register) (refusing m read.NoRegister) gap
+      (λ _ e. let bad : ⊥ = cc in bad)
+      (λ _. cond_case (λ q. q.answer ≡ Err (read.Settled k) → ⊥) (nat_lt (first_gap m.journal) n) (refusing m (read.Gap (first_gap m.journal))) room
+      (λ _ e. let bad : ⊥ = cc in bad)
+      (λ _. cond_case (λ q. q.answer ≡ Err (read.Settled k) → ⊥) (nat_le 8 (length m.draft.reads)) (refusing m read.Full) free
+      (λ _ e. let bad : ⊥ = cc in bad)
+      (λ _. cond_case (λ q. q.answer ≡ Err (read.Settled k) → ⊥) (nat_le n m.journal.base.upto) (refusing m (read.Settled m.journal.base.upto)) done
+      (λ t _. let high = le_true n m.journal.base.upto t in absurd (omega arith))
+      (λ _ e. let bad : ⊥ = cc in bad)))) was
+
+  pub read_unsettled : (i register k : ℕ) (m : MemberState S) → IsMember members i m → (read_of core register m).answer ≡ Err (read.Settled k) → ⊥
+  read_unsettled i register k m at e = unsettled_at i register k m (core.phase m.core) at refl e
+
   -- any two members' journals agree
-  pub journals_agree : (i j : ℕ) (m k : MemberState S) → IsMember members i m → IsMember members j k → AreAgreeing m.journal k.journal
-  journals_agree i j m k a b = submaps_agree ss m.journal k.journal (sound.journals i m a) (sound.journals j k b)
+  pub journals_agree : (i j : ℕ) (m k : MemberState S) → IsMember members i m → IsMember members j k → DoAgree m.journal k.journal
+  journals_agree i j m k a b = journals_of_one (section_journal ss) m.journal k.journal (journal_ascends ss) (sound.journals i m a) (sound.journals j k b)
 
   -- a member's journal without gaps shows the writes of the first k sections, applied in order of entry
-  pub member_shows : (i k count : ℕ) (m : MemberState S) → IsMember members i m → IsGapless k m.journal → top_of m.journal ≤ k → AreApplied (writes_in (oldest k ss)) (registers_of count m.journal)
-  member_shows i k count m at all top = gapless_shows k ss m.journal (sound.ordered i m at) (sound.journals i m at) all top count
+  pub member_shows : (i k count : ℕ) (m : MemberState S) → IsMember members i m → count ≤ 32 → IsCovered k m.journal → top_covered m.journal ≤ k → AreApplied (writes_in (oldest k ss)) (registers_in count m.journal)
+  member_shows i k count m at few all top = covered_shows k count ss m.journal few (sound.ordered i m at) (sound.journals i m at) all top

@@ -5,7 +5,7 @@ use Rattle.mx_stamps.specs.Lists.{IsIn, each_below}
 use Rattle.mx_stamps.proofs.Lists.{append_append, in_append, in_left, in_right, none_is_no_some}
 use Rattle.mx_nodelaws.specs.World.{sent_by}
 use Rattle.mx_member.specs.declared.parcel.Parcel.{Parcel}
-use Rattle.mx_member.specs.declared.parcel.Parcel.TheVariants.{Guard, Want, Records}
+use Rattle.mx_member.specs.declared.parcel.Parcel.TheVariants.{Guard, Want, Base, Records}
 use Rattle.mx_member.specs.Member.{guarded, letter_in}
 use Rattle.mx_member.specs.World.{letters_in}
 
@@ -53,6 +53,7 @@ same_guard : {M : Type 0} (a b c d : ℕ) (letter : M) (p : Parcel M) → IsIn (
 same_guard a b c d letter (Guard other) (inl e) = ap (λ t. (t.0, t.1, Guard t.2)) e
 same_guard a b c d letter (Guard other) (inr h) = absurd h
 same_guard a b c d letter (Want ranges) h = absurd h
+same_guard a b c d letter (Base base) h = absurd h
 same_guard a b c d letter (Records records) h = absurd h
 
 -- a letter in the core part was sent as a parcel, and the other way round

@@ -9,10 +9,10 @@ use Rattle.mx_nodelaws.specs.Laws.{KeepsGood, greatest_mine}
 use Rattle.mx_nodelaws.specs.declared.phase.Phase.TheVariants.{Inside}
 use Rattle.mx_nodelaws.proofs.Worlds.{after_nothing}
 use Rattle.mx_journal.specs.declared.records.Record.{Record}
-use Rattle.mx_journal.specs.Agreement.{IsSubmap}
 use Rattle.mx_member.specs.declared.parcel.Parcel.{Parcel}
 use Rattle.mx_member.specs.declared.parcel.Parcel.TheVariants.{Guard}
-use Rattle.mx_member.specs.Member.{MemberState, guarded, records_in}
+use Rattle.mx_member.specs.Journals.{IsParcelOf}
+use Rattle.mx_member.specs.Member.{MemberState, guarded}
 use Rattle.mx_member.specs.World.{IsMember, core_part, letters_in}
 use Rattle.mx_member.proofs.CorePart.{get_map, guard_in, in_guarded, in_sent, letter_of, letters_in-append, map_set}
 use Rattle.mx_member.proofs.Moments.{GrowsBy, Moment, core_here, moved_in, part_of}
@@ -54,13 +54,13 @@ module _ {H S M : Type 0} (core : Core H S M) (IsShape : H → Type 0) (Good : W
   alone w j n k t inside at other =
       laws.one_inside (part_of w) j w.node t.core w.member.core w.sound.good (get_map (λ (m : MemberState S). m.core) w.members j t at) (core_here w) (k, other) (n, inside)
 
-  -- a letter of the core goes to a node, and carries no record
+  -- a letter of the core goes to a node, and brings nothing to a journal
   pub letters_sent : {A : Type 0} (w : Moment core Good) (done : Done S A M) (known : List Record) → Good (after (part_of w) w.node done) →
-      (b : ℕ) (p : Parcel M) → IsIn (b, p) (guarded done.letters) → (b < length w.members) × IsSubmap (records_in p) known
+      (b : ℕ) (p : Parcel M) → IsIn (b, p) (guarded done.letters) → (b < length w.members) × IsParcelOf known p
   letters_sent w done known good b p h =
       let r = in_guarded done.letters b p h in
       let size : length (slice_set (map (λ (m : MemberState S). m.core) w.members) w.node done.state) ≡ length w.members =
       length_set (map (λ (m : MemberState S). m.core) w.members) w.node done.state ∙ length-map w.members (λ (m : MemberState S). m.core) in (
         subst (λ n. b < n) size (laws.to_nodes (after (part_of w) w.node done) w.node b r.0 good (in_right (w.node, b, r.0) (letters_in w.sent) (sent_by w.node done.letters) (in_sent w.node done.letters b r.0 r.2))),
-        subst (λ (q : Parcel M). IsSubmap (records_in q) known) (sym r.1) (λ x k. absurd k),
+        subst (λ (q : Parcel M). IsParcelOf known q) (sym r.1) tt,
       )

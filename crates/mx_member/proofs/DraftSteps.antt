@@ -1,5 +1,5 @@
 -- Acts inside a section: reads, writes, and a node that wakes up again.
-use Rattle.std.proofs.Common.{ℕ, zero, suc, ◌≤◌, ◌≡◌, ◌≢◌, ◌⊎◌, inl, inr, List, [], ◌∷◌, ◌++◌, length, refl, sym, ◌∙◌, ap, subst}
+use Rattle.std.proofs.Common.{ℕ, zero, suc, ◌<◌, ◌≤◌, ◌≡◌, ◌≢◌, ◌⊎◌, inl, inr, List, [], ◌∷◌, ◌++◌, length, refl, sym, ◌∙◌, ap, subst, arith}
 use Rattle.mx_stamps.specs.Lists.{IsIn}
 use Rattle.mx_stamps.proofs.Lists.{get_set_same, none_is_no_some}
 use Rattle.std.proofs.lemmas.Option.{same_Some}
@@ -9,20 +9,22 @@ use Rattle.mx_nodelaws.specs.Laws.{KeepsGood}
 use Rattle.mx_nodelaws.specs.declared.phase.Phase.TheVariants.{Inside}
 use Rattle.mx_journal.specs.declared.receipts.Read.{Read}
 use Rattle.mx_journal.specs.Drafted.{Drafted, with_read, with_write}
-use Rattle.mx_journal.specs.Gapless.{first_missing}
 use Rattle.mx_registers.specs.Registers.{applied}
 use Rattle.mx_member.specs.declared.parcel.Parcel.{Parcel}
-use Rattle.mx_member.specs.Member.{MemberState, fresh, with_draft}
+use Rattle.mx_member.specs.Journals.{IsJournalOf}
+use Rattle.mx_member.specs.Member.{MemberState, first_gap, fresh, with_draft}
 use Rattle.mx_member.specs.Steps.{shown_inside}
 use Rattle.mx_member.specs.Sections.{Section, Got, Wrote, at_open, redrafted, section_journal, writes_in}
 use Rattle.mx_member.specs.Serial.{Fits, IsInNewest, IsSerialRead, ReadSerially}
 use Rattle.mx_member.specs.World.{IsMember, IsSound, draft_of}
+use Rattle.mx_member.proofs.Consequences.{never_settled}
 use Rattle.mx_member.proofs.CoreSteps.{alone, core_still, counted_same}
 use Rattle.mx_member.proofs.EntrySteps.{drafted, journal_rest}
 use Rattle.mx_member.proofs.Moments.{GrowsBy, Moment, moved_in, step_sound}
 use Rattle.mx_member.proofs.Phases.{inside_inj, inside_or_not}
 use Rattle.mx_member.proofs.UntoldSteps.{untold_sound}
-use Rattle.mx_member.proofs.SectionLists.{at_open_newest, at_open_none, at_open_other, journal_older}
+use Rattle.mx_member.proofs.OfSections.{journal_stays}
+use Rattle.mx_member.proofs.SectionLists.{at_open_newest, at_open_none, at_open_other, journal_ascends, journal_older}
 use Rattle.mx_member.proofs.SectionWrites.{shown_value}
 use Rattle.mx_member.proofs.SerialReads.{serial_read, serial_write}
 
@@ -75,7 +77,8 @@ module _ {H S M : Type 0} (core : Core H S M) (IsShape : H → Type 0) (Good : W
         nobody = λ none. absurd (none w.node moved (get_set_same w.members w.node w.member moved w.here) (n, inside));
         serial = (kept rest d.1 d.2 was.0, was.1);
         setting = refl;
-        journal = λ x h. journal_older (draft_of moved) rest x (subst (λ l. IsIn x l) same (w.sound.journals w.node w.member w.here x h));
+        journal = journal_stays (section_journal rest) (section_journal (draft_of moved ∷ rest)) (journal_ascends rest) (journal_ascends (draft_of moved ∷ rest)) (journal_older (draft_of moved) rest) w.member.journal
+            (subst (λ l. IsJournalOf l w.member.journal) same (w.sound.journals w.node w.member w.here));
         ordered = w.sound.ordered w.node w.member w.here;
         older = λ x h. journal_older (draft_of moved) rest x (subst (λ l. IsIn x l) same h);
         sends = λ b p h. absurd h;
@@ -83,16 +86,16 @@ module _ {H S M : Type 0} (core : Core H S M) (IsShape : H → Type 0) (Good : W
       grows)
 
   -- a read where the journal lacks none of the sections before
-  pub read_sound : (w : Moment core Good) (n register : ℕ) (grown : List (ℕ × ℕ × Parcel M)) → core.phase w.member.core ≡ Inside n → n ≤ first_missing 1 w.member.journal → GrowsBy w [] grown →
+  pub read_sound : (w : Moment core Good) (n register : ℕ) (grown : List (ℕ × ℕ × Parcel M)) → core.phase w.member.core ≡ Inside n → register < w.member.setting.registers → n ≤ first_gap w.member.journal → GrowsBy w [] grown →
       Fits w.sections (Got w.node register (shown_inside register n w.member))
       × IsSound core Good (at_open w.node (redrafted (with_read register (shown_inside register n w.member))) w.sections)
       (moved_in w (with_draft (with_read register (shown_inside register n w.member) w.member.draft) w.member)) grown
-  read_sound w n register grown inside full grows =
+  read_sound w n register grown inside there full grows =
       let value : ℕ = shown_inside register n w.member in
-      let serial = w.sound.journals w.node w.member w.here in
+      let few = w.sound.few w.node w.member w.here in
       let shown : (rest : List Section) → w.sections ≡ draft_of w.member ∷ rest → n ≡ suc (length rest) → value ≡ applied register (writes_in rest ++ w.member.draft.writes) 0 =
-      λ rest e next. shown_value register n rest w.member.journal w.member.draft.writes (w.sound.ordered w.node w.member w.here)
-      (λ x h. subst (λ l. IsIn x l) (journal_rest w.member w.sections rest e) (serial x h)) next full in
+      λ rest e next. shown_value register n rest w.member.journal w.member.draft.writes (omega arith) (w.sound.ordered w.node w.member w.here)
+      (subst (λ l. IsJournalOf l w.member.journal) (journal_rest w.member w.sections rest e) (w.sound.journals w.node w.member w.here)) next (never_settled core Good w.sections w.members w.sent w.sound w.node n w.member w.here inside) full in
       let d = drafted w.member n w.sections (w.sound.inside w.node n w.member w.here inside) in (
         (newest_here w n inside, shown d.0 d.1 d.2 ∙ ap (λ ss. applied register (writes_in ss) 0) (sym d.1)),
         redraft_sound w n (with_read register value) grown inside

@@ -10,7 +10,7 @@ use Rattle.mx_journal.specs.declared.records.Record.{Record}
 use Rattle.mx_journal.specs.declared.receipts.Receipt.{Receipt}
 use Rattle.mx_journal.specs.Agreement.{IsSubmap}
 use Rattle.mx_journal.specs.Drafted.{receipt_of, record_of}
-use Rattle.mx_journal.proofs.Maps.{ascending_with, in_with_record}
+use Rattle.mx_journal.proofs.Settled.{ascending_beyond}
 use Rattle.mx_member.specs.declared.parcel.Parcel.{Parcel}
 use Rattle.mx_member.specs.Member.{MemberState, fresh, guarded, with_core, with_draft}
 use Rattle.mx_member.specs.Steps.{left}
@@ -21,7 +21,8 @@ use Rattle.mx_member.proofs.CorePart.{get_map, letters_guarded, map_set}
 use Rattle.mx_member.proofs.CoreSteps.{alone, core_kept, counted_same, letters_sent}
 use Rattle.mx_member.proofs.Moments.{GrowsBy, Moment, moved_in, step_sound, core_here, part_of}
 use Rattle.mx_member.proofs.Phases.{drawn, idle_apart, inside_inj}
-use Rattle.mx_member.proofs.SectionLists.{at_open_newest, journal_newest, journal_older, journal_open}
+use Rattle.mx_member.proofs.OfSections.{journal_stays, put_of}
+use Rattle.mx_member.proofs.SectionLists.{at_open_newest, journal_ascends, journal_newest, journal_older, journal_open}
 
 -- the sections of a world in which this member is inside
 pub drafted : {S : Type 0} (m : MemberState S) (n : ℕ) (ss : List Section) → IsDraftOf m n ss → (rest : List Section) × (ss ≡ draft_of m ∷ rest) × (n ≡ suc (length rest)) × AllClosed rest
@@ -60,7 +61,7 @@ module _ {H S M : Type 0} (core : Core H S M) (IsShape : H → Type 0) (Good : W
               nobody = λ none. absurd (none w.node moved (get_set_same w.members w.node w.member moved w.here) (n, entered.1));
               serial = (λ x h. absurd h, w.sound.serial);
               setting = refl;
-              journal = λ x h. journal_older (opened w.node) w.sections x (w.sound.journals w.node w.member w.here x h);
+              journal = journal_stays (section_journal w.sections) (section_journal (opened w.node ∷ w.sections)) (journal_ascends w.sections) (journal_ascends (opened w.node ∷ w.sections)) (journal_older (opened w.node) w.sections) w.member.journal (w.sound.journals w.node w.member w.here);
               ordered = w.sound.ordered w.node w.member w.here;
               older = journal_older (opened w.node) w.sections;
               sends = λ b p h. absurd h;
@@ -100,11 +101,10 @@ module _ {H S M : Type 0} (core : Core H S M) (IsShape : H → Type 0) (Good : W
               nobody = λ none. (refl, d.3);
               serial = subst ReadSerially d.1 w.sound.serial;
               setting = refl;
-              journal = λ x h. elim (in_with_record (record_of receipt) w.member.journal x h) [
-                | inl a ↦ older x (w.sound.journals w.node w.member w.here x a)
-                | inr e ↦ subst (λ (y : Record). IsIn y (section_journal (closed ∷ rest))) (sym e) new
-              ];
-              ordered = ascending_with 1 (record_of receipt) w.member.journal (w.sound.ordered w.node w.member w.here) (omega (arith, d.2));
+              journal = put_of (section_journal (closed ∷ rest)) (record_of receipt ∷ []) w.member.journal
+                  (journal_stays (section_journal w.sections) (section_journal (closed ∷ rest)) (journal_ascends w.sections) (journal_ascends (closed ∷ rest)) older w.member.journal (w.sound.journals w.node w.member w.here))
+                  (λ x h. elim h [ inl e ↦ subst (λ (y : Record). IsIn y (section_journal (closed ∷ rest))) (sym e) new | inr bad ↦ absurd bad ]);
+              ordered = ascending_beyond w.member.journal.base.upto (record_of receipt ∷ []) w.member.journal.records (w.sound.ordered w.node w.member w.here);
               older = older;
               sends = letters_sent core IsShape Good phases laws w (core.leave w.member.core) (section_journal (closed ∷ rest)) good;
             })

@@ -4,16 +4,20 @@
 -- hold their own receipts. RunningTells: what they tell. RunningStays: what stays. Joining: the join of
 -- all journals. Owners: where the sections are known. Sharing: nodes shared out among threads.
 -- The others are the way there, lowest first. Phases: phases. CorePart: the core part of worlds.
--- SectionLists: sections and their journal. SectionWrites: what the sections wrote.
+-- OfSections: bases and journals of the sections. SectionLists: sections and their journal. Covering: what
+-- journals go on covering. SectionWrites: what the sections wrote. AnyOrder: registers, whatever the order of records.
 -- SerialReads: reads in a draft that grows. Moments: an act of one member, and what it has to show.
 -- CoreSteps: what the laws of a core say of it. UntoldSteps: acts of which no section tells.
 -- EntrySteps: entering and leaving. DraftSteps: acts inside a section. CallsKept: each call.
 -- ReceiptLists, OwnReceipts, ReceiptActs, ReceiptHistory: receipts of sections, and of one node.
--- Guarded, Choosing, Keeping, Sending, Refusing, Delivering, Leaving: what the calls of a member do,
+-- Guarded, Choosing, Keeping, Settling, Sending, Refusing, Delivering, Leaving: what the calls of a member do,
 -- over plain variables.
 pub mod Phases
 pub mod CorePart
+pub mod OfSections
 pub mod SectionLists
+pub mod Covering
+pub mod AnyOrder
 pub mod SectionWrites
 pub mod SerialReads
 pub mod Moments
@@ -43,8 +47,8 @@ pub mod Sharing
 pub mod Guarded
 pub mod Choosing
 pub mod Keeping
+pub mod Settling
 pub mod Sending
 pub mod Refusing
 pub mod Delivering
 pub mod Leaving
-pub mod AtBaseZero

@@ -1,5 +1,5 @@
 -- A moment of a sound world at which one member acts, and what the world after it has to show.
-use Rattle.std.proofs.Common.{ℕ, ◌<◌, ◌≡◌, ◌≢◌, inl, inr, List, Some, length, map, slice_get, slice_set, sym, ◌∙◌, ap, subst}
+use Rattle.std.proofs.Common.{ℕ, suc, ◌<◌, ◌≤◌, ◌≡◌, ◌≢◌, inl, inr, List, Some, length, map, slice_get, slice_set, sym, ◌∙◌, ap, subst}
 use Rattle.std.proofs.lemmas.Option.{slice_get_within}
 use Rattle.mx_stamps.specs.Lists.{IsIn}
 use Rattle.mx_stamps.proofs.Lists.{get_after, in_append, length_set}
@@ -11,12 +11,15 @@ use Rattle.mx_nodelaws.proofs.Worlds.{in_sent_by}
 use Rattle.mx_journal.specs.Agreement.{IsSubmap}
 use Rattle.mx_journal.specs.Records.{Ascending}
 use Rattle.mx_member.specs.declared.parcel.Parcel.{Parcel}
-use Rattle.mx_member.specs.Member.{MemberState, records_in}
+use Rattle.mx_member.specs.Journals.{IsJournalOf, IsParcelOf}
+use Rattle.mx_member.specs.Member.{MemberState}
 use Rattle.mx_member.specs.Acts.{Grows}
 use Rattle.mx_member.specs.Sections.{Section, section_journal}
 use Rattle.mx_member.specs.Serial.{AllClosed, ReadSerially}
 use Rattle.mx_member.specs.World.{IsDraftOf, IsMember, IsSound, core_part}
 use Rattle.mx_member.proofs.CorePart.{get_map}
+use Rattle.mx_member.proofs.OfSections.{journal_stays, parcel_stays}
+use Rattle.mx_member.proofs.SectionLists.{journal_ascends}
 
 -- a sound world, and the member of it that acts
 pub record Moment {H S M : Type 0} (core : Core H S M) (Good : World S M → Type 0) : Type 0 where
@@ -53,11 +56,11 @@ pub record IsSoundStep {H S M : Type 0} {core : Core H S M} {Good : World S M �
   pub nobody : ((j : ℕ) (t : MemberState S) → IsMember (moved_in w moved) j t → IsInside core t.core → ⊥) → AllClosed after
   pub serial : ReadSerially after
   pub setting : moved.setting ≡ w.member.setting
-  pub journal : IsSubmap moved.journal (section_journal after)
-  pub ordered : Ascending 1 moved.journal
+  pub journal : IsJournalOf (section_journal after) moved.journal
+  pub ordered : Ascending (suc moved.journal.base.upto) moved.journal.records
   -- what was recorded stands
   pub older : IsSubmap (section_journal w.sections) (section_journal after)
-  pub sends : (b : ℕ) (p : Parcel M) → IsIn (b, p) letters → (b < length w.members) × IsSubmap (records_in p) (section_journal after)
+  pub sends : (b : ℕ) (p : Parcel M) → IsIn (b, p) letters → (b < length w.members) × IsParcelOf (section_journal after) p
 
 -- such an act leaves a sound world
 pub step_sound : {H S M : Type 0} {core : Core H S M} {Good : World S M → Type 0} (w : Moment core Good) (after : List Section) (moved : MemberState S) (letters : List (ℕ × Parcel M)) (grown : List (ℕ × ℕ × Parcel M)) →
@@ -79,16 +82,20 @@ step_sound {S} {M} {core} w after moved letters grown step grows = record {
     | inl e ↦ ap (λ (x : MemberState S). x.setting.nodes) e.1 ∙ ap (λ s. s.nodes) step.setting ∙ w.sound.known w.node w.member w.here ∙ sym size
     | inr e ↦ w.sound.known j t e.1 ∙ sym size
   ];
+  few = λ j t at. elim (get_after w.members w.node j w.member moved t w.here at) [
+    | inl e ↦ subst (λ n. n ≤ 32) (sym (ap (λ (x : MemberState S). x.setting.registers) e.1 ∙ ap (λ s. s.registers) step.setting)) (w.sound.few w.node w.member w.here)
+    | inr e ↦ w.sound.few j t e.1
+  ];
   journals = λ j t at. elim (get_after w.members w.node j w.member moved t w.here at) [
-    | inl e ↦ subst (λ (x : MemberState S). IsSubmap x.journal (section_journal after)) (sym e.1) step.journal
-    | inr e ↦ λ x h. step.older x (w.sound.journals j t e.1 x h)
+    | inl e ↦ subst (λ (x : MemberState S). IsJournalOf (section_journal after) x.journal) (sym e.1) step.journal
+    | inr e ↦ journal_stays (section_journal w.sections) (section_journal after) (journal_ascends w.sections) (journal_ascends after) step.older t.journal (w.sound.journals j t e.1)
   ];
   ordered = λ j t at. elim (get_after w.members w.node j w.member moved t w.here at) [
-    | inl e ↦ subst (λ (x : MemberState S). Ascending 1 x.journal) (sym e.1) step.ordered
+    | inl e ↦ subst (λ (x : MemberState S). Ascending (suc x.journal.base.upto) x.journal.records) (sym e.1) step.ordered
     | inr e ↦ w.sound.ordered j t e.1
   ];
   parcels = λ a b p h. elim (in_append (a, b, p) w.sent (sent_by w.node letters) ((grows (a, b, p)).1 h)) [
-    | inl k ↦ λ x m. step.older x (w.sound.parcels a b p k x m)
+    | inl k ↦ parcel_stays (section_journal w.sections) (section_journal after) (journal_ascends w.sections) (journal_ascends after) step.older p (w.sound.parcels a b p k)
     | inr k ↦ (step.sends b p (in_sent_by w.node a b p letters k).1).1
   ];
   between = λ a b p h. elim (in_append (a, b, p) w.sent (sent_by w.node letters) ((grows (a, b, p)).1 h)) [

@@ -55,12 +55,12 @@ module _ {H S M : Type 0} (core : Core H S M) (Good : World S M → Type 0) wher
 
 module _ {H S M : Type 0} (core : Core H S M) (IsShape : H → Type 0) (Good : World S M → Type 0) (phases : KeepsPhases core) (laws : KeepsGood core IsShape Good) where
   -- members at rest, and one act of one member
-  pub owners_at_start : (shape : H) (origin limit registers : ℕ) → IsShape shape → origin < 2 ^ 64 → 0 < limit → limit ≤ 1000000 →
+  pub owners_at_start : (shape : H) (origin limit registers : ℕ) → IsShape shape → origin < 2 ^ 64 → 0 < limit → limit ≤ 1000000 → registers ≤ 32 →
       IsRun core Good [] (owners [] (each_below (λ i. start_of core shape i origin limit registers) (core.count shape))) []
-  owners_at_start shape origin limit registers valid low some high =
+  owners_at_start shape origin limit registers valid low some high few =
       subst (λ ms. IsRun core Good [] (owners [] ms) []) (map_each_below (λ (o : Owned S). o.member) (λ i. owned_start core shape i origin limit registers) (core.count shape))
       (run_of_owners core Good [] (each_below (λ i. owned_start core shape i origin limit registers) (core.count shape)) []
-      (run_at_start core IsShape Good phases laws shape origin limit registers valid low some high))
+      (run_at_start core IsShape Good phases laws shape origin limit registers valid low some high few))
 
   pub owners_kept : (ss : List Section) (members : List (MemberState S)) (sent grown : List (ℕ × ℕ × Parcel M)) (i : ℕ) (a : Act M) (m : MemberState S) →
       IsRun core Good ss (owners ss members) sent → IsMember members i m → Arrives (length members) sent i a → Grows sent i (act_of core a m).letters grown →

@@ -3,7 +3,8 @@ use Rattle.std.proofs.Common.{ℕ, ◌≡◌, [], Result, Ok, Err, length, nat_l
 use Rattle.mx_stamps.proofs.Lists.{cond_case}
 use Rattle.mx_stamps.specs.declared.stamp.Stamp.{Stamp}
 use Rattle.mx_journal.specs.Drafted.{with_read, with_write}
-use Rattle.mx_journal.specs.Gapless.{first_missing}
+use Rattle.mx_journal.specs.declared.settling.SettleFault.{SettleFault}
+use Rattle.mx_journal.specs.Settled.{settled}
 use Rattle.mx_nodelaws.specs.World.{Done, Quiet}
 use Rattle.mx_nodelaws.specs.Core.{Core, KeepsPhases}
 use Rattle.mx_nodelaws.specs.declared.phase.Phase.{Phase}
@@ -18,8 +19,8 @@ use Rattle.mx_member.specs.declared.faults.ReadFault.{ReadFault}
 use Rattle.mx_member.specs.declared.faults.WriteFault.{WriteFault}
 use Rattle.mx_member.specs.declared.parcel.Parcel.{Parcel}
 use Rattle.mx_member.specs.Acts.{IsRefusal, act_of}
-use Rattle.mx_member.specs.Member.{MemberState, guarded, with_core, with_draft}
-use Rattle.mx_member.specs.Steps.{ask_of, cancel_of, enter_of, entered, leave_at, read_at, read_inside, read_of, shown_inside, write_at, write_inside, write_of}
+use Rattle.mx_member.specs.Member.{MemberState, first_gap, guarded, with_core, with_draft, with_journal}
+use Rattle.mx_member.specs.Steps.{ask_of, cancel_of, enter_of, entered, leave_at, read_at, read_inside, read_of, settle_of, shown_inside, write_at, write_inside, write_of}
 
 ok_no_err : {A F : Type 0} (x : A) (f : F) → ◌≡◌ {A = Result A F} (Ok x) (Err f) → ⊥
 ok_no_err x f e = cc
@@ -34,8 +35,15 @@ module _ {S : Type 0} (m : MemberState S) where
       let value : ℕ = shown_inside register n m in
       let done : Quiet (MemberState S) (Result ℕ ReadFault) = record { state = with_draft (with_read register value m.draft) m; answer = Ok value } in
       cond_case IsIdle (nat_le m.setting.registers register) _ _ (λ _ f e. refl)
-      (λ _. cond_case IsIdle (nat_lt (first_missing 1 m.journal) n) _ _ (λ _ f e. refl)
-      (λ _. cond_case IsIdle (nat_le 8 (length m.draft.reads)) _ done (λ _ f e. refl) (λ _ f e. absurd (ok_no_err value f e))))
+      (λ _. cond_case IsIdle (nat_lt (first_gap m.journal) n) _ _ (λ _ f e. refl)
+      (λ _. cond_case IsIdle (nat_le 8 (length m.draft.reads)) _ _ (λ _ f e. refl)
+      (λ _. cond_case IsIdle (nat_le n m.journal.base.upto) _ done (λ _ f e. refl) (λ _ f e. absurd (ok_no_err value f e)))))
+
+  settle_idle : (k : ℕ) → IsIdle (settle_of k m)
+  settle_idle k =
+      let done : Quiet (MemberState S) (Result (Unit {0}) SettleFault) = record { state = with_journal (settled k m.journal) m; answer = Ok tt } in
+      cond_case IsIdle (nat_lt k m.journal.base.upto) _ _ (λ _ f e. refl)
+      (λ _. cond_case IsIdle (nat_le (first_gap m.journal) k) _ done (λ _ f e. refl) (λ _ f e. absurd (ok_no_err tt f e)))
 
   write_idle : (register value : ℕ) → IsIdle (write_inside register value m)
   write_idle register value =
@@ -77,6 +85,10 @@ module _ {H S M : Type 0} (core : Core H S M) (phases : KeepsPhases core) (m : M
   went Waiting refusal = (refl, refl)
   went (Inside n) refusal = absurd refusal
 
+  settles : (k : ℕ) (r : Result (Unit {0}) SettleFault) → (settle_of k m).answer ≡ r → IsRefusal (answer.Settled r) → (settle_of k m).state ≡ m
+  settles k (Ok done) was refusal = absurd refusal
+  settles k (Err f) was refusal = settle_idle m k f was
+
   -- of any act
   pub refused_stays : (a : Act M) → IsRefusal (act_of core a m).answer → Stays (act_of core a m)
   refused_stays act.Ask refusal = asked (core.ask m.core).answer refl refusal
@@ -85,4 +97,5 @@ module _ {H S M : Type 0} (core : Core H S M) (phases : KeepsPhases core) (m : M
   refused_stays (act.Write register value) refusal = (wrote register value (core.phase m.core) (write_of core register value m).answer refl refusal, refl)
   refused_stays act.Leave refusal = went (core.phase m.core) refusal
   refused_stays act.Cancel refusal = cancelled (core.cancel m.core).answer refl refusal
+  refused_stays (act.Settle k) refusal = (settles k (settle_of k m).answer refl refusal, refl)
   refused_stays _ refusal = absurd refusal

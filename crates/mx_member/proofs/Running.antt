@@ -8,7 +8,7 @@ use Rattle.mx_nodelaws.specs.World.{World}
 use Rattle.mx_nodelaws.specs.Core.{Core, KeepsPhases}
 use Rattle.mx_nodelaws.specs.Laws.{KeepsGood}
 use Rattle.mx_journal.specs.declared.receipts.Receipt.{Receipt}
-use Rattle.mx_journal.specs.Drafted.{record_of}
+use Rattle.mx_journal.specs.Settled.{Covers}
 use Rattle.mx_member.specs.declared.acts.Act.{Act}
 use Rattle.mx_member.specs.declared.acts.Answer.{Answer}
 use Rattle.mx_member.specs.declared.parcel.Parcel.{Parcel}
@@ -36,11 +36,11 @@ members_count {S} nodes = length-map nodes (λ (o : Owned S). o.member)
 
 module _ {H S M : Type 0} (core : Core H S M) (IsShape : H → Type 0) (Good : World S M → Type 0) (phases : KeepsPhases core) (laws : KeepsGood core IsShape Good) where
   -- nodes at rest, where nothing was sent
-  pub run_at_start : (shape : H) (origin limit registers : ℕ) → IsShape shape → origin < 2 ^ 64 → 0 < limit → limit ≤ 1000000 →
+  pub run_at_start : (shape : H) (origin limit registers : ℕ) → IsShape shape → origin < 2 ^ 64 → 0 < limit → limit ≤ 1000000 → registers ≤ 32 →
       IsRun core Good [] (each_below (λ i. owned_start core shape i origin limit registers) (core.count shape)) []
-  run_at_start shape origin limit registers valid low some high = record {
+  run_at_start shape origin limit registers valid low some high few = record {
     sound = subst (λ ms. IsSound core Good [] ms []) (sym (map_each_below (λ (o : Owned S). o.member) started (core.count shape)))
-        (at_start core IsShape Good phases laws shape origin limit registers valid low some high);
+        (at_start core IsShape Good phases laws shape origin limit registers valid low some high few);
     own = λ i o at. ap (λ (x : Owned S). x.receipts) (is i o at);
     placed = λ r h. absurd h;
     recorded = λ i o r at h. absurd (subst (λ (x : Owned S). IsIn r x.receipts) (is i o at) h);
@@ -72,8 +72,8 @@ module _ {H S M : Type 0} (core : Core H S M) (IsShape : H → Type 0) (Good : W
         | inr old ↦ run.placed r old
       ]);
       recorded = λ j p r there h. elim (get_after nodes i j o moved p at there) [
-        | inl e ↦ subst (λ (x : Owned S). IsIn (record_of r) x.member.journal) (sym e.1) (elim (in_append r o.receipts (closed_by answer) (subst (λ (x : Owned S). IsIn r x.receipts) e.1 h)) [
-          | inl old ↦ journal_grows core a o.member (record_of r) (run.recorded i o r at old)
+        | inl e ↦ subst (λ (x : Owned S). Covers r.number x.member.journal) (sym e.1) (elim (in_append r o.receipts (closed_by answer) (subst (λ (x : Owned S). IsIn r x.receipts) e.1 h)) [
+          | inl old ↦ journal_grows core a o.member (run.sound.ordered i o.member here) r.number (run.recorded i o r at old)
           | inr new ↦ closed_recorded core Good ss (members_of nodes) sent run.sound i o.member here a r new
         ])
         | inr e ↦ run.recorded j p r e.1 h
@@ -104,9 +104,9 @@ module _ {H S M : Type 0} (core : Core H S M) (IsShape : H → Type 0) (Good : W
       of_here r h = closed_here core a o.member r h ∙ run.sound.named i o.member here
 
   -- the same where nobody sees the sections
-  pub running_at_start : (shape : H) (origin limit registers : ℕ) → IsShape shape → origin < 2 ^ 64 → 0 < limit → limit ≤ 1000000 →
+  pub running_at_start : (shape : H) (origin limit registers : ℕ) → IsShape shape → origin < 2 ^ 64 → 0 < limit → limit ≤ 1000000 → registers ≤ 32 →
       IsRunning core Good (each_below (λ i. owned_start core shape i origin limit registers) (core.count shape)) []
-  running_at_start shape origin limit registers valid low some high = record { sections = []; run = run_at_start shape origin limit registers valid low some high }
+  running_at_start shape origin limit registers valid low some high few = record { sections = []; run = run_at_start shape origin limit registers valid low some high few }
 
   pub running_kept : (nodes : List (Owned S)) (sent grown : List (ℕ × ℕ × Parcel M)) (i : ℕ) (a : Act M) (o : Owned S) →
       IsRunning core Good nodes sent → IsNode nodes i o → Arrives (length nodes) sent i a → Grows sent i (act_of core a o.member).letters grown →

@@ -1,17 +1,18 @@
--- What stays while others act: parcels that were sent, receipts at their places, records in journals.
-use Rattle.std.proofs.Common.{ℕ, ◌≡◌, inl, inr, List, Some, slice_get, slice_set, sym, ◌∙◌, ap, subst}
+-- What stays while others act: parcels that were sent, receipts at their places, what journals cover.
+use Rattle.std.proofs.Common.{ℕ, suc, ◌≡◌, inl, inr, List, Some, slice_get, slice_set, sym, ◌∙◌, ap, subst}
 use Rattle.std.proofs.lemmas.Option.{same_Some}
 use Rattle.mx_stamps.specs.Lists.{IsIn}
 use Rattle.mx_stamps.proofs.Lists.{dec_eq, get_append_left, get_set_other, get_set_same, in_left, in_right}
 use Rattle.mx_nodelaws.specs.World.{sent_by}
 use Rattle.mx_nodelaws.specs.Core.{Core}
 use Rattle.mx_journal.specs.declared.receipts.Receipt.{Receipt}
-use Rattle.mx_journal.specs.Agreement.{IsSubmap}
+use Rattle.mx_journal.specs.Records.{Ascending}
 use Rattle.mx_member.specs.declared.acts.Act.{Act}
 use Rattle.mx_member.specs.Acts.{Grows, act_of}
 use Rattle.mx_member.specs.Receipts.{closed_by}
 use Rattle.mx_member.specs.Running.{IsNode, IsReceiptAt, Owned, owned_after}
 use Rattle.mx_member.proofs.CorePart.{in_sent}
+use Rattle.mx_member.proofs.Covering.{CoversMore}
 use Rattle.mx_member.proofs.ReceiptActs.{journal_grows}
 
 -- what was sent stays sent
@@ -43,6 +44,6 @@ module _ {H S M : Type 0} (core : Core H S M) (nodes : List (Owned S)) (j : ℕ)
   pub acting_moves : IsNode (slice_set nodes j (owned_after core a o)) j (owned_after core a o)
   acting_moves = get_set_same nodes j o (owned_after core a o) at
 
-  -- its journal only grows
-  pub records_stay : IsSubmap o.member.journal (owned_after core a o).member.journal
-  records_stay = journal_grows core a o.member
+  -- its journal goes on covering what it covers
+  pub coverage_stays : Ascending (suc o.member.journal.base.upto) o.member.journal.records → CoversMore o.member.journal (owned_after core a o).member.journal
+  coverage_stays = journal_grows core a o.member

@@ -1,6 +1,6 @@
 -- What a running world tells: who is inside, what can be done, what the receipts of all nodes are, and what the
 -- join of all journals has.
-use Rattle.std.proofs.Common.{ℕ, zero, suc, ◌≤◌, ◌≡◌, ◌↔◌, List, [], ◌∷◌, Some, length, slice_get, refl, sym, ◌∙◌, ap, subst, arith}
+use Rattle.std.proofs.Common.{ℕ, zero, suc, ◌<◌, ◌≤◌, ◌≡◌, ◌↔◌, ◌⊎◌, inl, inr, List, [], ◌∷◌, Some, length, slice_get, refl, sym, ◌∙◌, ap, subst, arith}
 use Rattle.std.proofs.lemmas.Option.{same_Some}
 use Rattle.mx_stamps.specs.Lists.{IsIn}
 use Rattle.mx_stamps.proofs.Lists.{greatest_below, in_get, none_is_no_some}
@@ -11,27 +11,33 @@ use Rattle.mx_nodelaws.specs.declared.phase.Phase.TheVariants.{Inside}
 use Rattle.mx_journal.specs.declared.records.Record.{Record}
 use Rattle.mx_journal.specs.declared.receipts.Read.{Read}
 use Rattle.mx_journal.specs.declared.receipts.Receipt.{Receipt}
-use Rattle.mx_journal.specs.Agreement.{AreAgreeing}
 use Rattle.mx_journal.specs.Drafted.{record_of}
-use Rattle.mx_journal.specs.Gapless.{IsGapless}
-use Rattle.mx_journal.specs.Records.{Ascending, IsThere, record_at, top_of}
-use Rattle.mx_journal.proofs.Maps.{found_at, same_members}
-use Rattle.mx_registers.specs.Registers.{AreApplied, registers_of, writes_to}
+use Rattle.mx_journal.specs.Records.{Ascending, IsThere, record_at}
+use Rattle.mx_journal.specs.Settled.{Covers, DoAgree, JournalState, settled, unsettled}
+use Rattle.mx_journal.proofs.Found.{above_has}
+use Rattle.mx_journal.proofs.Maps.{ascending_same, found_at}
+use Rattle.mx_registers.specs.Based.{registers_in}
+use Rattle.mx_registers.specs.Registers.{AreApplied, writes_to}
 use Rattle.mx_registers.proofs.Applying.{gapless_view}
 use Rattle.mx_member.specs.declared.acts.Act.{Act}
 use Rattle.mx_member.specs.declared.acts.Act.TheVariants as act
 use Rattle.mx_member.specs.declared.parcel.Parcel.{Parcel}
 use Rattle.mx_member.specs.Acts.{Arrives, IsDoable}
+use Rattle.mx_member.specs.Journals.{IsJournalOf}
 use Rattle.mx_member.specs.Member.{MemberState}
 use Rattle.mx_member.specs.Receipts.{receipts_in, records_of}
 use Rattle.mx_member.specs.Running.{IsAccount, IsHistory, IsJoinOfNodes, IsNode, IsReceiptAt, IsRunning, Owned, members_of, receipt_count}
+use Rattle.mx_member.specs.Sections.{section_journal}
 use Rattle.mx_member.specs.Serial.{IsSerialRead}
 use Rattle.mx_member.specs.Steps.{IsTakeable}
 use Rattle.mx_member.specs.World.{IsMember, core_part}
 use Rattle.mx_member.proofs.ActsKept.{doable}
 use Rattle.mx_member.proofs.Consequences.{journals_agree, one_member_inside}
+use Rattle.mx_member.proofs.Covering.{within_covers}
 use Rattle.mx_member.proofs.EntrySteps.{drafted}
-use Rattle.mx_member.proofs.ReceiptHistory.{history_ascends, history_count, history_each, history_has, history_held, history_once, history_within, in_records, reads_ordered}
+use Rattle.mx_member.proofs.Joining.{whole_of_sections}
+use Rattle.mx_member.proofs.OfSections.{covered_there, whole_is, whole_registers}
+use Rattle.mx_member.proofs.ReceiptHistory.{history_ascends, history_count, history_each, history_has, history_held, history_once, history_within, in_records, reads_ordered, records_have}
 use Rattle.mx_member.proofs.ReceiptLists.{receipts_journal, receipts_length}
 use Rattle.mx_member.proofs.Running.{member_at, members_count, run_history}
 use Rattle.mx_member.proofs.SectionLists.{journal_ascends}
@@ -51,7 +57,7 @@ module _ {H S M : Type 0} (core : Core H S M) (IsShape : H → Type 0) (Good : W
 
 module _ {H S M : Type 0} (core : Core H S M) (Good : World S M → Type 0) (nodes : List (Owned S)) (sent : List (ℕ × ℕ × Parcel M)) (running : IsRunning core Good nodes sent) where
   -- any two nodes' journals agree
-  pub nodes_agree : (i j : ℕ) (o p : Owned S) → IsNode nodes i o → IsNode nodes j p → AreAgreeing o.member.journal p.member.journal
+  pub nodes_agree : (i j : ℕ) (o p : Owned S) → IsNode nodes i o → IsNode nodes j p → DoAgree o.member.journal p.member.journal
   nodes_agree i j o p here there =
       journals_agree core Good running.sections (members_of nodes) sent running.run.sound i j o.member p.member (member_at nodes i o here) (member_at nodes j p there)
 
@@ -71,6 +77,19 @@ module _ {H S M : Type 0} (core : Core H S M) (Good : World S M → Type 0) (nod
   its_history : IsHistory nodes all_receipts
   its_history = run_history core Good running.sections nodes sent running.run
 
+  -- their records
+  abbrev sections : List Record
+  sections = records_of all_receipts
+
+  sections_are : section_journal running.sections ≡ sections
+  sections_are = receipts_journal running.sections
+
+  sections_ascend : Ascending 1 sections
+  sections_ascend = subst (λ l. Ascending 1 l) sections_are (journal_ascends running.sections)
+
+  record_known : (i k : ℕ) (r : Receipt) → IsReceiptAt nodes i k r → IsIn (record_of r) sections
+  record_known i k r at = records_have all_receipts r (history_has nodes all_receipts its_history i k r at).0
+
   -- the receipts of all nodes are a history
   pub some_history : (rs : List Receipt) × IsHistory nodes rs
   some_history = (all_receipts, its_history)
@@ -87,10 +106,18 @@ module _ {H S M : Type 0} (core : Core H S M) (Good : World S M → Type 0) (nod
   pub receipt_once : (i k j l : ℕ) (r s : Receipt) → IsReceiptAt nodes i k r → IsReceiptAt nodes j l s → r.number ≡ s.number → (i ≡ j) × (k ≡ l) × (r ≡ s)
   receipt_once = history_once nodes all_receipts its_history
 
-  -- each node has the records of its own receipts
-  pub receipt_recorded : (i k : ℕ) (o : Owned S) (r : Receipt) → IsNode nodes i o → slice_get o.receipts k ≡ Some r → record_at r.number o.member.journal ≡ Some (record_of r)
+  -- each node's journal has the record of each of its own receipts, or has settled it
+  pub receipt_recorded : (i k : ℕ) (o : Owned S) (r : Receipt) → IsNode nodes i o → slice_get o.receipts k ≡ Some r → (r.number ≤ o.member.journal.base.upto) ⊎ (record_at r.number o.member.journal.records ≡ Some (record_of r))
   receipt_recorded i k o r here at =
-      found_at 1 o.member.journal (running.run.sound.ordered i o.member (member_at nodes i o here)) (record_of r) (running.run.recorded i o r here (in_get o.receipts k r at))
+      let m = member_at nodes i o here in
+      elim (running.run.recorded i o r here (in_get o.receipts k r at)) [
+        | inl s ↦ inl s.1
+        | inr t ↦
+            let order = running.run.sound.ordered i o.member m in
+            let known : IsIn (record_of r) sections = record_known i k r (o, here, at) in
+            let same : t.0 ≡ record_of r = ascending_same 1 sections sections_ascend t.0 (record_of r) (subst (λ l. IsIn t.0 l) sections_are ((running.run.sound.journals i o.member m).records t.0 t.1)) known t.2 in
+            inr (found_at (suc o.member.journal.base.upto) o.member.journal.records order (record_of r) (subst (λ z. IsIn z o.member.journal.records) same t.1))
+      ]
 
   -- the node inside is in the section after all those that were left
   pub inside_next : (i n : ℕ) (o : Owned S) → IsNode nodes i o → core.phase o.member.core ≡ Inside n → n ≡ suc (receipt_count nodes)
@@ -108,77 +135,80 @@ module _ {H S M : Type 0} (core : Core H S M) (Good : World S M → Type 0) (nod
       ∙ receipts_length running.sections (running.run.sound.nobody (λ i m at h. let o = owner nodes i m at in none i o.0 o.1 (subst (λ (x : MemberState S). IsInside core x.core) (sym o.2) h)))
       ∙ running.run.sound.counted
 
-  -- the records of all receipts are the join of the nodes' journals
-  pub history_joins : IsJoinOfNodes nodes (records_of all_receipts)
-  history_joins = record {
-    above = λ i o here x h. subst (λ l. IsIn x l) (receipts_journal running.sections) (running.run.sound.journals i o.member (member_at nodes i o here) x h);
-    least = λ other above x h.
-        let r = in_records all_receipts x h in
-        let held = history_held nodes all_receipts its_history r.0 r.1 in
-        let o : Owned S = held.1.0 in
-        subst (λ (y : Record). IsIn y other) (sym r.2)
-        (above r.0.node o held.1.1 (record_of r.0) (running.run.recorded r.0.node o r.0 held.1.1 (in_get o.receipts held.0 r.0 held.1.2)));
-  }
+  -- the records of all receipts: each is one receipt's
+  pub section_of : (x : Record) → IsIn x sections → (i : ℕ) × (k : ℕ) × (r : Receipt) × IsReceiptAt nodes i k r × (x ≡ record_of r)
+  section_of x h =
+      let r = in_records all_receipts x h in
+      let held = history_held nodes all_receipts its_history r.0 r.1 in
+      (r.0.node, held.0, r.0, held.1, r.2)
 
-  module _ (journal : List Record) (join : IsJoinOfNodes nodes journal) where
-    -- the join has the record of each receipt
-    pub join_has : (i k : ℕ) (r : Receipt) → IsReceiptAt nodes i k r → IsIn (record_of r) journal
-    join_has i k r (o, here, at) = join.above i o here (record_of r) (running.run.recorded i o r here (in_get o.receipts k r at))
+  -- their numbers are 1 to how many receipts there are
+  pub section_keys : (n : ℕ) → IsThere n sections ↔ ((1 ≤ n) × (n ≤ receipt_count nodes))
+  section_keys n = (
+    (λ there.
+        let x = section_of there.0 there.1 in
+        let w = receipt_within x.0 x.1 x.2 x.3 in
+        let e : n ≡ x.2.number = sym there.2 ∙ ap (λ (z : Record). z.number) x.4 in
+        (omega (arith, w.1), omega (arith, w.2))),
+    (λ l. let e = receipt_each n l.0 l.1 in (record_of e.2, record_known e.0 e.1 e.2 e.3, e.4)),
+  )
 
-    -- and nothing else
-    pub join_of : (x : Record) → IsIn x journal → (i : ℕ) × (k : ℕ) × (r : Receipt) × IsReceiptAt nodes i k r × (x ≡ record_of r)
-    join_of x h =
-        let r = in_records all_receipts x (join.least (records_of all_receipts) history_joins.above x h) in
-        let held = history_held nodes all_receipts its_history r.0 r.1 in
-        (r.0.node, held.0, r.0, held.1, r.2)
+  -- the record that bears n is that of the receipt that bears n
+  pub section_at : (i k : ℕ) (r : Receipt) → IsReceiptAt nodes i k r → record_at r.number sections ≡ Some (record_of r)
+  section_at i k r at = found_at 1 sections sections_ascend (record_of r) (record_known i k r at)
 
-    -- its numbers are 1 to how many receipts there are
-    pub join_keys : (n : ℕ) → IsThere n journal ↔ ((1 ≤ n) × (n ≤ receipt_count nodes))
-    join_keys n = (
-      (λ there.
-          let x = join_of there.0 there.1 in
-          let w = receipt_within x.0 x.1 x.2 x.3 in
-          let e : n ≡ x.2.number = sym there.2 ∙ ap (λ (z : Record). z.number) x.4 in
-          (omega (arith, w.1), omega (arith, w.2))),
-      (λ l. let e = receipt_each n l.0 l.1 in (record_of e.2, join_has e.0 e.1 e.2 e.3, e.4)),
+  -- each read of each receipt has the value that the writes of those before, in order, and its own first writes leave
+  pub section_reads : (i k n : ℕ) (r : Receipt) (x : Read) → IsReceiptAt nodes i k r → r.number ≡ suc n → IsIn x r.reads.items → IsSerialRead (writes_to n sections) r.writes.items x
+  section_reads i k n r x at e h = reads_ordered all_receipts its_history.ordered r (history_has nodes all_receipts its_history i k r at).0 n e x h
+
+  module _ (journal : JournalState) (join : IsJoinOfNodes nodes journal) where
+    -- the join knows of these sections alone
+    pub join_of : IsJournalOf sections journal
+    join_of = subst (λ l. IsJournalOf l journal) sections_are (whole_of_sections core Good nodes sent running journal join)
+
+    -- and covers the number of each receipt
+    pub join_covers : (n : ℕ) → Covers n journal ↔ ((1 ≤ n) × (n ≤ receipt_count nodes))
+    join_covers n = (
+      (λ h. (section_keys n).0 (covered_there sections journal join_of n h)),
+      (λ l.
+          let e = receipt_each n l.0 l.1 in
+          let o : Owned S = e.3.0 in
+          let here = e.3.1 in
+          subst (λ m. Covers m journal) e.4
+          (within_covers o.member.journal journal (running.run.sound.ordered e.0 o.member (member_at nodes e.0 o here)) (join.above e.0 o here) e.2.number (running.run.recorded e.0 o e.2 here (in_get o.receipts e.1 e.2 e.3.2)))),
     )
 
-    pub join_gapless : IsGapless (receipt_count nodes) journal
-    join_gapless n low high = (join_keys n).1 (low, high)
+    module _ (ascends : Ascending (suc journal.base.upto) journal.records) where
+      -- it is the records of all receipts, settled up to its base
+      pub join_is : journal ≡ settled journal.base.upto (unsettled sections)
+      join_is = whole_is sections journal sections_ascend ascends join_of (λ n there. (join_covers n).1 ((section_keys n).0 there))
 
-    pub join_top : top_of journal ≤ receipt_count nodes
-    join_top = greatest_below (λ (x : Record). x.number) journal (receipt_count nodes) (λ i x at. ((join_keys x.number).0 (x, in_get journal i x at, refl)).1)
-
-    module _ (ascends : Ascending 1 journal) where
-      -- as a list it is the records of all receipts, in order
-      pub join_is : journal ≡ records_of all_receipts
-      join_is =
-          same_members 1 1 journal (records_of all_receipts) ascends (subst (λ l. Ascending 1 l) (receipts_journal running.sections) (journal_ascends running.sections))
-          (join.least (records_of all_receipts) history_joins.above) (history_joins.least journal join.above)
-
-      -- the record that bears n is that of the receipt that bears n
-      pub join_at : (i k : ℕ) (r : Receipt) → IsReceiptAt nodes i k r → record_at r.number journal ≡ Some (record_of r)
-      join_at i k r at = found_at 1 journal ascends (record_of r) (join_has i k r at)
-
-      -- each read of each receipt has the value that the writes of those before, in order, and its own first writes leave
-      pub join_reads : (i k n : ℕ) (r : Receipt) (x : Read) → IsReceiptAt nodes i k r → r.number ≡ suc n → IsIn x r.reads.items → IsSerialRead (writes_to n journal) r.writes.items x
-      join_reads i k n r x at e h =
-          subst (λ l. IsSerialRead (writes_to n l) r.writes.items x) (sym join_is)
-          (reads_ordered all_receipts its_history.ordered r (history_has nodes all_receipts its_history i k r at).0 n e x h)
+      -- its records above the base are those of the receipts
+      pub join_at : (i k : ℕ) (r : Receipt) → IsReceiptAt nodes i k r → journal.base.upto < r.number → record_at r.number journal.records ≡ Some (record_of r)
+      join_at i k r at past =
+          found_at (suc journal.base.upto) journal.records ascends (record_of r)
+          (subst (λ (j : JournalState). IsIn (record_of r) j.records) (sym join_is) (above_has journal.base.upto sections (record_of r) (record_known i k r at) past))
 
       -- its registers are what the writes of all receipts, in order, leave
-      pub join_shows : (count : ℕ) → AreApplied (writes_to (receipt_count nodes) journal) (registers_of count journal)
-      join_shows count = gapless_view count (receipt_count nodes) journal ascends join_gapless join_top
+      pub join_shows : (count : ℕ) → count ≤ 32 → AreApplied (writes_to (receipt_count nodes) sections) (registers_in count journal)
+      join_shows count few =
+          subst (λ cells. AreApplied (writes_to (receipt_count nodes) sections) cells) (sym (whole_registers count sections journal few sections_ascend join_is))
+          (gapless_view count (receipt_count nodes) sections sections_ascend (λ n low high. (section_keys n).1 (low, high))
+          (greatest_below (λ (x : Record). x.number) sections (receipt_count nodes) (λ i x at. ((section_keys x.number).0 (x, in_get sections i x at, refl)).1)))
 
       -- altogether
-      pub join_account : IsAccount nodes journal
+      pub join_account : IsAccount nodes sections journal
       join_account = record {
         within = receipt_within;
         each = receipt_each;
         once = receipt_once;
         ascends = history_ascends nodes all_receipts its_history;
-        keys = join_keys;
-        records = join_at;
-        reads = join_reads;
+        ordered = sections_ascend;
+        keys = section_keys;
+        records = section_at;
+        whole = join_is;
+        covers = join_covers;
+        kept = join_at;
+        reads = section_reads;
         shows = join_shows;
       }

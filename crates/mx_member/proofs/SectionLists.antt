@@ -1,15 +1,19 @@
 -- Sections: which of them a mark changes, and what their journal holds.
 use Rattle.std.proofs.Common.{ℕ, suc, ◌<◌, ◌≤◌, ◌≡◌, ◌≢◌, inl, inr, Bool, true, false, not, ◌&&◌, List, [], ◌∷◌, ◌++◌, length, nat_lt, nat_eq, refl, sym, ◌∙◌, ap, subst, arith}
 use Rattle.mx_stamps.specs.Lists.{IsIn}
+use Rattle.mx_stamps.proofs.Choices.{dec_le}
 use Rattle.mx_stamps.proofs.Lists.{append_nil, cond_case, in_append, in_left, in_right}
 use Rattle.mx_journal.specs.declared.records.Record.{Record}
 use Rattle.mx_journal.specs.Agreement.{AreAgreeing, IsSubmap}
 use Rattle.mx_journal.specs.Drafted.{record_of}
 use Rattle.mx_journal.specs.Records.{Ascending, IsNumbered}
+use Rattle.mx_journal.specs.Settled.{Covers, JournalState}
 use Rattle.mx_journal.proofs.Choices.{cond_true, cond_false, eq_is, eq_not, lt_is}
 use Rattle.mx_journal.proofs.Maps.{ascending_above, ascending_same}
 use Rattle.mx_member.specs.Sections.{Section, at_open, closed_record, oldest, section_journal, section_receipt}
+use Rattle.mx_member.specs.Journals.{IsJournalOf}
 use Rattle.mx_member.specs.Serial.{AllClosed}
+use Rattle.mx_member.proofs.OfSections.{covered_there}
 
 -- the newest section, where it is open, is its node's
 pub at_open_newest : (i : ℕ) (f : Section → Section) (s : Section) (ss : List Section) → s.node ≡ i → s.closed ≡ false → at_open i f (s ∷ ss) ≡ f s ∷ ss
@@ -101,6 +105,19 @@ submaps_agree ss xs ys a b x y h k e = ascending_same 1 (section_journal ss) (jo
 -- and bear numbers from 1 on
 pub submap_numbered : (ss : List Section) (xs : List Record) → IsSubmap xs (section_journal ss) → IsNumbered xs
 submap_numbered ss xs a x h = ascending_above 1 (section_journal ss) (journal_ascends ss) x (a x h)
+
+-- what journals of the sections cover are numbers of sections, and a base stands for no others
+pub covered_high : (ss : List Section) (journal : JournalState) → IsJournalOf (section_journal ss) journal → (n : ℕ) → Covers n journal → n ≤ length ss
+covered_high ss journal of n h =
+    let t = covered_there (section_journal ss) journal of n h in
+    let l = journal_high ss t.0 t.1 in
+    let e = t.2 in omega arith
+
+pub base_high : (ss : List Section) (journal : JournalState) → IsJournalOf (section_journal ss) journal → journal.base.upto ≤ length ss
+base_high ss journal of = elim (dec_le 1 journal.base.upto) [
+  | inl l ↦ covered_high ss journal of journal.base.upto (inl (l, (omega arith)))
+  | inr l ↦ omega arith
+]
 
 -- the first k sections of no more than k are all
 pub oldest_all : (k : ℕ) (ss : List Section) → length ss ≤ k → oldest k ss ≡ ss

@@ -1,9 +1,13 @@
 -- What the calls that send gossip send.
-use Rattle.std.proofs.Common.{ℕ, ◌<◌, ◌≡◌, List, [], ◌∷◌, length, refl, arith}
+use Rattle.std.proofs.Common.{ℕ, ◌<◌, ◌≤◌, ◌≡◌, List, [], ◌∷◌, length, refl, arith}
 use Rattle.mx_journal.specs.declared.ranges.Range.{Range}
 use Rattle.mx_journal.specs.declared.records.Record.{Record}
-use Rattle.mx_member.specs.declared.parcel.Parcel.TheVariants.{Want, Records}
-use Rattle.mx_member.specs.Steps.{records_to, want_to}
+use Rattle.std.specs.List.{list_any}
+use Rattle.mx_stamps.proofs.Choices.{cond_case}
+use Rattle.mx_journal.specs.Settled.{JournalState}
+use Rattle.mx_member.specs.declared.parcel.Parcel.{Parcel}
+use Rattle.mx_member.specs.declared.parcel.Parcel.TheVariants.{Want, Base, Records}
+use Rattle.mx_member.specs.Steps.{base_to, reaches, records_to, want_to}
 
 -- what is sent where there is something to say, and where there is nothing
 pub wants : {M : Type 0} (i : ℕ) (rs : List Range) → 0 < length rs → want_to {M = M} i rs ≡ (i, Want (record { items = rs })) ∷ []
@@ -21,3 +25,8 @@ sends_records i (r ∷ rs) l = refl
 pub sends_nothing : {M : Type 0} (i : ℕ) (rs : List Record) → length rs ≡ 0 → records_to {M = M} i rs ≡ []
 sends_nothing i [] l = refl
 sends_nothing i (r ∷ rs) l = absurd (omega arith)
+
+-- a base is one parcel at most
+pub base_short : (M : Type 0) (i : ℕ) (ranges : List Range) (journal : JournalState) → length (base_to {M = M} i ranges journal) ≤ 1
+base_short M i ranges journal =
+    cond_case (λ (ls : List (ℕ × Parcel M)). length ls ≤ 1) (list_any (reaches journal.base.upto) ranges) ((i, Base journal.base) ∷ []) [] (λ _. omega arith) (λ _. omega arith)

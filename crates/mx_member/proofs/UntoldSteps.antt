@@ -1,5 +1,5 @@
--- Acts of which no section tells: the core takes a step, records are sent or join the journal.
-use Rattle.std.proofs.Common.{ℕ, ◌<◌, ◌≡◌, ◌↔◌, inl, inr, List, [], ◌∷◌, length, refl, sym, ◌∙◌, subst}
+-- Acts of which no section tells: the core takes a step, or the journal changes and parcels of it are sent.
+use Rattle.std.proofs.Common.{ℕ, suc, ◌<◌, ◌≡◌, ◌↔◌, inl, inr, List, [], ◌∷◌, length, refl, sym, ◌∙◌, subst}
 use Rattle.std.proofs.lemmas.Option.{same_Some}
 use Rattle.mx_stamps.specs.Lists.{IsIn}
 use Rattle.mx_stamps.proofs.Lists.{dec_eq, get_set_other, get_set_same}
@@ -7,18 +7,16 @@ use Rattle.mx_nodelaws.specs.World.{World, Done, after, sent_by}
 use Rattle.mx_nodelaws.specs.Core.{Core, KeepsPhases}
 use Rattle.mx_nodelaws.specs.Laws.{KeepsGood}
 use Rattle.mx_nodelaws.specs.declared.phase.Phase.TheVariants.{Inside}
-use Rattle.mx_journal.specs.declared.records.Record.{Record}
-use Rattle.mx_journal.specs.Agreement.{IsSubmap}
-use Rattle.mx_journal.specs.Records.{Ascending, with_records}
-use Rattle.mx_journal.proofs.Maps.{ascending_with_all, in_with_records}
+use Rattle.mx_journal.specs.Records.{Ascending}
+use Rattle.mx_journal.specs.Settled.{JournalState}
 use Rattle.mx_member.specs.declared.parcel.Parcel.{Parcel}
-use Rattle.mx_member.specs.Member.{MemberState, guarded, records_in, with_core, with_journal}
+use Rattle.mx_member.specs.Journals.{IsJournalOf, IsParcelOf}
+use Rattle.mx_member.specs.Member.{MemberState, guarded, with_core, with_journal}
 use Rattle.mx_member.specs.Sections.{Section, section_journal}
 use Rattle.mx_member.specs.World.{IsDraftOf, IsMember, IsSound, core_part, draft_of, letters_in}
 use Rattle.mx_member.proofs.CorePart.{letters_guarded}
 use Rattle.mx_member.proofs.CoreSteps.{core_kept, core_still, counted_same, letters_sent}
 use Rattle.mx_member.proofs.Moments.{GrowsBy, Moment, moved_in, step_sound, part_of}
-use Rattle.mx_member.proofs.SectionLists.{submap_numbered}
 
 -- only the draft decides what section it is of
 pub same_draft : {S : Type 0} (m k : MemberState S) (n : ℕ) (ss : List Section) → draft_of m ≡ draft_of k → IsDraftOf m n ss → IsDraftOf k n ss
@@ -32,9 +30,9 @@ pub record IsUntold {H S M : Type 0} {core : Core H S M} {Good : World S M → T
   pub phase : (n : ℕ) → (core.phase moved.core ≡ Inside n) ↔ (core.phase w.member.core ≡ Inside n)
   pub draft : (n : ℕ) → core.phase w.member.core ≡ Inside n → draft_of w.member ≡ draft_of moved
   pub setting : moved.setting ≡ w.member.setting
-  pub journal : IsSubmap moved.journal (section_journal w.sections)
-  pub ordered : Ascending 1 moved.journal
-  pub sends : (b : ℕ) (p : Parcel M) → IsIn (b, p) letters → (b < length w.members) × IsSubmap (records_in p) (section_journal w.sections)
+  pub journal : IsJournalOf (section_journal w.sections) moved.journal
+  pub ordered : Ascending (suc moved.journal.base.upto) moved.journal.records
+  pub sends : (b : ℕ) (p : Parcel M) → IsIn (b, p) letters → (b < length w.members) × IsParcelOf (section_journal w.sections) p
 
 module _ {H S M : Type 0} (core : Core H S M) (IsShape : H → Type 0) (Good : World S M → Type 0) (phases : KeepsPhases core) (laws : KeepsGood core IsShape Good) where
   -- it leaves a sound world of the same sections
@@ -75,29 +73,30 @@ module _ {H S M : Type 0} (core : Core H S M) (IsShape : H → Type 0) (Good : W
     sends = letters_sent core IsShape Good phases laws w done (section_journal w.sections) good;
   }) grows
 
-  -- the core stays; records of the sections join the journal, and records of them are sent
-  pub gossip_sound : (w : Moment core Good) (records : List Record) (letters : List (ℕ × Parcel M)) (grown : List (ℕ × ℕ × Parcel M)) →
-      IsSubmap records (section_journal w.sections) → letters_in (sent_by w.node letters) ≡ [] →
-      ((b : ℕ) (p : Parcel M) → IsIn (b, p) letters → (b < length w.members) × IsSubmap (records_in p) (section_journal w.sections)) → GrowsBy w letters grown →
-      IsSound core Good w.sections (moved_in w (with_journal (with_records records w.member.journal) w.member)) grown
-  gossip_sound w records letters grown known none sends grows =
-      let moved : MemberState S = with_journal (with_records records w.member.journal) w.member in
+  -- the core stays; the journal becomes another one of the sections, and parcels of them are sent
+  pub gossip_sound : (w : Moment core Good) (journal : JournalState) (letters : List (ℕ × Parcel M)) (grown : List (ℕ × ℕ × Parcel M)) →
+      IsJournalOf (section_journal w.sections) journal → Ascending (suc journal.base.upto) journal.records → letters_in (sent_by w.node letters) ≡ [] →
+      ((b : ℕ) (p : Parcel M) → IsIn (b, p) letters → (b < length w.members) × IsParcelOf (section_journal w.sections) p) → GrowsBy w letters grown →
+      IsSound core Good w.sections (moved_in w (with_journal journal w.member)) grown
+  gossip_sound w journal letters grown known order none sends grows =
+      let moved : MemberState S = with_journal journal w.member in
       untold_sound w moved letters grown (record {
         good = core_still core IsShape Good phases laws w moved letters grown refl none grows;
         mine = refl;
         phase = λ n. (λ h. h, λ h. h);
         draft = λ n h. refl;
         setting = refl;
-        journal = λ x h. elim (in_with_records records w.member.journal x h) [ inl a ↦ w.sound.journals w.node w.member w.here x a | inr b ↦ known x b ];
-        ordered = ascending_with_all records w.member.journal (w.sound.ordered w.node w.member w.here) (submap_numbered w.sections records known);
+        journal = known;
+        ordered = order;
         sends = sends;
       }) grows
 
-  -- nothing changes, and records of the own journal may be sent
+  -- nothing changes, and parcels of the sections may be sent
   pub still_sound : (w : Moment core Good) (letters : List (ℕ × Parcel M)) (grown : List (ℕ × ℕ × Parcel M)) → letters_in (sent_by w.node letters) ≡ [] →
-      ((b : ℕ) (p : Parcel M) → IsIn (b, p) letters → (b < length w.members) × IsSubmap (records_in p) (section_journal w.sections)) → GrowsBy w letters grown →
+      ((b : ℕ) (p : Parcel M) → IsIn (b, p) letters → (b < length w.members) × IsParcelOf (section_journal w.sections) p) → GrowsBy w letters grown →
       IsSound core Good w.sections (moved_in w w.member) grown
-  still_sound w letters grown none sends grows = gossip_sound w [] letters grown (λ x h. absurd h) none sends grows
+  still_sound w letters grown none sends grows =
+      gossip_sound w w.member.journal letters grown (w.sound.journals w.node w.member w.here) (w.sound.ordered w.node w.member w.here) none sends grows
 
   -- a refusal
   pub refused_sound : (w : Moment core Good) (grown : List (ℕ × ℕ × Parcel M)) → GrowsBy w [] grown → IsSound core Good w.sections (moved_in w w.member) grown

@@ -9,7 +9,7 @@ use Rattle.mx_member.specs.declared.acts.Answer.{Answer}
 use Rattle.mx_member.specs.declared.acts.Answer.TheVariants as answer
 use Rattle.mx_member.specs.declared.parcel.Parcel.{Parcel}
 use Rattle.mx_member.specs.Member.{BringsRecords, MemberState}
-use Rattle.mx_member.specs.Steps.{IsTakeable, LacksItsRecord, ask_of, enter_of, read_of, write_of, leave_of, cancel_of, tick_of, want_of, take_of, restart_of}
+use Rattle.mx_member.specs.Steps.{IsTakeable, LacksItsRecord, ask_of, enter_of, read_of, write_of, leave_of, cancel_of, settle_of, tick_of, want_of, take_of, restart_of}
 
 -- what an act makes of a member
 abbrev pub act_of : {H S M : Type 0} → Core H S M → Act M → MemberState S → Done (MemberState S) Answer (Parcel M)
@@ -19,6 +19,7 @@ act_of core (act.Read register) m = answering (quietly (read_of core register m)
 act_of core (act.Write register value) m = answering (quietly (write_of core register value m)) (answer.Written (write_of core register value m).answer)
 act_of core act.Leave m = answering (leave_of core m) (answer.Left (leave_of core m).answer)
 act_of core act.Cancel m = answering (cancel_of core m) (answer.Cancelled (cancel_of core m).answer)
+act_of core (act.Settle k) m = answering (quietly (settle_of k m)) (answer.Settled (settle_of k m).answer)
 act_of core act.Tick m = answering (tick_of core m) answer.Ticked
 act_of core (act.Want to) m = answering (want_of core to m) answer.Wanted
 act_of core (act.Deliver from parcel) m = answering (take_of core from parcel m) answer.Delivered
@@ -32,6 +33,7 @@ IsDoable (act.Read register) m = Unit {0}
 IsDoable (act.Write register value) m = Unit {0}
 IsDoable act.Leave m = Unit {0}
 IsDoable act.Cancel m = Unit {0}
+IsDoable (act.Settle k) m = Unit {0}
 IsDoable act.Tick m = Unit {0}
 IsDoable (act.Want to) m = Unit {0}
 IsDoable (act.Deliver from parcel) m = IsTakeable from parcel m
@@ -45,6 +47,7 @@ NeedsMemory core (act.Read register) m = ⊥
 NeedsMemory core (act.Write register value) m = ⊥
 NeedsMemory core act.Leave m = LacksItsRecord core m
 NeedsMemory core act.Cancel m = ⊥
+NeedsMemory core (act.Settle k) m = ⊥
 NeedsMemory core act.Tick m = ⊥
 NeedsMemory core (act.Want to) m = ⊥
 NeedsMemory core (act.Deliver from parcel) m = BringsRecords parcel
@@ -58,6 +61,7 @@ IsRefusal (answer.Read (Err fault)) = Unit {0}
 IsRefusal (answer.Written (Err fault)) = Unit {0}
 IsRefusal (answer.Left (Err fault)) = Unit {0}
 IsRefusal (answer.Cancelled (Err fault)) = Unit {0}
+IsRefusal (answer.Settled (Err fault)) = Unit {0}
 IsRefusal _ = ⊥
 
 -- node i of so many may do this: a parcel that it takes was sent to it, a want goes to a node
@@ -68,6 +72,7 @@ Arrives nodes sent i (act.Read register) = Unit {0}
 Arrives nodes sent i (act.Write register value) = Unit {0}
 Arrives nodes sent i act.Leave = Unit {0}
 Arrives nodes sent i act.Cancel = Unit {0}
+Arrives nodes sent i (act.Settle k) = Unit {0}
 Arrives nodes sent i act.Tick = Unit {0}
 Arrives nodes sent i (act.Want to) = to < nodes
 Arrives nodes sent i (act.Deliver from parcel) = IsIn (from, i, parcel) sent

@@ -1,4 +1,6 @@
 -- What a journal's refusal is at a member.
+use Rattle.mx_journal.specs.declared.settling.BaseFault.{BaseFault}
+use Rattle.mx_journal.specs.declared.settling.BaseFault.TheVariants as base
 use Rattle.mx_journal.specs.declared.puts.PutFault.{PutFault}
 use Rattle.mx_journal.specs.declared.puts.PutFault.TheVariants as put
 use Rattle.mx_member.specs.declared.faults.DeliverFault.{DeliverFault}
@@ -9,3 +11,7 @@ abbrev pub fault_of : PutFault → DeliverFault
 fault_of put.ZeroNumber = deliver.Conflict 0
 fault_of (put.Conflict n) = deliver.Conflict n
 fault_of put.Memory = deliver.Memory
+
+-- a base that differs from the journal's own is a conflict at its number
+abbrev pub base_fault_of : BaseFault → DeliverFault
+base_fault_of (base.Conflict n) = deliver.Conflict n

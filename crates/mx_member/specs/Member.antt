@@ -1,11 +1,12 @@
 -- The state of a member, and the parcels that it sends.
-use Rattle.std.specs.Prelude.{ℕ, ◌≡◌, List, [], ◌∷◌}
-use Rattle.mx_journal.specs.declared.records.Record.{Record}
+use Rattle.std.specs.Prelude.{ℕ, suc, ◌≡◌, List, [], ◌∷◌}
 use Rattle.mx_journal.specs.Drafted.{Drafted}
+use Rattle.mx_journal.specs.Gapless.{first_missing}
+use Rattle.mx_journal.specs.Settled.{JournalState}
 use Rattle.mx_registers.specs.declared.cells.Cell.{Cell}
-use Rattle.mx_registers.specs.Registers.{registers_of}
+use Rattle.mx_registers.specs.Based.{registers_in}
 use Rattle.mx_member.specs.declared.parcel.Parcel.{Parcel}
-use Rattle.mx_member.specs.declared.parcel.Parcel.TheVariants.{Guard, Want, Records}
+use Rattle.mx_member.specs.declared.parcel.Parcel.TheVariants.{Guard, Want, Base, Records}
 
 -- what never changes in a member: its number, the number of nodes, the greatest section number, and the
 -- number of registers
@@ -15,16 +16,20 @@ pub record Setting : Type 0 where
   pub limit : ℕ
   pub registers : ℕ
 
--- a member: its core, the records that it knows, and the draft of the section that it is inside
+-- a member: its core, the journal of the sections that it knows, and the draft of the section that it is inside
 pub record MemberState (S : Type 0) : Type 0 where
   pub setting : Setting
   pub core : S
-  pub journal : List Record
+  pub journal : JournalState
   pub draft : Drafted
 
 -- the cells are the registers of the journal
-unfoldable pub IsViewOf : ℕ → List Record → List Cell → Type 0
-IsViewOf count journal cells = cells ≡ registers_of count journal
+unfoldable pub IsViewOf : ℕ → JournalState → List Cell → Type 0
+IsViewOf count journal cells = cells ≡ registers_in count journal
+
+-- the least number that the journal does not cover, where its numbers ascend from above its base on
+abbrev pub first_gap : JournalState → ℕ
+first_gap journal = first_missing (suc journal.base.upto) journal.records
 
 -- a draft in which nothing was read or written yet
 abbrev pub fresh : Drafted
@@ -36,7 +41,7 @@ with_core s m = record { setting = m.setting; core = s; journal = m.journal; dra
 abbrev pub with_draft : {S : Type 0} → Drafted → MemberState S → MemberState S
 with_draft draft m = record { setting = m.setting; core = m.core; journal = m.journal; draft = draft }
 
-abbrev pub with_journal : {S : Type 0} → List Record → MemberState S → MemberState S
+abbrev pub with_journal : {S : Type 0} → JournalState → MemberState S → MemberState S
 with_journal journal m = record { setting = m.setting; core = m.core; journal = journal; draft = m.draft }
 
 -- letters of the core, as parcels
@@ -48,16 +53,12 @@ guarded (p ∷ ps) = (p.0, Guard p.1) ∷ guarded ps
 abbrev pub letter_in : {M : Type 0} → ℕ → ℕ → Parcel M → List (ℕ × ℕ × M)
 letter_in a b (Guard letter) = (a, b, letter) ∷ []
 letter_in a b (Want ranges) = []
+letter_in a b (Base base) = []
 letter_in a b (Records records) = []
-
--- the records in a parcel
-abbrev pub records_in : {M : Type 0} → Parcel M → List Record
-records_in (Guard letter) = []
-records_in (Want ranges) = []
-records_in (Records records) = records.items
 
 -- the parcel is one of records
 abbrev pub BringsRecords : {M : Type 0} → Parcel M → Type 0
 BringsRecords (Guard letter) = ⊥
 BringsRecords (Want ranges) = ⊥
+BringsRecords (Base base) = ⊥
 BringsRecords (Records records) = Unit {0}

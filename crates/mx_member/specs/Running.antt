@@ -1,13 +1,15 @@
 -- Nodes that each hold their own receipts, and what a running world of them keeps.
-use Rattle.std.specs.Prelude.{ℕ, suc, ◌≡◌, ◌<◌, ◌≤◌, ◌↔◌, ◌+◌, ◌++◌, List, [], ◌∷◌, Some, length, map, slice_get}
+use Rattle.std.specs.Prelude.{ℕ, suc, ◌≡◌, ◌<◌, ◌≤◌, ◌↔◌, ◌+◌, ◌++◌, ◌⊎◌, List, [], ◌∷◌, Some, length, map, slice_get}
 use Rattle.mx_stamps.specs.Lists.{IsIn}
 use Rattle.mx_journal.specs.declared.records.Record.{Record}
 use Rattle.mx_journal.specs.declared.receipts.Read.{Read}
 use Rattle.mx_journal.specs.declared.receipts.Receipt.{Receipt}
-use Rattle.mx_journal.specs.Agreement.{IsSubmap}
 use Rattle.mx_journal.specs.Drafted.{record_of}
-use Rattle.mx_journal.specs.Records.{IsThere, record_at}
-use Rattle.mx_registers.specs.Registers.{AreApplied, registers_of, writes_to}
+use Rattle.mx_journal.specs.Bases.{origin}
+use Rattle.mx_journal.specs.Records.{Ascending, IsThere, record_at}
+use Rattle.mx_journal.specs.Settled.{Covers, IsWithin, JournalState, settled, unsettled}
+use Rattle.mx_registers.specs.Based.{registers_in}
+use Rattle.mx_registers.specs.Registers.{AreApplied, writes_to}
 use Rattle.mx_nodelaws.specs.World.{World}
 use Rattle.mx_nodelaws.specs.Core.{Core}
 use Rattle.mx_member.specs.declared.acts.Act.{Act}
@@ -56,8 +58,8 @@ pub record IsRun {H S M : Type 0} (core : Core H S M) (Good : World S M → Type
   pub own : (i : ℕ) (o : Owned S) → IsNode nodes i o → o.receipts ≡ own_in i (receipts_in ss)
   -- each section that was left was a node's
   pub placed : (r : Receipt) → IsIn r (receipts_in ss) → r.node < length nodes
-  -- each node has the records of its own receipts
-  pub recorded : (i : ℕ) (o : Owned S) (r : Receipt) → IsNode nodes i o → IsIn r o.receipts → IsIn (record_of r) o.member.journal
+  -- each node's journal covers its own receipts
+  pub recorded : (i : ℕ) (o : Owned S) (r : Receipt) → IsNode nodes i o → IsIn r o.receipts → Covers r.number o.member.journal
 
 -- the same where nobody sees the sections
 pub record IsRunning {H S M : Type 0} (core : Core H S M) (Good : World S M → Type 0) (nodes : List (Owned S)) (sent : List (ℕ × ℕ × Parcel M)) : Type 0 where
@@ -84,16 +86,17 @@ abbrev pub IsReceiptAt : {S : Type 0} → List (Owned S) → ℕ → ℕ → Rec
 IsReceiptAt {S} nodes i k r = (o : Owned S) × IsNode nodes i o × (slice_get o.receipts k ≡ Some r)
 
 -- the journal is above those of all nodes
-abbrev pub IsAboveNodes : {S : Type 0} → List (Owned S) → List Record → Type 0
-IsAboveNodes {S} nodes journal = (i : ℕ) (o : Owned S) → IsNode nodes i o → IsSubmap o.member.journal journal
+abbrev pub IsAboveNodes : {S : Type 0} → List (Owned S) → JournalState → Type 0
+IsAboveNodes {S} nodes journal = (i : ℕ) (o : Owned S) → IsNode nodes i o → IsWithin o.member.journal journal
 
--- and is the least such: the join of all journals
-pub record IsJoinOfNodes {S : Type 0} (nodes : List (Owned S)) (journal : List Record) : Type 0 where
+-- and is the join of all: its base is one of theirs, or none where no node settled anything; its records are theirs
+pub record IsJoinOfNodes {S : Type 0} (nodes : List (Owned S)) (journal : JournalState) : Type 0 where
   pub above : IsAboveNodes nodes journal
-  pub least : (other : List Record) → IsAboveNodes nodes other → IsSubmap journal other
+  pub base : (journal.base ≡ origin) ⊎ ((i : ℕ) × (o : Owned S) × IsNode nodes i o × (journal.base ≡ o.member.journal.base))
+  pub records : (x : Record) → IsIn x journal.records → (i : ℕ) × (o : Owned S) × IsNode nodes i o × IsIn x o.member.journal.records
 
--- the receipts of all nodes, and a journal, tell of sections that stand one behind another
-pub record IsAccount {S : Type 0} (nodes : List (Owned S)) (journal : List Record) : Type 0 where
+-- the receipts of all nodes, and a journal, tell of sections that stand one behind another. These are the receipts' records
+pub record IsAccount {S : Type 0} (nodes : List (Owned S)) (sections : List Record) (journal : JournalState) : Type 0 where
   -- each receipt is its node's, and bears one of the numbers from 1 to how many there are
   pub within : (i k : ℕ) (r : Receipt) → IsReceiptAt nodes i k r → (r.node ≡ i) × (1 ≤ r.number) × (r.number ≤ receipt_count nodes)
   -- each of these numbers is borne, at one place alone
@@ -101,10 +104,15 @@ pub record IsAccount {S : Type 0} (nodes : List (Owned S)) (journal : List Recor
   pub once : (i k j l : ℕ) (r s : Receipt) → IsReceiptAt nodes i k r → IsReceiptAt nodes j l s → r.number ≡ s.number → (i ≡ j) × (k ≡ l) × (r ≡ s)
   -- a node's later receipts bear greater numbers
   pub ascends : (i k l : ℕ) (r s : Receipt) → IsReceiptAt nodes i k r → IsReceiptAt nodes i l s → k < l → r.number < s.number
-  -- the journal has these numbers, and at each of them the record of the receipt that bears it
-  pub keys : (n : ℕ) → IsThere n journal ↔ ((1 ≤ n) × (n ≤ receipt_count nodes))
-  pub records : (i k : ℕ) (r : Receipt) → IsReceiptAt nodes i k r → record_at r.number journal ≡ Some (record_of r)
+  -- the sections have these numbers, in order, and at each of them the record of the receipt that bears it
+  pub ordered : Ascending 1 sections
+  pub keys : (n : ℕ) → IsThere n sections ↔ ((1 ≤ n) × (n ≤ receipt_count nodes))
+  pub records : (i k : ℕ) (r : Receipt) → IsReceiptAt nodes i k r → record_at r.number sections ≡ Some (record_of r)
+  -- the journal is theirs, settled up to its base: it covers these numbers, and has the records above its base
+  pub whole : journal ≡ settled journal.base.upto (unsettled sections)
+  pub covers : (n : ℕ) → Covers n journal ↔ ((1 ≤ n) × (n ≤ receipt_count nodes))
+  pub kept : (i k : ℕ) (r : Receipt) → IsReceiptAt nodes i k r → journal.base.upto < r.number → record_at r.number journal.records ≡ Some (record_of r)
   -- each value read is what the writes of the sections before, in order, and the section's own first ones leave
-  pub reads : (i k n : ℕ) (r : Receipt) (x : Read) → IsReceiptAt nodes i k r → r.number ≡ suc n → IsIn x r.reads.items → IsSerialRead (writes_to n journal) r.writes.items x
+  pub reads : (i k n : ℕ) (r : Receipt) (x : Read) → IsReceiptAt nodes i k r → r.number ≡ suc n → IsIn x r.reads.items → IsSerialRead (writes_to n sections) r.writes.items x
   -- and each register of the journal what the writes of all sections, in order, leave
-  pub shows : (count : ℕ) → AreApplied (writes_to (receipt_count nodes) journal) (registers_of count journal)
+  pub shows : (count : ℕ) → count ≤ 32 → AreApplied (writes_to (receipt_count nodes) sections) (registers_in count journal)

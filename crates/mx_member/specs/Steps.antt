@@ -1,5 +1,6 @@
 -- What each call makes of a member.
-use Rattle.std.specs.Prelude.{ℕ, ◌≡◌, ◌<◌, ◌++◌, ◌⊎◌, List, [], ◌∷◌, None, Result, Ok, Err, length, nat_lt, nat_le, take, unwrap_or, if◌then◌else◌}
+use Rattle.std.specs.Prelude.{ℕ, ◌≡◌, ◌<◌, ◌++◌, ◌⊎◌, Bool, List, [], ◌∷◌, Result, Ok, Err, length, max, min, nat_lt, nat_le, take, unwrap_or, if◌then◌else◌}
+use Rattle.std.specs.List.{list_any}
 use Rattle.mx_stamps.specs.declared.stamp.Stamp.{Stamp}
 use Rattle.mx_nodelaws.specs.World.{Done, Quiet}
 use Rattle.mx_nodelaws.specs.Core.{Core}
@@ -13,19 +14,24 @@ use Rattle.mx_nodelaws.specs.declared.faults.LeaveFault.TheVariants as leave
 use Rattle.mx_journal.specs.declared.ranges.Range.{Range}
 use Rattle.mx_journal.specs.declared.records.Record.{Record}
 use Rattle.mx_journal.specs.declared.receipts.Receipt.{Receipt}
+use Rattle.mx_journal.specs.declared.settling.SettleFault.{SettleFault}
+use Rattle.mx_journal.specs.declared.settling.SettleFault.TheVariants as settle
 use Rattle.mx_journal.specs.Agreement.{IsConsistent, IsFirstConflict}
+use Rattle.mx_journal.specs.Bases.{AreOpposed}
 use Rattle.mx_journal.specs.Drafted.{last_value, with_read, with_write, receipt_of, record_of}
-use Rattle.mx_journal.specs.Gapless.{first_missing}
-use Rattle.mx_journal.specs.Records.{IsNumbered, IsThere, below, record_at, with_record, with_records}
-use Rattle.mx_merge.specs.Missing.{gaps_of, in_ranges}
-use Rattle.mx_registers.specs.Registers.{register_of}
+use Rattle.mx_journal.specs.Records.{IsNumbered, IsThere, below}
+use Rattle.mx_journal.specs.Settled.{Covers, JournalState, beyond, settled, unsettled, with_base, with_list}
+use Rattle.mx_merge.specs.Missing.{gaps_in, in_ranges}
+use Rattle.mx_registers.specs.declared.cells.Cell.{Cell}
+use Rattle.mx_registers.specs.Based.{cell_in}
+use Rattle.mx_registers.specs.Registers.{after_records}
 use Rattle.mx_member.specs.declared.parcel.Parcel.{Parcel}
-use Rattle.mx_member.specs.declared.parcel.Parcel.TheVariants.{Guard, Want, Records}
+use Rattle.mx_member.specs.declared.parcel.Parcel.TheVariants.{Guard, Want, Base, Records}
 use Rattle.mx_member.specs.declared.faults.ReadFault.{ReadFault}
 use Rattle.mx_member.specs.declared.faults.ReadFault.TheVariants as read
 use Rattle.mx_member.specs.declared.faults.WriteFault.{WriteFault}
 use Rattle.mx_member.specs.declared.faults.WriteFault.TheVariants as write
-use Rattle.mx_member.specs.Member.{MemberState, fresh, with_core, with_draft, with_journal, guarded, records_in}
+use Rattle.mx_member.specs.Member.{MemberState, first_gap, fresh, with_core, with_draft, with_journal, guarded}
 
 -- a step of the core: draft and journal stay
 abbrev pub core_step : {S A M : Type 0} → MemberState S → Done S A M → Done (MemberState S) A (Parcel M)
@@ -40,17 +46,26 @@ abbrev pub entered : {S : Type 0} → Result ℕ EnterFault → MemberState S �
 entered (Ok n) m = with_draft fresh m
 entered (Err fault) m = m
 
+-- what the sections below n left in a register, where the journal's base is below n
+abbrev pub register_below : ℕ → ℕ → JournalState → Cell
+register_below register n journal = after_records register (below n journal.records) (cell_in register journal.base)
+
 -- what a register shows inside section n: the draft's last write of it, or else what the sections below n left
 abbrev pub shown_inside : {S : Type 0} → ℕ → ℕ → MemberState S → ℕ
-shown_inside register n m = unwrap_or (last_value register m.draft.writes) (register_of register (below n m.journal)).value
+shown_inside register n m = unwrap_or (last_value register m.draft.writes) (register_below register n m.journal).value
 
--- a read inside section n, which needs the records of all sections below n
+-- why a read of a settled section is refused, where the draft has so many reads
+abbrev pub settled_fault : ℕ → ℕ → ReadFault
+settled_fault reads upto = if nat_le 8 reads then read.Full else read.Settled upto
+
+-- a read inside section n, which needs all sections below n, and a base that does not stand for n itself
 abbrev pub read_inside : {S : Type 0} → ℕ → ℕ → MemberState S → Quiet (MemberState S) (Result ℕ ReadFault)
 read_inside register n m =
     if nat_le m.setting.registers register then refusing m read.NoRegister
-    else (if nat_lt (first_missing 1 m.journal) n then refusing m (read.Gap (first_missing 1 m.journal))
+    else (if nat_lt (first_gap m.journal) n then refusing m (read.Gap (first_gap m.journal))
     else (if nat_le 8 (length m.draft.reads) then refusing m read.Full
-    else record { state = with_draft (with_read register (shown_inside register n m) m.draft) m; answer = Ok (shown_inside register n m) }))
+    else (if nat_le n m.journal.base.upto then refusing m (read.Settled m.journal.base.upto)
+    else record { state = with_draft (with_read register (shown_inside register n m) m.draft) m; answer = Ok (shown_inside register n m) })))
 
 -- a write inside
 abbrev pub write_inside : {S : Type 0} → ℕ → ℕ → MemberState S → Quiet (MemberState S) (Result (Unit {0}) WriteFault)
@@ -68,18 +83,47 @@ abbrev pub records_to : {M : Type 0} → ℕ → List Record → List (ℕ × Pa
 records_to i [] = []
 records_to i (r ∷ rs) = (i, Records (record { items = r ∷ rs })) ∷ []
 
--- the records can be put: none bears 0, and they agree with the journal and among themselves
-abbrev pub ArePuttable : List Record → List Record → Type 0
-ArePuttable records journal = IsNumbered records × IsConsistent (journal ++ records)
+-- the range has one of the numbers 1 to k
+abbrev pub reaches : ℕ → Range → Bool
+reaches k range = nat_le (max range.first 1) (min range.last k)
 
--- the records can't be put, and n says why: 0 where a record bears 0, else the least number that two differing ones bear
-abbrev pub IsDisputed : ℕ → List Record → List Record → Type 0
-IsDisputed n records journal =
-    ((n ≡ 0) × IsThere 0 records) ⊎ (IsNumbered records × IsFirstConflict n (journal ++ records))
+-- the base, where some number that it stands for lies in the ranges, to node i
+abbrev pub base_to : {M : Type 0} → ℕ → List Range → JournalState → List (ℕ × Parcel M)
+base_to i ranges journal = if list_any (reaches journal.base.upto) ranges then (i, Base journal.base) ∷ [] else []
 
--- the member takes this parcel of that sender: it is no stranger, and the records in it can be put
+-- what the journal answers to a want of node i: its base, and then records above it, where there are any
+abbrev pub answers_to : {M : Type 0} → ℕ → List Range → JournalState → List (ℕ × Parcel M)
+answers_to i ranges journal = base_to i ranges journal ++ records_to i (take 4 (in_ranges ranges journal.records))
+
+-- the records can be put: none bears 0, and those above the base agree with the journal and among themselves
+abbrev pub ArePuttable : List Record → JournalState → Type 0
+ArePuttable records journal = IsNumbered records × IsConsistent (journal.records ++ beyond journal.base.upto records)
+
+-- the journal can take what the parcel brings
+abbrev pub IsAcceptable : {M : Type 0} → Parcel M → JournalState → Type 0
+IsAcceptable (Guard letter) journal = Unit {0}
+IsAcceptable (Want ranges) journal = Unit {0}
+IsAcceptable (Base base) journal = journal.base.upto ≡ base.upto → journal.base ≡ base
+IsAcceptable (Records records) journal = ArePuttable records.items journal
+
+-- it can't, and n says why: the number of a base that differs; 0 where a record bears 0, else the least number that two differing ones bear
+abbrev pub IsDisputed : {M : Type 0} → ℕ → Parcel M → JournalState → Type 0
+IsDisputed n (Guard letter) journal = ⊥
+IsDisputed n (Want ranges) journal = ⊥
+IsDisputed n (Base base) journal = (n ≡ base.upto) × AreOpposed journal.base base
+IsDisputed n (Records records) journal =
+    ((n ≡ 0) × IsThere 0 records.items) ⊎ (IsNumbered records.items × IsFirstConflict n (journal.records ++ beyond journal.base.upto records.items))
+
+-- the member takes this parcel of that sender: it is no stranger, and the journal can take what it brings
 abbrev pub IsTakeable : {S M : Type 0} → ℕ → Parcel M → MemberState S → Type 0
-IsTakeable from parcel m = (from < m.setting.nodes) × ArePuttable (records_in parcel) m.journal
+IsTakeable from parcel m = (from < m.setting.nodes) × IsAcceptable parcel m.journal
+
+-- the registers of sections 1 to k come in place of their records, where none of them is missing and no more are settled
+abbrev pub settle_of : {S : Type 0} → ℕ → MemberState S → Quiet (MemberState S) (Result (Unit {0}) SettleFault)
+settle_of k m =
+    if nat_lt k m.journal.base.upto then refusing m (settle.Below m.journal.base.upto)
+    else (if nat_le (first_gap m.journal) k then refusing m (settle.Gap (first_gap m.journal))
+    else record { state = with_journal (settled k m.journal) m; answer = Ok tt })
 
 module _ {H S M : Type 0} (core : Core H S M) where
   abbrev pub ask_of : MemberState S → Done (MemberState S) (Result Stamp AskFault) (Parcel M)
@@ -110,22 +154,22 @@ module _ {H S M : Type 0} (core : Core H S M) where
   abbrev pub write_of : ℕ → ℕ → MemberState S → Quiet (MemberState S) (Result (Unit {0}) WriteFault)
   write_of register value m = write_at register value m (core.phase m.core)
 
-  -- section n is left: its receipt is the draft's, and its record joins the journal, where no other bears n
+  -- section n is left: its receipt is the draft's, and its record joins the journal, unless that covers n already
   abbrev pub left : ℕ → MemberState S → Done (MemberState S) (Result Receipt LeaveFault) (Parcel M)
   left n m = record {
     state = record {
       setting = m.setting;
       core = (core.leave m.core).state;
-      journal = with_record (record_of (receipt_of n m.setting.me m.draft)) m.journal;
+      journal = with_list (record_of (receipt_of n m.setting.me m.draft) ∷ []) m.journal;
       draft = fresh;
     };
     answer = Ok (receipt_of n m.setting.me m.draft);
     letters = guarded (core.leave m.core).letters;
   }
 
-  -- it is inside, and no record of its journal bears the number of its section
+  -- it is inside, and its journal does not cover the number of its section
   abbrev pub LacksItsRecord : MemberState S → Type 0
-  LacksItsRecord m = (n : ℕ) × (core.phase m.core ≡ Inside n) × (record_at n m.journal ≡ None)
+  LacksItsRecord m = (n : ℕ) × (core.phase m.core ≡ Inside n) × (Covers n m.journal → ⊥)
 
   abbrev pub leave_at : MemberState S → Phase → Done (MemberState S) (Result Receipt LeaveFault) (Parcel M)
   leave_at m Idle = record { state = m; answer = Err leave.NotInside; letters = [] }
@@ -137,13 +181,14 @@ module _ {H S M : Type 0} (core : Core H S M) where
 
   -- the node asks another for all that it lacks
   abbrev pub want_of : ℕ → MemberState S → Done (MemberState S) (Unit {0}) (Parcel M)
-  want_of to m = record { state = m; answer = tt; letters = want_to to (take 8 (gaps_of m.setting.limit m.journal)) }
+  want_of to m = record { state = m; answer = tt; letters = want_to to (take 8 (gaps_in m.setting.limit m.journal)) }
 
-  -- a parcel that the member takes: a letter goes to the core, a want is answered by records where there are any, records join the journal
+  -- a parcel that the member takes: a letter goes to the core, a want is answered by base and records where there are any, a base and records join the journal
   abbrev pub take_of : ℕ → Parcel M → MemberState S → Done (MemberState S) (Unit {0}) (Parcel M)
   take_of from (Guard letter) m = core_step m (core.deliver from letter m.core)
-  take_of from (Want ranges) m = record { state = m; answer = tt; letters = records_to from (take 4 (in_ranges ranges.items m.journal)) }
-  take_of from (Records records) m = record { state = with_journal (with_records records.items m.journal) m; answer = tt; letters = [] }
+  take_of from (Want ranges) m = record { state = m; answer = tt; letters = answers_to from ranges.items m.journal }
+  take_of from (Base base) m = record { state = with_journal (with_base base m.journal) m; answer = tt; letters = [] }
+  take_of from (Records records) m = record { state = with_journal (with_list records.items m.journal) m; answer = tt; letters = [] }
 
   -- a node wakes up again: core and journal stay, the draft is emptied
   abbrev pub restart_of : MemberState S → MemberState S
@@ -154,6 +199,6 @@ module _ {H S M : Type 0} (core : Core H S M) where
   start_of shape me origin limit registers = record {
     setting = record { me = me; nodes = core.count shape; limit = limit; registers = registers };
     core = core.start shape me origin limit;
-    journal = [];
+    journal = unsettled [];
     draft = fresh;
   }

@@ -1,14 +1,14 @@
 -- Whole worlds: members, the parcels ever sent, and the sections so far; and what each of them keeps.
-use Rattle.std.specs.Prelude.{ℕ, suc, ◌≡◌, ◌<◌, ◌++◌, false, List, [], ◌∷◌, Some, length, map, slice_get}
+use Rattle.std.specs.Prelude.{ℕ, suc, ◌≡◌, ◌<◌, ◌≤◌, ◌++◌, false, List, [], ◌∷◌, Some, length, map, slice_get}
 use Rattle.mx_stamps.specs.Lists.{IsIn}
-use Rattle.mx_journal.specs.Agreement.{IsSubmap}
 use Rattle.mx_journal.specs.Records.{Ascending}
 use Rattle.mx_nodelaws.specs.World.{World}
 use Rattle.mx_nodelaws.specs.Core.{Core, IsInside}
 use Rattle.mx_nodelaws.specs.Laws.{greatest_mine}
 use Rattle.mx_nodelaws.specs.declared.phase.Phase.TheVariants.{Inside}
 use Rattle.mx_member.specs.declared.parcel.Parcel.{Parcel}
-use Rattle.mx_member.specs.Member.{MemberState, letter_in, records_in}
+use Rattle.mx_member.specs.Journals.{IsJournalOf, IsParcelOf}
+use Rattle.mx_member.specs.Member.{MemberState, letter_in}
 use Rattle.mx_member.specs.Sections.{Section, section_journal}
 use Rattle.mx_member.specs.Serial.{AllClosed, ReadSerially}
 
@@ -47,9 +47,11 @@ pub record IsSound {H S M : Type 0} (core : Core H S M) (Good : World S M → Ty
   -- each member knows its number, and how many there are
   pub named : (i : ℕ) (m : MemberState S) → IsMember members i m → m.setting.me ≡ i
   pub known : (i : ℕ) (m : MemberState S) → IsMember members i m → m.setting.nodes ≡ length members
-  -- journals, and the records in parcels, are of the section journal
-  pub journals : (i : ℕ) (m : MemberState S) → IsMember members i m → IsSubmap m.journal (section_journal ss)
-  pub ordered : (i : ℕ) (m : MemberState S) → IsMember members i m → Ascending 1 m.journal
-  pub parcels : (a b : ℕ) (p : Parcel M) → IsIn (a, b, p) sent → IsSubmap (records_in p) (section_journal ss)
+  -- a base keeps 32 registers
+  pub few : (i : ℕ) (m : MemberState S) → IsMember members i m → m.setting.registers ≤ 32
+  -- journals, and what parcels bring, are of the section journal
+  pub journals : (i : ℕ) (m : MemberState S) → IsMember members i m → IsJournalOf (section_journal ss) m.journal
+  pub ordered : (i : ℕ) (m : MemberState S) → IsMember members i m → Ascending (suc m.journal.base.upto) m.journal.records
+  pub parcels : (a b : ℕ) (p : Parcel M) → IsIn (a, b, p) sent → IsParcelOf (section_journal ss) p
   -- parcels go from nodes to nodes
   pub between : (a b : ℕ) (p : Parcel M) → IsIn (a, b, p) sent → (a < length members) × (b < length members)

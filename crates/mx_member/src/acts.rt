@@ -6,7 +6,7 @@ ghost use Rattle.mx_member.specs.Acts.{IsDoable, NeedsMemory, act_of};
 use crate::faults::{CloseFault, ReadFault, WriteFault};
 use crate::member::Member;
 use crate::parcel::Parcel;
-use mx_journal::Receipt;
+use mx_journal::{Receipt, SettleFault};
 use mx_letters::Outbox;
 use mx_nodelaws::{AskFault, CancelFault, EnterFault, Exclusion, LeaveFault};
 use mx_stamps::{NodeId, Stamp};
@@ -24,8 +24,10 @@ pub enum Act<M> {
     Leave,
     /// A waiting node gives its request up.
     Cancel,
+    /// The registers of the sections up to this number come in place of their records.
+    Settle(u64),
     Tick,
-    /// The node that is asked for the records that are missing.
+    /// The node that is asked for the sections that are missing.
     Want(NodeId),
     /// The sender, and its parcel.
     Deliver(NodeId, Parcel<M>),
@@ -41,6 +43,7 @@ pub enum Answer {
     Written(Result<(), WriteFault>),
     Left(Result<Receipt, LeaveFault>),
     Cancelled(Result<(), CancelFault>),
+    Settled(Result<(), SettleFault>),
     Ticked,
     Wanted,
     Delivered,
@@ -74,6 +77,7 @@ pub fn perform<C: Exclusion>(
             Err(CloseFault::Memory) => Err(AllocError),
         },
         Act::Cancel => Ok(Answer::Cancelled(member.cancel(out))),
+        Act::Settle(upto) => Ok(Answer::Settled(member.settle(upto))),
         Act::Tick => {
             member.tick(out);
             Ok(Answer::Ticked)

@@ -1,7 +1,7 @@
 //! Why a member refuses. The faults of each call stand in the order in which they are looked for; a
 //! refused call changes nothing.
 
-use mx_journal::{Full, PutFault};
+use mx_journal::{BaseFault, Full, PutFault};
 use thiserror::Error;
 
 /// Why a call of `read` is refused.
@@ -11,13 +11,17 @@ pub enum ReadFault {
     NotInside,
     #[error("no register")]
     NoRegister,
-    /// The journal lacks the record of this section, which is the first that it lacks. Its number is
+    /// The journal does not cover this section, which is the first that it does not. Its number is
     /// below that of the own section.
     #[error("gap {0}")]
     Gap(u64),
     /// The draft holds eight reads already.
     #[error("full")]
     Full,
+    /// The journal's base stands for the sections up to this one, and the own section is among
+    /// them. Only a forged base leads to this.
+    #[error("settled {0}")]
+    Settled(u64),
 }
 
 impl From<Full> for ReadFault {
@@ -71,7 +75,8 @@ pub enum DeliverFault {
     #[error("stranger")]
     Stranger,
     /// Two differing records bear this number, which is the least such number; 0 where a record bears
-    /// 0. No parcel that a member of the cluster sent leads to this.
+    /// 0. Or the own base and the one that is delivered are of the sections up to this number, and
+    /// differ. No parcel that a member of the cluster sent leads to this.
     #[error("conflict {0}")]
     Conflict(u64),
     /// There was no memory for the journal to grow.
@@ -90,6 +95,19 @@ impl From<PutFault> for DeliverFault {
             PutFault::ZeroNumber => DeliverFault::Conflict(0),
             PutFault::Conflict(number) => DeliverFault::Conflict(number),
             PutFault::Memory => DeliverFault::Memory,
+        }
+    }
+}
+
+impl From<BaseFault> for DeliverFault {
+    ghost use Rattle.std.specs.Prelude.{◌≡◌};
+    ghost use Rattle.mx_member.specs.Faults.{base_fault_of};
+
+    ghost from_gives = { λ base fault. fault ≡ base_fault_of base };
+
+    fn from(base: BaseFault) -> DeliverFault {
+        match base {
+            BaseFault::Conflict(number) => DeliverFault::Conflict(number),
         }
     }
 }

@@ -1,39 +1,46 @@
-//! What a member takes from others and sends them: letters of the core, wants, and records.
+//! What a member takes from others and sends them: letters of the core, wants, bases, and records.
 
-ghost use Rattle.std.specs.Prelude.{ℕ, ◌≡◌, ◌≤◌, ◌<◌, ◌↔◌, ◌⊎◌, ◌++◌, [], List, Err, IsOk, OnErr, OnOk, take};
+ghost use Rattle.std.specs.Prelude.{ℕ, ◌≡◌, ◌≤◌, ◌<◌, ◌↔◌, ◌⊎◌, ◌++◌, [], List, length, Err, IfOk, IsOk, OnErr, OnOk};
+ghost use Rattle.std.specs.List.{list_any};
 ghost use Rattle.mx_journal.specs.declared.records.Record.{Record};
-ghost use Rattle.mx_merge.specs.Missing.{gaps_of, in_ranges};
-ghost use Rattle.mx_registers.specs.Registers.{registers_of, value_in};
-ghost use Rattle.mx_member.specs.Member.{BringsRecords, records_in};
-ghost use Rattle.mx_member.specs.Steps.{IsDisputed, IsTakeable, core_step, records_to, take_of, want_of, want_to};
+ghost use Rattle.mx_journal.specs.Bases.{AreOpposed, BaseState};
+ghost use Rattle.mx_journal.specs.Records.{Ascending};
+ghost use Rattle.mx_journal.specs.Settled.{beyond, with_base};
+ghost use Rattle.mx_registers.specs.Based.{registers_from, registers_in};
+ghost use Rattle.mx_registers.specs.Registers.{value_in};
+ghost use Rattle.mx_member.specs.declared.faults.DeliverFault.{DeliverFault};
+ghost use Rattle.mx_member.specs.Member.{BringsRecords, IsViewOf};
+ghost use Rattle.mx_member.specs.Steps.{IsDisputed, IsTakeable, answers_to, base_to, core_step, reaches, records_to, take_of, want_of, want_to};
 
 use crate::faults::DeliverFault;
 use crate::guards::guard_all;
 use crate::member::Member;
 use crate::parcel::Parcel;
 use arrayvec::ArrayVec;
-use mx_journal::{Range, Record};
+use mx_journal::{Base, BaseFault, Journal, Range, Record};
 use mx_letters::Outbox;
+use mx_merge::{answer, missing};
 use mx_nodelaws::Exclusion;
-use mx_registers::View;
+use mx_registers::{View, view};
 use mx_stamps::NodeId;
 
 impl<C: Exclusion> Member<C> {
-    /// Asks another node for the records that are missing, by the least eight ranges of their numbers.
+    /// Asks another node for the sections that are missing, by the least eight ranges of their numbers.
     /// Nothing is sent where none is missing up to the limit.
     pub fn want(&self, to: NodeId, out: &mut Outbox<Parcel<C::Msg>>)
         requires { out.old ≡ [] }
         ensures letters { out.new ≡ (want_of C.core to self.now).letters }
     {
-        let gaps = self.journal.missing(self.limit);
+        let gaps = missing(&self.journal, self.limit);
         if !gaps.is_empty() {
             out.add(to, Parcel::Want(gaps));
         }
     }
 
     /// Takes a parcel of a node of the cluster, which may be this one. A letter goes to the core; a
-    /// want is answered by records, where there are any in its ranges; of records the journal takes all
-    /// or none.
+    /// want is answered by the base, where that stands for some number in its ranges, and by records,
+    /// where there are any; of records the journal takes all or none; a base comes in place of the own
+    /// one, where it is above that.
     pub fn deliver(
         &mut self,
         from: NodeId,
@@ -45,7 +52,7 @@ impl<C: Exclusion> Member<C> {
             ↔ (self.old.setting.nodes ≤ from) }
         ensures conflict { (n : ℕ) → (result ≡ Err (DeliverFault.Conflict n))
             ↔ ((from < self.old.setting.nodes)
-            × IsDisputed n (records_in parcel) self.old.journal) }
+            × IsDisputed n parcel self.old.journal) }
         ensures taken { (IsOk result ⊎ (result ≡ Err DeliverFault.Memory))
             ↔ IsTakeable from parcel self.old }
         ensures memory { (result ≡ Err DeliverFault.Memory) → BringsRecords parcel }
@@ -69,7 +76,7 @@ impl<C: Exclusion> Member<C> {
             ↔ (self.old.setting.nodes ≤ from) }
         ensures conflict { (n : ℕ) → (result ≡ Err (DeliverFault.Conflict n))
             ↔ ((from < self.old.setting.nodes)
-            × IsDisputed n (records_in parcel.now) self.old.journal) }
+            × IsDisputed n parcel.now self.old.journal) }
         ensures taken { (IsOk result ⊎ (result ≡ Err DeliverFault.Memory))
             ↔ IsTakeable from parcel.now self.old }
         ensures memory { (result ≡ Err DeliverFault.Memory) → BringsRecords parcel.now }
@@ -86,10 +93,13 @@ impl<C: Exclusion> Member<C> {
         match parcel {
             Parcel::Guard(letter) => self.hear(from, *letter, out),
             Parcel::Want(ranges) => self.answer_want(from, ranges.as_slice(), out),
+            Parcel::Base(base) => {
+                take_base(&mut self.journal, &mut self.shown, self.registers, base)?;
+            }
             Parcel::Records(records) => {
                 let list = records.as_slice();
                 self.journal.put_all(list)?;
-                take_all(&mut self.shown, list);
+                take_all(&mut self.shown, self.journal.base().upto(), list);
             }
         }
         Ok(())
@@ -105,33 +115,97 @@ impl<C: Exclusion> Member<C> {
         guard_all(&mut self.letters, out);
     }
 
-    /// Answers a want by the records that lie in its ranges, the least four of them.
+    /// Answers a want by the base, where it stands for some number in the ranges, and then by the
+    /// records that lie in them, the least four.
     fn answer_want(&self, from: NodeId, ranges: &[Range], out: &mut Outbox<Parcel<C::Msg>>)
         requires { out.old ≡ [] }
-        ensures { out.new ≡ records_to from (take 4 (in_ranges ranges.now self.now.journal)) }
+        ensures { out.new ≡ answers_to from ranges.now self.now.journal }
     {
-        let known = self.journal.answer(ranges);
-        if !known.is_empty() {
-            out.add(from, Parcel::Records(known));
-        }
+        send_base(from, ranges, &self.journal, out);
+        send_records(from, answer(&self.journal, ranges), out);
     }
 
-    /// The value of a register after all the records that this member knows; it may not know every
+    /// The value of a register after all the sections that this member knows; it may not know every
     /// section before the newest of them. None where there is no such register.
     #[tactic(auto, unfolding(crate::specs::Member::IsViewOf))]
     pub fn value(&self, register: u8) -> Option<u64>
-        ensures { result ≡ value_in register (registers_of self.now.setting.registers self.now.journal) }
+        ensures { result ≡ value_in register (registers_in self.now.setting.registers self.now.journal) }
     {
         self.shown.value(register)
     }
 }
 
-/// Takes records, one after the other.
-fn take_all(shown: &mut View, records: &[Record])
-    ensures { (count : ℕ) (before : List Record) → shown.old ≡ registers_of count before
-        → shown.new ≡ registers_of count (before ++ records.now) }
+/// Whether the base stands for a number in one of the ranges.
+fn is_wanted(upto: u64, ranges: &[Range]) -> bool
+    ensures { result ≡ list_any (reaches upto) ranges.now }
+{
+    ranges
+        .iter()
+        .any(|range| range.first.max(1) <= range.last.min(upto))
+}
+
+/// Sends the base, where it stands for a number in one of the ranges.
+fn send_base<M: Copy + Default>(
+    to: NodeId,
+    ranges: &[Range],
+    journal: &Journal,
+    out: &mut Outbox<Parcel<M>>,
+)
+    requires { out.old ≡ [] }
+    ensures { out.new ≡ base_to to ranges.now journal.now }
+{
+    if is_wanted(journal.base().upto(), ranges) {
+        out.add(to, Parcel::Base(*journal.base()));
+    }
+}
+
+/// Sends records, where there are any, behind at most one parcel.
+fn send_records<M: Copy + Default>(
+    to: NodeId,
+    records: ArrayVec<Record, 4>,
+    out: &mut Outbox<Parcel<M>>,
+)
+    requires { length out.old ≤ 1 }
+    ensures { out.new ≡ out.old ++ records_to to records.items }
+{
+    if !records.is_empty() {
+        out.add(to, Parcel::Records(records));
+    }
+}
+
+/// Takes a base into the journal. A view of the journal stays its view.
+fn take_base(
+    journal: &mut Journal,
+    shown: &mut View,
+    registers: u8,
+    base: &Base,
+) -> Result<(), BaseFault>
+    requires least { 1 ≤ registers }
+    requires most { registers ≤ 32 }
+    ensures conflict { (n : ℕ) → (result ≡ Err (BaseFault.Conflict n))
+        ↔ ((n ≡ base.now.upto) × AreOpposed journal.old.base base.now) }
+    ensures agreed { IsOk result
+        ↔ (journal.old.base.upto ≡ base.now.upto → journal.old.base ≡ base.now) }
+    ensures ok { OnOk result (journal.new ≡ with_base base.now journal.old) }
+    ensures shown { IsViewOf registers journal.old shown.old
+        → IsViewOf registers journal.new shown.new }
+    ensures err { OnErr result (journal.new ≡ journal.old) }
+    ensures same { OnErr result (shown.new ≡ shown.old) }
+{
+    journal.take_base(base)?;
+    *shown = view(journal, registers);
+    Ok(())
+}
+
+/// Takes the records of a list that are numbered above a number, one after the other.
+fn take_all(shown: &mut View, upto: u64, records: &[Record])
+    ensures { (base : BaseState) (count : ℕ) (before : List Record)
+        → shown.old ≡ registers_from base count before
+        → shown.new ≡ registers_from base count (before ++ beyond upto records.now) }
 {
     for entry in records {
-        shown.take(entry);
+        if upto < entry.number {
+            shown.take(entry);
+        }
     }
 }

@@ -1,5 +1,5 @@
 //! A member of a cluster: the core of an exclusion algorithm, the draft of the section that its node
-//! is inside, and the journal of the records that it knows. The definitions of whole worlds stand
+//! is inside, and the journal of the sections that it knows. The definitions of whole worlds stand
 //! here, with the proof that one act of one member keeps what every world keeps; it names no
 //! algorithm, and no cluster.
 #![tactic(auto)]
@@ -11,7 +11,6 @@ mod guards;
 mod member;
 mod parcel;
 mod sections;
-mod unsettled;
 
 pub use acts::{Act, Answer, perform};
 pub use faults::{CloseFault, DeliverFault, ReadFault, WriteFault};

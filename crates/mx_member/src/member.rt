@@ -1,13 +1,11 @@
 //! The member itself, and what it passes on to its core.
 
 ghost use Rattle.std.specs.Prelude.{◌≡◌, ◌≤◌, ◌<◌, []};
-ghost use Rattle.mx_journal.specs.Settled.{unsettled};
 ghost use Rattle.mx_nodelaws.specs.Core.{BearsNumber};
 ghost use Rattle.mx_member.specs.Steps.{ask_of, cancel_of, enter_of, start_of, tick_of};
 
 use crate::guards::guard_all;
 use crate::parcel::Parcel;
-use crate::unsettled::Unsettled;
 use mx_journal::{Draft, Journal};
 use mx_letters::Outbox;
 use mx_nodelaws::{AskFault, CancelFault, EnterFault, Exclusion, Phase};
@@ -16,7 +14,7 @@ use mx_stamps::{NodeId, Stamp};
 use std::alloc::Global;
 use std::marker::Model;
 
-/// A node with its core, the journal of the records that it knows, and the draft of the section
+/// A node with its core, the journal of the sections that it knows, and the draft of the section
 /// that it is inside.
 #[derive(Drop)]
 pub struct Member<C: Exclusion> {
@@ -25,8 +23,8 @@ pub struct Member<C: Exclusion> {
     pub(crate) limit: u64,
     pub(crate) registers: u8,
     pub(crate) core: C,
-    pub(crate) journal: Unsettled,
-    /// The registers after all records of the journal.
+    pub(crate) journal: Journal,
+    /// The registers of the journal.
     pub(crate) shown: View,
     pub(crate) draft: Draft,
     /// The core's letters on their way. Empty between calls.
@@ -75,7 +73,7 @@ impl<C: Exclusion> Member<C> {
             limit,
             registers,
             core: C::start(shape, me, origin, limit),
-            journal: Unsettled::new(alloc),
+            journal: Journal::new(alloc),
             shown: View::new(registers),
             draft: Draft::new(),
             letters: Outbox::new(),
@@ -149,10 +147,10 @@ impl<C: Exclusion> Member<C> {
         self.core.mine()
     }
 
-    /// The records that it knows, as a journal that has settled nothing.
+    /// The sections that it knows.
     pub fn journal(&self) -> &Journal
-        ensures { result.now ≡ unsettled self.now.journal }
+        ensures { result.now ≡ self.now.journal }
     {
-        self.journal.journal()
+        &self.journal
     }
 }

@@ -4,14 +4,16 @@ ghost use Rattle.std.specs.Prelude.{◌≡◌};
 ghost use Rattle.mx_member.specs.declared.parcel.Parcel.TheVariants.{Records};
 
 use arrayvec::ArrayVec;
-use mx_journal::{Range, Record};
+use mx_journal::{Base, Range, Record};
 
 /// A letter of the exclusion algorithm, or a message of gossip.
 #[derive(Drop)]
 pub enum Parcel<M> {
     Guard(M),
-    /// The ranges of section numbers whose records the sender lacks.
+    /// The ranges of numbers of sections that the sender lacks.
     Want(ArrayVec<Range, 8>),
+    /// The registers after the first sections, of which the receiver may lack some.
+    Base(Base),
     /// Records that the receiver may lack.
     Records(ArrayVec<Record, 4>),
 }
@@ -36,6 +38,7 @@ impl<M: Copy> Parcel<M> {
         match self {
             Parcel::Guard(letter) => Parcel::Guard(*letter),
             Parcel::Want(ranges) => Parcel::Want(copy_of_ranges(ranges)),
+            Parcel::Base(base) => Parcel::Base(*base),
             Parcel::Records(records) => copy_of_gossip(records),
         }
     }

@@ -1,26 +1,24 @@
 //! What a member does in its section: reads, writes, leaving; and waking up again.
 
-ghost use Rattle.std.specs.Prelude.{ℕ, ◌≡◌, ◌≤◌, ◌<◌, ◌↔◌, [], Err, IfOk, Ok, None, OnErr, OnOk};
-ghost use Rattle.mx_journal.specs.Records.{below, record_at, with_record};
+ghost use Rattle.std.specs.Prelude.{ℕ, ◌≡◌, ◌≤◌, ◌<◌, ◌↔◌, [], ◌∷◌, Err, IfOk, Ok, OnErr, OnOk, length};
+ghost use Rattle.mx_journal.specs.Settled.{Covers, with_list};
 ghost use Rattle.mx_nodelaws.specs.Core.{IsInside};
-ghost use Rattle.mx_registers.specs.Registers.{register_of};
 ghost use Rattle.mx_member.specs.Member.{IsViewOf};
-ghost use Rattle.mx_member.specs.Steps.{LacksItsRecord, leave_of, read_of, restart_of, write_of};
+ghost use Rattle.mx_member.specs.Steps.{LacksItsRecord, leave_of, read_of, register_below, restart_of, settle_of, settled_fault, write_of};
 
 use crate::faults::{CloseFault, ReadFault, WriteFault};
 use crate::guards::guard_all;
 use crate::member::Member;
 use crate::parcel::Parcel;
-use crate::unsettled::Unsettled;
-use mx_journal::{Draft, Put, PutFault, Receipt, Record};
+use mx_journal::{Draft, Journal, Put, PutFault, Receipt, Record, SettleFault};
 use mx_letters::Outbox;
 use mx_nodelaws::{Exclusion, Phase};
-use mx_registers::View;
+use mx_registers::{View, view_below};
 
 impl<C: Exclusion> Member<C> {
     /// Reads a register inside: the value that this section wrote last, or else what the sections
-    /// before left. The read joins the draft. `Gap` names the first section before this one whose record
-    /// the journal lacks.
+    /// before left. The read joins the draft. `Gap` names the first section before this one that the
+    /// journal does not cover.
     pub fn read(&mut self, register: u8) -> Result<u64, ReadFault>
         ensures state { self.new ≡ (read_of C.core register self.old).state }
         ensures answer { result ≡ (read_of C.core register self.old).answer }
@@ -35,10 +33,24 @@ impl<C: Exclusion> Member<C> {
         if known < number - 1 {
             return Err(ReadFault::Gap(known + 1));
         }
+        if number <= self.journal.base().upto() {
+            return Err(self.settled_or_full(number));
+        }
         let before = self.value_below(number, register);
         let value = self.draft.last(register).unwrap_or(before);
         self.draft.read(register, value)?;
         Ok(value)
+    }
+
+    /// Why a read of a section that is settled is refused.
+    fn settled_or_full(&self, number: u64) -> ReadFault
+        ensures { result ≡ settled_fault (length self.now.draft.reads) self.now.journal.base.upto }
+    {
+        if self.draft.close(number, self.me).reads.is_full() {
+            ReadFault::Full
+        } else {
+            ReadFault::Settled(self.journal.base().upto())
+        }
     }
 
     /// Writes a register inside. The write joins the draft, and no other node sees it before this
@@ -57,8 +69,9 @@ impl<C: Exclusion> Member<C> {
         Ok(())
     }
 
-    /// Leaves the section. Its record joins the journal, unless a forged one bears its number
-    /// already: that one stays, and no memory is needed. Memory is asked for before anything changes.
+    /// Leaves the section. Its record joins the journal, unless a forged record or base covers its
+    /// number already: that stays, and no memory is needed. Memory is asked for before anything
+    /// changes.
     pub fn leave(&mut self, out: &mut Outbox<Parcel<C::Msg>>) -> Result<Receipt, CloseFault>
         requires { out.old ≡ [] }
         ensures not_inside { (result ≡ Err CloseFault.NotInside)
@@ -89,28 +102,38 @@ impl<C: Exclusion> Member<C> {
         self.draft = Draft::new();
     }
 
+    /// Puts the registers after sections 1 to `upto` in place of their records. It is no event of
+    /// the core, sends nothing, and takes no memory.
+    pub fn settle(&mut self, upto: u64) -> Result<(), SettleFault>
+        ensures state { self.new ≡ (settle_of upto self.old).state }
+        ensures answer { result ≡ (settle_of upto self.old).answer }
+    {
+        // the order of the journal, and that its cells are of its base, are known from these calls
+        let _ = (self.journal.is_empty(), self.journal.base().upto());
+        self.journal.settle(upto)
+    }
+
     /// What the sections below a number left in a register. Where the journal knows no others, the
     /// kept view shows it.
     fn value_below(&self, number: u64, register: u8) -> u64
         requires { register < self.now.setting.registers }
-        ensures { result ≡ (register_of register (below number self.now.journal)).value }
+        ensures { result ≡ (register_below register number self.now.journal).value }
     {
         if self.journal.top() < number {
             return self.shown.value(register).unwrap_or(0);
         }
-        self.journal
-            .view_below(self.registers, number)
+        view_below(&self.journal, self.registers, number)
             .value(register)
             .unwrap_or(0)
     }
 }
 
-/// Puts the record, unless another bears its number. A view of the journal stays its view.
-fn keep(journal: &mut Unsettled, shown: &mut View, entry: &Record) -> Result<(), CloseFault>
+/// Puts the record, unless its number is covered. A view of the journal stays its view.
+fn keep(journal: &mut Journal, shown: &mut View, entry: &Record) -> Result<(), CloseFault>
     requires { 0 < entry.now.number }
-    ensures ok { OnOk result (journal.new ≡ with_record entry.now journal.old) }
+    ensures ok { OnOk result (journal.new ≡ with_list (entry.now ∷ []) journal.old) }
     ensures memory { OnErr result (result ≡ Err CloseFault.Memory) }
-    ensures missing { OnErr result (record_at entry.now.number journal.old ≡ None) }
+    ensures missing { OnErr result (Covers entry.now.number journal.old → ⊥) }
     ensures err { OnErr result (journal.new ≡ journal.old) }
     ensures shown { (count : ℕ) → IsViewOf count journal.old shown.old
         → IsViewOf count journal.new shown.new }

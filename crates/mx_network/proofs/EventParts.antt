@@ -10,8 +10,8 @@ use Rattle.mx_member.specs.Acts.{act_of, Arrives}
 use Rattle.mx_member.specs.Member.{MemberState}
 use Rattle.mx_member.specs.Sections.{told}
 use Rattle.mx_member.specs.Steps.{enter_of, read_of, write_of, leave_of}
-use Rattle.mx_network.specs.declared.event.Event.{Event}
-use Rattle.mx_network.specs.declared.event.Event.TheVariants as event
+use Rattle.mx_events.specs.declared.event.Event.{Event}
+use Rattle.mx_events.specs.declared.event.Event.TheVariants as event
 use Rattle.mx_network.specs.declared.faults.StepFault.{StepFault}
 use Rattle.mx_network.specs.declared.faults.StepFault.TheVariants.{NoNode, NoParcel}
 use Rattle.mx_network.specs.Step.{answer_of, delivery_of, part_of, IsOfSent}
@@ -53,6 +53,7 @@ arrives {M} nodes sent (event.Read i register) p is = subst (λ (x : ℕ × Act 
 arrives {M} nodes sent (event.Write i register value) p is = subst (λ (x : ℕ × Act M). Arrives nodes sent x.0 x.1) (same_Ok (i, act.Write register value) p is) tt
 arrives {M} nodes sent (event.Leave i) p is = subst (λ (x : ℕ × Act M). Arrives nodes sent x.0 x.1) (same_Ok (i, act.Leave) p is) tt
 arrives {M} nodes sent (event.Cancel i) p is = subst (λ (x : ℕ × Act M). Arrives nodes sent x.0 x.1) (same_Ok (i, act.Cancel) p is) tt
+arrives {M} nodes sent (event.Settle i k) p is = subst (λ (x : ℕ × Act M). Arrives nodes sent x.0 x.1) (same_Ok (i, act.Settle k) p is) tt
 arrives {M} nodes sent (event.Tick i) p is = subst (λ (x : ℕ × Act M). Arrives nodes sent x.0 x.1) (same_Ok (i, act.Tick) p is) tt
 arrives {M} nodes sent (event.Want i j) p is = let w = wanted nodes i j p is in subst (λ (x : ℕ × Act M). Arrives nodes sent x.0 x.1) w.1 w.0
 arrives nodes sent (event.Deliver k) p is = delivered nodes k sent p (slice_get sent k) refl is
@@ -76,6 +77,7 @@ module _ {H S M : Type 0} (core : Core H S M) (m : MemberState S) where
       subst (Tells (event.Write i register value)) (same_Ok (i, act.Write register value) p is) (writing M i (length (act_of core (act.Write register value) m).letters) register value (write_of core register value m).answer)
   tells nodes sent (event.Leave i) p is = subst (Tells (event.Leave i)) (same_Ok (i, act.Leave) p is) (leaving M i (length (act_of core act.Leave m).letters) (leave_of core m).answer)
   tells nodes sent (event.Cancel i) p is = subst (Tells (event.Cancel i)) (same_Ok (i, act.Cancel) p is) refl
+  tells nodes sent (event.Settle i k) p is = subst (Tells (event.Settle i k)) (same_Ok (i, act.Settle k) p is) refl
   tells nodes sent (event.Tick i) p is = subst (Tells (event.Tick i)) (same_Ok (i, act.Tick) p is) refl
   tells nodes sent (event.Want i j) p is = subst (Tells (event.Want i j)) (wanted nodes i j p is).1 refl
   tells nodes sent (event.Deliver k) p is = delivery_tells k p (slice_get sent k) is

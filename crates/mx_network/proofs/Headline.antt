@@ -1,10 +1,11 @@
 -- What the promise says of a cluster, from what every cluster keeps.
 use Rattle.std.proofs.Common.{ℕ, ◌≡◌, ◌↔◌, List, [], sym, subst}
-use Rattle.mx_journal.specs.Agreement.{AreAgreeing, IsSubmap}
 use Rattle.mx_journal.specs.Records.{Ascending}
+use Rattle.mx_journal.specs.Settled.{DoAgree}
 use Rattle.mx_nodelaws.specs.World.{World}
 use Rattle.mx_nodelaws.specs.Core.{Core}
 use Rattle.mx_nodelaws.specs.Laws.{KeepsGood}
+use Rattle.mx_member.specs.Journals.{IsJournalOf}
 use Rattle.mx_member.specs.Member.{MemberState}
 use Rattle.mx_member.specs.Serial.{AllClosed, IsInSection}
 use Rattle.mx_member.specs.World.{IsMember, core_part}
@@ -39,20 +40,20 @@ module _ {H S M : Type 0} (core : Core H S M) (IsShape : H → Type 0) (Good : W
 
 module _ {H S M : Type 0} (core : Core H S M) (Good : World S M → Type 0) (g : ClusterState S M) (kept : IsKept core Good g) where
   -- any two journals agree
-  pub agreed : (i j : ℕ) (m k : MemberState S) → IsMember g.members i m → IsMember g.members j k → AreAgreeing m.journal k.journal
+  pub agreed : (i j : ℕ) (m k : MemberState S) → IsMember g.members i m → IsMember g.members j k → DoAgree m.journal k.journal
   agreed = journals_agree core Good (sections g.trace) g.members g.sent (kept_sound core Good g kept)
 
-  -- each journal is a sub-map of the section journal
-  pub of_sections : (i : ℕ) (m : MemberState S) → IsMember g.members i m → IsSubmap m.journal (journal_of g.trace)
+  -- each journal knows of the section journal alone
+  pub of_sections : (i : ℕ) (m : MemberState S) → IsMember g.members i m → IsJournalOf (journal_of g.trace) m.journal
   of_sections = (kept_sound core Good g kept).journals
 
   -- said of the trace that is handed out
-  pub journals_of : (trace : List Entry) → trace ≡ g.trace → (i : ℕ) (m : MemberState S) → IsMember g.members i m → IsSubmap m.journal (journal_of trace)
-  journals_of trace is i m at = subst (λ (t : List Entry). IsSubmap m.journal (journal_of t)) (sym is) (of_sections i m at)
+  pub journals_of : (trace : List Entry) → trace ≡ g.trace → (i : ℕ) (m : MemberState S) → IsMember g.members i m → IsJournalOf (journal_of trace) m.journal
+  journals_of trace is i m at = subst (λ (t : List Entry). IsJournalOf (journal_of t) m.journal) (sym is) (of_sections i m at)
 
   -- a journal without gaps shows the writes of the first sections, in order of entry
   pub shows_in_order : (i : ℕ) (m : MemberState S) → IsMember g.members i m → ShowsInOrder g.trace m.journal
-  shows_in_order i m at k count gapless top = member_shows core Good (sections g.trace) g.members g.sent (kept_sound core Good g kept) i k count m at gapless top
+  shows_in_order i m at k count few all top = member_shows core Good (sections g.trace) g.members g.sent (kept_sound core Good g kept) i k count m at few all top
 
   -- a node is inside exactly in the newest section, while that is open
   pub inside_is : (trace : List Entry) → trace ≡ g.trace → (i n : ℕ) → IsInsideWith core g i n ↔ IsInSection i n (sections trace)

@@ -15,7 +15,7 @@ use Rattle.mx_member.specs.Steps.{start_of}
 use Rattle.mx_member.proofs.ActsKept.{doable}
 use Rattle.mx_member.proofs.Histories.{AllFit-append, after_marks-append}
 use Rattle.mx_member.proofs.Owners.{owners_at_start, owners_kept}
-use Rattle.mx_network.specs.declared.event.Event.{Event}
+use Rattle.mx_events.specs.declared.event.Event.{Event}
 use Rattle.mx_network.specs.declared.outcome.Entry.{Entry}
 use Rattle.mx_network.specs.declared.faults.StepFault.{StepFault}
 use Rattle.mx_network.specs.declared.faults.StepFault.TheVariants.{NoNode}
@@ -68,12 +68,12 @@ module _ {H S M : Type 0} (core : Core H S M) (IsShape : H → Type 0) (Good : W
   all_doable g e kept p m part at = doable core Good (sections g.trace) g.members g.sent p.0 p.1 m (kept_sound core Good g kept) at (arrives (length g.members) g.sent e p part)
 
   -- a cluster at rest, by its parts
-  pub started_parts : (shape : H) (origin limit registers : ℕ) (members : List (MemberState S)) (sent : List (ℕ × ℕ × Parcel M)) (trace : List Entry) → members ≡ each_below (λ i. start_of core shape i origin limit registers) (core.count shape) → sent ≡ [] → trace ≡ [] → IsShape shape → origin < 2 ^ 64 → 0 < limit → limit ≤ 1000000 → IsKept core Good (record { members = members; sent = sent; trace = trace })
-  started_parts shape origin limit registers members sent trace a b c valid d e f =
+  pub started_parts : (shape : H) (origin limit registers : ℕ) (members : List (MemberState S)) (sent : List (ℕ × ℕ × Parcel M)) (trace : List Entry) → members ≡ each_below (λ i. start_of core shape i origin limit registers) (core.count shape) → sent ≡ [] → trace ≡ [] → IsShape shape → origin < 2 ^ 64 → 0 < limit → limit ≤ 1000000 → registers ≤ 32 → IsKept core Good (record { members = members; sent = sent; trace = trace })
+  started_parts shape origin limit registers members sent trace a b c valid d e f few =
       subst (λ ms. IsKept core Good (record { members = ms; sent = sent; trace = trace })) (sym a)
       (subst (λ ss. IsKept core Good (record { members = each_below (λ i. start_of core shape i origin limit registers) (core.count shape); sent = ss; trace = trace })) (sym b)
       (subst (λ ts. IsKept core Good (record { members = each_below (λ i. start_of core shape i origin limit registers) (core.count shape); sent = []; trace = ts })) (sym c)
-      (record { run = owners_at_start core IsShape Good phases laws shape origin limit registers valid d e f; serial = tt })))
+      (record { run = owners_at_start core IsShape Good phases laws shape origin limit registers valid d e f few; serial = tt })))
 
 -- a run of one event more
 pub RunsTo-snoc : {H S M : Type 0} (core : Core H S M) (g mid new : ClusterState S M) (es : List Event) (e : Event) → RunsTo core g es mid → step_of core mid e ≡ Ok new → RunsTo core g (es ++ e ∷ []) new

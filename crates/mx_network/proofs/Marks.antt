@@ -13,8 +13,8 @@ use Rattle.mx_member.specs.declared.faults.ReadFault.TheVariants as read
 use Rattle.mx_member.specs.declared.faults.WriteFault.{WriteFault}
 use Rattle.mx_member.specs.declared.faults.WriteFault.TheVariants as write
 use Rattle.mx_member.specs.Sections.{told}
-use Rattle.mx_network.specs.declared.event.Event.{Event}
-use Rattle.mx_network.specs.declared.event.Event.TheVariants as event
+use Rattle.mx_events.specs.declared.event.Event.{Event}
+use Rattle.mx_events.specs.declared.event.Event.TheVariants as event
 use Rattle.mx_network.specs.declared.outcome.Outcome.{Outcome}
 use Rattle.mx_network.specs.declared.outcome.Entry.{Entry}
 use Rattle.mx_network.specs.Outcome.{outcome_of}
@@ -40,6 +40,7 @@ reading M i k register (Err read.NotInside) = refl
 reading M i k register (Err read.NoRegister) = refl
 reading M i k register (Err (read.Gap n)) = refl
 reading M i k register (Err read.Full) = refl
+reading M i k register (Err (read.Settled n)) = refl
 
 pub writing : (M : Type 0) (i k register value : ℕ) (r : Result (Unit {0}) WriteFault) → mark_of (event.Write i register value) (outcome_of (answer.Written r) k) ≡ told {M = M} i (act.Write register value) (answer.Written r)
 writing M i k register value (Ok done) = refl

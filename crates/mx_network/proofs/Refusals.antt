@@ -8,8 +8,8 @@ use Rattle.mx_nodelaws.specs.Core.{Core}
 use Rattle.mx_member.specs.declared.acts.Act.{Act}
 use Rattle.mx_member.specs.declared.acts.Act.TheVariants as act
 use Rattle.mx_member.specs.declared.parcel.Parcel.{Parcel}
-use Rattle.mx_network.specs.declared.event.Event.{Event}
-use Rattle.mx_network.specs.declared.event.Event.TheVariants as event
+use Rattle.mx_events.specs.declared.event.Event.{Event}
+use Rattle.mx_events.specs.declared.event.Event.TheVariants as event
 use Rattle.mx_network.specs.declared.faults.StepFault.{StepFault}
 use Rattle.mx_network.specs.declared.faults.StepFault.TheVariants.{NoNode, NoParcel, Memory}
 use Rattle.mx_network.specs.Kept.{IsKept}
@@ -89,6 +89,7 @@ module _ {H S M : Type 0} (core : Core H S M) (Good : World S M → Type 0) wher
   class_of g (event.Write i register value) kept = of_one_node g (event.Write i register value) i (act.Write register value) (λ h. h) (λ h. h) (λ none. none) refl
   class_of g (event.Leave i) kept = of_one_node g (event.Leave i) i act.Leave (λ h. h) (λ h. h) (λ none. none) refl
   class_of g (event.Cancel i) kept = of_one_node g (event.Cancel i) i act.Cancel (λ h. h) (λ h. h) (λ none. none) refl
+  class_of g (event.Settle i k) kept = of_one_node g (event.Settle i k) i (act.Settle k) (λ h. h) (λ h. h) (λ none. none) refl
   class_of g (event.Tick i) kept = of_one_node g (event.Tick i) i act.Tick (λ h. h) (λ h. h) (λ none. none) refl
   class_of g (event.Want i j) kept = wants g i j
   class_of g (event.Deliver k) kept = delivers g k kept (slice_get g.sent k) refl

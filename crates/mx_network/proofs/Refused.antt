@@ -1,24 +1,34 @@
 -- A refused event changes no member and sends nothing.
 use Rattle.std.proofs.Common.{ℕ, ◌≡◌, List, [], ◌∷◌, ◌++◌, Option, Some, None, Result, Ok, Err, IfOk, length, slice_get, slice_set, refl, ◌∙◌, ap, subst}
 use Rattle.mx_stamps.proofs.Lists.{append_nil, set_itself}
-use Rattle.mx_nodelaws.specs.World.{sent_by}
+use Rattle.mx_nodelaws.specs.World.{World, sent_by}
 use Rattle.mx_nodelaws.specs.Core.{Core, KeepsPhases}
 use Rattle.mx_member.specs.declared.acts.Act.{Act}
+use Rattle.mx_member.specs.declared.acts.Act.TheVariants as act
 use Rattle.mx_member.specs.declared.acts.Answer.{Answer}
 use Rattle.mx_member.specs.declared.acts.Answer.TheVariants as answer
 use Rattle.mx_member.specs.Acts.{IsRefusal, act_of}
 use Rattle.mx_member.specs.Member.{MemberState}
+use Rattle.mx_member.specs.declared.faults.ReadFault.{ReadFault}
+use Rattle.mx_member.specs.declared.faults.ReadFault.TheVariants as read
+use Rattle.mx_member.specs.Steps.{read_of}
+use Rattle.mx_member.proofs.Consequences.{read_unsettled}
 use Rattle.mx_member.proofs.Refused.{refused_stays}
-use Rattle.mx_network.specs.declared.event.Event.{Event}
+use Rattle.mx_events.specs.declared.event.Event.{Event}
+use Rattle.mx_events.specs.declared.event.Event.TheVariants as event
 use Rattle.mx_network.specs.declared.outcome.Cause.{Cause}
+use Rattle.mx_network.specs.declared.outcome.Cause.TheVariants as cause
 use Rattle.mx_network.specs.declared.outcome.Entry.{Entry}
 use Rattle.mx_network.specs.declared.outcome.Outcome.{Outcome}
 use Rattle.mx_network.specs.declared.outcome.Outcome.TheVariants.{Refused}
 use Rattle.mx_network.specs.declared.faults.StepFault.{StepFault}
 use Rattle.mx_network.specs.declared.faults.StepFault.TheVariants.{NoNode}
+use Rattle.mx_network.specs.Kept.{IsKept}
 use Rattle.mx_network.specs.Outcome.{outcome_of}
-use Rattle.mx_network.specs.Step.{ClusterState, IsUnchanged, answer_of, at_member, at_part, grown, part_of, step_of}
+use Rattle.mx_network.specs.Sections.{sections}
+use Rattle.mx_network.specs.Step.{ClusterState, IsSettledRead, IsUnchanged, answer_of, at_member, at_part, grown, part_of, step_of}
 use Rattle.mx_network.proofs.EventParts.{err_no_ok, same_Ok}
+use Rattle.mx_network.proofs.KeptSound.{kept_sound}
 
 -- an answer whose outcome is refused is a refusal
 refusal : (a : Answer) (k : ℕ) (cause : Cause) → outcome_of a k ≡ Refused cause → IsRefusal a
@@ -28,12 +38,47 @@ refusal (answer.Read (Err fault)) k cause e = tt
 refusal (answer.Written (Err fault)) k cause e = tt
 refusal (answer.Left (Err fault)) k cause e = tt
 refusal (answer.Cancelled (Err fault)) k cause e = tt
+refusal (answer.Settled (Err fault)) k cause e = tt
 refusal _ k cause e = cc
 
 -- the items that make two lists longer are the same
 last_same : {X : Type 0} (xs : List X) (x y : X) → xs ++ x ∷ [] ≡ xs ++ y ∷ [] → x ≡ y
 last_same [] x y e = cc
 last_same (z ∷ zs) x y e = last_same zs x y (let tail : zs ++ x ∷ [] ≡ zs ++ y ∷ [] = cc in tail)
+
+-- a read whose outcome says that its section is settled was refused for that
+settled_told : (r : Result ℕ ReadFault) (k n : ℕ) → outcome_of (answer.Read r) k ≡ Refused (cause.Below n) → r ≡ Err (read.Settled n)
+settled_told (Ok value) k n e = let bad : ⊥ = cc in absurd bad
+settled_told (Err read.NotInside) k n e = let bad : ⊥ = cc in absurd bad
+settled_told (Err read.NoRegister) k n e = let bad : ⊥ = cc in absurd bad
+settled_told (Err (read.Gap m)) k n e = let bad : ⊥ = cc in absurd bad
+settled_told (Err read.Full) k n e = let bad : ⊥ = cc in absurd bad
+settled_told (Err (read.Settled m)) k n e = ap (λ i. Err (read.Settled i)) (let q : m ≡ n = cc in q)
+
+module _ {H S M : Type 0} (core : Core H S M) (Good : World S M → Type 0) (g new : ClusterState S M) (kept : IsKept core Good g) where
+  -- but no read is
+  read_stands : (i register n : ℕ) (o : Option (MemberState S)) → slice_get g.members i ≡ o → at_member core g (event.Read i register) i (act.Read register) o ≡ Ok new →
+      new.trace ≡ g.trace ++ (record { event = event.Read i register; outcome = Refused (cause.Below n) }) ∷ [] → ⊥
+  read_stands i register n None was step told = absurd (err_no_ok NoNode new step)
+  read_stands i register n (Some m) was step told =
+      let done = answer_of core (act.Read register) m in
+      let is : grown g (event.Read i register) i done ≡ new = same_Ok (grown g (event.Read i register) i done) new step in
+      let entry : Entry = record { event = event.Read i register; outcome = done.answer } in
+      let item : entry ≡ record { event = event.Read i register; outcome = Refused (cause.Below n) } =
+      last_same g.trace entry (record { event = event.Read i register; outcome = Refused (cause.Below n) }) (ap (λ (x : ClusterState S M). x.trace) is ∙ told) in
+      read_unsettled core Good (sections g.trace) g.members g.sent (kept_sound core Good g kept) i register n m was
+      (settled_told (read_of core register m).answer (length (act_of core (act.Read register) m).letters) n (ap (λ (x : Entry). x.outcome) item))
+
+  -- so no event meets its own section settled
+  stands : (e : Event) (why : Cause) → IsSettledRead e why → step_of core g e ≡ Ok new → new.trace ≡ g.trace ++ (record { event = e; outcome = Refused why }) ∷ [] → ⊥
+  stands (event.Read i register) (cause.Below n) h step told = read_stands i register n (slice_get g.members i) refl step told
+  stands _ _ h step told = absurd h
+
+  pub never_settled : (e : Event) (r : Result Outcome StepFault) → IfOk r (λ o. step_of core g e ≡ Ok new) → IfOk r (λ o. new.trace ≡ g.trace ++ (record { event = e; outcome = o }) ∷ []) →
+      (cause : Cause) → r ≡ Ok (Refused cause) → IsSettledRead e cause → ⊥
+  never_settled e r ok told cause is h =
+      stands e cause h (subst (λ x. IfOk x (λ o. step_of core g e ≡ Ok new)) is ok)
+      (subst (λ x. IfOk x (λ o. new.trace ≡ g.trace ++ (record { event = e; outcome = o }) ∷ [])) is told)
 
 module _ {H S M : Type 0} (core : Core H S M) (phases : KeepsPhases core) where
   -- what a step of node i is, where its answer is a refusal

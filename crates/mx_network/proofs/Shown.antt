@@ -4,12 +4,13 @@ use Rattle.mx_stamps.specs.Lists.{IsIn}
 use Rattle.mx_journal.specs.declared.records.Record.{Record}
 use Rattle.mx_journal.specs.declared.receipts.Read.{Read}
 use Rattle.mx_journal.specs.Agreement.{IsSubmap}
-use Rattle.mx_journal.specs.Gapless.{IsGapless}
+use Rattle.mx_journal.specs.Settled.{IsCovered, settled, unsettled}
 use Rattle.mx_merge.specs.Join.{IsLeastUpperBound}
 use Rattle.mx_member.specs.Serial.{IsSerialRead, ReadSerially}
 use Rattle.mx_member.proofs.SectionLists.{journal_ascends}
-use Rattle.mx_member.proofs.SectionWrites.{gapless_shows}
-use Rattle.mx_network.specs.declared.event.Event.TheVariants as event
+use Rattle.mx_member.proofs.OfSections.{settled_ascends, settled_of, unsettled_of}
+use Rattle.mx_member.proofs.SectionWrites.{covered_shows}
+use Rattle.mx_events.specs.declared.event.Event.TheVariants as event
 use Rattle.mx_network.specs.declared.outcome.Outcome.TheVariants.{Entered, Written, Left}
 use Rattle.mx_network.specs.declared.outcome.Entry.{Entry}
 use Rattle.mx_network.specs.Sections.{ShowsInOrder, journal_of, sections}
@@ -30,15 +31,26 @@ one_section =
 pub its_journal : journal_of one_section ≡ wrote 7 ∷ []
 its_journal = refl
 
--- its journal shows the writes in order
-pub shown : ShowsInOrder one_section (journal_of one_section)
-shown k count gapless top = gapless_shows k (sections one_section) (journal_of one_section) (journal_ascends (sections one_section)) (λ x h. h) gapless top count
+-- its journal shows the writes in order, whether it has settled the section or not
+pub shown : ShowsInOrder one_section (unsettled (journal_of one_section))
+shown k count few all top =
+    covered_shows k count (sections one_section) (unsettled (journal_of one_section)) few (journal_ascends (sections one_section))
+    (unsettled_of (journal_of one_section) (journal_of one_section) (journal_ascends (sections one_section)) (λ x h. h)) all top
+
+pub shown_settled : ShowsInOrder one_section (settled 1 (unsettled (journal_of one_section)))
+shown_settled k count few all top =
+    let order = journal_ascends (sections one_section) in
+    let of = unsettled_of (journal_of one_section) (journal_of one_section) order (λ x h. h) in
+    let one : IsCovered 1 (unsettled (journal_of one_section)) = λ n low high. inr (wrote 7, inl refl, omega (arith, low, high)) in
+    covered_shows k count (sections one_section) (settled 1 (unsettled (journal_of one_section))) few
+    (settled_ascends (journal_of one_section) (unsettled (journal_of one_section)) 1 order order of (omega arith) one)
+    (settled_of (journal_of one_section) (unsettled (journal_of one_section)) 1 order order of (omega arith) one) all top
 
 -- one with another value does not
-pub not_shown : ShowsInOrder one_section (wrote 9 ∷ []) → ⊥
+pub not_shown : ShowsInOrder one_section (unsettled (wrote 9 ∷ [])) → ⊥
 not_shown h =
-    let all : IsGapless 1 (wrote 9 ∷ []) = λ n low high. (wrote 9, inl refl, omega (arith, low, high)) in
-    let e = h 1 1 all (omega arith) 0 (record { value = 9; by = Some 1 }) refl in
+    let all : IsCovered 1 (unsettled (wrote 9 ∷ [])) = λ n low high. inr (wrote 9, inl refl, omega (arith, low, high)) in
+    let e = h 1 1 (omega arith) all (omega arith) 0 (record { value = 9; by = Some 1 }) refl in
     absurd (omega (arith, e))
 
 -- a section that read what nobody wrote

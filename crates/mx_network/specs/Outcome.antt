@@ -4,17 +4,19 @@ use Rattle.mx_nodelaws.specs.declared.faults.AskFault.TheVariants as ask
 use Rattle.mx_nodelaws.specs.declared.faults.CancelFault.TheVariants as cancel
 use Rattle.mx_nodelaws.specs.declared.faults.EnterFault.TheVariants as enter
 use Rattle.mx_nodelaws.specs.declared.faults.LeaveFault.TheVariants as leave
+use Rattle.mx_journal.specs.declared.settling.SettleFault.TheVariants as settle
 use Rattle.mx_member.specs.declared.acts.Answer.{Answer}
 use Rattle.mx_member.specs.declared.acts.Answer.TheVariants as answer
 use Rattle.mx_member.specs.declared.faults.ReadFault.TheVariants as read
 use Rattle.mx_member.specs.declared.faults.WriteFault.TheVariants as write
 use Rattle.mx_network.specs.declared.outcome.Outcome.{Outcome}
-use Rattle.mx_network.specs.declared.outcome.Outcome.TheVariants.{Asked, Entered, Value, Written, Left, Cancelled, Sent, Delivered, Woken, Refused}
+use Rattle.mx_network.specs.declared.outcome.Outcome.TheVariants.{Asked, Entered, Value, Written, Left, Cancelled, Settled, Sent, Delivered, Woken, Refused}
 use Rattle.mx_network.specs.declared.outcome.Cause.TheVariants as cause
 use Rattle.mx_network.specs.declared.outcome.Brief.{Brief}
 use Rattle.mx_network.specs.declared.outcome.Brief.TheVariants as brief
 
--- the outcome of an answer, and of the number of parcels that went out with it
+-- the outcome of an answer, and of the number of parcels that went out with it. In a cluster no read meets its
+-- own section settled: what stands here for that is never told
 abbrev pub outcome_of : Answer → ℕ → Outcome
 outcome_of (answer.Asked (Ok stamp)) sent = Asked stamp
 outcome_of (answer.Asked (Err ask.NotIdle)) sent = Refused cause.NotIdle
@@ -28,6 +30,7 @@ outcome_of (answer.Read (Err read.NotInside)) sent = Refused cause.NotInside
 outcome_of (answer.Read (Err read.NoRegister)) sent = Refused cause.NoRegister
 outcome_of (answer.Read (Err (read.Gap n))) sent = Refused (cause.Gap n)
 outcome_of (answer.Read (Err read.Full)) sent = Refused cause.Full
+outcome_of (answer.Read (Err (read.Settled n))) sent = Refused (cause.Below n)
 outcome_of (answer.Written (Ok done)) sent = Written
 outcome_of (answer.Written (Err write.NotInside)) sent = Refused cause.NotInside
 outcome_of (answer.Written (Err write.NoRegister)) sent = Refused cause.NoRegister
@@ -36,6 +39,9 @@ outcome_of (answer.Left (Ok receipt)) sent = Left receipt
 outcome_of (answer.Left (Err leave.NotInside)) sent = Refused cause.NotInside
 outcome_of (answer.Cancelled (Ok done)) sent = Cancelled
 outcome_of (answer.Cancelled (Err cancel.NotWaiting)) sent = Refused cause.NotWaiting
+outcome_of (answer.Settled (Ok done)) sent = Settled
+outcome_of (answer.Settled (Err (settle.Below n))) sent = Refused (cause.Below n)
+outcome_of (answer.Settled (Err (settle.Gap n))) sent = Refused (cause.Gap n)
 outcome_of answer.Ticked sent = Sent sent
 outcome_of answer.Wanted sent = Sent sent
 outcome_of answer.Delivered sent = Delivered
@@ -48,6 +54,7 @@ answer_by (brief.Entered entered) = answer.Entered entered
 answer_by (brief.Read value) = answer.Read value
 answer_by (brief.Written done) = answer.Written done
 answer_by (brief.Cancelled done) = answer.Cancelled done
+answer_by (brief.Settled done) = answer.Settled done
 answer_by brief.Ticked = answer.Ticked
 answer_by brief.Wanted = answer.Wanted
 answer_by brief.Delivered = answer.Delivered

@@ -1,9 +1,9 @@
 -- The sections of a trace, their journal, and the order in which they stand.
 use Rattle.std.specs.Prelude.{ℕ, ◌≤◌, List, []}
 use Rattle.mx_journal.specs.declared.records.Record.{Record}
-use Rattle.mx_journal.specs.Gapless.{IsGapless}
-use Rattle.mx_journal.specs.Records.{top_of}
-use Rattle.mx_registers.specs.Registers.{AreApplied, registers_of}
+use Rattle.mx_journal.specs.Settled.{IsCovered, JournalState, top_covered}
+use Rattle.mx_registers.specs.Based.{registers_in}
+use Rattle.mx_registers.specs.Registers.{AreApplied}
 use Rattle.mx_member.specs.Sections.{Section, after_marks, oldest, section_journal, writes_in}
 use Rattle.mx_member.specs.Serial.{AllFit}
 use Rattle.mx_network.specs.declared.outcome.Entry.{Entry}
@@ -22,8 +22,8 @@ journal_of trace = section_journal (sections trace)
 abbrev pub IsSerial : List Entry → Type 0
 IsSerial trace = AllFit [] (marks trace)
 
--- where the journal has no gaps and k sections, its registers are what the writes of the first k
--- sections leave, applied in order of entry
-abbrev pub ShowsInOrder : List Entry → List Record → Type 0
+-- where the journal covers the first k sections and no others, its registers, of which a base keeps 32, are
+-- what the writes of these sections leave, applied in order of entry
+abbrev pub ShowsInOrder : List Entry → JournalState → Type 0
 ShowsInOrder trace journal =
-    (k count : ℕ) → IsGapless k journal → top_of journal ≤ k → AreApplied (writes_in (oldest k (sections trace))) (registers_of count journal)
+    (k count : ℕ) → count ≤ 32 → IsCovered k journal → top_covered journal ≤ k → AreApplied (writes_in (oldest k (sections trace))) (registers_in count journal)

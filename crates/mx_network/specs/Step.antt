@@ -9,9 +9,11 @@ use Rattle.mx_member.specs.declared.acts.Act.TheVariants as act
 use Rattle.mx_member.specs.declared.parcel.Parcel.{Parcel}
 use Rattle.mx_member.specs.Acts.{act_of, IsDoable}
 use Rattle.mx_member.specs.Member.{MemberState}
-use Rattle.mx_network.specs.declared.event.Event.{Event}
-use Rattle.mx_network.specs.declared.event.Event.TheVariants as event
+use Rattle.mx_events.specs.declared.event.Event.{Event}
+use Rattle.mx_events.specs.declared.event.Event.TheVariants as event
 use Rattle.mx_network.specs.declared.outcome.Outcome.{Outcome}
+use Rattle.mx_network.specs.declared.outcome.Cause.{Cause}
+use Rattle.mx_network.specs.declared.outcome.Cause.TheVariants as cause
 use Rattle.mx_network.specs.declared.outcome.Entry.{Entry}
 use Rattle.mx_network.specs.declared.faults.StepFault.{StepFault}
 use Rattle.mx_network.specs.declared.faults.StepFault.TheVariants.{NoNode, NoParcel, Memory}
@@ -43,6 +45,7 @@ part_of nodes sent (event.Read i register) = Ok (i, act.Read register)
 part_of nodes sent (event.Write i register value) = Ok (i, act.Write register value)
 part_of nodes sent (event.Leave i) = Ok (i, act.Leave)
 part_of nodes sent (event.Cancel i) = Ok (i, act.Cancel)
+part_of nodes sent (event.Settle i k) = Ok (i, act.Settle k)
 part_of nodes sent (event.Tick i) = Ok (i, act.Tick)
 part_of nodes sent (event.Want i j) = if nat_lt j nodes then Ok (i, act.Want j) else Err NoNode
 part_of nodes sent (event.Deliver k) = delivery_of (slice_get sent k)
@@ -61,6 +64,7 @@ act_in sent (event.Read i register) = act.Read register
 act_in sent (event.Write i register value) = act.Write register value
 act_in sent (event.Leave i) = act.Leave
 act_in sent (event.Cancel i) = act.Cancel
+act_in sent (event.Settle i k) = act.Settle k
 act_in sent (event.Tick i) = act.Tick
 act_in sent (event.Want i j) = act.Want j
 act_in sent (event.Deliver k) = act_of_delivery (slice_get sent k)
@@ -122,6 +126,7 @@ NamesNoNode g (event.Read i register) = length g.members ≤ i
 NamesNoNode g (event.Write i register value) = length g.members ≤ i
 NamesNoNode g (event.Leave i) = length g.members ≤ i
 NamesNoNode g (event.Cancel i) = length g.members ≤ i
+NamesNoNode g (event.Settle i k) = length g.members ≤ i
 NamesNoNode g (event.Tick i) = length g.members ≤ i
 NamesNoNode g (event.Want i j) = (length g.members ≤ i) ⊎ (length g.members ≤ j)
 NamesNoNode g (event.Deliver k) = ⊥
@@ -144,6 +149,11 @@ IsInsideWith {H} {S} core g i n = (m : MemberState S) × (slice_get g.members i 
 pub record IsUnchanged {S M : Type 0} (old new : ClusterState S M) : Type 0 where
   pub members : new.members ≡ old.members
   pub sent : new.sent ≡ old.sent
+
+-- the read of a section that is settled is refused
+abbrev pub IsSettledRead : Event → Cause → Type 0
+IsSettledRead (event.Read i register) (cause.Below n) = Unit {0}
+IsSettledRead _ _ = ⊥
 
 -- these events, one after another, lead from one cluster to another
 abbrev pub RunsTo : {H S M : Type 0} → Core H S M → ClusterState S M → List Event → ClusterState S M → Type 0

@@ -2,8 +2,8 @@
 use Rattle.std.specs.Prelude.{List, [], ◌∷◌, ◌++◌, None}
 use Rattle.mx_member.specs.Sections.{Mark, Came, Got, Wrote, Went, Woke}
 use Rattle.mx_member.specs.Serial.{Alternate, NumberedFrom}
-use Rattle.mx_network.specs.declared.event.Event.{Event}
-use Rattle.mx_network.specs.declared.event.Event.TheVariants.{Enter, Read, Write, Leave, Restart}
+use Rattle.mx_events.specs.declared.event.Event.{Event}
+use Rattle.mx_events.specs.declared.event.Event.TheVariants.{Enter, Read, Write, Leave, Restart}
 use Rattle.mx_network.specs.declared.outcome.Outcome.{Outcome}
 use Rattle.mx_network.specs.declared.outcome.Outcome.TheVariants.{Entered, Value, Written, Left, Woken}
 use Rattle.mx_network.specs.declared.outcome.Entry.{Entry}

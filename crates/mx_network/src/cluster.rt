@@ -2,22 +2,24 @@
 
 ghost use Rattle.std.specs.Prelude.{◌≡◌, ◌≤◌, ◌<◌, ◌↔◌, ℕ, [], ◌∷◌, ◌++◌, length, OnOk, OnErr, IfOk, IfErr, IfSome, MatchOption, slice_get, take};
 ghost use Rattle.mx_stamps.specs.Lists.{each_below};
-ghost use Rattle.mx_journal.specs.Agreement.{AreAgreeing, IsSubmap};
-ghost use Rattle.mx_journal.specs.Bases.{origin};
 ghost use Rattle.mx_journal.specs.Records.{Ascending};
+ghost use Rattle.mx_journal.specs.Settled.{DoAgree, settled, unsettled};
+ghost use Rattle.mx_registers.specs.Based.{registers_in};
+ghost use Rattle.mx_registers.specs.Registers.{registers_of};
+ghost use Rattle.mx_member.specs.Journals.{IsJournalOf};
 ghost use Rattle.mx_member.specs.Member.{MemberState};
 ghost use Rattle.mx_member.specs.Steps.{start_of};
 ghost use Rattle.mx_member.specs.World.{IsMember};
 ghost use Rattle.mx_member.specs.Serial.{AllClosed, IsInSection, ReadSerially};
 ghost use Rattle.mx_network.specs.Merged.{IsAboveAll, IsBelowEach, IsOfAll};
 ghost use Rattle.mx_network.specs.Sections.{IsSerial, ShowsInOrder, journal_of, sections};
-ghost use Rattle.mx_network.specs.Step.{step_of, IsInsideAt, IsInsideWith, IsFaultOf, IsUnchanged, NamesNoNode, NamesNoParcel, RunsTo};
+ghost use Rattle.mx_network.specs.Step.{step_of, IsInsideAt, IsInsideWith, IsFaultOf, IsSettledRead, IsUnchanged, NamesNoNode, NamesNoParcel, RunsTo};
 ghost use Rattle.mx_network.specs.Trace.{IsExclusive, IsNumbered};
 
-use crate::event::Event;
 use crate::faults::{RunFault, StepFault};
 use crate::outcome::{Cause, Entry, Outcome};
 use crate::parts::{advance, happen, start_members};
+use mx_events::Event;
 use mx_journal::Journal;
 use mx_letters::Outbox;
 use mx_member::{Member, Parcel};
@@ -91,6 +93,9 @@ impl<C: Exclusion> Cluster<C> {
         ensures err { OnErr result (self.new ≡ self.old) }
         ensures refused { (cause : Cause) → (result ≡ Ok (Outcome.Refused cause))
             → IsUnchanged self.old self.new }
+        // a read never meets its own section settled
+        ensures unsettled { (cause : Cause) → (result ≡ Ok (Outcome.Refused cause))
+            → IsSettledRead event cause → ⊥ }
         ensures exclusive { IsExclusive self.new.trace }
         ensures numbered { IsNumbered self.new.trace }
         ensures serial { IsSerial self.new.trace }
@@ -155,11 +160,11 @@ impl<C: Exclusion> Cluster<C> {
         Ok(())
     }
 
-    /// A member, where there is one of this number. Its journal has records of this trace's
-    /// sections alone, and without gaps it shows their writes in order of entry.
+    /// A member, where there is one of this number. Its journal knows of this trace's sections
+    /// alone, and without gaps it shows their writes in order of entry.
     pub fn member(&self, node: NodeId) -> Option<&Member<C>>
         ensures value { MatchOption result (slice_get self.now.members node ≡ None) (λ member. slice_get self.now.members node ≡ Some member.now) }
-        ensures journal { IfSome result (λ member. IsSubmap member.now.journal (journal_of self.now.trace)) }
+        ensures journal { IfSome result (λ member. IsJournalOf (journal_of self.now.trace) member.now.journal) }
         ensures in_order { IfSome result (λ member. ShowsInOrder self.now.trace member.now.journal) }
     {
         self.members.get(node.get() as usize)
@@ -197,9 +202,9 @@ impl<C: Exclusion> Cluster<C> {
         ensures nobody { ((i : ℕ) → IsInsideAt C.core self.now i → ⊥)
             ↔ AllClosed (sections result.now) }
         ensures agreed { (i j : ℕ) (m k : MemberState C) → IsMember self.now.members i m
-            → IsMember self.now.members j k → AreAgreeing m.journal k.journal }
+            → IsMember self.now.members j k → DoAgree m.journal k.journal }
         ensures journals { (i : ℕ) (m : MemberState C) → IsMember self.now.members i m
-            → IsSubmap m.journal (journal_of result.now) }
+            → IsJournalOf (journal_of result.now) m.journal }
         ensures ordered { Ascending 1 (journal_of result.now) }
     {
         &self.trace
@@ -207,19 +212,21 @@ impl<C: Exclusion> Cluster<C> {
 
     /// What the journals of these nodes know together: each merged, in turn, into an empty one, which
     /// gives their least upper bound. They never conflict, so that memory alone can be wanting. A
-    /// node that isn't there adds nothing. Those of all nodes are the journal of the sections.
+    /// node that isn't there adds nothing. Those of all nodes are the journal of the sections, settled
+    /// as far as any node has settled it, and show its registers.
     pub fn merged(&self, alloc: Global, nodes: &[NodeId]) -> Result<Journal, MergeFault>
-        ensures base { IfOk result (λ journal. journal.base ≡ origin) }
         ensures all { IfOk result (λ journal.
-            IsAboveAll self.now.members nodes.now journal.records) }
+            IsAboveAll self.now.members nodes.now journal) }
         ensures least { IfOk result (λ journal.
-            IsBelowEach self.now.members nodes.now journal.records) }
+            IsBelowEach self.now.members nodes.now journal) }
         ensures sections { IfOk result (λ journal.
-            IsSubmap journal.records (journal_of self.now.trace)) }
-        ensures whole { IsOfAll self.now.members nodes.now
-            → IfOk result (λ journal. journal.records ≡ journal_of self.now.trace) }
-        ensures in_order { IfOk result (λ journal.
-            ShowsInOrder self.now.trace journal.records) }
+            IsJournalOf (journal_of self.now.trace) journal) }
+        ensures whole { IsOfAll self.now.members nodes.now → IfOk result (λ journal.
+            journal ≡ settled journal.base.upto (unsettled (journal_of self.now.trace))) }
+        ensures shown { IsOfAll self.now.members nodes.now → IfOk result (λ journal.
+            (count : ℕ) → count ≤ 32
+            → registers_in count journal ≡ registers_of count (journal_of self.now.trace)) }
+        ensures in_order { IfOk result (λ journal. ShowsInOrder self.now.trace journal) }
         ensures conflict { (n : ℕ) → (result ≡ Err (MergeFault.Conflict n)) → ⊥ }
     {
         // for the prover: what a cluster keeps is known from where a field is used

@@ -5,12 +5,11 @@
 #![tactic(auto)]
 
 mod cluster;
-mod event;
 mod faults;
 mod outcome;
 mod parts;
 
 pub use cluster::Cluster;
-pub use event::Event;
 pub use faults::{RunFault, StepFault};
+pub use mx_events::Event;
 pub use outcome::{Cause, Entry, Outcome};

@@ -3,8 +3,8 @@
 ghost use Rattle.std.specs.Prelude.{◌≡◌};
 ghost use Rattle.mx_network.specs.Outcome.{answer_by, outcome_of};
 
-use crate::event::Event;
-use mx_journal::Receipt;
+use mx_events::Event;
+use mx_journal::{Receipt, SettleFault};
 use mx_member::{ReadFault, WriteFault};
 use mx_nodelaws::{AskFault, CancelFault, EnterFault};
 use mx_stamps::Stamp;
@@ -19,10 +19,13 @@ pub enum Cause {
     NumbersSpent,
     NotInside,
     NoRegister,
-    /// The journal lacks the record of this section, the first that it lacks below the own one.
+    /// The journal does not cover this section, the first that it does not: below the own one, at a
+    /// read, or up to the number that is to be settled.
     Gap(u64),
     /// The section has eight reads already, at a read, or eight writes, at a write.
     Full,
+    /// The journal's base stands for more sections already, for those up to this one.
+    Below(u64),
 }
 
 /// What came of an event.
@@ -38,6 +41,7 @@ pub enum Outcome {
     /// The reads and the writes of the section.
     Left(Receipt),
     Cancelled,
+    Settled,
     /// How many parcels were sent.
     Sent(u64),
     Delivered,
@@ -58,6 +62,7 @@ impl Outcome {
             Outcome::Written => Outcome::Written,
             Outcome::Left(receipt) => Outcome::Left(receipt.copy()),
             Outcome::Cancelled => Outcome::Cancelled,
+            Outcome::Settled => Outcome::Settled,
             Outcome::Sent(count) => Outcome::Sent(*count),
             Outcome::Delivered => Outcome::Delivered,
             Outcome::Woken => Outcome::Woken,
@@ -80,6 +85,7 @@ pub(crate) enum Brief {
     Read(Result<u64, ReadFault>),
     Written(Result<(), WriteFault>),
     Cancelled(Result<(), CancelFault>),
+    Settled(Result<(), SettleFault>),
     Ticked,
     Wanted,
     Delivered,
@@ -104,12 +110,17 @@ pub(crate) fn outcome_from(brief: Brief, sent: u64) -> Outcome
         Brief::Read(Err(ReadFault::NoRegister)) => Outcome::Refused(Cause::NoRegister),
         Brief::Read(Err(ReadFault::Gap(number))) => Outcome::Refused(Cause::Gap(number)),
         Brief::Read(Err(ReadFault::Full)) => Outcome::Refused(Cause::Full),
+        // no section that a node is inside is settled: `Cluster::step`
+        Brief::Read(Err(ReadFault::Settled(upto))) => Outcome::Refused(Cause::Below(upto)),
         Brief::Written(Ok(())) => Outcome::Written,
         Brief::Written(Err(WriteFault::NotInside)) => Outcome::Refused(Cause::NotInside),
         Brief::Written(Err(WriteFault::NoRegister)) => Outcome::Refused(Cause::NoRegister),
         Brief::Written(Err(WriteFault::Full)) => Outcome::Refused(Cause::Full),
         Brief::Cancelled(Ok(())) => Outcome::Cancelled,
         Brief::Cancelled(Err(CancelFault::NotWaiting)) => Outcome::Refused(Cause::NotWaiting),
+        Brief::Settled(Ok(())) => Outcome::Settled,
+        Brief::Settled(Err(SettleFault::Below(base))) => Outcome::Refused(Cause::Below(base)),
+        Brief::Settled(Err(SettleFault::Gap(number))) => Outcome::Refused(Cause::Gap(number)),
         Brief::Ticked | Brief::Wanted => Outcome::Sent(sent),
         Brief::Delivered => Outcome::Delivered,
         Brief::Woken => Outcome::Woken,

@@ -9,9 +9,9 @@ ghost use Rattle.mx_member.specs.Steps.{start_of};
 ghost use Rattle.mx_network.specs.Outcome.{answer_by};
 ghost use Rattle.mx_network.specs.Step.{act_in, act_of_delivery, answer_of, cluster_state_of, delivery_of, is_leaving, part_of, step_of, IsDoableAt, IsFaultOf, IsOfSent, Notes, NotesAct};
 
-use crate::event::Event;
 use crate::faults::StepFault;
 use crate::outcome::{Brief, Cause, Entry, Outcome, outcome_from};
+use mx_events::Event;
 use mx_letters::{OUTBOX_ROOM, Outbox};
 use mx_member::{CloseFault, Member, Parcel};
 use mx_nodelaws::Exclusion;
@@ -76,6 +76,7 @@ fn node_of<M: Copy>(
         | Event::Write(node, _, _)
         | Event::Leave(node)
         | Event::Cancel(node)
+        | Event::Settle(node, _)
         | Event::Tick(node)
         | Event::Want(node, _)
         | Event::Restart(node) => Ok(node),
@@ -96,7 +97,11 @@ fn send<M: Copy>(
 {
     match parcel {
         Parcel::Guard(letter) => sent.push_reserved((from, to, Parcel::Guard(*letter))),
-        Parcel::Want(_) | Parcel::Records(_) => sent.push_reserved((from, to, parcel.copy())),
+        Parcel::Want(_) | Parcel::Base(_) | Parcel::Records(_) => sent.push_reserved((
+            from,
+            to,
+            parcel.copy(),
+        )),
     }
 }
 
@@ -168,6 +173,7 @@ fn act<C: Exclusion>(
         Event::Read(_, register) => Ok(Brief::Read(member.read(register))),
         Event::Write(_, register, value) => Ok(Brief::Written(member.write(register, value))),
         Event::Cancel(_) => Ok(Brief::Cancelled(member.cancel(out))),
+        Event::Settle(_, upto) => Ok(Brief::Settled(member.settle(upto))),
         Event::Tick(_) => {
             member.tick(out);
             Ok(Brief::Ticked)

@@ -1,7 +1,7 @@
 -- A run that was computed is a run.
 use Rattle.std.proofs.Common.{◌≡◌, List, [], ◌∷◌, Result, Ok, Err, refl, sym}
 use Rattle.mx_nodelaws.specs.Core.{Core}
-use Rattle.mx_network.specs.declared.event.Event.{Event}
+use Rattle.mx_events.specs.declared.event.Event.{Event}
 use Rattle.mx_network.specs.declared.faults.StepFault.{StepFault}
 use Rattle.mx_network.specs.Step.{ClusterState, RunsTo, step_of}
 use Rattle.mx_network.proofs.EventParts.{err_no_ok, same_Ok}

@@ -8,8 +8,8 @@ use Rattle.mx_nodelaws.specs.Core.{Core}
 use Rattle.mx_quorums.specs.Family.{Family}
 use Rattle.mx_trees.specs.Tree.{Rooted}
 use Rattle.mx_member.specs.Steps.{start_of}
-use Rattle.mx_network.specs.declared.event.Event.{Event}
-use Rattle.mx_network.specs.declared.event.Event.TheVariants.{Ask, Enter, Write, Leave, Deliver}
+use Rattle.mx_events.specs.declared.event.Event.{Event}
+use Rattle.mx_events.specs.declared.event.Event.TheVariants.{Ask, Enter, Write, Leave, Deliver}
 use Rattle.mx_network.specs.declared.outcome.Cause.TheVariants.{NotGranted}
 use Rattle.mx_network.specs.declared.outcome.Entry.{Entry}
 use Rattle.mx_network.specs.declared.outcome.Outcome.{Outcome}

@@ -1,4 +1,4 @@
-use Rattle.mx_journal.specs.Agreement.{IsSubmap}
+use Rattle.mx_member.specs.Journals.{IsJournalOf}
 use Rattle.mx_member.specs.Member.{MemberState}
 use Rattle.mx_network.specs.Sections.{ShowsInOrder, journal_of}
 use Rattle.mx_network.proofs.Finding.{found, if_found}
@@ -11,7 +11,7 @@ returns-clause-value g c = rw (← c.self.view_is)
 
 pub returns-clause-journal : goal.returns-clause-journal
 returns-clause-journal g c = rw (← c.self.view_is)
-    (if_found (λ (m : MemberState g.row.C.Denot). IsSubmap m.journal (journal_of c.self.inside.trace.items)) c.self.inside.members.items c.args.node c.get-2.result
+    (if_found (λ (m : MemberState g.row.C.Denot). IsJournalOf (journal_of c.self.inside.trace.items) m.journal) c.self.inside.members.items c.args.node c.get-2.result
     (found c.deref.result.now c.self.inside.members.items c.get.result c.args.node c.get-2.result c.deref.ensures.value c.get.ensures.value c.get-2.ensures.lookup.0 c.get-2.ensures.lookup.1)
     (of_sections g.C.Exclusion.core g.C.Exclusion.Good _ c.self.invariant.1 c.args.node))
 

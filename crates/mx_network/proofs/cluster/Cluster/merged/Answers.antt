@@ -1,13 +1,11 @@
-use Rattle.std.proofs.Common.{ℕ, ◌≡◌, List, ◌+◌, get_or, take, subst, sym, ap, ◌∙◌}
+use Rattle.std.proofs.Common.{ℕ, suc, ◌≡◌, List, [], ◌+◌, get_or, take, subst, sym, ap, ◌∙◌}
 use Rattle.std.proofs.lemmas.List.{take_all}
-use Rattle.mx_journal.specs.Agreement.{AreAgreeing, IsSubmap}
-use Rattle.mx_journal.specs.Bases.{origin}
 use Rattle.mx_journal.specs.Records.{Ascending}
-use Rattle.mx_journal.specs.Settled.{JournalState}
-use Rattle.mx_journal.proofs.Settled.{from_one}
-use Rattle.mx_merge.specs.Join.{IsLeastUpperBound}
-use Rattle.mx_merge.proofs.Unsettled.{agree_unsettled, base_unsettled, least_unsettled}
-use Rattle.mx_member.proofs.SectionWrites.{gapless_shows}
+use Rattle.mx_journal.specs.Settled.{IsWithin, JournalState}
+use Rattle.mx_member.specs.Journals.{IsJournalOf}
+use Rattle.mx_member.proofs.OfSections.{unsettled_of, whole_registers}
+use Rattle.mx_member.proofs.SectionLists.{journal_ascends}
+use Rattle.mx_member.proofs.SectionWrites.{covered_shows}
 use Rattle.mx_network.specs.Kept.{IsKept}
 use Rattle.mx_network.specs.Merged.{IsAboveAll, IsBelowEach}
 use Rattle.mx_network.specs.Sections.{journal_of, sections}
@@ -17,15 +15,22 @@ use Rattle.mx_network.proofs.Merging.{least_more, least_same, mergeable, merged_
 use Rattle.mx_network.proofs.cluster.Cluster.merged.Goals as goal
 use Rattle.mx_network.proofs.cluster.Cluster.merged.Goals.{in-Some+in_ok-merge, in_default}
 
+pub loop-node-init : goal.loop-node-init
+loop-node-init g c =
+    let made = sym c.new-all.ensures in record {
+      sections = subst (λ (j : JournalState). IsJournalOf (journal_of c.args.self.now.trace) j) made (unsettled_of (journal_of c.args.self.now.trace) [] (journal_ascends (sections c.args.self.now.trace)) (λ x h. absurd h));
+      ordered = subst (λ (j : JournalState). Ascending (suc j.base.upto) j.records) made tt;
+      all = λ i m h. absurd h;
+      least = λ other empty above. subst (λ (j : JournalState). IsWithin j other) made empty;
+    }
+
 pub returns-in_err-merge-clause-conflict : goal.returns-in_err-merge-clause-conflict
 returns-in_err-merge-clause-conflict g c = λ n.
     let kept = subst (λ (x : ClusterState g.row.C.Denot g.row.C-Msg.Denot). IsKept g.C.Exclusion.core g.C.Exclusion.Good x) c.self.view_is c.self.invariant.1 in
     let members = ap (λ (x : ClusterState g.row.C.Denot g.row.C-Msg.Denot). x.members) c.self.view_is in
     let at = some_at c.deref.result.now c.args.self.now.members c.get.result c.in-Some.member.now (c.deref.ensures.value ∙ members) c.in-Some.ensures.lookup.0 c.in-Some.ensures.lookup.1 in
-    let there = ap (λ (j : JournalState). j.base) c.journal.ensures in
-    let records = ap (λ (j : JournalState). j.records) c.journal.ensures in
-    let agree : AreAgreeing c.loop-node.all.records c.journal.result.now.records = mergeable g.C.Exclusion.core g.C.Exclusion.Good c.args.self.now c.loop-node.all.records c.journal.result.now.records c.get.result c.in-Some.member.now kept c.loop-node.invariant.sections at records in
-    no_conflict c.in_err-merge.field-0.0 c.from_residual.result n (c.in_err-merge.ensures.agreed.1 (agree_unsettled c.loop-node.all c.journal.result.now c.loop-node.invariant.base there agree)) c.from_residual.ensures.1
+    let agree = mergeable g.C.Exclusion.core g.C.Exclusion.Good c.args.self.now kept c.loop-node.all c.journal.result.now c.get.result c.in-Some.member.now c.loop-node.invariant.sections at c.journal.ensures in
+    no_conflict c.in_err-merge.field-0.0 c.from_residual.result n (c.in_err-merge.ensures.agreed.1 agree) c.from_residual.ensures.1
 
 pub loop-node-preserved : goal.loop-node-preserved
 loop-node-preserved g c =
@@ -39,45 +44,44 @@ loop-node-preserved g c =
           let new = w.in_ok-merge.ensures in
           let old = c.loop-node.all in
           let other = w.journal.result.now in
-          let there = ap (λ (j : JournalState). j.base) w.journal.ensures in
-          let records = ap (λ (j : JournalState). j.records) w.journal.ensures in
-          let base : w.merge.new.journal.base ≡ origin = base_unsettled old other w.merge.new.journal c.loop-node.invariant.base there new.ok.0 in
-          let join : IsLeastUpperBound old.records other.records w.merge.new.journal.records = least_unsettled old other w.merge.new.journal c.loop-node.invariant.base there base c.loop-node.invariant.ordered new.there new.ordered new.join in record {
-            base = subst (λ (j : JournalState). j.base ≡ origin) (sym w.all-is) base;
-            sections = subst (λ (j : JournalState). IsSubmap j.records (journal_of c.args.self.now.trace)) (sym w.all-is)
-                (merged_within g.C.Exclusion.core g.C.Exclusion.Good c.args.self.now old.records w.merge.new.journal.records other.records c.get.result w.in-Some.member.now kept c.loop-node.invariant.sections at records join);
-            ordered = subst (λ (j : JournalState). Ascending 1 j.records) (sym w.all-is) (from_one w.merge.new.journal.base.upto w.merge.new.journal.records new.ordered);
-            all = subst (λ (j : JournalState). IsAboveAll c.args.self.now.members (take (c.loop-node.node-index + 1) c.args.nodes.now) j.records) (sym w.all-is)
-                (merged_more c.args.self.now.members c.args.nodes.now c.loop-node.node-index c.get.result w.in-Some.member.now old.records w.merge.new.journal.records other.records c.loop-node.invariant.all at records join c.loop-node-test.true here);
-            least = subst (λ (j : JournalState). IsBelowEach c.args.self.now.members (take (c.loop-node.node-index + 1) c.args.nodes.now) j.records) (sym w.all-is)
-                (least_more c.args.self.now.members c.args.nodes.now c.loop-node.node-index c.get.result w.in-Some.member.now old.records w.merge.new.journal.records other.records c.loop-node.invariant.least at records join c.loop-node-test.true here);
+          let same = w.journal.ensures in record {
+            sections = subst (λ (j : JournalState). IsJournalOf (journal_of c.args.self.now.trace) j) (sym w.all-is)
+                (merged_within g.C.Exclusion.core g.C.Exclusion.Good c.args.self.now kept old w.merge.new.journal other c.get.result w.in-Some.member.now c.loop-node.invariant.sections at same new.ok.0);
+            ordered = subst (λ (j : JournalState). Ascending (suc j.base.upto) j.records) (sym w.all-is) new.ordered;
+            all = subst (λ (j : JournalState). IsAboveAll c.args.self.now.members (take (c.loop-node.node-index + 1) c.args.nodes.now) j) (sym w.all-is)
+                (merged_more c.args.self.now.members c.args.nodes.now c.loop-node.node-index c.get.result w.in-Some.member.now old w.merge.new.journal other c.loop-node.invariant.all at same new.join c.loop-node-test.true here);
+            least = subst (λ (j : JournalState). IsBelowEach c.args.self.now.members (take (c.loop-node.node-index + 1) c.args.nodes.now) j) (sym w.all-is)
+                (least_more c.args.self.now.members c.args.nodes.now c.loop-node.node-index c.get.result w.in-Some.member.now old w.merge.new.journal other c.loop-node.invariant.least at same new.join c.loop-node-test.true here);
           }
           )
       | in_default w ↦ record {
-        base = subst (λ (j : JournalState). j.base ≡ origin) (sym w.all-is) c.loop-node.invariant.base;
-        sections = subst (λ (j : JournalState). IsSubmap j.records (journal_of c.args.self.now.trace)) (sym w.all-is) c.loop-node.invariant.sections;
-        ordered = subst (λ (j : JournalState). Ascending 1 j.records) (sym w.all-is) c.loop-node.invariant.ordered;
-        all = subst (λ (j : JournalState). IsAboveAll c.args.self.now.members (take (c.loop-node.node-index + 1) c.args.nodes.now) j.records) (sym w.all-is)
-            (merged_same c.args.self.now.members c.args.nodes.now c.loop-node.node-index c.get.result c.loop-node.all.records c.loop-node.invariant.all
+        sections = subst (λ (j : JournalState). IsJournalOf (journal_of c.args.self.now.trace) j) (sym w.all-is) c.loop-node.invariant.sections;
+        ordered = subst (λ (j : JournalState). Ascending (suc j.base.upto) j.records) (sym w.all-is) c.loop-node.invariant.ordered;
+        all = subst (λ (j : JournalState). IsAboveAll c.args.self.now.members (take (c.loop-node.node-index + 1) c.args.nodes.now) j) (sym w.all-is)
+            (merged_same c.args.self.now.members c.args.nodes.now c.loop-node.node-index c.get.result c.loop-node.all c.loop-node.invariant.all
             (none_at c.deref.result.now c.args.self.now.members c.get.result (c.deref.ensures.value ∙ members) w.in_default.ensures.lookup.0) c.loop-node-test.true here);
-        least = subst (λ (j : JournalState). IsBelowEach c.args.self.now.members (take (c.loop-node.node-index + 1) c.args.nodes.now) j.records) (sym w.all-is)
-            (least_same c.args.self.now.members c.args.nodes.now c.loop-node.node-index c.get.result c.loop-node.all.records c.loop-node.invariant.least c.loop-node-test.true here);
+        least = subst (λ (j : JournalState). IsBelowEach c.args.self.now.members (take (c.loop-node.node-index + 1) c.args.nodes.now) j) (sym w.all-is)
+            (least_same c.args.self.now.members c.args.nodes.now c.loop-node.node-index c.get.result c.loop-node.all c.loop-node.invariant.least c.loop-node-test.true here);
       }
     ]
 
 pub returns-clause-all : goal.returns-clause-all
 returns-clause-all g c =
-    subst (λ (l : List ℕ). IsAboveAll c.args.self.now.members l c.loop-node.all.records) (take_all c.loop-node.node-index c.args.nodes.now c.loop-node-test.false) c.loop-node.invariant.all
+    subst (λ (l : List ℕ). IsAboveAll c.args.self.now.members l c.loop-node.all) (take_all c.loop-node.node-index c.args.nodes.now c.loop-node-test.false) c.loop-node.invariant.all
 
 pub returns-clause-least : goal.returns-clause-least
 returns-clause-least g c =
-    subst (λ (l : List ℕ). IsBelowEach c.args.self.now.members l c.loop-node.all.records) (take_all c.loop-node.node-index c.args.nodes.now c.loop-node-test.false) c.loop-node.invariant.least
+    subst (λ (l : List ℕ). IsBelowEach c.args.self.now.members l c.loop-node.all) (take_all c.loop-node.node-index c.args.nodes.now c.loop-node-test.false) c.loop-node.invariant.least
 
 pub returns-clause-in_order : goal.returns-clause-in_order
-returns-clause-in_order g c k count gapless top =
-    gapless_shows k (sections c.args.self.now.trace) c.loop-node.all.records c.loop-node.invariant.ordered c.loop-node.invariant.sections gapless top count
+returns-clause-in_order g c k count few all top =
+    covered_shows k count (sections c.args.self.now.trace) c.loop-node.all few c.loop-node.invariant.ordered c.loop-node.invariant.sections all top
 
 pub returns-clause-whole : goal.returns-clause-whole
 returns-clause-whole g c every =
     let kept = subst (λ (x : ClusterState g.row.C.Denot g.row.C-Msg.Denot). IsKept g.C.Exclusion.core g.C.Exclusion.Good x) c.self.view_is c.self.invariant.1 in
-    merged_whole g.C.Exclusion.core g.C.Exclusion.Good c.args.self.now c.args.nodes.now c.loop-node.all.records kept c.loop-node.invariant.ordered c.loop-node.invariant.sections (returns-clause-all g c) every
+    merged_whole g.C.Exclusion.core g.C.Exclusion.Good c.args.self.now kept c.args.nodes.now c.loop-node.all c.loop-node.invariant.ordered c.loop-node.invariant.sections (returns-clause-all g c) every
+
+pub returns-clause-shown : goal.returns-clause-shown
+returns-clause-shown g c every count few =
+    whole_registers count (journal_of c.args.self.now.trace) c.loop-node.all few (journal_ascends (sections c.args.self.now.trace)) (returns-clause-whole g c every)

@@ -1,6 +1,6 @@
 use Rattle.std.proofs.Common.{List, [], ◌∷◌, ◌++◌, IfSome, Option, take, refl, subst, sym, ap, ◌∙◌}
 use Rattle.std.proofs.lemmas.List.{take_all, take_more}
-use Rattle.mx_network.specs.declared.event.Event.{Event}
+use Rattle.mx_events.specs.declared.event.Event.{Event}
 use Rattle.mx_network.specs.Step.{ClusterState, IsFaultOf, RunsTo, step_of}
 use Rattle.mx_network.proofs.Happening.{at_place}
 use Rattle.mx_network.proofs.Headline.{exclusive, numbered}

@@ -2,7 +2,7 @@ use Rattle.std.proofs.Common.{rules}
 use Rattle.mx_network.proofs.Headline.{exclusive, numbered}
 use Rattle.mx_network.proofs.Keeps.{all_doable, result_kept}
 use Rattle.mx_network.proofs.Refusals.{no_node, no_parcel}
-use Rattle.mx_network.proofs.Refused.{refused_unchanged}
+use Rattle.mx_network.proofs.Refused.{never_settled, refused_unchanged}
 use Rattle.mx_network.proofs.cluster.Cluster.step.Goals as goal
 
 pub happen-requires : goal.happen-requires
@@ -41,6 +41,10 @@ returns-clause-fault g c = rw (← c.self.view_is) c.happen.ensures.fault
 pub returns-clause-refused : goal.returns-clause-refused
 returns-clause-refused g c = rw (← c.self.view_is)
     (refused_unchanged g.C.Exclusion.core g.met.C.Exclusion.phases _ _ c.args.event c.happen.result c.happen.ensures.ok c.happen.ensures.outcome)
+
+pub returns-clause-unsettled : goal.returns-clause-unsettled
+returns-clause-unsettled g c =
+    never_settled g.C.Exclusion.core g.C.Exclusion.Good _ _ c.self.invariant.1 c.args.event c.happen.result c.happen.ensures.ok c.happen.ensures.outcome
 
 pub returns-clause-exclusive : goal.returns-clause-exclusive
 returns-clause-exclusive g c = exclusive c.happen.new.trace.items (invariant_of-self g c).1.serial

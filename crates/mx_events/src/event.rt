@@ -15,9 +15,11 @@ pub enum Event {
     Leave(NodeId),
     /// The waiting node gives its request up.
     Cancel(NodeId),
+    /// The node puts the registers after the sections up to this number in place of their records.
+    Settle(NodeId, u64),
     /// The node sends again what is outstanding.
     Tick(NodeId),
-    /// The first node asks the second for the records that it lacks.
+    /// The first node asks the second for the sections that it lacks.
     Want(NodeId, NodeId),
     /// The parcel of this number, counted from 0 among all ever sent, reaches its addressee. The
     /// network may deliver a parcel late, never, or several times.
