@@ -44,6 +44,7 @@ module _ {H S M : Type 0} (core : Core H S M) (Good : World S M → Type 0) wher
   arrives n world i e (act.Write register value) held may = tt
   arrives n world i e act.Leave held may = tt
   arrives n world i e act.Cancel held may = tt
+  arrives n world i e (act.Settle k) held may = tt
   arrives n world i e act.Tick held may = tt
   arrives n world i e (act.Want to) held may = may
   arrives n world i e (act.Deliver from p) held may = held (from, p) may

@@ -7,11 +7,11 @@ use native.Mathlib.Decide.{ℕ_discrete}
 use mathlib.Core.Logic.{dite}
 use Rattle.atomic_table.specs.Table.{Me, Allows}
 use Rattle.atomic_table.proofs.Lists.{at_longer, at_last}
-use Rattle.mx_journal.specs.declared.records.Record.{Record}
 use Rattle.mx_journal.specs.declared.receipts.Receipt.{Receipt}
+use Rattle.mx_journal.specs.Settled.{JournalState, joined}
 use Rattle.mx_merge.specs.declared.merging.MergeFault.{MergeFault}
 use Rattle.mx_merge.specs.declared.merging.MergeFault.TheVariants.{Conflict, Memory}
-use Rattle.mx_merge.specs.Join.{IsLeastUpperBound}
+use Rattle.mx_merge.specs.Join.{IsLeastJournal}
 use Rattle.mx_nodelaws.specs.World.{World}
 use Rattle.mx_nodelaws.specs.Core.{Core}
 use Rattle.mx_member.specs.declared.parcel.Parcel.{Parcel}
@@ -98,11 +98,11 @@ module _ {S M : Type 0} (posts : List (Post (MemberState S) (Parcel M))) where
   owned_at j s at = get_map (λ (p : Post (MemberState S) (Parcel M)). owned_of p.me) posts j s (as_slice_at posts j s at)
 
   -- the join with the journal of one station more
-  pub join_station : (j : ℕ) (s : Post (MemberState S) (Parcel M)) (all journal more : List Record) → get_elem? posts j ≡ some s → IsJoinOfNodes (take j (owned_in posts)) all → journal ≡ s.me.member.journal → IsLeastUpperBound all journal more → IsJoinOfNodes (take (j + 1) (owned_in posts)) more
-  join_station j s all journal more at join same bound =
-      join_next (owned_in posts) j (owned_of s.me) all more (owned_at j s at) join (subst (λ (z : List Record). IsLeastUpperBound all z more) same bound)
+  pub join_station : (j : ℕ) (s : Post (MemberState S) (Parcel M)) (all journal more : JournalState) → get_elem? posts j ≡ some s → IsJoinOfNodes (take j (owned_in posts)) all → journal ≡ s.me.member.journal → more ≡ joined journal all → IsLeastJournal all journal more → IsJoinOfNodes (take (j + 1) (owned_in posts)) more
+  join_station j s all journal more at join same made bound =
+      join_next (owned_in posts) j (owned_of s.me) all more (owned_at j s at) join (made ∙ ap (λ (z : JournalState). joined z all) same) (subst (λ (z : JournalState). IsLeastJournal all z more) same bound)
 
-  pub join_whole : (j : ℕ) (all : List Record) → IsJoinOfNodes (take j (owned_in posts)) all → length posts ≤ j → IsJoinOfNodes (owned_in posts) all
+  pub join_whole : (j : ℕ) (all : JournalState) → IsJoinOfNodes (take j (owned_in posts)) all → length posts ≤ j → IsJoinOfNodes (owned_in posts) all
   join_whole j all join long =
       subst (λ l. IsJoinOfNodes l all) (take_all j (owned_in posts) (let size = length-map posts (λ (p : Post (MemberState S) (Parcel M)). owned_of p.me) in omega arith)) join
 

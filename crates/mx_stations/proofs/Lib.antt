@@ -15,6 +15,8 @@ pub mod Gathers
 pub mod Whole
 pub mod Deciding
 pub mod Toils
+pub mod Stretching
+pub mod Endings
 pub mod SameTable
 pub mod Returning
 pub mod Turning

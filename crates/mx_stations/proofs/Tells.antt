@@ -3,7 +3,7 @@ use Rattle.std.proofs.Common.{◌≡◌, ◌≢◌, inl, inr, ℕ, ◌%◌, ◌<
 use Rattle.std.proofs.lemmas.Option.{same_Some}
 use Rattle.atomic_table.specs.Table.{Me, keeps, Allows}
 use Rattle.atomic_table.proofs.Lists.{set_again}
-use Rattle.mx_journal.specs.Agreement.{AreAgreeing}
+use Rattle.mx_journal.specs.Settled.{DoAgree}
 use Rattle.mx_nodelaws.specs.World.{World}
 use Rattle.mx_nodelaws.specs.Core.{Core, IsInside}
 use Rattle.mx_nodelaws.specs.Laws.{KeepsGood}
@@ -99,7 +99,7 @@ module _ {H S M : Type 0} (core : Core H S M) (Good : World S M → Type 0) wher
     pub apart : e.node ≢ f.node
     apart same = both.once.0 f (inl refl) (sym same)
 
-    pub agree : AreAgreeing e.member.journal f.member.journal
+    pub agree : DoAgree e.member.journal f.member.journal
     agree = nodes_agree core Good both.nodes both.run.0 both.run.1 e.node f.node (owned_of e) (owned_of f) (both.placed e (inl refl)) (both.placed f (inr (inl refl)))
 
 module _ {H S M : Type 0} (core : Core H S M) (IsShape : H → Type 0) (Good : World S M → Type 0) (laws : KeepsGood core IsShape Good) where

@@ -11,7 +11,7 @@ use Rattle.mx_stations.specs.Turns.{Chain, Goes, Moves, Station}
 use Rattle.mx_stations.specs.Works.{IsWorkers, Row, Toils, Works}
 
 -- whose station it is: its table, how many nodes that has, and its node
-abbrev home_of : {T P : Type 0} → Post T P → TableId × ℕ × ℕ
+abbrev pub home_of : {T P : Type 0} → Post T P → TableId × ℕ × ℕ
 home_of s = (s.table, s.nodes, s.me.node)
 
 module _ {H S M : Type 0} (core : Core H S M) (register : ℕ) where
@@ -61,7 +61,7 @@ module _ {H S M : Type 0} (core : Core H S M) (register : ℕ) where
   row_home [] s t same = ap home_of same
   row_home (m ∷ ms) s t did = row_home ms m t did.1 ∙ toiled_home s m did.0
 
-  works_home : (s t : Station core) → Works core register s t → home_of t ≡ home_of s
+  pub works_home : (s t : Station core) → Works core register s t → home_of t ≡ home_of s
   works_home s t did = row_home did.0 s t did.1
 
   -- it stays at its table

@@ -1,5 +1,5 @@
 -- Stations whose seats are one: their journals agree, and where all are there what is gathered is one serial order.
-use Rattle.std.proofs.Common.{◌≡◌, inl, inr, ℕ, zero, suc, ◌<◌, List, [], ◌∷◌, Some, map, length, take, slice_get, refl, sym, ap, ◌∙◌, subst, arith}
+use Rattle.std.proofs.Common.{◌≡◌, ◌↔◌, inl, inr, ℕ, zero, suc, ◌<◌, ◌≤◌, List, [], ◌∷◌, Some, map, length, take, slice_get, refl, sym, ap, ◌∙◌, subst, arith}
 use Rattle.std.proofs.lemmas.List.Sorted.{length_permutation}
 use Rattle.std.proofs.lemmas.Option.{same_Some}
 use mathlib.Core.Option.{some, some-injective, some-ne-none}
@@ -8,19 +8,22 @@ use Rattle.mx_stamps.specs.Lists.{IsIn}
 use Rattle.mx_stamps.proofs.Lists.{in_first, in_get, in_left, in_right, in_append, none_is_no_some}
 use Rattle.mx_journal.specs.declared.records.Record.{Record}
 use Rattle.mx_journal.specs.declared.receipts.Receipt.{Receipt}
-use Rattle.mx_journal.specs.Agreement.{IsSubmap}
 use Rattle.mx_journal.specs.Drafted.{record_of}
-use Rattle.mx_journal.proofs.Maps.{same_members}
-use Rattle.mx_registers.specs.Registers.{AreApplied, registers_of, writes_to}
+use Rattle.mx_journal.specs.Settled.{Covers, IsWithin, JournalState, settled, unsettled}
+use Rattle.mx_journal.proofs.Maps.{found_in, same_members}
+use Rattle.mx_registers.specs.Based.{registers_in}
+use Rattle.mx_registers.specs.Registers.{AreApplied, writes_to}
 use Rattle.mx_nodelaws.specs.World.{World}
 use Rattle.mx_nodelaws.specs.Core.{Core}
 use Rattle.mx_member.specs.declared.parcel.Parcel.{Parcel}
 use Rattle.mx_member.specs.Member.{MemberState}
+use Rattle.mx_member.specs.Receipts.{receipts_in, records_of}
 use Rattle.mx_member.specs.Running.{IsAccount, IsJoinOfNodes, IsNode, IsReceiptAt, Owned, receipt_count}
 use Rattle.mx_member.proofs.CorePart.{get_map}
 use Rattle.mx_member.proofs.Joining.{joins_agree}
 use Rattle.mx_member.proofs.OwnReceipts.{place_in}
-use Rattle.mx_member.proofs.RunningTells.{join_account, join_has, join_of}
+use Rattle.mx_member.specs.Serial.{IsSerialRead}
+use Rattle.mx_member.proofs.RunningTells.{join_account, section_of}
 use Rattle.mx_stations.specs.Entries.{Node, owned_of}
 use Rattle.mx_stations.specs.Posts.{Post}
 use Rattle.mx_stations.specs.Running.{sent_of}
@@ -82,7 +85,7 @@ module _ {H S M : Type 0} (core : Core H S M) (Good : World S M → Type 0) (pos
   pub no_disagreement : Disagree (owned_in posts) → ⊥
   no_disagreement (k, o, all, at, join, differ) =
       let seat = seat_of o (in_get (owned_in posts) k o at) in
-      differ (joins_agree core Good nodes (take k (owned_in posts)) (sent_of known.world) seat.0 o all known.runs
+      differ (joins_agree core Good nodes (sent_of known.world) known.runs (take k (owned_in posts)) seat.0 o all
       (λ i p here. seat_of p (in_first k (owned_in posts) p (in_get (take k (owned_in posts)) i p here))) join seat.1)
 
   module _ (whole : IsWhole posts) where
@@ -98,17 +101,28 @@ module _ {H S M : Type 0} (core : Core H S M) (Good : World S M → Type 0) (pos
         let s = station_at i e.0 e.1 in
         (s.0, s.1, s.2, ap owned_of s.3 ∙ e.2)
 
-    module _ (journal : List Record) (receipts : List Receipt) (together : IsTogether posts journal receipts) where
+    module _ (journal : JournalState) (receipts : List Receipt) (together : IsTogether posts journal receipts) where
       joined : IsJoinOfNodes nodes journal
       joined = record {
         above = λ i o at.
             let s = station_of i o at in
-            subst (λ (z : Owned S). IsSubmap z.member.journal journal) s.3
+            subst (λ (z : Owned S). IsWithin z.member.journal journal) s.3
             (together.join.above s.0 (owned_of s.1.me) (get_map (λ (p : Post (MemberState S) (Parcel M)). owned_of p.me) posts s.0 s.1 (as_slice_at posts s.0 s.1 s.2)));
-        least = λ other above. together.join.least other (λ j o at. let seat = seat_of o (in_get (owned_in posts) j o at) in above seat.0 o seat.1);
+        base = elim together.join.base [
+          | inl none ↦ inl none
+          | inr w ↦ (let seat = seat_of w.1 (in_get (owned_in posts) w.0 w.1 w.2) in inr (seat.0, w.1, seat.1, w.3))
+        ];
+        records = λ x h.
+            let w = together.join.records x h in
+            let seat = seat_of w.1 (in_get (owned_in posts) w.0 w.1 w.2) in
+            (seat.0, w.1, seat.1, w.3);
       }
 
-      account : IsAccount nodes journal
+      -- the records of all receipts that the nodes hold
+      abbrev sections : List Record
+      sections = records_of (receipts_in known.runs.sections)
+
+      account : IsAccount nodes sections journal
       account = join_account core Good nodes (sent_of known.world) known.runs journal joined together.ordered
 
       -- as many receipts as all nodes hold
@@ -142,24 +156,28 @@ module _ {H S M : Type 0} (core : Core H S M) (Good : World S M → Type 0) (pos
       numbered : (k : ℕ) (r : Receipt) → slice_get receipts k ≡ Some r → r.number ≡ suc k
       numbered = sorted_in_turn (λ (r : Receipt). r.number) receipts together.sorted has_each
 
-      records : journal ≡ map record_of receipts
+      -- these are the receipts' records, in order
+      records : sections ≡ map record_of receipts
       records =
-          same_members 1 1 journal (map record_of receipts) together.ordered (records_ascend receipts numbered)
+          same_members 1 1 sections (map record_of receipts) account.ordered (records_ascend receipts numbered)
           (λ x h.
-          let r = join_of core Good nodes (sent_of known.world) known.runs journal joined x h in
+          let r = section_of core Good nodes (sent_of known.world) known.runs x h in
           subst (λ (z : Record). IsIn z (map record_of receipts)) (sym r.4) (in_map record_of receipts r.2 (has r.0 r.1 r.2 r.3)))
           (λ x h.
           let r = of_map record_of receipts x h in
           let p = held r.0 r.1 in
-          subst (λ (z : Record). IsIn z journal) (sym r.2) (join_has core Good nodes (sent_of known.world) known.runs journal joined p.0 p.1 r.0 p.2))
+          subst (λ (z : Record). IsIn z sections) (sym r.2) (found_in r.0.number sections (record_of r.0) (account.records p.0 p.1 r.0 p.2)).0)
 
       pub gathered : IsGathered posts journal receipts
       gathered = record {
         each = together.each;
         own = λ j s r at h. let k = place_in s.me.receipts r h in (account.within s.me.node k.0 r (owned_of s.me, at_seat j s at, k.1)).0;
         numbered = numbered;
-        records = records;
-        gapless = λ n low high. (account.keys n).1 (low, (let same = size in omega arith));
-        reads = λ k r x at h. let p = held r (in_get receipts k r at) in account.reads p.0 p.1 k r x p.2 (numbered k r at) h;
-        shows = λ count. subst (λ (n : ℕ). AreApplied (writes_to n journal) (registers_of count journal)) (sym size) (account.shows count);
+        records = subst (λ (l : List Record). journal ≡ settled journal.base.upto (unsettled l)) records account.journal;
+        covers = λ n. subst (λ (m : ℕ). Covers n journal ↔ ((1 ≤ n) × (n ≤ m))) (sym size) (account.covers n);
+        reads = λ k r x at h.
+            let p = held r (in_get receipts k r at) in
+            subst (λ (l : List Record). IsSerialRead (writes_to k l) r.writes.items x) records (account.reads p.0 p.1 k r x p.2 (numbered k r at) h);
+        shows = λ count few.
+            subst (λ (z : ℕ × List Record). AreApplied (writes_to z.0 z.1) (registers_in count journal)) (λ j. (sym size j, records j)) (account.shows count few);
       }

@@ -1,18 +1,17 @@
 -- What the stations of one table show together, and what is gathered from them.
-use Rattle.std.specs.Prelude.{◌≡◌, ◌≢◌, ℕ, suc, ◌<◌, List, [], ◌∷◌, ◌++◌, Some, map, length, take, slice_get}
+use Rattle.std.specs.Prelude.{◌≡◌, ◌≢◌, ◌↔◌, ℕ, suc, ◌<◌, ◌≤◌, List, [], ◌∷◌, ◌++◌, Some, map, length, take, slice_get}
 use Rattle.std.specs.List.Sorted.{IsNonDecreasingBy, IsPermutation}
 use mathlib.Core.Option.{some}
 use lib.ListN.{get_elem?}
 use Rattle.atomic_table.specs.Seated.{TableId}
 use Rattle.mx_stamps.specs.Lists.{IsIn}
-use Rattle.mx_journal.specs.declared.records.Record.{Record}
 use Rattle.mx_journal.specs.declared.receipts.Read.{Read}
 use Rattle.mx_journal.specs.declared.receipts.Receipt.{Receipt}
-use Rattle.mx_journal.specs.Agreement.{AreAgreeing}
 use Rattle.mx_journal.specs.Drafted.{record_of}
-use Rattle.mx_journal.specs.Gapless.{IsGapless}
 use Rattle.mx_journal.specs.Records.{Ascending}
-use Rattle.mx_registers.specs.Registers.{AreApplied, registers_of, writes_to}
+use Rattle.mx_journal.specs.Settled.{Covers, DoAgree, JournalState, settled, unsettled}
+use Rattle.mx_registers.specs.Based.{registers_in}
+use Rattle.mx_registers.specs.Registers.{AreApplied, writes_to}
 use Rattle.mx_nodelaws.specs.World.{World}
 use Rattle.mx_nodelaws.specs.Core.{Core, IsInside}
 use Rattle.mx_member.specs.declared.parcel.Parcel.{Parcel}
@@ -106,19 +105,19 @@ owned_in posts = map (λ s. owned_of s.me) posts
 
 -- the join of the first journals and the next one do not agree
 abbrev pub Disagree : {S : Type 0} → List (Owned S) → Type 0
-Disagree {S} nodes = (k : ℕ) × (o : Owned S) × (all : List Record) × IsNode nodes k o
-    × IsJoinOfNodes (take k nodes) all × (AreAgreeing all o.member.journal → ⊥)
+Disagree {S} nodes = (k : ℕ) × (o : Owned S) × (all : JournalState) × IsNode nodes k o
+    × IsJoinOfNodes (take k nodes) all × (DoAgree all o.member.journal → ⊥)
 
 -- as they are put together: the join of all journals, and all receipts, each once, by number
 pub record IsTogether {S M : Type 0} (posts : List (Post (MemberState S) (Parcel M)))
-    (journal : List Record) (receipts : List Receipt) : Type 0 where
+    (journal : JournalState) (receipts : List Receipt) : Type 0 where
   pub join : IsJoinOfNodes (owned_in posts) journal
-  pub ordered : Ascending 1 journal
+  pub ordered : Ascending (suc journal.base.upto) journal.records
   pub each : IsPermutation (receipts_of posts) receipts
   pub sorted : IsNonDecreasingBy (λ (r : Receipt). r.number) receipts
 
 -- What is gathered is one serial order of all sections that were left.
-pub record IsGathered {T P : Type 0} (posts : List (Post T P)) (journal : List Record)
+pub record IsGathered {T P : Type 0} (posts : List (Post T P)) (journal : JournalState)
     (receipts : List Receipt) : Type 0 where
   -- the receipts are those of all stations, each once, and each is of the node whose station has it
   pub each : IsPermutation (receipts_of posts) receipts
@@ -126,13 +125,15 @@ pub record IsGathered {T P : Type 0} (posts : List (Post T P)) (journal : List R
       → IsIn r s.me.receipts → r.node ≡ s.me.node
   -- they bear 1, 2, 3 and so on
   pub numbered : (k : ℕ) (r : Receipt) → slice_get receipts k ≡ Some r → r.number ≡ suc k
-  -- the journal has their records, in order, and nothing else; so it has no gap up to their count
-  pub records : journal ≡ map record_of receipts
-  pub gapless : IsGapless (length receipts) journal
+  -- the journal has their records, in order, and nothing else, but that those up to its base are
+  -- settled: the base has the registers after them
+  pub records : journal ≡ settled journal.base.upto (unsettled (map record_of receipts))
+  -- so it covers the numbers up to their count, and no others
+  pub covers : (n : ℕ) → Covers n journal ↔ ((1 ≤ n) × (n ≤ length receipts))
   -- each value read is what the writes of the receipts before, in order, and the receipt's own
   -- first writes leave
   pub reads : (k : ℕ) (r : Receipt) (x : Read) → slice_get receipts k ≡ Some r
-      → IsIn x r.reads.items → IsSerialRead (writes_to k journal) r.writes.items x
+      → IsIn x r.reads.items → IsSerialRead (writes_to k (map record_of receipts)) r.writes.items x
   -- and each register of the journal has what the writes of all receipts, in order, leave
-  pub shows : (count : ℕ)
-      → AreApplied (writes_to (length receipts) journal) (registers_of count journal)
+  pub shows : (count : ℕ) → count ≤ 32
+      → AreApplied (writes_to (length receipts) (map record_of receipts)) (registers_in count journal)

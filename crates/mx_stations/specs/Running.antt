@@ -104,6 +104,7 @@ MayDo n hand (act.Read register) = Unit {0}
 MayDo n hand (act.Write register value) = Unit {0}
 MayDo n hand act.Leave = Unit {0}
 MayDo n hand act.Cancel = Unit {0}
+MayDo n hand (act.Settle k) = Unit {0}
 MayDo n hand act.Tick = Unit {0}
 MayDo n hand (act.Want to) = to < n
 MayDo n hand (act.Deliver from p) = hand ≡ Some (from, p)

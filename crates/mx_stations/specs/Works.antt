@@ -1,4 +1,4 @@
--- The acts and moves of a station at which a worker works.
+-- The acts and moves of a station at which a worker works, and of one that settles besides.
 use Rattle.std.specs.Prelude.{◌≡◌, ◌⊎◌, ℕ, ◌<◌, List, [], ◌∷◌}
 use Rattle.mx_nodelaws.specs.Core.{Core}
 use Rattle.mx_member.specs.declared.acts.Act.{Act}
@@ -14,6 +14,7 @@ IsWorkers register n (act.Read of) = of ≡ register
 IsWorkers register n (act.Write of value) = of ≡ register
 IsWorkers register n act.Leave = Unit {0}
 IsWorkers register n act.Cancel = ⊥
+IsWorkers register n (act.Settle k) = ⊥
 IsWorkers register n act.Tick = ⊥
 IsWorkers register n (act.Want to) = to < n
 IsWorkers register n (act.Deliver from p) = ⊥
@@ -31,3 +32,19 @@ module _ {H S M : Type 0} (core : Core H S M) (register : ℕ) where
   -- some list of these, one after another
   abbrev pub Works : Station core → Station core → Type 0
   Works s t = (ms : List (Station core)) × Row ms s t
+
+module _ {H S M : Type 0} (core : Core H S M) where
+  -- the station settles, which may be refused, or it does nothing
+  abbrev pub MaySettle : Station core → Station core → Type 0
+  MaySettle s t = (t ≡ s) ⊎ ((k : ℕ) × (t ≡ does core (act.Settle k) s))
+
+module _ {H S M : Type 0} (core : Core H S M) (register : ℕ) where
+  -- stretches of work, and behind each of them the station may settle
+  abbrev pub Stretches : List (Station core) → Station core → Station core → Type 0
+  Stretches [] s t = t ≡ s
+  Stretches (m ∷ ms) s t =
+      ((n : Station core) × Works core register s n × MaySettle core n m) × Stretches ms m t
+
+  -- some list of these, one after another
+  abbrev pub WorksSettling : Station core → Station core → Type 0
+  WorksSettling s t = (ms : List (Station core)) × Stretches ms s t

@@ -4,14 +4,14 @@
 ghost use Rattle.std.specs.Prelude.{◌≡◌, ◌<◌, ◌↔◌, Err, IfOk, Ok, OnErr, OnOk};
 ghost use Rattle.std.specs.Vec.{vec_capacity, vec_len};
 ghost use Rattle.mx_nodelaws.specs.Core.{IsInside};
-ghost use Rattle.mx_member.specs.Steps.{ask_of, cancel_of, enter_of, leave_of, read_of, write_of};
-ghost use Rattle.mx_member.specs.declared.acts.Act.TheVariants.{Ask, Cancel, Enter, Leave, Read, Restart, Tick, Want, Write};
+ghost use Rattle.mx_member.specs.Steps.{ask_of, cancel_of, enter_of, leave_of, read_of, settle_of, write_of};
+ghost use Rattle.mx_member.specs.declared.acts.Act.TheVariants.{Ask, Cancel, Enter, Leave, Read, Restart, Settle, Tick, Want, Write};
 ghost use Rattle.mx_stations.specs.Posts.{does};
 
 use crate::field::act;
 use crate::station::Station;
 use crate::waiting::store_up;
-use mx_journal::Receipt;
+use mx_journal::{Receipt, SettleFault};
 use mx_member::{CloseFault, ReadFault, WriteFault};
 use mx_nodelaws::{AskFault, CancelFault, EnterFault, Exclusion, Phase};
 use mx_stamps::{NodeId, Stamp};
@@ -91,6 +91,19 @@ impl<C: Exclusion> Station<C> {
     {
         self.out.clear();
         self.member.write(register, value)?;
+        tell!(self);
+        Ok(())
+    }
+
+    /// Puts the registers after sections 1 to `upto` in place of their records in the journal. It is
+    /// no event of the core, sends nothing, and takes no memory.
+    pub fn settle(&mut self, upto: u64) -> Result<(), SettleFault>
+        ensures answer { result ≡ (settle_of upto self.old.me.member).answer }
+        ensures done { OnOk result (self.new ≡ does C.core (Settle upto) self.old) }
+        ensures refused { OnErr result (self.new ≡ self.old) }
+    {
+        self.out.clear();
+        self.member.settle(upto)?;
         tell!(self);
         Ok(())
     }

@@ -2,9 +2,8 @@
 //! All memory is taken before a seat is joined, so that whoever is refused has the stations back as
 //! they were.
 
-ghost use Rattle.std.specs.Prelude.{ℕ, ◌≡◌, ◌≤◌, ◌↔◌, ◌++◌, ◌⊎◌, Err, IfErr, IfNone, IfOk, IfSome, IsErrAnd, IsOk, IsTrue, MatchBool, OnOk};
+ghost use Rattle.std.specs.Prelude.{ℕ, suc, ◌≡◌, ◌≤◌, ◌↔◌, ◌++◌, ◌⊎◌, Err, IfErr, IfNone, IfOk, IfSome, IsErrAnd, IsOk, IsTrue, MatchBool, OnOk};
 ghost use Rattle.std.specs.List.Sorted.{IsNonDecreasingBy, IsPermutation};
-ghost use Rattle.mx_journal.specs.Bases.{origin};
 ghost use Rattle.mx_journal.specs.Records.{Ascending};
 ghost use Rattle.mx_journal.specs.declared.receipts.Receipt.{Receipt as OneReceipt};
 ghost use Rattle.mx_nodelaws.specs.Core.{IsInside};
@@ -23,7 +22,7 @@ use thiserror::Error;
 /// What the stations of a table have together.
 #[derive(Drop)]
 pub struct Gathered {
-    /// The records of all sections that were left.
+    /// All sections that were left, settled as far as any station has settled them.
     pub journal: Journal,
     /// Their receipts, in order of number.
     pub receipts: Vec<Receipt>,
@@ -147,10 +146,9 @@ fn fault_of<C: Exclusion>(stations: &[Station<C>]) -> Option<GatherFault>
 
 /// The journals of all stations, merged one after another into an empty one.
 fn merge_all<C: Exclusion>(alloc: Global, stations: &[Station<C>]) -> Result<Journal, MergeFault>
-    ensures base { IfOk result (λ journal. journal.base ≡ origin) }
-    ensures join { IfOk result (λ journal.
-        IsJoinOfNodes (owned_in stations.now) journal.records) }
-    ensures ordered { IfOk result (λ journal. Ascending 1 journal.records) }
+    ensures join { IfOk result (λ journal. IsJoinOfNodes (owned_in stations.now) journal) }
+    ensures ordered { IfOk result (λ journal.
+        Ascending (suc journal.base.upto) journal.records) }
     ensures conflict { (n : ℕ) → (result ≡ Err (MergeFault.Conflict n))
         → Disagree (owned_in stations.now) }
 {
@@ -195,8 +193,7 @@ fn put_together<C: Exclusion>(
     stations: &[Station<C>],
 ) -> Result<Gathered, MergeFault>
     ensures ok { IfOk result (λ all.
-        IsTogether stations.now all.journal.records all.receipts.items) }
-    ensures base { IfOk result (λ all. all.journal.base ≡ origin) }
+        IsTogether stations.now all.journal all.receipts.items) }
     ensures conflict { (n : ℕ) → (result ≡ Err (MergeFault.Conflict n))
         → Disagree (owned_in stations.now) }
 {
@@ -206,7 +203,7 @@ fn put_together<C: Exclusion>(
 }
 
 /// Gathers the stations of one table: the receipts of all sections that were left, in order, and
-/// the journal of their records. It needs the stations of all nodes, in any order, and nobody may
+/// the journal of these sections. It needs the stations of all nodes, in any order, and nobody may
 /// be inside. What was sent and not yet delivered is dropped with the table.
 pub fn gather<C: Exclusion>(
     alloc: Global,
@@ -214,8 +211,9 @@ pub fn gather<C: Exclusion>(
 ) -> Result<Gathered, Ungathered<C>>
     requires { OfOneTable stations.items }
     ensures ok { IfOk result (λ all.
-        IsGathered stations.items all.journal.records all.receipts.items) }
-    ensures base { IfOk result (λ all. all.journal.base ≡ origin) }
+        IsGathered stations.items all.journal all.receipts.items) }
+    ensures merged { IfOk result (λ all.
+        IsJoinOfNodes (owned_in stations.items) all.journal) }
     ensures not_all { (i : ℕ) → IsErrAnd result (λ back. back.fault ≡ GatherFault.NotAll i)
         ↔ IsLeastMissing stations.items i }
     ensures still_inside { (i : ℕ) →

@@ -1,9 +1,9 @@
 //! One node, with its seat at the table, and what it knows of itself.
 
 ghost use Rattle.std.specs.Prelude.{◌≡◌, ◌<◌, ◌≤◌, length};
-ghost use Rattle.mx_journal.specs.Settled.{unsettled};
 ghost use Rattle.mx_nodelaws.specs.Core.{BearsNumber};
-ghost use Rattle.mx_registers.specs.Registers.{registers_of, value_in};
+ghost use Rattle.mx_registers.specs.Based.{registers_in};
+ghost use Rattle.mx_registers.specs.Registers.{value_in};
 
 use crate::field::{Field, Place};
 use crate::waiting::Waiting;
@@ -90,18 +90,18 @@ impl<C: Exclusion> Station<C> {
         self.member.mine()
     }
 
-    /// The records that it knows, as a journal that has settled nothing.
+    /// The sections that it knows.
     pub fn journal(&self) -> &Journal
-        ensures { result.now ≡ unsettled self.now.me.member.journal }
+        ensures { result.now ≡ self.now.me.member.journal }
     {
         self.member.journal()
     }
 
-    /// The value of a register after all the records that it knows; there may be sections between
+    /// The value of a register after all the sections that it knows; there may be sections between
     /// them that it does not know. None where there is no such register.
     pub fn value(&self, register: u8) -> Option<u64>
         ensures { result ≡ value_in register
-            (registers_of self.now.me.member.setting.registers self.now.me.member.journal) }
+            (registers_in self.now.me.member.setting.registers self.now.me.member.journal) }
     {
         self.member.value(register)
     }

@@ -2,7 +2,7 @@
 //! table says of the nodes in view.
 
 ghost use Rattle.std.specs.Prelude.{◌≡◌, ◌≢◌, ◌%◌, ◌<◌, ◌++◌, [], ◌∷◌};
-ghost use Rattle.mx_journal.specs.Agreement.{AreAgreeing};
+ghost use Rattle.mx_journal.specs.Settled.{DoAgree};
 ghost use Rattle.mx_nodelaws.specs.Core.{IsInside};
 ghost use Rattle.mx_stations.specs.Entries.{Node};
 ghost use Rattle.mx_stations.specs.Running.{word_of};
@@ -78,7 +78,7 @@ impl<C: Exclusion> Station<C> {
             → IsInside C.core other.old.me.member.core → ⊥ }
         ensures words { word_of C.core self.old.me.member % 2 ≡ 1
             → word_of C.core other.old.me.member % 2 ≡ 1 → ⊥ }
-        ensures agreed { AreAgreeing self.old.me.member.journal other.old.me.member.journal }
+        ensures agreed { DoAgree self.old.me.member.journal other.old.me.member.journal }
     {
         see_both(&self.field, &mut self.seat, &mut other.seat);
     }

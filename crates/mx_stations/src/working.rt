@@ -45,9 +45,9 @@ pub enum Worked {
 /// Where a worker stands: whether it has written in its section, and which node it asked last for
 /// the records that it lacks.
 #[derive(Drop)]
-struct Stance {
-    written: bool,
-    wanted: NodeId,
+pub(crate) struct Stance {
+    pub(crate) written: bool,
+    pub(crate) wanted: NodeId,
 }
 
 /// Waits at the gate, and then works at the station for at most so many turns. In each, the acts
@@ -106,7 +106,7 @@ fn work_at<C: Exclusion, G: Gate, F: Fates>(
 }
 
 /// Whether the station has so many sections, and is not inside another.
-fn is_finished<C: Exclusion>(station: &Station<C>, sections: u64) -> bool
+pub(crate) fn is_finished<C: Exclusion>(station: &Station<C>, sections: u64) -> bool
     ensures enough { IsTrue result → sections ≤ length station.now.me.receipts }
     ensures outside { IsTrue result → IsInside C.core station.now.me.member.core → ⊥ }
 {
@@ -125,7 +125,7 @@ fn has_sections<C: Exclusion>(station: &Station<C>, sections: u64) -> bool
 
 /// The acts that are due, and a turn of the station. An act that is not due is refused, which
 /// changes nothing. A turn in which memory is refused is a turn too.
-fn take_turn<C: Exclusion, F: Fates>(
+pub(crate) fn take_turn<C: Exclusion, F: Fates>(
     station: &mut Station<C>,
     script: &Script,
     stance: &mut Stance,
@@ -169,7 +169,9 @@ fn add_if_due<C: Exclusion>(station: &mut Station<C>, register: u8, stance: &mut
             stance.written = station.write(register, value.wrapping_add(1)).is_ok();
         }
         Err(ReadFault::Gap(_)) => want_next(station, stance),
-        Err(ReadFault::NotInside | ReadFault::NoRegister | ReadFault::Full) => {}
+        Err(
+            ReadFault::NotInside | ReadFault::NoRegister | ReadFault::Full | ReadFault::Settled(_),
+        ) => {}
     }
 }
 

@@ -43,7 +43,11 @@ unreachable-requires g c =
 pub returns-in-Ok-clause-ok : goal.returns-in-Ok-clause-ok
 returns-in-Ok-clause-ok g c =
     gathered g.C.Exclusion.core g.C.Exclusion.Good c.args.stations.items c.join_all.ensures (subst IsWhole c.as_slice.ensures.value c.in_default.ensures.none.0) _ _
-    (subst (λ l. IsTogether l c.in-Ok.gathered.journal.records c.in-Ok.gathered.receipts.items) c.as_slice-2.ensures.value c.in-Ok.ensures.ok)
+    (subst (λ l. IsTogether l c.in-Ok.gathered.journal c.in-Ok.gathered.receipts.items) c.as_slice-2.ensures.value c.in-Ok.ensures.ok)
+
+pub returns-in-Ok-clause-merged : goal.returns-in-Ok-clause-merged
+returns-in-Ok-clause-merged g c =
+    (subst (λ l. IsTogether l c.in-Ok.gathered.journal c.in-Ok.gathered.receipts.items) c.as_slice-2.ensures.value c.in-Ok.ensures.ok).join
 
 pub returns-in-Ok-clause-not_all : goal.returns-in-Ok-clause-not_all
 returns-in-Ok-clause-not_all g c =

@@ -1,5 +1,4 @@
-use Rattle.std.proofs.Common.{◌≡◌, take}
-use Rattle.mx_journal.specs.Bases.{origin}
+use Rattle.std.proofs.Common.{suc, take}
 use Rattle.mx_journal.specs.Records.{Ascending}
 use Rattle.mx_member.specs.Running.{IsJoinOfNodes}
 use Rattle.mx_stations.specs.Gathered.{owned_in}
@@ -7,7 +6,6 @@ use Rattle.mx_stations.proofs.gathering.merge_all.Given as goal
 
 abbrev pub invariant-loop-station : goal.invariant-loop-station
 invariant-loop-station g l = record {
-  base : l.all.base ≡ origin;
-  join : IsJoinOfNodes (take l.station-index (owned_in l.stations)) l.all.records;
-  ordered : Ascending 1 l.all.records;
+  join : IsJoinOfNodes (take l.station-index (owned_in l.stations)) l.all;
+  ordered : Ascending (suc l.all.base.upto) l.all.records;
 }

@@ -1,25 +1,7 @@
-use Rattle.std.proofs.Common.{◌≡◌, ℕ, refl, sym}
-use Rattle.mx_stations.specs.declared.working.Worked.TheVariants.{Done, NotYet, GateShut}
+use Rattle.std.proofs.Common.{refl, sym}
+use Rattle.mx_stations.proofs.Endings.{done_not_yet, done_shut, not_yet_shut, same_turns, shut_done, shut_not_yet}
 use Rattle.mx_stations.proofs.Toils.{rests, works_on}
 use Rattle.mx_stations.proofs.working.work_at.Goals as goal
-
-shut_done : GateShut ≡ Done → ⊥
-shut_done e = cc
-
-shut_not_yet : (n : ℕ) → GateShut ≡ NotYet n → ⊥
-shut_not_yet n e = cc
-
-done_not_yet : (n : ℕ) → Done ≡ NotYet n → ⊥
-done_not_yet n e = cc
-
-done_shut : Done ≡ GateShut → ⊥
-done_shut e = cc
-
-not_yet_shut : (n : ℕ) → NotYet n ≡ GateShut → ⊥
-not_yet_shut n e = cc
-
-same_turns : (m n : ℕ) → NotYet m ≡ NotYet n → n ≡ m
-same_turns m n e = cc
 
 pub returns-then-not-arrive-clause-works : goal.returns-then-not-arrive-clause-works
 returns-then-not-arrive-clause-works g c = rests g.C.Exclusion.core c.args.script.now.register _ _ refl

@@ -1,0 +1,55 @@
+use Rattle.std.proofs.Common.{refl, sym}
+use Rattle.mx_stations.proofs.Endings.{done_not_yet, done_shut, not_yet_shut, same_turns, shut_done, shut_not_yet}
+use Rattle.mx_stations.proofs.Stretching.{stretches_on, stretches_rest}
+use Rattle.mx_stations.proofs.settling.settle_on.Goals as goal
+
+pub returns-then-not-arrive-clause-works : goal.returns-then-not-arrive-clause-works
+returns-then-not-arrive-clause-works g c = stretches_rest g.C.Exclusion.core c.args.script.now.register _ _ refl
+
+pub returns-then-not-arrive-clause-done : goal.returns-then-not-arrive-clause-done
+returns-then-not-arrive-clause-done g c = λ ended. absurd (shut_done ended)
+
+pub returns-then-not-arrive-clause-outside : goal.returns-then-not-arrive-clause-outside
+returns-then-not-arrive-clause-outside g c = λ ended. absurd (shut_done ended)
+
+pub returns-then-not-arrive-clause-not_yet : goal.returns-then-not-arrive-clause-not_yet
+returns-then-not-arrive-clause-not_yet g c = λ n ended. absurd (shut_not_yet n ended)
+
+pub returns-then-not-arrive-clause-shut : goal.returns-then-not-arrive-clause-shut
+returns-then-not-arrive-clause-shut g c = λ shut. refl
+
+pub loop-turn-init : goal.loop-turn-init
+loop-turn-init g c = stretches_rest g.C.Exclusion.core c.args.script.now.register _ _ refl
+
+pub loop-turn-preserved : goal.loop-turn-preserved
+loop-turn-preserved g c = stretches_on g.C.Exclusion.core c.args.script.now.register _ _ _ _ c.loop-turn.invariant c.take_turn.ensures c.settle_if_due.ensures
+
+pub returns-then-done-clause-works : goal.returns-then-done-clause-works
+returns-then-done-clause-works g c = stretches_on g.C.Exclusion.core c.args.script.now.register _ _ _ _ c.loop-turn.invariant c.take_turn.ensures c.settle_if_due.ensures
+
+pub returns-then-done-clause-done : goal.returns-then-done-clause-done
+returns-then-done-clause-done g c = λ ended. c.if-is_finished.ensures.enough refl
+
+pub returns-then-done-clause-outside : goal.returns-then-done-clause-outside
+returns-then-done-clause-outside g c = λ ended. c.if-is_finished.ensures.outside refl
+
+pub returns-then-done-clause-not_yet : goal.returns-then-done-clause-not_yet
+returns-then-done-clause-not_yet g c = λ n ended. absurd (done_not_yet n ended)
+
+pub returns-then-done-clause-shut : goal.returns-then-done-clause-shut
+returns-then-done-clause-shut g c = λ shut. absurd (done_shut shut)
+
+pub returns-clause-works : goal.returns-clause-works
+returns-clause-works g c = c.loop-turn.invariant
+
+pub returns-clause-done : goal.returns-clause-done
+returns-clause-done g c = λ ended. absurd (done_not_yet c.args.turns (sym ended))
+
+pub returns-clause-outside : goal.returns-clause-outside
+returns-clause-outside g c = λ ended. absurd (done_not_yet c.args.turns (sym ended))
+
+pub returns-clause-not_yet : goal.returns-clause-not_yet
+returns-clause-not_yet g c = λ n ended. same_turns c.args.turns n ended
+
+pub returns-clause-shut : goal.returns-clause-shut
+returns-clause-shut g c = λ shut. absurd (not_yet_shut c.args.turns shut)

@@ -1,0 +1,23 @@
+use Rattle.mx_stations.proofs.Stretching.{stretches_kept, stretches_node}
+use Rattle.mx_stations.proofs.settling.work_settling.Goals as goal
+
+pub returns-clause-same : goal.returns-clause-same
+returns-clause-same g c = stretches_kept g.C.Exclusion.core c.args.script.register _ _ c.settle_on-worked.ensures.works
+
+pub returns-clause-node : goal.returns-clause-node
+returns-clause-node g c = stretches_node g.C.Exclusion.core c.args.script.register _ _ c.settle_on-worked.ensures.works
+
+pub returns-clause-works : goal.returns-clause-works
+returns-clause-works g c = c.settle_on-worked.ensures.works
+
+pub returns-clause-done : goal.returns-clause-done
+returns-clause-done g c = c.settle_on-worked.ensures.done
+
+pub returns-clause-outside : goal.returns-clause-outside
+returns-clause-outside g c = c.settle_on-worked.ensures.outside
+
+pub returns-clause-not_yet : goal.returns-clause-not_yet
+returns-clause-not_yet g c = c.settle_on-worked.ensures.not_yet
+
+pub returns-clause-shut : goal.returns-clause-shut
+returns-clause-shut g c = c.settle_on-worked.ensures.shut

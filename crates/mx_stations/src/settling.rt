@@ -1,0 +1,87 @@
+//! A worker that settles: now and then it puts registers in place of the records that its station
+//! has without gaps.
+
+ghost use Rattle.std.specs.Prelude.{◌≡◌, ◌≤◌, ℕ, length};
+ghost use Rattle.mx_nodelaws.specs.Core.{IsInside};
+ghost use Rattle.mx_stations.specs.Gathered.{KeepsTable};
+ghost use Rattle.mx_stations.specs.Works.{MaySettle, WorksSettling};
+
+use crate::station::Station;
+use crate::working::{Gate, Script, Stance, Worked, is_finished, take_turn};
+use mx_letters::Fates;
+use mx_nodelaws::Exclusion;
+
+/// Works as `work` does, and settles: in a turn in which the station leaves a section, where `every`
+/// divides how many it has left by then, the registers after all sections that its journal covers
+/// without gaps come in place of their records. With 0 it never settles.
+pub fn work_settling<C: Exclusion, G: Gate, F: Fates + Drop>(
+    mut station: Station<C>,
+    script: Script,
+    every: u64,
+    gate: &G,
+    mut fates: F,
+    turns: u64,
+) -> (Station<C>, Worked)
+    ensures works { WorksSettling C.core script.register station result.0 }
+    ensures same { KeepsTable station result.0 }
+    ensures node { result.0.me.node ≡ station.me.node }
+    ensures done { result.1 ≡ Worked.Done → script.sections ≤ length result.0.me.receipts }
+    ensures outside { result.1 ≡ Worked.Done → IsInside C.core result.0.me.member.core → ⊥ }
+    ensures not_yet { (n : ℕ) → result.1 ≡ Worked.NotYet n → n ≡ turns }
+    ensures shut { result.1 ≡ Worked.GateShut → result.0 ≡ station }
+{
+    let worked = settle_on(&mut station, &script, every, gate, &mut fates, turns);
+    (station, worked)
+}
+
+fn settle_on<C: Exclusion, G: Gate, F: Fates>(
+    station: &mut Station<C>,
+    script: &Script,
+    every: u64,
+    gate: &G,
+    fates: &mut F,
+    turns: u64,
+) -> Worked
+    ensures works { WorksSettling C.core script.now.register station.old station.new }
+    ensures done { result ≡ Worked.Done → script.now.sections ≤ length station.new.me.receipts }
+    ensures outside { result ≡ Worked.Done → IsInside C.core station.new.me.member.core → ⊥ }
+    ensures not_yet { (n : ℕ) → result ≡ Worked.NotYet n → n ≡ turns }
+    ensures shut { result ≡ Worked.GateShut → station.new ≡ station.old }
+{
+    let node = station.node();
+    if !gate.arrive(node) {
+        return Worked::GateShut;
+    }
+    let mut stance = Stance {
+        written: false,
+        wanted: node,
+    };
+    for _turn in 0..turns {
+        let before = station.receipts().len();
+        take_turn(station, script, &mut stance, fates);
+        settle_if_due(station, before, every);
+        if is_finished(station, script.sections) && gate.done(node) {
+            return Worked::Done;
+        }
+    }
+    Worked::NotYet(turns)
+}
+
+/// Settles all that the journal covers without gaps, where that is due.
+fn settle_if_due<C: Exclusion>(station: &mut Station<C>, before: usize, every: u64)
+    ensures { MaySettle C.core station.old station.new }
+{
+    if is_due(before, station.receipts().len(), every) {
+        let upto = station.journal().gapless_to();
+        let _ = station.settle(upto);
+    }
+}
+
+/// Whether a section was left, since there were so many before, and the number divides how many
+/// there are now.
+fn is_due(before: usize, now: usize, every: u64) -> bool {
+    if every == 0 || before == now {
+        return false;
+    }
+    now as u64 % every == 0
+}
