@@ -5,13 +5,13 @@ use Rattle.std.specs.Option.{option_map_or}
 use Rattle.std.specs.Str.{bytes_eq}
 use Rattle.std.proofs.lemmas.List.Quantifiers.{position-Some}
 use Rattle.serde_json.specs.Data.{Data}
-use Rattle.mx_network.specs.declared.event.Event.{Event}
-use Rattle.mx_network.specs.declared.event.Event.TheVariants.{Ask, Enter, Leave, Cancel, Tick, Restart}
+use Rattle.mx_events.specs.declared.event.Event.{Event}
+use Rattle.mx_events.specs.declared.event.Event.TheVariants.{Ask, Enter, Leave, Cancel, Tick, Settle, Restart}
 use Rattle.mx_plan.specs.Text.{Text}
 use Rattle.mx_plan.specs.Fields.{Fields}
 use Rattle.mx_plan.specs.NameLists.{is_name_value}
 use Rattle.mx_plan.specs.Values.{and_then, each_from, elements, list_in, number_of, text_of, value_of}
-use Rattle.mx_plan.specs.Events.{acting, event_of, events_at, events_from, events_of, few, listed, misfit, node_in, reading, register_in, wanting, with_one, with_two, with_three, writing_of}
+use Rattle.mx_plan.specs.Events.{acting, event_of, events_at, events_from, events_of, few, listed, misfit, node_in, reading, register_in, settling, wanting, with_one, with_two, with_three, writing_of}
 use Rattle.mx_plan.specs.declared.place.Place.TheVariants as place
 use Rattle.mx_plan.specs.declared.faults.PlanFault.{PlanFault}
 use Rattle.mx_plan.specs.declared.faults.PlanFault.TheVariants.{NotJson, NotPlan, UnknownName}
@@ -59,6 +59,9 @@ module _ (p : Fields) where
     wanting_named : (n m : Data) → Named (wanting p k n m)
     wanting_named n m = either (is_name_value n && is_name_value m) _ _ (with_node n _ (λ i lt. with_node m _ (λ j less. (lt, less)))) tt
 
+    settling_named : (n v : Data) → Named (settling p k n v)
+    settling_named n v = with_number (number_of (Some v)) _ _ (λ upto. acting_named (λ i. Settle i upto) n (λ i lt. lt))
+
     writing_named : (n r : Data) (value : ℕ) → Named (writing_of p k n r value)
     writing_named n r value =
         either (is_name_value n && is_name_value r) _ _ (with_node n _ (λ i lt. with_register (register_in p k r) _ (λ j. lt))) tt
@@ -76,7 +79,8 @@ module _ (p : Fields) where
     two_named : (w : Text) (a b : Data) → Named (with_two p k w a b)
     two_named w a b =
         either (bytes_eq w (codes "read")) _ _ (reading_named a b)
-        (either (bytes_eq w (codes "want")) _ _ (wanting_named a b) tt)
+        (either (bytes_eq w (codes "want")) _ _ (wanting_named a b)
+        (either (bytes_eq w (codes "settle")) _ _ (settling_named a b) tt))
 
     three_named : (w : Text) (a b c : Data) → Named (with_three p k w a b c)
     three_named w a b c =

@@ -3,7 +3,7 @@ use Rattle.std.proofs.Common.{◌≡◌, ◌∙◌, ◌<◌, ◌≤◌, ◌+◌,
 use Rattle.std.proofs.lemmas.List.{at_drop_all, at_drop_more}
 use Rattle.mx_nodelaws.specs.Core.{Core}
 use Rattle.mx_network.specs.Step.{ClusterState}
-use Rattle.mx_network.specs.declared.event.Event.{Event}
+use Rattle.mx_events.specs.declared.event.Event.{Event}
 use Rattle.mx_explorer.specs.Place.{place_of}
 use Rattle.mx_explorer.specs.declared.verdict.Verdict.{Verdict}
 use Rattle.mx_explorer.specs.declared.verdict.Verdict.TheVariants.{Sound}

@@ -13,8 +13,8 @@ use Rattle.mx_member.specs.declared.acts.Act.{Act}
 use Rattle.mx_member.specs.Member.{MemberState}
 use Rattle.mx_member.specs.Steps.{start_of}
 use Rattle.mx_network.specs.Step.{ClusterState, step_of, at_part, at_member, part_of, grown, answer_of, NamesNoNode}
-use Rattle.mx_network.specs.declared.event.Event.{Event}
-use Rattle.mx_network.specs.declared.event.Event.TheVariants as event
+use Rattle.mx_events.specs.declared.event.Event.{Event}
+use Rattle.mx_events.specs.declared.event.Event.TheVariants as event
 use Rattle.mx_network.specs.declared.outcome.Outcome.{Outcome}
 use Rattle.mx_network.specs.declared.faults.StepFault.{StepFault}
 use Rattle.mx_network.specs.declared.faults.StepFault.TheVariants as step_fault
@@ -112,6 +112,7 @@ has_nodes g (event.Cancel i) lt le = absurd (omega (arith, lt, le))
 has_nodes g (event.Tick i) lt le = absurd (omega (arith, lt, le))
 has_nodes g (event.Want i j) lt (inl le) = let h = lt.0 in absurd (omega (arith, h, le))
 has_nodes g (event.Want i j) lt (inr le) = let h = lt.1 in absurd (omega (arith, h, le))
+has_nodes g (event.Settle i upto) lt le = absurd (omega (arith, lt, le))
 has_nodes g (event.Restart i) lt le = absurd (omega (arith, lt, le))
 has_nodes g (event.Deliver k) lt le = le
 

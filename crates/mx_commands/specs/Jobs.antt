@@ -7,7 +7,7 @@ use Rattle.mx_words.specs.Words.{Task, check, replay, explore}
 use Rattle.mx_ricart.specs.Step.{ricart_core}
 use Rattle.mx_maekawa.specs.Step.{maekawa_core}
 use Rattle.mx_raymond.specs.Step.{raymond_core}
-use Rattle.mx_network.specs.declared.event.Event.{Event}
+use Rattle.mx_events.specs.declared.event.Event.{Event}
 use Rattle.mx_plan.specs.Text.{Text}
 use Rattle.mx_plan.specs.Fields.{Fields, IsPlan}
 use Rattle.mx_plan.specs.Plans.{IsOutcome, draft_at}

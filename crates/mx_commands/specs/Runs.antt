@@ -4,8 +4,8 @@ use Rattle.mx_stamps.specs.Lists.{each_below}
 use Rattle.mx_nodelaws.specs.Core.{Core}
 use Rattle.mx_member.specs.Steps.{start_of}
 use Rattle.mx_network.specs.Step.{ClusterState, step_of}
-use Rattle.mx_network.specs.declared.event.Event.{Event}
-use Rattle.mx_network.specs.declared.event.Event.TheVariants.{Ask, Enter, Read, Write, Leave, Cancel, Tick, Want, Restart, Deliver}
+use Rattle.mx_events.specs.declared.event.Event.{Event}
+use Rattle.mx_events.specs.declared.event.Event.TheVariants.{Ask, Enter, Read, Write, Leave, Cancel, Tick, Want, Settle, Restart, Deliver}
 use Rattle.mx_network.specs.declared.faults.StepFault.{StepFault}
 use Rattle.mx_network.specs.declared.outcome.Entry.{Entry}
 use Rattle.mx_plan.specs.Text.{Text}
@@ -44,6 +44,7 @@ NamesNodes n (Leave node) = node < n
 NamesNodes n (Cancel node) = node < n
 NamesNodes n (Tick node) = node < n
 NamesNodes n (Want node other) = (node < n) × (other < n)
+NamesNodes n (Settle node upto) = node < n
 NamesNodes n (Restart node) = node < n
 NamesNodes n (Deliver k) = ⊤
 

@@ -5,8 +5,8 @@ use Rattle.mx_stamps.proofs.Lists.{none_is_no_some}
 use Rattle.mx_journal.proofs.Choices.{drop_here}
 use Rattle.mx_member.specs.Sections.{Mark, Section, after_marks}
 use Rattle.mx_member.specs.Serial.{AllClosed, AllFit}
-use Rattle.mx_network.specs.declared.event.Event.{Event}
-use Rattle.mx_network.specs.declared.event.Event.TheVariants.{Enter, Read, Write, Leave, Restart}
+use Rattle.mx_events.specs.declared.event.Event.{Event}
+use Rattle.mx_events.specs.declared.event.Event.TheVariants.{Enter, Read, Write, Leave, Restart}
 use Rattle.mx_network.specs.declared.outcome.Outcome.{Outcome}
 use Rattle.mx_network.specs.declared.outcome.Outcome.TheVariants.{Entered, Value, Written, Left, Woken}
 use Rattle.mx_network.specs.declared.outcome.Entry.{Entry}

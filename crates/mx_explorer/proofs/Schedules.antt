@@ -3,8 +3,8 @@ use Rattle.std.proofs.Common.{ℕ, zero, suc, ◌≡◌, ◌≤◌, ◌<◌, ◌
 use Rattle.std.proofs.Math.Nat.{mod-lt}
 use Rattle.std.proofs.lemmas.Bool.Decides.{nat_tests}
 use Rattle.rand_pcg.specs.Lcg.{Lcg}
-use Rattle.mx_network.specs.declared.event.Event.{Event}
-use Rattle.mx_network.specs.declared.event.Event.TheVariants.{Leave, Deliver}
+use Rattle.mx_events.specs.declared.event.Event.{Event}
+use Rattle.mx_events.specs.declared.event.Event.TheVariants.{Leave, Deliver}
 use Rattle.mx_stamps.specs.Lists.{IsIn}
 use Rattle.mx_explorer.specs.Drawn.{IsDrawn, after_drawn, after_words, drawn, drawn_list, event_by, word}
 
@@ -13,7 +13,7 @@ module _ (n nodes registers : ℕ) (g : Lcg) where
   pub leaves : 6 ≤ n → n < 8 → event_by n nodes registers g ≡ Leave (word g % nodes)
   leaves more less = grind (arith, nat_tests)
 
-  pub delivers : 11 ≤ n → n < 15 → event_by n nodes registers g ≡ Deliver (word g)
+  pub delivers : 11 ≤ n → n < 14 → event_by n nodes registers g ≡ Deliver (word g)
   delivers more less = grind (arith, nat_tests)
 
 module _ (nodes registers : ℕ) (g : Lcg) (n : 0 < nodes) (r : 0 < registers) where
@@ -37,7 +37,8 @@ module _ (nodes registers : ℕ) (g : Lcg) (n : 0 < nodes) (r : 0 < registers) w
       (either (nat_lt k 9) _ _ node
       (either (nat_lt k 10) _ _ (node, mod-lt (word (after_words 1 g)) n)
       (either (nat_lt k 11) _ _ node
-      (either (nat_lt k 15) _ _ tt node))))))))
+      (either (nat_lt k 14) _ _ tt
+      (either (nat_lt k 15) _ _ node node)))))))))
 
 pub all_drawn : (steps nodes registers : ℕ) (g : Lcg) → 0 < nodes → 0 < registers → (e : Event) → IsIn e (drawn_list steps nodes registers g) → IsDrawn nodes registers e
 all_drawn zero nodes registers g n r e h = absurd h

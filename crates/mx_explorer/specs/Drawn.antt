@@ -2,8 +2,8 @@
 use Rattle.std.specs.Prelude.{ℕ, zero, suc, ◌<◌, ◌%◌, List, [], ◌∷◌, nat_lt, if◌then◌else◌}
 use Rattle.rand_pcg.specs.Lcg.{Lcg}
 use Rattle.rand_pcg.specs.Pcg.{pcg32}
-use Rattle.mx_network.specs.declared.event.Event.{Event}
-use Rattle.mx_network.specs.declared.event.Event.TheVariants.{Ask, Enter, Read, Write, Leave, Cancel, Tick, Want, Deliver, Restart}
+use Rattle.mx_events.specs.declared.event.Event.{Event}
+use Rattle.mx_events.specs.declared.event.Event.TheVariants.{Ask, Enter, Read, Write, Leave, Cancel, Tick, Want, Settle, Deliver, Restart}
 
 -- the event names only nodes below `nodes` and registers below `registers`
 abbrev pub IsDrawn : ℕ → ℕ → Event → Type 0
@@ -15,6 +15,7 @@ IsDrawn nodes registers (Leave i) = i < nodes
 IsDrawn nodes registers (Cancel i) = i < nodes
 IsDrawn nodes registers (Tick i) = i < nodes
 IsDrawn nodes registers (Want i j) = (i < nodes) × (j < nodes)
+IsDrawn nodes registers (Settle i upto) = i < nodes
 IsDrawn nodes registers (Deliver word) = Unit {0}
 IsDrawn nodes registers (Restart i) = i < nodes
 
@@ -37,7 +38,8 @@ event_by n nodes registers g =
     else if nat_lt n 9 then Tick (word g % nodes)
     else if nat_lt n 10 then Want (word g % nodes) (word (after_words 1 g) % nodes)
     else if nat_lt n 11 then Restart (word g % nodes)
-    else if nat_lt n 15 then Deliver (word g)
+    else if nat_lt n 14 then Deliver (word g)
+    else if nat_lt n 15 then Settle (word g % nodes) (word (after_words 1 g) % 17)
     else Cancel (word g % nodes)
 
 -- one word chooses which it is
@@ -49,6 +51,7 @@ abbrev pub arguments : Event → ℕ
 arguments (Read i register) = 2
 arguments (Write i register value) = 3
 arguments (Want i j) = 2
+arguments (Settle i upto) = 2
 arguments _ = 1
 
 -- the generator after an event

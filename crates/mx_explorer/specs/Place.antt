@@ -1,7 +1,7 @@
 -- The place of a drawn delivery among the parcels sent.
 use Rattle.std.specs.Prelude.{ℕ, ◌-◌, ◌%◌, Option, Some, None, min, nat_eq, if◌then◌else◌}
-use Rattle.mx_network.specs.declared.event.Event.{Event}
-use Rattle.mx_network.specs.declared.event.Event.TheVariants.{Deliver}
+use Rattle.mx_events.specs.declared.event.Event.{Event}
+use Rattle.mx_events.specs.declared.event.Event.TheVariants.{Deliver}
 
 -- one of the newest 64 parcels, counted back from the last one
 abbrev pub place_of : Event → ℕ → Option Event

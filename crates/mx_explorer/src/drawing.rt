@@ -13,6 +13,9 @@ use rand_core::utils::NextWord;
 use rand_pcg::Pcg32;
 use std::alloc::{AllocError, Global};
 
+/// A drawn section to settle up to is below this.
+const SETTLED: u8 = 17;
+
 /// A drawn schedule of this many steps, over the nodes and registers of a plan. The generator is
 /// `Pcg32` by `seed_from_u64`. Each step takes a word for the kind of the event and one for each of
 /// its arguments. The word of a delivery is not yet the number of a parcel: see `place`. Its only
@@ -87,7 +90,11 @@ fn draw_by(number: u32, words: &mut Pcg32, nodes: u8, registers: u8) -> Event
             Event::Want(node, draw_node(words, nodes))
         }
         10 => Event::Restart(draw_node(words, nodes)),
-        11..=14 => Event::Deliver(u64::from(words.next_word())),
+        11..=13 => Event::Deliver(u64::from(words.next_word())),
+        14 => {
+            let node = draw_node(words, nodes);
+            Event::Settle(node, u64::from(draw_below(words, SETTLED)))
+        }
         _ => Event::Cancel(draw_node(words, nodes)),
     }
 }

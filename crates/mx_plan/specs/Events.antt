@@ -10,8 +10,8 @@ use Rattle.mx_plan.specs.NameLists.{is_name_value, number_in}
 use Rattle.mx_plan.specs.declared.place.Place.TheVariants as place
 use Rattle.mx_plan.specs.declared.faults.PlanFault.{PlanFault}
 use Rattle.mx_plan.specs.declared.faults.PlanFault.TheVariants.{NotPlan}
-use Rattle.mx_network.specs.declared.event.Event.{Event}
-use Rattle.mx_network.specs.declared.event.Event.TheVariants.{Ask, Enter, Read, Write, Leave, Cancel, Tick, Want, Deliver, Restart}
+use Rattle.mx_events.specs.declared.event.Event.{Event}
+use Rattle.mx_events.specs.declared.event.Event.TheVariants.{Ask, Enter, Read, Write, Leave, Cancel, Tick, Want, Settle, Deliver, Restart}
 
 -- the k-th event has no such form
 abbrev pub misfit : {T : Type 0} → ℕ → Result T PlanFault
@@ -30,7 +30,7 @@ module _ (p : Fields) (k : ℕ) where
   abbrev pub register_in : Data → Result ℕ PlanFault
   register_in d = number_in (place.Event k) p.registers d
 
-  -- the node of an event that has no more than its node
+  -- the node of an event that names no other node and no register
   abbrev pub lone_node : Data → Result ℕ PlanFault
   lone_node n = if is_name_value n then node_in n else misfit k
 
@@ -51,6 +51,10 @@ module _ (p : Fields) (k : ℕ) where
       if is_name_value n && is_name_value m
       then and_then (node_in n) (λ i. and_then (node_in m) (λ j. Ok (Want i j)))
       else misfit k
+
+  -- ["settle",N,K]
+  abbrev pub settling : Data → Data → Result Event PlanFault
+  settling n v = option_map_or (λ upto. acting (λ i. Settle i upto) n) (number_of (Some v)) (misfit k)
 
   -- ["write",N,R,V], where the value is a number
   abbrev pub writing_of : Data → Data → ℕ → Result Event PlanFault
@@ -78,6 +82,7 @@ module _ (p : Fields) (k : ℕ) where
   with_two w a b =
       if bytes_eq w (codes "read") then reading a b
       else if bytes_eq w (codes "want") then wanting a b
+      else if bytes_eq w (codes "settle") then settling a b
       else misfit k
 
   abbrev pub with_three : Text → Data → Data → Data → Result Event PlanFault

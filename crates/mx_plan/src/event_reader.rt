@@ -10,7 +10,7 @@ use crate::name_reader::is_name_value;
 use crate::place::Place;
 use crate::plan::Plan;
 use crate::values::{elements, list_in, parse, text_in};
-use mx_network::Event;
+use mx_events::Event;
 use mx_stamps::NodeId;
 use serde_json::Value;
 use std::alloc::Global;
@@ -20,9 +20,9 @@ const MOST_EVENTS: usize = 1_000_000;
 
 /// Reads a list of at most 1,000,000 events. Each is an array of a word and of names of the plan's
 /// nodes and registers, and of whole numbers of 64 bits: `["ask",N]`, `["enter",N]`, `["read",N,R]`,
-/// `["write",N,R,V]`, `["leave",N]`, `["cancel",N]`, `["tick",N]`, `["want",N,M]`, `["deliver",K]`
-/// and `["restart",N]`. Each event is checked first for its form and then for its names; a longer
-/// list is refused at event 1,000,000, before its events are looked at.
+/// `["write",N,R,V]`, `["leave",N]`, `["cancel",N]`, `["tick",N]`, `["want",N,M]`, `["settle",N,K]`,
+/// `["deliver",K]` and `["restart",N]`. Each event is checked first for its form and then for its
+/// names; a longer list is refused at event 1,000,000, before its events are looked at.
 pub fn read_events(alloc: Global, text: &[u8], plan: &Plan) -> Result<Vec<Event>, PlanFault>
     ensures { Gives (spec.events_at plan.now text.now) result }
 {
@@ -93,6 +93,8 @@ fn with_two(plan: &Plan, word: &str, a: &Value, b: &Value, k: u64) -> Result<Eve
         reading(plan, a, b, k)
     } else if word == "want" {
         wanting(plan, a, b, k)
+    } else if word == "settle" {
+        settling(plan, a, b, k)
     } else {
         Err(PlanFault::NotPlan(Place::Event(k)))
     }
@@ -125,7 +127,7 @@ fn delivery(number: &Value, k: u64) -> Result<Event, PlanFault>
     }
 }
 
-/// The node of an event that has no more than its node.
+/// The node of an event that names no other node and no register.
 fn lone_node(plan: &Plan, name: &Value, k: u64) -> Result<NodeId, PlanFault>
     ensures { result ≡ spec.lone_node plan.now k (view name.now) }
 {
@@ -156,6 +158,16 @@ fn wanting(plan: &Plan, node: &Value, other: &Value, k: u64) -> Result<Event, Pl
     let node = node_in(plan, node, k)?;
     let other = node_in(plan, other, k)?;
     Ok(Event::Want(node, other))
+}
+
+fn settling(plan: &Plan, node: &Value, upto: &Value, k: u64) -> Result<Event, PlanFault>
+    ensures { result ≡ spec.settling plan.now k (view node.now) (view upto.now) }
+{
+    let Some(upto) = upto.as_u64() else {
+        return Err(PlanFault::NotPlan(Place::Event(k)));
+    };
+    let node = lone_node(plan, node, k)?;
+    Ok(Event::Settle(node, upto))
 }
 
 fn writing(

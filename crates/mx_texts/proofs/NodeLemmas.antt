@@ -2,16 +2,20 @@
 use Rattle.std.proofs.Common.{◌≡◌, ◌∙◌, ◌<◌, ◌+◌, ◌++◌, ℕ, List, Option, Some, Result, Ok, Err, OnOk, ap, append_assoc, arith, drop, length, slice_get, unwrap_or, inl, inr, []}
 use Rattle.std.specs.Prelude.{is_ok, if◌then◌else◌}
 use Rattle.std.specs.Bool.{⊤}
+use Rattle.std.specs.Option.{option_map}
 use Rattle.std.specs.declared.alloc.AllocError.{AllocError}
 use Rattle.std.proofs.lemmas.Option.{slice_get_cases}
-use Rattle.mx_journal.specs.declared.records.Record.{Record}
+use Rattle.mx_journal.specs.Settled.{JournalState}
 use Rattle.mx_nodelaws.specs.declared.phase.Phase.{Phase}
-use Rattle.mx_registers.specs.Registers.{register_of}
+use Rattle.mx_registers.specs.declared.cells.Cell.{Cell}
+use Rattle.mx_registers.specs.Based.{registers_in}
+use Rattle.mx_registers.specs.Registers.{value_in}
+use Rattle.mx_stamps.proofs.Lists.{has_each_below}
 use Rattle.mx_plan.specs.Text.{Text}
 use Rattle.mx_plan.specs.Fields.{Fields}
 use Rattle.mx_texts.specs.EventTexts.{register_name_of}
 use Rattle.mx_texts.specs.Lines.{texts_from}
-use Rattle.mx_texts.specs.NodeTexts.{standing_text, value_text}
+use Rattle.mx_texts.specs.NodeTexts.{register_in, standing_text, value_text}
 use Rattle.mx_texts.proofs.Places.{place_more}
 
 -- three texts that were appended in turn
@@ -31,13 +35,17 @@ is_at xs k lt = elim (slice_get_cases xs k).1 [
   | inr q ↦ absurd (omega (arith, lt, q.0))
 ]
 
+-- the value of a register that is there
+pub value_there : (count : ℕ) (journal : JournalState) (k : ℕ) → k < count → value_in k (registers_in count journal) ≡ Some (register_in k journal).value
+value_there count journal k lt = ap (option_map (λ (cell : Cell). cell.value)) (has_each_below (λ r. register_in r journal) count k lt)
+
 -- the value of one more register
-pub value_more : (p : Fields) (journal : List Record) (k : ℕ) (name : Text) (value : ℕ) (t t' : Text) → k < length p.registers → name ≡ register_name_of p k
-    → value ≡ (register_of k journal).value → t' ≡ t ++ value_text name value
-    → t ++ texts_from (λ register x. value_text x (register_of register journal).value) k (drop k p.registers)
-    ≡ t' ++ texts_from (λ register x. value_text x (register_of register journal).value) (k + 1) (drop (k + 1) p.registers)
+pub value_more : (p : Fields) (journal : JournalState) (k : ℕ) (name : Text) (value : ℕ) (t t' : Text) → k < length p.registers → name ≡ register_name_of p k
+    → value ≡ (register_in k journal).value → t' ≡ t ++ value_text name value
+    → t ++ texts_from (λ register x. value_text x (register_in register journal).value) k (drop k p.registers)
+    ≡ t' ++ texts_from (λ register x. value_text x (register_in register journal).value) (k + 1) (drop (k + 1) p.registers)
 value_more p journal k name value t t' lt named is e =
     let there = is_at p.registers k lt in
     let name_is : name ≡ there.0 = named ∙ ap (λ (o : Option Text). unwrap_or o []) there.1 in
-    place_more (λ register x. value_text x (register_of register journal).value) p.registers k there.0 t t' there.1
+    place_more (λ register x. value_text x (register_in register journal).value) p.registers k there.0 t t' there.1
     (e ∙ ap (λ (x : Text). t ++ value_text x value) name_is ∙ ap (λ (v : ℕ). t ++ value_text there.0 v) is)

@@ -1,11 +1,11 @@
 -- The lines of events.
 use Rattle.std.specs.Prelude.{ℕ, [], ◌++◌, codes, decimal, length, slice_get, unwrap_or}
-use Rattle.mx_network.specs.declared.event.Event.{Event}
-use Rattle.mx_network.specs.declared.event.Event.TheVariants.{Ask, Enter, Read, Write, Leave, Cancel, Tick, Want, Restart, Deliver}
+use Rattle.mx_events.specs.declared.event.Event.{Event}
+use Rattle.mx_events.specs.declared.event.Event.TheVariants.{Ask, Enter, Read, Write, Leave, Cancel, Tick, Want, Settle, Restart, Deliver}
 use Rattle.mx_network.specs.declared.outcome.Cause.{Cause}
-use Rattle.mx_network.specs.declared.outcome.Cause.TheVariants.{NotIdle, StampsSpent, NotWaiting, NotGranted, NumbersSpent, NotInside, NoRegister, Gap, Full}
+use Rattle.mx_network.specs.declared.outcome.Cause.TheVariants.{NotIdle, StampsSpent, NotWaiting, NotGranted, NumbersSpent, NotInside, NoRegister, Gap, Full, Below}
 use Rattle.mx_network.specs.declared.outcome.Outcome.{Outcome}
-use Rattle.mx_network.specs.declared.outcome.Outcome.TheVariants.{Asked, Entered, Value, Written, Left, Cancelled, Sent, Delivered, Woken, Refused}
+use Rattle.mx_network.specs.declared.outcome.Outcome.TheVariants.{Asked, Entered, Value, Written, Left, Cancelled, Sent, Settled, Delivered, Woken, Refused}
 use Rattle.mx_plan.specs.Text.{Text}
 use Rattle.mx_plan.specs.Fields.{Fields}
 use Rattle.mx_texts.specs.Lines.{line_feed}
@@ -28,6 +28,7 @@ cause_text NotInside = codes "not inside"
 cause_text NoRegister = codes "no register"
 cause_text (Gap n) = codes "gap " ++ decimal n
 cause_text Full = codes "full"
+cause_text (Below k) = codes "below " ++ decimal k
 
 abbrev pub outcome_text : Outcome → Text
 outcome_text (Asked stamp) = codes "asked " ++ decimal stamp.number
@@ -37,6 +38,7 @@ outcome_text Written = codes "written"
 outcome_text (Left receipt) = codes "left " ++ decimal receipt.number ++ codes " writes " ++ decimal (length receipt.writes.items)
 outcome_text Cancelled = codes "cancelled"
 outcome_text (Sent count) = codes "sent " ++ decimal count
+outcome_text Settled = codes "settled"
 outcome_text Delivered = codes "delivered"
 outcome_text Woken = codes "woken"
 outcome_text (Refused cause) = codes "refused " ++ cause_text cause
@@ -52,6 +54,7 @@ event_text p (Leave node) = codes "leave " ++ name_of p node
 event_text p (Cancel node) = codes "cancel " ++ name_of p node
 event_text p (Tick node) = codes "tick " ++ name_of p node
 event_text p (Want node other) = codes "want " ++ name_of p node ++ codes " " ++ name_of p other
+event_text p (Settle node upto) = codes "settle " ++ name_of p node ++ codes " " ++ decimal upto
 event_text p (Restart node) = codes "restart " ++ name_of p node
 event_text p (Deliver k) = codes "deliver " ++ decimal k
 

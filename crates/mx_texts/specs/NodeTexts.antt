@@ -1,12 +1,13 @@
 -- The lines of nodes: where each stands, and what its journal has.
-use Rattle.std.specs.Prelude.{ℕ, ◌-◌, List, ◌++◌, codes, decimal, length}
-use Rattle.mx_journal.specs.declared.records.Record.{Record}
-use Rattle.mx_journal.specs.Gapless.{first_missing}
-use Rattle.mx_registers.specs.Registers.{register_of}
+use Rattle.std.specs.Prelude.{ℕ, ◌-◌, ◌++◌, codes, decimal, length}
+use Rattle.mx_journal.specs.Settled.{JournalState}
+use Rattle.mx_registers.specs.declared.cells.Cell.{Cell}
+use Rattle.mx_registers.specs.Based.{cell_in}
+use Rattle.mx_registers.specs.Registers.{after_records}
 use Rattle.mx_nodelaws.specs.declared.phase.Phase.{Phase}
 use Rattle.mx_nodelaws.specs.declared.phase.Phase.TheVariants.{Idle, Waiting, Inside}
 use Rattle.mx_nodelaws.specs.Core.{Core}
-use Rattle.mx_member.specs.Member.{MemberState}
+use Rattle.mx_member.specs.Member.{MemberState, first_gap}
 use Rattle.mx_network.specs.Step.{ClusterState}
 use Rattle.mx_plan.specs.Text.{Text}
 use Rattle.mx_plan.specs.Fields.{Fields}
@@ -22,19 +23,23 @@ phase_text (Inside n) = codes "inside " ++ decimal n
 abbrev pub standing_text : Text → Phase → ℕ → Text
 standing_text name phase mine = name ++ codes ": " ++ phase_text phase ++ codes ", mine " ++ decimal mine
 
--- how many records a journal has, and up to which number none is missing
+-- how many records a journal has above its base, and up to which number none is missing
 abbrev pub known_text : ℕ → ℕ → Text
 known_text records gapless = codes ", records " ++ decimal records ++ codes ", gapless " ++ decimal gapless
 
 abbrev pub value_text : Text → ℕ → Text
 value_text name value = codes ", " ++ name ++ codes "=" ++ decimal value
 
--- the value of each register, after all records of a journal
-abbrev pub values_text : Fields → List Record → Text
-values_text p journal = texts_from (λ register name. value_text name (register_of register journal).value) 0 p.registers
+-- what a register holds in a journal: what the base has, after the records above it
+abbrev pub register_in : ℕ → JournalState → Cell
+register_in register journal = after_records register journal.records (cell_in register journal.base)
 
-abbrev pub journal_text : Fields → List Record → Text
-journal_text p journal = known_text (length journal) (first_missing 1 journal - 1) ++ values_text p journal
+-- the value of each register in a journal
+abbrev pub values_text : Fields → JournalState → Text
+values_text p journal = texts_from (λ register name. value_text name (register_in register journal).value) 0 p.registers
+
+abbrev pub journal_text : Fields → JournalState → Text
+journal_text p journal = known_text (length journal.records) (first_gap journal - 1) ++ values_text p journal
 
 -- the line of the i-th node
 abbrev pub member_line : {H S M : Type 0} → Core H S M → Fields → ℕ → MemberState S → Text

@@ -40,6 +40,7 @@ impl fmt::Display for CauseText<'_> {
             Cause::NoRegister => write!(f, "no register"),
             Cause::Gap(number) => write!(f, "gap {number}"),
             Cause::Full => write!(f, "full"),
+            Cause::Below(number) => write!(f, "below {number}"),
         }
     }
 }
@@ -63,6 +64,7 @@ impl fmt::Display for OutcomeText<'_> {
             }
             Outcome::Cancelled => write!(f, "cancelled"),
             Outcome::Sent(count) => write!(f, "sent {count}"),
+            Outcome::Settled => write!(f, "settled"),
             Outcome::Delivered => write!(f, "delivered"),
             Outcome::Woken => write!(f, "woken"),
             Outcome::Refused(cause) => write!(f, "refused {}", CauseText(cause)),
@@ -101,6 +103,10 @@ impl fmt::Display for EventText<'_> {
                 let name = name_of(self.plan, *node);
                 let other = name_of(self.plan, *other);
                 write!(f, "want {name} {other}")
+            }
+            Event::Settle(node, upto) => {
+                let name = name_of(self.plan, *node);
+                write!(f, "settle {name} {upto}")
             }
             Event::Restart(node) => write!(f, "restart {}", name_of(self.plan, *node)),
             Event::Deliver(number) => write!(f, "deliver {number}"),

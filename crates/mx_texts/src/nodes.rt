@@ -1,7 +1,6 @@
 //! The line of each node: where it stands, and what its journal has.
 
 ghost use Rattle.std.specs.Prelude.{◌≡◌, ◌+◌, ◌<◌, ◌++◌, length, drop, string_bytes, OnOk};
-ghost use Rattle.mx_journal.specs.Bases.{origin};
 ghost use Rattle.mx_texts.specs.NodeTexts.{journal_text, member_line, node_lines, values_text};
 ghost use Rattle.mx_texts.specs.Lines.{texts_from};
 
@@ -74,12 +73,10 @@ fn add_member_line<C: Exclusion>(
     text.push_str("\n")
 }
 
-/// Appends what a journal that has settled nothing has, and the value of each register after all its
-/// records.
+/// Appends what a journal has, and the value of each register in it.
 fn add_journal(plan: &Plan, journal: &Journal, text: &mut String) -> Result<(), AllocError>
-    requires { journal.now.base ≡ origin }
     ensures { OnOk result (string_bytes text.new
-        ≡ string_bytes text.old ++ journal_text plan.now journal.now.records) }
+        ≡ string_bytes text.old ++ journal_text plan.now journal.now) }
 {
     text.write(Known {
         records: journal.len() as u64,
@@ -90,9 +87,8 @@ fn add_journal(plan: &Plan, journal: &Journal, text: &mut String) -> Result<(), 
 
 /// Appends the name and the value of each register.
 fn add_values(plan: &Plan, journal: &Journal, text: &mut String) -> Result<(), AllocError>
-    requires { journal.now.base ≡ origin }
     ensures { OnOk result (string_bytes text.new
-        ≡ string_bytes text.old ++ values_text plan.now journal.now.records) }
+        ≡ string_bytes text.old ++ values_text plan.now journal.now) }
 {
     let shown = view(journal, plan.registers());
     for register in 0..plan.registers() {

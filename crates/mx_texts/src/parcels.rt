@@ -1,11 +1,11 @@
 //! The lines of parcels.
 
 ghost use Rattle.std.specs.Prelude.{◌≡◌, ◌+◌, ◌<◌, ◌≤◌, ◌++◌, OnOk, Some, codes, drop, length, string_bytes};
-ghost use Rattle.mx_texts.specs.ParcelTexts.{range_text, record_text, want_text, records_text, route_text, parcel_text, parcel_line, parcel_lines};
+ghost use Rattle.mx_texts.specs.ParcelTexts.{base_text, range_text, record_text, want_text, records_text, route_text, parcel_text, parcel_line, parcel_lines};
 
 use crate::events::name_of;
 use crate::letters::Letter;
-use mx_journal::{Range, Record};
+use mx_journal::{Base, Range, Record};
 use mx_member::Parcel;
 use mx_network::Cluster;
 use mx_nodelaws::Exclusion;
@@ -55,6 +55,19 @@ impl fmt::Display for RecordText<'_> {
 
     fn fmt<W: fmt::Write>(&self, f: &mut fmt::Formatter<W>) -> fmt::Result {
         write!(f, " {}", self.0.number)
+    }
+}
+
+/// A base, by the number of its last section alone.
+#[derive(Clone, Copy)]
+pub struct BaseText<'a>(pub &'a Base);
+
+impl fmt::Display for BaseText<'_> {
+    ghost output = { λ b. Some (base_text b.0.now) };
+
+    fn fmt<W: fmt::Write>(&self, f: &mut fmt::Formatter<W>) -> fmt::Result {
+        let upto = self.0.upto();
+        write!(f, "base {upto}")
     }
 }
 
@@ -134,6 +147,7 @@ fn add_parcel<M: Letter>(
     match parcel {
         Parcel::Guard(letter) => letter.tell(plan, text),
         Parcel::Want(ranges) => add_want(ranges.as_slice(), text),
+        Parcel::Base(base) => text.write(BaseText(base)),
         Parcel::Records(records) => add_records(records.as_slice(), text),
     }
 }

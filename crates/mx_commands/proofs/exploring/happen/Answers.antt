@@ -1,5 +1,5 @@
 use Rattle.std.proofs.Common.{◌∙◌, ap, length, sym}
-use Rattle.mx_network.specs.declared.event.Event.{Event}
+use Rattle.mx_events.specs.declared.event.Event.{Event}
 use Rattle.mx_network.specs.Step.{ClusterState}
 use Rattle.mx_explorer.specs.Place.{place_of}
 use Rattle.mx_commands.specs.Explored.{after_drawn, after_placed}

@@ -2,7 +2,7 @@ use Rattle.std.proofs.Common.{List, arith, length, sym, subst}
 use Rattle.mx_ricart.specs.Step.{ricart_core}
 use Rattle.mx_maekawa.specs.Step.{maekawa_core}
 use Rattle.mx_raymond.specs.Step.{raymond_core}
-use Rattle.mx_network.specs.declared.event.Event.{Event}
+use Rattle.mx_events.specs.declared.event.Event.{Event}
 use Rattle.mx_plan.specs.Fields.{IsShape}
 use Rattle.mx_plan.specs.declared.shape.Shape.{Shape}
 use Rattle.mx_commands.specs.Runs.{AllNameNodes}

@@ -2,7 +2,7 @@ use Rattle.std.proofs.Common.{◌≡◌, ◌∙◌, ◌++◌, ◌+◌, [], ◌�
 use Rattle.std.specs.Bool.{⊤}
 use Rattle.std.specs.Io.KnownBytes.{Appends}
 use Rattle.mx_network.specs.Step.{step_of}
-use Rattle.mx_network.specs.declared.event.Event.{Event}
+use Rattle.mx_events.specs.declared.event.Event.{Event}
 use Rattle.mx_plan.specs.Text.{Text}
 use Rattle.mx_commands.specs.Runs.{NamesNodes, after_texts, closing_text, ends_with, run_from, text_of}
 use Rattle.mx_commands.specs.declared.faults.Stop.TheVariants as stop

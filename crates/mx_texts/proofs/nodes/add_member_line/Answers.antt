@@ -17,8 +17,5 @@ returns g c =
     let standing = standing_text (name_of p c.args.node) (core.phase m.core) (core.mine m.core) in
     let first : t1 ≡ t ++ standing = c.in_ok-write.ensures.bytes ∙ ap (λ (l : Text). t ++ l)
     (standing_is c.name_of.result.now (name_of p c.args.node) c.phase.result (core.phase m.core) c.mine.result (core.mine m.core) c.name_of.ensures c.phase.ensures.value c.mine.ensures.value) in
-    let second = c.in_ok-add_journal.ensures ∙ ap (λ (j : JournalState). t1 ++ journal_text p j.records) c.journal.ensures in
+    let second = c.in_ok-add_journal.ensures ∙ ap (λ (j : JournalState). t1 ++ journal_text p j) c.journal.ensures in
     three c.push_str.result t t1 (string_bytes c.add_journal.new.text) (string_bytes c.push_str.new.self) standing (journal_text p m.journal) line_feed first second c.push_str.ensures.bytes
-
-pub add_journal-requires : goal.add_journal-requires
-add_journal-requires g c = ap (λ (j : JournalState). j.base) c.journal.ensures
