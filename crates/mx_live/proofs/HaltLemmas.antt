@@ -2,8 +2,8 @@
 use Rattle.std.proofs.Common.{◌≡◌, ◌⊎◌, Bool, true, false, inl, inr, List, Option, Some, None, IfSome, Result, Ok, Err, IfErr, OnOk, length, refl, sym, subst}
 use Rattle.std.proofs.lemmas.Bool.{false≢true}
 use Rattle.std.specs.Io.KnownBytes.{Appends, Keeps}
-use Rattle.mx_journal.specs.declared.records.Record.{Record}
 use Rattle.mx_journal.specs.declared.receipts.Receipt.{Receipt}
+use Rattle.mx_journal.specs.Settled.{JournalState}
 use Rattle.mx_plan.specs.Fields.{Fields}
 use Rattle.mx_words.specs.LiveWords.{Order}
 use Rattle.mx_commands.specs.declared.faults.Stop.{Stop}
@@ -47,7 +47,7 @@ module _ (takes : Bool) (told : Option Telling) (order : Order) where
       (subst (λ h. Halts takes told order h × IsSilent h held held) (sym from) (plan_halts stopped held read taken))
 
   -- the end of a run that came to a journal, which was printed, or not
-  pub shown_ends : (p : Fields) (receipts : List Receipt) (journal : List Record) (r : Result (Unit {0}) Halt) (old new : Held) → IsPlanOf told p → Fits order p → AreSerial receipts journal
+  pub shown_ends : (p : Fields) (receipts : List Receipt) (journal : JournalState) (r : Result (Unit {0}) Halt) (old new : Held) → IsPlanOf told p → Fits order p → AreSerial receipts journal
       → HaveSections (length p.nodes) order.sections receipts → OnOk r (Appends old new (live_text p (length receipts) journal)) → IfErr r (Fails takes) → Ends takes told order old new r
   shown_ends p receipts journal (Ok done) old new plan fits serial have ok err = (p, receipts, journal, plan, fits, serial, have, ok)
   shown_ends p receipts journal (Err halt) old new plan fits serial have ok err = output_halts halt old new err

@@ -7,8 +7,8 @@ use Rattle.std.proofs.lemmas.Bool.{eq-eqb}
 use Rattle.std.proofs.lemmas.List.Sums.{sum_by-append}
 use Rattle.std.proofs.lemmas.List.Sorted.{sum_by-IsPermutation}
 use Rattle.mx_stamps.specs.Lists.{IsIn}
-use Rattle.mx_journal.specs.declared.records.Record.{Record}
 use Rattle.mx_journal.specs.declared.receipts.Receipt.{Receipt}
+use Rattle.mx_journal.specs.Settled.{JournalState}
 use Rattle.mx_stations.specs.Gathered.{Has, IsGathered, IsWhole, OfOneTable, nodes_in, receipts_of}
 use Rattle.mx_stations.specs.Posts.{Post}
 use Rattle.mx_live.specs.Lives.{AreSerial, HaveSections}
@@ -46,7 +46,7 @@ module _ {T P : Type 0} where
   here_nodes algorithm here sections (s ∷ posts) whole all = ap (λ (h : Home). h.nodes) (first_so s posts (s ∷ posts) refl all).home
 
   -- each node has its sections among the receipts
-  pub sections_gathered : (algorithm : Algorithm) (here : Home) (sections : ℕ) (posts : List (Post T P)) (journal : List Record) (receipts : List Receipt)
+  pub sections_gathered : (algorithm : Algorithm) (here : Home) (sections : ℕ) (posts : List (Post T P)) (journal : JournalState) (receipts : List Receipt)
       → IsGathered posts journal receipts → IsWhole posts → AreAll (λ s. IsDone here sections (sight algorithm s)) posts → HaveSections here.nodes sections receipts
   sections_gathered algorithm here sections posts journal receipts gathered whole all = λ i low.
       let has = whole i (subst (λ n. i < n) (sym (here_nodes algorithm here sections posts whole all)) low) in
@@ -62,6 +62,6 @@ module _ {T P : Type 0} where
   of_one_table algorithm here sections posts all =
       (here.table, here.nodes, λ k s at. let home = (so_at posts k s at all).home in (ap (λ (h : Home). h.table) home, ap (λ (h : Home). h.nodes) home))
 
-  pub serial : (posts : List (Post T P)) (journal : List Record) (receipts : List Receipt) → IsGathered posts journal receipts → AreSerial receipts journal
+  pub serial : (posts : List (Post T P)) (journal : JournalState) (receipts : List Receipt) → IsGathered posts journal receipts → AreSerial receipts journal
   serial posts journal receipts g =
-      record { numbered = g.numbered; records = g.records; gapless = g.gapless; reads = g.reads; shows = g.shows }
+      record { numbered = g.numbered; records = g.records; covers = g.covers; reads = g.reads; shows = g.shows }

@@ -1,14 +1,14 @@
 -- What comes of the words of a live run.
-use Rattle.std.specs.Prelude.{◌≡◌, ◌≢◌, ◌⊎◌, Bool, true, ℕ, suc, ◌*◌, ◌≤◌, ◌<◌, List, Option, Some, Result, Ok, Err, map, length, slice_get, IfSome, ◌==◌}
+use Rattle.std.specs.Prelude.{◌≡◌, ◌≢◌, ◌⊎◌, ◌↔◌, Bool, true, ℕ, suc, ◌*◌, ◌≤◌, ◌<◌, List, Option, Some, Result, Ok, Err, map, length, slice_get, IfSome, ◌==◌}
 use Rattle.std.specs.List.{count_by}
 use Rattle.std.specs.Io.KnownBytes.{Appends, Keeps}
 use Rattle.mx_stamps.specs.Lists.{IsIn}
-use Rattle.mx_journal.specs.declared.records.Record.{Record}
 use Rattle.mx_journal.specs.declared.receipts.Read.{Read}
 use Rattle.mx_journal.specs.declared.receipts.Receipt.{Receipt}
 use Rattle.mx_journal.specs.Drafted.{record_of}
-use Rattle.mx_journal.specs.Gapless.{IsGapless}
-use Rattle.mx_registers.specs.Registers.{AreApplied, registers_of, writes_to}
+use Rattle.mx_journal.specs.Settled.{Covers, JournalState, settled, unsettled}
+use Rattle.mx_registers.specs.Based.{registers_in}
+use Rattle.mx_registers.specs.Registers.{AreApplied, writes_to}
 use Rattle.mx_member.specs.Serial.{IsSerialRead}
 use Rattle.mx_plan.specs.Text.{Text}
 use Rattle.mx_plan.specs.Fields.{Fields}
@@ -23,16 +23,18 @@ use Rattle.mx_live.specs.Halts.{halt_status}
 use Rattle.mx_live.specs.Shown.{live_text}
 
 -- Receipts and journal are one serial order of sections.
-pub record AreSerial (receipts : List Receipt) (journal : List Record) : Type 0 where
+pub record AreSerial (receipts : List Receipt) (journal : JournalState) : Type 0 where
   -- the receipts bear 1, 2, 3 and so on
   pub numbered : (k : ℕ) (r : Receipt) → slice_get receipts k ≡ Some r → r.number ≡ suc k
-  -- the journal has their records, in order, and nothing else; so it has no gap up to how many there are
-  pub records : journal ≡ map record_of receipts
-  pub gapless : IsGapless (length receipts) journal
+  -- the journal has their records, in order, and nothing else, but that those up to its base are settled: the base has
+  -- the registers after them
+  pub records : journal ≡ settled journal.base.upto (unsettled (map record_of receipts))
+  -- so it covers the numbers up to how many there are, and no others
+  pub covers : (n : ℕ) → Covers n journal ↔ ((1 ≤ n) × (n ≤ length receipts))
   -- each value read is what the writes of the receipts before, in order, and the receipt's own first writes leave
-  pub reads : (k : ℕ) (r : Receipt) (x : Read) → slice_get receipts k ≡ Some r → IsIn x r.reads.items → IsSerialRead (writes_to k journal) r.writes.items x
+  pub reads : (k : ℕ) (r : Receipt) (x : Read) → slice_get receipts k ≡ Some r → IsIn x r.reads.items → IsSerialRead (writes_to k (map record_of receipts)) r.writes.items x
   -- and each register of the journal has what the writes of all receipts, in order, leave
-  pub shows : (count : ℕ) → AreApplied (writes_to (length receipts) journal) (registers_of count journal)
+  pub shows : (count : ℕ) → count ≤ 32 → AreApplied (writes_to (length receipts) (map record_of receipts)) (registers_in count journal)
 
 -- each of so many nodes has so many sections among the receipts
 abbrev pub HaveSections : ℕ → ℕ → List Receipt → Type 0
@@ -49,7 +51,7 @@ Fits order p = length p.nodes * order.sections ≤ p.sections
 -- what was printed is what some receipts, with each node's sections, and their journal show
 abbrev pub Shows : Option Telling → Order → Held → Held → Type 0
 Shows told order old new =
-    (p : Fields) × (receipts : List Receipt) × (journal : List Record)
+    (p : Fields) × (receipts : List Receipt) × (journal : JournalState)
     × IsPlanOf told p × Fits order p × AreSerial receipts journal × HaveSections (length p.nodes) order.sections receipts × Appends old new (live_text p (length receipts) journal)
 
 -- why the run has no journal: the plan can't be read or is refused; else it has too few sections; else threads ran in vain.

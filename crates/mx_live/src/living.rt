@@ -2,7 +2,6 @@
 
 ghost use Rattle.std.specs.Prelude.{◌≡◌, ◌⊎◌, length, IfErr, IfSome, OnOk};
 ghost use Rattle.std.specs.Io.KnownBytes.{Appends};
-ghost use Rattle.mx_journal.specs.Bases.{origin};
 ghost use Rattle.mx_words.specs.Words.{texts_of};
 ghost use Rattle.mx_words.specs.LiveWords.{AreWrongLive, AskLiveHelp, order_asked, order_of};
 ghost use Rattle.mx_commands.specs.Ran.{Helps, Scolds, seen};
@@ -114,9 +113,8 @@ fn live_and_show<R: Threads + Clock, S: Source, O: Output, E: Output>(
 
 /// Prints what the nodes have together.
 fn show<O: Output>(alloc: Global, plan: &Plan, gathered: &Gathered, out: &mut O) -> Result<(), Halt>
-    requires { gathered.now.journal.base ≡ origin }
     ensures ok { OnOk result (Appends (O.written out.old) (O.written out.new)
-        (live_text plan.now (length gathered.now.receipts.items) gathered.now.journal.records)) }
+        (live_text plan.now (length gathered.now.receipts.items) gathered.now.journal)) }
     ensures err { IfErr result (Fails (O.takes_all out.old)) }
 {
     let mut text = String::new(alloc);

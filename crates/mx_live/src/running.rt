@@ -1,7 +1,6 @@
 //! The nodes of a plan, each run in a thread of its own, and what they have together.
 
 ghost use Rattle.std.specs.Prelude.{All, ◌≡◌, ◌≤◌, ℕ, length, IfErr, IfNone, IfOk, IfSome};
-ghost use Rattle.mx_journal.specs.Bases.{origin};
 ghost use Rattle.mx_stations.specs.Gathered.{OfOneTable};
 ghost use Rattle.mx_live.specs.Halts.{RanInVain};
 ghost use Rattle.mx_live.specs.Lives.{AreSerial, HaveSections};
@@ -38,8 +37,7 @@ pub(crate) fn live_by_shape<R: Threads + Clock, E: Output>(
     run: &LiveRun<'_>,
     err: &mut E,
 ) -> Result<Gathered, Halt>
-    ensures base { IfOk result (λ all. all.journal.base ≡ origin) }
-    ensures serial { IfOk result (λ all. AreSerial all.receipts.items all.journal.records) }
+    ensures serial { IfOk result (λ all. AreSerial all.receipts.items all.journal) }
     ensures sections { IfOk result (λ all.
         HaveSections (length plan.now.nodes) run.now.sections all.receipts.items) }
     ensures err { IfErr result RanInVain }
@@ -61,8 +59,7 @@ fn live_ricart<R: Threads + Clock, E: Output>(
     err: &mut E,
 ) -> Result<Gathered, Halt>
     requires { ⟦<Ricart as Exclusion>⟧.core.count shape.now ≡ length plan.now.nodes }
-    ensures base { IfOk result (λ all. all.journal.base ≡ origin) }
-    ensures serial { IfOk result (λ all. AreSerial all.receipts.items all.journal.records) }
+    ensures serial { IfOk result (λ all. AreSerial all.receipts.items all.journal) }
     ensures sections { IfOk result (λ all.
         HaveSections (length plan.now.nodes) run.now.sections all.receipts.items) }
     ensures err { IfErr result RanInVain }
@@ -85,8 +82,7 @@ fn live_maekawa<R: Threads + Clock, E: Output>(
     err: &mut E,
 ) -> Result<Gathered, Halt>
     requires { ⟦<Maekawa as Exclusion>⟧.core.count shape.now ≡ length plan.now.nodes }
-    ensures base { IfOk result (λ all. all.journal.base ≡ origin) }
-    ensures serial { IfOk result (λ all. AreSerial all.receipts.items all.journal.records) }
+    ensures serial { IfOk result (λ all. AreSerial all.receipts.items all.journal) }
     ensures sections { IfOk result (λ all.
         HaveSections (length plan.now.nodes) run.now.sections all.receipts.items) }
     ensures err { IfErr result RanInVain }
@@ -109,8 +105,7 @@ fn live_raymond<R: Threads + Clock, E: Output>(
     err: &mut E,
 ) -> Result<Gathered, Halt>
     requires { ⟦<Raymond as Exclusion>⟧.core.count shape.now ≡ length plan.now.nodes }
-    ensures base { IfOk result (λ all. all.journal.base ≡ origin) }
-    ensures serial { IfOk result (λ all. AreSerial all.receipts.items all.journal.records) }
+    ensures serial { IfOk result (λ all. AreSerial all.receipts.items all.journal) }
     ensures sections { IfOk result (λ all.
         HaveSections (length plan.now.nodes) run.now.sections all.receipts.items) }
     ensures err { IfErr result RanInVain }
@@ -162,6 +157,7 @@ fn run_all<C: Exclusion, R: Threads + Clock, E: Output>(
         sections: run.sections,
         seed: run.seed,
         turns: run.turns,
+        settle: run.settle,
     };
     let workers = start_all(rt, alloc, stations, &gate, orders)?;
     if let Some(watch) = watch
@@ -219,8 +215,7 @@ fn first_halt(left: &[Ended]) -> Option<Halt>
 /// What the stations that were left have together.
 fn gather_all<C: Exclusion>(alloc: Global, stations: Vec<Station<C>>) -> Result<Gathered, Halt>
     requires { OfOneTable stations.items }
-    ensures base { IfOk result (λ all. all.journal.base ≡ origin) }
-    ensures serial { IfOk result (λ all. AreSerial all.receipts.items all.journal.records) }
+    ensures serial { IfOk result (λ all. AreSerial all.receipts.items all.journal) }
     ensures sections { (algorithm : Algorithm) (here : Home) (sections : ℕ)
         → AreAll (λ s. IsDone here sections (sight algorithm s)) stations.items
         → IfOk result (λ all. HaveSections here.nodes sections all.receipts.items) }

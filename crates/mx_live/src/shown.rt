@@ -1,7 +1,6 @@
 //! What a live run prints.
 
 ghost use Rattle.std.specs.Prelude.{◌≡◌, ◌++◌, Some, codes, string_bytes, OnOk};
-ghost use Rattle.mx_journal.specs.Bases.{origin};
 ghost use Rattle.mx_texts.specs.EventTexts.{register_name_of};
 ghost use Rattle.mx_live.specs.Shown.{count_line, live_text, value_line, value_lines};
 
@@ -41,16 +40,15 @@ impl fmt::Display for ValueLine<'_> {
     }
 }
 
-/// Appends how many receipts there are, and what the journal has and shows, which has settled nothing.
+/// Appends how many receipts there are, and what the journal has and shows.
 pub(crate) fn add_journal(
     plan: &Plan,
     receipts: u64,
     journal: &Journal,
     text: &mut String,
 ) -> Result<(), AllocError>
-    requires { journal.now.base ≡ origin }
     ensures { OnOk result (string_bytes text.new
-        ≡ string_bytes text.old ++ live_text plan.now receipts journal.now.records) }
+        ≡ string_bytes text.old ++ live_text plan.now receipts journal.now) }
 {
     text.write(CountLine {
         name: "receipts",
@@ -65,9 +63,8 @@ pub(crate) fn add_journal(
 
 /// Appends a line for each register.
 fn add_values(plan: &Plan, journal: &Journal, text: &mut String) -> Result<(), AllocError>
-    requires { journal.now.base ≡ origin }
     ensures { OnOk result (string_bytes text.new
-        ≡ string_bytes text.old ++ value_lines plan.now journal.now.records) }
+        ≡ string_bytes text.old ++ value_lines plan.now journal.now) }
 {
     let shown = view(journal, plan.registers());
     for register in 0..plan.registers() {

@@ -9,7 +9,7 @@ use crate::any_station::AnyStation;
 use crate::assembly::Assembly;
 use mx_explorer::Weather;
 use mx_nodelaws::Exclusion;
-use mx_stations::{Script, Station, Worked, work};
+use mx_stations::{Script, Station, Worked, work, work_settling};
 use std::alloc::{AllocError, Global};
 use std::snapshot::Snapshot;
 use std::sync::Arc;
@@ -21,12 +21,14 @@ const LOST: u16 = 16;
 
 const DOUBLED: u16 = 16;
 
-/// What each worker is to do, and the seed of the first one's links.
+/// What each worker is to do, the seed of the first one's links, and after how many of its sections
+/// each settles its journal, 0 for never.
 #[derive(Clone, Copy)]
 pub(crate) struct Orders {
     pub(crate) sections: u64,
     pub(crate) seed: u64,
     pub(crate) turns: u64,
+    pub(crate) settle: u64,
 }
 
 /// What a worker leaves.
@@ -95,7 +97,10 @@ fn work_at<C: Exclusion>(
     };
     let seed = orders.seed.wrapping_add(u64::from(node.get()));
     let weather = Weather::of(seed, LOST, DOUBLED);
-    work(station, script, gate, weather, orders.turns)
+    if orders.settle == 0 {
+        return work(station, script, gate, weather, orders.turns);
+    }
+    work_settling(station, script, orders.settle, gate, weather, orders.turns)
 }
 
 /// Starts a thread for a station.

@@ -1,5 +1,5 @@
 -- What the words of `live` ask for, as `clap` reads them.
-use Rattle.std.specs.Prelude.{◌≢◌, ℕ, List, [], Option, Some, None, true, codes, if◌then◌else◌, option_map, option_and_then}
+use Rattle.std.specs.Prelude.{◌≢◌, ℕ, List, [], Option, Some, None, true, codes, if◌then◌else◌, option_map, option_and_then, unwrap_or}
 use Rattle.std.specs.Str.{bytes_eq}
 use Rattle.clap.specs.Words.{App, Row, Rule, Text, first_of, new_app, new_rule, subcommand_of, with_rule, with_subcommand}
 use Rattle.clap.specs.Faults.{fault_of}
@@ -18,34 +18,44 @@ sections_rule = record (new_rule (codes "sections")) { long = Some (codes "secti
 abbrev pub turns_rule : Rule
 turns_rule = record (new_rule (codes "turns")) { long = Some (codes "turns"); parser = Some (Unsigned 0 18446744073709551615); required = true }
 
+-- `--settle N`, a number to 1000000
+abbrev pub settle_rule : Rule
+settle_rule = record (new_rule (codes "settle")) { long = Some (codes "settle"); parser = Some (Unsigned 0 1000000) }
+
 -- `--progress`
 abbrev pub progress_rule : Rule
 progress_rule = record (new_rule (codes "progress")) { long = Some (codes "progress"); action = Some SetTrue }
 
--- `live PLAN --sections M --seed S --turns T`, and perhaps `--progress`
+-- `live PLAN --sections M --seed S --turns T`, and perhaps `--settle N` and `--progress`
 abbrev pub live_app : App
-live_app = with_rule (with_rule (with_rule (with_rule (with_rule (new_app (codes "live")) plan_rule) sections_rule) seed_rule) turns_rule) progress_rule
+live_app = with_rule (with_rule (with_rule (with_rule (with_rule (with_rule (new_app (codes "live")) plan_rule) sections_rule) seed_rule) turns_rule) settle_rule) progress_rule
 
 -- the whole command line
 unfoldable pub live_line : App
 live_line = with_subcommand mx_start live_app.top
 
--- the name of the plan, how many sections each node is to have, the seed, and how many turns each may take
+-- the name of the plan, how many sections each node is to have, the seed, how many turns each may take, and after how many
+-- of its sections it settles its journal (0 for never)
 pub record Order : Type 0 where
   pub plan : Text
   pub sections : ℕ
   pub seed : ℕ
   pub turns : ℕ
+  pub settle : ℕ
 
-abbrev pub order : Text → ℕ → ℕ → ℕ → Order
-order plan sections seed turns = record { plan = plan; sections = sections; seed = seed; turns = turns }
+abbrev pub order : Text → ℕ → ℕ → ℕ → ℕ → Order
+order plan sections seed settle turns = record { plan = plan; sections = sections; seed = seed; turns = turns; settle = settle }
 
 abbrev pub order_of : LiveRun → Order
-order_of run = order run.plan.now run.sections run.seed run.turns
+order_of run = order run.plan.now run.sections run.seed run.settle run.turns
+
+-- the number that was given for `--settle`, or 0
+abbrev pub settle_in : List Row → ℕ
+settle_in rows = unwrap_or (number_at (codes "settle") rows) 0
 
 -- what was given for the arguments
 abbrev pub live_in : List Row → Option Order
-live_in rows = option_and_then (λ plan. option_and_then (λ sections. option_and_then (λ seed. option_map (order plan sections seed)
+live_in rows = option_and_then (λ plan. option_and_then (λ sections. option_and_then (λ seed. option_map (order plan sections seed (settle_in rows))
     (number_at (codes "turns") rows)) (number_at (codes "seed") rows)) (number_at (codes "sections") rows)) (first_of (codes "PLAN") rows)
 
 abbrev pub order_in : Option (Text × List Row) → Option Order

@@ -62,12 +62,13 @@ pub(crate) const REPLAY_EXAMPLE: &str =
   mx replay plan.json events.json
 
 Events are [\"ask\",NODE], [\"enter\",NODE], [\"read\",NODE,REGISTER], [\"write\",NODE,REGISTER,VALUE],
-[\"leave\",NODE], [\"cancel\",NODE], [\"tick\",NODE], [\"want\",NODE,NODE], [\"restart\",NODE] and [\"deliver\",K],
-where K counts the parcels sent so far from 0. For each event a line tells what came of it, and for each
-parcel that it sent, from whom to whom it goes and what it says. Then a line for each node tells where it
-stands and what its journal has, and the last line is the verdict. A name - is standard input. Where both
-are -, its first line is the plan and the rest is the events. `mx check --help` tells what a plan is;
-docs/FORMATS.md has all formats.";
+[\"leave\",NODE], [\"cancel\",NODE], [\"tick\",NODE], [\"want\",NODE,NODE], [\"settle\",NODE,SECTION],
+[\"restart\",NODE] and [\"deliver\",K], where K counts the parcels sent so far from 0. A node that settles
+keeps what the sections up to that one left in the registers, in place of their records. For each event a
+line tells what came of it, and for each parcel that it sent, from whom to whom it goes and what it says.
+Then a line for each node tells where it stands and what its journal has, and the last line is the verdict.
+A name - is standard input. Where both are -, its first line is the plan and the rest is the events.
+`mx check --help` tells what a plan is; docs/FORMATS.md has all formats.";
 
 pub(crate) const EXPLORE_EXAMPLE: &str = "Example: a thousand steps drawn from the seed 1.
 
@@ -75,10 +76,10 @@ pub(crate) const EXPLORE_EXAMPLE: &str = "Example: a thousand steps drawn from t
 
   mx explore plan.json --seed 1 --steps 1000
 
-The events are asking, entering, reading, writing, leaving, cancelling, ticking, wanting, restarting and
-the delivery of one of the newest 64 parcels. The first line counts the steps, how often a node entered,
-and the parcels that were sent; the last line is the verdict. `mx check --help` tells what a plan is;
-docs/FORMATS.md has all formats.";
+The events are asking, entering, reading, writing, leaving, cancelling, ticking, wanting, settling,
+restarting and the delivery of one of the newest 64 parcels. The first line counts the steps, how often a
+node entered, and the parcels that were sent; the last line is the verdict. `mx check --help` tells what a
+plan is; docs/FORMATS.md has all formats.";
 
 pub(crate) const LIVE_EXAMPLE: &str =
     "Example: three nodes, each in a thread of its own, add 1 to a register in three sections each.
@@ -97,4 +98,9 @@ The links between the threads lose a parcel in 16 and repeat one in 16, as the s
 counts the receipts of the sections that were left; then comes up to which number the gathered journal has no
 gap, and what it shows of each register. Nothing is printed where a node is not done once its turns are spent:
 `mx: turns spent`, status 3. The plan has to allow as many sections as all nodes together want, else
-`mx: too few sections`, status 1. `mx check --help` tells what a plan is; docs/FORMATS.md has all formats.";
+`mx: too few sections`, status 1.
+
+With `--settle 100` each node puts the registers in place of the records that its journal has without a gap,
+after each 100 of its own sections, so that journals stay small. What is printed tells of all sections either way.
+
+`mx check --help` tells what a plan is; docs/FORMATS.md has all formats.";

@@ -3,7 +3,7 @@
 ghost use Rattle.std.specs.Prelude.{◌≡◌, [], IfOk, IfErr, false, option_map};
 ghost use Rattle.clap.specs.Words.{app_of, fault_of, found_of, rows_of, rule_of, subcommand_rows_of, HasKind};
 ghost use Rattle.mx_words.specs.Words.{HasNoGlobals, texts_of};
-ghost use Rattle.mx_words.specs.LiveWords.{live_app, live_in, live_line, order_asked, order_in, order_of, progress_rule, sections_rule, turns_rule};
+ghost use Rattle.mx_words.specs.LiveWords.{live_app, live_in, live_line, order_asked, order_in, order_of, progress_rule, sections_rule, settle_in, settle_rule, turns_rule};
 
 use crate::help;
 use crate::words::{number_at, plan_arg, seed_arg, text_at};
@@ -14,14 +14,19 @@ use std::alloc::{AllocError, Global};
 /// The greatest number of sections of a node.
 const MOST_SECTIONS: u64 = 1_000_000;
 
+/// The greatest number of sections between two of which a node settles its journal.
+const MOST_SETTLED: u64 = 1_000_000;
+
 /// What is to be run: the name of a plan, how many sections each node is to have, the seed of the
-/// first node's links, how many turns each node may take, and whether progress is to be told.
+/// first node's links, how many turns each node may take, after how many of its sections it
+/// settles its journal (0 for never), and whether progress is to be told.
 #[derive(Clone, Copy, Debug, PartialEq, Eq)]
 pub struct LiveRun<'a> {
     pub plan: &'a str,
     pub sections: u64,
     pub seed: u64,
     pub turns: u64,
+    pub settle: u64,
     pub progress: bool,
 }
 
@@ -47,6 +52,18 @@ fn turns_arg<'a>(alloc: Global) -> Arg<'a>
         .required(true)
 }
 
+fn settle_arg<'a>(alloc: Global) -> Arg<'a>
+    ensures rule { rule_of result ≡ settle_rule }
+    ensures local { result.global ≡ false }
+{
+    Arg::new(alloc, "settle")
+        .long("settle")
+        .help(
+            "After how many of its sections each node settles its journal, 0 to 1000000; 0 for never",
+        )
+        .value_parser(ValueParser::Unsigned(0, MOST_SETTLED))
+}
+
 fn progress_arg<'a>(alloc: Global) -> Arg<'a>
     ensures rule { rule_of result ≡ progress_rule }
     ensures local { result.global ≡ false }
@@ -68,7 +85,8 @@ fn live_command<'a>(alloc: Global) -> Result<Command<'a>, AllocError>
     let with_sections = with_plan.arg(sections_arg(alloc))?;
     let with_seed = with_sections.arg(seed_arg(alloc))?;
     let with_turns = with_seed.arg(turns_arg(alloc))?;
-    let whole = with_turns.arg(progress_arg(alloc))?;
+    let with_settle = with_turns.arg(settle_arg(alloc))?;
+    let whole = with_settle.arg(progress_arg(alloc))?;
     Ok(whole)
 }
 
@@ -139,6 +157,14 @@ fn live_in<'a>(matches: &ArgMatches<'a>) -> Option<LiveRun<'a>>
         sections,
         seed,
         turns,
+        settle: settle_at(matches),
         progress: matches.get_flag("progress"),
     })
+}
+
+/// The number that was given for `--settle`, or 0.
+fn settle_at(matches: &ArgMatches<'_>) -> u64
+    ensures { result ≡ settle_in (rows_of (found_of matches.now)) }
+{
+    number_at(matches, "settle").unwrap_or(0)
 }

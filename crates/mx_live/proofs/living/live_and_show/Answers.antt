@@ -17,5 +17,5 @@ returns g c =
     let fits : c.from.result * c.args.run.now.sections ≤ p.sections =
     omega (arith, c.saturating_mul.ensures, c.if-saturating_mul-sections.false, c.sections.ensures.value, c.sections.ensures.high) in
     shown_ends (g.O.Output.takes_all c.args.out.now) (g.S.Source.told c.args.source.now c.args.run.now.plan.now) (order_of c.args.run.now)
-    p all.gathered.receipts.items all.gathered.journal.records c.show.result (g.O.Output.written c.args.out.now) (g.O.Output.written c.show.new.out)
+    p all.gathered.receipts.items all.gathered.journal c.show.result (g.O.Output.written c.args.out.now) (g.O.Output.written c.show.new.out)
     c.in_ok-plan.ensures.told (subst (λ (n : ℕ). n * c.args.run.now.sections ≤ p.sections) (c.from.ensures ∙ c.nodes.ensures.value) fits) all.ensures.serial all.ensures.sections c.show.ensures.ok c.show.ensures.err

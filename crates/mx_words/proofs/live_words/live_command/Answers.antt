@@ -17,7 +17,9 @@ returns c =
     let seed_local = c.in_ok-with_seed.ensures.globals ∙ ap₂ ◌||◌ sections_local c.seed_arg.ensures.local in
     let turns = c.in_ok-with_turns.ensures.shape c.turns_arg.ensures.local ∙ ap₂ with_rule seed c.turns_arg.ensures.rule in
     let turns_local = c.in_ok-with_turns.ensures.globals ∙ ap₂ ◌||◌ seed_local c.turns_arg.ensures.local in
+    let settle = c.in_ok-with_settle.ensures.shape c.settle_arg.ensures.local ∙ ap₂ with_rule turns c.settle_arg.ensures.rule in
+    let settle_local = c.in_ok-with_settle.ensures.globals ∙ ap₂ ◌||◌ turns_local c.settle_arg.ensures.local in
     record {
-      app = c.in_ok-whole.ensures.shape c.progress_arg.ensures.local ∙ ap₂ with_rule turns c.progress_arg.ensures.rule;
-      local = c.in_ok-whole.ensures.globals ∙ ap₂ ◌||◌ turns_local c.progress_arg.ensures.local;
+      app = c.in_ok-whole.ensures.shape c.progress_arg.ensures.local ∙ ap₂ with_rule settle c.progress_arg.ensures.rule;
+      local = c.in_ok-whole.ensures.globals ∙ ap₂ ◌||◌ settle_local c.progress_arg.ensures.local;
     }
