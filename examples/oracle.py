@@ -49,6 +49,7 @@ Got = namedtuple("Got", "hop")  # acknowledges a privilege
 
 Want = namedtuple("Want", "ranges")  # asks for records; a range is its first and last section number
 Records = namedtuple("Records", "records")  # brings them, as pairs of a section number and its writes
+Base = namedtuple("Base", "upto values")  # brings what the sections up to this one left in the registers
 
 TEXTS = {
     Request: "request {stamp}",
@@ -61,6 +62,7 @@ TEXTS = {
     TreeRequest: "request {number}",
     Privilege: "privilege {hop} last {last}",
     Got: "got {hop}",
+    Base: "base {upto}",
 }
 
 
@@ -574,43 +576,72 @@ def ways(neighbours, holder):
 
 
 class Journal:
-    """The writes of the sections that were left, as far as a node knows them."""
+    """The writes of the sections that were left, as far as a node knows them.
+
+    The sections up to a number, its base, may be settled: what they left in the registers stands in place of
+    their records, and all other records are of sections above.
+    """
 
     def __init__(self):
+        self.base = Base(0, {})  # by register, the value; a register that is not there has 0
         self.writes = {}  # by the section's number, pairs of a register and a value
 
     def __len__(self):
         return len(self.writes)
 
     def add(self, number, writes):
-        """Adds a section's record, unless there is one."""
-        self.writes.setdefault(number, tuple(writes))
+        """Adds a section's record, unless there is one, or the section is settled."""
+        if number > self.base.upto:
+            self.writes.setdefault(number, tuple(writes))
+
+    def settle(self, number):
+        """Lets what the sections up to this one left stand in place of their records."""
+        if number < self.base.upto:
+            return f"refused below {self.base.upto}"
+        gap = self.gapless() + 1
+        if gap <= number:
+            return f"refused gap {gap}"
+        values = dict(self.base.values)
+        for settled in range(self.base.upto + 1, number + 1):
+            values.update(self.writes[settled])
+        self.take_base(Base(number, values))
+        return "settled"
+
+    def take_base(self, base):
+        """Takes a base that reaches further than the own one, and drops the records up to it."""
+        if base.upto > self.base.upto:
+            self.base = base
+            self.writes = {number: writes for number, writes in self.writes.items() if number > base.upto}
 
     def value(self, register, end):
-        """What the sections below this end left in a register; 0 where none wrote it."""
-        value = 0
+        """What the sections below this end, which is above the base, left in a register; 0 where none wrote it."""
+        value = self.base.values.get(register, 0)
         for number in sorted(self.writes):
             if number < end:
                 value = last_written(self.writes[number], register, value)
         return value
 
     def gapless(self):
-        """How many sections there are from the first on without a gap."""
-        number = 0
+        """How many sections are settled or there from the first on without a gap."""
+        number = self.base.upto
         while number + 1 in self.writes:
             number += 1
         return number
 
     def gaps(self, limit):
-        """The ranges of sections up to this limit that are missing."""
+        """The ranges of sections up to this limit that are neither settled nor there."""
         gaps = []
-        first = 1
+        first = self.base.upto + 1
         for number in sorted(self.writes) + [limit + 1]:
             last = min(number - 1, limit)
             if first <= last:
                 gaps.append((first, last))
             first = number + 1
         return gaps
+
+    def has_settled(self, ranges):
+        """Whether some section in these ranges is settled."""
+        return any(max(first, 1) <= min(last, self.base.upto) for first, last in ranges)
 
     def within(self, ranges):
         """The records in these ranges."""
@@ -695,6 +726,9 @@ class Member:
         if gaps:
             self.core.send(node, Want(tuple(gaps)))
 
+    def settle(self, number):
+        return self.journal.settle(number)
+
     def restart(self):
         self.empty_draft()
         return "woken"
@@ -702,15 +736,23 @@ class Member:
     def deliver(self, sender, letter):
         """Takes a letter: one about records itself, else by its core."""
         if isinstance(letter, Want):
-            records = self.journal.within(letter.ranges)[:MOST_RECORDS]
-            if records:
-                self.core.send(sender, Records(tuple(records)))
+            self.answer(sender, letter.ranges)
+        elif isinstance(letter, Base):
+            self.journal.take_base(letter)
         elif isinstance(letter, Records):
             for number, writes in letter.records:
                 self.journal.add(number, writes)
         else:
             self.core.deliver(sender, letter)
         return "delivered"
+
+    def answer(self, node, ranges):
+        """Sends the base where some of these sections are settled, and then the first records of them."""
+        if self.journal.has_settled(ranges):
+            self.core.send(node, self.journal.base)
+        records = self.journal.within(ranges)[:MOST_RECORDS]
+        if records:
+            self.core.send(node, Records(tuple(records)))
 
     def closing(self, name, registers):
         """The line that says how this node stands at the end."""
@@ -735,6 +777,7 @@ ACTS = {
     "leave": Member.leave,
     "tick": Member.tick,
     "want": Member.want,
+    "settle": Member.settle,
     "restart": Member.restart,
 }
 
@@ -847,9 +890,12 @@ KINDS = (
     ("tick", 1, ("node",)),
     ("want", 1, ("node", "node")),
     ("restart", 1, ("node",)),
-    ("deliver", 4, ("word",)),
+    ("deliver", 3, ("word",)),
+    ("settle", 1, ("node", "section")),
     ("cancel", 1, ("node",)),
 )
+
+SETTLED = 17  # a drawn section to settle up to is below this
 
 WINDOW = 64  # a delivery is of one of the newest parcels
 
@@ -870,6 +916,8 @@ def drawn_argument(words, plan, argument):
         return plan["nodes"][word % len(plan["nodes"])]
     if argument == "register":
         return plan["registers"][word % len(plan["registers"])]
+    if argument == "section":
+        return word % SETTLED
     return word
 
 

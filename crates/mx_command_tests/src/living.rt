@@ -56,6 +56,28 @@ fn live_counts_to_one_hundred(rt: HostRuntime) {
 }
 
 #[test]
+fn settled_journals_count_to_one_hundred(rt: HostRuntime) {
+    let words = [
+        "live",
+        "p",
+        "--sections",
+        "20",
+        "--seed",
+        "7",
+        "--turns",
+        "100000000",
+        "--settle",
+        "5",
+    ];
+    for plan in [RICART, MAEKAWA, RAYMOND] {
+        let ran = run_words(&rt, rt.alloc(), &words, plan);
+        assert_eq!(rt; ran.status, 0);
+        assert!(rt; ran.err.is_empty());
+        assert!(rt; ran.out.as_slice() == "receipts 100\ngapless 100\ncount=100\n".as_bytes());
+    }
+}
+
+#[test]
 fn runs_of_three_nodes_end_as_they_should(rt: HostRuntime) {
     let none = "receipts 0\ngapless 0\ncount=0\n";
     let lines: [(&str, &str, u8, &str, &str); 4] = [

@@ -78,6 +78,11 @@ fn wanted_want(words: &mut Pcg32) -> Event {
     Event::Want(node, wanted_node(words))
 }
 
+fn wanted_settle(words: &mut Pcg32) -> Event {
+    let node = wanted_node(words);
+    Event::Settle(node, u64::from(words.next_u32() % 17))
+}
+
 /// What a node does alone, by the word of its event.
 fn wanted_act(word: u32, node: NodeId) -> Event {
     match word {
@@ -95,7 +100,8 @@ fn wanted_event(words: &mut Pcg32) -> Event {
         4 => wanted_read(words),
         5 => wanted_write(words),
         9 => wanted_want(words),
-        11..=14 => Event::Deliver(u64::from(words.next_u32())),
+        11..=13 => Event::Deliver(u64::from(words.next_u32())),
+        14 => wanted_settle(words),
         word => wanted_act(word, wanted_node(words)),
     }
 }

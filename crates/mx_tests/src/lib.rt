@@ -22,6 +22,8 @@ mod plans;
 #[cfg(test)]
 mod registers;
 #[cfg(test)]
+mod settled_stations;
+#[cfg(test)]
 mod shapes;
 #[cfg(test)]
 mod sizes;

@@ -106,6 +106,34 @@ fn read_waits_for_the_gap(rt: HostRuntime) -> Result<(), Fail> {
     Ok(())
 }
 
+#[test]
+fn base_answers_want(rt: HostRuntime) -> Result<(), Fail> {
+    let shape = Count::of(2).ok_or("count")?;
+    let mut cluster: Cluster<Ricart> = Cluster::start(rt.alloc(), &shape, 0, 1000, 1)?;
+    let (a, b) = (node(0), node(1));
+    let steps = [
+        (Event::Ask(a), Told::Asked(1)),
+        (Event::Deliver(0), Told::Delivered),
+        (Event::Deliver(1), Told::Delivered),
+        (Event::Enter(a), Told::Entered(1)),
+        (Event::Write(a, 0, 5), Told::Written),
+        (Event::Leave(a), Told::Left(1)),
+        (Event::Settle(a, 1), Told::Settled),
+        (Event::Ask(b), Told::Asked(2)),
+        (Event::Deliver(2), Told::Delivered),
+        (Event::Deliver(3), Told::Delivered),
+        (Event::Enter(b), Told::Entered(2)),
+        (Event::Read(b, 0), Told::Refused(Cause::Gap(1))),
+        (Event::Want(b, a), Told::Sent(1)),
+        (Event::Deliver(4), Told::Delivered),
+        (Event::Deliver(5), Told::Delivered),
+        (Event::Read(b, 0), Told::Value(5)),
+        (Event::Settle(b, 0), Told::Refused(Cause::Below(1))),
+        (Event::Settle(a, 2), Told::Refused(Cause::Gap(2))),
+    ];
+    assert_steps(&rt, rt.alloc(), &mut cluster, &[a, b], &steps)
+}
+
 fn read(register: u8, value: u64, after: u8) -> Read {
     Read {
         register,

@@ -16,7 +16,10 @@ use std::alloc::Global;
 use std::test::Fail;
 
 /// Both stations take turns, often enough for whatever one of them asks.
-fn exchange<C: Exclusion>(zero: &mut Station<C>, one: &mut Station<C>) -> Result<(), Fail> {
+pub(crate) fn exchange<C: Exclusion>(
+    zero: &mut Station<C>,
+    one: &mut Station<C>,
+) -> Result<(), Fail> {
     for _round in 0..8 {
         zero.turn(&mut Fair).map_err(|_| "memory")?;
         one.turn(&mut Fair).map_err(|_| "memory")?;
@@ -76,7 +79,7 @@ fn second<C: Exclusion>(zero: &mut Station<C>, one: &mut Station<C>) -> Result<u
 }
 
 /// Node 1 asks node 0 for the records that it lacks.
-fn wants<C: Exclusion>(zero: &mut Station<C>, one: &mut Station<C>) -> Result<(), Fail> {
+pub(crate) fn wants<C: Exclusion>(zero: &mut Station<C>, one: &mut Station<C>) -> Result<(), Fail> {
     let from = zero.node();
     if from.get() >= one.nodes() {
         return Err("no such node")?;

@@ -1,7 +1,7 @@
 //! What each fault says of itself.
 
 use crate::given::node;
-use mx_journal::{Full, PutFault};
+use mx_journal::{BaseFault, Full, PutFault, SettleFault};
 use mx_member::{CloseFault, DeliverFault, ReadFault, WriteFault};
 use mx_merge::MergeFault;
 use mx_network::{RunFault, StepFault};
@@ -82,6 +82,22 @@ const MERGE: [(MergeFault, &str); 2] = [
     (MergeFault::Memory, "out of memory"),
 ];
 
+const SETTLE: [(SettleFault, &str); 2] = [
+    (SettleFault::Below(4), "sections up to 4 are settled"),
+    (SettleFault::Gap(2), "no record bears 2"),
+];
+
+#[test]
+fn faults_of_settling_are_told(rt: HostRuntime) -> Result<(), AllocError> {
+    let alloc = rt.alloc();
+    assert_told(&rt, alloc, &SETTLE)?;
+    assert_told(
+        &rt,
+        alloc,
+        &[(BaseFault::Conflict(3), "two bases differ at 3")],
+    )
+}
+
 #[test]
 fn faults_of_journals_are_told(rt: HostRuntime) -> Result<(), AllocError> {
     let alloc = rt.alloc();
@@ -90,11 +106,12 @@ fn faults_of_journals_are_told(rt: HostRuntime) -> Result<(), AllocError> {
     assert_told(&rt, alloc, &MERGE)
 }
 
-const READ: [(ReadFault, &str); 4] = [
+const READ: [(ReadFault, &str); 5] = [
     (ReadFault::NotInside, "not inside"),
     (ReadFault::NoRegister, "no register"),
     (ReadFault::Gap(3), "gap 3"),
     (ReadFault::Full, "full"),
+    (ReadFault::Settled(3), "settled 3"),
 ];
 
 const WRITE: [(WriteFault, &str); 3] = [

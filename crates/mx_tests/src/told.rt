@@ -18,6 +18,7 @@ pub(crate) enum Told {
     Left(u64),
     Cancelled,
     Sent(u64),
+    Settled,
     Delivered,
     Woken,
     Refused(Cause),
@@ -33,6 +34,7 @@ fn told_of(outcome: &Outcome) -> Told {
         Outcome::Left(receipt) => Told::Left(receipt.number),
         Outcome::Cancelled => Told::Cancelled,
         Outcome::Sent(count) => Told::Sent(*count),
+        Outcome::Settled => Told::Settled,
         Outcome::Delivered => Told::Delivered,
         Outcome::Woken => Told::Woken,
         Outcome::Refused(cause) => Told::Refused(*cause),
@@ -52,8 +54,8 @@ fn left_after(left: u64, told: Told) -> u64 {
     }
 }
 
-/// Of these events comes this; and after each the journals of these nodes merge into that of the
-/// sections left so far.
+/// Of these events comes this; and after each the journals of these nodes merge into one that covers
+/// just the sections left so far.
 pub(crate) fn assert_steps<C: Exclusion>(
     rt: &impl Abort,
     alloc: Global,
@@ -66,7 +68,7 @@ pub(crate) fn assert_steps<C: Exclusion>(
         assert_eq!(rt; step(cluster, event)?, *told, "{event:?}");
         left = left_after(left, *told);
         let all = cluster.merged(alloc, nodes)?;
-        assert_eq!(rt; all.len() as u64, left, "{event:?}");
+        assert_eq!(rt; all.top(), left, "{event:?}");
         assert_eq!(rt; all.gapless_to(), left, "{event:?}");
     }
     Ok(())

@@ -10,7 +10,7 @@ use std::test::Fail;
 
 /// One event of each kind.
 const EVENTS: &str =
-    "[[\"ask\",\"a\"],[\"enter\",\"b\"],[\"read\",\"b\",\"count\"],[\"write\",\"c\",\"count\",18446744073709551615],[\"leave\",\"c\"],[\"cancel\",\"a\"],[\"tick\",\"a\"],[\"want\",\"b\",\"a\"],[\"deliver\",18446744073709551615],[\"restart\",\"b\"]]";
+    "[[\"ask\",\"a\"],[\"enter\",\"b\"],[\"read\",\"b\",\"count\"],[\"write\",\"c\",\"count\",18446744073709551615],[\"leave\",\"c\"],[\"cancel\",\"a\"],[\"tick\",\"a\"],[\"want\",\"b\",\"a\"],[\"settle\",\"c\",18446744073709551615],[\"deliver\",18446744073709551615],[\"restart\",\"b\"]]";
 
 /// Why the text lists no events.
 fn events_fault(alloc: Global, text: &str) -> Result<Option<PlanFault>, Fail> {
@@ -32,6 +32,7 @@ fn each_event_is_read(rt: HostRuntime) -> Result<(), Fail> {
         Event::Cancel(a),
         Event::Tick(a),
         Event::Want(b, a),
+        Event::Settle(c, 18446744073709551615),
         Event::Deliver(18446744073709551615),
         Event::Restart(b),
     ];
@@ -40,7 +41,7 @@ fn each_event_is_read(rt: HostRuntime) -> Result<(), Fail> {
 }
 
 /// Lists of one event that is of no such form.
-const MISFITS: [&str; 20] = [
+const MISFITS: [&str; 24] = [
     "[\"ask\"]",
     "[[]]",
     "[[1,\"a\"]]",
@@ -57,6 +58,10 @@ const MISFITS: [&str; 20] = [
     "[[\"read\",\"a\",\"count\",1]]",
     "[[\"want\",\"z\",\"\"]]",
     "[[\"want\",\"a\"]]",
+    "[[\"settle\",\"z\"]]",
+    "[[\"settle\",\"z\",-1]]",
+    "[[\"settle\",1,1]]",
+    "[[\"settle\",\"a\",1,1]]",
     "[[\"write\",\"a\",\"count\"]]",
     "[[\"write\",\"a\",\"count\",\"1\"]]",
     "[[\"write\",\"a\",\"count\",1.0]]",
@@ -64,7 +69,7 @@ const MISFITS: [&str; 20] = [
 ];
 
 /// Lists of one event with a name that the plan does not have, or not in this place.
-const STRANGERS: [&str; 8] = [
+const STRANGERS: [&str; 9] = [
     "[[\"ask\",\"z\"]]",
     "[[\"cancel\",\"z\"]]",
     "[[\"ask\",\"count\"]]",
@@ -72,6 +77,7 @@ const STRANGERS: [&str; 8] = [
     "[[\"read\",\"z\",\"count\"]]",
     "[[\"read\",\"count\",\"a\"]]",
     "[[\"want\",\"a\",\"z\"]]",
+    "[[\"settle\",\"z\",1]]",
     "[[\"write\",\"a\",\"b\",0]]",
 ];
 

@@ -1,0 +1,143 @@
+//! Stations whose journals settle: what they answer, what others take of them, and what is gathered.
+
+ghost use Rattle.std.specs.Prelude.{IfOk};
+ghost use Rattle.mx_stations.specs.Gathered.{KeepsTable, OfOneTable};
+
+use crate::station_calls::{exchange, wants};
+use crate::stations::two;
+use crate::working::Assembly;
+use mx_journal::SettleFault;
+use mx_letters::Fair;
+use mx_registers::view;
+use mx_ricart::{Count, Ricart};
+use mx_stations::{Field, Gathered, Script, Station, gather, work_settling};
+use std::alloc::AllocError;
+use std::test::Fail;
+use std::thread;
+use std::thread::Threads;
+
+/// The first of two stations has a section, in which it reads the register and writes this. Answers
+/// what it read.
+fn section(
+    one: &mut Station<Ricart>,
+    other: &mut Station<Ricart>,
+    value: u64,
+) -> Result<u64, Fail> {
+    one.ask().map_err(|_| "ask")?;
+    exchange(one, other)?;
+    one.enter().map_err(|_| "enter")?;
+    let before = one.read(0).map_err(|_| "read")?;
+    one.write(0, value).map_err(|_| "write")?;
+    one.leave().map_err(|_| "leave")?;
+    Ok(before)
+}
+
+/// Up to which number a station has settled, how many records it has above, and its register.
+fn shown(station: &Station<Ricart>) -> (u64, usize, Option<u64>) {
+    let journal = station.journal();
+    (journal.base().upto(), journal.len(), station.value(0))
+}
+
+/// Settles more than the station knows, all that it knows, and less than it has settled.
+fn settles(station: &mut Station<Ricart>, known: u64) -> [Result<(), SettleFault>; 3] {
+    [
+        station.settle(known.saturating_add(1)),
+        station.settle(known),
+        station.settle(known.saturating_sub(1)),
+    ]
+}
+
+#[test]
+fn one_settles_and_the_other_takes_its_base(rt: HostRuntime) -> Result<(), Fail> {
+    let (mut zero, mut one) = two(rt.alloc())?;
+    assert_eq!(rt; section(&mut zero, &mut one, 5)?, 0);
+    assert_eq!(rt;
+        settles(&mut zero, 1),
+        [Err(SettleFault::Gap(2)), Ok(()), Err(SettleFault::Below(1))]
+    );
+    assert_eq!(rt;
+        (shown(&zero), shown(&one)),
+        ((1, 0, Some(5)), (0, 0, Some(0)))
+    );
+    wants(&mut zero, &mut one)?;
+    assert_eq!(rt;
+        (shown(&zero), shown(&one)),
+        ((1, 0, Some(5)), (1, 0, Some(5)))
+    );
+    Ok(())
+}
+
+#[test]
+fn a_section_reads_what_was_settled(rt: HostRuntime) -> Result<(), Fail> {
+    let (mut zero, mut one) = two(rt.alloc())?;
+    assert_eq!(rt; section(&mut zero, &mut one, 5)?, 0);
+    assert_eq!(rt; zero.settle(1), Ok(()));
+    wants(&mut zero, &mut one)?;
+    assert_eq!(rt; section(&mut one, &mut zero, 6)?, 5);
+    assert_eq!(rt; shown(&one), (1, 1, Some(6)));
+    assert_eq!(rt; one.settle(2), Ok(()));
+    wants(&mut one, &mut zero)?;
+    assert_eq!(rt;
+        (shown(&zero), shown(&one)),
+        ((2, 0, Some(6)), (2, 0, Some(6)))
+    );
+    Ok(())
+}
+
+/// Counts 20 sections, and settles after each tenth.
+fn count_on(station: Station<Ricart>, gate: &Assembly) -> Station<Ricart>
+    ensures { KeepsTable station result }
+{
+    let script = Script {
+        register: 0,
+        sections: 20,
+    };
+    work_settling(station, script, 10, gate, Fair, 100_000_000).0
+}
+
+/// Gives each station to a thread of its own, and has them back when all threads have ended.
+fn in_threads<R: Threads + Sync>(
+    rt: &R,
+    stations: Vec<Station<Ricart>>,
+    gate: &Assembly,
+) -> Result<Vec<Station<Ricart>>, AllocError>
+    requires { OfOneTable stations.items }
+    ensures { IfOk result (λ all. OfOneTable all.items) }
+{
+    let back = thread::map_vec(
+        rt,
+        stations,
+        &|station: Station<Ricart>| -> Station<Ricart>
+            ensures { KeepsTable station result }
+        { count_on(station, gate) },
+    )?;
+    Ok(back)
+}
+
+/// How many receipts there are, up to which number the journal has no gap and is settled, how many
+/// records it has, and the register.
+fn told(all: &Gathered) -> (usize, u64, u64, usize, Option<u64>) {
+    let journal = &all.journal;
+    (
+        all.receipts.len(),
+        journal.gapless_to(),
+        journal.base().upto(),
+        journal.len(),
+        view(journal, 1).value(0),
+    )
+}
+
+/// Section 100 is the twentieth of its node, which knows of all before it, since it read inside. So
+/// it settles them all.
+#[test]
+fn settling_workers_count_to_one_hundred(rt: HostRuntime) -> Result<(), Fail> {
+    let shape = Count::of(5).ok_or("count")?;
+    let stations = Field::<Ricart>::stations(rt.alloc(), &shape, 0, 1000, 1)?;
+    let gate = Assembly::new(5, 100_000_000);
+    let back = in_threads(&rt, stations, &gate)?;
+    let Ok(all) = gather(rt.alloc(), back) else {
+        return Err("refused")?;
+    };
+    assert_eq!(rt; told(&all), (100, 100, 100, 0, Some(100)));
+    Ok(())
+}
