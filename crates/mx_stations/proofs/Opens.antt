@@ -132,9 +132,9 @@ all_each (suc n) f = last_out 0 n f ∙ (λ i. all_each n f i ++ f (let e : 0 + 
 
 module _ {H S M : Type 0} (core : Core H S M) (IsShape : H → Type 0) (Good : World S M → Type 0) (phases : KeepsPhases core) (laws : KeepsGood core IsShape Good) where
   -- nodes at rest, at words of 0 and empty slots
-  pub begins : (shape : H) (n origin limit registers : ℕ) (words : List ℕ) → n ≡ core.count shape → IsShape shape → origin < 2 ^ 64 → 0 < limit → limit ≤ 1000000 → words ≡ replicate (n + n * n * 4) 0
+  pub begins : (shape : H) (n origin limit registers : ℕ) (words : List ℕ) → n ≡ core.count shape → IsShape shape → origin < 2 ^ 64 → 0 < limit → limit ≤ 1000000 → registers ≤ 32 → words ≡ replicate (n + n * n * 4) 0
       → Holds core Good n (opening words (replicate (n * n * 4) None) (all_of n (λ i. fresh i (start_of core shape i origin limit registers))))
-  begins shape n origin limit registers words count valid low some_left high is =
+  begins shape n origin limit registers words count valid low some_left high few is =
       let starts : ℕ → MemberState S = λ i. start_of core shape i origin limit registers in
       let F : ℕ → Node S M = λ i. fresh i (starts i) in
       let owned : map owned_of (all_of n F) ≡ each_below (λ i. owned_start core shape i origin limit registers) (core.count shape) =
@@ -148,7 +148,7 @@ module _ {H S M : Type 0} (core : Core H S M) (IsShape : H → Type 0) (Good : W
               let inside = r.0 in
               ap (λ (ws : List ℕ). get_elem? ws i) is ∙ replicate_at (n + n * n * 4) 0 i (omega arith) ∙ ap some (sym zero_word));
           runs = subst (λ (z : List (Owned S)). IsRunning core Good z (sent_of (all_of n F))) (sym owned)
-              (subst (λ (z : List (ℕ × ℕ × Parcel M)). IsRunning core Good (each_below (λ i. owned_start core shape i origin limit registers) (core.count shape)) z) (sym (fresh_sent starts 0 n)) (running_at_start core IsShape Good phases laws shape origin limit registers valid low some_left high));
+              (subst (λ (z : List (ℕ × ℕ × Parcel M)). IsRunning core Good (each_below (λ i. owned_start core shape i origin limit registers) (core.count shape)) z) (sym (fresh_sent starts 0 n)) (running_at_start core IsShape Good phases laws shape origin limit registers valid low some_left high few));
           held = (λ i e x at h. let r = all_at 0 n F i e at in absurd (let no : None ≡ Some x = ap (λ (z : Node S M). z.hand) (sym r.1) ∙ h in cc));
         };
         links = subst (λ (ws : List ℕ). Links n ws (map some (replicate (n * n * 4) None)) (all_of n F)) (sym is) (fresh_links (Parcel M) starts n);

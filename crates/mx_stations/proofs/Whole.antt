@@ -173,7 +173,7 @@ module _ {H S M : Type 0} (core : Core H S M) (Good : World S M → Type 0) (pos
         each = together.each;
         own = λ j s r at h. let k = place_in s.me.receipts r h in (account.within s.me.node k.0 r (owned_of s.me, at_seat j s at, k.1)).0;
         numbered = numbered;
-        records = subst (λ (l : List Record). journal ≡ settled journal.base.upto (unsettled l)) records account.journal;
+        records = subst (λ (l : List Record). journal ≡ settled journal.base.upto (unsettled l)) records account.whole;
         covers = λ n. subst (λ (m : ℕ). Covers n journal ↔ ((1 ≤ n) × (n ≤ m))) (sym size) (account.covers n);
         reads = λ k r x at h.
             let p = held r (in_get receipts k r at) in

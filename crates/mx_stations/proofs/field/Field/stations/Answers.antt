@@ -17,7 +17,7 @@ overflow_add-count g c = let n : ℕ = c.nodes-nodes.result in let h = c.nodes-n
 pub vacant-requires : goal.vacant-requires
 vacant-requires g c =
     let X = g.C.Exclusion in let laws = g.met.C.Exclusion in let n = c.nodes-nodes.ensures in
-    begins X.core X.IsShape X.Good laws.phases laws.laws c.args.shape.now c.nodes-nodes.result c.args.origin c.args.limit c.args.registers _ n.value n.valid c.ranges.origin.fits c.requires.low c.requires.high
+    begins X.core X.IsShape X.Good laws.phases laws.laws c.args.shape.now c.nodes-nodes.result c.args.origin c.args.limit c.args.registers _ n.value n.valid c.ranges.origin.fits c.requires.low c.requires.high c.requires.few
     (c.as_slice.ensures.value ∙ c.in_ok-words.ensures.items_if_clones_equal (λ y e. e))
 
 pub invariant_of-new : goal.invariant_of-new
