@@ -6,12 +6,17 @@ ghost use Rattle.mx_stations.specs.Gathered.{KeepsTable, OfOneTable};
 use crate::station_calls::{exchange, wants};
 use crate::stations::two;
 use crate::working::Assembly;
+use mx_explorer::Weather;
 use mx_journal::SettleFault;
-use mx_letters::Fair;
+use mx_maekawa::Maekawa;
+use mx_nodelaws::Exclusion;
+use mx_quorums::Quorums;
+use mx_raymond::Raymond;
 use mx_registers::view;
 use mx_ricart::{Count, Ricart};
 use mx_stations::{Field, Gathered, Script, Station, gather, work_settling};
-use std::alloc::AllocError;
+use mx_trees::Tree;
+use std::alloc::{AllocError, Global};
 use std::test::Fail;
 use std::thread;
 use std::thread::Threads;
@@ -84,32 +89,71 @@ fn a_section_reads_what_was_settled(rt: HostRuntime) -> Result<(), Fail> {
     Ok(())
 }
 
-/// Counts 20 sections, and settles after each tenth.
-fn count_on(station: Station<Ricart>, gate: &Assembly) -> Station<Ricart>
+/// Counts 20 sections, and settles after each tenth, over links that lose and repeat.
+fn count_on<C: Exclusion>(station: Station<C>, gate: &Assembly) -> Station<C>
     ensures { KeepsTable station result }
 {
     let script = Script {
         register: 0,
         sections: 20,
     };
-    work_settling(station, script, 10, gate, Fair, 100_000_000).0
+    let weather = Weather::of(7 + u64::from(station.node().get()), 16, 16);
+    work_settling(station, script, 10, gate, weather, 100_000_000).0
 }
 
-/// Gives each station to a thread of its own, and has them back when all threads have ended.
-fn in_threads<R: Threads + Sync>(
+/// Gives each station of Ricart and Agrawala's algorithm to a thread of its own, and has them back when all threads have ended.
+fn ricart_in_threads<R: Threads + Sync>(
     rt: &R,
     stations: Vec<Station<Ricart>>,
-    gate: &Assembly,
 ) -> Result<Vec<Station<Ricart>>, AllocError>
     requires { OfOneTable stations.items }
     ensures { IfOk result (λ all. OfOneTable all.items) }
 {
+    let gate = Assembly::new(5, 100_000_000);
     let back = thread::map_vec(
         rt,
         stations,
         &|station: Station<Ricart>| -> Station<Ricart>
             ensures { KeepsTable station result }
-        { count_on(station, gate) },
+        { count_on(station, &gate) },
+    )?;
+    Ok(back)
+}
+
+/// Gives each station of Maekawa's algorithm to a thread of its own, and has them back when all threads have ended.
+fn maekawa_in_threads<R: Threads + Sync>(
+    rt: &R,
+    stations: Vec<Station<Maekawa>>,
+) -> Result<Vec<Station<Maekawa>>, AllocError>
+    requires { OfOneTable stations.items }
+    ensures { IfOk result (λ all. OfOneTable all.items) }
+{
+    let gate = Assembly::new(5, 100_000_000);
+    let back = thread::map_vec(
+        rt,
+        stations,
+        &|station: Station<Maekawa>| -> Station<Maekawa>
+            ensures { KeepsTable station result }
+        { count_on(station, &gate) },
+    )?;
+    Ok(back)
+}
+
+/// Gives each station of Raymond's algorithm to a thread of its own, and has them back when all threads have ended.
+fn raymond_in_threads<R: Threads + Sync>(
+    rt: &R,
+    stations: Vec<Station<Raymond>>,
+) -> Result<Vec<Station<Raymond>>, AllocError>
+    requires { OfOneTable stations.items }
+    ensures { IfOk result (λ all. OfOneTable all.items) }
+{
+    let gate = Assembly::new(5, 100_000_000);
+    let back = thread::map_vec(
+        rt,
+        stations,
+        &|station: Station<Raymond>| -> Station<Raymond>
+            ensures { KeepsTable station result }
+        { count_on(station, &gate) },
     )?;
     Ok(back)
 }
@@ -127,17 +171,40 @@ fn told(all: &Gathered) -> (usize, u64, u64, usize, Option<u64>) {
     )
 }
 
-/// Section 100 is the twentieth of its node, which knows of all before it, since it read inside. So
-/// it settles them all.
+/// What is gathered of stations. Section 100 is the twentieth of its node, which knows of all before it,
+/// since it read inside. So it has settled them all.
+fn is_counted<C: Exclusion>(alloc: Global, stations: Vec<Station<C>>) -> bool
+    requires { OfOneTable stations.items }
+{
+    match gather(alloc, stations) {
+        Ok(all) => told(&all) == (100, 100, 100, 0, Some(100)),
+        Err(_) => false,
+    }
+}
+
 #[test]
-fn settling_workers_count_to_one_hundred(rt: HostRuntime) -> Result<(), Fail> {
+fn settling_workers_of_ricart_count_to_one_hundred(rt: HostRuntime) -> Result<(), Fail> {
     let shape = Count::of(5).ok_or("count")?;
     let stations = Field::<Ricart>::stations(rt.alloc(), &shape, 0, 1000, 1)?;
-    let gate = Assembly::new(5, 100_000_000);
-    let back = in_threads(&rt, stations, &gate)?;
-    let Ok(all) = gather(rt.alloc(), back) else {
-        return Err("refused")?;
-    };
-    assert_eq!(rt; told(&all), (100, 100, 100, 0, Some(100)));
+    let back = ricart_in_threads(&rt, stations)?;
+    assert!(rt; is_counted(rt.alloc(), back));
+    Ok(())
+}
+
+#[test]
+fn settling_workers_of_maekawa_count_to_one_hundred(rt: HostRuntime) -> Result<(), Fail> {
+    let shape = Quorums::grid(1, 5)?;
+    let stations = Field::<Maekawa>::stations(rt.alloc(), &shape, 0, 1000, 1)?;
+    let back = maekawa_in_threads(&rt, stations)?;
+    assert!(rt; is_counted(rt.alloc(), back));
+    Ok(())
+}
+
+#[test]
+fn settling_workers_of_raymond_count_to_one_hundred(rt: HostRuntime) -> Result<(), Fail> {
+    let shape = Tree::of(5, &[(0, 1), (1, 2), (2, 3), (3, 4)], 0)?;
+    let stations = Field::<Raymond>::stations(rt.alloc(), &shape, 0, 1000, 1)?;
+    let back = raymond_in_threads(&rt, stations)?;
+    assert!(rt; is_counted(rt.alloc(), back));
     Ok(())
 }
