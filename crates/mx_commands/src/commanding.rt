@@ -108,7 +108,7 @@ fn carry_out_and_flush<S: Source, O: Output>(
 }
 
 /// Whether an output has refused.
-fn is_refused(ended: &Result<u8, Stop>) -> bool
+pub(crate) fn is_refused(ended: &Result<u8, Stop>) -> bool
     ensures { IsTrue result ↔ (ended.now ≡ Err Stop.Writer) }
 {
     matches!(ended, Err(Stop::Writer))

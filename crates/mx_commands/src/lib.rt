@@ -2,6 +2,7 @@
 #![tactic(auto)]
 
 mod checking;
+mod closing;
 mod commanding;
 mod exploring;
 mod fault_lines;
@@ -14,10 +15,13 @@ mod source;
 mod telling;
 mod verdicts;
 
+pub use closing::close;
 pub use commanding::command;
 pub use fault_lines::FaultLine;
 pub use faults::{Fault, Named, Stop};
 pub use output::{Output, PutFault};
-pub use planning::fetch_plan;
+pub use planning::{fetch, fetch_plan, plan_in};
+pub use replaying::{are_dashes, split_line};
+pub use running::start;
 pub use source::{Source, SourceFault, Table};
 pub use telling::{put_line, refuse, tell_memory};

@@ -1,5 +1,5 @@
-//! `mx`, the program: it hands the words, the files and the streams of the process to `command`, or
-//! to `live` where that is the first word.
+//! `mx`, the program: it hands the words, the files and the streams of the process to the function
+//! that the first word names, and to `command` where it names none of the others.
 #![tactic(auto)]
 
 mod counted;
@@ -10,6 +10,7 @@ use crate::stream::Stream;
 use crate::streams::Streams;
 use mx_commands::{Output, command};
 use mx_live::live;
+use mx_picture::picture;
 use std::io::{BufWriter, ErrorKind, Write};
 use std::process::ExitCode;
 use std::rt::{Clock, Env, Files};
@@ -33,17 +34,18 @@ fn run_words<
     let mut err = Stream(err);
     let mut source = Streams { rt };
     let words = words.as_slice();
-    if begins_with(words, "live") {
-        return Ok(live(rt, alloc, words, &mut source, &mut out, &mut err));
-    }
-    Ok(command(alloc, words, &mut source, &mut out, &mut err))
+    Ok(match first_of(words) {
+        "live" => live(rt, alloc, words, &mut source, &mut out, &mut err),
+        "picture" => picture(alloc, words, &mut source, &mut out, &mut err),
+        _ => command(alloc, words, &mut source, &mut out, &mut err),
+    })
 }
 
-/// Whether this is the first word.
-fn begins_with(words: &[&str], first: &str) -> bool {
+/// The first word, or nothing where there is none.
+fn first_of<'a>(words: &[&'a str]) -> &'a str {
     match words.first() {
-        Some(word) => *word == first,
-        None => false,
+        Some(word) => word,
+        None => "",
     }
 }
 

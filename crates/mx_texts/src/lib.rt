@@ -9,9 +9,9 @@ mod plan_lines;
 mod plans;
 mod standings;
 
-pub use events::EventLine;
+pub use events::{EventLine, EventText, OutcomeText};
 pub use letters::Letter;
 pub use nodes::add_nodes;
-pub use parcels::add_parcels;
+pub use parcels::{add_parcel, add_parcels};
 pub use plan_lines::ExploredLine;
 pub use plans::add_plan;

@@ -5,5 +5,7 @@ mod help;
 mod live_words;
 mod words;
 
+pub use help::{MX, VERSION};
 pub use live_words::{LiveRun, asked_live};
 pub use words::{Exploration, Names, Request, asked};
+pub use words::{events_arg, plan_arg, text_at};

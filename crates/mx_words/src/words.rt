@@ -37,7 +37,8 @@ pub enum Request<'a> {
     Explore(Exploration<'a>),
 }
 
-pub(crate) fn plan_arg<'a>(alloc: Global) -> Arg<'a>
+/// The argument of a plan's name.
+pub fn plan_arg<'a>(alloc: Global) -> Arg<'a>
     ensures rule { rule_of result ≡ plan_rule }
     ensures local { result.global ≡ false }
 {
@@ -46,7 +47,8 @@ pub(crate) fn plan_arg<'a>(alloc: Global) -> Arg<'a>
         .required(true)
 }
 
-fn events_arg<'a>(alloc: Global) -> Arg<'a>
+/// The argument of the name of a plan's events.
+pub fn events_arg<'a>(alloc: Global) -> Arg<'a>
     ensures rule { rule_of result ≡ events_rule }
     ensures local { result.global ≡ false }
 {
@@ -204,7 +206,7 @@ fn explore_in<'a>(matches: &ArgMatches<'a>) -> Option<Request<'a>>
 }
 
 /// The text that was given for an argument.
-pub(crate) fn text_at<'a>(matches: &ArgMatches<'a>, id: &str) -> Option<&'a str>
+pub fn text_at<'a>(matches: &ArgMatches<'a>, id: &str) -> Option<&'a str>
     ensures { option_map (λ s. s.now) result ≡ first_of id.now (rows_of (found_of matches.now)) }
 {
     matches.get_str(id)

@@ -1,0 +1,167 @@
+"""Reads a picture of `mx picture` back, and compares what it shows with what a replay prints.
+
+Usage: examples/picture.py PLAN PRINTED PICTURE, where PRINTED is what `mx replay`, or examples/oracle.py,
+prints of the same plan and events. It prints each thing that only one of the two has, and is silent where
+they have the same; and it sees that nothing reaches out of the page.
+"""
+import json
+import re
+import sys
+import xml.etree.ElementTree as xml
+from collections import Counter
+
+LANE, ROW = 150, 13  # how far apart nodes and rows are
+SVG = "{http://www.w3.org/2000/svg}"
+INKS = {"request": "request", "reply": "grant", "locked": "grant", "privilege": "grant"}
+
+
+class Run:
+    """What was printed of a replay: the events, and the parcels with the event that sent each."""
+
+    def __init__(self, names, lines):
+        self.names, self.events, self.parcels = names, [], []
+        for line in lines:
+            if event := re.fullmatch(r"(\d+) ((\S+) (.*)): (.*)", line):
+                told = f"{event[2]}: {event[5]}"
+                self.events.append((event[3], event[4].split(), event[5], told))
+            elif parcel := re.fullmatch(r"  #\d+ (\S+)>(\S+) (.*)", line):
+                ends = names.index(parcel[1]), names.index(parcel[2])
+                self.parcels.append((len(self.events) - 1, *ends, parcel[3]))
+        self.arriving = {int(args[0]) for word, args, _, _ in self.events if word == "deliver"}
+
+    def node_of(self, event):
+        word, args, _, _ = event
+        return self.parcels[int(args[0])][2] if word == "deliver" else self.names.index(args[0])
+
+
+def shown(run):
+    """What a picture of the run has to show, as a count of things."""
+    things, row, sent_in, delivered, since = [], 0, [], set(), {}
+
+    def ends(node):
+        begun, what = since.pop(node, (row, "nothing"))
+        if what != "nothing":
+            things.append((what, node, begun, row))
+
+    for index, event in enumerate(run.events):
+        word, args, outcome, told = event
+        node = run.node_of(event)
+        things.append(("index", row, str(index)))
+        if not outcome.startswith("entered"):
+            things.append(("dot", node, row))
+        if word == "deliver":
+            number = int(args[0])
+            _, start, _, text = run.parcels[number]
+            look = INKS.get(text.split()[0], "other") + (" again" if number in delivered else "")
+            delivered.add(number)
+            things.append(("arrow", look, start, sent_in[number], node, row))
+            things.append(("text", node, row, "right" if start <= node else "left", f"#{number} {text}"))
+        else:
+            things.append(("text", node, row, "right", told))
+        if outcome.startswith("asked"):
+            since[node] = row, "waits"
+        elif outcome.startswith("entered"):
+            ends(node)
+            since[node] = row, "inside " + outcome.split()[1]
+        elif outcome.startswith("left") or outcome == "cancelled":
+            ends(node)
+        present = row
+        for number, (by, start, to, text) in enumerate(run.parcels):
+            if by == index:
+                sent_in.append(present)
+                if number not in run.arriving:
+                    row += 1
+                    side = "right" if start <= to else "left"
+                    things.append(("lost", start, present, side, row))
+                    things.append(("air", start, row, side, f"#{number} {text} to {run.names[to]}"))
+        row += 1
+    for node in list(since):
+        ends(node)
+    for node, name in enumerate(run.names):
+        things += [("name", node, name), ("name", node, name), ("line", node, row)]
+    return Counter(things)
+
+
+def place(number, unit):
+    """The node or the row of a coordinate."""
+    assert int(number) % unit == 0, f"{number} is no multiple of {unit}"
+    return int(number) // unit
+
+
+def path_of(look, d):
+    """The thing that a path draws."""
+    if box := re.fullmatch(r"M(\d+) (\d+)m-12-6h24v(\d+)h-24z", d):
+        x, y, high = map(int, box.groups())
+        return "inside", place(x, LANE), place(y, ROW), place(y + high - 12, ROW)
+    if bar := re.fullmatch(r"M(\d+) (\d+)v(\d+)", d):
+        x, y, down = map(int, bar.groups())
+        return "waits", place(x, LANE), place(y, ROW), place(y + down, ROW)
+    if line := re.fullmatch(r"M(\d+)-12V(\d+)", d):
+        return "line", place(line[1], LANE), place(line[2], ROW)
+    if lost := re.fullmatch(r"M(\d+) (\d+)l(-?)26 (\d+)m-3-3l6 6m0-6l-6 6", d):
+        x, y, side, down = lost.groups()
+        return "lost", place(x, LANE), place(y, ROW), "left" if side else "right", place(int(y) + int(down), ROW)
+    if arrow := re.fullmatch(r"M(\d+) (\d+)l(-?\d+) (\d+)", d):
+        x, y, aside, down = map(int, arrow.groups())
+        return "arrow", look, place(x, LANE), place(y, ROW), place(x + aside, LANE), place(y + down, ROW)
+    bow = re.fullmatch(r"M(\d+) (\d+)q-40 (\d+) 0 (\d+)", d)
+    x, y, half, down = map(int, bow.groups())
+    assert half == down // 2
+    return "arrow", look, place(x, LANE), place(y, ROW), place(x, LANE), place(y + down, ROW)
+
+
+def read_back(picture):
+    """What a picture shows, as a count of things."""
+    root = xml.parse(picture).getroot()
+    left, top, width, height = map(int, root.get("viewBox").split())
+    assert (root.get("width"), root.get("height")) == (str(width), str(height))
+    things, sections, boxes = [], {}, []
+    groups = root.findall(SVG + "g")
+    for text in groups[1]:
+        things.append(("index", place(text.get("y"), ROW), text.text))
+    for part in root:
+        look = part.get("class", "")
+        if part.tag == SVG + "circle":
+            things.append(("dot", place(part.get("cx"), LANE), place(part.get("cy"), ROW)))
+        elif part.tag == SVG + "path":
+            thing = path_of(look, part.get("d"))
+            (boxes if thing[0] == "inside" else things).append(thing)
+            marker = part.get("marker-end")
+            assert (marker == f"url(#{look.split()[0]})") if thing[0] == "arrow" else marker is None
+        elif part.tag == SVG + "text":
+            x, y = int(part.get("x")), int(part.get("y"))
+            wide = 7 * len(part.text)
+            if look == "name":
+                things.append(("name", place(x, LANE), part.text))
+                continue
+            if look == "section":
+                sections[place(x, LANE), place(y, ROW)] = part.text
+                continue
+            side = "left" if "left" in look else "right"
+            assert part.get("dx") == ("-" if side == "left" else "") + ("33" if "air" in look else "17")
+            things.append(("air" if "air" in look else "text", place(x, LANE), place(y, ROW), side, part.text))
+            reach = x - 33 - wide if side == "left" else x + 33 + wide
+            assert left + 60 <= reach <= left + width, f"too wide: {part.text}"
+            assert 0 <= y <= top + height
+    for _, node, begun, ended in boxes:
+        things.append(("inside " + sections.pop((node, begun)), node, begun, ended))
+    assert not sections
+    return Counter(things)
+
+
+def main():
+    plan, printed, picture = sys.argv[1:]
+    with open(plan, encoding="utf-8") as file:
+        names = json.load(file)["nodes"]
+    with open(printed, encoding="utf-8") as file:
+        wanted = shown(Run(names, file.read().splitlines()))
+    there = read_back(picture)
+    for thing in (wanted - there).elements():
+        print("lacks", *thing)
+    for thing in (there - wanted).elements():
+        print("has", *thing)
+    sys.exit(wanted != there)
+
+
+if __name__ == "__main__":
+    main()
