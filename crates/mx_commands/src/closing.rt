@@ -38,12 +38,7 @@ pub fn close<O: Output, E: Output>(
 }
 
 /// Tells why a run ended early, where it did, and answers the status.
-fn tell_end<E: Output>(
-    alloc: Global,
-    ended: Result<u8, Stop>,
-    names: &Names<'_>,
-    err: &mut E,
-) -> u8
+fn tell_end<E: Output>(alloc: Global, ended: Result<u8, Stop>, names: &Names<'_>, err: &mut E) -> u8
     ensures { Closes (E.takes_all err.old) (names_of names.now) ended
         (E.written err.old) (E.written err.new) result }
 {

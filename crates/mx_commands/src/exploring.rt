@@ -98,7 +98,7 @@ fn add_summary_of(
 }
 
 /// Each event in turn.
-fn happen<C: Exclusion>(cluster: &mut Cluster<C>, events: &[Event]) -> Result<(), AllocError>
+pub fn happen<C: Exclusion>(cluster: &mut Cluster<C>, events: &[Event]) -> Result<(), AllocError>
     ensures { OnOk result (after_drawn C.core cluster.old events.now ≡ cluster.new) }
 {
     cluster.make_room(events.len())?;

@@ -15,8 +15,10 @@ mod source;
 mod telling;
 mod verdicts;
 
+pub use checking::print;
 pub use closing::close;
 pub use commanding::command;
+pub use exploring::happen;
 pub use fault_lines::FaultLine;
 pub use faults::{Fault, Named, Stop};
 pub use output::{Output, PutFault};

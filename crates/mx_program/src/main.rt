@@ -9,6 +9,7 @@ mod streams;
 use crate::stream::Stream;
 use crate::streams::Streams;
 use mx_commands::{Output, command};
+use mx_event_files::event_file;
 use mx_live::live;
 use mx_picture::picture;
 use std::io::{BufWriter, ErrorKind, Write};
@@ -35,6 +36,7 @@ fn run_words<
     let mut source = Streams { rt };
     let words = words.as_slice();
     Ok(match first_of(words) {
+        "draw" | "script" => event_file(alloc, words, &mut source, &mut out, &mut err),
         "live" => live(rt, alloc, words, &mut source, &mut out, &mut err),
         "picture" => picture(alloc, words, &mut source, &mut out, &mut err),
         _ => command(alloc, words, &mut source, &mut out, &mut err),

@@ -7,5 +7,7 @@ mod words;
 
 pub use help::{MX, VERSION};
 pub use live_words::{LiveRun, asked_live};
-pub use words::{Exploration, Names, Request, asked};
-pub use words::{events_arg, plan_arg, text_at};
+pub use words::{
+    Exploration, Names, Request, asked, events_arg, number_at, plan_arg, seed_arg, steps_arg,
+    text_at,
+};

@@ -57,7 +57,8 @@ pub fn events_arg<'a>(alloc: Global) -> Arg<'a>
         .required(true)
 }
 
-pub(crate) fn seed_arg<'a>(alloc: Global) -> Arg<'a>
+/// The argument `--seed`.
+pub fn seed_arg<'a>(alloc: Global) -> Arg<'a>
     ensures rule { rule_of result ≡ seed_rule }
     ensures local { result.global ≡ false }
 {
@@ -68,7 +69,8 @@ pub(crate) fn seed_arg<'a>(alloc: Global) -> Arg<'a>
         .required(true)
 }
 
-fn steps_arg<'a>(alloc: Global) -> Arg<'a>
+/// The argument `--steps`.
+pub fn steps_arg<'a>(alloc: Global) -> Arg<'a>
     ensures rule { rule_of result ≡ steps_rule }
     ensures local { result.global ≡ false }
 {
@@ -213,7 +215,7 @@ pub fn text_at<'a>(matches: &ArgMatches<'a>, id: &str) -> Option<&'a str>
 }
 
 /// The number that was given for an argument.
-pub(crate) fn number_at(matches: &ArgMatches<'_>, id: &str) -> Option<u64>
+pub fn number_at(matches: &ArgMatches<'_>, id: &str) -> Option<u64>
     ensures { result ≡ number_at id.now (rows_of (found_of matches.now)) }
 {
     matches.get_one::<u64>(id)

@@ -1,0 +1,111 @@
+-- What comes of the words of `draw` and `script`.
+use Rattle.std.proofs.Common.{◌≡◌, ◌⊎◌, inl, inr, ℕ, Bool, Option, Some, None, Result, Ok, Err, IfSome, IsSome, refl, subst, sym, List, [], ◌∷◌}
+use Rattle.std.specs.Io.KnownBytes.{Appends, Keeps}
+use Rattle.clap.specs.Words.{kind_of}
+use Rattle.clap.specs.Faults.{fault_of}
+use Rattle.clap.specs.Kinds.{HasKind}
+use Rattle.clap.specs.declared.error.Error.{Error}
+use Rattle.clap.specs.declared.error.kind.ErrorKind.TheVariants.{OutOfMemory}
+use Rattle.mx_stamps.proofs.Lists.{append_nil}
+use Rattle.mx_words.specs.Words.{IsShown}
+use Rattle.mx_plan.specs.Text.{Text}
+use Rattle.mx_plan.specs.Fields.{Fields}
+use Rattle.mx_commands.specs.declared.faults.Stop.{Stop}
+use Rattle.mx_commands.specs.declared.faults.Stop.TheVariants as stop
+use Rattle.mx_commands.specs.Closed.{Closes, FallsShort}
+use Rattle.mx_commands.specs.Outputs.{Held}
+use Rattle.mx_commands.specs.Ran.{Helps, IsRunStatus, MayTell, Ran, Scolds, Seen}
+use Rattle.mx_commands.specs.Runs.{whole}
+use Rattle.mx_commands.specs.Told.{Telling}
+use Rattle.mx_commands.proofs.RunLemmas.{Appends-keeps}
+use Rattle.mx_event_files.specs.Errands.{HasDone, IsPlanOf, Prints, plan_told}
+use Rattle.mx_event_files.specs.Words.{AreWrong, AskFileHelp, Task, draw, walk, script, errand_asked, file_line}
+use Rattle.mx_event_files.proofs.WordLemmas.{no_errand_among}
+
+not_five : (status : ℕ) → status ≡ 5 → status ≡ 0 → ⊥
+not_five status five zero = cc
+
+not_one : (status : ℕ) → status ≡ 1 → status ≡ 0 → ⊥
+not_one status one zero = cc
+
+-- ---- words that were refused
+
+module _ (t : Bool) (old new : Seen) (status : ℕ) (e : Error) (words : List Text) (kinds : HasKind (fault_of file_line words) e)
+    (memory : kind_of e ≡ OutOfMemory → (status ≡ 5) × Keeps old.out new.out × MayTell old.err new.err × (new.refused ≡ old.refused)) where
+  refused_task : (h : (kind_of e ≡ OutOfMemory) ⊎ (IsSome (errand_asked words) → ⊥)) (told : Text → Option Telling) (w : Option Task) → w ≡ errand_asked words
+      → IfSome w (λ task. status ≡ 0 → HasDone told task old.out new.out)
+  refused_task h told None is = tt
+  refused_task (inl out) told (Some task) is = λ zero. absurd (not_five status (memory out).0 zero)
+  refused_task (inr none) told (Some task) is = absurd (none (subst IsSome is refl))
+
+  asks_nothing : (kind_of e ≡ OutOfMemory) ⊎ (IsSome (errand_asked words) → ⊥)
+  asks_nothing = elim kinds [ inl out ↦ inl out | inr among ↦ inr (no_errand_among words (kind_of e) among) ]
+
+  pub errand_refused : (told : Text → Option Telling) → IfSome (errand_asked words) (λ task. status ≡ 0 → HasDone told task old.out new.out)
+  errand_refused told = refused_task asks_nothing told (errand_asked words) refl
+
+  pub status_refused : IsSome (errand_asked words) → IsRunStatus status
+  status_refused asks = elim asks_nothing [ inl out ↦ inr (inr (memory out).0) | inr none ↦ absurd (none asks) ]
+
+  pub helps : (IsShown (kind_of e) → Helps t old new status) → AskFileHelp words → Helps t old new status
+  helps help asks = elim kinds [
+    | inl out ↦ let m = memory out in inr (inr (m.0, m.2, m.3))
+    | inr among ↦ help (asks.each (kind_of e) among)
+  ]
+
+  pub scolds : (¬ (IsShown (kind_of e)) → Scolds old new status) → AreWrong words → Scolds old new status
+  scolds wrong asks = elim kinds [
+    | inl out ↦ let m = memory out in (m.1, inr (m.0, m.2))
+    | inr among ↦ wrong (asks.each (kind_of e) among)
+  ]
+
+-- ---- the end
+
+short_status : (takes : Bool) (old new : Held) (status : ℕ) → FallsShort takes old new status → IsRunStatus status
+short_status takes old new status (inl h) = inr (inr h.0)
+short_status takes old new status (inr h) = inr (inl h.0)
+
+short_not_zero : (takes : Bool) (old new : Held) (status : ℕ) → FallsShort takes old new status → status ≡ 0 → ⊥
+short_not_zero takes old new status (inl h) zero = not_five status h.0 zero
+short_not_zero takes old new status (inr h) zero = not_one status h.0 zero
+
+module _ (takes : Bool) (names : Text × Text) (old new : Held) (status : ℕ) where
+  -- what was done is closed
+  pub done_status : (own : ℕ) → own ≡ 0 → Closes takes names (Ok own) old new status → IsRunStatus status
+  done_status own is (inl h) = inl (subst (λ (n : ℕ). status ≡ n) is h.0)
+  done_status own is (inr h) = short_status takes old new status h
+
+  -- what was not done is closed
+  pub stopped_status : (end : Stop) → Closes takes names (Err end) old new status → IsRunStatus status
+  stopped_status (stop.Fault fault) (inl h) = inr (inl h.0)
+  stopped_status (stop.Fault fault) (inr h) = short_status takes old new status h
+  stopped_status stop.Writer h = inr (inl h.0)
+  stopped_status stop.Memory h = short_status takes old new status h
+
+  pub stopped_not_zero : (end : Stop) → Closes takes names (Err end) old new status → status ≡ 0 → ⊥
+  stopped_not_zero (stop.Fault fault) (inl h) zero = not_one status h.0 zero
+  stopped_not_zero (stop.Fault fault) (inr h) zero = short_not_zero takes old new status h zero
+  stopped_not_zero stop.Writer h zero = not_one status h.0 zero
+  stopped_not_zero stop.Memory h zero = short_not_zero takes old new status h zero
+
+pub line_status : (status : ℕ) → (status ≡ 1) ⊎ (status ≡ 5) → IsRunStatus status
+line_status status (inl one) = inr (inl one)
+line_status status (inr five) = inr (inr five)
+
+pub line_not_zero : (status : ℕ) → (status ≡ 1) ⊎ (status ≡ 5) → status ≡ 0 → ⊥
+line_not_zero status (inl one) zero = not_one status one zero
+line_not_zero status (inr five) zero = not_five status five zero
+
+-- ---- what was printed
+
+prints_keeps : (task : Task) (p : Fields) (a b c : Held) → Prints task p a b → Keeps b c → Prints task p a c
+prints_keeps (draw name seed steps) p a b c h same = Appends-keeps a b c _ h same
+prints_keeps (walk name seed steps) p a b c h same = (h.0, h.1, Appends-keeps a b c h.0 h.2 same)
+prints_keeps (script names) p a b c h same = (h.0, h.1, Appends-keeps a b c h.0 h.2 same)
+
+pub done_keeps : (told : Text → Option Telling) (task : Task) (a b c : Held) → HasDone told task a b → Keeps b c → HasDone told task a c
+done_keeps told task a b c h same = (h.0, h.1, prints_keeps task h.0 a b c h.2 same)
+
+-- a text that was printed whole
+pub printed : (takes : Bool) (a b : Held) (text : Text) (status : ℕ) → Ran takes a b (whole text) (Ok status) → Appends a b text
+printed takes a b text status h = subst (λ (x : Text). Appends a b x) (append_nil text) h.1

@@ -1,0 +1,3 @@
+pub mod PlayedLemmas
+pub mod WordLemmas
+pub mod ErrandLemmas

@@ -1,0 +1,147 @@
+//! `draw` and `script`: from words, named bytes and two outputs to a status.
+
+ghost use Rattle.std.specs.Prelude.{◌≡◌, ◌⊎◌, IsSome, IfSome, IfOk, Some};
+ghost use Rattle.mx_words.specs.Words.{names_of, texts_of};
+ghost use Rattle.mx_commands.specs.Ran.{Helps, IsRunStatus, Scolds, seen};
+ghost use Rattle.mx_plan.specs.Fields.{Fields};
+ghost use Rattle.mx_event_files.specs.Errands.{HasDone, IsPlanOf, Prints, files_of, plan_told};
+ghost use Rattle.mx_event_files.specs.Words.{AreWrong, AskFileHelp, errand_asked, errand_of};
+
+use crate::drawing::draw_schedule;
+use crate::halts::Halt;
+use crate::line_faults::{LineFault, ScriptLine};
+use crate::scripting::script_file;
+use crate::texts::text_in;
+use crate::walking::walk_file;
+use crate::words::{Errand, asked};
+use mx_commands::{
+    Named, Output, PutFault, Source, Stop, are_dashes, close, fetch, fetch_plan, plan_in, print,
+    put_line, refuse, split_line, tell_memory,
+};
+use mx_plan::Plan;
+use mx_words::Names;
+use std::alloc::Global;
+
+/// Runs the words of a command line of which `draw` or `script` is the first, without the program's
+/// name, and answers the status: 0 where a file of events was printed, or help was asked for, 1 where a
+/// plan, a script, a file or an output is at fault, 2 where the words are no such command, 5 where
+/// memory ran out.
+pub fn event_file<S: Source, O: Output, E: Output>(
+    alloc: Global,
+    words: &[&str],
+    source: &mut S,
+    out: &mut O,
+    err: &mut E,
+) -> u8
+    ensures prints { IfSome (errand_asked (texts_of words.entry.now)) (λ task.
+        result ≡ 0 → HasDone (S.told source.old) task (O.written out.old) (O.written out.new)) }
+    ensures status { IsSome (errand_asked (texts_of words.entry.now)) → IsRunStatus result }
+    ensures help { AskFileHelp (texts_of words.entry.now) → Helps (O.takes_all out.old)
+        (seen (O.written out.old) (E.written err.old) (O.has_refused out.old) (O.keeps_back out.old))
+        (seen (O.written out.new) (E.written err.new) (O.has_refused out.new) (O.keeps_back out.new))
+        result }
+    ensures wrong { AreWrong (texts_of words.entry.now) → Scolds
+        (seen (O.written out.old) (E.written err.old) (O.has_refused out.old) (O.keeps_back out.old))
+        (seen (O.written out.new) (E.written err.new) (O.has_refused out.new) (O.keeps_back out.new))
+        result }
+{
+    match asked(alloc, words) {
+        Ok(Some(errand)) => run_errand(alloc, &errand, source, out, err),
+        Ok(None) => 2,
+        Err(e) => refuse(alloc, &e, out, err),
+    }
+}
+
+/// Does what is asked for, and tells why there is no file where there is none. Answers the status.
+fn run_errand<S: Source, O: Output, E: Output>(
+    alloc: Global,
+    errand: &Errand<'_>,
+    source: &mut S,
+    out: &mut O,
+    err: &mut E,
+) -> u8
+    ensures prints { result ≡ 0
+        → HasDone (S.told source.old) (errand_of errand.now) (O.written out.old) (O.written out.new) }
+    ensures status { IsRunStatus result }
+{
+    let names = names_in(errand);
+    match do_errand(alloc, errand, source, out) {
+        Ok(status) => close(alloc, Ok(status), &names, out, err),
+        Err(Halt::Stop(stop)) => close(alloc, Err(stop), &names, out, err),
+        Err(Halt::AtLine(number, fault)) => tell_line(alloc, number, fault, err),
+    }
+}
+
+/// The names that the lines of faults have.
+fn names_in<'a>(errand: &Errand<'a>) -> Names<'a> {
+    match errand {
+        Errand::Draw(exploration) | Errand::Walk(exploration) => Names {
+            plan: exploration.plan,
+            events: exploration.plan,
+        },
+        Errand::Script(names) => *names,
+    }
+}
+
+/// Tells why a line of a script is refused, and answers the status.
+fn tell_line<E: Output>(alloc: Global, number: u64, fault: LineFault, err: &mut E) -> u8
+    ensures { (result ≡ 1) ⊎ (result ≡ 5) }
+{
+    match put_line(alloc, err, ScriptLine { number, fault }) {
+        Ok(()) | Err(PutFault::Refused) => 1,
+        Err(PutFault::Memory) => tell_memory(err),
+    }
+}
+
+/// Prints the file that is asked for.
+fn do_errand<S: Source, O: Output>(
+    alloc: Global,
+    errand: &Errand<'_>,
+    source: &mut S,
+    out: &mut O,
+) -> Result<u8, Halt>
+    ensures done { IfOk result (λ status.
+        HasDone (S.told source.old) (errand_of errand.now) (O.written out.old) (O.written out.new)) }
+    ensures zero { IfOk result (λ status. status ≡ 0) }
+{
+    match errand {
+        Errand::Draw(exploration) => {
+            let plan = fetch_plan(alloc, source, exploration.plan)?;
+            let status = draw_schedule(alloc, &plan, exploration.seed, exploration.steps, out)?;
+            Ok(status)
+        }
+        Errand::Walk(exploration) => {
+            let plan = fetch_plan(alloc, source, exploration.plan)?;
+            let file = walk_file(alloc, &plan, exploration.seed, exploration.steps)?;
+            let status = print(file.as_bytes(), out)?;
+            Ok(status)
+        }
+        Errand::Script(names) => {
+            let (plan, script) = fetch_both(alloc, names, source)?;
+            let file = script_file(alloc, &plan, text_in(script.as_slice())?)?;
+            let status = print(file.as_bytes(), out)?;
+            Ok(status)
+        }
+    }
+}
+
+/// The plan, and the bytes of the script. Of one text the first line is the plan, and what follows is the
+/// script.
+fn fetch_both<S: Source>(
+    alloc: Global,
+    names: &Names<'_>,
+    source: &mut S,
+) -> Result<(Plan, Vec<u8>), Stop>
+    ensures { IfOk result (λ both. IsPlanOf (files_of (S.told source.old) (names_of names.now)) both.0) }
+{
+    if are_dashes(names) {
+        let one = fetch(alloc, source, names.plan, Named::Plan)?;
+        let (line, rest) = split_line(one.as_slice());
+        let plan = plan_in(alloc, line)?;
+        let script = Vec::from_slice(alloc, rest)?;
+        return Ok((plan, script));
+    }
+    let plan = fetch_plan(alloc, source, names.plan)?;
+    let script = fetch(alloc, source, names.events, Named::Events)?;
+    Ok((plan, script))
+}
