@@ -144,7 +144,7 @@ fn add_summary<C: Exclusion>(
 }
 
 /// How often a node entered.
-fn entries_in(trace: &[Entry]) -> u64
+pub fn entries_in(trace: &[Entry]) -> u64
     ensures { result ≡ count_by is_entry trace.now }
 {
     trace.iter().filter(|entry| is_entry(entry)).count() as u64

@@ -11,7 +11,7 @@ mod standings;
 
 pub use events::{EventLine, EventText, OutcomeText};
 pub use letters::Letter;
-pub use nodes::add_nodes;
-pub use parcels::{add_parcel, add_parcels};
+pub use nodes::{add_member_line, add_nodes};
+pub use parcels::{add_parcel, add_parcel_line, add_parcels};
 pub use plan_lines::ExploredLine;
 pub use plans::add_plan;

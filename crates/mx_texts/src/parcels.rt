@@ -112,7 +112,7 @@ where
 }
 
 /// Appends the line of a parcel.
-fn add_parcel_line<M: Letter>(
+pub fn add_parcel_line<M: Letter>(
     plan: &Plan,
     number: u64,
     from: NodeId,

@@ -25,12 +25,14 @@ pub(crate) const MX_EXAMPLE: &str =
 
   mx check plan.json
   mx replay plan.json events.json
+  mx count plan.json events.json
   mx explore plan.json --seed 1 --steps 1000
   mx live plan.json --sections 3 --seed 1 --turns 10000000
 
 A name - is standard input. `mx COMMAND --help` tells what a command reads; docs/FORMATS.md has all formats.
 
-`mx live` runs the nodes in threads, and has a page of its own, `mx live --help`.
+`mx live` runs the nodes in threads, and `mx count` counts letters, refusals and waits; each has a page of its
+own, `mx live --help` and `mx count --help`.
 
 Status: 0 all went well; 1 a plan, its events, a file or an output at fault; 2 no such command;
 3 a live run has spent its turns, or its gate is shut; 4 the verdict is that the trace is broken;
@@ -68,7 +70,13 @@ keeps what the sections up to that one left in the registers, in place of their 
 line tells what came of it, and for each parcel that it sent, from whom to whom it goes and what it says.
 Then a line for each node tells where it stands and what its journal has, and the last line is the verdict.
 A name - is standard input. Where both are -, its first line is the plan and the rest is the events.
-`mx check --help` tells what a plan is; docs/FORMATS.md has all formats.";
+`mx check --help` tells what a plan is; docs/FORMATS.md has all formats.
+
+With --quiet only the lines at the end are printed; with --node NAME only those of this node: its events,
+the parcels that it sends or that are sent to it, and its line at the end; with --json an object of JSON
+in place of each line. They may stand together:
+
+  mx replay plan.json events.json --node a --json";
 
 pub(crate) const EXPLORE_EXAMPLE: &str = "Example: a thousand steps drawn from the seed 1.
 
@@ -78,8 +86,8 @@ pub(crate) const EXPLORE_EXAMPLE: &str = "Example: a thousand steps drawn from t
 
 The events are asking, entering, reading, writing, leaving, cancelling, ticking, wanting, settling,
 restarting and the delivery of one of the newest 64 parcels. The first line counts the steps, how often a
-node entered, and the parcels that were sent; the last line is the verdict. `mx check --help` tells what a
-plan is; docs/FORMATS.md has all formats.";
+node entered, and the parcels that were sent; the last line is the verdict. With --count the counts of
+`mx count` stand between them. `mx check --help` tells what a plan is; docs/FORMATS.md has all formats.";
 
 pub(crate) const LIVE_EXAMPLE: &str =
     "Example: three nodes, each in a thread of its own, add 1 to a register in three sections each.

@@ -8,6 +8,6 @@ mod words;
 pub use help::{MX, VERSION};
 pub use live_words::{LiveRun, asked_live};
 pub use words::{
-    Exploration, Names, Request, asked, events_arg, number_at, plan_arg, seed_arg, steps_arg,
-    text_at,
+    Exploration, Names, Request, asked, events_arg, explore_command, number_at, plan_arg,
+    replay_command, seed_arg, steps_arg, text_at,
 };

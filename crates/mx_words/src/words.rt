@@ -92,7 +92,8 @@ fn check_command<'a>(alloc: Global) -> Result<Command<'a>, AllocError>
     Ok(whole)
 }
 
-fn replay_command<'a>(alloc: Global) -> Result<Command<'a>, AllocError>
+/// `replay PLAN EVENTS`.
+pub fn replay_command<'a>(alloc: Global) -> Result<Command<'a>, AllocError>
     ensures app { IfOk result (λ command. app_of command ≡ replay_app) }
     ensures local { IfOk result HasNoGlobals }
 {
@@ -104,7 +105,8 @@ fn replay_command<'a>(alloc: Global) -> Result<Command<'a>, AllocError>
     Ok(whole)
 }
 
-fn explore_command<'a>(alloc: Global) -> Result<Command<'a>, AllocError>
+/// `explore PLAN --seed S --steps K`.
+pub fn explore_command<'a>(alloc: Global) -> Result<Command<'a>, AllocError>
     ensures app { IfOk result (λ command. app_of command ≡ explore_app) }
     ensures local { IfOk result HasNoGlobals }
 {

@@ -1,0 +1,3 @@
+pub mod CountWordLemmas
+pub mod ClosedLemmas
+pub mod CountLemmas

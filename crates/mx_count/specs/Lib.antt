@@ -1,0 +1,5 @@
+-- CountWords: what the words ask to count. Kinds: under which names parcels and refusals are counted. Counts: the
+-- counts, and their lines.
+pub mod CountWords
+pub mod Kinds
+pub mod Counts
