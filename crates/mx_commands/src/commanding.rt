@@ -72,7 +72,7 @@ fn run_request<S: Source, O: Output, E: Output>(
 }
 
 /// The names that the lines of faults have.
-fn names_in<'a>(request: &Request<'a>) -> Names<'a>
+pub fn names_in<'a>(request: &Request<'a>) -> Names<'a>
     ensures { names_of result ≡ names_in (task_of request.now) }
 {
     match request {
@@ -114,7 +114,8 @@ pub(crate) fn is_refused(ended: &Result<u8, Stop>) -> bool
     matches!(ended, Err(Stop::Writer))
 }
 
-fn carry_out<S: Source, O: Output>(
+/// Carries out what was asked for, and answers the status. What the output keeps back is not passed on.
+pub fn carry_out<S: Source, O: Output>(
     alloc: Global,
     request: &Request<'_>,
     source: &mut S,

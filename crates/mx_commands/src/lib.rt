@@ -18,7 +18,7 @@ mod verdicts;
 
 pub use checking::print;
 pub use closing::close;
-pub use commanding::command;
+pub use commanding::{carry_out, command, names_in};
 pub use exploring::{entries_in, happen};
 pub use fault_lines::FaultLine;
 pub use faults::{Fault, Named, Stop};

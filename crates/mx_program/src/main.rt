@@ -3,14 +3,17 @@
 #![tactic(auto)]
 
 mod counted;
+mod kept;
 mod stream;
 mod streams;
 
+use crate::kept::Kept;
 use crate::stream::Stream;
 use crate::streams::Streams;
 use mx_commands::{Output, command};
 use mx_count::count;
 use mx_event_files::event_file;
+use mx_explain::explain;
 use mx_live::live;
 use mx_picture::picture;
 use mx_views::replay_view;
@@ -40,6 +43,10 @@ fn run_words<
     Ok(match first_of(words) {
         "count" => count(alloc, words, &mut source, &mut out, &mut err),
         "draw" | "script" => event_file(alloc, words, &mut source, &mut out, &mut err),
+        "explain" => {
+            let mut kept = Kept::new(alloc, source);
+            explain(alloc, words, &mut kept, &mut out, &mut err)
+        }
         "explore" if has_word(words, "--count") => {
             count(alloc, words, &mut source, &mut out, &mut err)
         }

@@ -1,0 +1,50 @@
+-- What the words of `explain` ask for, as `clap` reads them: a check or a replay that is to be explained.
+use Rattle.std.specs.Prelude.{◌≢◌, List, [], Option, Some, None, true, codes, if◌then◌else◌, option_map}
+use Rattle.std.specs.Str.{bytes_eq}
+use Rattle.clap.specs.Words.{App, Row, Rule, Text, first_of, new_app, new_rule, subcommand_of, with_rule, with_subcommand}
+use Rattle.clap.specs.Faults.{fault_of}
+use Rattle.clap.specs.Kinds.{IsAmong}
+use Rattle.clap.specs.declared.error.kind.ErrorKind.{ErrorKind}
+use Rattle.mx_words.specs.Words.{IsShown, Task, check, replay, plan_rule, where_none}
+
+-- `[EVENTS]`
+abbrev pub events_rule : Rule
+events_rule = new_rule (codes "EVENTS")
+
+-- `explain PLAN [EVENTS]`
+abbrev pub explain_app : App
+explain_app = with_rule (with_rule (new_app (codes "explain")) plan_rule) events_rule
+
+abbrev pub explain_start : App
+explain_start = let a = new_app (codes "mx") in record a { top = record a.top { no_binary_name = true; subcommand_required = true; disable_help_subcommand = true } }
+
+-- the whole command line
+unfoldable pub explain_line : App
+explain_line = with_subcommand explain_start explain_app.top
+
+-- a replay where events are named, else a check
+abbrev pub task_on : Text → Option Text → Task
+task_on plan None = check plan
+task_on plan (Some events) = replay (plan, events)
+
+-- what was given for the arguments
+abbrev pub explain_in : List Row → Option Task
+explain_in rows = option_map (λ plan. task_on plan (first_of (codes "EVENTS") rows)) (first_of (codes "PLAN") rows)
+
+abbrev pub task_in : Option (Text × List Row) → Option Task
+task_in None = None
+task_in (Some p) = if bytes_eq p.0 (codes "explain") then explain_in p.1 else None
+
+-- what the words ask for, where they are `explain` with its arguments
+unfoldable pub task_asked : List Text → Option Task
+task_asked words = where_none (fault_of explain_line words) (task_in (subcommand_of explain_line words))
+
+-- the words ask for help
+pub record AskExplainHelp (words : List Text) : Type 0 where
+  pub some : fault_of explain_line words ≢ []
+  pub each : (k : ErrorKind) → IsAmong k (fault_of explain_line words) → IsShown k
+
+-- the words are not those of `explain`
+pub record AreWrongExplain (words : List Text) : Type 0 where
+  pub some : fault_of explain_line words ≢ []
+  pub each : (k : ErrorKind) → IsAmong k (fault_of explain_line words) → ¬ (IsShown k)

@@ -1,0 +1,85 @@
+//! What is expected at a place.
+
+use crate::lines::{Expected, Path, Unread};
+use crate::nearest::nearest;
+use crate::page::Page;
+use crate::values::{is_among, text_in};
+use serde_json::Value;
+use std::alloc::AllocError;
+
+/// Says that something else is expected at a place.
+pub(crate) fn expect(
+    page: &mut Page<'_>,
+    path: Path<'_>,
+    found: Option<&Value>,
+    expected: &str,
+) -> Result<(), AllocError> {
+    page.say(Expected {
+        path,
+        found,
+        expected,
+        nearest: None,
+    })
+}
+
+/// Says that one of these words is expected at a place, where another stands there.
+pub(crate) fn expect_word(
+    page: &mut Page<'_>,
+    path: Path<'_>,
+    found: Option<&Value>,
+    words: &[&str],
+    expected: &str,
+) -> Result<(), AllocError> {
+    let word = text_in(found);
+    if is_among(word, words) {
+        return Ok(());
+    }
+    let meant = nearest(page.alloc, word, words)?;
+    page.say(Expected {
+        path,
+        found,
+        expected,
+        nearest: meant,
+    })
+}
+
+/// Says that a number in this range is expected at a place, where none stands there.
+pub(crate) fn expect_number(
+    page: &mut Page<'_>,
+    path: Path<'_>,
+    found: Option<&Value>,
+    least: u64,
+    most: u64,
+    expected: &str,
+) -> Result<(), AllocError> {
+    match number_in(found) {
+        Some(n) if least <= n && n <= most => Ok(()),
+        _ => expect(page, path, found, expected),
+    }
+}
+
+/// The whole number that a value is.
+pub(crate) fn number_in(value: Option<&Value>) -> Option<u64> {
+    value?.as_u64()
+}
+
+/// Warns of the members of an object that are none of those that are read.
+pub(crate) fn warn_of_unread(
+    page: &mut Page<'_>,
+    object: &Value,
+    read: &[&str],
+) -> Result<(), AllocError> {
+    let Some(members) = object.as_object() else {
+        return Ok(());
+    };
+    for (key, _) in members.iter() {
+        if !is_among(key.as_str(), read) {
+            let meant = nearest(page.alloc, key.as_str(), read)?;
+            page.say(Unread {
+                key: key.as_str(),
+                nearest: meant,
+            })?;
+        }
+    }
+    Ok(())
+}

@@ -1,0 +1,144 @@
+//! What is wrong in the members of a plan, each by itself.
+
+use crate::expecting::{expect, expect_number, expect_word, warn_of_unread};
+use crate::lines::{Foreign, Path};
+use crate::page::Page;
+use crate::shape_members::explain_shape;
+use crate::values::{is_among, items_in, text_in, texts_in};
+use serde_json::Value;
+use std::alloc::AllocError;
+
+const ALGORITHMS: [&str; 3] = ["ricart", "maekawa", "raymond"];
+
+/// The members that may stand in a plan.
+const MEMBERS: [&str; 8] = [
+    "algorithm",
+    "nodes",
+    "registers",
+    "sections",
+    "origin",
+    "quorums",
+    "edges",
+    "holder",
+];
+
+/// Those that are read for one algorithm alone.
+const OWNED: [(&str, &str); 3] = [
+    ("quorums", "maekawa"),
+    ("edges", "raymond"),
+    ("holder", "raymond"),
+];
+
+const NAMES: &str = "a name: 1 to 16 of letters, digits, _ and -";
+
+/// Says what is wrong in each member, and which ones nobody reads.
+pub(crate) fn explain_plan(page: &mut Page<'_>, plan: &Value) -> Result<(), AllocError> {
+    if !plan.is_object() {
+        let expected = "an object with algorithm, nodes, registers and sections";
+        return expect(page, Path::of("the plan"), Some(plan), expected);
+    }
+    let algorithms = "an algorithm: ricart, maekawa or raymond";
+    let algorithm = plan.get("algorithm");
+    expect_word(
+        page,
+        Path::of("algorithm"),
+        algorithm,
+        &ALGORITHMS,
+        algorithms,
+    )?;
+    let (nodes, registers) = ("an array of 1 to 21 names", "an array of 1 to 32 names");
+    explain_names(page, "nodes", plan.get("nodes"), 21, nodes)?;
+    explain_names(page, "registers", plan.get("registers"), 32, registers)?;
+    explain_numbers(page, plan)?;
+    let nodes = texts_in(page.alloc, plan.get("nodes"))?;
+    explain_shape(page, text_in(algorithm), plan, nodes.as_slice())?;
+    warn_of_unread(page, plan, &MEMBERS)?;
+    warn_of_foreign(page, text_in(algorithm), plan)
+}
+
+/// The bounds of a plan.
+fn explain_numbers(page: &mut Page<'_>, plan: &Value) -> Result<(), AllocError> {
+    let sections = plan.get("sections");
+    let expected = "a whole number, 1 to 1000000";
+    expect_number(page, Path::of("sections"), sections, 1, 1_000_000, expected)?;
+    let Some(origin) = plan.get("origin") else {
+        return Ok(());
+    };
+    let expected = "a whole number of 64 bits";
+    expect_number(
+        page,
+        Path::of("origin"),
+        Some(origin),
+        0,
+        u64::MAX,
+        expected,
+    )
+}
+
+/// A list of names, no two equal.
+fn explain_names(
+    page: &mut Page<'_>,
+    key: &str,
+    value: Option<&Value>,
+    most: usize,
+    expected: &str,
+) -> Result<(), AllocError> {
+    let list = items_in(value);
+    if list.is_empty() || list.len() > most {
+        return expect(page, Path::of(key), value, expected);
+    }
+    let names = texts_in(page.alloc, value)?;
+    for (i, item) in list.iter().enumerate() {
+        explain_name(page, key, i, item, names.as_slice())?;
+    }
+    Ok(())
+}
+
+/// One of these names, the i-th.
+fn explain_name(
+    page: &mut Page<'_>,
+    key: &str,
+    i: usize,
+    value: &Value,
+    names: &[&str],
+) -> Result<(), AllocError> {
+    let items = [i];
+    let path = Path::item(key, &items);
+    let name = text_in(Some(value));
+    if !is_name(name) {
+        return expect(page, path, Some(value), NAMES);
+    }
+    match names.get(..i) {
+        Some(earlier) if is_among(name, earlier) => {
+            expect(page, path, Some(value), "a name that no earlier one equals")
+        }
+        _ => Ok(()),
+    }
+}
+
+/// Whether a text may be a name.
+fn is_name(text: &str) -> bool {
+    let bytes = text.as_bytes();
+    1 <= bytes.len() && bytes.len() <= 16 && bytes.iter().all(|b| is_name_byte(*b))
+}
+
+fn is_name_byte(b: u8) -> bool {
+    matches!(b, b'0'..=b'9' | b'A'..=b'Z' | b'a'..=b'z' | b'_' | b'-')
+}
+
+/// Warns of the members that are for another algorithm.
+fn warn_of_foreign(page: &mut Page<'_>, algorithm: &str, plan: &Value) -> Result<(), AllocError> {
+    if !is_among(algorithm, &ALGORITHMS) {
+        return Ok(());
+    }
+    for (key, owner) in OWNED {
+        if owner != algorithm && plan.get(key).is_some() {
+            page.say(Foreign {
+                key,
+                owner,
+                algorithm,
+            })?;
+        }
+    }
+    Ok(())
+}
