@@ -10,7 +10,7 @@ import sys
 import xml.etree.ElementTree as xml
 from collections import Counter
 
-LANE, ROW = 150, 13  # how far apart nodes and rows are
+LANE, ROW = 180, 13  # how far apart nodes and rows are
 SVG = "{http://www.w3.org/2000/svg}"
 INKS = {"request": "request", "reply": "grant", "locked": "grant", "privilege": "grant"}
 
@@ -47,6 +47,8 @@ def shown(run):
         word, args, outcome, told = event
         node = run.node_of(event)
         things.append(("index", row, str(index)))
+        if index % 10 == 0:
+            things.append(("guide", row))
         if not outcome.startswith("entered"):
             things.append(("dot", node, row))
         if word == "deliver":
@@ -123,6 +125,10 @@ def read_back(picture):
         look = part.get("class", "")
         if part.tag == SVG + "circle":
             things.append(("dot", place(part.get("cx"), LANE), place(part.get("cy"), ROW)))
+        elif look == "guide":
+            across = f"M-{-left} (\\d+)h{width}"
+            assert re.fullmatch(f"({across})*", part.get("d"))
+            things += [("guide", place(y, ROW)) for y in re.findall(across, part.get("d"))]
         elif part.tag == SVG + "path":
             thing = path_of(look, part.get("d"))
             (boxes if thing[0] == "inside" else things).append(thing)

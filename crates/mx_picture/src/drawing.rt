@@ -125,6 +125,7 @@ where
         | Event::Write(node, _, _)
         | Event::Leave(node)
         | Event::Cancel(node)
+        | Event::Settle(node, _)
         | Event::Tick(node)
         | Event::Want(node, _)
         | Event::Restart(node) => draw_act(plan, *node, event, outcome, drawing),
@@ -153,6 +154,7 @@ fn draw_act(
         Outcome::Value(_)
         | Outcome::Written
         | Outcome::Sent(_)
+        | Outcome::Settled
         | Outcome::Delivered
         | Outcome::Woken
         | Outcome::Refused(_) => drawing.sheet.dot(node),

@@ -45,6 +45,6 @@ impl Inked for RaymondMsg {
 pub(crate) fn ink_of<M: Inked>(parcel: &Parcel<M>) -> &'static str {
     match parcel {
         Parcel::Guard(letter) => letter.ink(),
-        Parcel::Want(_) | Parcel::Records(_) => "other",
+        Parcel::Want(_) | Parcel::Base(_) | Parcel::Records(_) => "other",
     }
 }

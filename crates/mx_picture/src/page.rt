@@ -18,11 +18,20 @@ const INDICES: u64 = 60;
 /// How far the texts stand off from their nodes, and from the edge of the page.
 const MARGIN: u64 = 40;
 
+/// The page, which has room for all texts. The line of the first node stands `left` pixels from its edge.
+#[derive(Clone, Copy)]
+struct Frame {
+    left: u64,
+    width: u64,
+    height: u64,
+}
+
 /// Appends the whole picture.
 pub(crate) fn add_page(plan: &Plan, sheet: &Sheet, text: &mut String) -> Result<(), AllocError> {
-    let left = sheet.left.saturating_add(MARGIN + INDICES);
-    add_head(plan, sheet, left, text)?;
-    add_indices(sheet, left, text)?;
+    let frame = frame_of(plan, sheet);
+    add_head(&frame, text)?;
+    add_guides(sheet, &frame, text)?;
+    add_indices(sheet, frame.left, text)?;
     add_lanes(plan, y_of(sheet.row), text)?;
     text.push_str(sheet.bars.as_str())?;
     text.push_str(sheet.arrows.as_str())?;
@@ -30,12 +39,22 @@ pub(crate) fn add_page(plan: &Plan, sheet: &Sheet, text: &mut String) -> Result<
     text.push_str("</svg>\n")
 }
 
-/// Appends the size of the picture, which has room for all texts, the styles and the legend.
-fn add_head(plan: &Plan, sheet: &Sheet, left: u64, text: &mut String) -> Result<(), AllocError> {
+fn frame_of(plan: &Plan, sheet: &Sheet) -> Frame {
+    let left = sheet.left.saturating_add(MARGIN + INDICES);
     let last = LANE * u64::from(plan.nodes() - 1);
     let right = sheet.right.max(last).saturating_add(MARGIN);
-    let width = left.saturating_add(right).max(LEGEND_WIDTH);
-    let height = y_of(sheet.row) + HEAD + FOOT;
+    Frame {
+        left,
+        width: left.saturating_add(right).max(LEGEND_WIDTH),
+        height: y_of(sheet.row) + HEAD + FOOT,
+    }
+}
+
+/// Appends the size of the picture, the styles and the legend.
+fn add_head(frame: &Frame, text: &mut String) -> Result<(), AllocError> {
+    let left = frame.left;
+    let width = frame.width;
+    let height = frame.height;
     write!(
         text,
         "<svg xmlns=\"http://www.w3.org/2000/svg\" width=\"{width}\" height=\"{height}\""
@@ -49,6 +68,17 @@ fn add_head(plan: &Plan, sheet: &Sheet, left: u64, text: &mut String) -> Result<
         text,
         "<path class=\"paper\" d=\"M0 0h{width}v{height}h-{width}z\"/>\n{LEGEND}</g>\n"
     )
+}
+
+/// Appends the lines across the page.
+fn add_guides(sheet: &Sheet, frame: &Frame, text: &mut String) -> Result<(), AllocError> {
+    let left = frame.left;
+    let width = frame.width;
+    text.push_str("<path class=\"guide\" d=\"")?;
+    for y in &sheet.guides {
+        write!(text, "M-{left} {y}h{width}")?;
+    }
+    text.push_str("\"/>\n")
 }
 
 /// Appends the indices of the events.

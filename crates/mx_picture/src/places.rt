@@ -5,7 +5,7 @@ ghost use Rattle.std.specs.Prelude.{◌≡◌, ◌≤◌, ◌*◌};
 use mx_stamps::NodeId;
 
 /// How far apart the lines of two nodes are.
-pub(crate) const LANE: u64 = 150;
+pub(crate) const LANE: u64 = 180;
 
 /// How far apart two rows are.
 const ROW: u64 = 13;
@@ -15,7 +15,7 @@ pub(crate) const MOST_ROWS: u64 = 1_000_000_000_000;
 
 /// Where the line of a node stands.
 pub(crate) fn x_of(node: NodeId) -> u64
-    ensures { result ≡ 150 * node }
+    ensures { result ≡ 180 * node }
 {
     LANE * u64::from(node.get())
 }

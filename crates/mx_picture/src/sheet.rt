@@ -43,6 +43,8 @@ pub(crate) struct Sheet {
     pub(crate) arrows: String,
     pub(crate) texts: String,
     pub(crate) indices: String,
+    /// Where lines go across the page, so that an index is found from afar.
+    pub(crate) guides: Vec<u64>,
     /// How far texts reach to the left of the first node, and to the right of it.
     pub(crate) left: u64,
     pub(crate) right: u64,
@@ -68,6 +70,7 @@ impl Sheet {
             arrows: String::new(alloc),
             texts: String::new(alloc),
             indices: String::new(alloc),
+            guides: Vec::new(alloc),
             left: 0,
             right: 0,
             row: 0,
@@ -89,8 +92,17 @@ impl Sheet {
     /// Begins an event, of this index, in this row.
     pub(crate) fn begin(&mut self, index: u64) -> Result<(), AllocError> {
         self.event = self.row;
+        self.guide(index)?;
         let y = y_of(self.row);
         write!(self.indices, "<text y=\"{y}\" dy=\"4\">{index}</text>\n")
+    }
+
+    /// Each tenth event has a line across the page.
+    fn guide(&mut self, index: u64) -> Result<(), AllocError> {
+        if index % 10 == 0 {
+            self.guides.push(y_of(self.row))?;
+        }
+        Ok(())
     }
 
     /// The dot of an event at its node.

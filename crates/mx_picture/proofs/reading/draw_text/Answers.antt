@@ -1,6 +1,6 @@
 use Rattle.std.proofs.Common.{◌≡◌, Err, List, None, length, refl, rules, subst, sym, ℕ}
 use Rattle.std.specs.Io.KnownBytes.{Appends}
-use Rattle.mx_network.specs.declared.event.Event.{Event}
+use Rattle.mx_events.specs.declared.event.Event.{Event}
 use Rattle.mx_plan.specs.Events.{events_at}
 use Rattle.mx_commands.specs.Jobs.{report_of_events, run_by}
 use Rattle.mx_commands.specs.Outputs.{stop_of}
