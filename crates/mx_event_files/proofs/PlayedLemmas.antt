@@ -12,7 +12,7 @@ use Rattle.mx_raymond.specs.Step.{raymond_core}
 use Rattle.mx_member.specs.declared.acts.Act.{Act}
 use Rattle.mx_member.specs.Member.{MemberState}
 use Rattle.mx_network.specs.Step.{ClusterState, RunsTo, step_of, at_part, at_member, part_of, grown, answer_of}
-use Rattle.mx_network.specs.declared.event.Event.{Event}
+use Rattle.mx_events.specs.declared.event.Event.{Event}
 use Rattle.mx_network.specs.declared.faults.StepFault.{StepFault}
 use Rattle.mx_network.specs.declared.outcome.Entry.{Entry}
 use Rattle.mx_plan.specs.Text.{Text}

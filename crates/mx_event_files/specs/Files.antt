@@ -1,7 +1,7 @@
 -- Files of events: a list in JSON, with one event a line.
 use Rattle.std.specs.Prelude.{List, [], ◌∷◌, ◌++◌, codes, decimal}
-use Rattle.mx_network.specs.declared.event.Event.{Event}
-use Rattle.mx_network.specs.declared.event.Event.TheVariants.{Ask, Enter, Read, Write, Leave, Cancel, Tick, Want, Restart, Deliver}
+use Rattle.mx_events.specs.declared.event.Event.{Event}
+use Rattle.mx_events.specs.declared.event.Event.TheVariants.{Ask, Enter, Read, Write, Leave, Cancel, Tick, Want, Settle, Restart, Deliver}
 use Rattle.mx_plan.specs.Text.{Text}
 use Rattle.mx_plan.specs.Fields.{Fields}
 use Rattle.mx_texts.specs.EventTexts.{name_of, register_name_of}
@@ -25,6 +25,7 @@ items_text p (Leave node) = of_node (codes "leave") (name_of p node)
 items_text p (Cancel node) = of_node (codes "cancel") (name_of p node)
 items_text p (Tick node) = of_node (codes "tick") (name_of p node)
 items_text p (Want node other) = of_node (codes "want") (name_of p node) ++ codes "," ++ quoted (name_of p other)
+items_text p (Settle node upto) = of_node (codes "settle") (name_of p node) ++ codes "," ++ decimal upto
 items_text p (Restart node) = of_node (codes "restart") (name_of p node)
 items_text p (Deliver k) = quoted (codes "deliver") ++ codes "," ++ decimal k
 

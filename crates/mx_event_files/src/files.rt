@@ -95,6 +95,7 @@ impl fmt::Display for ItemsText<'_> {
                 let other = Quoted(name_of(self.plan, *other));
                 write!(f, "{},{other}", self.of("want", *node))
             }
+            Event::Settle(node, upto) => write!(f, "{},{upto}", self.of("settle", *node)),
             Event::Restart(node) => write!(f, "{}", self.of("restart", *node)),
             Event::Deliver(number) => write!(f, "{},{number}", Quoted("deliver")),
         }

@@ -18,8 +18,8 @@ pub(crate) const DRAW_EXAMPLE: &str =
 Without --walk the events are those that `mx explore` does from the same seed and steps: each is drawn
 alone, so that a node seldom has all permissions when it is its turn to enter. With --walk most steps
 deliver a parcel that is under way, wherever it stands; of 64 parcels taken up one is lost, and now and
-then one is delivered again. In the other steps a node asks, enters, reads, writes, leaves, wants, ticks
-or, seldom, cancels, whichever it can; one that may enter or is inside comes first. A step in which a
+then one is delivered again. In the other steps a node asks, enters, reads, writes, leaves, wants, settles,
+ticks or, seldom, cancels, whichever it can; one that may enter or is inside comes first. A step in which a
 parcel is lost, or in which the node can but wait, prints no event. One event stands on a line, so that
 the file can be cut. `mx check --help` tells what a plan is; docs/FORMATS.md has all formats.";
 
@@ -39,7 +39,7 @@ pub(crate) const SCRIPT_EXAMPLE: &str =
   mx replay plan.json events.json
 
 A line is an event as `replay` prints it: ask N, enter N, read N R, write N R V, leave N, cancel N, tick N,
-want N M, restart N, deliver K; or it speaks of the parcels under way, which were neither delivered nor lost:
+want N M, settle N K, restart N, deliver K; or it speaks of the parcels under way, which were neither delivered nor lost:
 
   deliver N M    the oldest from N to M is delivered
   deliver all    all are delivered, the oldest first, and those that they bring about, until none is left

@@ -103,7 +103,7 @@ fn delivery(a: &str) -> Result<Order, LineFault>
     Ok(Order::Happens(Event::Deliver(number)))
 }
 
-/// What speaks of two nodes, or of a node and a register.
+/// What speaks of two nodes, of a node and a register, or of a node and a section.
 fn with_two(plan: &Plan, word: &str, a: &str, b: &str) -> Result<Order, LineFault>
     ensures { IfOk result (IsOver (length plan.now.nodes) (length plan.now.registers)) }
 {
@@ -112,6 +112,7 @@ fn with_two(plan: &Plan, word: &str, a: &str, b: &str) -> Result<Order, LineFaul
     match word {
         "read" => Ok(Order::Happens(Event::Read(node?, register_in(plan, b)?))),
         "want" => Ok(Order::Happens(Event::Want(node?, other?))),
+        "settle" => Ok(Order::Happens(Event::Settle(node?, number_in(b)?))),
         "deliver" => Ok(Order::Arrives(node?, other?)),
         "lose" => Ok(Order::IsLost(node?, other?)),
         "again" => Ok(Order::ArrivesAgain(node?, other?)),
@@ -135,7 +136,7 @@ fn with_three(plan: &Plan, word: &str, a: &str, b: &str, c: &str) -> Result<Orde
 fn fault_of_word(word: &str) -> LineFault {
     match word {
         "ask" | "enter" | "leave" | "cancel" | "tick" | "restart" => LineFault::WordCount,
-        "read" | "write" | "want" | "deliver" | "lose" | "again" => LineFault::WordCount,
+        "read" | "write" | "want" | "settle" | "deliver" | "lose" | "again" => LineFault::WordCount,
         "times" => LineFault::WordCount,
         _ => LineFault::NoWord,
     }

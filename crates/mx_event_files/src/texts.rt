@@ -8,10 +8,7 @@ use std::str;
 pub(crate) fn text_in(bytes: &[u8]) -> Result<&str, Halt> {
     match str::from_utf8(bytes) {
         Ok(text) => Ok(text),
-        Err(e) => Err(Halt::AtLine(
-            line_at(bytes, e.valid_up_to()),
-            LineFault::NotText,
-        )),
+        Err(e) => Err(Halt::AtLine(line_at(bytes, e.valid_up_to()), LineFault::NotText)),
     }
 }
 

@@ -4,6 +4,7 @@
 ghost use Rattle.std.specs.Prelude.{ℕ, ◌<◌, length, IfSome};
 ghost use Rattle.mx_explorer.specs.Drawn.{IsDrawn};
 
+use mx_member::Member;
 use mx_network::{Cluster, Event};
 use mx_nodelaws::{Exclusion, Phase};
 use mx_plan::Plan;
@@ -13,15 +14,15 @@ use rand_core::utils::NextWord;
 use rand_pcg::Pcg32;
 use std::alloc::{AllocError, Global};
 
-/// Of 64 steps so many deliver a parcel that is under way.
-const DELIVERIES: u32 = 48;
+/// Of 64 steps those below this deliver a parcel that may have been delivered before.
+const REPEATS: u32 = 2;
 
-/// Before this one of 64 steps, a parcel is delivered that may have been delivered before.
-const REPEATS: u32 = 50;
+/// Of the others those below this let any node act.
+const ANYBODY: u32 = 4;
 
-/// Before this one of 64 steps any node acts; in the others one that may enter or is inside, where there
-/// is one.
-const ANYBODY: u32 = 52;
+/// Of the others those below this deliver a parcel that is under way, where there is one. In what is left
+/// a node acts that may enter or is inside, where there is one.
+const DELIVERIES: u32 = 52;
 
 /// How many of the newest parcels are repeated.
 const WINDOW: u64 = 64;
@@ -61,11 +62,11 @@ impl Walk {
         ensures { IfSome result (IsDrawn (length plan.now.nodes) (length plan.now.registers)) }
     {
         let chance = self.below(64);
-        if chance < DELIVERIES && !self.flying.is_empty() {
-            return Some(Event::Deliver(self.take_up()?));
-        }
         if chance < REPEATS {
             return Some(Event::Deliver(self.repeat()?));
+        }
+        if chance >= ANYBODY && chance < DELIVERIES && !self.flying.is_empty() {
+            return Some(Event::Deliver(self.take_up()?));
         }
         let any = self.node(plan);
         if chance < ANYBODY {
@@ -134,20 +135,26 @@ impl Walk {
     {
         let member = cluster.member(node)?;
         match member.phase() {
-            Phase::Idle => self.be_idle(plan, node),
+            Phase::Idle => self.be_idle(plan, member, node),
             Phase::Waiting => self.wait(member.can_enter(), node),
             Phase::Inside(_) => Some(self.be_inside(plan, node)),
         }
     }
 
-    /// An idle node asks, or wants the records of another.
-    fn be_idle(&mut self, plan: &Plan, node: NodeId) -> Option<Event>
+    /// An idle node asks, wants the records of another, or settles what it has without a gap.
+    fn be_idle<C: Exclusion>(
+        &mut self,
+        plan: &Plan,
+        member: &Member<C>,
+        node: NodeId,
+    ) -> Option<Event>
         requires { node < length plan.now.nodes }
         ensures { IfSome result (IsDrawn (length plan.now.nodes) (length plan.now.registers)) }
     {
         match self.below(16) {
             0 | 1 => Some(Event::Ask(node)),
             2 => Some(Event::Want(node, self.node(plan))),
+            3 => Some(Event::Settle(node, member.journal().gapless_to())),
             _ => None,
         }
     }
