@@ -1,5 +1,5 @@
 -- What comes of the words of `draw` and `script`.
-use Rattle.std.proofs.Common.{◌≡◌, ◌⊎◌, inl, inr, ℕ, Bool, Option, Some, None, Result, Ok, Err, IfSome, IsSome, refl, subst, sym, List, [], ◌∷◌}
+use Rattle.std.proofs.Common.{◌≡◌, ◌⊎◌, inl, inr, ℕ, Bool, Option, Some, None, Result, Ok, Err, IfOk, IfSome, IsSome, refl, subst, sym, List, [], ◌∷◌}
 use Rattle.std.specs.Io.KnownBytes.{Appends, Keeps}
 use Rattle.clap.specs.Words.{kind_of}
 use Rattle.clap.specs.Faults.{fault_of}
@@ -18,7 +18,8 @@ use Rattle.mx_commands.specs.Ran.{Helps, IsRunStatus, MayTell, Ran, Scolds, Seen
 use Rattle.mx_commands.specs.Runs.{whole}
 use Rattle.mx_commands.specs.Told.{Telling}
 use Rattle.mx_commands.proofs.RunLemmas.{Appends-keeps}
-use Rattle.mx_event_files.specs.Errands.{HasDone, IsPlanOf, Prints, plan_told}
+use Rattle.mx_event_files.specs.Errands.{HasDone, IsPlanOf, Prints, PrintsEvents, plan_told}
+use Rattle.mx_event_files.specs.Played.{IsEventFile}
 use Rattle.mx_event_files.specs.Words.{AreWrong, AskFileHelp, Task, draw, walk, script, errand_asked, file_line}
 use Rattle.mx_event_files.proofs.WordLemmas.{no_errand_among}
 
@@ -107,5 +108,18 @@ pub done_keeps : (told : Text → Option Telling) (task : Task) (a b c : Held) �
 done_keeps told task a b c h same = (h.0, h.1, prints_keeps task h.0 a b c h.2 same)
 
 -- a text that was printed whole
-pub printed : (takes : Bool) (a b : Held) (text : Text) (status : ℕ) → Ran takes a b (whole text) (Ok status) → Appends a b text
+printed : (takes : Bool) (a b : Held) (text : Text) (status : ℕ) → Ran takes a b (whole text) (Ok status) → Appends a b text
 printed takes a b text status h = subst (λ (x : Text). Appends a b x) (append_nil text) h.1
+
+-- what was printed is what was to be done
+pub print_done : (told : Text → Option Telling) (task : Task) (p : Fields) (takes : Bool) (a b : Held) (text : Text) (r : Result ℕ Stop)
+    → IsPlanOf (plan_told told task) p → (Appends a b text → Prints task p a b) → Ran takes a b (whole text) r → IfOk r (λ _. HasDone told task a b)
+print_done told task p takes a b text (Ok status) read prints ran = (p, read, prints (printed takes a b text status ran))
+print_done told task p takes a b text (Err end) read prints ran = tt
+
+-- the same of a file of events
+pub file_done : (told : Text → Option Telling) (task : Task) (p : Fields) (takes : Bool) (a b : Held) (text file : Text) (r : Result ℕ Stop)
+    → IsPlanOf (plan_told told task) p → (PrintsEvents p a b → Prints task p a b) → text ≡ file → IsEventFile p file p.shape → Ran takes a b (whole text) r
+    → IfOk r (λ _. HasDone told task a b)
+file_done told task p takes a b text file r read prints is of_plan ran =
+    print_done told task p takes a b text r read (λ h. prints (text, subst (λ (x : Text). IsEventFile p x p.shape) (sym is) of_plan, h)) ran

@@ -4,7 +4,8 @@ ghost use Rattle.std.specs.Prelude.{◌≡◌, ◌⊎◌, IsSome, IfSome, IfOk, 
 ghost use Rattle.mx_words.specs.Words.{names_of, texts_of};
 ghost use Rattle.mx_commands.specs.Ran.{Helps, IsRunStatus, Scolds, seen};
 ghost use Rattle.mx_plan.specs.Fields.{Fields};
-ghost use Rattle.mx_event_files.specs.Errands.{HasDone, IsPlanOf, Prints, files_of, plan_told};
+ghost use Rattle.mx_event_files.specs.Errands.{HasDone, IsPlanOf, files_of};
+ghost use Rattle.mx_event_files.specs.Words as task;
 ghost use Rattle.mx_event_files.specs.Words.{AreWrong, AskFileHelp, errand_asked, errand_of};
 
 use crate::drawing::draw_schedule;
@@ -19,7 +20,7 @@ use mx_commands::{
     put_line, refuse, split_line, tell_memory,
 };
 use mx_plan::Plan;
-use mx_words::Names;
+use mx_words::{Exploration, Names};
 use std::alloc::Global;
 
 /// Runs the words of a command line of which `draw` or `script` is the first, without the program's
@@ -100,29 +101,66 @@ fn do_errand<S: Source, O: Output>(
     source: &mut S,
     out: &mut O,
 ) -> Result<u8, Halt>
-    ensures done { IfOk result (λ status.
+    ensures done { IfOk result (λ _.
         HasDone (S.told source.old) (errand_of errand.now) (O.written out.old) (O.written out.new)) }
     ensures zero { IfOk result (λ status. status ≡ 0) }
 {
     match errand {
-        Errand::Draw(exploration) => {
-            let plan = fetch_plan(alloc, source, exploration.plan)?;
-            let status = draw_schedule(alloc, &plan, exploration.seed, exploration.steps, out)?;
-            Ok(status)
-        }
-        Errand::Walk(exploration) => {
-            let plan = fetch_plan(alloc, source, exploration.plan)?;
-            let file = walk_file(alloc, &plan, exploration.seed, exploration.steps)?;
-            let status = print(file.as_bytes(), out)?;
-            Ok(status)
-        }
-        Errand::Script(names) => {
-            let (plan, script) = fetch_both(alloc, names, source)?;
-            let file = script_file(alloc, &plan, text_in(script.as_slice())?)?;
-            let status = print(file.as_bytes(), out)?;
-            Ok(status)
-        }
+        Errand::Draw(exploration) => Ok(draw_file(alloc, exploration, source, out)?),
+        Errand::Walk(exploration) => Ok(print_walk(alloc, exploration, source, out)?),
+        Errand::Script(names) => print_script(alloc, names, source, out),
     }
+}
+
+/// Prints what `explore` does. Answers the status.
+fn draw_file<S: Source, O: Output>(
+    alloc: Global,
+    exploration: &Exploration<'_>,
+    source: &mut S,
+    out: &mut O,
+) -> Result<u8, Stop>
+    ensures done { IfOk result (λ _. HasDone (S.told source.old)
+        (task.draw exploration.now.plan.now exploration.now.seed exploration.now.steps)
+        (O.written out.old) (O.written out.new)) }
+    ensures zero { IfOk result (λ status. status ≡ 0) }
+{
+    let plan = fetch_plan(alloc, source, exploration.plan)?;
+    draw_schedule(alloc, &plan, exploration.seed, exploration.steps, out)
+}
+
+/// Prints a walk. Answers the status.
+fn print_walk<S: Source, O: Output>(
+    alloc: Global,
+    exploration: &Exploration<'_>,
+    source: &mut S,
+    out: &mut O,
+) -> Result<u8, Stop>
+    ensures done { IfOk result (λ _. HasDone (S.told source.old)
+        (task.walk exploration.now.plan.now exploration.now.seed exploration.now.steps)
+        (O.written out.old) (O.written out.new)) }
+    ensures zero { IfOk result (λ status. status ≡ 0) }
+{
+    let plan = fetch_plan(alloc, source, exploration.plan)?;
+    let file = walk_file(alloc, &plan, exploration.seed, exploration.steps)?;
+    print(file.as_bytes(), out)
+}
+
+/// Prints the events of a script. Answers the status.
+fn print_script<S: Source, O: Output>(
+    alloc: Global,
+    names: &Names<'_>,
+    source: &mut S,
+    out: &mut O,
+) -> Result<u8, Halt>
+    ensures done { IfOk result (λ _. HasDone (S.told source.old) (task.script (names_of names.now))
+        (O.written out.old) (O.written out.new)) }
+    ensures zero { IfOk result (λ status. status ≡ 0) }
+{
+    let (plan, script) = fetch_both(alloc, names, source)?;
+    let script = text_in(script.as_slice())?;
+    let file = script_file(alloc, &plan, script)?;
+    let status = print(file.as_bytes(), out)?;
+    Ok(status)
 }
 
 /// The plan, and the bytes of the script. Of one text the first line is the plan, and what follows is the

@@ -101,6 +101,7 @@ fn one_line<C: Exclusion>(
 }
 
 /// What a line asks for, once.
+#[tactic(auto, using(crate::proofs::PlayedLemmas::plays_on_ok, crate::proofs::PlayedLemmas::plays_nothing))]
 fn obey<C: Exclusion>(
     plan: &Plan,
     order: &Order,
@@ -155,6 +156,7 @@ fn all_arrive<C: Exclusion>(
 }
 
 /// The oldest parcel under way from one node to another is delivered.
+#[tactic(auto, using(crate::proofs::PlayedLemmas::plays_on_ok))]
 fn arrive<C: Exclusion>(
     from: NodeId,
     to: NodeId,
@@ -186,6 +188,7 @@ fn lose<C: Exclusion>(
 }
 
 /// The parcel from one node to another that was delivered last is delivered again.
+#[tactic(auto, using(crate::proofs::PlayedLemmas::plays_on_ok))]
 fn arrive_again<C: Exclusion>(
     from: NodeId,
     to: NodeId,
