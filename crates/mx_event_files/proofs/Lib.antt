@@ -1,3 +1,4 @@
+pub mod FileLemmas
 pub mod PlayedLemmas
 pub mod WordLemmas
 pub mod ErrandLemmas

@@ -24,7 +24,7 @@ use Rattle.mx_explorer.specs.Place.{place_of}
 use Rattle.mx_commands.specs.Explored.{after_drawn, after_placed, or_stay}
 use Rattle.mx_commands.specs.Runs.{at_rest}
 use Rattle.mx_event_files.specs.Files.{file_text}
-use Rattle.mx_event_files.specs.Played.{AreOver, IsEventFile, IsFileOf, IsPlayed, Plays, events_of}
+use Rattle.mx_event_files.specs.Played.{AreOver, IsFileOf, IsPlayed, Plays, events_of}
 use Rattle.mx_event_files.specs.Drawn.{LeadsAs, placed_in}
 
 same_Ok : {A E : Type 0} (x y : A) → ◌≡◌ {A = Result A E} (Ok x) (Ok y) → x ≡ y
@@ -129,13 +129,3 @@ pub leads : (p : Fields) (es : List Event) (shape : Shape) → LeadsAs p es (pla
 leads p es (Ricart count) = runs_drawn ricart_core (at_rest ricart_core p count) (at_rest ricart_core p count) es refl
 leads p es (Maekawa family) = runs_drawn maekawa_core (at_rest maekawa_core p family) (at_rest maekawa_core p family) es refl
 leads p es (Raymond tree) = runs_drawn raymond_core (at_rest raymond_core p tree) (at_rest raymond_core p tree) es refl
-
--- a text that is a file by the shape of a plan
-pub file_by : {T E : Type 0} (bytes : T → Text) (p : Fields) (shape : Shape) (r : Result T E) → shape ≡ p.shape
-    → IfOk r (λ text. IsEventFile p (bytes text) shape) → IfOk r (λ text. IsEventFile p (bytes text) p.shape)
-file_by bytes p shape r is h = subst (λ (s : Shape). IfOk r (λ text. IsEventFile p (bytes text) s)) is h
-
--- and from the cluster with which it started
-pub file_from : {H S M T E : Type 0} (core : Core H S M) (bytes : T → Text) (p : Fields) (r : Result T E) (g start : ClusterState S M) → g ≡ start
-    → IfOk r (λ text. IsFileOf core p g (bytes text)) → IfOk r (λ text. IsFileOf core p start (bytes text))
-file_from core bytes p r g start is h = subst (λ x. IfOk r (λ text. IsFileOf core p x (bytes text))) is h

@@ -2,9 +2,9 @@
 
 ghost use Rattle.std.specs.Prelude.{◌≡◌, ◌⊎◌, IsSome, IfSome, IfOk, Some};
 ghost use Rattle.mx_words.specs.Words.{names_of, texts_of};
-ghost use Rattle.mx_commands.specs.Ran.{Helps, IsRunStatus, Scolds, seen};
+ghost use Rattle.mx_commands.specs.Ran.{Helps, IsRunStatus, RanOn, Scolds, seen};
 ghost use Rattle.mx_plan.specs.Fields.{Fields};
-ghost use Rattle.mx_event_files.specs.Errands.{HasDone, IsPlanOf, files_of};
+ghost use Rattle.mx_event_files.specs.Errands.{Draws, DrawsPlan, HasDone, IsPlanOf, draw_job, files_of};
 ghost use Rattle.mx_event_files.specs.Words as task;
 ghost use Rattle.mx_event_files.specs.Words.{AreWrong, AskFileHelp, errand_asked, errand_of};
 
@@ -36,6 +36,9 @@ pub fn event_file<S: Source, O: Output, E: Output>(
 ) -> u8
     ensures prints { IfSome (errand_asked (texts_of words.entry.now)) (λ task.
         result ≡ 0 → HasDone (S.told source.old) task (O.written out.old) (O.written out.new)) }
+    ensures draws { IfSome (errand_asked (texts_of words.entry.now)) (λ task.
+        Draws (O.takes_all out.old) (E.takes_all err.old) (S.told source.old) task
+        (O.written out.old) (O.written out.new) (E.written err.old) (E.written err.new) result) }
     ensures status { IsSome (errand_asked (texts_of words.entry.now)) → IsRunStatus result }
     ensures help { AskFileHelp (texts_of words.entry.now) → Helps (O.takes_all out.old)
         (seen (O.written out.old) (E.written err.old) (O.has_refused out.old) (O.keeps_back out.old))
@@ -63,24 +66,83 @@ fn run_errand<S: Source, O: Output, E: Output>(
 ) -> u8
     ensures prints { result ≡ 0
         → HasDone (S.told source.old) (errand_of errand.now) (O.written out.old) (O.written out.new) }
+    ensures draws { Draws (O.takes_all out.old) (E.takes_all err.old) (S.told source.old)
+        (errand_of errand.now) (O.written out.old) (O.written out.new)
+        (E.written err.old) (E.written err.new) result }
     ensures status { IsRunStatus result }
 {
-    let names = names_in(errand);
-    match do_errand(alloc, errand, source, out) {
-        Ok(status) => close(alloc, Ok(status), &names, out, err),
-        Err(Halt::Stop(stop)) => close(alloc, Err(stop), &names, out, err),
+    match errand {
+        Errand::Draw(exploration) => run_draw(alloc, exploration, source, out, err),
+        Errand::Walk(exploration) => run_walk(alloc, exploration, source, out, err),
+        Errand::Script(names) => run_script(alloc, names, source, out, err),
+    }
+}
+
+/// Prints what `explore` does, or tells why not. Answers the status.
+fn run_draw<S: Source, O: Output, E: Output>(
+    alloc: Global,
+    exploration: &Exploration<'_>,
+    source: &mut S,
+    out: &mut O,
+    err: &mut E,
+) -> u8
+    ensures prints { result ≡ 0 → HasDone (S.told source.old)
+        (task.draw exploration.now.plan.now exploration.now.seed exploration.now.steps)
+        (O.written out.old) (O.written out.new) }
+    ensures draws { DrawsPlan (O.takes_all out.old) (E.takes_all err.old) exploration.now.plan.now
+        (draw_job (S.told source.old) exploration.now.plan.now exploration.now.seed exploration.now.steps)
+        (O.written out.old) (O.written out.new) (E.written err.old) (E.written err.new) result }
+    ensures status { IsRunStatus result }
+{
+    let names = plan_alone(exploration);
+    let ended = draw_file(alloc, exploration, source, out);
+    close(alloc, ended, &names, out, err)
+}
+
+/// Prints a walk, or tells why not. Answers the status.
+fn run_walk<S: Source, O: Output, E: Output>(
+    alloc: Global,
+    exploration: &Exploration<'_>,
+    source: &mut S,
+    out: &mut O,
+    err: &mut E,
+) -> u8
+    ensures prints { result ≡ 0 → HasDone (S.told source.old)
+        (task.walk exploration.now.plan.now exploration.now.seed exploration.now.steps)
+        (O.written out.old) (O.written out.new) }
+    ensures status { IsRunStatus result }
+{
+    let names = plan_alone(exploration);
+    let ended = print_walk(alloc, exploration, source, out);
+    close(alloc, ended, &names, out, err)
+}
+
+/// Prints the events of a script, or tells why not. Answers the status.
+fn run_script<S: Source, O: Output, E: Output>(
+    alloc: Global,
+    names: &Names<'_>,
+    source: &mut S,
+    out: &mut O,
+    err: &mut E,
+) -> u8
+    ensures prints { result ≡ 0 → HasDone (S.told source.old) (task.script (names_of names.now))
+        (O.written out.old) (O.written out.new) }
+    ensures status { IsRunStatus result }
+{
+    match print_script(alloc, names, source, out) {
+        Ok(status) => close(alloc, Ok(status), names, out, err),
+        Err(Halt::Stop(stop)) => close(alloc, Err(stop), names, out, err),
         Err(Halt::AtLine(number, fault)) => tell_line(alloc, number, fault, err),
     }
 }
 
-/// The names that the lines of faults have.
-fn names_in<'a>(errand: &Errand<'a>) -> Names<'a> {
-    match errand {
-        Errand::Draw(exploration) | Errand::Walk(exploration) => Names {
-            plan: exploration.plan,
-            events: exploration.plan,
-        },
-        Errand::Script(names) => *names,
+/// The names that the lines of faults have, where there is a plan alone.
+fn plan_alone<'a>(exploration: &Exploration<'a>) -> Names<'a>
+    ensures { names_of result ≡ (exploration.now.plan.now, exploration.now.plan.now) }
+{
+    Names {
+        plan: exploration.plan,
+        events: exploration.plan,
     }
 }
 
@@ -94,24 +156,6 @@ fn tell_line<E: Output>(alloc: Global, number: u64, fault: LineFault, err: &mut 
     }
 }
 
-/// Prints the file that is asked for.
-fn do_errand<S: Source, O: Output>(
-    alloc: Global,
-    errand: &Errand<'_>,
-    source: &mut S,
-    out: &mut O,
-) -> Result<u8, Halt>
-    ensures done { IfOk result (λ _.
-        HasDone (S.told source.old) (errand_of errand.now) (O.written out.old) (O.written out.new)) }
-    ensures zero { IfOk result (λ status. status ≡ 0) }
-{
-    match errand {
-        Errand::Draw(exploration) => Ok(draw_file(alloc, exploration, source, out)?),
-        Errand::Walk(exploration) => Ok(print_walk(alloc, exploration, source, out)?),
-        Errand::Script(names) => print_script(alloc, names, source, out),
-    }
-}
-
 /// Prints what `explore` does. Answers the status.
 fn draw_file<S: Source, O: Output>(
     alloc: Global,
@@ -122,7 +166,11 @@ fn draw_file<S: Source, O: Output>(
     ensures done { IfOk result (λ _. HasDone (S.told source.old)
         (task.draw exploration.now.plan.now exploration.now.seed exploration.now.steps)
         (O.written out.old) (O.written out.new)) }
+    ensures ran { IfSome (draw_job (S.told source.old)
+        exploration.now.plan.now exploration.now.seed exploration.now.steps) (λ job.
+        RanOn (O.takes_all out.old) (O.written out.old) (O.written out.new) job result) }
     ensures zero { IfOk result (λ status. status ≡ 0) }
+    ensures stays { O.takes_all out.new ≡ O.takes_all out.old }
 {
     let plan = fetch_plan(alloc, source, exploration.plan)?;
     draw_schedule(alloc, &plan, exploration.seed, exploration.steps, out)

@@ -156,7 +156,6 @@ fn all_arrive<C: Exclusion>(
 }
 
 /// The oldest parcel under way from one node to another is delivered.
-#[tactic(auto, using(crate::proofs::PlayedLemmas::plays_on_ok))]
 fn arrive<C: Exclusion>(
     from: NodeId,
     to: NodeId,
@@ -188,7 +187,6 @@ fn lose<C: Exclusion>(
 }
 
 /// The parcel from one node to another that was delivered last is delivered again.
-#[tactic(auto, using(crate::proofs::PlayedLemmas::plays_on_ok))]
 fn arrive_again<C: Exclusion>(
     from: NodeId,
     to: NodeId,
