@@ -27,18 +27,19 @@ const MOST_EVENTS: usize = 1_000_000;
 pub(crate) fn script_file(alloc: Global, plan: &Plan, script: &str) -> Result<String, Halt>
     ensures { IfOk result (λ text. IsEventFile plan.now (string_bytes text) plan.now.shape) }
 {
+    let mut mail = Mail::new(alloc);
     match plan.shape() {
         Shape::Ricart(count) => {
             let mut cluster = start::<Ricart>(alloc, plan, count)?;
-            file_of_script(alloc, plan, &mut cluster, script)
+            file_of_script(alloc, plan, &mut cluster, &mut mail, script)
         }
         Shape::Maekawa(sets) => {
             let mut cluster = start::<Maekawa>(alloc, plan, sets)?;
-            file_of_script(alloc, plan, &mut cluster, script)
+            file_of_script(alloc, plan, &mut cluster, &mut mail, script)
         }
         Shape::Raymond(tree) => {
             let mut cluster = start::<Raymond>(alloc, plan, tree)?;
-            file_of_script(alloc, plan, &mut cluster, script)
+            file_of_script(alloc, plan, &mut cluster, &mut mail, script)
         }
     }
 }
@@ -48,12 +49,13 @@ fn file_of_script<C: Exclusion>(
     alloc: Global,
     plan: &Plan,
     cluster: &mut Cluster<C>,
+    mail: &mut Mail,
     script: &str,
 ) -> Result<String, Halt>
     requires { cluster.old.trace ≡ [] }
     ensures { IfOk result (λ text. IsFileOf C.core plan.now cluster.old (string_bytes text)) }
 {
-    each_line(alloc, plan, cluster, script)?;
+    each_line(alloc, plan, cluster, mail, script)?;
     let mut text = String::new(alloc);
     add_file(plan, cluster.trace(), &mut text)?;
     Ok(text)
@@ -64,16 +66,16 @@ fn each_line<C: Exclusion>(
     alloc: Global,
     plan: &Plan,
     cluster: &mut Cluster<C>,
+    mail: &mut Mail,
     script: &str,
 ) -> Result<(), Halt>
     ensures { OnOk result
         (Plays C.core (length plan.now.nodes) (length plan.now.registers) cluster.old cluster.new) }
 {
-    let mut mail = Mail::new(alloc);
     let mut number = 0u64;
     for line in script.lines() {
         number = number.saturating_add(1);
-        if let Err(fault) = one_line(alloc, plan, line, cluster, &mut mail) {
+        if let Err(fault) = one_line(alloc, plan, line, cluster, mail) {
             return Err(Halt::at_line(number, fault));
         }
     }

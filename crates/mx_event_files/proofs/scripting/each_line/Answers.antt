@@ -1,8 +1,4 @@
-use Rattle.std.proofs.Common.{rules}
 use Rattle.mx_event_files.proofs.scripting.each_line.Goals as goal
-
-pub one_line-requires : goal.one_line-requires
-one_line-requires g c = search rules
 
 pub loop-line-preserved : goal.loop-line-preserved
 loop-line-preserved g c = λ start played. c.in_default.ensures start (c.loop-line.invariant start played)
