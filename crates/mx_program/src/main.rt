@@ -3,19 +3,14 @@
 #![tactic(auto)]
 
 mod counted;
-mod kept;
 mod stream;
 mod streams;
 
-use crate::kept::Kept;
 use crate::stream::Stream;
 use crate::streams::Streams;
 use mx_commands::{Output, command};
 use mx_count::count;
-use mx_event_files::event_file;
-use mx_explain::explain;
 use mx_live::live;
-use mx_picture::picture;
 use mx_views::replay_view;
 use std::io::{BufWriter, ErrorKind, Write};
 use std::process::ExitCode;
@@ -42,16 +37,10 @@ fn run_words<
     let words = words.as_slice();
     Ok(match first_of(words) {
         "count" => count(alloc, words, &mut source, &mut out, &mut err),
-        "draw" | "script" => event_file(alloc, words, &mut source, &mut out, &mut err),
-        "explain" => {
-            let mut kept = Kept::new(alloc, source);
-            explain(alloc, words, &mut kept, &mut out, &mut err)
-        }
         "explore" if has_word(words, "--count") => {
             count(alloc, words, &mut source, &mut out, &mut err)
         }
         "live" => live(rt, alloc, words, &mut source, &mut out, &mut err),
-        "picture" => picture(alloc, words, &mut source, &mut out, &mut err),
         "replay" if is_view(words) => {
             replay_view(alloc, words, &mut source, &mut out, &mut err)
         }
