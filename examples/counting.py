@@ -13,7 +13,7 @@ KINDS = {
     "raymond": ["request", "privilege", "got"],
 }
 
-GOSSIP = ["want", "records"]
+GOSSIP = ["want", "base", "records"]
 
 CAUSES = [
     "not idle",
@@ -25,6 +25,7 @@ CAUSES = [
     "no register",
     "gap",
     "full",
+    "below",
 ]
 
 
@@ -45,7 +46,7 @@ def counts(plan, lines):
     yield "letters for each section", share(len(letters), sections)
     yield "refused", len(refused)
     for cause in CAUSES:
-        yield cause, sum(text.split(" ")[0] == "gap" if cause == "gap" else text == cause for text in refused)
+        yield cause, sum(text.rstrip("0123456789 ") == cause for text in refused)
     yield "longest wait", longest_wait(events)
 
 

@@ -10,7 +10,7 @@ use Rattle.mx_letters.specs.declared.raymond.RaymondMsg.TheVariants as raymond
 use Rattle.mx_member.specs.declared.parcel.Parcel.{Parcel}
 use Rattle.mx_member.specs.declared.parcel.Parcel.TheVariants as parcel
 use Rattle.mx_network.specs.declared.outcome.Cause.{Cause}
-use Rattle.mx_network.specs.declared.outcome.Cause.TheVariants.{NotIdle, StampsSpent, NotWaiting, NotGranted, NumbersSpent, NotInside, NoRegister, Gap, Full}
+use Rattle.mx_network.specs.declared.outcome.Cause.TheVariants.{NotIdle, StampsSpent, NotWaiting, NotGranted, NumbersSpent, NotInside, NoRegister, Gap, Full, Below}
 use Rattle.mx_network.specs.declared.outcome.Outcome.{Outcome}
 use Rattle.mx_network.specs.declared.outcome.Outcome.TheVariants.{Refused}
 use Rattle.mx_plan.specs.Text.{Text}
@@ -40,12 +40,13 @@ module _ {M : Type 0} (kind_text : M → Text) (name : Text) where
       if nat_eq from to then bytes_eq name (codes "own")
       else (bytes_eq name (codes "letters") || bytes_eq name (kind_text letter))
   is_kind from to (parcel.Want ranges) = bytes_eq name (codes "gossip") || bytes_eq name (codes "want")
+  is_kind from to (parcel.Base base) = bytes_eq name (codes "gossip") || bytes_eq name (codes "base")
   is_kind from to (parcel.Records records) = bytes_eq name (codes "gossip") || bytes_eq name (codes "records")
 
   abbrev pub is_under : ℕ × ℕ × Parcel M → Bool
   is_under x = is_kind x.0 x.1 x.2
 
--- a cause, without the number of a gap
+-- a cause, without the number that a gap or a base has
 abbrev pub cause_kind : Cause → Text
 cause_kind NotIdle = codes "not idle"
 cause_kind StampsSpent = codes "stamps spent"
@@ -56,6 +57,7 @@ cause_kind NotInside = codes "not inside"
 cause_kind NoRegister = codes "no register"
 cause_kind (Gap n) = codes "gap"
 cause_kind Full = codes "full"
+cause_kind (Below n) = codes "below"
 
 -- a refusal counts under `refused` and under its cause
 abbrev pub is_refused_under : Text → Outcome → Bool

@@ -50,11 +50,23 @@ fn count_and_close<S: Source, O: Output, E: Output>(
 ) -> u8
     ensures { IsRunStatus result }
 {
-    let ended = match order {
+    let ended = count_order(alloc, order, source, out);
+    close(alloc, ended, &order.names(), out, err)
+}
+
+/// Counts what is asked for. Answers the status.
+fn count_order<S: Source, O: Output>(
+    alloc: Global,
+    order: &Order<'_>,
+    source: &mut S,
+    out: &mut O,
+) -> Result<u8, Stop>
+    ensures zero { IfOk result (λ status. status ≡ 0) }
+{
+    match order {
         Order::Given(names) => count_given(alloc, names, source, out),
         Order::Drawn(exploration) => count_drawn(alloc, exploration, source, out),
-    };
-    close(alloc, ended, &order.names(), out, err)
+    }
 }
 
 /// Reads a plan and its events, and prints what is counted of them.

@@ -59,25 +59,25 @@ impl Kinded for RaymondMsg {
 }
 
 /// The names under which the parcels of Ricart and Agrawala's algorithm are counted.
-pub(crate) const RICART: [&str; 7] = [
-    "letters", "request", "reply", "own", "gossip", "want", "records",
+pub(crate) const RICART: [&str; 8] = [
+    "letters", "request", "reply", "own", "gossip", "want", "base", "records",
 ];
 
 /// Those of Maekawa's.
-pub(crate) const MAEKAWA: [&str; 11] = [
+pub(crate) const MAEKAWA: [&str; 12] = [
     "letters", "request", "locked", "failed", "inquire", "relinquish", "release", "own", "gossip",
-    "want", "records",
+    "want", "base", "records",
 ];
 
 /// Those of Raymond's.
-pub(crate) const RAYMOND: [&str; 8] = [
-    "letters", "request", "privilege", "got", "own", "gossip", "want", "records",
+pub(crate) const RAYMOND: [&str; 9] = [
+    "letters", "request", "privilege", "got", "own", "gossip", "want", "base", "records",
 ];
 
 /// The names under which refusals are counted.
-pub(crate) const REFUSALS: [&str; 10] = [
+pub(crate) const REFUSALS: [&str; 11] = [
     "refused", "not idle", "stamps spent", "not waiting", "not granted", "numbers spent",
-    "not inside", "no register", "gap", "full",
+    "not inside", "no register", "gap", "full", "below",
 ];
 
 /// Whether a parcel is counted under a name. A letter that a node sends to itself is one of its own, and
@@ -89,6 +89,7 @@ pub(crate) fn is_under<M: Kinded>(name: &str, from: NodeId, to: NodeId, parcel: 
         Parcel::Guard(_) if from.get() == to.get() => name == "own",
         Parcel::Guard(letter) => name == "letters" || name == letter.kind(),
         Parcel::Want(_) => name == "gossip" || name == "want",
+        Parcel::Base(_) => name == "gossip" || name == "base",
         Parcel::Records(_) => name == "gossip" || name == "records",
     }
 }
@@ -103,7 +104,7 @@ pub(crate) fn is_refused_under(name: &str, outcome: &Outcome) -> bool
     }
 }
 
-/// A cause, without the number of a gap.
+/// A cause, without the number that a gap or a base has.
 fn cause_kind(cause: &Cause) -> &'static str
     ensures { result.now ≡ cause_kind cause.now }
 {
@@ -117,5 +118,6 @@ fn cause_kind(cause: &Cause) -> &'static str
         Cause::NoRegister => "no register",
         Cause::Gap(_) => "gap",
         Cause::Full => "full",
+        Cause::Below(_) => "below",
     }
 }

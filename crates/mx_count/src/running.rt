@@ -95,18 +95,29 @@ where
 {
     let trace = cluster.trace();
     let entered = entries_in(trace);
-    match course {
-        Course::Given => add_head(steps, entered, cluster.sent(), text)?,
-        Course::Drawn => text.write(ExploredLine {
-            steps,
-            entered,
-            sent: cluster.sent(),
-        })?,
-    }
+    add_first(course, steps, entered, cluster.sent(), text)?;
     add_tallies(cluster, entered, names, &REFUSALS, text)?;
     let verdict = judge(trace);
     text.write(VerdictLine(verdict))?;
     Ok(verdict_status(verdict))
+}
+
+/// Appends how many events, sections and parcels there are, as the commands of these events do.
+fn add_first(
+    course: Course,
+    events: u64,
+    sections: u64,
+    parcels: u64,
+    text: &mut String,
+) -> Result<(), AllocError> {
+    match course {
+        Course::Given => add_head(events, sections, parcels, text),
+        Course::Drawn => text.write(ExploredLine {
+            steps: events,
+            entered: sections,
+            sent: parcels,
+        }),
+    }
 }
 
 /// Appends how many events, sections and parcels there are.

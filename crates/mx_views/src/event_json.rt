@@ -36,6 +36,10 @@ fn add_act(plan: &Plan, event: &Event, text: &mut String) -> Result<(), AllocErr
         }
         Event::Leave(node) => add_own(plan, "leave", *node, text),
         Event::Cancel(node) => add_own(plan, "cancel", *node, text),
+        Event::Settle(node, upto) => {
+            add_own(plan, "settle", *node, text)?;
+            text.write(Number("upto", *upto))
+        }
         Event::Tick(node) => add_own(plan, "tick", *node, text),
         Event::Want(node, other) => {
             add_own(plan, "want", *node, text)?;
@@ -67,6 +71,7 @@ fn add_outcome(outcome: &Outcome, text: &mut String) -> Result<(), AllocError> {
             text.write(Number("writes", receipt.writes.len() as u64))
         }
         Outcome::Cancelled => add_bare("cancelled", text),
+        Outcome::Settled => add_bare("settled", text),
         Outcome::Sent(count) => add_with("sent", "count", *count, text),
         Outcome::Delivered => add_bare("delivered", text),
         Outcome::Woken => add_bare("woken", text),
@@ -88,12 +93,12 @@ fn add_refusal(cause: &Cause, text: &mut String) -> Result<(), AllocError> {
     add_bare("refused", text)?;
     text.write(Word("cause", cause_name(cause)))?;
     match cause {
-        Cause::Gap(number) => text.write(Number("number", *number)),
+        Cause::Gap(number) | Cause::Below(number) => text.write(Number("number", *number)),
         _ => Ok(()),
     }
 }
 
-/// A cause, without the number of a gap.
+/// A cause, without the number that a gap or a base has.
 fn cause_name(cause: &Cause) -> &'static str {
     match cause {
         Cause::NotIdle => "not idle",
@@ -105,5 +110,6 @@ fn cause_name(cause: &Cause) -> &'static str {
         Cause::NoRegister => "no register",
         Cause::Gap(_) => "gap",
         Cause::Full => "full",
+        Cause::Below(_) => "below",
     }
 }

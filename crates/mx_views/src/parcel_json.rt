@@ -1,6 +1,6 @@
 //! Parcels as JSON.
 
-use crate::json::{Begun, Word, add_node_name};
+use crate::json::{Begun, Number, Word, add_node_name};
 use crate::letter_json::JsonLetter;
 use mx_journal::{Range, Record};
 use mx_member::Parcel;
@@ -34,6 +34,7 @@ pub(crate) fn add_parcel_json<M: JsonLetter>(
     match parcel {
         Parcel::Guard(letter) => letter.tell_json(plan, text)?,
         Parcel::Want(ranges) => add_ranges(ranges.as_slice(), text)?,
+        Parcel::Base(base) => add_base(base.upto(), text)?,
         Parcel::Records(records) => add_numbers(records.as_slice(), text)?,
     }
     text.push_str("}\n")
@@ -50,6 +51,12 @@ fn add_ranges(ranges: &[Range], text: &mut String) -> Result<(), AllocError> {
         text.write(RangeJson(range))?;
     }
     text.push_str("]")
+}
+
+/// Appends a base, by the number of its last section alone.
+fn add_base(upto: u64, text: &mut String) -> Result<(), AllocError> {
+    text.write(Word("kind", "base"))?;
+    text.write(Number("upto", upto))
 }
 
 /// Appends the numbers of these records.

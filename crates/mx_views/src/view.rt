@@ -38,6 +38,7 @@ impl View<'_> {
             | Event::Write(node, _, _)
             | Event::Leave(node)
             | Event::Cancel(node)
+            | Event::Settle(node, _)
             | Event::Tick(node)
             | Event::Want(node, _)
             | Event::Restart(node) => self.shows_node(*node),
