@@ -32,11 +32,6 @@ impl fmt::Display for ShareLine {
     ghost output = { λ l. Some (share_line l.whole l.tenths) };
 
     fn fmt<W: fmt::Write>(&self, f: &mut fmt::Formatter<W>) -> fmt::Result {
-        writeln!(
-            f,
-            "letters for each section {}.{}",
-            self.whole,
-            self.tenths
-        )
+        writeln!(f, "letters for each section {}.{}", self.whole, self.tenths)
     }
 }

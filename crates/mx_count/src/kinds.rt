@@ -65,19 +65,46 @@ pub(crate) const RICART: [&str; 8] = [
 
 /// Those of Maekawa's.
 pub(crate) const MAEKAWA: [&str; 12] = [
-    "letters", "request", "locked", "failed", "inquire", "relinquish", "release", "own", "gossip",
-    "want", "base", "records",
+    "letters",
+    "request",
+    "locked",
+    "failed",
+    "inquire",
+    "relinquish",
+    "release",
+    "own",
+    "gossip",
+    "want",
+    "base",
+    "records",
 ];
 
 /// Those of Raymond's.
 pub(crate) const RAYMOND: [&str; 9] = [
-    "letters", "request", "privilege", "got", "own", "gossip", "want", "base", "records",
+    "letters",
+    "request",
+    "privilege",
+    "got",
+    "own",
+    "gossip",
+    "want",
+    "base",
+    "records",
 ];
 
 /// The names under which refusals are counted.
 pub(crate) const REFUSALS: [&str; 11] = [
-    "refused", "not idle", "stamps spent", "not waiting", "not granted", "numbers spent",
-    "not inside", "no register", "gap", "full", "below",
+    "refused",
+    "not idle",
+    "stamps spent",
+    "not waiting",
+    "not granted",
+    "numbers spent",
+    "not inside",
+    "no register",
+    "gap",
+    "full",
+    "below",
 ];
 
 /// Whether a parcel is counted under a name. A letter that a node sends to itself is one of its own, and

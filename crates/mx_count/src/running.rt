@@ -20,7 +20,7 @@ use mx_texts::ExploredLine;
 use std::alloc::{AllocError, Global};
 
 /// How the events of a run were come by.
-#[derive(Clone, Copy, Debug, PartialEq, Eq)]
+#[derive(Clone, Copy)]
 pub(crate) enum Course {
     /// They were given, and each has to happen.
     Given,

@@ -13,7 +13,7 @@ use mx_words::{
 use std::alloc::{AllocError, Global};
 
 /// What is to be counted.
-#[derive(Clone, Copy, Debug, PartialEq, Eq)]
+#[derive(Clone, Copy)]
 pub(crate) enum Order<'a> {
     /// What comes of the events that a file has.
     Given(Names<'a>),

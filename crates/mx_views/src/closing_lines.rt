@@ -24,12 +24,16 @@ pub(crate) fn add_closing<C: Exclusion>(
         add_node(view, cluster, index, text)?;
     }
     let verdict = judge(cluster.trace());
-    if view.is_json {
-        text.write(VerdictJson(verdict))?;
-    } else {
-        text.write(VerdictLine(verdict))?;
-    }
+    add_verdict(view, verdict, text)?;
     Ok(verdict)
+}
+
+/// Appends the line of a verdict.
+fn add_verdict(view: &View<'_>, verdict: Verdict, text: &mut String) -> Result<(), AllocError> {
+    if view.is_json {
+        return text.write(VerdictJson(verdict));
+    }
+    text.write(VerdictLine(verdict))
 }
 
 /// Appends the line of the node of this number, where it is shown.

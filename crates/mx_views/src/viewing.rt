@@ -86,9 +86,7 @@ fn node_in(plan: &Plan, name: Option<&str>) -> Result<Option<NodeId>, Stop> {
     };
     match plan.node(name) {
         Some(node) => Ok(Some(node)),
-        None => Err(Stop::Fault(Fault::BadText(PlanFault::UnknownName(
-            Place::Nodes,
-        )))),
+        None => Err(Stop::Fault(Fault::BadText(PlanFault::UnknownName(Place::Nodes)))),
     }
 }
 

@@ -11,7 +11,7 @@ use std::alloc::{AllocError, Global};
 
 /// What is to be shown of a replay: the names of its plan and events, whether the closing lines alone,
 /// of which node alone, and whether as JSON.
-#[derive(Clone, Copy, Debug, PartialEq, Eq)]
+#[derive(Clone, Copy)]
 pub(crate) struct Wish<'a> {
     pub(crate) names: Names<'a>,
     pub(crate) is_quiet: bool,
@@ -77,10 +77,7 @@ fn view_line<'a>(alloc: Global) -> Result<Command<'a>, AllocError>
 
 /// What the words ask to show. Their faults are those of `clap`, and words that ask for help come as
 /// such a fault too, with the text to show.
-pub(crate) fn asked_wish<'a>(
-    alloc: Global,
-    words: &'a [&'a str],
-) -> Result<Option<Wish<'a>>, Error>
+pub(crate) fn asked_wish<'a>(alloc: Global, words: &'a [&'a str]) -> Result<Option<Wish<'a>>, Error>
     ensures read { IfOk result (λ _. fault_of view_line (texts_of words.entry.now) ≡ []) }
     ensures ok { IfOk result (λ wish.
         option_map viewed wish ≡ views_asked (texts_of words.entry.now)) }
