@@ -11,12 +11,8 @@ use crate::kept::Kept;
 use crate::stream::Stream;
 use crate::streams::Streams;
 use mx_commands::{Output, command};
-use mx_count::count;
-use mx_event_files::event_file;
 use mx_explain::explain;
 use mx_live::live;
-use mx_picture::picture;
-use mx_views::replay_view;
 use std::io::{BufWriter, ErrorKind, Write};
 use std::process::ExitCode;
 use std::rt::{Clock, Env, Files};
@@ -41,20 +37,11 @@ fn run_words<
     let mut source = Streams { rt };
     let words = words.as_slice();
     Ok(match first_of(words) {
-        "count" => count(alloc, words, &mut source, &mut out, &mut err),
-        "draw" | "script" => event_file(alloc, words, &mut source, &mut out, &mut err),
         "explain" => {
             let mut kept = Kept::new(alloc, source);
             explain(alloc, words, &mut kept, &mut out, &mut err)
         }
-        "explore" if has_word(words, "--count") => {
-            count(alloc, words, &mut source, &mut out, &mut err)
-        }
         "live" => live(rt, alloc, words, &mut source, &mut out, &mut err),
-        "picture" => picture(alloc, words, &mut source, &mut out, &mut err),
-        "replay" if is_view(words) => {
-            replay_view(alloc, words, &mut source, &mut out, &mut err)
-        }
         _ => command(alloc, words, &mut source, &mut out, &mut err),
     })
 }
@@ -65,18 +52,6 @@ fn first_of<'a>(words: &[&'a str]) -> &'a str {
         Some(word) => word,
         None => "",
     }
-}
-
-/// Whether one of the words says how a replay is to be shown.
-fn is_view(words: &[&str]) -> bool {
-    words
-        .iter()
-        .any(|word| *word == "--quiet" || *word == "--json" || word.starts_with("--node"))
-}
-
-/// Whether this is among the words.
-fn has_word(words: &[&str], wanted: &str) -> bool {
-    words.iter().any(|word| *word == wanted)
 }
 
 fn main(rt: HostRuntime) -> ExitCode {
