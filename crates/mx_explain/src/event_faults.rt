@@ -10,9 +10,13 @@ use std::alloc::AllocError;
 /// The greatest number of events that a text may list.
 const MOST_EVENTS: usize = 1_000_000;
 
-const WORDS: [&str; 10] = [
-    "ask", "enter", "read", "write", "leave", "cancel", "tick", "want", "deliver", "restart",
+const WORDS: [&str; 11] = [
+    "ask", "enter", "read", "write", "leave", "cancel", "settle", "tick", "want", "deliver",
+    "restart",
 ];
+
+const EXPECTED_WORD: &str =
+    "ask, enter, read, write, leave, cancel, settle, tick, want, deliver or restart";
 
 /// The names that events may have.
 #[derive(Clone, Copy)]
@@ -57,7 +61,7 @@ fn explain_event(
     let Some((len, expected)) = form_of(word) else {
         let items = [k, 0];
         let path = Path::item("events", &items);
-        return expect_word(page, path, Some(first), &WORDS, "the word of an event");
+        return expect_word(page, path, Some(first), &WORDS, EXPECTED_WORD);
     };
     if list.len() != len {
         let items = [k];
@@ -75,6 +79,7 @@ fn form_of(word: &str) -> Option<(usize, &'static str)> {
         "read" => Some((3, "a node and a register behind the word")),
         "write" => Some((4, "a node, a register and a number behind the word")),
         "want" => Some((3, "two nodes behind the word")),
+        "settle" => Some((3, "a node and the number of a section behind the word")),
         "deliver" => Some((2, "the number of a parcel behind the word")),
         _ => None,
     }
@@ -105,14 +110,11 @@ enum Wanted {
 
 /// What the i-th item of the event of a word is.
 fn item_of(word: &str, i: usize) -> Wanted {
-    if i == 0 {
-        Wanted::Word
-    } else if i == 3 || word == "deliver" {
-        Wanted::Number
-    } else if i == 2 && word != "want" {
-        Wanted::Register
-    } else {
-        Wanted::Node
+    match (word, i) {
+        (_, 0) => Wanted::Word,
+        ("deliver", _) | ("settle", 2) | (_, 3) => Wanted::Number,
+        ("read" | "write", 2) => Wanted::Register,
+        _ => Wanted::Node,
     }
 }
 

@@ -22,7 +22,8 @@ pub(crate) fn expect(
     })
 }
 
-/// Says that one of these words is expected at a place, where another stands there.
+/// Says that one of these words is expected at a place, where another stands there. Where there are
+/// none, as in a plan that lists no nodes, that is told elsewhere.
 pub(crate) fn expect_word(
     page: &mut Page<'_>,
     path: Path<'_>,
@@ -31,16 +32,28 @@ pub(crate) fn expect_word(
     expected: &str,
 ) -> Result<(), AllocError> {
     let word = text_in(found);
-    if is_among(word, words) {
+    if words.is_empty() || is_among(word, words) {
         return Ok(());
     }
-    let meant = nearest(page.alloc, word, words)?;
+    let nearest = meant(page, word, words)?;
     page.say(Expected {
         path,
         found,
         expected,
-        nearest: meant,
+        nearest,
     })
+}
+
+/// The word that was meant, which nobody asks for where lines are only counted.
+fn meant<'a>(
+    page: &Page<'_>,
+    word: &str,
+    words: &[&'a str],
+) -> Result<Option<&'a str>, AllocError> {
+    if page.is_full() {
+        return Ok(None);
+    }
+    nearest(page.alloc, word, words)
 }
 
 /// Says that a number in this range is expected at a place, where none stands there.
@@ -74,10 +87,10 @@ pub(crate) fn warn_of_unread(
     };
     for (key, _) in members.iter() {
         if !is_among(key.as_str(), read) {
-            let meant = nearest(page.alloc, key.as_str(), read)?;
+            let nearest = meant(page, key.as_str(), read)?;
             page.say(Unread {
                 key: key.as_str(),
-                nearest: meant,
+                nearest,
             })?;
         }
     }

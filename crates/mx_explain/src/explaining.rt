@@ -15,6 +15,7 @@ use mx_words::Request;
 use std::alloc::Global;
 
 /// An output that takes all, and keeps nothing.
+#[derive(Drop)]
 struct Nowhere;
 
 impl Output for Nowhere {
@@ -94,16 +95,26 @@ fn carry_out_and_explain<S: Source + Reasons, O: Output>(
     ensures stays { O.takes_all out.new ≡ O.takes_all out.old }
 {
     let mut nowhere = Nowhere;
-    match carry_out(alloc, request, source, &mut nowhere) {
-        Ok(status) => {
-            print_explanation(alloc, request, None, source, out)?;
-            Ok(status)
-        }
-        Err(Stop::Fault(fault)) => {
-            print_explanation(alloc, request, Some(fault), source, out)?;
-            Err(Stop::Fault(fault))
-        }
-        Err(stop) => Err(stop),
+    let ended = carry_out(alloc, request, source, &mut nowhere);
+    print_end(alloc, request, &ended, source, out)?;
+    ended
+}
+
+/// Prints what is wrong in files that were read with this end. Where memory ran out that is nothing.
+fn print_end<S: Source + Reasons, O: Output>(
+    alloc: Global,
+    request: &Request<'_>,
+    ended: &Result<u8, Stop>,
+    source: &mut S,
+    out: &mut O,
+) -> Result<(), Stop>
+    ensures fails { IfErr result (FailsToPrint (O.takes_all out.old)) }
+    ensures stays { O.takes_all out.new ≡ O.takes_all out.old }
+{
+    match ended {
+        Ok(_) => print_explanation(alloc, request, None, source, out),
+        Err(Stop::Fault(fault)) => print_explanation(alloc, request, Some(*fault), source, out),
+        Err(_) => Ok(()),
     }
 }
 

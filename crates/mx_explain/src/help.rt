@@ -14,7 +14,7 @@ pub(crate) const EXAMPLE: &str =
 prints
 
   plan.json: warning: \"orgin\" is a member that nobody reads; the nearest is \"origin\"
-  events.json: events[2][0]: \"entr\" stands here, expected the word of an event; the nearest is \"enter\"
+  events.json: events[2][0]: \"entr\" stands here, expected ask, enter, read, write, leave, cancel, settle, tick, want, deliver or restart; the nearest is \"enter\"
   events.json: events[3][1]: \"b\" stands here, expected a node of the plan; the nearest is \"b1\"
 
 Without EVENTS the plan alone is looked at. A line names the file, and then the line and the column where the

@@ -59,18 +59,13 @@ fn explain_grid(page: &mut Page<'_>, quorums: &Value, nodes: usize) -> Result<()
     let expected = "a whole number, 1 to 21";
     expect_number(page, Path::of("quorums.rows"), rows, 1, 21, expected)?;
     expect_number(page, Path::of("quorums.cols"), cols, 1, 21, expected)?;
-    if places(rows, cols) == nodes as u64 {
-        return Ok(());
+    match (number_in(rows), number_in(cols)) {
+        (Some(r), Some(c)) if r.checked_mul(c) != Some(nodes as u64) => {
+            let expected = "such rows that rows times cols is the number of nodes";
+            expect(page, Path::of("quorums.rows"), rows, expected)
+        }
+        _ => Ok(()),
     }
-    let expected = "such rows that rows times cols is the number of nodes";
-    expect(page, Path::of("quorums.rows"), rows, expected)
-}
-
-/// How many places a grid has.
-fn places(rows: Option<&Value>, cols: Option<&Value>) -> u64 {
-    let rows = number_in(rows).unwrap_or(0);
-    let cols = number_in(cols).unwrap_or(0);
-    rows.saturating_mul(cols)
 }
 
 fn explain_sets(
