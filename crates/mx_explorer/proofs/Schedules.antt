@@ -4,17 +4,20 @@ use Rattle.std.proofs.Math.Nat.{mod-lt}
 use Rattle.std.proofs.lemmas.Bool.Decides.{nat_tests}
 use Rattle.rand_pcg.specs.Lcg.{Lcg}
 use Rattle.mx_events.specs.declared.event.Event.{Event}
-use Rattle.mx_events.specs.declared.event.Event.TheVariants.{Leave, Deliver}
+use Rattle.mx_events.specs.declared.event.Event.TheVariants.{Leave, Deliver, Cancel}
 use Rattle.mx_stamps.specs.Lists.{IsIn}
 use Rattle.mx_explorer.specs.Drawn.{IsDrawn, after_drawn, after_words, drawn, drawn_list, event_by, word}
 
--- which numbers leave, and which deliver
+-- which numbers leave, which deliver, and which cancel
 module _ (n nodes registers : ℕ) (g : Lcg) where
   pub leaves : 6 ≤ n → n < 8 → event_by n nodes registers g ≡ Leave (word g % nodes)
   leaves more less = grind (arith, nat_tests)
 
   pub delivers : 11 ≤ n → n < 14 → event_by n nodes registers g ≡ Deliver (word g)
   delivers more less = grind (arith, nat_tests)
+
+  pub cancels : 15 ≤ n → event_by n nodes registers g ≡ Cancel (word g % nodes)
+  cancels more = grind (arith, nat_tests)
 
 module _ (nodes registers : ℕ) (g : Lcg) (n : 0 < nodes) (r : 0 < registers) where
   either : (b : Bool) (x y : Event) → IsDrawn nodes registers x → IsDrawn nodes registers y → IsDrawn nodes registers (if b then x else y)

@@ -64,7 +64,7 @@ fn draw(words: &mut Pcg32, nodes: u8, registers: u8) -> Event
 }
 
 /// The event that a number below 16 stands for. Deliveries are the most frequent.
-#[tactic(auto, using(crate::proofs::Schedules::leaves, crate::proofs::Schedules::delivers))]
+#[tactic(auto, using(crate::proofs::Schedules::leaves, crate::proofs::Schedules::delivers, crate::proofs::Schedules::cancels))]
 fn draw_by(number: u32, words: &mut Pcg32, nodes: u8, registers: u8) -> Event
     requires nodes { (0 < nodes) × (nodes ≤ 21) }
     requires registers { 0 < registers }
