@@ -94,7 +94,13 @@ fn explain_arguments(
 ) -> Result<(), AllocError> {
     for (i, value) in list.iter().enumerate() {
         let items = [k, i];
-        explain_argument(page, Path::item("events", &items), item_of(word, i), value, known)?;
+        explain_argument(
+            page,
+            Path::item("events", &items),
+            item_of(word, i),
+            value,
+            known,
+        )?;
     }
     Ok(())
 }
@@ -118,12 +124,12 @@ fn item_of(word: &str, i: usize) -> Wanted {
     }
 }
 
-fn explain_argument(
+fn explain_argument<'a>(
     page: &mut Page<'_>,
-    path: Path<'_>,
+    path: Path<'a>,
     wanted: Wanted,
-    value: &Value,
-    known: Known<'_>,
+    value: &'a Value,
+    known: Known<'a>,
 ) -> Result<(), AllocError> {
     let found = Some(value);
     match wanted {
@@ -133,7 +139,7 @@ fn explain_argument(
             expect_word(page, path, found, known.registers, "a register of the plan")
         }
         Wanted::Number => {
-            let expected = "a whole number of 64 bits";
+            let expected = "a whole number of 64 bits without a sign";
             expect_number(page, path, found, 0, u64::MAX, expected)
         }
     }

@@ -8,11 +8,11 @@ use serde_json::Value;
 use std::alloc::AllocError;
 
 /// Says that something else is expected at a place.
-pub(crate) fn expect(
+pub(crate) fn expect<'a>(
     page: &mut Page<'_>,
-    path: Path<'_>,
-    found: Option<&Value>,
-    expected: &str,
+    path: Path<'a>,
+    found: Option<&'a Value>,
+    expected: &'a str,
 ) -> Result<(), AllocError> {
     page.say(Expected {
         path,
@@ -24,12 +24,12 @@ pub(crate) fn expect(
 
 /// Says that one of these words is expected at a place, where another stands there. Where there are
 /// none, as in a plan that lists no nodes, that is told elsewhere.
-pub(crate) fn expect_word(
+pub(crate) fn expect_word<'a, 'w>(
     page: &mut Page<'_>,
-    path: Path<'_>,
-    found: Option<&Value>,
-    words: &[&str],
-    expected: &str,
+    path: Path<'a>,
+    found: Option<&'a Value>,
+    words: &[&'w str],
+    expected: &'a str,
 ) -> Result<(), AllocError> {
     let word = text_in(found);
     if words.is_empty() || is_among(word, words) {
@@ -57,13 +57,13 @@ fn meant<'a>(
 }
 
 /// Says that a number in this range is expected at a place, where none stands there.
-pub(crate) fn expect_number(
+pub(crate) fn expect_number<'a>(
     page: &mut Page<'_>,
-    path: Path<'_>,
-    found: Option<&Value>,
+    path: Path<'a>,
+    found: Option<&'a Value>,
     least: u64,
     most: u64,
-    expected: &str,
+    expected: &'a str,
 ) -> Result<(), AllocError> {
     match number_in(found) {
         Some(n) if least <= n && n <= most => Ok(()),
@@ -77,10 +77,10 @@ pub(crate) fn number_in(value: Option<&Value>) -> Option<u64> {
 }
 
 /// Warns of the members of an object that are none of those that are read.
-pub(crate) fn warn_of_unread(
+pub(crate) fn warn_of_unread<'a>(
     page: &mut Page<'_>,
-    object: &Value,
-    read: &[&str],
+    object: &'a Value,
+    read: &[&'a str],
 ) -> Result<(), AllocError> {
     let Some(members) = object.as_object() else {
         return Ok(());

@@ -1,13 +1,19 @@
 //! Where a text stops to be JSON.
 
 use crate::page::Page;
-use crate::scan::{Scan, place_of, scanned};
+use crate::scan::{Scan, offset_of, place_of, scanned};
 use serde_json::{Error, Value};
-use std::alloc::AllocError;
+use std::alloc::{AllocError, Global};
 use std::fmt;
 
 /// As many characters are shown of what does not fit.
 const SHOWN: usize = 24;
+
+/// Brackets that nest deeper are refused.
+const DEEPEST: usize = 128;
+
+/// The bytes of a byte order mark, with which some editors begin a file.
+const MARK: [u8; 3] = [0xEF, 0xBB, 0xBF];
 
 /// The value of a text that begins this many lines below the head of its file, or a line of where it
 /// is not JSON.
@@ -34,16 +40,49 @@ fn say_no_json(
 ) -> Result<(), AllocError> {
     let line = e.line().saturating_add(above);
     let column = e.column().max(1);
-    let Ok(whole) = str::from_utf8(text) else {
-        let said = "bytes that are not UTF-8 stand here";
-        return page.say(NoJson { line, column, said });
-    };
     if e.is_eof() {
         let scan = scanned(page.alloc, text)?;
         return say_cut(page, text, above, line, column, &scan);
     }
-    let rest = rest_of_line(whole, e.line(), column);
-    page.say(Misfit { line, column, rest })
+    let offset = offset_of(text, e.line(), column);
+    match reason(page.alloc, text, offset, e)? {
+        Some(said) => page.say(NoJson { line, column, said }),
+        None => {
+            let rest = rest_of_line(text, offset);
+            page.say(Misfit { line, column, rest })
+        }
+    }
+}
+
+/// Why a text is not JSON, where it is not that something else is expected at the place.
+fn reason(
+    alloc: Global,
+    text: &[u8],
+    offset: usize,
+    e: &Error,
+) -> Result<Option<&'static str>, AllocError> {
+    if text.starts_with(&MARK) {
+        return Ok(Some("a byte order mark stands here"));
+    }
+    if str::from_utf8(text).is_err() {
+        return Ok(Some("bytes that are not UTF-8 stand here"));
+    }
+    if nests_too_deep(alloc, text, offset)? {
+        return Ok(Some("brackets nest deeper than 128 here"));
+    }
+    let told = e.to_string(alloc)?;
+    if told.starts_with("number out of range") {
+        return Ok(Some("the number before this place is too large"));
+    }
+    Ok(None)
+}
+
+/// Whether a bracket stands at a place that is open within as many as there may be.
+fn nests_too_deep(alloc: Global, text: &[u8], offset: usize) -> Result<bool, AllocError> {
+    match (text.get(offset), text.get(..offset)) {
+        (Some(b'[' | b'{'), Some(before)) => Ok(scanned(alloc, before)?.depth() >= DEEPEST),
+        _ => Ok(false),
+    }
 }
 
 /// Says that a text ends too early, and what is still open.
@@ -68,14 +107,14 @@ fn say_cut(
     })
 }
 
-/// What stands from a column on.
-fn rest_of_line(text: &str, line: usize, column: usize) -> &str {
-    let Some(whole) = text.lines().nth(line.saturating_sub(1)) else {
+/// What stands from a place on.
+fn rest_of_line(text: &[u8], offset: usize) -> &str {
+    let Some(rest) = text.get(offset..) else {
         return "";
     };
-    match whole.as_bytes().get(column.saturating_sub(1)..) {
-        Some(rest) => str::from_utf8(rest).unwrap_or(""),
-        None => "",
+    match str::from_utf8(rest) {
+        Ok(rest) => rest.lines().next().unwrap_or(""),
+        Err(_) => "",
     }
 }
 

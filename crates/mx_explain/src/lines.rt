@@ -76,14 +76,14 @@ impl Display for Nearest<'_> {
 
 /// What stands at a place, and what was expected there.
 #[derive(Clone, Copy)]
-pub(crate) struct Expected<'a> {
+pub(crate) struct Expected<'a, 'w> {
     pub(crate) path: Path<'a>,
     pub(crate) found: Option<&'a Value>,
     pub(crate) expected: &'a str,
-    pub(crate) nearest: Option<&'a str>,
+    pub(crate) nearest: Option<&'w str>,
 }
 
-impl Display for Expected<'_> {
+impl Display for Expected<'_, '_> {
     fn fmt<W: fmt::Write>(&self, f: &mut fmt::Formatter<W>) -> fmt::Result {
         let path = self.path;
         let found = Found(self.found);

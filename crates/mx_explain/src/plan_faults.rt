@@ -1,5 +1,9 @@
 //! What is wrong in the members of a plan, each by itself.
 
+ghost use Rattle.std.specs.Prelude.{◌≡◌};
+ghost use Rattle.std.specs.List.{list_all};
+ghost use Rattle.mx_plan.specs.Text.{is_name, is_name_byte};
+
 use crate::expecting::{expect, expect_number, expect_word, warn_of_unread};
 use crate::lines::{Foreign, Path};
 use crate::page::Page;
@@ -64,7 +68,7 @@ fn explain_numbers(page: &mut Page<'_>, plan: &Value) -> Result<(), AllocError> 
     let Some(origin) = plan.get("origin") else {
         return Ok(());
     };
-    let expected = "a whole number of 64 bits";
+    let expected = "a whole number of 64 bits without a sign";
     expect_number(
         page,
         Path::of("origin"),
@@ -76,12 +80,12 @@ fn explain_numbers(page: &mut Page<'_>, plan: &Value) -> Result<(), AllocError> 
 }
 
 /// A list of names, no two equal.
-fn explain_names(
+fn explain_names<'a>(
     page: &mut Page<'_>,
-    key: &str,
-    value: Option<&Value>,
+    key: &'a str,
+    value: Option<&'a Value>,
     most: usize,
-    expected: &str,
+    expected: &'a str,
 ) -> Result<(), AllocError> {
     let list = items_in(value);
     if list.is_empty() || list.len() > most {
@@ -95,11 +99,11 @@ fn explain_names(
 }
 
 /// One of these names, the i-th.
-fn explain_name(
+fn explain_name<'a>(
     page: &mut Page<'_>,
-    key: &str,
+    key: &'a str,
     i: usize,
-    value: &Value,
+    value: &'a Value,
     names: &[&str],
 ) -> Result<(), AllocError> {
     let items = [i];
@@ -117,12 +121,26 @@ fn explain_name(
 }
 
 /// Whether a text may be a name.
-fn is_name(text: &str) -> bool {
+fn is_name(text: &str) -> bool
+    ensures { result ≡ is_name text.now }
+{
     let bytes = text.as_bytes();
-    1 <= bytes.len() && bytes.len() <= 16 && bytes.iter().all(|b| is_name_byte(*b))
+    if bytes.is_empty() || bytes.len() > 16 {
+        return false;
+    }
+    has_name_bytes(bytes)
 }
 
-fn is_name_byte(b: u8) -> bool {
+fn has_name_bytes(bytes: &[u8]) -> bool
+    ensures { result ≡ list_all is_name_byte bytes.now }
+{
+    bytes.iter().all(|b| is_name_byte(*b))
+}
+
+#[tactic(auto, unfolding(mx_plan::specs::Text::is_name_byte))]
+fn is_name_byte(b: u8) -> bool
+    ensures { result ≡ is_name_byte b }
+{
     matches!(b, b'0'..=b'9' | b'A'..=b'Z' | b'a'..=b'z' | b'_' | b'-')
 }
 

@@ -33,6 +33,11 @@ impl Scan {
         self.brackets.last().copied()
     }
 
+    /// How many brackets are open.
+    pub(crate) fn depth(&self) -> usize {
+        self.brackets.len()
+    }
+
     /// The next byte, which stands at this place.
     fn take(&mut self, offset: usize, byte: u8) -> Result<(), AllocError> {
         if self.within {
@@ -89,17 +94,33 @@ pub(crate) fn scanned(alloc: Global, text: &[u8]) -> Result<Scan, AllocError> {
 
 /// The line and the column of a byte, both counted from 1.
 pub(crate) fn place_of(text: &[u8], offset: usize) -> (usize, usize) {
-    let mut line = 1usize;
-    let mut column = 1usize;
+    let mut place = (1, 1);
     for byte in text.iter().take(offset) {
-        if *byte == b'\n' {
-            line = line.saturating_add(1);
-            column = 1;
-        } else {
-            column = column.saturating_add(1);
-        }
+        place = place_after(place, *byte);
     }
-    (line, column)
+    place
+}
+
+/// The byte of a line and a column, or the end of the text where there is none.
+pub(crate) fn offset_of(text: &[u8], line: usize, column: usize) -> usize {
+    let mut place = (1, 1);
+    for (offset, byte) in text.iter().enumerate() {
+        if place == (line, column) {
+            return offset;
+        }
+        place = place_after(place, *byte);
+    }
+    text.len()
+}
+
+/// The line and the column behind a byte.
+fn place_after(place: (usize, usize), byte: u8) -> (usize, usize) {
+    let (line, column) = place;
+    if byte == b'\n' {
+        (line.saturating_add(1), 1)
+    } else {
+        (line, column.saturating_add(1))
+    }
 }
 
 /// Warns of each member whose key stands earlier in the same object.

@@ -10,10 +10,10 @@ use std::alloc::AllocError;
 use std::fmt;
 
 /// Says why the nodes of a plan have no such shape, by their names.
-pub(crate) fn explain_shape_fault(
+pub(crate) fn explain_shape_fault<'a>(
     page: &mut Page<'_>,
     plan: &Value,
-    nodes: &[&str],
+    nodes: &'a [&'a str],
     fault: ShapeFault,
 ) -> Result<(), AllocError> {
     match fault {

@@ -119,7 +119,7 @@ fn explain_edges(page: &mut Page<'_>, edges: &[Value], nodes: &[&str]) -> Result
 /// The i-th of several arrays of nodes.
 fn explain_nodes(
     page: &mut Page<'_>,
-    key: &str,
+    key: &'static str,
     i: usize,
     value: &Value,
     nodes: &[&str],
