@@ -21,7 +21,6 @@ use Rattle.mx_commands.specs.Jobs.{HoldsOfReport, Job, job_of, names_in}
 use Rattle.mx_commands.specs.Ran.{EndsEarly, Helps, IsRunStatus, MayTell, Ran, RanOf, Scolds, Seen, end_text, status_of}
 use Rattle.mx_commands.specs.Closed.{Closes, FallsShort}
 use Rattle.mx_commands.proofs.JobLemmas.{of_jobs}
-use Rattle.mx_commands.proofs.CommandLemmas.{and_left}
 use Rattle.mx_commands.proofs.RunLemmas.{Appends-keeps, Appends-nil}
 use Rattle.mx_explain.specs.Asked.{AreWrongExplain, AskExplainHelp, explain_line, task_asked}
 use Rattle.mx_explain.specs.Explained.{EndsAs, Explains, FailsToPrint}
@@ -66,6 +65,9 @@ pub ran_unprinted : (t : Bool) (told : Text → Option Telling) (task : Task) (s
 ran_unprinted t told task s h = some_early (job_of told task) (EndsEarly t (Err s) × Keeps None None) (λ r. Ran t None None r (Err s)) (early_of t s h, tt)
 
 -- ---- how it is closed
+
+and_left : (t u : Bool) → t ≡ false → (t && u) ≡ false
+and_left t u e = ap (λ x. x && u) e
 
 module _ (t u : Bool) (told : Text → Option Telling) (task : Task) (old new : Held) (status : ℕ) where
   closed_early : (res : Result ℕ Stop) → EndsEarly t res → Closes (t && u) (names_in task) res old new status → FallsShort (t && u) old new status
@@ -156,3 +158,6 @@ is_untrue false h = refl
 pub put_fails : (t : Bool) (f : PutFault) → (t ≡ true → f ≡ put_fault.Memory) → FailsToPrint t (stop_of f)
 put_fails t put_fault.Refused takes = inr (refl, is_untrue t (λ e. let bad : ◌≡◌ {A = PutFault} put_fault.Refused put_fault.Memory = takes e in cc))
 put_fails t put_fault.Memory takes = inl refl
+
+pub runs_out : (t : Bool) → FailsToPrint t stop.Memory
+runs_out t = inl refl

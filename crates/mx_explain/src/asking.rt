@@ -2,22 +2,13 @@
 
 ghost use Rattle.std.specs.Prelude.{◌≡◌, [], IfOk, IfErr, false, option_map};
 ghost use Rattle.clap.specs.Words.{app_of, fault_of, found_of, rows_of, rule_of, subcommand_rows_of, HasKind};
-ghost use Rattle.mx_words.specs.Words.{HasNoGlobals, plan_rule, task_of, texts_of};
+ghost use Rattle.mx_words.specs.Words.{HasNoGlobals, task_of, texts_of};
 ghost use Rattle.mx_explain.specs.Asked.{events_rule, explain_app, explain_in, explain_line, task_asked, task_in};
 
 use crate::help;
 use clap::{Arg, ArgMatches, Command, Error};
-use mx_words::{Names, Request};
+use mx_words::{Names, Request, plan_arg, text_at};
 use std::alloc::{AllocError, Global};
-
-fn plan_arg<'a>(alloc: Global) -> Arg<'a>
-    ensures rule { rule_of result ≡ plan_rule }
-    ensures local { result.global ≡ false }
-{
-    Arg::new(alloc, "PLAN")
-        .help("The file of the plan, or - for standard input")
-        .required(true)
-}
 
 fn events_arg<'a>(alloc: Global) -> Arg<'a>
     ensures rule { rule_of result ≡ events_rule }
@@ -90,10 +81,10 @@ fn request_in<'a>(matches: &ArgMatches<'a>) -> Option<Request<'a>>
 fn explain_in<'a>(matches: &ArgMatches<'a>) -> Option<Request<'a>>
     ensures { option_map task_of result ≡ explain_in (rows_of (found_of matches.now)) }
 {
-    let Some(plan) = matches.get_str("PLAN") else {
+    let Some(plan) = text_at(matches, "PLAN") else {
         return None;
     };
-    let Some(events) = matches.get_str("EVENTS") else {
+    let Some(events) = text_at(matches, "EVENTS") else {
         return Some(Request::Check(plan));
     };
     Some(Request::Replay(Names { plan, events }))

@@ -12,7 +12,7 @@ use crate::page::Page;
 use crate::reasons::Reasons;
 use mx_commands::{Fault, Output, PutFault, Source, Stop, carry_out, close, names_in, refuse};
 use mx_words::Request;
-use std::alloc::Global;
+use std::alloc::{AllocError, Global};
 
 /// An output that takes all, and keeps nothing.
 #[derive(Drop)]
@@ -129,9 +129,20 @@ fn print_explanation<S: Source + Reasons, O: Output>(
     ensures fails { IfErr result (FailsToPrint (O.takes_all out.old)) }
     ensures stays { O.takes_all out.new ≡ O.takes_all out.old }
 {
+    let page = page_of(alloc, request, fault, source)?;
+    out.put(page.text().as_bytes())?;
+    Ok(())
+}
+
+/// What is wrong in files that are read with this fault.
+fn page_of<'a, S: Source + Reasons>(
+    alloc: Global,
+    request: &Request<'a>,
+    fault: Option<Fault>,
+    source: &mut S,
+) -> Result<Page<'a>, AllocError> {
     let mut page = Page::new(alloc, names_in(request).plan);
     explain_files(&mut page, request, fault, source)?;
     page.end(fault.is_none())?;
-    out.put(page.text().as_bytes())?;
-    Ok(())
+    Ok(page)
 }

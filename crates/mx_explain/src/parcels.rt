@@ -1,8 +1,10 @@
 //! Why an event delivers nothing.
 
 use crate::page::Page;
+use mx_commands::start;
+use mx_events::Event;
 use mx_maekawa::Maekawa;
-use mx_network::{Cluster, Event, RunFault, StepFault};
+use mx_network::{Cluster, RunFault, StepFault};
 use mx_nodelaws::Exclusion;
 use mx_plan::{Plan, Shape, read_events, read_plan};
 use mx_raymond::Raymond;
@@ -38,25 +40,23 @@ pub(crate) fn explain_parcel(
 /// How many parcels the events send, up to the first that can't happen.
 fn parcels_sent(alloc: Global, plan: &Plan, events: &[Event]) -> Result<u64, AllocError> {
     match plan.shape() {
-        Shape::Ricart(count) => sent_by::<Ricart>(alloc, plan, count, events),
-        Shape::Maekawa(sets) => sent_by::<Maekawa>(alloc, plan, sets, events),
-        Shape::Raymond(tree) => sent_by::<Raymond>(alloc, plan, tree, events),
+        Shape::Ricart(count) => {
+            let mut cluster = start::<Ricart>(alloc, plan, count)?;
+            sent_after(&mut cluster, events)
+        }
+        Shape::Maekawa(sets) => {
+            let mut cluster = start::<Maekawa>(alloc, plan, sets)?;
+            sent_after(&mut cluster, events)
+        }
+        Shape::Raymond(tree) => {
+            let mut cluster = start::<Raymond>(alloc, plan, tree)?;
+            sent_after(&mut cluster, events)
+        }
     }
 }
 
-fn sent_by<C: Exclusion>(
-    alloc: Global,
-    plan: &Plan,
-    shape: &C::Shape,
-    events: &[Event],
-) -> Result<u64, AllocError> {
-    let mut cluster = Cluster::<C>::start(
-        alloc,
-        shape,
-        plan.origin(),
-        plan.sections(),
-        plan.registers(),
-    )?;
+/// How many parcels are sent once these events happened, up to the first that can't.
+fn sent_after<C: Exclusion>(cluster: &mut Cluster<C>, events: &[Event]) -> Result<u64, AllocError> {
     match cluster.run(events) {
         Err(
             RunFault {
