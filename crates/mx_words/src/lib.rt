@@ -2,10 +2,11 @@
 #![tactic(auto)]
 
 mod help;
+mod line;
 mod live_words;
 mod words;
 
-pub use help::{MX, VERSION};
+pub use line::command_line;
 pub use live_words::{LiveRun, asked_live};
 pub use words::{
     Exploration, Names, Request, asked, events_arg, explore_command, number_at, plan_arg,

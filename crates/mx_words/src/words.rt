@@ -6,6 +6,7 @@ ghost use Rattle.mx_words.specs.Words.{HasNoGlobals, check_app, events_rule, exp
 ghost use Rattle.mx_words.specs.Words.{check_in, explore_in, number_at, replay_in, task_asked, task_in, task_of, texts_of};
 
 use crate::help;
+use crate::line::command_line;
 use clap::builder::ValueParser;
 use clap::{Arg, ArgMatches, Command, Error};
 use std::alloc::{AllocError, Global};
@@ -123,14 +124,7 @@ pub fn explore_command<'a>(alloc: Global) -> Result<Command<'a>, AllocError>
 fn mx_command<'a>(alloc: Global) -> Result<Command<'a>, AllocError>
     ensures { IfOk result (λ command. app_of command ≡ mx_app) }
 {
-    let begun = Command::new(alloc, "mx")
-        .bin_name("mx")?
-        .version(help::VERSION)
-        .about(help::MX)
-        .after_help(help::MX_EXAMPLE)
-        .no_binary_name(true)
-        .subcommand_required(true)
-        .disable_help_subcommand(true);
+    let begun = command_line(alloc)?.after_help(help::MX_EXAMPLE);
     let check = check_command(alloc)?;
     let replay = replay_command(alloc)?;
     let explore = explore_command(alloc)?;
