@@ -1,5 +1,5 @@
 -- What the matches of the words of `explain` say.
-use Rattle.std.proofs.Common.{◌≡◌, ◌∙◌, List, [], Option, refl, sym, ap, true, IsSome, IfOk, IfErr, Result, Ok, Err}
+use Rattle.std.proofs.Common.{◌≡◌, ◌∙◌, List, [], refl, sym, ap, true, IsSome, IfOk, IfErr, Result, Ok, Err}
 use Rattle.clap.specs.declared.parser.matches.ArgMatches.{ArgMatches}
 use Rattle.clap.specs.Words.{Text, is_simple, subcommand_of, subcommand_rows_of}
 use Rattle.clap.specs.Kinds.{FailsBy, HasKind, IsAmong}

@@ -1,5 +1,5 @@
 -- How an explanation ends, from how the check or the replay ends.
-use Rattle.std.proofs.Common.{◌≡◌, ◌≢◌, ◌∙◌, ◌⊎◌, ℕ, Bool, true, false, List, [], Option, Some, None, Result, Ok, Err, ap, subst, sym, refl, inl, inr, IsSome}
+use Rattle.std.proofs.Common.{◌≡◌, ◌∙◌, ◌⊎◌, ℕ, Bool, true, false, List, [], Option, Some, None, Result, Ok, Err, ap, subst, sym, refl, inl, inr, IsSome}
 use Rattle.std.specs.Prelude.{◌&&◌, IfSome, IfOk}
 use Rattle.std.specs.Io.KnownBytes.{Appends, Keeps}
 use Rattle.clap.specs.Words.{kind_of}

@@ -1,5 +1,8 @@
 //! What is expected at a place.
 
+ghost use Rattle.std.specs.Prelude.{IfOk, IfSome};
+ghost use Rattle.std.specs.List.{Contains};
+
 use crate::lines::{Expected, Path, Unread};
 use crate::nearest::nearest;
 use crate::page::Page;
@@ -44,12 +47,10 @@ pub(crate) fn expect_word<'a, 'w>(
     })
 }
 
-/// The word that was meant, which nobody asks for where lines are only counted.
-fn meant<'a>(
-    page: &Page<'_>,
-    word: &str,
-    words: &[&'a str],
-) -> Result<Option<&'a str>, AllocError> {
+/// The word of these that was meant, which nobody asks for where lines are only counted.
+fn meant<'a>(page: &Page<'_>, word: &str, words: &[&'a str]) -> Result<Option<&'a str>, AllocError>
+    ensures { IfOk result (λ found. IfSome found (Contains words.now)) }
+{
     if page.is_full() {
         return Ok(None);
     }

@@ -1,5 +1,8 @@
 //! The name that was meant.
 
+ghost use Rattle.std.specs.Prelude.{IfOk, IfSome};
+ghost use Rattle.std.specs.List.{Contains};
+
 use std::alloc::{AllocError, Global};
 use strsim::osa_distance;
 
@@ -15,7 +18,9 @@ pub(crate) fn nearest<'a>(
     alloc: Global,
     name: &str,
     known: &[&'a str],
-) -> Result<Option<&'a str>, AllocError> {
+) -> Result<Option<&'a str>, AllocError>
+    ensures { IfOk result (λ found. IfSome found (Contains known.now)) }
+{
     let mut least = MOST_EDITS + 1;
     let mut best = None;
     for other in known {
