@@ -2,6 +2,7 @@
 
 ghost use Rattle.std.specs.Prelude.{◌≡◌, ◌≤◌, ℕ, length, IfOk, OnOk};
 ghost use Rattle.mx_stations.specs.Gathered.{KeepsTable};
+ghost use Rattle.mx_stations.specs.Works.{Works, WorksSettling};
 ghost use Rattle.mx_live.specs.Stations.{AreAll, Home, sight_of};
 ghost use Rattle.mx_live.specs.Workers.{IsLeft, Promises};
 
@@ -9,7 +10,7 @@ use crate::any_station::AnyStation;
 use crate::assembly::Assembly;
 use mx_explorer::Weather;
 use mx_nodelaws::Exclusion;
-use mx_stations::{Script, Station, Worked, work, work_settling};
+use mx_stations::{Script, Station, Worked, work_settling};
 use std::alloc::{AllocError, Global};
 use std::snapshot::Snapshot;
 use std::sync::Arc;
@@ -81,12 +82,15 @@ fn work_any(station: AnyStation, gate: &Assembly, orders: Orders) -> Ended
     }
 }
 
-/// Does the work at a station, under links of its own seed.
+/// Does the work at a station, under links of its own seed. It settles after each so many sections
+/// of its own as the orders say, with 0 never.
 fn work_at<C: Exclusion>(
     station: Station<C>,
     gate: &Assembly,
     orders: Orders,
 ) -> (Station<C>, Worked)
+    ensures works { WorksSettling C.core 0 orders.settle station result.0 }
+    ensures never { orders.settle ≡ 0 → Works C.core 0 station result.0 }
     ensures same { KeepsTable station result.0 }
     ensures done { result.1 ≡ Worked.Done → orders.sections ≤ length result.0.me.receipts }
 {
@@ -97,9 +101,6 @@ fn work_at<C: Exclusion>(
     };
     let seed = orders.seed.wrapping_add(u64::from(node.get()));
     let weather = Weather::of(seed, LOST, DOUBLED);
-    if orders.settle == 0 {
-        return work(station, script, gate, weather, orders.turns);
-    }
     work_settling(station, script, orders.settle, gate, weather, orders.turns)
 }
 

@@ -15,7 +15,8 @@ pub mod Gathers
 pub mod Whole
 pub mod Deciding
 pub mod Toils
-pub mod Stretching
+pub mod Leaving
+pub mod Rounding
 pub mod Endings
 pub mod SameTable
 pub mod Returning

@@ -1,10 +1,11 @@
 -- The acts and moves of a station at which a worker works, and of one that settles besides.
-use Rattle.std.specs.Prelude.{◌≡◌, ◌⊎◌, ℕ, ◌<◌, List, [], ◌∷◌}
+use Rattle.std.specs.Prelude.{◌≡◌, ◌≢◌, ◌⊎◌, ℕ, ◌-◌, ◌%◌, ◌<◌, List, [], ◌∷◌, length}
 use Rattle.mx_nodelaws.specs.Core.{Core}
+use Rattle.mx_member.specs.Member.{first_gap}
 use Rattle.mx_member.specs.declared.acts.Act.{Act}
 use Rattle.mx_member.specs.declared.acts.Act.TheVariants as act
 use Rattle.mx_stations.specs.Posts.{does}
-use Rattle.mx_stations.specs.Turns.{Moves, Station}
+use Rattle.mx_stations.specs.Turns.{Goes, Moves, Station}
 
 -- an act of a worker of n nodes: it asks, enters, leaves, reads or writes its register, or asks a node for records
 abbrev pub IsWorkers : {M : Type 0} → ℕ → ℕ → Act M → Type 0
@@ -33,18 +34,49 @@ module _ {H S M : Type 0} (core : Core H S M) (register : ℕ) where
   abbrev pub Works : Station core → Station core → Type 0
   Works s t = (ms : List (Station core)) × Row ms s t
 
+  -- such a list in which no section is left
+  abbrev pub LeavesNone : Station core → Station core → Type 0
+  LeavesNone s t = Works s t × (length t.me.receipts ≡ length s.me.receipts)
+
 module _ {H S M : Type 0} (core : Core H S M) where
-  -- the station settles, which may be refused, or it does nothing
-  abbrev pub MaySettle : Station core → Station core → Type 0
-  MaySettle s t = (t ≡ s) ⊎ ((k : ℕ) × (t ≡ does core (act.Settle k) s))
+  -- it leaves its section, or does nothing
+  abbrev pub MayLeave : Station core → Station core → Type 0
+  MayLeave s t = (t ≡ s) ⊎ (t ≡ does core act.Leave s)
 
 module _ {H S M : Type 0} (core : Core H S M) (register : ℕ) where
-  -- stretches of work, and behind each of them the station may settle
-  abbrev pub Stretches : List (Station core) → Station core → Station core → Type 0
-  Stretches [] s t = t ≡ s
-  Stretches (m ∷ ms) s t =
-      ((n : Station core) × Works core register s n × MaySettle core n m) × Stretches ms m t
+  -- a worker's turn: acts by which it leaves no section, then it may leave one, and then its
+  -- station takes a turn
+  abbrev pub TakesTurn : Station core → Station core → Type 0
+  TakesTurn s t =
+      (m : Station core) × (n : Station core) × LeavesNone core register s m × MayLeave core m n
+      × Goes core n t
 
-  -- some list of these, one after another
+-- a section was left, since there were so many before and are so many now, and `every`, which is
+-- not 0, divides how many there are now
+abbrev pub IsDue : ℕ → ℕ → ℕ → Type 0
+IsDue every before now = (every ≢ 0) × (before < now) × (now % every ≡ 0)
+
+module _ {H S M : Type 0} (core : Core H S M) (every : ℕ) where
+  -- where that is due, the registers after all sections that the journal has without a gap come in
+  -- place of their records; where it is not, nothing happens
+  abbrev pub SettlesIfDue : ℕ → Station core → Station core → Type 0
+  SettlesIfDue before s t =
+      (IsDue every before (length s.me.receipts)
+      × (t ≡ does core (act.Settle (first_gap s.me.member.journal - 1)) s))
+      ⊎ ((IsDue every before (length s.me.receipts) → ⊥) × (t ≡ s))
+
+module _ {H S M : Type 0} (core : Core H S M) (register every : ℕ) where
+  -- a worker's turn, and at its end the station settles if a section was left that makes it due
+  abbrev pub Round : Station core → Station core → Type 0
+  Round s t =
+      (n : Station core) × TakesTurn core register s n
+      × SettlesIfDue core every (length s.me.receipts) n t
+
+  abbrev pub Rounds : List (Station core) → Station core → Station core → Type 0
+  Rounds [] s t = t ≡ s
+  Rounds (m ∷ ms) s t = Round s m × Rounds ms m t
+
+  -- some list of these, one after another: so the station settles in each turn in which the number
+  -- of its sections comes to a multiple of `every`, once, and at no other time; with 0 never
   abbrev pub WorksSettling : Station core → Station core → Type 0
-  WorksSettling s t = (ms : List (Station core)) × Stretches ms s t
+  WorksSettling s t = (ms : List (Station core)) × Rounds ms s t

@@ -1,10 +1,10 @@
 //! A worker that settles: now and then it puts registers in place of the records that its station
 //! has without gaps.
 
-ghost use Rattle.std.specs.Prelude.{◌≡◌, ◌≤◌, ℕ, length};
+ghost use Rattle.std.specs.Prelude.{◌≡◌, ◌≤◌, ◌↔◌, ℕ, length, IsTrue};
 ghost use Rattle.mx_nodelaws.specs.Core.{IsInside};
 ghost use Rattle.mx_stations.specs.Gathered.{KeepsTable};
-ghost use Rattle.mx_stations.specs.Works.{MaySettle, WorksSettling};
+ghost use Rattle.mx_stations.specs.Works.{IsDue, SettlesIfDue, Works, WorksSettling};
 
 use crate::station::Station;
 use crate::working::{Gate, Script, Stance, Worked, is_finished, take_turn};
@@ -22,7 +22,8 @@ pub fn work_settling<C: Exclusion, G: Gate, F: Fates + Drop>(
     mut fates: F,
     turns: u64,
 ) -> (Station<C>, Worked)
-    ensures works { WorksSettling C.core script.register station result.0 }
+    ensures works { WorksSettling C.core script.register every station result.0 }
+    ensures never { every ≡ 0 → Works C.core script.register station result.0 }
     ensures same { KeepsTable station result.0 }
     ensures node { result.0.me.node ≡ station.me.node }
     ensures done { result.1 ≡ Worked.Done → script.sections ≤ length result.0.me.receipts }
@@ -42,7 +43,7 @@ fn settle_on<C: Exclusion, G: Gate, F: Fates>(
     fates: &mut F,
     turns: u64,
 ) -> Worked
-    ensures works { WorksSettling C.core script.now.register station.old station.new }
+    ensures works { WorksSettling C.core script.now.register every station.old station.new }
     ensures done { result ≡ Worked.Done → script.now.sections ≤ length station.new.me.receipts }
     ensures outside { result ≡ Worked.Done → IsInside C.core station.new.me.member.core → ⊥ }
     ensures not_yet { (n : ℕ) → result ≡ Worked.NotYet n → n ≡ turns }
@@ -69,7 +70,7 @@ fn settle_on<C: Exclusion, G: Gate, F: Fates>(
 
 /// Settles all that the journal covers without gaps, where that is due.
 fn settle_if_due<C: Exclusion>(station: &mut Station<C>, before: usize, every: u64)
-    ensures { MaySettle C.core station.old station.new }
+    ensures { SettlesIfDue C.core every before station.old station.new }
 {
     if is_due(before, station.receipts().len(), every) {
         let upto = station.journal().gapless_to();
@@ -79,8 +80,10 @@ fn settle_if_due<C: Exclusion>(station: &mut Station<C>, before: usize, every: u
 
 /// Whether a section was left, since there were so many before, and the number divides how many
 /// there are now.
-fn is_due(before: usize, now: usize, every: u64) -> bool {
-    if every == 0 || before == now {
+fn is_due(before: usize, now: usize, every: u64) -> bool
+    ensures { IsTrue result ↔ IsDue every before now }
+{
+    if every == 0 || now <= before {
         return false;
     }
     now as u64 % every == 0

@@ -4,7 +4,7 @@
 ghost use Rattle.std.specs.Prelude.{◌≡◌, ◌<◌, ◌≤◌, ◌↔◌, ℕ, length, IsTrue};
 ghost use Rattle.mx_nodelaws.specs.Core.{IsInside};
 ghost use Rattle.mx_stations.specs.Gathered.{KeepsTable};
-ghost use Rattle.mx_stations.specs.Works.{Works};
+ghost use Rattle.mx_stations.specs.Works.{LeavesNone, MayLeave, TakesTurn, Works};
 
 use crate::answers::{TakeFault, TurnReport};
 use crate::gathering::is_inside;
@@ -131,7 +131,7 @@ pub(crate) fn take_turn<C: Exclusion, F: Fates>(
     stance: &mut Stance,
     fates: &mut F,
 )
-    ensures { Works C.core script.now.register station.old station.new }
+    ensures { TakesTurn C.core script.now.register station.old station.new }
 {
     ask_if_due(station, script.sections);
     let _ = station.enter();
@@ -150,7 +150,7 @@ fn give_way(report: &Result<TurnReport, TakeFault>) {
 
 /// Asks where sections are lacking.
 fn ask_if_due<C: Exclusion>(station: &mut Station<C>, sections: u64)
-    ensures { (register : ℕ) → Works C.core register station.old station.new }
+    ensures { (register : ℕ) → LeavesNone C.core register station.old station.new }
 {
     if !has_sections(station, sections) {
         let _ = station.ask();
@@ -159,7 +159,7 @@ fn ask_if_due<C: Exclusion>(station: &mut Station<C>, sections: u64)
 
 /// Where nothing is written yet: reads the register and writes 1 more, or asks for missing records.
 fn add_if_due<C: Exclusion>(station: &mut Station<C>, register: u8, stance: &mut Stance)
-    ensures { Works C.core register station.old station.new }
+    ensures { LeavesNone C.core register station.old station.new }
 {
     if stance.written {
         return;
@@ -177,7 +177,7 @@ fn add_if_due<C: Exclusion>(station: &mut Station<C>, register: u8, stance: &mut
 
 /// Asks the next node in the circle for the records that are missing.
 fn want_next<C: Exclusion>(station: &mut Station<C>, stance: &mut Stance)
-    ensures { (register : ℕ) → Works C.core register station.old station.new }
+    ensures { (register : ℕ) → LeavesNone C.core register station.old station.new }
 {
     let next = node_after(stance.wanted, count_of(station));
     station.want(next);
@@ -214,7 +214,7 @@ fn first_node() -> NodeId
 
 /// Leaves where the section has its write. Where memory is refused it stays inside.
 fn leave_if_due<C: Exclusion>(station: &mut Station<C>, stance: &mut Stance)
-    ensures { (register : ℕ) → Works C.core register station.old station.new }
+    ensures { MayLeave C.core station.old station.new }
 {
     if stance.written && station.leave().is_ok() {
         stance.written = false;

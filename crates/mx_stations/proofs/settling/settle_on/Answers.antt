@@ -1,10 +1,10 @@
 use Rattle.std.proofs.Common.{refl, rules, sym}
 use Rattle.mx_stations.proofs.Endings.{done_not_yet, done_shut, not_yet_shut, same_turns, shut_done, shut_not_yet}
-use Rattle.mx_stations.proofs.Stretching.{stretches_on, stretches_rest}
+use Rattle.mx_stations.proofs.Rounding.{rounds_on, rounds_rest}
 use Rattle.mx_stations.proofs.settling.settle_on.Goals as goal
 
 pub returns-then-not-arrive-clause-works : goal.returns-then-not-arrive-clause-works
-returns-then-not-arrive-clause-works g c = stretches_rest g.C.Exclusion.core c.args.script.now.register _ _ refl
+returns-then-not-arrive-clause-works g c = rounds_rest g.C.Exclusion.core c.args.script.now.register c.args.every _ _ refl
 
 pub returns-then-not-arrive-clause-done : goal.returns-then-not-arrive-clause-done
 returns-then-not-arrive-clause-done g c = λ ended. absurd (shut_done ended)
@@ -19,13 +19,13 @@ pub returns-then-not-arrive-clause-shut : goal.returns-then-not-arrive-clause-sh
 returns-then-not-arrive-clause-shut g c = λ shut. refl
 
 pub loop-turn-init : goal.loop-turn-init
-loop-turn-init g c = stretches_rest g.C.Exclusion.core c.args.script.now.register _ _ refl
+loop-turn-init g c = rounds_rest g.C.Exclusion.core c.args.script.now.register c.args.every _ _ refl
 
 pub loop-turn-preserved : goal.loop-turn-preserved
-loop-turn-preserved g c = stretches_on g.C.Exclusion.core c.args.script.now.register _ _ _ _ c.loop-turn.invariant c.take_turn.ensures c.settle_if_due.ensures
+loop-turn-preserved g c = rounds_on g.C.Exclusion.core c.args.script.now.register c.args.every c.receipts-before.result.now _ _ _ _ c.loop-turn.invariant c.receipts-before.ensures c.take_turn.ensures c.settle_if_due.ensures
 
 pub returns-then-done-clause-works : goal.returns-then-done-clause-works
-returns-then-done-clause-works g c = stretches_on g.C.Exclusion.core c.args.script.now.register _ _ _ _ c.loop-turn.invariant c.take_turn.ensures c.settle_if_due.ensures
+returns-then-done-clause-works g c = rounds_on g.C.Exclusion.core c.args.script.now.register c.args.every c.receipts-before.result.now _ _ _ _ c.loop-turn.invariant c.receipts-before.ensures c.take_turn.ensures c.settle_if_due.ensures
 
 pub returns-then-done-clause-done : goal.returns-then-done-clause-done
 returns-then-done-clause-done g c = λ ended. c.if-is_finished.ensures.enough refl
@@ -56,3 +56,6 @@ returns-clause-shut g c = λ shut. absurd (not_yet_shut c.args.turns shut)
 
 pub is_finished-requires : goal.is_finished-requires
 is_finished-requires g c = search rules
+
+pub settle_if_due-requires : goal.settle_if_due-requires
+settle_if_due-requires g c = search rules

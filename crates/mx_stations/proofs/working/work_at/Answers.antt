@@ -1,5 +1,6 @@
 use Rattle.std.proofs.Common.{refl, sym}
 use Rattle.mx_stations.proofs.Endings.{done_not_yet, done_shut, not_yet_shut, same_turns, shut_done, shut_not_yet}
+use Rattle.mx_stations.proofs.Leaving.{turn_works}
 use Rattle.mx_stations.proofs.Toils.{rests, works_on}
 use Rattle.mx_stations.proofs.working.work_at.Goals as goal
 
@@ -22,10 +23,10 @@ pub loop-turn-init : goal.loop-turn-init
 loop-turn-init g c = rests g.C.Exclusion.core c.args.script.now.register _ _ refl
 
 pub loop-turn-preserved : goal.loop-turn-preserved
-loop-turn-preserved g c = works_on g.C.Exclusion.core c.args.script.now.register _ _ _ c.loop-turn.invariant c.take_turn.ensures
+loop-turn-preserved g c = works_on g.C.Exclusion.core c.args.script.now.register _ _ _ c.loop-turn.invariant (turn_works g.C.Exclusion.core c.args.script.now.register _ _ c.take_turn.ensures)
 
 pub returns-then-done-clause-works : goal.returns-then-done-clause-works
-returns-then-done-clause-works g c = works_on g.C.Exclusion.core c.args.script.now.register _ _ _ c.loop-turn.invariant c.take_turn.ensures
+returns-then-done-clause-works g c = works_on g.C.Exclusion.core c.args.script.now.register _ _ _ c.loop-turn.invariant (turn_works g.C.Exclusion.core c.args.script.now.register _ _ c.take_turn.ensures)
 
 pub returns-then-done-clause-done : goal.returns-then-done-clause-done
 returns-then-done-clause-done g c = λ ended. c.if-is_finished.ensures.enough refl

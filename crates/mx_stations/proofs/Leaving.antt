@@ -1,0 +1,49 @@
+-- A worker's turn: acts by which no section is left, and then one by which one may be.
+use Rattle.std.proofs.Common.{◌≡◌, inl, inr, ℕ, List, [], ◌++◌, length, Result, Ok, Err, OnOk, OnErr, ap, ◌∙◌}
+use Rattle.std.proofs.lemmas.List.{append-nil}
+use Rattle.mx_journal.specs.declared.receipts.Receipt.{Receipt}
+use Rattle.mx_nodelaws.specs.Core.{Core}
+use Rattle.mx_member.specs.declared.acts.Act.{Act}
+use Rattle.mx_member.specs.declared.acts.Act.TheVariants.{Leave}
+use Rattle.mx_member.specs.Acts.{act_of}
+use Rattle.mx_member.specs.Receipts.{closed_by}
+use Rattle.mx_stations.specs.Posts.{does}
+use Rattle.mx_stations.specs.Turns.{Station}
+use Rattle.mx_stations.specs.Works.{IsWorkers, LeavesNone, MayLeave, TakesTurn, Works}
+use Rattle.mx_stations.proofs.Toils.{rests, works_acting, works_on, works_turning}
+
+module _ {H S M : Type 0} (core : Core H S M) (register : ℕ) where
+  pub none_resting : (s t : Station core) → t ≡ s → LeavesNone core register s t
+  none_resting s t same = (rests core register s t same, ap (λ (z : Station core). length z.me.receipts) same)
+
+  pub none_on : (s t u : Station core) → LeavesNone core register s t → LeavesNone core register t u → LeavesNone core register s u
+  none_on s t u a b = (works_on core register s t u a.0 b.0, b.1 ∙ a.1)
+
+  -- an act that answers no receipt
+  pub none_acting : (a : Act M) (s t : Station core) → IsWorkers register s.nodes a → closed_by (act_of core a s.me.member).answer ≡ [] → t ≡ does core a s → LeavesNone core register s t
+  none_acting a s t own none did = (
+    works_acting core register a s t own did,
+    ap (λ (z : Station core). length z.me.receipts) did
+        ∙ ap (λ (rs : List Receipt). length (s.me.receipts ++ rs)) none
+        ∙ ap (λ (rs : List Receipt). length rs) (append-nil s.me.receipts),
+  )
+
+  -- the same, where it may be refused
+  pub none_trying : {A F : Type 0} (a : Act M) (r : Result A F) (s t : Station core) → IsWorkers register s.nodes a → closed_by (act_of core a s.me.member).answer ≡ [] → OnOk r (t ≡ does core a s) → OnErr r (t ≡ s) → LeavesNone core register s t
+  none_trying a (Ok x) s t own none did same = none_acting a s t own none did
+  none_trying a (Err e) s t own none did same = none_resting s t same
+
+  left_works : (s t : Station core) → MayLeave core s t → Works core register s t
+  left_works s t (inl same) = rests core register s t same
+  left_works s t (inr did) = works_acting core register Leave s t tt did
+
+  -- a worker's turn is work
+  pub turn_works : (s t : Station core) → TakesTurn core register s t → Works core register s t
+  turn_works s t did =
+      works_on core register s did.0 t did.2.0
+      (works_on core register did.0 did.1 t (left_works did.0 did.1 did.3) (works_turning core register did.1 t did.4))
+
+module _ {H S M : Type 0} (core : Core H S M) where
+  pub leave_trying : {A F : Type 0} (r : Result A F) (s t : Station core) → OnOk r (t ≡ does core Leave s) → OnErr r (t ≡ s) → MayLeave core s t
+  leave_trying (Ok x) s t did same = inr did
+  leave_trying (Err e) s t did same = inl same
