@@ -8,7 +8,7 @@ use Rattle.clap.specs.Faults.{fault_of}
 use Rattle.clap.specs.Kinds.{HasKind}
 use Rattle.clap.specs.declared.error.Error.{Error}
 use Rattle.clap.specs.declared.error.kind.ErrorKind.TheVariants.{OutOfMemory}
-use Rattle.mx_words.specs.Words.{Task, mx_app, task_asked, AskHelp, AreWrong, IsShown}
+use Rattle.mx_words.specs.Words.{Task, mx_app, task_asked}
 use Rattle.mx_words.proofs.WordLemmas.{no_task_among}
 use Rattle.mx_plan.specs.Text.{Text}
 use Rattle.mx_commands.specs.declared.faults.Fault.{Fault}
@@ -21,7 +21,7 @@ use Rattle.mx_commands.specs.Told.{Telling}
 use Rattle.mx_commands.specs.Outputs.{Held, AppendsSome, IsPassedOn, refused_after, stop_of}
 use Rattle.mx_commands.specs.Runs.{Report}
 use Rattle.mx_commands.specs.Jobs.{HoldsOfReport, Job, job_of, names_in}
-use Rattle.mx_commands.specs.Ran.{EndsEarly, FailsAtOnce, Helps, IsRunStatus, MayTell, Prints, Ran, RanOf, Runs, Scolds, Seen, TellsFault, end_text, status_of}
+use Rattle.mx_commands.specs.Ran.{EndsEarly, FailsAtOnce, IsRunStatus, MayTell, Prints, Ran, RanOf, Runs, Seen, TellsFault, end_text, status_of}
 use Rattle.mx_commands.proofs.JobLemmas.{of_jobs}
 use Rattle.mx_commands.proofs.RunLemmas.{Appends-keeps, Appends-nil, Keeps-refl, all_some, some_keeps, is_false, refused_not_memory}
 
@@ -181,15 +181,3 @@ module _ (t u : Bool) (old new : Seen) (status : ℕ) (e : Error) (words : List 
 
   pub status_refused : IsSome (task_asked words) → IsRunStatus status
   status_refused asks = elim asks_nothing [ inl out ↦ inr (inr (memory out).0) | inr none ↦ absurd (none asks) ]
-
-  pub helps : (IsShown (kind_of e) → Helps t old new status) → AskHelp words → Helps t old new status
-  helps help asks = elim kinds [
-    | inl out ↦ let m = memory out in inr (inr (m.0, m.2, m.3))
-    | inr among ↦ help (asks.each (kind_of e) among)
-  ]
-
-  pub scolds : (¬ (IsShown (kind_of e)) → Scolds old new status) → AreWrong words → Scolds old new status
-  scolds wrong asks = elim kinds [
-    | inl out ↦ let m = memory out in (m.1, inr (m.0, m.2))
-    | inr among ↦ wrong (asks.each (kind_of e) among)
-  ]

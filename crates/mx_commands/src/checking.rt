@@ -45,7 +45,7 @@ fn check_plan<O: Output>(alloc: Global, plan: &Plan, out: &mut O) -> Result<u8, 
 }
 
 /// Prints a text whole, which is all that there is to print.
-pub(crate) fn print<O: Output>(text: &[u8], out: &mut O) -> Result<u8, Stop>
+pub fn print<O: Output>(text: &[u8], out: &mut O) -> Result<u8, Stop>
     ensures ran { Ran (O.takes_all out.old) (O.written out.old) (O.written out.new)
         (whole text.now) result }
     ensures refused { O.has_refused out.new ≡ refused_after result (O.has_refused out.old) }

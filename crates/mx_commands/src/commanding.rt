@@ -1,7 +1,7 @@
 //! The command: from words, named bytes and two outputs to a status.
 
 ghost use Rattle.std.specs.Prelude.{◌≡◌, ◌↔◌, ◌&&◌, Err, IsSome, IsTrue, IfSome, IfOk};
-ghost use Rattle.mx_words.specs.Words.{texts_of, names_of, task_asked, task_of, AskHelp, AreWrong};
+ghost use Rattle.mx_words.specs.Words.{texts_of, names_of, task_asked, task_of, AreWrong, AskHelp, mx_app};
 ghost use Rattle.mx_commands.specs.Outputs.{IsPassedOn, refused_after};
 ghost use Rattle.mx_commands.specs.Jobs.{names_in};
 ghost use Rattle.mx_commands.specs.Ran.{RanOf, Runs, IsRunStatus, Helps, Scolds, seen};
@@ -33,11 +33,11 @@ pub fn command<S: Source, O: Output, E: Output>(
         (seen (O.written out.new) (E.written err.new) (O.has_refused out.new) (O.keeps_back out.new))
         result) }
     ensures status { IsSome (task_asked (texts_of words.entry.now)) → IsRunStatus result }
-    ensures help { AskHelp (texts_of words.entry.now) → Helps (O.takes_all out.old)
+    ensures help { AskHelp mx_app (texts_of words.entry.now) → Helps (O.takes_all out.old)
         (seen (O.written out.old) (E.written err.old) (O.has_refused out.old) (O.keeps_back out.old))
         (seen (O.written out.new) (E.written err.new) (O.has_refused out.new) (O.keeps_back out.new))
         result }
-    ensures wrong { AreWrong (texts_of words.entry.now) → Scolds
+    ensures wrong { AreWrong mx_app (texts_of words.entry.now) → Scolds
         (seen (O.written out.old) (E.written err.old) (O.has_refused out.old) (O.keeps_back out.old))
         (seen (O.written out.new) (E.written err.new) (O.has_refused out.new) (O.keeps_back out.new))
         result }
@@ -72,7 +72,7 @@ fn run_request<S: Source, O: Output, E: Output>(
 }
 
 /// The names that the lines of faults have.
-fn names_in<'a>(request: &Request<'a>) -> Names<'a>
+pub fn names_in<'a>(request: &Request<'a>) -> Names<'a>
     ensures { names_of result ≡ names_in (task_of request.now) }
 {
     match request {
@@ -108,13 +108,14 @@ fn carry_out_and_flush<S: Source, O: Output>(
 }
 
 /// Whether an output has refused.
-fn is_refused(ended: &Result<u8, Stop>) -> bool
+pub(crate) fn is_refused(ended: &Result<u8, Stop>) -> bool
     ensures { IsTrue result ↔ (ended.now ≡ Err Stop.Writer) }
 {
     matches!(ended, Err(Stop::Writer))
 }
 
-fn carry_out<S: Source, O: Output>(
+/// Carries out what was asked for, and answers the status. What the output keeps back is not passed on.
+pub fn carry_out<S: Source, O: Output>(
     alloc: Global,
     request: &Request<'_>,
     source: &mut S,

@@ -98,7 +98,7 @@ fn add_summary_of(
 }
 
 /// Each event in turn.
-fn happen<C: Exclusion>(cluster: &mut Cluster<C>, events: &[Event]) -> Result<(), AllocError>
+pub fn happen<C: Exclusion>(cluster: &mut Cluster<C>, events: &[Event]) -> Result<(), AllocError>
     ensures { OnOk result (after_drawn C.core cluster.old events.now ≡ cluster.new) }
 {
     cluster.make_room(events.len())?;
@@ -144,7 +144,7 @@ fn add_summary<C: Exclusion>(
 }
 
 /// How often a node entered.
-fn entries_in(trace: &[Entry]) -> u64
+pub fn entries_in(trace: &[Entry]) -> u64
     ensures { result ≡ count_by is_entry trace.now }
 {
     trace.iter().filter(|entry| is_entry(entry)).count() as u64

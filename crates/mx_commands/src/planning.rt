@@ -11,7 +11,7 @@ use mx_plan::{Plan, read_plan};
 use std::alloc::Global;
 
 /// The bytes of a name.
-pub(crate) fn fetch<S: Source>(
+pub fn fetch<S: Source>(
     alloc: Global,
     source: &mut S,
     name: &str,
@@ -39,7 +39,7 @@ pub fn fetch_plan<S: Source>(alloc: Global, source: &mut S, name: &str) -> Resul
 }
 
 /// The plan that a text is.
-pub(crate) fn plan_in(alloc: Global, text: &[u8]) -> Result<Plan, Stop>
+pub fn plan_in(alloc: Global, text: &[u8]) -> Result<Plan, Stop>
     ensures read { Reads (Some text.now) result }
     ensures taken { (before : Bool) → refused_after result before ≡ before }
 {

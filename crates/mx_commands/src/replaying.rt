@@ -44,7 +44,7 @@ pub(crate) fn replay<S: Source, O: Output>(
 }
 
 /// Whether both names are standard input.
-fn are_dashes(names: &Names<'_>) -> bool
+pub fn are_dashes(names: &Names<'_>) -> bool
     ensures { result ≡ (is_dash names.now.plan.now && is_dash names.now.events.now) }
 {
     names.plan == "-" && names.events == "-"
@@ -64,7 +64,7 @@ fn replay_one<O: Output>(alloc: Global, bytes: &[u8], out: &mut O) -> Result<u8,
 }
 
 /// The bytes before the first line feed, and those behind it.
-fn split_line(bytes: &[u8]) -> (&[u8], &[u8])
+pub fn split_line(bytes: &[u8]) -> (&[u8], &[u8])
     ensures line { result.0.now ≡ before_first (λ b. b == 10) bytes.now }
     ensures rest { result.1.now ≡ after_first (λ b. b == 10) bytes.now }
 {

@@ -17,7 +17,7 @@ use mx_texts::{EventLine, Letter, add_nodes, add_parcels};
 use std::alloc::{AllocError, Global};
 
 /// The cluster of a plan, at rest.
-pub(crate) fn start<C: Exclusion>(
+pub fn start<C: Exclusion>(
     alloc: Global,
     plan: &Plan,
     shape: &C::Shape,

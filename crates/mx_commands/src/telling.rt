@@ -1,9 +1,9 @@
 //! What is told to whom asked: help, faults, and that memory ran out.
 
-ghost use Rattle.std.specs.Prelude.{◌≡◌, ◌≢◌, ◌⊎◌, true, false, IfSome, IfErr, OnOk, OnErr};
+ghost use Rattle.std.specs.Prelude.{◌≡◌, ◌⊎◌, List, true, false, IfSome, IfErr, OnOk, OnErr};
 ghost use Rattle.std.specs.Io.KnownBytes.{Appends, Keeps};
-ghost use Rattle.clap.specs.Words.{kind_of};
-ghost use Rattle.mx_words.specs.Words.{names_of, IsShown};
+ghost use Rattle.clap.specs.Words.{App, HasKind, Text, fault_of, kind_of};
+ghost use Rattle.mx_words.specs.Words.{AreWrong, AskHelp, names_of};
 ghost use Rattle.mx_commands.specs.Outputs.{refused_by};
 ghost use Rattle.mx_commands.specs.FaultLines.{fault_line};
 ghost use Rattle.mx_commands.specs.Ran.{MayTell, Helps, Scolds, TellsFault, seen};
@@ -16,16 +16,19 @@ use mx_words::Names;
 use std::alloc::Global;
 use std::fmt::Display;
 
-/// Writes the help that the words ask for, or why they are refused, and answers the status.
+/// Writes the help that the words of a command line ask for, or why they are refused, and answers the
+/// status.
 pub fn refuse<O: Output, E: Output>(alloc: Global, e: &clap::Error, out: &mut O, err: &mut E) -> u8
     ensures memory { kind_of e.now ≡ ErrorKind.OutOfMemory → (result ≡ 5)
         × Keeps (O.written out.old) (O.written out.new) × MayTell (E.written err.old) (E.written err.new)
         × (O.has_refused out.new ≡ O.has_refused out.old) }
-    ensures help { IsShown (kind_of e.now) → Helps (O.takes_all out.old)
+    ensures help { (line : App) (words : List Text) → HasKind (fault_of line words) e.now
+        → AskHelp line words → Helps (O.takes_all out.old)
         (seen (O.written out.old) (E.written err.old) (O.has_refused out.old) (O.keeps_back out.old))
         (seen (O.written out.new) (E.written err.new) (O.has_refused out.new) (O.keeps_back out.new))
         result }
-    ensures wrong { ¬ (IsShown (kind_of e.now)) → Scolds
+    ensures wrong { (line : App) (words : List Text) → HasKind (fault_of line words) e.now
+        → AreWrong line words → Scolds
         (seen (O.written out.old) (E.written err.old) (O.has_refused out.old) (O.keeps_back out.old))
         (seen (O.written out.new) (E.written err.new) (O.has_refused out.new) (O.keeps_back out.new))
         result }

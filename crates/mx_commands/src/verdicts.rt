@@ -41,7 +41,7 @@ impl fmt::Display for VerdictLine {
 }
 
 /// The status of a verdict.
-pub(crate) fn verdict_status(verdict: Verdict) -> u8
+pub fn verdict_status(verdict: Verdict) -> u8
     ensures { result ≡ verdict_status verdict }
 {
     match verdict {

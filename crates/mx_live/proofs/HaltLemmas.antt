@@ -1,5 +1,5 @@
 -- Why a live run has no journal.
-use Rattle.std.proofs.Common.{◌≡◌, ◌⊎◌, Bool, true, false, inl, inr, List, Option, Some, None, IfSome, Result, Ok, Err, IfErr, OnOk, length, refl, sym, subst}
+use Rattle.std.proofs.Common.{◌≡◌, Bool, false, inl, inr, List, Option, Some, None, IfSome, Result, Ok, Err, IfErr, OnOk, length, refl, sym, subst}
 use Rattle.std.proofs.lemmas.Bool.{false≢true}
 use Rattle.std.specs.Io.KnownBytes.{Appends, Keeps}
 use Rattle.mx_journal.specs.declared.receipts.Receipt.{Receipt}

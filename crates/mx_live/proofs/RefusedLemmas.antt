@@ -1,16 +1,14 @@
 -- Words of a live run that were refused.
-use Rattle.std.proofs.Common.{◌≡◌, ◌≢◌, ◌⊎◌, inl, inr, ℕ, Bool, List, Option, Some, None, IfSome, IsSome, refl, subst, sym}
+use Rattle.std.proofs.Common.{◌≡◌, ◌⊎◌, inl, inr, ℕ, Bool, List, Option, Some, None, IfSome, IsSome, refl, subst}
 use Rattle.std.specs.Io.KnownBytes.{Keeps}
 use Rattle.clap.specs.Words.{Text, kind_of}
 use Rattle.clap.specs.Faults.{fault_of}
 use Rattle.clap.specs.Kinds.{HasKind}
 use Rattle.clap.specs.declared.error.Error.{Error}
 use Rattle.clap.specs.declared.error.kind.ErrorKind.TheVariants.{OutOfMemory}
-use Rattle.mx_words.specs.Words.{IsShown}
-use Rattle.mx_words.specs.LiveWords.{AreWrongLive, AskLiveHelp, Order, live_line, order_asked}
+use Rattle.mx_words.specs.LiveWords.{Order, live_line, order_asked}
 use Rattle.mx_words.proofs.LiveWordLemmas.{no_order_among}
-use Rattle.mx_commands.specs.Outputs.{Held}
-use Rattle.mx_commands.specs.Ran.{Helps, MayTell, Scolds, Seen}
+use Rattle.mx_commands.specs.Ran.{MayTell, Seen}
 use Rattle.mx_commands.specs.Told.{Telling}
 use Rattle.mx_live.specs.Lives.{Lives}
 
@@ -27,15 +25,3 @@ module _ (t : Bool) (old new : Seen) (status : ℕ) (e : Error) (words : List Te
 
   pub order_refused : (told : Order → Option Telling) → IfSome (order_asked words) (λ order. Lives t (told order) order old.out new.out status)
   order_refused told = refused_order asks_nothing told (order_asked words) refl
-
-  pub helps : (IsShown (kind_of e) → Helps t old new status) → AskLiveHelp words → Helps t old new status
-  helps help asks = elim kinds [
-    | inl out ↦ let m = memory out in inr (inr (m.0, m.2, m.3))
-    | inr among ↦ help (asks.each (kind_of e) among)
-  ]
-
-  pub scolds : (¬ (IsShown (kind_of e)) → Scolds old new status) → AreWrongLive words → Scolds old new status
-  scolds wrong asks = elim kinds [
-    | inl out ↦ let m = memory out in (m.1, inr (m.0, m.2))
-    | inr among ↦ wrong (asks.each (kind_of e) among)
-  ]

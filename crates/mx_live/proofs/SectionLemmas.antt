@@ -1,5 +1,5 @@
 -- The sections of each node, among what was gathered.
-use Rattle.std.proofs.Common.{◌≡◌, ◌∙◌, ◌≤◌, ◌<◌, ◌+◌, ◌++◌, ◌==◌, ℕ, zero, suc, List, [], ◌∷◌, cond, inl, inr, length, refl, sym, ap, arith, subst}
+use Rattle.std.proofs.Common.{◌≡◌, ◌∙◌, ◌≤◌, ◌<◌, ◌+◌, ◌==◌, ℕ, zero, suc, List, [], ◌∷◌, cond, inl, inr, length, refl, sym, ap, arith, subst}
 use mathlib.Core.Option.{some, some-injective, some-ne-none}
 use lib.ListN.{get_elem?}
 use Rattle.std.specs.List.{count_by}
@@ -9,7 +9,7 @@ use Rattle.std.proofs.lemmas.List.Sorted.{sum_by-IsPermutation}
 use Rattle.mx_stamps.specs.Lists.{IsIn}
 use Rattle.mx_journal.specs.declared.receipts.Receipt.{Receipt}
 use Rattle.mx_journal.specs.Settled.{JournalState}
-use Rattle.mx_stations.specs.Gathered.{Has, IsGathered, IsWhole, OfOneTable, nodes_in, receipts_of}
+use Rattle.mx_stations.specs.Gathered.{IsGathered, IsWhole, OfOneTable, nodes_in, receipts_of}
 use Rattle.mx_stations.specs.Posts.{Post}
 use Rattle.mx_live.specs.Lives.{AreSerial, HaveSections}
 use Rattle.mx_live.specs.Stations.{Algorithm, AreAll, Home, sight}

@@ -2,11 +2,9 @@
 use Rattle.std.proofs.Common.{◌≡◌, ◌∙◌, ◌≤◌, ◌<◌, ℕ, zero, suc, length, get_or, refl, sym, subst, ap, ap₂, arith, List, [], ◌∷◌, Result, Ok, Err, IfOk}
 use Rattle.mx_stations.specs.declared.working.Worked.{Worked}
 use Rattle.mx_stations.specs.declared.working.Worked.TheVariants.{Done}
-use Rattle.std.proofs.lemmas.List.Elements.{All-weaker}
 use Rattle.std.specs.List.{All}
 use Rattle.std.specs.Prelude.{Vec}
 use Rattle.std.specs.declared.alloc.Global.{Global}
-use Rattle.atomic_table.specs.Seated.{TableId}
 use Rattle.atomic_table.proofs.Lists.{at_index}
 use Rattle.mx_stations.specs.Gathered.{KeepsTable}
 use Rattle.mx_stations.specs.Posts.{Post}

@@ -10,7 +10,6 @@ use Rattle.mx_journal.specs.Settled.{Covers, JournalState, settled, unsettled}
 use Rattle.mx_registers.specs.Based.{registers_in}
 use Rattle.mx_registers.specs.Registers.{AreApplied, writes_to}
 use Rattle.mx_member.specs.Serial.{IsSerialRead}
-use Rattle.mx_plan.specs.Text.{Text}
 use Rattle.mx_plan.specs.Fields.{Fields}
 use Rattle.mx_words.specs.LiveWords.{Order}
 use Rattle.mx_commands.specs.declared.faults.Stop.TheVariants as stop

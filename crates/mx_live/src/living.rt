@@ -2,8 +2,8 @@
 
 ghost use Rattle.std.specs.Prelude.{◌≡◌, ◌⊎◌, length, IfErr, IfSome, OnOk};
 ghost use Rattle.std.specs.Io.KnownBytes.{Appends};
-ghost use Rattle.mx_words.specs.Words.{texts_of};
-ghost use Rattle.mx_words.specs.LiveWords.{AreWrongLive, AskLiveHelp, order_asked, order_of};
+ghost use Rattle.mx_words.specs.Words.{texts_of, AreWrong, AskHelp};
+ghost use Rattle.mx_words.specs.LiveWords.{order_asked, order_of, live_line};
 ghost use Rattle.mx_commands.specs.Ran.{Helps, Scolds, seen};
 ghost use Rattle.mx_live.specs.Halts.{Fails, halt_status};
 ghost use Rattle.mx_live.specs.Lives.{Ends, Lives};
@@ -36,13 +36,13 @@ pub fn live<R: Threads + Clock, S: Source, O: Output, E: Output>(
     ensures lives { IfSome (order_asked (texts_of words.entry.now)) (λ order.
         Lives (O.takes_all out.old) (S.told source.old order.plan) order
         (O.written out.old) (O.written out.new) result) }
-    ensures help { AskLiveHelp (texts_of words.entry.now) → Helps (O.takes_all out.old)
+    ensures help { AskHelp live_line (texts_of words.entry.now) → Helps (O.takes_all out.old)
         (seen (O.written out.old) (E.written err.old)
         (O.has_refused out.old) (O.keeps_back out.old))
         (seen (O.written out.new) (E.written err.new)
         (O.has_refused out.new) (O.keeps_back out.new))
         result }
-    ensures wrong { AreWrongLive (texts_of words.entry.now) → Scolds
+    ensures wrong { AreWrong live_line (texts_of words.entry.now) → Scolds
         (seen (O.written out.old) (E.written err.old)
         (O.has_refused out.old) (O.keeps_back out.old))
         (seen (O.written out.new) (E.written err.new)

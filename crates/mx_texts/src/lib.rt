@@ -9,9 +9,9 @@ mod plan_lines;
 mod plans;
 mod standings;
 
-pub use events::EventLine;
+pub use events::{EventLine, EventText, OutcomeText};
 pub use letters::Letter;
-pub use nodes::add_nodes;
-pub use parcels::add_parcels;
+pub use nodes::{add_member_line, add_nodes};
+pub use parcels::{add_parcel, add_parcel_line, add_parcels};
 pub use plan_lines::ExploredLine;
 pub use plans::add_plan;

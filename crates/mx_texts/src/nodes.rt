@@ -55,7 +55,7 @@ fn add_member<C: Exclusion>(
 }
 
 /// Appends where a node stands, what it knows, and the values of the registers after it.
-fn add_member_line<C: Exclusion>(
+pub fn add_member_line<C: Exclusion>(
     plan: &Plan,
     node: NodeId,
     member: &Member<C>,

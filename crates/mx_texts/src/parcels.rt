@@ -112,7 +112,7 @@ where
 }
 
 /// Appends the line of a parcel.
-fn add_parcel_line<M: Letter>(
+pub fn add_parcel_line<M: Letter>(
     plan: &Plan,
     number: u64,
     from: NodeId,
@@ -136,7 +136,7 @@ fn add_parcel_line<M: Letter>(
 }
 
 /// Appends the text of a parcel.
-fn add_parcel<M: Letter>(
+pub fn add_parcel<M: Letter>(
     plan: &Plan,
     parcel: &Parcel<M>,
     text: &mut String,

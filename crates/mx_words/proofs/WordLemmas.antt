@@ -3,7 +3,7 @@ use Rattle.std.proofs.Common.{◌≡◌, ◌∙◌, ◌<◌, ◌^◌, ℕ, Bool,
 use Rattle.std.specs.Prelude.{option_and_then}
 use Rattle.std.specs.Str.Parse.{IsNumeral, ParsesUnsigned, digits_value, without_leading_plus}
 use Rattle.clap.specs.declared.parser.matches.ArgMatches.{ArgMatches}
-use Rattle.clap.specs.Words.{ReadsOne, Text, is_simple, one_text, subcommand_of, subcommand_rows_of}
+use Rattle.clap.specs.Words.{App, ReadsOne, Row, Text, is_simple, one_text, subcommand_of, subcommand_rows_of}
 use Rattle.clap.specs.ValueTests.{is_unsigned_in}
 use Rattle.clap.specs.declared.builder.value_parser.ValueParser.TheVariants.{Unsigned}
 use Rattle.clap.specs.Walk.{rows_of}
@@ -15,7 +15,7 @@ use Rattle.clap.proofs.WalkLemmas.{one_text-rows}
 use Rattle.clap.proofs.ValueTestLemmas.{Accepts-accepts, accepts-Accepts}
 use Rattle.clap.specs.Faults.{fault_of, is_simple_and_free}
 use Rattle.clap.proofs.OnLiterals.{clap_on_literals}
-use Rattle.mx_words.specs.Words.{mx_app, number_at, number_of, task_asked, task_in, where_none}
+use Rattle.mx_words.specs.Words.{asked_of, mx_app, number_at, number_of, task_asked, task_in, where_none}
 
 -- ---- numbers
 
@@ -54,24 +54,26 @@ pub mx_is_plain : is_simple mx_app ≡ true
 unfolding clap_on_literals mx_app
 mx_is_plain = refl
 
-task_read : (words : List Text) → fault_of mx_app words ≡ [] → task_asked words ≡ task_in (subcommand_of mx_app words)
-unfolding task_asked
-task_read words h = ap (λ kinds. where_none kinds (task_in (subcommand_of mx_app words))) h
+-- what the parse of a command line answers, of what is read there
+module _ {X : Type 0} (line : App) (read : Option (Text × List Row) → Option X) (words : List Text) where
+  read_of : fault_of line words ≡ [] → asked_of line read words ≡ read (subcommand_of line words)
+  read_of h = ap (λ kinds. where_none kinds (read (subcommand_of line words))) h
 
--- what a parse answers
-pub answered : (words : List Text) (r : Result ArgMatches Error) → FailsBy (fault_of mx_app words) r
-    → IfOk r (λ m. subcommand_rows_of m ≡ subcommand_of mx_app words)
-    → IfOk r (λ m. fault_of mx_app words ≡ []) × IfOk r (λ m. task_in (subcommand_rows_of m) ≡ task_asked words) × IfErr r (HasKind (fault_of mx_app words))
-answered words (Ok m) none rows = (none, ap task_in rows ∙ sym (task_read words none), tt)
-answered words (Err e) kinds rows = (tt, tt, kinds)
+  pub answered : (r : Result ArgMatches Error) → FailsBy (fault_of line words) r → IfOk r (λ m. subcommand_rows_of m ≡ subcommand_of line words)
+      → IfOk r (λ m. fault_of line words ≡ []) × IfOk r (λ m. read (subcommand_rows_of m) ≡ asked_of line read words) × IfErr r (HasKind (fault_of line words))
+  answered (Ok m) none rows = (none, ap read rows ∙ sym (read_of none), tt)
+  answered (Err e) kinds rows = (tt, tt, kinds)
 
 -- ---- what an error's kind says of the words
 
-pub none_among : {X : Type 0} (kinds : Kinds) (k : ErrorKind) (o : Option X) → IsAmong k kinds → IsSome (where_none kinds o) → ⊥
+none_among : {X : Type 0} (kinds : Kinds) (k : ErrorKind) (o : Option X) → IsAmong k kinds → IsSome (where_none kinds o) → ⊥
 none_among [] k o among s = absurd among
 none_among (x ∷ xs) k o among s = let bad : false ≡ true = s in cc
 
 -- words that ask for something are refused only where memory runs out
+pub none_asked : {X : Type 0} (line : App) (read : Option (Text × List Row) → Option X) (words : List Text) (k : ErrorKind) → IsAmong k (fault_of line words) → IsSome (asked_of line read words) → ⊥
+none_asked line read words k among s = none_among (fault_of line words) k (read (subcommand_of line words)) among s
+
 pub no_task_among : (words : List Text) (k : ErrorKind) → IsAmong k (fault_of mx_app words) → IsSome (task_asked words) → ⊥
 unfolding task_asked
-no_task_among words k among s = none_among (fault_of mx_app words) k (task_in (subcommand_of mx_app words)) among s
+no_task_among words k among s = none_asked mx_app task_in words k among s

@@ -1,14 +1,11 @@
 -- What the words of `live` ask for, as `clap` reads them.
-use Rattle.std.specs.Prelude.{◌≢◌, ℕ, List, [], Option, Some, None, true, codes, if◌then◌else◌, option_map, option_and_then, unwrap_or}
+use Rattle.std.specs.Prelude.{ℕ, List, Option, Some, None, true, codes, if◌then◌else◌, option_map, option_and_then, unwrap_or}
 use Rattle.std.specs.Str.{bytes_eq}
-use Rattle.clap.specs.Words.{App, Row, Rule, Text, first_of, new_app, new_rule, subcommand_of, with_rule, with_subcommand}
-use Rattle.clap.specs.Faults.{fault_of}
-use Rattle.clap.specs.Kinds.{IsAmong}
+use Rattle.clap.specs.Words.{App, Row, Rule, Text, first_of, new_app, new_rule, with_rule, with_subcommand}
 use Rattle.clap.specs.declared.builder.action.ArgAction.TheVariants.{SetTrue}
 use Rattle.clap.specs.declared.builder.value_parser.ValueParser.TheVariants.{Unsigned}
-use Rattle.clap.specs.declared.error.kind.ErrorKind.{ErrorKind}
 use Rattle.mx_words.specs.declared.live_words.LiveRun.{LiveRun}
-use Rattle.mx_words.specs.Words.{IsShown, mx_start, number_at, plan_rule, seed_rule, where_none}
+use Rattle.mx_words.specs.Words.{asked_of, mx_start, number_at, plan_rule, seed_rule}
 
 -- `--sections M`, a number to 1000000
 abbrev pub sections_rule : Rule
@@ -64,14 +61,4 @@ order_in (Some p) = if bytes_eq p.0 (codes "live") then live_in p.1 else None
 
 -- what the words ask for, where they are `live` with its arguments
 unfoldable pub order_asked : List Text → Option Order
-order_asked words = where_none (fault_of live_line words) (order_in (subcommand_of live_line words))
-
--- the words ask for help, or for the version
-pub record AskLiveHelp (words : List Text) : Type 0 where
-  pub some : fault_of live_line words ≢ []
-  pub each : (k : ErrorKind) → IsAmong k (fault_of live_line words) → IsShown k
-
--- the words are not those of `live`
-pub record AreWrongLive (words : List Text) : Type 0 where
-  pub some : fault_of live_line words ≢ []
-  pub each : (k : ErrorKind) → IsAmong k (fault_of live_line words) → ¬ (IsShown k)
+order_asked words = asked_of live_line order_in words

@@ -106,9 +106,13 @@ abbrev pub where_none : {X : Type 0} → Kinds → Option X → Option X
 where_none [] o = o
 where_none (k ∷ ks) o = None
 
+-- what the words ask of a command line, by the subcommand that they name, where nothing is wrong with them
+abbrev pub asked_of : {X : Type 0} → App → (Option (Text × List Row) → Option X) → List Text → Option X
+asked_of line read words = where_none (fault_of line words) (read (subcommand_of line words))
+
 -- what the words ask for, where they are a command
 unfoldable pub task_asked : List Text → Option Task
-task_asked words = where_none (fault_of mx_app words) (task_in (subcommand_of mx_app words))
+task_asked words = asked_of mx_app task_in words
 
 -- ---- words that are no command
 
@@ -116,12 +120,12 @@ task_asked words = where_none (fault_of mx_app words) (task_in (subcommand_of mx
 abbrev pub IsShown : ErrorKind → Type 0
 IsShown k = (k ≡ DisplayHelp) ⊎ (k ≡ DisplayVersion)
 
--- the words ask for help, or for the version
-pub record AskHelp (words : List Text) : Type 0 where
-  pub some : fault_of mx_app words ≢ []
-  pub each : (k : ErrorKind) → IsAmong k (fault_of mx_app words) → IsShown k
+-- the words ask a command line for help, or for the version
+pub record AskHelp (line : App) (words : List Text) : Type 0 where
+  pub some : fault_of line words ≢ []
+  pub each : (k : ErrorKind) → IsAmong k (fault_of line words) → IsShown k
 
--- the words are no command
-pub record AreWrong (words : List Text) : Type 0 where
-  pub some : fault_of mx_app words ≢ []
-  pub each : (k : ErrorKind) → IsAmong k (fault_of mx_app words) → ¬ (IsShown k)
+-- the words are not those of a command line
+pub record AreWrong (line : App) (words : List Text) : Type 0 where
+  pub some : fault_of line words ≢ []
+  pub each : (k : ErrorKind) → IsAmong k (fault_of line words) → ¬ (IsShown k)

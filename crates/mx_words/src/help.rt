@@ -18,19 +18,27 @@ pub(crate) const LIVE: &str =
     "Runs each node in a thread of its own, and prints what their gathered journal has";
 
 pub(crate) const MX_EXAMPLE: &str =
-    "Example: three nodes by the algorithm of Ricart and Agrawala, and the events of one section.
+    "More commands, each with a page of its own (`mx explain --help`):
+  explain  Tells what is wrong in a plan and its events, where it stands, and what was expected
+  draw     Prints events drawn from a seed, as a file that `replay` reads
+  script   Prints the events of a script, as a file that `replay` reads
+  picture  Prints a picture of what comes of events
+  count    Counts letters, refusals and waits
+  live     Runs each node in a thread of its own
+
+Example: three nodes by the algorithm of Ricart and Agrawala, and the events of one section.
 
   plan.json    {\"algorithm\":\"ricart\",\"nodes\":[\"a\",\"b\",\"c\"],\"registers\":[\"count\"],\"sections\":10}
   events.json  [[\"ask\",\"a\"],[\"deliver\",0],[\"deliver\",1],[\"deliver\",2],[\"deliver\",3],[\"enter\",\"a\"],[\"leave\",\"a\"]]
 
   mx check plan.json
   mx replay plan.json events.json
+  mx picture plan.json events.json > picture.svg
+  mx count plan.json events.json
   mx explore plan.json --seed 1 --steps 1000
   mx live plan.json --sections 3 --seed 1 --turns 10000000
 
 A name - is standard input. `mx COMMAND --help` tells what a command reads; docs/FORMATS.md has all formats.
-
-`mx live` runs the nodes in threads, and has a page of its own, `mx live --help`.
 
 Status: 0 all went well; 1 a plan, its events, a file or an output at fault; 2 no such command;
 3 a live run has spent its turns, or its gate is shut; 4 the verdict is that the trace is broken;
@@ -51,7 +59,8 @@ and Raymond's the edges of a tree and the node that has the privilege at the sta
   \"edges\":[[\"a\",\"b\"],[\"b\",\"c\"]],\"holder\":\"a\"
 
 After the line of the plan come, for Maekawa, lines `meet a b: c` of the arbiter that any two nodes
-share, and for Raymond lines `toward a: b` of each node's way to the holder. docs/FORMATS.md has all formats.";
+share, and for Raymond lines `toward a: b` of each node's way to the holder. Where something is wrong,
+`mx explain PLAN` says where it stands and what was expected. docs/FORMATS.md has all formats.";
 
 pub(crate) const REPLAY_EXAMPLE: &str =
     "Example: the events of one section, in a cluster of three nodes.
@@ -68,7 +77,14 @@ keeps what the sections up to that one left in the registers, in place of their 
 line tells what came of it, and for each parcel that it sent, from whom to whom it goes and what it says.
 Then a line for each node tells where it stands and what its journal has, and the last line is the verdict.
 A name - is standard input. Where both are -, its first line is the plan and the rest is the events.
-`mx check --help` tells what a plan is; docs/FORMATS.md has all formats.";
+Where something is wrong, `mx explain PLAN EVENTS` says where it stands and what was expected.
+`mx check --help` tells what a plan is; docs/FORMATS.md has all formats.
+
+With --quiet only the lines at the end are printed; with --node NAME only those of this node: its events,
+the parcels that it sends or that are sent to it, and its line at the end; with --json an object of JSON
+in place of each line. They may stand together:
+
+  mx replay plan.json events.json --node a --json";
 
 pub(crate) const EXPLORE_EXAMPLE: &str = "Example: a thousand steps drawn from the seed 1.
 
@@ -78,8 +94,8 @@ pub(crate) const EXPLORE_EXAMPLE: &str = "Example: a thousand steps drawn from t
 
 The events are asking, entering, reading, writing, leaving, cancelling, ticking, wanting, settling,
 restarting and the delivery of one of the newest 64 parcels. The first line counts the steps, how often a
-node entered, and the parcels that were sent; the last line is the verdict. `mx check --help` tells what a
-plan is; docs/FORMATS.md has all formats.";
+node entered, and the parcels that were sent; the last line is the verdict. With --count the counts of
+`mx count` stand between them. `mx check --help` tells what a plan is; docs/FORMATS.md has all formats.";
 
 pub(crate) const LIVE_EXAMPLE: &str =
     "Example: three nodes, each in a thread of its own, add 1 to a register in three sections each.

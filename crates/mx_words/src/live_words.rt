@@ -6,6 +6,7 @@ ghost use Rattle.mx_words.specs.Words.{HasNoGlobals, texts_of};
 ghost use Rattle.mx_words.specs.LiveWords.{live_app, live_in, live_line, order_asked, order_in, order_of, progress_rule, sections_rule, settle_in, settle_rule, turns_rule};
 
 use crate::help;
+use crate::line::command_line;
 use crate::words::{number_at, plan_arg, seed_arg, text_at};
 use clap::builder::ValueParser;
 use clap::{Arg, ArgAction, ArgMatches, Command, Error};
@@ -94,13 +95,7 @@ fn live_command<'a>(alloc: Global) -> Result<Command<'a>, AllocError>
 fn live_line<'a>(alloc: Global) -> Result<Command<'a>, AllocError>
     ensures { IfOk result (λ command. app_of command ≡ live_line) }
 {
-    let begun = Command::new(alloc, "mx")
-        .bin_name("mx")?
-        .version(help::VERSION)
-        .about(help::MX)
-        .no_binary_name(true)
-        .subcommand_required(true)
-        .disable_help_subcommand(true);
+    let begun = command_line(alloc)?;
     let live = live_command(alloc)?;
     let whole = begun.subcommand(live)?;
     Ok(whole)

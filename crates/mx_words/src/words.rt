@@ -6,6 +6,7 @@ ghost use Rattle.mx_words.specs.Words.{HasNoGlobals, check_app, events_rule, exp
 ghost use Rattle.mx_words.specs.Words.{check_in, explore_in, number_at, replay_in, task_asked, task_in, task_of, texts_of};
 
 use crate::help;
+use crate::line::command_line;
 use clap::builder::ValueParser;
 use clap::{Arg, ArgMatches, Command, Error};
 use std::alloc::{AllocError, Global};
@@ -37,7 +38,8 @@ pub enum Request<'a> {
     Explore(Exploration<'a>),
 }
 
-pub(crate) fn plan_arg<'a>(alloc: Global) -> Arg<'a>
+/// The argument of a plan's name.
+pub fn plan_arg<'a>(alloc: Global) -> Arg<'a>
     ensures rule { rule_of result ≡ plan_rule }
     ensures local { result.global ≡ false }
 {
@@ -46,7 +48,8 @@ pub(crate) fn plan_arg<'a>(alloc: Global) -> Arg<'a>
         .required(true)
 }
 
-fn events_arg<'a>(alloc: Global) -> Arg<'a>
+/// The argument of the name of a plan's events.
+pub fn events_arg<'a>(alloc: Global) -> Arg<'a>
     ensures rule { rule_of result ≡ events_rule }
     ensures local { result.global ≡ false }
 {
@@ -55,7 +58,8 @@ fn events_arg<'a>(alloc: Global) -> Arg<'a>
         .required(true)
 }
 
-pub(crate) fn seed_arg<'a>(alloc: Global) -> Arg<'a>
+/// The argument `--seed`.
+pub fn seed_arg<'a>(alloc: Global) -> Arg<'a>
     ensures rule { rule_of result ≡ seed_rule }
     ensures local { result.global ≡ false }
 {
@@ -66,7 +70,8 @@ pub(crate) fn seed_arg<'a>(alloc: Global) -> Arg<'a>
         .required(true)
 }
 
-fn steps_arg<'a>(alloc: Global) -> Arg<'a>
+/// The argument `--steps`.
+pub fn steps_arg<'a>(alloc: Global) -> Arg<'a>
     ensures rule { rule_of result ≡ steps_rule }
     ensures local { result.global ≡ false }
 {
@@ -88,7 +93,8 @@ fn check_command<'a>(alloc: Global) -> Result<Command<'a>, AllocError>
     Ok(whole)
 }
 
-fn replay_command<'a>(alloc: Global) -> Result<Command<'a>, AllocError>
+/// `replay PLAN EVENTS`.
+pub fn replay_command<'a>(alloc: Global) -> Result<Command<'a>, AllocError>
     ensures app { IfOk result (λ command. app_of command ≡ replay_app) }
     ensures local { IfOk result HasNoGlobals }
 {
@@ -100,7 +106,8 @@ fn replay_command<'a>(alloc: Global) -> Result<Command<'a>, AllocError>
     Ok(whole)
 }
 
-fn explore_command<'a>(alloc: Global) -> Result<Command<'a>, AllocError>
+/// `explore PLAN --seed S --steps K`.
+pub fn explore_command<'a>(alloc: Global) -> Result<Command<'a>, AllocError>
     ensures app { IfOk result (λ command. app_of command ≡ explore_app) }
     ensures local { IfOk result HasNoGlobals }
 {
@@ -117,14 +124,7 @@ fn explore_command<'a>(alloc: Global) -> Result<Command<'a>, AllocError>
 fn mx_command<'a>(alloc: Global) -> Result<Command<'a>, AllocError>
     ensures { IfOk result (λ command. app_of command ≡ mx_app) }
 {
-    let begun = Command::new(alloc, "mx")
-        .bin_name("mx")?
-        .version(help::VERSION)
-        .about(help::MX)
-        .after_help(help::MX_EXAMPLE)
-        .no_binary_name(true)
-        .subcommand_required(true)
-        .disable_help_subcommand(true);
+    let begun = command_line(alloc)?.after_help(help::MX_EXAMPLE);
     let check = check_command(alloc)?;
     let replay = replay_command(alloc)?;
     let explore = explore_command(alloc)?;
@@ -204,14 +204,14 @@ fn explore_in<'a>(matches: &ArgMatches<'a>) -> Option<Request<'a>>
 }
 
 /// The text that was given for an argument.
-pub(crate) fn text_at<'a>(matches: &ArgMatches<'a>, id: &str) -> Option<&'a str>
+pub fn text_at<'a>(matches: &ArgMatches<'a>, id: &str) -> Option<&'a str>
     ensures { option_map (λ s. s.now) result ≡ first_of id.now (rows_of (found_of matches.now)) }
 {
     matches.get_str(id)
 }
 
 /// The number that was given for an argument.
-pub(crate) fn number_at(matches: &ArgMatches<'_>, id: &str) -> Option<u64>
+pub fn number_at(matches: &ArgMatches<'_>, id: &str) -> Option<u64>
     ensures { result ≡ number_at id.now (rows_of (found_of matches.now)) }
 {
     matches.get_one::<u64>(id)

@@ -1,6 +1,6 @@
-use Rattle.mx_words.specs.Words.{texts_of}
+use Rattle.mx_words.specs.Words.{texts_of, mx_app}
 use Rattle.mx_commands.specs.Ran.{seen}
-use Rattle.mx_commands.proofs.CommandLemmas.{helps, scolds, status_refused, task_refused}
+use Rattle.mx_commands.proofs.CommandLemmas.{status_refused, task_refused}
 use Rattle.mx_commands.proofs.commanding.command.Goals as goal
 
 pub returns-in-Err-clause-runs : goal.returns-in-Err-clause-runs
@@ -18,15 +18,7 @@ returns-in-Err-clause-status g c =
     c.refuse.result c.in-Err.e (texts_of c.args.words.now) c.in-Err.ensures.err c.refuse.ensures.memory
 
 pub returns-in-Err-clause-help : goal.returns-in-Err-clause-help
-returns-in-Err-clause-help g c =
-    helps (g.O.Output.takes_all c.args.out.now) (g.E.Output.takes_all c.args.err.now)
-    (seen (g.O.Output.written c.args.out.now) (g.E.Output.written c.args.err.now) (g.O.Output.has_refused c.args.out.now) (g.O.Output.keeps_back c.args.out.now))
-    (seen (g.O.Output.written c.refuse.new.out) (g.E.Output.written c.refuse.new.err) (g.O.Output.has_refused c.refuse.new.out) (g.O.Output.keeps_back c.refuse.new.out))
-    c.refuse.result c.in-Err.e (texts_of c.args.words.now) c.in-Err.ensures.err c.refuse.ensures.memory c.refuse.ensures.help
+returns-in-Err-clause-help g c = c.refuse.ensures.help mx_app (texts_of c.args.words.now) c.in-Err.ensures.err
 
 pub returns-in-Err-clause-wrong : goal.returns-in-Err-clause-wrong
-returns-in-Err-clause-wrong g c =
-    scolds (g.O.Output.takes_all c.args.out.now) (g.E.Output.takes_all c.args.err.now)
-    (seen (g.O.Output.written c.args.out.now) (g.E.Output.written c.args.err.now) (g.O.Output.has_refused c.args.out.now) (g.O.Output.keeps_back c.args.out.now))
-    (seen (g.O.Output.written c.refuse.new.out) (g.E.Output.written c.refuse.new.err) (g.O.Output.has_refused c.refuse.new.out) (g.O.Output.keeps_back c.refuse.new.out))
-    c.refuse.result c.in-Err.e (texts_of c.args.words.now) c.in-Err.ensures.err c.refuse.ensures.memory c.refuse.ensures.wrong
+returns-in-Err-clause-wrong g c = c.refuse.ensures.wrong mx_app (texts_of c.args.words.now) c.in-Err.ensures.err

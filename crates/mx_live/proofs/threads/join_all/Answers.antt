@@ -1,4 +1,4 @@
-use Rattle.std.proofs.Common.{rules, arith, sym, subst}
+use Rattle.std.proofs.Common.{rules, sym, subst}
 use Rattle.mx_live.specs.Stations.{sight_of}
 use Rattle.mx_live.specs.Workers.{Promises}
 use Rattle.mx_live.proofs.WorkerLemmas.{left_as}

@@ -1,22 +1,13 @@
-use Rattle.std.proofs.Common.{ap, ap₂, true, ◌≡◌, ◌∙◌}
-use Rattle.clap.specs.Words.{App, app_of, with_subcommand}
+use Rattle.std.proofs.Common.{ap, ap₂, ◌∙◌}
+use Rattle.clap.specs.Words.{App, with_subcommand}
 use Rattle.clap.specs.Simple.{app_of_fields}
-use Rattle.clap.specs.declared.builder.command.Command.{Command}
-use Rattle.clap.specs.declared.builder.command.Command.TheOpen.{Command-F}
-use Rattle.mx_words.specs.Words.{mx_app, mx_start}
+use Rattle.mx_words.specs.Words.{mx_app}
 use Rattle.mx_words.proofs.words.mx_command.Goals as goal
 
 pub returns : goal.returns
 unfolding mx_app
 returns c =
-    let named = ap app_of_fields c.in_ok-bin_name.ensures.0 ∙ c.new.ensures.app in
-    let versioned = ap app_of_fields c.after_help.ensures ∙ ap app_of_fields c.about.ensures ∙ ap app_of_fields c.version.ensures
-    ∙ ap (λ (a : App). let b : App = record a { top = record a.top { has_version = true } } in b) named in
-    let start : app_of c.disable_help_subcommand-begun.result ≡ mx_start =
-    ap app_of_fields (c.disable_help_subcommand-begun.ensures
-    ∙ ap (λ (f : Command-F Command). let g : Command-F Command = record f { disable_help_subcommand = true } in g) (c.subcommand_required.ensures
-    ∙ ap (λ (f : Command-F Command). let g : Command-F Command = record f { subcommand_required = true } in g) c.no_binary_name.ensures))
-    ∙ ap (λ (a : App). let b : App = record a { top = record a.top { no_binary_name = true; subcommand_required = true; disable_help_subcommand = true } } in b) versioned in
+    let start = ap app_of_fields c.after_help-begun.ensures ∙ c.in_ok-command_line.ensures in
     let checked = c.in_ok-with_check.ensures.shape c.in_ok-check.ensures.local ∙ ap₂ with_subcommand start (ap (λ (a : App). a.top) c.in_ok-check.ensures.app) in
     let replayed = c.in_ok-with_replay.ensures.shape c.in_ok-replay.ensures.local ∙ ap₂ with_subcommand checked (ap (λ (a : App). a.top) c.in_ok-replay.ensures.app) in
     c.in_ok-whole.ensures.shape c.in_ok-explore.ensures.local ∙ ap₂ with_subcommand replayed (ap (λ (a : App). a.top) c.in_ok-explore.ensures.app)
