@@ -1,0 +1,151 @@
+-- How an explanation ends, from how the check or the replay ends.
+use Rattle.std.proofs.Common.{◌≡◌, ◌∙◌, ◌⊎◌, ℕ, Bool, true, false, List, [], Option, Some, None, Result, Ok, Err, ap, subst, sym, refl, inl, inr, IsSome}
+use Rattle.std.specs.Prelude.{◌&&◌, IfSome, IfOk}
+use Rattle.std.specs.Io.KnownBytes.{Appends, Keeps}
+use Rattle.clap.specs.Words.{kind_of}
+use Rattle.clap.specs.Faults.{fault_of}
+use Rattle.clap.specs.Kinds.{HasKind}
+use Rattle.clap.specs.declared.error.Error.{Error}
+use Rattle.clap.specs.declared.error.kind.ErrorKind.TheVariants.{OutOfMemory}
+use Rattle.mx_words.specs.Words.{Task}
+use Rattle.mx_plan.specs.Text.{Text}
+use Rattle.mx_commands.specs.declared.faults.Fault.{Fault}
+use Rattle.mx_commands.specs.declared.faults.Stop.{Stop}
+use Rattle.mx_commands.specs.declared.faults.Stop.TheVariants as stop
+use Rattle.mx_commands.specs.Told.{Telling}
+use Rattle.mx_commands.specs.declared.output.PutFault.{PutFault}
+use Rattle.mx_commands.specs.declared.output.PutFault.TheVariants as put_fault
+use Rattle.mx_commands.specs.Outputs.{Held, stop_of}
+use Rattle.mx_commands.specs.Runs.{Report}
+use Rattle.mx_commands.specs.Jobs.{HoldsOfReport, Job, job_of, names_in}
+use Rattle.mx_commands.specs.Ran.{EndsEarly, IsRunStatus, MayTell, Ran, RanOf, Seen, end_text, status_of}
+use Rattle.mx_commands.specs.Closed.{Closes, FallsShort}
+use Rattle.mx_commands.proofs.JobLemmas.{of_jobs}
+use Rattle.mx_commands.proofs.RunLemmas.{Appends-keeps, Appends-nil}
+use Rattle.mx_explain.specs.Asked.{explain_line, task_asked}
+use Rattle.mx_explain.specs.Explained.{EndsAs, Explains, FailsToPrint}
+use Rattle.mx_explain.proofs.AskedLemmas.{no_task_among}
+
+-- ---- a run of which nobody reads what it prints
+
+true_is_false : {P : Type 0} → true ≡ false → P
+true_is_false h = absurd (let bad : true ≡ false = h in cc)
+
+early_for : (t : Bool) (res : Result ℕ Stop) → EndsEarly true res → EndsEarly t res
+early_for t (Ok v) h = h
+early_for t (Err (stop.Fault f)) h = h
+early_for t (Err stop.Writer) h = true_is_false h
+early_for t (Err stop.Memory) h = h
+
+ran_for : (t : Bool) (r : Report) (res : Result ℕ Stop) → Ran true None None r res → Ran t None None r res
+ran_for t r (Ok v) h = h
+ran_for t r (Err (stop.Fault f)) h = h
+ran_for t r (Err stop.Writer) h = true_is_false h.0
+ran_for t r (Err stop.Memory) h = h
+
+-- what holds of an output that takes all holds of any
+pub ran_of_for : (t : Bool) (told : Text → Option Telling) (task : Task) (res : Result ℕ Stop) → RanOf true None None told task res → RanOf t None None told task res
+ran_of_for t told task res h =
+    of_jobs (job_of told task) (EndsEarly true res × Keeps None None) (EndsEarly t res × Keeps None None) (λ r. Ran true None None r res) (λ r. Ran t None None r res)
+    (λ x. (early_for t res x.0, x.1)) (λ r. ran_for t r res) h
+
+early_of : (t : Bool) (s : Stop) → FailsToPrint t s → EndsEarly t (Err s)
+early_of t (stop.Fault f) (inl h) = absurd (let bad : ◌≡◌ {A = Stop} (stop.Fault f) stop.Memory = h in cc)
+early_of t (stop.Fault f) (inr h) = absurd (let bad : ◌≡◌ {A = Stop} (stop.Fault f) stop.Writer = h.0 in cc)
+early_of t stop.Writer (inl h) = absurd (let bad : ◌≡◌ {A = Stop} stop.Writer stop.Memory = h in cc)
+early_of t stop.Writer (inr h) = h.1
+early_of t stop.Memory h = tt
+
+some_early : (o : Option Job) (X : Type 0) (P : Report → Type 0) → X → IfSome o (λ job. X ⊎ HoldsOfReport job P)
+some_early None X P x = tt
+some_early (Some job) X P x = inl x
+
+-- an explanation that is not printed
+pub ran_unprinted : (t : Bool) (told : Text → Option Telling) (task : Task) (s : Stop) → FailsToPrint t s → RanOf t None None told task (Err s)
+ran_unprinted t told task s h = some_early (job_of told task) (EndsEarly t (Err s) × Keeps None None) (λ r. Ran t None None r (Err s)) (early_of t s h, tt)
+
+-- ---- how it is closed
+
+and_left : (t u : Bool) → t ≡ false → (t && u) ≡ false
+and_left t u e = ap (λ x. x && u) e
+
+module _ (t u : Bool) (told : Text → Option Telling) (task : Task) (old new : Held) (status : ℕ) where
+  closed_early : (res : Result ℕ Stop) → EndsEarly t res → Closes (t && u) (names_in task) res old new status → FallsShort (t && u) old new status
+  closed_early (Ok v) early h = absurd early
+  closed_early (Err (stop.Fault f)) early h = absurd early
+  closed_early (Err stop.Writer) early h = inr (h.0, and_left t u early, h.1)
+  closed_early (Err stop.Memory) early h = h
+
+  closed_whole : (r : Report) (v : ℕ) → v ≡ 0 → r.end ≡ None → (status ≡ v) × Keeps old new → EndsAs (names_in task) r old new status
+  closed_whole r v zero end h = record {
+    status_is = h.0 ∙ zero ∙ ap status_of (sym end);
+    fault = subst (λ (e : Option Fault). Appends old new (end_text (names_in task) e)) (sym end) (Appends-keeps old old new [] (Appends-nil old) h.1);
+  }
+
+  closed_ran : (r : Report) (res : Result ℕ Stop) → IfOk res (λ v. v ≡ 0) → Closes (t && u) (names_in task) res old new status → Ran t None None r res
+      → FallsShort (t && u) old new status ⊎ EndsAs (names_in task) r old new status
+  closed_ran r (Ok v) zero (inl h) ran = inr (closed_whole r v zero ran.0 h)
+  closed_ran r (Ok v) zero (inr h) ran = inl h
+  closed_ran r (Err (stop.Fault f)) zero (inl h) ran = inr (record {
+    status_is = h.0 ∙ ap status_of (sym ran.0);
+    fault = subst (λ (e : Option Fault). Appends old new (end_text (names_in task) e)) (sym ran.0) h.1;
+  })
+  closed_ran r (Err (stop.Fault f)) zero (inr h) ran = inl h
+  closed_ran r (Err stop.Writer) zero h ran = inl (inr (h.0, and_left t u ran.0, h.1))
+  closed_ran r (Err stop.Memory) zero h ran = inl h
+
+  -- an explanation, from how the run ended and how that was closed
+  pub explained : (res : Result ℕ Stop) → IfOk res (λ v. v ≡ 0) → Closes (t && u) (names_in task) res old new status → RanOf t None None told task res
+      → Explains (t && u) told task old new status
+  explained res zero closes h =
+      of_jobs (job_of told task) (EndsEarly t res × Keeps None None) (FallsShort (t && u) old new status) (λ r. Ran t None None r res)
+      (λ r. FallsShort (t && u) old new status ⊎ EndsAs (names_in task) r old new status)
+      (λ x. closed_early res x.0 closes) (λ r. closed_ran r res zero closes) h
+
+short_status : (t : Bool) (old new : Held) (status : ℕ) → FallsShort t old new status → IsRunStatus status
+short_status t old new status (inl h) = inr (inr h.0)
+short_status t old new status (inr h) = inr (inl h.0)
+
+pub closed_status : (t : Bool) (names : Text × Text) (old new : Held) (status : ℕ) (res : Result ℕ Stop) → IfOk res (λ v. v ≡ 0) → Closes t names res old new status → IsRunStatus status
+closed_status t names old new status (Ok v) zero (inl h) = inl (h.0 ∙ zero)
+closed_status t names old new status (Ok v) zero (inr h) = short_status t old new status h
+closed_status t names old new status (Err (stop.Fault f)) zero (inl h) = inr (inl h.0)
+closed_status t names old new status (Err (stop.Fault f)) zero (inr h) = short_status t old new status h
+closed_status t names old new status (Err stop.Writer) zero h = inr (inl h.0)
+closed_status t names old new status (Err stop.Memory) zero h = short_status t old new status h
+
+-- ---- words that were refused
+
+module _ (t u : Bool) (old new : Seen) (status : ℕ) (e : Error) (words : List Text) (kinds : HasKind (fault_of explain_line words) e)
+    (memory : kind_of e ≡ OutOfMemory → (status ≡ 5) × Keeps old.out new.out × MayTell old.err new.err × (new.refused ≡ old.refused)) where
+  short : kind_of e ≡ OutOfMemory → FallsShort (t && u) old.err new.err status
+  short out = let m = memory out in inl (m.0, m.2)
+
+  refused_task : (h : (kind_of e ≡ OutOfMemory) ⊎ (IsSome (task_asked words) → ⊥)) (told : Text → Option Telling) (w : Option Task) → w ≡ task_asked words
+      → IfSome w (λ task. Explains (t && u) told task old.err new.err status)
+  refused_task h told None is = tt
+  refused_task (inl out) told (Some task) is = some_early (job_of told task) (FallsShort (t && u) old.err new.err status)
+      (λ r. FallsShort (t && u) old.err new.err status ⊎ EndsAs (names_in task) r old.err new.err status) (short out)
+  refused_task (inr none) told (Some task) is = absurd (none (subst IsSome is refl))
+
+  asks_nothing : (kind_of e ≡ OutOfMemory) ⊎ (IsSome (task_asked words) → ⊥)
+  asks_nothing = elim kinds [ inl out ↦ inl out | inr among ↦ inr (no_task_among words (kind_of e) among) ]
+
+  pub task_refused : (told : Text → Option Telling) → IfSome (task_asked words) (λ task. Explains (t && u) told task old.err new.err status)
+  task_refused told = refused_task asks_nothing told (task_asked words) refl
+
+  pub status_refused : IsSome (task_asked words) → IsRunStatus status
+  status_refused asks = elim asks_nothing [ inl out ↦ inr (inr (memory out).0) | inr none ↦ absurd (none asks) ]
+
+-- ---- an explanation that is not printed
+
+is_untrue : (b : Bool) → (b ≡ true → ⊥) → b ≡ false
+is_untrue true h = absurd (h refl)
+is_untrue false h = refl
+
+pub put_fails : (t : Bool) (f : PutFault) → (t ≡ true → f ≡ put_fault.Memory) → FailsToPrint t (stop_of f)
+put_fails t put_fault.Refused takes = inr (refl, is_untrue t (λ e. let bad : ◌≡◌ {A = PutFault} put_fault.Refused put_fault.Memory = takes e in cc))
+put_fails t put_fault.Memory takes = inl refl
+
+pub runs_out : (t : Bool) → FailsToPrint t stop.Memory
+runs_out t = inl refl

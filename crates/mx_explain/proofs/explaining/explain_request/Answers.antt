@@ -1,0 +1,23 @@
+use Rattle.std.proofs.Common.{subst, Bool}
+use Rattle.mx_words.specs.Words.{task_of}
+use Rattle.mx_plan.specs.Text.{Text}
+use Rattle.mx_commands.specs.Closed.{Closes}
+use Rattle.mx_commands.specs.Jobs.{names_in}
+use Rattle.std.specs.Prelude.{◌&&◌}
+use Rattle.mx_explain.proofs.ExplainLemmas.{closed_status, explained}
+use Rattle.mx_explain.proofs.explaining.explain_request.Goals as goal
+
+pub returns-clause-explains : goal.returns-clause-explains
+returns-clause-explains g c =
+    let t = g.O.Output.takes_all c.args.out.now in
+    let u = g.E.Output.takes_all c.args.err.now in
+    let old = g.E.Output.written c.args.err.now in
+    let new = g.E.Output.written c.close.new.err in
+    let res = c.carry_out_and_explain-ended.result in
+    let named = subst (λ (names : Text × Text). Closes (g.O.Output.takes_all c.carry_out_and_explain-ended.new.out && u) names res old new c.close.result) c.names_in.ensures c.close.ensures.closes in
+    let closes = subst (λ (b : Bool). Closes (b && u) (names_in (task_of c.args.request.now)) res old new c.close.result) c.carry_out_and_explain-ended.ensures.stays named in
+    explained t u (g.S.Source.told c.args.source.now) (task_of c.args.request.now) old new c.close.result res
+    c.carry_out_and_explain-ended.ensures.zero closes c.carry_out_and_explain-ended.ensures.ran
+
+pub returns-clause-status : goal.returns-clause-status
+returns-clause-status g c = closed_status _ _ _ _ c.close.result c.carry_out_and_explain-ended.result c.carry_out_and_explain-ended.ensures.zero c.close.ensures.closes

@@ -1,0 +1,34 @@
+-- What the words of `explain` ask for, as `clap` reads them: a check or a replay that is to be explained.
+use Rattle.std.specs.Prelude.{List, Option, Some, None, codes, if◌then◌else◌, option_map}
+use Rattle.std.specs.Str.{bytes_eq}
+use Rattle.clap.specs.Words.{App, Row, Rule, Text, first_of, new_app, new_rule, with_rule, with_subcommand}
+use Rattle.mx_words.specs.Words.{Task, check, replay, plan_rule, mx_start, asked_of}
+
+-- `[EVENTS]`
+abbrev pub events_rule : Rule
+events_rule = new_rule (codes "EVENTS")
+
+-- `explain PLAN [EVENTS]`
+abbrev pub explain_app : App
+explain_app = with_rule (with_rule (new_app (codes "explain")) plan_rule) events_rule
+
+-- the whole command line
+unfoldable pub explain_line : App
+explain_line = with_subcommand mx_start explain_app.top
+
+-- a replay where events are named, else a check
+abbrev pub task_on : Text → Option Text → Task
+task_on plan None = check plan
+task_on plan (Some events) = replay (plan, events)
+
+-- what was given for the arguments
+abbrev pub explain_in : List Row → Option Task
+explain_in rows = option_map (λ plan. task_on plan (first_of (codes "EVENTS") rows)) (first_of (codes "PLAN") rows)
+
+abbrev pub task_in : Option (Text × List Row) → Option Task
+task_in None = None
+task_in (Some p) = if bytes_eq p.0 (codes "explain") then explain_in p.1 else None
+
+-- what the words ask for, where they are `explain` with its arguments
+unfoldable pub task_asked : List Text → Option Task
+task_asked words = asked_of explain_line task_in words

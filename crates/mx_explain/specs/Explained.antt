@@ -1,0 +1,27 @@
+-- With which status an explanation ends, and what standard error gets: those of the check or of the replay.
+use Rattle.std.specs.Prelude.{◌≡◌, ◌⊎◌, ℕ, Bool, false, Option, IfSome}
+use Rattle.std.specs.Io.KnownBytes.{Appends}
+use Rattle.mx_words.specs.Words.{Task}
+use Rattle.mx_plan.specs.Text.{Text}
+use Rattle.mx_commands.specs.declared.faults.Stop.{Stop}
+use Rattle.mx_commands.specs.declared.faults.Stop.TheVariants.{Memory, Writer}
+use Rattle.mx_commands.specs.Told.{Telling}
+use Rattle.mx_commands.specs.Outputs.{Held}
+use Rattle.mx_commands.specs.Runs.{Report}
+use Rattle.mx_commands.specs.Jobs.{HoldsOfReport, job_of, names_in}
+use Rattle.mx_commands.specs.Ran.{end_text, status_of}
+use Rattle.mx_commands.specs.Closed.{FallsShort}
+
+-- the status of this report, and the line of its fault
+pub record EndsAs (names : Text × Text) (r : Report) (old new : Held) (status : ℕ) : Type 0 where
+  pub status_is : status ≡ status_of r.end
+  pub fault : Appends old new (end_text names r.end)
+
+-- an explanation of this task, over what a source tells: it ends as the task's report, or falls short
+abbrev pub Explains : Bool → (Text → Option Telling) → Task → Held → Held → ℕ → Type 0
+Explains takes_all told task old new status = IfSome (job_of told task) (λ job. FallsShort takes_all old new status
+    ⊎ HoldsOfReport job (λ r. FallsShort takes_all old new status ⊎ EndsAs (names_in task) r old new status))
+
+-- why an explanation is not printed: memory ran out, or the output refused, which one that takes all bytes never does
+abbrev pub FailsToPrint : Bool → Stop → Type 0
+FailsToPrint takes_all end = (end ≡ Memory) ⊎ ((end ≡ Writer) × (takes_all ≡ false))

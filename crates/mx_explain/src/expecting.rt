@@ -1,0 +1,102 @@
+//! What is expected at a place.
+
+ghost use Rattle.std.specs.Prelude.{IfOk, IfSome};
+ghost use Rattle.std.specs.List.{Contains};
+
+use crate::lines::{Expected, Path, Unread};
+use crate::nearest::nearest;
+use crate::page::Page;
+use crate::values::{is_among, text_in};
+use serde_json::Value;
+use std::alloc::AllocError;
+
+/// Says that something else is expected at a place.
+pub(crate) fn expect<'a>(
+    page: &mut Page<'_>,
+    path: Path<'a>,
+    found: Option<&'a Value>,
+    expected: &'a str,
+) -> Result<(), AllocError> {
+    page.say(Expected {
+        path,
+        found,
+        expected,
+        nearest: None,
+    })
+}
+
+/// Says that one of these words is expected at a place, where another stands there. Where there are
+/// none, as in a plan that lists no nodes, that is told elsewhere.
+pub(crate) fn expect_word<'a, 'w>(
+    page: &mut Page<'_>,
+    path: Path<'a>,
+    found: Option<&'a Value>,
+    words: &[&'w str],
+    expected: &'a str,
+) -> Result<(), AllocError> {
+    let word = text_in(found);
+    if words.is_empty() || is_among(word, words) {
+        return Ok(());
+    }
+    let nearest = meant(page, word, words)?;
+    page.say(Expected {
+        path,
+        found,
+        expected,
+        nearest,
+    })
+}
+
+/// The word of these that was meant, which nobody asks for where lines are only counted.
+fn meant<'a>(page: &Page<'_>, word: &str, words: &[&'a str]) -> Result<Option<&'a str>, AllocError>
+    ensures { IfOk result (λ found. IfSome found (Contains words.now)) }
+{
+    if page.is_full() {
+        return Ok(None);
+    }
+    nearest(page.alloc, word, words)
+}
+
+/// Says that a number in this range is expected at a place, where none stands there.
+pub(crate) fn expect_number<'a>(
+    page: &mut Page<'_>,
+    path: Path<'a>,
+    found: Option<&'a Value>,
+    least: u64,
+    most: u64,
+    expected: &'a str,
+) -> Result<(), AllocError> {
+    match number_in(found) {
+        Some(n) if least <= n && n <= most => Ok(()),
+        _ => expect(page, path, found, expected),
+    }
+}
+
+/// The whole number that a value is.
+pub(crate) fn number_in(value: Option<&Value>) -> Option<u64> {
+    value?.as_u64()
+}
+
+/// Warns of the members of an object, which is the plan or "of" a member of it, that are none of those
+/// that are read.
+pub(crate) fn warn_of_unread<'a>(
+    page: &mut Page<'_>,
+    of: &'static str,
+    object: &'a Value,
+    read: &[&'a str],
+) -> Result<(), AllocError> {
+    let Some(members) = object.as_object() else {
+        return Ok(());
+    };
+    for (key, _) in members.iter() {
+        if !is_among(key.as_str(), read) {
+            let nearest = meant(page, key.as_str(), read)?;
+            page.say(Unread {
+                key: key.as_str(),
+                of,
+                nearest,
+            })?;
+        }
+    }
+    Ok(())
+}

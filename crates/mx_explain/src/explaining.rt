@@ -1,0 +1,148 @@
+//! `explain`: from words, named bytes and two outputs to a status.
+
+ghost use Rattle.std.specs.Prelude.{◌≡◌, ◌&&◌, IsSome, IfSome, IfOk, IfErr, None, true, false};
+ghost use Rattle.mx_words.specs.Words.{AreWrong, AskHelp, task_of, texts_of};
+ghost use Rattle.mx_commands.specs.Ran.{Helps, IsRunStatus, RanOf, Scolds, seen};
+ghost use Rattle.mx_explain.specs.Asked.{explain_line, task_asked};
+ghost use Rattle.mx_explain.specs.Explained.{Explains, FailsToPrint};
+
+use crate::asking::asked_explain;
+use crate::files::explain_files;
+use crate::page::Page;
+use crate::reasons::Reasons;
+use mx_commands::{Fault, Output, PutFault, Source, Stop, carry_out, close, names_in, refuse};
+use mx_words::Request;
+use std::alloc::{AllocError, Global};
+
+/// An output that takes all, and keeps nothing.
+#[derive(Drop)]
+struct Nowhere;
+
+impl Output for Nowhere {
+    ghost takes_all = { λ _. true };
+
+    ghost has_refused = { λ _. false };
+
+    fn put(&mut self, _text: &[u8]) -> Result<(), PutFault> {
+        Ok(())
+    }
+
+    fn flush(&mut self) -> Result<(), PutFault> {
+        Ok(())
+    }
+}
+
+/// Runs the words of a command line of which `explain` is the first, without the program's name, and
+/// answers the status: that of the check or of the replay that is explained, 0, 1 or 5; 0 where help
+/// was asked for, 1 where an output refused, 2 where the words are not those of `explain`.
+pub fn explain<S: Source + Reasons, O: Output, E: Output>(
+    alloc: Global,
+    words: &[&str],
+    source: &mut S,
+    out: &mut O,
+    err: &mut E,
+) -> u8
+    ensures explains { IfSome (task_asked (texts_of words.entry.now)) (λ task.
+        Explains (O.takes_all out.old && E.takes_all err.old) (S.told source.old) task
+        (E.written err.old) (E.written err.new) result) }
+    ensures status { IsSome (task_asked (texts_of words.entry.now)) → IsRunStatus result }
+    ensures help { AskHelp explain_line (texts_of words.entry.now) → Helps (O.takes_all out.old)
+        (seen (O.written out.old) (E.written err.old)
+        (O.has_refused out.old) (O.keeps_back out.old))
+        (seen (O.written out.new) (E.written err.new)
+        (O.has_refused out.new) (O.keeps_back out.new))
+        result }
+    ensures wrong { AreWrong explain_line (texts_of words.entry.now) → Scolds
+        (seen (O.written out.old) (E.written err.old)
+        (O.has_refused out.old) (O.keeps_back out.old))
+        (seen (O.written out.new) (E.written err.new)
+        (O.has_refused out.new) (O.keeps_back out.new))
+        result }
+{
+    match asked_explain(alloc, words) {
+        Ok(Some(request)) => explain_request(alloc, &request, source, out, err),
+        Ok(None) => 2,
+        Err(e) => refuse(alloc, &e, out, err),
+    }
+}
+
+fn explain_request<S: Source + Reasons, O: Output, E: Output>(
+    alloc: Global,
+    request: &Request<'_>,
+    source: &mut S,
+    out: &mut O,
+    err: &mut E,
+) -> u8
+    ensures explains { Explains (O.takes_all out.old && E.takes_all err.old) (S.told source.old)
+        (task_of request.now) (E.written err.old) (E.written err.new) result }
+    ensures status { IsRunStatus result }
+{
+    let ended = carry_out_and_explain(alloc, request, source, out);
+    close(alloc, ended, &names_in(request), out, err)
+}
+
+/// Carries out what is to be explained, while nobody reads what it prints, and prints what is wrong.
+/// Answers how it ended.
+fn carry_out_and_explain<S: Source + Reasons, O: Output>(
+    alloc: Global,
+    request: &Request<'_>,
+    source: &mut S,
+    out: &mut O,
+) -> Result<u8, Stop>
+    ensures ran { RanOf (O.takes_all out.old) None None (S.told source.old) (task_of request.now)
+        result }
+    ensures zero { IfOk result (λ status. status ≡ 0) }
+    ensures stays { O.takes_all out.new ≡ O.takes_all out.old }
+{
+    let mut nowhere = Nowhere;
+    let ended = carry_out(alloc, request, source, &mut nowhere);
+    print_end(alloc, request, &ended, source, out)?;
+    ended
+}
+
+/// Prints what is wrong in files that were read with this end. Where memory ran out that is nothing.
+fn print_end<S: Source + Reasons, O: Output>(
+    alloc: Global,
+    request: &Request<'_>,
+    ended: &Result<u8, Stop>,
+    source: &mut S,
+    out: &mut O,
+) -> Result<(), Stop>
+    ensures fails { IfErr result (FailsToPrint (O.takes_all out.old)) }
+    ensures stays { O.takes_all out.new ≡ O.takes_all out.old }
+{
+    match ended {
+        Ok(_) => print_explanation(alloc, request, None, source, out),
+        Err(Stop::Fault(fault)) => print_explanation(alloc, request, Some(*fault), source, out),
+        Err(_) => Ok(()),
+    }
+}
+
+/// Prints what is wrong in files that are read with this fault, or that nothing is.
+fn print_explanation<S: Source + Reasons, O: Output>(
+    alloc: Global,
+    request: &Request<'_>,
+    fault: Option<Fault>,
+    source: &mut S,
+    out: &mut O,
+) -> Result<(), Stop>
+    ensures fails { IfErr result (FailsToPrint (O.takes_all out.old)) }
+    ensures stays { O.takes_all out.new ≡ O.takes_all out.old }
+{
+    let page = page_of(alloc, request, fault, source)?;
+    out.put(page.text().as_bytes())?;
+    Ok(())
+}
+
+/// What is wrong in files that are read with this fault.
+fn page_of<'a, S: Source + Reasons>(
+    alloc: Global,
+    request: &Request<'a>,
+    fault: Option<Fault>,
+    source: &mut S,
+) -> Result<Page<'a>, AllocError> {
+    let mut page = Page::new(alloc, names_in(request).plan);
+    explain_files(&mut page, request, fault, source)?;
+    page.end(fault.is_none())?;
+    Ok(page)
+}

@@ -1,0 +1,24 @@
+//! The texts of help.
+
+pub(crate) const ABOUT: &str =
+    "Tells what is wrong in a plan and its events, where it stands, and what was expected";
+
+pub(crate) const EXAMPLE: &str =
+    "Example: a plan with a letter too few, and an event of a node that isn't there.
+
+  plan.json    {\"algorithm\":\"ricart\",\"nodes\":[\"a\",\"b1\",\"b2\"],\"registers\":[\"count\"],\"sections\":10,\"orgin\":7}
+  events.json  [[\"ask\",\"a\"],[\"deliver\",0],[\"entr\",\"a\"],[\"leave\",\"b\"]]
+
+  mx explain plan.json events.json
+
+prints
+
+  plan.json: warning: \"orgin\" is a member that nobody reads; the nearest is \"origin\"
+  events.json: events[2][0]: \"entr\" stands here, expected ask, enter, read, write, leave, cancel, settle, tick, want, deliver or restart; the nearest is \"enter\"
+  events.json: events[3][1]: \"b\" stands here, expected a node of the plan; the nearest is \"b1\"
+
+Without EVENTS the plan alone is looked at. A line names the file, and then the line and the column where the
+text is not JSON, else the place in it, counted from 0. Warnings are of what does no harm: members that nobody
+reads, that stand twice, or that are for another algorithm. Of each file the first 20 lines are shown. Standard
+error gets the line of the fault that `mx check PLAN` names, or `mx replay PLAN EVENTS`, and the status is theirs
+too. A name - is standard input; where both are -, its first line is the plan and the rest is the events.";
