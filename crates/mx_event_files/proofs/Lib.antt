@@ -1,0 +1,7 @@
+pub mod FileLemmas
+pub mod PlayedLemmas
+pub mod ItemLemmas
+pub mod ReadLemmas
+pub mod DrawnLemmas
+pub mod WordLemmas
+pub mod ErrandLemmas

@@ -1,0 +1,240 @@
+//! `draw` and `script`: from words, named bytes and two outputs to a status.
+
+ghost use Rattle.std.specs.Prelude.{◌≡◌, ◌⊎◌, false, IsSome, IfSome, IfOk, Some};
+ghost use Rattle.mx_words.specs.Words.{names_of, texts_of, AreWrong, AskHelp};
+ghost use Rattle.mx_commands.specs.Ran.{Helps, IsRunStatus, RanOn, Scolds, seen};
+ghost use Rattle.mx_plan.specs.Fields.{Fields};
+ghost use Rattle.mx_event_files.specs.Errands.{Draws, DrawsPlan, HasDone, IsPlanOf, draw_job, files_of};
+ghost use Rattle.mx_event_files.specs.Words as task;
+ghost use Rattle.mx_event_files.specs.Words.{errand_asked, errand_of, file_line};
+
+use crate::drawing::draw_schedule;
+use crate::halts::Halt;
+use crate::line_faults::{LineFault, ScriptLine};
+use crate::scripting::script_file;
+use crate::texts::text_in;
+use crate::walking::walk_file;
+use crate::words::{Errand, asked};
+use mx_commands::{
+    Named, Output, PutFault, Source, Stop, are_dashes, close, fetch, fetch_plan, plan_in, print,
+    put_line, refuse, split_line, tell_memory,
+};
+use mx_plan::Plan;
+use mx_words::{Exploration, Names};
+use std::alloc::Global;
+
+/// Runs the words of a command line of which `draw` or `script` is the first, without the program's
+/// name, and answers the status: 0 where a file of events was printed, or help was asked for, 1 where a
+/// plan, a script, a file or an output is at fault, 2 where the words are no such command, 5 where
+/// memory ran out.
+pub fn event_file<S: Source, O: Output, E: Output>(
+    alloc: Global,
+    words: &[&str],
+    source: &mut S,
+    out: &mut O,
+    err: &mut E,
+) -> u8
+    ensures prints { IfSome (errand_asked (texts_of words.entry.now)) (λ task.
+        result ≡ 0 → HasDone (S.told source.old) task (O.written out.old) (O.written out.new)) }
+    ensures draws { IfSome (errand_asked (texts_of words.entry.now)) (λ task.
+        Draws (O.takes_all out.old) (E.takes_all err.old) (S.told source.old) task
+        (O.written out.old) (O.written out.new) (E.written err.old) (E.written err.new) result) }
+    ensures passed { IsSome (errand_asked (texts_of words.entry.now))
+        → result ≡ 0 → O.keeps_back out.new ≡ false }
+    ensures status { IsSome (errand_asked (texts_of words.entry.now)) → IsRunStatus result }
+    ensures help { AskHelp file_line (texts_of words.entry.now) → Helps (O.takes_all out.old)
+        (seen (O.written out.old) (E.written err.old) (O.has_refused out.old) (O.keeps_back out.old))
+        (seen (O.written out.new) (E.written err.new) (O.has_refused out.new) (O.keeps_back out.new))
+        result }
+    ensures wrong { AreWrong file_line (texts_of words.entry.now) → Scolds
+        (seen (O.written out.old) (E.written err.old) (O.has_refused out.old) (O.keeps_back out.old))
+        (seen (O.written out.new) (E.written err.new) (O.has_refused out.new) (O.keeps_back out.new))
+        result }
+{
+    match asked(alloc, words) {
+        Ok(Some(errand)) => run_errand(alloc, &errand, source, out, err),
+        Ok(None) => 2,
+        Err(e) => refuse(alloc, &e, out, err),
+    }
+}
+
+/// Does what is asked for, and tells why there is no file where there is none. Answers the status.
+fn run_errand<S: Source, O: Output, E: Output>(
+    alloc: Global,
+    errand: &Errand<'_>,
+    source: &mut S,
+    out: &mut O,
+    err: &mut E,
+) -> u8
+    ensures prints { result ≡ 0
+        → HasDone (S.told source.old) (errand_of errand.now) (O.written out.old) (O.written out.new) }
+    ensures draws { Draws (O.takes_all out.old) (E.takes_all err.old) (S.told source.old)
+        (errand_of errand.now) (O.written out.old) (O.written out.new)
+        (E.written err.old) (E.written err.new) result }
+    ensures passed { result ≡ 0 → O.keeps_back out.new ≡ false }
+    ensures status { IsRunStatus result }
+{
+    match errand {
+        Errand::Draw(exploration) => run_draw(alloc, exploration, source, out, err),
+        Errand::Walk(exploration) => run_walk(alloc, exploration, source, out, err),
+        Errand::Script(names) => run_script(alloc, names, source, out, err),
+    }
+}
+
+/// Prints what `explore` does, or tells why not. Answers the status.
+fn run_draw<S: Source, O: Output, E: Output>(
+    alloc: Global,
+    exploration: &Exploration<'_>,
+    source: &mut S,
+    out: &mut O,
+    err: &mut E,
+) -> u8
+    ensures prints { result ≡ 0 → HasDone (S.told source.old)
+        (task.draw exploration.now.plan.now exploration.now.seed exploration.now.steps)
+        (O.written out.old) (O.written out.new) }
+    ensures draws { DrawsPlan (O.takes_all out.old) (E.takes_all err.old) exploration.now.plan.now
+        (draw_job (S.told source.old)
+        exploration.now.plan.now exploration.now.seed exploration.now.steps)
+        (O.written out.old) (O.written out.new) (E.written err.old) (E.written err.new) result }
+    ensures passed { result ≡ 0 → O.keeps_back out.new ≡ false }
+    ensures status { IsRunStatus result }
+{
+    let names = plan_alone(exploration);
+    let ended = draw_file(alloc, exploration, source, out);
+    close(alloc, ended, &names, out, err)
+}
+
+/// Prints a walk, or tells why not. Answers the status.
+fn run_walk<S: Source, O: Output, E: Output>(
+    alloc: Global,
+    exploration: &Exploration<'_>,
+    source: &mut S,
+    out: &mut O,
+    err: &mut E,
+) -> u8
+    ensures prints { result ≡ 0 → HasDone (S.told source.old)
+        (task.walk exploration.now.plan.now exploration.now.seed exploration.now.steps)
+        (O.written out.old) (O.written out.new) }
+    ensures passed { result ≡ 0 → O.keeps_back out.new ≡ false }
+    ensures status { IsRunStatus result }
+{
+    let names = plan_alone(exploration);
+    let ended = print_walk(alloc, exploration, source, out);
+    close(alloc, ended, &names, out, err)
+}
+
+/// Prints the events of a script, or tells why not. Answers the status.
+fn run_script<S: Source, O: Output, E: Output>(
+    alloc: Global,
+    names: &Names<'_>,
+    source: &mut S,
+    out: &mut O,
+    err: &mut E,
+) -> u8
+    ensures prints { result ≡ 0 → HasDone (S.told source.old) (task.script (names_of names.now))
+        (O.written out.old) (O.written out.new) }
+    ensures passed { result ≡ 0 → O.keeps_back out.new ≡ false }
+    ensures status { IsRunStatus result }
+{
+    match print_script(alloc, names, source, out) {
+        Ok(status) => close(alloc, Ok(status), names, out, err),
+        Err(Halt::Stop(stop)) => close(alloc, Err(stop), names, out, err),
+        Err(Halt::AtLine(number, fault)) => tell_line(alloc, number, fault, err),
+    }
+}
+
+/// The names that the lines of faults have, where there is a plan alone.
+fn plan_alone<'a>(exploration: &Exploration<'a>) -> Names<'a>
+    ensures { names_of result ≡ (exploration.now.plan.now, exploration.now.plan.now) }
+{
+    Names {
+        plan: exploration.plan,
+        events: exploration.plan,
+    }
+}
+
+/// Tells why a line of a script is refused, and answers the status.
+fn tell_line<E: Output>(alloc: Global, number: u64, fault: LineFault, err: &mut E) -> u8
+    ensures { (result ≡ 1) ⊎ (result ≡ 5) }
+{
+    match put_line(alloc, err, ScriptLine { number, fault }) {
+        Ok(()) | Err(PutFault::Refused) => 1,
+        Err(PutFault::Memory) => tell_memory(err),
+    }
+}
+
+/// Prints what `explore` does. Answers the status.
+fn draw_file<S: Source, O: Output>(
+    alloc: Global,
+    exploration: &Exploration<'_>,
+    source: &mut S,
+    out: &mut O,
+) -> Result<u8, Stop>
+    ensures done { IfOk result (λ _. HasDone (S.told source.old)
+        (task.draw exploration.now.plan.now exploration.now.seed exploration.now.steps)
+        (O.written out.old) (O.written out.new)) }
+    ensures ran { IfSome (draw_job (S.told source.old)
+        exploration.now.plan.now exploration.now.seed exploration.now.steps) (λ job.
+        RanOn (O.takes_all out.old) (O.written out.old) (O.written out.new) job result) }
+    ensures zero { IfOk result (λ status. status ≡ 0) }
+    ensures stays { O.takes_all out.new ≡ O.takes_all out.old }
+{
+    let plan = fetch_plan(alloc, source, exploration.plan)?;
+    draw_schedule(alloc, &plan, exploration.seed, exploration.steps, out)
+}
+
+/// Prints a walk. Answers the status.
+fn print_walk<S: Source, O: Output>(
+    alloc: Global,
+    exploration: &Exploration<'_>,
+    source: &mut S,
+    out: &mut O,
+) -> Result<u8, Stop>
+    ensures done { IfOk result (λ _. HasDone (S.told source.old)
+        (task.walk exploration.now.plan.now exploration.now.seed exploration.now.steps)
+        (O.written out.old) (O.written out.new)) }
+    ensures zero { IfOk result (λ status. status ≡ 0) }
+{
+    let plan = fetch_plan(alloc, source, exploration.plan)?;
+    let file = walk_file(alloc, &plan, exploration.seed, exploration.steps)?;
+    print(file.as_bytes(), out)
+}
+
+/// Prints the events of a script. Answers the status.
+fn print_script<S: Source, O: Output>(
+    alloc: Global,
+    names: &Names<'_>,
+    source: &mut S,
+    out: &mut O,
+) -> Result<u8, Halt>
+    ensures done { IfOk result (λ _. HasDone (S.told source.old) (task.script (names_of names.now))
+        (O.written out.old) (O.written out.new)) }
+    ensures zero { IfOk result (λ status. status ≡ 0) }
+{
+    let (plan, script) = fetch_both(alloc, names, source)?;
+    let script = text_in(script.as_slice())?;
+    let file = script_file(alloc, &plan, script)?;
+    let status = print(file.as_bytes(), out)?;
+    Ok(status)
+}
+
+/// The plan, and the bytes of the script. Of one text the first line is the plan, and what follows is the
+/// script.
+fn fetch_both<S: Source>(
+    alloc: Global,
+    names: &Names<'_>,
+    source: &mut S,
+) -> Result<(Plan, Vec<u8>), Stop>
+    ensures { IfOk result (λ both. IsPlanOf (files_of (S.told source.old) (names_of names.now)) both.0) }
+{
+    if are_dashes(names) {
+        let one = fetch(alloc, source, names.plan, Named::Plan)?;
+        let (line, rest) = split_line(one.as_slice());
+        let plan = plan_in(alloc, line)?;
+        let script = Vec::from_slice(alloc, rest)?;
+        return Ok((plan, script));
+    }
+    let plan = fetch_plan(alloc, source, names.plan)?;
+    let script = fetch(alloc, source, names.events, Named::Events)?;
+    Ok((plan, script))
+}

@@ -1,0 +1,182 @@
+//! Files of events: a list in JSON, with one event a line.
+
+ghost use Rattle.std.specs.Prelude.{◌≡◌, ◌++◌, Ok, Some, string_bytes, OnOk};
+ghost use Rattle.mx_plan.specs.Events.{events_at};
+ghost use Rattle.mx_plan.specs.Fields.{IsPlan};
+ghost use Rattle.mx_texts.specs.EventTexts.{name_of, register_name_of};
+ghost use Rattle.mx_texts.specs.Lines.{each_text};
+ghost use Rattle.mx_event_files.specs.Files.{file_text, item_text, items_text, next_text, of_node, quoted};
+ghost use Rattle.mx_event_files.specs.Played.{events_of};
+ghost use Rattle.mx_event_files.specs.Readable.{AreReadable};
+
+use mx_network::{Entry, Event};
+use mx_plan::Plan;
+use mx_stamps::NodeId;
+use std::alloc::AllocError;
+use std::fmt;
+
+/// The name that the plan gives a node.
+fn name_of(plan: &Plan, node: NodeId) -> &str
+    ensures { result.now ≡ name_of plan.now node }
+{
+    plan.node_name(node.get()).unwrap_or("")
+}
+
+/// The name that the plan gives a register.
+fn register_name_of(plan: &Plan, register: u8) -> &str
+    ensures { result.now ≡ register_name_of plan.now register }
+{
+    plan.register_name(register).unwrap_or("")
+}
+
+/// A word in quotes.
+#[derive(Clone, Copy)]
+struct Quoted<'a>(&'a str);
+
+impl fmt::Display for Quoted<'_> {
+    ghost output = { λ q. Some (quoted q.0.now) };
+
+    fn fmt<W: fmt::Write>(&self, f: &mut fmt::Formatter<W>) -> fmt::Result {
+        write!(f, "\"{}\"", self.0)
+    }
+}
+
+/// The word of an event, and the name of a node.
+#[derive(Clone, Copy)]
+struct OfNode<'a> {
+    word: &'a str,
+    name: &'a str,
+}
+
+impl fmt::Display for OfNode<'_> {
+    ghost output = { λ o. Some (of_node o.word.now o.name.now) };
+
+    fn fmt<W: fmt::Write>(&self, f: &mut fmt::Formatter<W>) -> fmt::Result {
+        write!(f, "{},{}", Quoted(self.word), Quoted(self.name))
+    }
+}
+
+/// An event, as a file has it, without the brackets.
+#[derive(Clone, Copy)]
+struct ItemsText<'a> {
+    plan: &'a Plan,
+    event: &'a Event,
+}
+
+impl<'a> ItemsText<'a> {
+    /// The word of the event, and the name of its node.
+    fn of(&self, word: &'a str, node: NodeId) -> OfNode<'a>
+        ensures word { result.word.now ≡ word.now }
+        ensures name { result.name.now ≡ name_of self.now.plan.now node }
+    {
+        OfNode {
+            word,
+            name: name_of(self.plan, node),
+        }
+    }
+}
+
+impl fmt::Display for ItemsText<'_> {
+    ghost output = { λ e. Some (items_text e.plan.now e.event.now) };
+
+    fn fmt<W: fmt::Write>(&self, f: &mut fmt::Formatter<W>) -> fmt::Result {
+        match self.event {
+            Event::Ask(node) => write!(f, "{}", self.of("ask", *node)),
+            Event::Enter(node) => write!(f, "{}", self.of("enter", *node)),
+            Event::Read(node, register) => {
+                let register = Quoted(register_name_of(self.plan, *register));
+                write!(f, "{},{register}", self.of("read", *node))
+            }
+            Event::Write(node, register, value) => {
+                let register = Quoted(register_name_of(self.plan, *register));
+                write!(f, "{},{register},{value}", self.of("write", *node))
+            }
+            Event::Leave(node) => write!(f, "{}", self.of("leave", *node)),
+            Event::Cancel(node) => write!(f, "{}", self.of("cancel", *node)),
+            Event::Tick(node) => write!(f, "{}", self.of("tick", *node)),
+            Event::Want(node, other) => {
+                let other = Quoted(name_of(self.plan, *other));
+                write!(f, "{},{other}", self.of("want", *node))
+            }
+            Event::Settle(node, upto) => write!(f, "{},{upto}", self.of("settle", *node)),
+            Event::Restart(node) => write!(f, "{}", self.of("restart", *node)),
+            Event::Deliver(number) => write!(f, "{},{number}", Quoted("deliver")),
+        }
+    }
+}
+
+/// An event, as an array of JSON.
+#[derive(Clone, Copy)]
+struct ItemText<'a> {
+    plan: &'a Plan,
+    event: &'a Event,
+}
+
+impl fmt::Display for ItemText<'_> {
+    ghost output = { λ e. Some (item_text e.plan.now e.event.now) };
+
+    fn fmt<W: fmt::Write>(&self, f: &mut fmt::Formatter<W>) -> fmt::Result {
+        let items = ItemsText {
+            plan: self.plan,
+            event: self.event,
+        };
+        write!(f, "[{items}]")
+    }
+}
+
+/// A further event, on a line of its own.
+#[derive(Clone, Copy)]
+struct NextText<'a> {
+    plan: &'a Plan,
+    event: &'a Event,
+}
+
+impl fmt::Display for NextText<'_> {
+    ghost output = { λ e. Some (next_text e.plan.now e.event.now) };
+
+    fn fmt<W: fmt::Write>(&self, f: &mut fmt::Formatter<W>) -> fmt::Result {
+        let item = ItemText {
+            plan: self.plan,
+            event: self.event,
+        };
+        write!(f, ",\n{item}")
+    }
+}
+
+/// The file of events over the names of a plan is read back as these events, by whoever reads events as
+/// `replay` does. There is nothing to do.
+pub fn reads_back(plan: &Plan, events: &[Event])
+    ensures { IsPlan plan.now → AreReadable plan.now events.now
+        → events_at plan.now (file_text plan.now events.now) ≡ Ok events.now }
+{}
+
+/// Appends the file of the events of a trace.
+pub(crate) fn add_file(plan: &Plan, trace: &[Entry], text: &mut String) -> Result<(), AllocError>
+    ensures { OnOk result (string_bytes text.new
+        ≡ string_bytes text.old ++ file_text plan.now (events_of trace.now)) }
+{
+    let Some((first, rest)) = trace.split_first() else {
+        return text.push_str("[]\n");
+    };
+    text.push_str("[\n")?;
+    text.write(ItemText {
+        plan,
+        event: &first.event,
+    })?;
+    add_next(plan, rest, text)?;
+    text.push_str("\n]\n")
+}
+
+/// Appends the further events of a trace.
+fn add_next(plan: &Plan, trace: &[Entry], text: &mut String) -> Result<(), AllocError>
+    ensures { OnOk result (string_bytes text.new
+        ≡ string_bytes text.old ++ each_text (λ entry. next_text plan.now entry.event) trace.now) }
+{
+    for entry in trace {
+        text.write(NextText {
+            plan,
+            event: &entry.event,
+        })?;
+    }
+    Ok(())
+}

@@ -1,0 +1,19 @@
+//! The text of a script.
+
+use crate::halts::Halt;
+use crate::line_faults::LineFault;
+use std::str;
+
+/// The text that bytes are. Where they are not in UTF-8, the line of the first that is not is at fault.
+pub(crate) fn text_in(bytes: &[u8]) -> Result<&str, Halt> {
+    match str::from_utf8(bytes) {
+        Ok(text) => Ok(text),
+        Err(e) => Err(Halt::AtLine(line_at(bytes, e.valid_up_to()), LineFault::NotText)),
+    }
+}
+
+/// The number of the line in which a byte stands, counted from 1.
+fn line_at(bytes: &[u8], place: usize) -> u64 {
+    let feeds = bytes.iter().take(place).filter(|b| **b == b'\n').count();
+    (feeds as u64).saturating_add(1)
+}
