@@ -1,0 +1,4 @@
+mod PictureWordLemmas
+mod RefusedLemmas
+mod EndLemmas
+mod SheetLemmas

@@ -1,0 +1,3 @@
+-- PictureWords: what the words of `picture` ask for. Pictures: what comes of them.
+pub mod PictureWords
+pub mod Pictures

@@ -1,0 +1,20 @@
+//! Texts within an SVG.
+
+use std::alloc::AllocError;
+
+/// Appends a text in which nothing has a meaning for XML.
+pub(crate) fn add_escaped(raw: &str, text: &mut String) -> Result<(), AllocError> {
+    for character in raw.chars() {
+        add_character(character, text)?;
+    }
+    Ok(())
+}
+
+fn add_character(character: char, text: &mut String) -> Result<(), AllocError> {
+    match character {
+        '&' => text.push_str("&amp;"),
+        '<' => text.push_str("&lt;"),
+        '>' => text.push_str("&gt;"),
+        _ => text.push(character),
+    }
+}

@@ -1,0 +1,19 @@
+//! The texts of help.
+
+pub(crate) const PICTURE: &str =
+    "Prints a picture of what comes of events: an SVG in which time goes down";
+
+pub(crate) const PICTURE_EXAMPLE: &str =
+    "Example: the events of one section, in a cluster of three nodes.
+
+  plan.json    {\"algorithm\":\"ricart\",\"nodes\":[\"a\",\"b\",\"c\"],\"registers\":[\"count\"],\"sections\":10}
+  events.json  [[\"ask\",\"a\"],[\"deliver\",0],[\"deliver\",1],[\"deliver\",2],[\"deliver\",3],[\"enter\",\"a\"],[\"leave\",\"a\"]]
+
+  mx picture plan.json events.json > picture.svg
+
+Each node has a line, and each event a row with its index at the left and what came of it beside its node.
+A parcel is an arrow from the event that sent it to its delivery, with its number and its text at the tip:
+blue for requests, green for what grants them, purple for all others, and dashed where it was delivered
+before. One that is never delivered ends in the air, in a row of its own. A blue bar stands where a node
+waits, and a yellow box where it is inside, with the number of the section. `mx replay --help` tells what
+events are, and its faults are those of `picture`; docs/FORMATS.md has all formats.";

@@ -1,0 +1,35 @@
+//! What is the same in each picture: its styles and its legend.
+
+/// The styles, in colours of Okabe and Ito, which the colour-blind can tell; and the tips of arrows.
+/// Arrows differ in their width and their tips too, so that they can be told without colours.
+pub(crate) const STYLES: &str = "<style>
+text{font:12px Helvetica,Arial,sans-serif;stroke:#fff;stroke-width:3px;stroke-linejoin:round;paint-order:stroke}
+path{fill:none;stroke-width:1.4px}
+.paper{fill:#fff}.guide{stroke:#ddd;stroke-width:1px}.node{stroke:#999}
+.name{font-weight:bold;text-anchor:middle}.index{fill:#555;text-anchor:end}
+.waits{stroke:#56b4e9;stroke-width:6px}.inside{fill:#f0e442;stroke:#000}
+.section{font-weight:bold;text-anchor:middle;stroke:none}
+.request{stroke:#0072b2}.grant{stroke:#009e73;stroke-width:2.4px}.other{stroke:#cc79a7}
+.again{stroke-dasharray:6 4}.lost{stroke:#d55e00;stroke-width:1.8px}
+.air{font-style:italic}.left{text-anchor:end}
+</style>
+<defs>
+<marker id=\"request\" viewBox=\"0 0 10 8\" refX=\"12\" refY=\"4\" markerWidth=\"10\" markerHeight=\"8\" markerUnits=\"userSpaceOnUse\" orient=\"auto\"><path d=\"M0 0L10 4L0 8z\" style=\"fill:#0072b2;stroke:none\"/></marker>
+<marker id=\"grant\" viewBox=\"0 0 10 8\" refX=\"12\" refY=\"4\" markerWidth=\"10\" markerHeight=\"8\" markerUnits=\"userSpaceOnUse\" orient=\"auto\"><path d=\"M0 0L10 4L0 8z\" style=\"fill:#009e73;stroke:none\"/></marker>
+<marker id=\"other\" viewBox=\"0 0 10 8\" refX=\"12\" refY=\"4\" markerWidth=\"10\" markerHeight=\"8\" markerUnits=\"userSpaceOnUse\" orient=\"auto\"><path d=\"M1 .5L9 4L1 7.5\" style=\"stroke:#cc79a7\"/></marker>
+</defs>
+";
+
+/// The width of the legend.
+pub(crate) const LEGEND_WIDTH: u64 = 710;
+
+/// What each way of drawing means.
+pub(crate) const LEGEND: &str =
+    "<path class=\"request\" d=\"M16 18H46\" marker-end=\"url(#request)\"/><text x=\"52\" y=\"22\">request</text>
+<path class=\"grant\" d=\"M116 18H146\" marker-end=\"url(#grant)\"/><text x=\"152\" y=\"22\">grant</text>
+<path class=\"other\" d=\"M206 18H236\" marker-end=\"url(#other)\"/><text x=\"242\" y=\"22\">other</text>
+<path class=\"other again\" d=\"M294 18H324\" marker-end=\"url(#other)\"/><text x=\"330\" y=\"22\">delivered again</text>
+<path class=\"lost\" d=\"M432 14l20 4m-3-3l6 6m0-6l-6 6\"/><text x=\"462\" y=\"22\">never delivered</text>
+<path class=\"waits\" d=\"M568 11V25\"/><text x=\"578\" y=\"22\">waits</text>
+<path class=\"inside\" d=\"M626 11h24v14h-24z\"/><text class=\"section\" x=\"638\" y=\"22\">1</text><text x=\"656\" y=\"22\">inside</text>
+";

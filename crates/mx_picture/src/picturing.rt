@@ -1,0 +1,61 @@
+//! The command: from words, named bytes and two outputs to a status.
+
+ghost use Rattle.std.specs.Prelude.{◌≡◌, ◌&&◌, IfSome, false};
+ghost use Rattle.mx_words.specs.Words.{names_of, texts_of, AreWrong, AskHelp};
+ghost use Rattle.mx_commands.specs.Ran.{Helps, Scolds, seen};
+ghost use Rattle.mx_picture.specs.PictureWords.{names_asked, picture_line};
+ghost use Rattle.mx_picture.specs.Pictures.{Pictures};
+
+use crate::reading::draw;
+use crate::words::asked_names;
+use mx_commands::{Output, Source, close, refuse};
+use mx_words::Names;
+use std::alloc::Global;
+
+/// Runs the words of a command line of which `picture` is the first, without the program's name: reads a
+/// plan and its events, and prints a picture of what comes of them. Answers the status: 0 where all went
+/// well, or help was asked for, 1 where the plan, its events, a file or an output is at fault, 2 where the
+/// words are not those of `picture`, 5 where memory ran out.
+pub fn picture<S: Source, O: Output, E: Output>(
+    alloc: Global,
+    words: &[&str],
+    source: &mut S,
+    out: &mut O,
+    err: &mut E,
+) -> u8
+    ensures pictures { IfSome (names_asked (texts_of words.entry.now)) (λ names.
+        Pictures (O.takes_all out.old) (E.takes_all err.old) (S.told source.old) names
+        (seen (O.written out.old) (E.written err.old) (O.has_refused out.old) (O.keeps_back out.old))
+        (seen (O.written out.new) (E.written err.new) (O.has_refused out.new) (O.keeps_back out.new))
+        result) }
+    ensures help { AskHelp picture_line (texts_of words.entry.now) → Helps (O.takes_all out.old)
+        (seen (O.written out.old) (E.written err.old) (O.has_refused out.old) (O.keeps_back out.old))
+        (seen (O.written out.new) (E.written err.new) (O.has_refused out.new) (O.keeps_back out.new))
+        result }
+    ensures wrong { AreWrong picture_line (texts_of words.entry.now) → Scolds
+        (seen (O.written out.old) (E.written err.old) (O.has_refused out.old) (O.keeps_back out.old))
+        (seen (O.written out.new) (E.written err.new) (O.has_refused out.new) (O.keeps_back out.new))
+        result }
+{
+    match asked_names(alloc, words) {
+        Ok(Some(names)) => run_picture(alloc, &names, source, out, err),
+        Ok(None) => 2,
+        Err(e) => refuse(alloc, &e, out, err),
+    }
+}
+
+fn run_picture<S: Source, O: Output, E: Output>(
+    alloc: Global,
+    names: &Names<'_>,
+    source: &mut S,
+    out: &mut O,
+    err: &mut E,
+) -> u8
+    ensures { Pictures (O.takes_all out.old) (E.takes_all err.old) (S.told source.old) (names_of names.now)
+        (seen (O.written out.old) (E.written err.old) (O.has_refused out.old) (O.keeps_back out.old))
+        (seen (O.written out.new) (E.written err.new) (O.has_refused out.new) (O.keeps_back out.new))
+        result }
+{
+    let ended = draw(alloc, names, source, out);
+    close(alloc, ended, names, out, err)
+}
