@@ -1,0 +1,4 @@
+pub mod CountWordLemmas
+pub mod ClosedLemmas
+pub mod CountLemmas
+pub mod CountedLemmas

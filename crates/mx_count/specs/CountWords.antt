@@ -1,0 +1,53 @@
+-- What the words of `count`, and of `explore` with `--count`, ask for, as `clap` reads them.
+use Rattle.std.specs.Prelude.{ℕ, List, Option, Some, None, codes, if◌then◌else◌, option_map, option_and_then}
+use Rattle.std.specs.Str.{bytes_eq}
+use Rattle.clap.specs.Words.{App, Row, Rule, Text, first_of, new_app, new_rule, with_rule, with_subcommand}
+use Rattle.clap.specs.declared.builder.action.ArgAction.TheVariants.{SetTrue}
+use Rattle.mx_words.specs.Words.{events_rule, explore_app, mx_start, names_of, number_at, plan_rule, asked_of}
+use Rattle.mx_count.specs.declared.words.Order.{Order}
+use Rattle.mx_count.specs.declared.words.Order.TheVariants.{Given, Drawn}
+
+-- `--count`
+abbrev pub count_rule : Rule
+count_rule = record (new_rule (codes "count")) { long = Some (codes "count"); action = Some SetTrue }
+
+-- `count PLAN EVENTS`
+abbrev pub count_app : App
+count_app = with_rule (with_rule (new_app (codes "count")) plan_rule) events_rule
+
+-- `explore PLAN --seed S --steps K`, and `--count`
+abbrev pub drawn_app : App
+drawn_app = with_rule explore_app count_rule
+
+-- the whole command line
+unfoldable pub count_line : App
+count_line = with_subcommand (with_subcommand mx_start count_app.top) drawn_app.top
+
+-- what is to be counted: what comes of the events of these names, or of those of a seed and a number of steps
+pub data Wanted : Type 0 where
+  given : Text × Text → Wanted
+  drawn : Text → ℕ → ℕ → Wanted
+
+abbrev pub order_of : Order → Wanted
+order_of (Given names) = given (names_of names)
+order_of (Drawn exploration) = drawn exploration.plan.now exploration.seed exploration.steps
+
+-- what was given for the arguments of each command
+abbrev pub given_in : List Row → Option Wanted
+given_in rows =
+    option_and_then (λ plan. option_map (λ events. given (plan, events)) (first_of (codes "EVENTS") rows)) (first_of (codes "PLAN") rows)
+
+abbrev pub drawn_in : List Row → Option Wanted
+drawn_in rows = option_and_then (λ plan. option_and_then (λ seed. option_map (drawn plan seed)
+    (number_at (codes "steps") rows)) (number_at (codes "seed") rows)) (first_of (codes "PLAN") rows)
+
+abbrev pub order_in : Option (Text × List Row) → Option Wanted
+order_in None = None
+order_in (Some p) =
+    if bytes_eq p.0 (codes "count") then given_in p.1
+    else if bytes_eq p.0 (codes "explore") then drawn_in p.1
+    else None
+
+-- what the words ask to count, where they ask for that
+unfoldable pub order_asked : List Text → Option Wanted
+order_asked words = asked_of count_line order_in words

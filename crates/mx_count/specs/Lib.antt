@@ -1,0 +1,6 @@
+-- CountWords: what the words ask to count. Kinds: under which names parcels and refusals are counted. Counts: the
+-- counts, and their lines. Counted: what is counted of the events of a run.
+pub mod CountWords
+pub mod Kinds
+pub mod Counts
+pub mod Counted

@@ -1,0 +1,101 @@
+//! `count`: from words, named bytes and two outputs to a status.
+
+ghost use Rattle.std.specs.Prelude.{◌≡◌, IsSome, IfOk};
+ghost use Rattle.mx_words.specs.Words.{texts_of, AreWrong, AskHelp};
+ghost use Rattle.mx_commands.specs.Ran.{Helps, IsRunStatus, Scolds, seen};
+ghost use Rattle.mx_count.specs.CountWords.{order_asked, count_line};
+
+use crate::running::{Course, add_counts_of};
+use crate::words::{Order, asked_order};
+use mx_commands::{Output, Source, Stop, close, fetch_plan, fetch_run, print, refuse};
+use mx_explorer::schedule;
+use mx_words::{Exploration, Names};
+use std::alloc::Global;
+
+/// Runs the words of a command line of which the first is `count`, or `explore` with `--count`, without
+/// the program's name, and answers the status: 0 where all went well, or help was asked for, 1 where the
+/// plan, its events, a file or an output is at fault, 2 where the words are not those of the command, 5
+/// where memory ran out.
+pub fn count<S: Source, O: Output, E: Output>(
+    alloc: Global,
+    words: &[&str],
+    source: &mut S,
+    out: &mut O,
+    err: &mut E,
+) -> u8
+    ensures status { IsSome (order_asked (texts_of words.entry.now)) → IsRunStatus result }
+    ensures help { AskHelp count_line (texts_of words.entry.now) → Helps (O.takes_all out.old)
+        (seen (O.written out.old) (E.written err.old) (O.has_refused out.old) (O.keeps_back out.old))
+        (seen (O.written out.new) (E.written err.new) (O.has_refused out.new) (O.keeps_back out.new))
+        result }
+    ensures wrong { AreWrong count_line (texts_of words.entry.now) → Scolds
+        (seen (O.written out.old) (E.written err.old) (O.has_refused out.old) (O.keeps_back out.old))
+        (seen (O.written out.new) (E.written err.new) (O.has_refused out.new) (O.keeps_back out.new))
+        result }
+{
+    match asked_order(alloc, words) {
+        Ok(Some(order)) => count_and_close(alloc, &order, source, out, err),
+        Ok(None) => 2,
+        Err(e) => refuse(alloc, &e, out, err),
+    }
+}
+
+/// Counts what is asked for, and closes the run. Answers the status.
+fn count_and_close<S: Source, O: Output, E: Output>(
+    alloc: Global,
+    order: &Order<'_>,
+    source: &mut S,
+    out: &mut O,
+    err: &mut E,
+) -> u8
+    ensures { IsRunStatus result }
+{
+    let ended = count_order(alloc, order, source, out);
+    close(alloc, ended, &order.names(), out, err)
+}
+
+/// Counts what is asked for. Answers the status.
+fn count_order<S: Source, O: Output>(
+    alloc: Global,
+    order: &Order<'_>,
+    source: &mut S,
+    out: &mut O,
+) -> Result<u8, Stop>
+    ensures zero { IfOk result (λ status. status ≡ 0) }
+{
+    match order {
+        Order::Given(names) => count_given(alloc, names, source, out),
+        Order::Drawn(exploration) => count_drawn(alloc, exploration, source, out),
+    }
+}
+
+/// Reads a plan and its events, and prints what is counted of them.
+fn count_given<S: Source, O: Output>(
+    alloc: Global,
+    names: &Names<'_>,
+    source: &mut S,
+    out: &mut O,
+) -> Result<u8, Stop>
+    ensures zero { IfOk result (λ status. status ≡ 0) }
+{
+    let (plan, events) = fetch_run(alloc, source, names)?;
+    let mut text = String::new(alloc);
+    add_counts_of(alloc, &plan, events.as_slice(), Course::Given, &mut text)?;
+    print(text.as_bytes(), out)
+}
+
+/// Reads a plan, draws a schedule of this many steps, and prints what is counted of it.
+fn count_drawn<S: Source, O: Output>(
+    alloc: Global,
+    exploration: &Exploration<'_>,
+    source: &mut S,
+    out: &mut O,
+) -> Result<u8, Stop>
+    ensures zero { IfOk result (λ status. status ≡ 0) }
+{
+    let plan = fetch_plan(alloc, source, exploration.plan)?;
+    let events = schedule(alloc, exploration.seed, exploration.steps, &plan)?;
+    let mut text = String::new(alloc);
+    add_counts_of(alloc, &plan, events.as_slice(), Course::Drawn, &mut text)?;
+    print(text.as_bytes(), out)
+}
