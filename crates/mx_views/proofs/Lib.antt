@@ -1,0 +1,2 @@
+pub mod ViewWordLemmas
+pub mod ClosedLemmas

@@ -1,0 +1,22 @@
+-- What the matches of the words of a view say.
+use Rattle.std.proofs.Common.{◌≡◌, List, refl, true, IsSome}
+use Rattle.clap.specs.Words.{Text, is_simple}
+use Rattle.clap.specs.Kinds.{IsAmong}
+use Rattle.clap.specs.declared.error.kind.ErrorKind.{ErrorKind}
+use Rattle.clap.specs.Faults.{fault_of, is_simple_and_free}
+use Rattle.clap.proofs.OnLiterals.{clap_on_literals}
+use Rattle.mx_views.specs.ViewWords.{view_line, views_asked, views_in}
+use Rattle.mx_words.proofs.WordLemmas.{none_asked}
+
+pub line_is_simple : is_simple_and_free view_line ≡ true
+unfolding clap_on_literals view_line
+line_is_simple = refl
+
+pub line_is_plain : is_simple view_line ≡ true
+unfolding clap_on_literals view_line
+line_is_plain = refl
+
+-- words that ask for a replay are refused only where memory runs out
+pub no_view_among : (words : List Text) (k : ErrorKind) → IsAmong k (fault_of view_line words) → IsSome (views_asked words) → ⊥
+unfolding views_asked
+no_view_among words k among s = none_asked view_line views_in words k among s

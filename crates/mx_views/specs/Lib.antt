@@ -1,0 +1,2 @@
+-- ViewWords: what the words ask to show.
+pub mod ViewWords

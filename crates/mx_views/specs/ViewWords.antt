@@ -1,0 +1,61 @@
+-- What the words of `replay` with `--quiet`, `--node` or `--json` ask for, as `clap` reads them.
+use Rattle.std.specs.Prelude.{Bool, false, List, Option, Some, None, codes, if◌then◌else◌, option_map, option_and_then}
+use Rattle.std.specs.Option.{option_map_or}
+use Rattle.std.specs.Str.{bytes_eq}
+use Rattle.clap.specs.Words.{App, Row, Rule, Text, first_of, new_rule, with_rule, with_subcommand}
+use Rattle.clap.specs.declared.builder.action.ArgAction.TheVariants.{SetTrue}
+use Rattle.mx_words.specs.Words.{mx_start, names_of, replay_app, asked_of}
+use Rattle.mx_views.specs.declared.words.Wish.{Wish}
+
+-- `--quiet`
+abbrev pub quiet_rule : Rule
+quiet_rule = record (new_rule (codes "quiet")) { long = Some (codes "quiet"); action = Some SetTrue }
+
+-- `--node NAME`
+abbrev pub node_rule : Rule
+node_rule = record (new_rule (codes "node")) { long = Some (codes "node") }
+
+-- `--json`
+abbrev pub json_rule : Rule
+json_rule = record (new_rule (codes "json")) { long = Some (codes "json"); action = Some SetTrue }
+
+-- `replay PLAN EVENTS`, and perhaps `--quiet`, `--node NAME` and `--json`
+abbrev pub view_app : App
+view_app = with_rule (with_rule (with_rule replay_app quiet_rule) node_rule) json_rule
+
+-- the whole command line
+unfoldable pub view_line : App
+view_line = with_subcommand mx_start view_app.top
+
+-- the names of the plan and of the events; whether the closing lines alone are to be shown, of which node alone, and
+-- whether as JSON
+pub record Shown : Type 0 where
+  pub names : Text × Text
+  pub is_quiet : Bool
+  pub node : Option Text
+  pub is_json : Bool
+
+abbrev pub shown : Text × Text → Bool → Option Text → Bool → Shown
+shown names is_quiet node is_json = record { names = names; is_quiet = is_quiet; node = node; is_json = is_json }
+
+abbrev pub shown_by : Wish → Shown
+shown_by wish = shown (names_of wish.names) wish.is_quiet (option_map (λ name. name.now) wish.node) wish.is_json
+
+-- a flag was given
+abbrev pub is_given : Text → List Row → Bool
+is_given id rows = option_map_or (λ text. bytes_eq text (codes "true")) (first_of id rows) false
+
+-- what was given for the arguments
+abbrev pub view_of : List Row → Text → Text → Shown
+view_of rows plan events = shown (plan, events) (is_given (codes "quiet") rows) (first_of (codes "node") rows) (is_given (codes "json") rows)
+
+abbrev pub view_in : List Row → Option Shown
+view_in rows = option_and_then (λ plan. option_map (view_of rows plan) (first_of (codes "EVENTS") rows)) (first_of (codes "PLAN") rows)
+
+abbrev pub views_in : Option (Text × List Row) → Option Shown
+views_in None = None
+views_in (Some p) = if bytes_eq p.0 (codes "replay") then view_in p.1 else None
+
+-- what the words ask to show, where they ask for a replay
+unfoldable pub views_asked : List Text → Option Shown
+views_asked words = asked_of view_line views_in words

@@ -1,0 +1,16 @@
+//! `mx replay` with `--quiet`, `--node` or `--json`: fewer lines, the lines of one node, or lines of JSON.
+#![tactic(auto)]
+
+mod closing_lines;
+mod event_json;
+mod json;
+mod letter_json;
+mod node_json;
+mod parcel_json;
+mod showing;
+mod view;
+mod viewing;
+mod words;
+
+pub use letter_json::JsonLetter;
+pub use viewing::replay_view;

@@ -1,0 +1,102 @@
+//! Where nodes stand, and the verdict, as JSON.
+
+use crate::json::{Number, Word};
+use mx_explorer::{Clause, Verdict};
+use mx_member::Member;
+use mx_nodelaws::{Exclusion, Phase};
+use mx_plan::Plan;
+use mx_registers::view;
+use mx_stamps::NodeId;
+use std::alloc::AllocError;
+use std::fmt;
+
+/// Appends the line of a node.
+pub(crate) fn add_node_json<C: Exclusion>(
+    plan: &Plan,
+    node: NodeId,
+    member: &Member<C>,
+    text: &mut String,
+) -> Result<(), AllocError> {
+    text.push_str("{\"node\":\"")?;
+    text.push_str(plan.node_name(node.get()).unwrap_or(""))?;
+    text.push_str("\"")?;
+    add_phase(member.phase(), text)?;
+    text.write(Number("mine", member.mine()))?;
+    text.write(Number("records", member.journal().len() as u64))?;
+    text.write(Number("gapless", member.journal().gapless_to()))?;
+    add_registers(plan, member, text)?;
+    text.push_str("}\n")
+}
+
+/// Appends a phase, with the number of the section inside.
+fn add_phase(phase: Phase, text: &mut String) -> Result<(), AllocError> {
+    match phase {
+        Phase::Idle => text.write(Word("phase", "idle")),
+        Phase::Waiting => text.write(Word("phase", "waiting")),
+        Phase::Inside(number) => {
+            text.write(Word("phase", "inside"))?;
+            text.write(Number("number", number))
+        }
+    }
+}
+
+/// Appends an object that has the value of each register.
+fn add_registers<C: Exclusion>(
+    plan: &Plan,
+    member: &Member<C>,
+    text: &mut String,
+) -> Result<(), AllocError> {
+    text.push_str(",\"registers\":{")?;
+    let shown = view(member.journal(), plan.registers());
+    for register in 0..plan.registers() {
+        if register > 0 {
+            text.push_str(",")?;
+        }
+        text.write(ValueJson {
+            name: plan.register_name(register).unwrap_or(""),
+            value: shown.value(register).unwrap_or(0),
+        })?;
+    }
+    text.push_str("}")
+}
+
+/// The name of a register and its value.
+#[derive(Clone, Copy)]
+struct ValueJson<'a> {
+    name: &'a str,
+    value: u64,
+}
+
+impl fmt::Display for ValueJson<'_> {
+    fn fmt<W: fmt::Write>(&self, f: &mut fmt::Formatter<W>) -> fmt::Result {
+        write!(f, "\"{}\":{}", self.name, self.value)
+    }
+}
+
+/// The line of a verdict.
+#[derive(Clone, Copy)]
+pub(crate) struct VerdictJson(pub(crate) Verdict);
+
+impl fmt::Display for VerdictJson {
+    fn fmt<W: fmt::Write>(&self, f: &mut fmt::Formatter<W>) -> fmt::Result {
+        match self.0 {
+            Verdict::Sound => writeln!(f, "{{\"verdict\":\"sound\"}}"),
+            Verdict::Broken(index, clause) => {
+                let clause = clause_name(clause);
+                writeln!(
+                    f,
+                    "{{\"verdict\":\"broken\",\"index\":{index},\"clause\":\"{clause}\"}}"
+                )
+            }
+        }
+    }
+}
+
+/// What is broken.
+fn clause_name(clause: Clause) -> &'static str {
+    match clause {
+        Clause::Overlap => "overlap",
+        Clause::Number => "number",
+        Clause::Read => "read",
+    }
+}

@@ -1,0 +1,73 @@
+//! Parcels as JSON.
+
+use crate::json::{Begun, Number, Word, add_node_name};
+use crate::letter_json::JsonLetter;
+use mx_journal::{Range, Record};
+use mx_member::Parcel;
+use mx_plan::Plan;
+use mx_stamps::NodeId;
+use std::alloc::AllocError;
+use std::fmt;
+
+/// A range of numbers.
+#[derive(Clone, Copy)]
+struct RangeJson<'a>(&'a Range);
+
+impl fmt::Display for RangeJson<'_> {
+    fn fmt<W: fmt::Write>(&self, f: &mut fmt::Formatter<W>) -> fmt::Result {
+        write!(f, "[{},{}]", self.0.first, self.0.last)
+    }
+}
+
+/// Appends the line of a parcel.
+pub(crate) fn add_parcel_json<M: JsonLetter>(
+    plan: &Plan,
+    number: u64,
+    from: NodeId,
+    to: NodeId,
+    parcel: &Parcel<M>,
+    text: &mut String,
+) -> Result<(), AllocError> {
+    text.write(Begun("parcel", number))?;
+    add_node_name(plan, "from", from, text)?;
+    add_node_name(plan, "to", to, text)?;
+    match parcel {
+        Parcel::Guard(letter) => letter.tell_json(plan, text)?,
+        Parcel::Want(ranges) => add_ranges(ranges.as_slice(), text)?,
+        Parcel::Base(base) => add_base(base.upto(), text)?,
+        Parcel::Records(records) => add_numbers(records.as_slice(), text)?,
+    }
+    text.push_str("}\n")
+}
+
+/// Appends a want of these ranges.
+fn add_ranges(ranges: &[Range], text: &mut String) -> Result<(), AllocError> {
+    text.write(Word("kind", "want"))?;
+    text.push_str(",\"ranges\":[")?;
+    for (index, range) in ranges.iter().enumerate() {
+        if index > 0 {
+            text.push_str(",")?;
+        }
+        text.write(RangeJson(range))?;
+    }
+    text.push_str("]")
+}
+
+/// Appends a base, by the number of its last section alone.
+fn add_base(upto: u64, text: &mut String) -> Result<(), AllocError> {
+    text.write(Word("kind", "base"))?;
+    text.write(Number("upto", upto))
+}
+
+/// Appends the numbers of these records.
+fn add_numbers(records: &[Record], text: &mut String) -> Result<(), AllocError> {
+    text.write(Word("kind", "records"))?;
+    text.push_str(",\"numbers\":[")?;
+    for (index, entry) in records.iter().enumerate() {
+        if index > 0 {
+            text.push_str(",")?;
+        }
+        text.write(entry.number)?;
+    }
+    text.push_str("]")
+}

@@ -1,0 +1,116 @@
+//! `replay` with `--quiet`, `--node` or `--json`: from words, named bytes and two outputs to a status.
+
+ghost use Rattle.std.specs.Prelude.{◌≡◌, IsSome, IfOk};
+ghost use Rattle.mx_words.specs.Words.{texts_of, AreWrong, AskHelp};
+ghost use Rattle.mx_commands.specs.Ran.{Helps, IsRunStatus, Scolds, seen};
+ghost use Rattle.mx_views.specs.ViewWords.{views_asked, view_line};
+
+use crate::showing::show;
+use crate::view::View;
+use crate::words::{Wish, asked_wish};
+use mx_commands::{Fault, Output, Source, Stop, close, fetch_run, refuse, start};
+use mx_maekawa::Maekawa;
+use mx_network::Event;
+use mx_plan::{Place, Plan, PlanFault, Shape};
+use mx_raymond::Raymond;
+use mx_ricart::Ricart;
+use mx_stamps::NodeId;
+use std::alloc::Global;
+
+/// Runs the words of a command line of which `replay` is the first, with `--quiet`, `--node` or `--json`,
+/// without the program's name, and answers the status: 0 where all went well, or help was asked for, 1
+/// where the plan, its events, the node, a file or an output is at fault, 2 where the words are not those
+/// of the command, 5 where memory ran out.
+pub fn replay_view<S: Source, O: Output, E: Output>(
+    alloc: Global,
+    words: &[&str],
+    source: &mut S,
+    out: &mut O,
+    err: &mut E,
+) -> u8
+    ensures status { IsSome (views_asked (texts_of words.entry.now)) → IsRunStatus result }
+    ensures help { AskHelp view_line (texts_of words.entry.now) → Helps (O.takes_all out.old)
+        (seen (O.written out.old) (E.written err.old) (O.has_refused out.old) (O.keeps_back out.old))
+        (seen (O.written out.new) (E.written err.new) (O.has_refused out.new) (O.keeps_back out.new))
+        result }
+    ensures wrong { AreWrong view_line (texts_of words.entry.now) → Scolds
+        (seen (O.written out.old) (E.written err.old) (O.has_refused out.old) (O.keeps_back out.old))
+        (seen (O.written out.new) (E.written err.new) (O.has_refused out.new) (O.keeps_back out.new))
+        result }
+{
+    match asked_wish(alloc, words) {
+        Ok(Some(wish)) => view_and_close(alloc, &wish, source, out, err),
+        Ok(None) => 2,
+        Err(e) => refuse(alloc, &e, out, err),
+    }
+}
+
+/// Shows what is asked for, and closes the run. Answers the status.
+fn view_and_close<S: Source, O: Output, E: Output>(
+    alloc: Global,
+    wish: &Wish<'_>,
+    source: &mut S,
+    out: &mut O,
+    err: &mut E,
+) -> u8
+    ensures { IsRunStatus result }
+{
+    let ended = view_run(alloc, wish, source, out);
+    close(alloc, ended, &wish.names, out, err)
+}
+
+/// Reads a plan and its events, and shows what is asked for of their replay.
+fn view_run<S: Source, O: Output>(
+    alloc: Global,
+    wish: &Wish<'_>,
+    source: &mut S,
+    out: &mut O,
+) -> Result<u8, Stop>
+    ensures zero { IfOk result (λ status. status ≡ 0) }
+{
+    let (plan, events) = fetch_run(alloc, source, &wish.names)?;
+    let node = node_in(&plan, wish.node)?;
+    let view = View {
+        plan: &plan,
+        is_quiet: wish.is_quiet,
+        node,
+        is_json: wish.is_json,
+    };
+    show_by_shape(alloc, &view, events.as_slice(), out)
+}
+
+/// The node of this name, where one is named.
+fn node_in(plan: &Plan, name: Option<&str>) -> Result<Option<NodeId>, Stop> {
+    let Some(name) = name else {
+        return Ok(None);
+    };
+    match plan.node(name) {
+        Some(node) => Ok(Some(node)),
+        None => Err(Stop::Fault(Fault::BadText(PlanFault::UnknownName(Place::Nodes)))),
+    }
+}
+
+/// Replays the events by the plan's algorithm.
+fn show_by_shape<O: Output>(
+    alloc: Global,
+    view: &View<'_>,
+    events: &[Event],
+    out: &mut O,
+) -> Result<u8, Stop>
+    ensures zero { IfOk result (λ status. status ≡ 0) }
+{
+    match view.plan.shape() {
+        Shape::Ricart(count) => {
+            let mut cluster = start::<Ricart>(alloc, view.plan, count)?;
+            show(alloc, view, &mut cluster, events, out)
+        }
+        Shape::Maekawa(sets) => {
+            let mut cluster = start::<Maekawa>(alloc, view.plan, sets)?;
+            show(alloc, view, &mut cluster, events, out)
+        }
+        Shape::Raymond(tree) => {
+            let mut cluster = start::<Raymond>(alloc, view.plan, tree)?;
+            show(alloc, view, &mut cluster, events, out)
+        }
+    }
+}
