@@ -921,8 +921,8 @@ def drawn_argument(words, plan, argument):
     return word
 
 
-def explore(plan, seed, steps, put):
-    """Draws so many events and lets them happen; puts the counts and the verdict."""
+def run_drawn(plan, seed, steps):
+    """Draws so many events and lets them happen; gives the cluster and the lines that it printed."""
     lines = []
     cluster = Replay(plan, lines.append)
     words = Words(seed)
@@ -934,6 +934,12 @@ def explore(plan, seed, steps, put):
                 continue
             event[1] = sent - 1 - event[1] % min(sent, WINDOW)
         cluster.happen(index, event)
+    return cluster, lines
+
+
+def explore(plan, seed, steps, put):
+    """Puts the counts of a run of drawn events, and the verdict."""
+    cluster, lines = run_drawn(plan, seed, steps)
     entered = sum(": entered " in line for line in lines)
     put(f"explored {steps}, entered {entered}, sent {len(cluster.parcels)}")
     put("verdict sound")

@@ -1,15 +1,22 @@
-//! `mx`, the program: it hands the words, the files and the streams of the process to `command`, or
-//! to `live` where that is the first word.
+//! `mx`, the program: it hands the words, the files and the streams of the process to the function
+//! that the first word names, and to `command` where it names none of the others.
 #![tactic(auto)]
 
 mod counted;
+mod kept;
 mod stream;
 mod streams;
 
+use crate::kept::Kept;
 use crate::stream::Stream;
 use crate::streams::Streams;
 use mx_commands::{Output, command};
+use mx_count::count;
+use mx_event_files::event_file;
+use mx_explain::explain;
 use mx_live::live;
+use mx_picture::picture;
+use mx_views::replay_view;
 use std::io::{BufWriter, ErrorKind, Write};
 use std::process::ExitCode;
 use std::rt::{Clock, Env, Files};
@@ -33,18 +40,39 @@ fn run_words<
     let mut err = Stream(err);
     let mut source = Streams { rt };
     let words = words.as_slice();
-    if begins_with(words, "live") {
-        return Ok(live(rt, alloc, words, &mut source, &mut out, &mut err));
-    }
-    Ok(command(alloc, words, &mut source, &mut out, &mut err))
+    Ok(match first_of(words) {
+        "count" => count(alloc, words, &mut source, &mut out, &mut err),
+        "draw" | "script" => event_file(alloc, words, &mut source, &mut out, &mut err),
+        "explain" => {
+            let mut kept = Kept::new(alloc, source);
+            explain(alloc, words, &mut kept, &mut out, &mut err)
+        }
+        "explore" if has_word(words, "--count") => {
+            count(alloc, words, &mut source, &mut out, &mut err)
+        }
+        "live" => live(rt, alloc, words, &mut source, &mut out, &mut err),
+        "picture" => picture(alloc, words, &mut source, &mut out, &mut err),
+        "replay" if is_view(words) => { replay_view(alloc, words, &mut source, &mut out, &mut err) }
+        _ => command(alloc, words, &mut source, &mut out, &mut err),
+    })
 }
 
-/// Whether this is the first word.
-fn begins_with(words: &[&str], first: &str) -> bool {
+/// The first word, or nothing where there is none.
+fn first_of<'a>(words: &[&'a str]) -> &'a str {
     match words.first() {
-        Some(word) => *word == first,
-        None => false,
+        Some(word) => word,
+        None => "",
     }
+}
+
+/// Whether one of the words says how a replay is to be shown.
+fn is_view(words: &[&str]) -> bool {
+    words.iter().any(|word| *word == "--quiet" || *word == "--json" || word.starts_with("--node"))
+}
+
+/// Whether this is among the words.
+fn has_word(words: &[&str], wanted: &str) -> bool {
+    words.iter().any(|word| *word == wanted)
 }
 
 fn main(rt: HostRuntime) -> ExitCode {

@@ -13,6 +13,23 @@ const MOST_BYTES: u64 = 268_435_456;
 /// Nor can one that takes more reads, as where each gives one byte, or each is interrupted.
 const MOST_READS: u64 = 268_435_456;
 
+/// Why a name gives no bytes.
+#[derive(Clone, Copy)]
+pub(crate) enum Refusal {
+    Because(&'static str),
+    Memory,
+}
+
+impl Refusal {
+    /// The fault of a source, which has no reason.
+    pub(crate) fn fault(self) -> SourceFault {
+        match self {
+            Refusal::Because(_) => SourceFault::Unreadable,
+            Refusal::Memory => SourceFault::Memory,
+        }
+    }
+}
+
 /// Files by their paths, and standard input by the name `-`.
 #[derive(Drop)]
 pub(crate) struct Streams<'a, R: Files + Input> {
@@ -21,32 +38,51 @@ pub(crate) struct Streams<'a, R: Files + Input> {
 
 impl<R: Files + Input> Source for Streams<'_, R> {
     fn bytes(&mut self, alloc: Global, name: &str) -> Result<Vec<u8>, SourceFault> {
-        if name == "-" {
-            return read_all(alloc, self.rt.reader());
-        }
-        match fs::open(self.rt, name) {
-            Ok(file) => read_all(alloc, file),
-            Err(e) => Err(source_fault(&e)),
+        match read_name(self.rt, alloc, name) {
+            Ok(bytes) => Ok(bytes),
+            Err(refusal) => Err(refusal.fault()),
         }
     }
 }
 
-fn read_all<R: Read + Drop>(alloc: Global, reader: R) -> Result<Vec<u8>, SourceFault> {
+/// The bytes of a file, or of standard input.
+pub(crate) fn read_name<R: Files + Input>(
+    rt: &R,
+    alloc: Global,
+    name: &str,
+) -> Result<Vec<u8>, Refusal> {
+    if name == "-" {
+        return read_all(alloc, rt.reader());
+    }
+    match fs::open(rt, name) {
+        Ok(file) => read_all(alloc, file),
+        Err(e) => Err(refused_for(&e)),
+    }
+}
+
+fn read_all<R: Read + Drop>(alloc: Global, reader: R) -> Result<Vec<u8>, Refusal> {
     let mut bytes = Vec::new(alloc);
     let mut counted = Counted {
         inner: reader.take(MOST_BYTES + 1),
         left: MOST_READS,
     };
     match counted.read_to_end(&mut bytes) {
-        Ok(_) if bytes.len() as u64 > MOST_BYTES => Err(SourceFault::Unreadable),
+        Ok(_) if bytes.len() as u64 > MOST_BYTES => {
+            Err(Refusal::Because("it has more than 268435456 bytes"))
+        }
         Ok(_) => Ok(bytes),
-        Err(e) => Err(source_fault(&e)),
+        Err(e) => Err(refused_for(&e)),
     }
 }
 
-fn source_fault(e: &io::Error) -> SourceFault {
+fn refused_for(e: &io::Error) -> Refusal {
     match e.kind() {
-        ErrorKind::OutOfMemory => SourceFault::Memory,
-        _ => SourceFault::Unreadable,
+        ErrorKind::OutOfMemory => Refusal::Memory,
+        ErrorKind::NotFound => Refusal::Because("there is no file of this name"),
+        ErrorKind::PermissionDenied => Refusal::Because("who runs mx may not read it"),
+        ErrorKind::IsADirectory => Refusal::Because("it is a folder"),
+        ErrorKind::NotADirectory => Refusal::Because("a part of its path is no folder"),
+        ErrorKind::TimedOut => Refusal::Because("it takes more than 268435456 reads"),
+        _ => Refusal::Because("the system fails to read it"),
     }
 }

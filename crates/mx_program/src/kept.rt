@@ -1,0 +1,87 @@
+//! Files and standard input, each of which is read once.
+
+use crate::streams::{Refusal, Streams, read_name};
+use mx_commands::{Source, SourceFault};
+use mx_explain::Reasons;
+use std::alloc::Global;
+use std::rt::Files;
+
+/// What was read under a name, or why that was refused.
+#[derive(Drop)]
+struct Entry {
+    name: String,
+    bytes: Result<Vec<u8>, &'static str>,
+}
+
+/// Files and standard input that can be read again: what was read first is kept.
+#[derive(Drop)]
+pub(crate) struct Kept<'a, R: Files + Input> {
+    streams: Streams<'a, R>,
+    entries: Vec<Entry>,
+}
+
+impl<'a, R: Files + Input> Kept<'a, R> {
+    pub(crate) fn new(alloc: Global, streams: Streams<'a, R>) -> Self {
+        Kept {
+            streams,
+            entries: Vec::new(alloc),
+        }
+    }
+
+    fn entry(&self, name: &str) -> Option<&Entry> {
+        for entry in &self.entries {
+            if entry.name.as_str() == name {
+                return Some(entry);
+            }
+        }
+        None
+    }
+
+    /// Reads a name for the first time.
+    fn read(&mut self, alloc: Global, name: &str) -> Result<(), SourceFault> {
+        let bytes = match read_name(self.streams.rt, alloc, name) {
+            Ok(bytes) => Ok(bytes),
+            Err(Refusal::Because(reason)) => Err(reason),
+            Err(Refusal::Memory) => return Err(SourceFault::Memory),
+        };
+        let Ok(name) = String::from_str(alloc, name) else {
+            return Err(SourceFault::Memory);
+        };
+        match self.entries.push(Entry { name, bytes }) {
+            Ok(()) => Ok(()),
+            Err(_) => Err(SourceFault::Memory),
+        }
+    }
+}
+
+impl<R: Files + Input> Source for Kept<'_, R> {
+    fn bytes(&mut self, alloc: Global, name: &str) -> Result<Vec<u8>, SourceFault> {
+        if self.entry(name).is_none() {
+            self.read(alloc, name)?;
+        }
+        let Some(entry) = self.entry(name) else {
+            return Err(SourceFault::Memory);
+        };
+        match &entry.bytes {
+            Ok(bytes) => match Vec::from_slice(alloc, bytes.as_slice()) {
+                Ok(copy) => Ok(copy),
+                Err(_) => Err(SourceFault::Memory),
+            },
+            Err(_) => Err(SourceFault::Unreadable),
+        }
+    }
+}
+
+impl<R: Files + Input> Reasons for Kept<'_, R> {
+    fn reason(&self, name: &str) -> &'static str {
+        match self.entry(name) {
+            Some(
+                Entry {
+                    bytes: Err(reason),
+                    ..
+                },
+            ) => *reason,
+            _ => "it was not read",
+        }
+    }
+}
