@@ -1,20 +1,17 @@
 -- What the matches of the words of `picture` say.
-use Rattle.std.proofs.Common.{◌≡◌, List, refl, true, IsSome}
-use Rattle.clap.specs.Words.{Text, is_simple}
+use Rattle.std.proofs.Common.{List, refl, IsSome}
+use Rattle.clap.specs.Words.{Text}
 use Rattle.clap.specs.Kinds.{IsAmong}
 use Rattle.clap.specs.declared.error.kind.ErrorKind.{ErrorKind}
-use Rattle.clap.specs.Faults.{fault_of, is_simple_and_free}
+use Rattle.clap.specs.Faults.{fault_of}
+use Rattle.mx_words.specs.Words.{IsReadable}
 use Rattle.clap.proofs.OnLiterals.{clap_on_literals}
 use Rattle.mx_picture.specs.PictureWords.{picture_line, names_asked, names_in}
 use Rattle.mx_words.proofs.WordLemmas.{none_asked}
 
-pub line_is_simple : is_simple_and_free picture_line ≡ true
+pub line_is_readable : IsReadable picture_line
 unfolding clap_on_literals picture_line
-line_is_simple = refl
-
-pub line_is_plain : is_simple picture_line ≡ true
-unfolding clap_on_literals picture_line
-line_is_plain = refl
+line_is_readable = record { plain = refl; free = refl }
 
 -- words that ask for a picture are refused only where memory runs out
 pub no_names_among : (words : List Text) (k : ErrorKind) → IsAmong k (fault_of picture_line words) → IsSome (names_asked words) → ⊥
