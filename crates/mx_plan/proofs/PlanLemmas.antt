@@ -1,100 +1,101 @@
--- What comes of a plan whose places are all as they should be.
-use Rattle.std.proofs.Common.{◌≡◌, ◌⊎◌, ℕ, List, true, length, ap, sym, refl, Result, Ok, Err, inl, inr, codes}
+-- What comes of a plan, from what comes of its parts.
+use Rattle.std.proofs.Common.{◌≡◌, ◌⊎◌, ◌∙◌, ℕ, List, true, length, ap, subst, sym, refl, Result, Ok, Err, inl, inr, codes}
+use Rattle.std.specs.Result.{MatchResult, IsOkAnd}
 use Rattle.serde_json.specs.Data.{Data}
 use Rattle.serde_json.specs.Find.{get}
 use Rattle.mx_plan.specs.Text.{Text}
-use Rattle.mx_plan.specs.Fields.{Fields, IsShape}
+use Rattle.mx_plan.specs.Fields.{Fields}
 use Rattle.mx_plan.specs.Shapes.{PlannedShape}
 use Rattle.mx_plan.specs.Values.{Answers, and_then, is_object, number_of}
 use Rattle.mx_plan.specs.NameLists.{names_of}
-use Rattle.mx_plan.specs.Plans.{Draft, IsOutcome, IsShapeOutcome, ShapeAnswers, algorithm_of, draft_of, in_range, origin_of, planned_of}
+use Rattle.mx_plan.specs.Plans.{Draft, IsOutcome, algorithm_of, draft_of, in_range, origin_of, planned_of}
+use Rattle.mx_plan.specs.PlanParts.{SettingAnswers, IsSettingOutcome, both_names, plan_of, setting_of}
 use Rattle.mx_plan.specs.declared.place.Place.TheVariants as place
 use Rattle.mx_plan.specs.declared.shape.Shape.{Shape}
 use Rattle.mx_plan.specs.declared.algorithm.Algorithm.{Algorithm}
 use Rattle.mx_plan.specs.declared.faults.PlanFault.{PlanFault}
 use Rattle.mx_plan.specs.declared.faults.PlanFault.TheVariants.{NotJson, NotPlan, DoubleName, UnknownName, BadShape, Memory}
 
+-- the fault of two steps is the fault of what follows them
+both_refuse : {A B C : Type 0} (r : Result A PlanFault) (s : Result B PlanFault) (f : A → B → Result C PlanFault) (e : PlanFault)
+    → and_then {B = A × B} r (λ a. and_then s (λ b. Ok (a, b))) ≡ Err e → and_then r (λ a. and_then s (f a)) ≡ Err e
+both_refuse (Ok a) (Ok b) f e is = let bad : ⊥ = cc in absurd bad
+both_refuse (Ok a) (Err fault) f e is = cc
+both_refuse (Err fault) s f e is = cc
+
+-- two steps that answer go on with their answers
+both_answer : {A B C : Type 0} (r : Result A PlanFault) (s : Result B PlanFault) (f : A → B → Result C PlanFault) (a : A) (b : B)
+    → and_then {B = A × B} r (λ a. and_then s (λ b. Ok (a, b))) ≡ Ok (a, b) → and_then r (λ a. and_then s (f a)) ≡ f a b
+both_answer {A} {B} (Ok x) (Ok y) f a b is = let pair : ◌≡◌ {A = A × B} (x, y) (a, b) = cc in ap (λ p. f p.0 p.1) pair
+both_answer (Ok x) (Err fault) f a b is = let bad : ⊥ = cc in absurd bad
+both_answer (Err fault) s f a b is = let bad : ⊥ = cc in absurd bad
+
+-- three steps, and then one over their answers
+in_turn : {A B C D : Type 0} (r : Result A PlanFault) (s : Result B PlanFault) (t : Result C PlanFault) (f : A → B → C → Result D PlanFault)
+    → and_then r (λ a. and_then s (λ b. and_then t (f a b)))
+    ≡ and_then (and_then {B = A × B × C} r (λ a. and_then s (λ b. and_then t (λ c. Ok (a, b, c))))) (λ p. f p.0 p.1 p.2)
+in_turn (Ok a) (Ok b) (Ok c) f = refl
+in_turn (Ok a) (Ok b) (Err fault) f = refl
+in_turn (Ok a) (Err fault) t f = refl
+in_turn (Err fault) s t f = refl
+
 -- an answer that is no fault is what the rules give
 answered : {T : Type 0} (wanted : Result T PlanFault) (x : T) → Answers wanted (Ok x) → wanted ≡ Ok x
 answered wanted x (inl is) = sym is
 answered wanted x (inr h) = let bad : ⊥ = cc in absurd bad
 
--- what all places but those of the shape say
-pub record Head : Type 0 where
-  pub algorithm : Algorithm
-  pub nodes : List Text
-  pub registers : List Text
-  pub sections : ℕ
-  pub origin : ℕ
+drafted : List Text → List Text → ℕ → ℕ → PlannedShape → Draft
+drafted nodes registers sections origin shape_planned =
+    record { nodes = nodes; registers = registers; sections = sections; origin = origin; shape_planned = shape_planned }
 
--- a value says so
-pub record Says (d : Data) (h : Head) : Type 0 where
-  pub object : is_object d ≡ true
-  pub algorithm : algorithm_of d ≡ Ok h.algorithm
-  pub nodes : Answers (names_of 21 place.Nodes (get (codes "nodes") d)) (Ok h.nodes)
-  pub registers : Answers (names_of 32 place.Registers (get (codes "registers") d)) (Ok h.registers)
-  pub sections : in_range place.Sections (number_of (get (codes "sections") d)) ≡ Ok h.sections
-  pub origin : origin_of (get (codes "origin") d) ≡ Ok h.origin
-
-drafted : Head → PlannedShape → Draft
-drafted h shape_planned =
-    record { nodes = h.nodes; registers = h.registers; sections = h.sections; origin = h.origin; shape_planned = shape_planned }
-
-planned_from : Head → Data → Result PlannedShape PlanFault
-planned_from h d = planned_of h.algorithm h.nodes d
-
--- then the shape decides
-shape_decides : (d : Data) (h : Head) → Says d h → draft_of d ≡ and_then (planned_from h d) (λ shape_planned. Ok (drafted h shape_planned))
-unfolding drafted planned_from
-shape_decides d h says =
-    rw (
-      says.object,
-      says.algorithm,
-      answered _ h.nodes says.nodes,
-      answered _ h.registers says.registers,
-      says.sections,
-      says.origin,
-    )
-    refl
-
-refused : (h : Head) (w : Result PlannedShape PlanFault) (e : PlanFault)
-    → IsShapeOutcome (length h.nodes) w (Err e) → IsOutcome (and_then w (λ shape_planned. Ok (drafted h shape_planned))) (Err e)
+-- what comes of a setting comes of its plan
+settled : (nodes registers : List Text) (w : Result (ℕ × ℕ × PlannedShape) PlanFault) (s : Result (ℕ × ℕ × Shape) PlanFault) (r : Result Fields PlanFault)
+    → IsSettingOutcome (length nodes) w s
+    → MatchResult s (λ x. IsOkAnd r (λ p. p ≡ plan_of nodes registers x.0 x.1 x.2)) (λ e. r ≡ Err e)
+    → IsOutcome (and_then w (λ p. Ok (drafted nodes registers p.0 p.1 p.2))) r
 unfolding drafted
-refused h (Ok shape_planned) (BadShape fault) is = is
-refused h (Ok shape_planned) NotJson is = absurd is
-refused h (Ok shape_planned) (NotPlan p) is = absurd is
-refused h (Ok shape_planned) (DoubleName p) is = absurd is
-refused h (Ok shape_planned) (UnknownName p) is = absurd is
-refused h (Ok shape_planned) Memory is = absurd is
-refused h (Err wanted) e is = is
+settled nodes registers (Ok w) (Ok s) (Ok p) is made = rw made (record { nodes = refl; registers = refl; sections = is.0; origin = is.1; shape = is.2 })
+settled nodes registers (Ok w) (Ok s) (Err p) is made = absurd made
+settled nodes registers (Ok w) (Err (BadShape fault)) r is made = rw made is
+settled nodes registers (Ok w) (Err NotJson) r is made = absurd is
+settled nodes registers (Ok w) (Err (NotPlan p)) r is made = absurd is
+settled nodes registers (Ok w) (Err (DoubleName p)) r is made = absurd is
+settled nodes registers (Ok w) (Err (UnknownName p)) r is made = absurd is
+settled nodes registers (Ok w) (Err Memory) r is made = absurd is
+settled nodes registers (Err w) (Ok s) r is made = absurd is
+settled nodes registers (Err w) (Err e) r is made = rw made is
 
-pub shape_refused : (d : Data) (h : Head) (e : PlanFault) → Says d h
-    → ShapeAnswers (length h.nodes) (planned_of h.algorithm h.nodes d) (Err e)
-    → IsOutcome (draft_of d) (Err e) ⊎ (◌≡◌ {A = Result Fields PlanFault} (Err e) (Err Memory))
-unfolding planned_from
-shape_refused d h e says (inl is) = inl (rw (shape_decides d h says) (refused h (planned_from h d) e is))
-shape_refused d h e says (inr is) = let memory : e ≡ Memory = cc in inr (ap Err memory)
+module _ (d : Data) (algorithm : Algorithm) (object : is_object d ≡ true) (named : algorithm_of d ≡ Ok algorithm) where
+  -- the draft of a plan whose names are read
+  rest_of : List Text → List Text → Result Draft PlanFault
+  rest_of nodes registers =
+      and_then (in_range place.Sections (number_of (get (codes "sections") d)))
+      (λ sections. and_then (origin_of (get (codes "origin") d))
+      (λ origin. and_then (planned_of algorithm nodes d)
+      (λ shape_planned. Ok (drafted nodes registers sections origin shape_planned))))
 
--- the plan of a head and a shape
-abbrev pub plan_of : Head → Shape → Fields
-plan_of h shape =
-    record { nodes = h.nodes; registers = h.registers; sections = h.sections; origin = h.origin; shape = shape }
+  names_first : draft_of d
+      ≡ and_then (names_of 21 place.Nodes (get (codes "nodes") d))
+      (λ nodes. and_then (names_of 32 place.Registers (get (codes "registers") d)) (rest_of nodes))
+  unfolding drafted rest_of
+  names_first = rw (object, named) refl
 
-given : (h : Head) (w : Result PlannedShape PlanFault) (shape : Shape)
-    → IsShapeOutcome (length h.nodes) w (Ok shape) → IsOutcome (and_then w (λ shape_planned. Ok (drafted h shape_planned))) (Ok (plan_of h shape))
-unfolding drafted
-given h (Ok shape_planned) shape is = record { nodes = refl; registers = refl; sections = refl; origin = refl; shape = is.0 }
-given h (Err wanted) shape is = absurd is
+  pub names_refused : (e : PlanFault) → Answers (both_names d) (Err e)
+      → IsOutcome (draft_of d) (Err e) ⊎ (◌≡◌ {A = Result Fields PlanFault} (Err e) (Err Memory))
+  names_refused e (inl is) = inl (rw (names_first, both_refuse _ _ rest_of e (sym is)) refl)
+  names_refused e (inr is) = let memory : e ≡ Memory = cc in inr (ap Err memory)
 
-pub shape_given : (d : Data) (h : Head) (shape : Shape) → Says d h
-    → ShapeAnswers (length h.nodes) (planned_of h.algorithm h.nodes d) (Ok shape)
-    → IsOutcome (draft_of d) (Ok (plan_of h shape))
-unfolding planned_from
-shape_given d h shape says (inl is) = rw (shape_decides d h says) (given h (planned_from h d) shape is)
-shape_given d h shape says (inr is) = let bad : ⊥ = cc in absurd bad
-
--- a shape that is given is a shape of the nodes
-pub shape_valid : (n : ℕ) (w : Result PlannedShape PlanFault) (shape : Shape) → ShapeAnswers n w (Ok shape) → IsShape n shape
-shape_valid n (Ok shape_planned) shape (inl is) = is.1
-shape_valid n (Err wanted) shape (inl is) = absurd is
-shape_valid n w shape (inr is) = let bad : ⊥ = cc in absurd bad
+  pub plan_made : (nodes registers : List Text) (s : Result (ℕ × ℕ × Shape) PlanFault) (r : Result Fields PlanFault)
+      → Answers (both_names d) (Ok (nodes, registers))
+      → SettingAnswers (length nodes) (setting_of algorithm nodes d) s
+      → MatchResult s (λ x. IsOkAnd r (λ p. p ≡ plan_of nodes registers x.0 x.1 x.2)) (λ e. r ≡ Err e)
+      → IsOutcome (draft_of d) r ⊎ (r ≡ Err Memory)
+  unfolding rest_of
+  plan_made nodes registers s r names (inl is) made =
+      inl (rw (
+        names_first,
+        both_answer _ _ rest_of nodes registers (answered _ (nodes, registers) names),
+        in_turn (in_range place.Sections (number_of (get (codes "sections") d))) (origin_of (get (codes "origin") d)) (planned_of algorithm nodes d) (λ a b c. Ok (drafted nodes registers a b c)),
+      ) (settled nodes registers (setting_of algorithm nodes d) s r is made))
+  plan_made nodes registers s r names (inr is) made =
+      inr (subst (λ t. MatchResult t (λ x. IsOkAnd r (λ p. p ≡ plan_of nodes registers x.0 x.1 x.2)) (λ e. r ≡ Err e)) is made)

@@ -1,7 +1,9 @@
 //! A plan.
 
 ghost use Rattle.std.specs.Prelude.{◌≡◌, ◌<◌, ◌≤◌, IfSome, length, option_map, slice_get};
+ghost use Rattle.mx_plan.specs.Text.{AreNames};
 ghost use Rattle.mx_plan.specs.Fields.{node_of, register_of, IsShape};
+ghost use Rattle.mx_plan.specs.PlanParts.{plan_of};
 
 use crate::names::Names;
 use crate::shape::Shape;
@@ -43,6 +45,30 @@ impl Model for Plan {
 }
 
 impl Plan {
+    /// The plan that says this.
+    pub(crate) fn of(
+        nodes: Names,
+        registers: Names,
+        sections: u64,
+        origin: u64,
+        shape: Shape,
+    ) -> Plan
+        requires nodes { AreNames 21 nodes }
+        requires registers { AreNames 32 registers }
+        requires some_sections { 1 ≤ sections }
+        requires few_sections { sections ≤ 1000000 }
+        requires shape { IsShape (length nodes) shape }
+        ensures { result ≡ plan_of nodes registers sections origin shape }
+    {
+        Plan {
+            nodes,
+            registers,
+            sections,
+            origin,
+            shape,
+        }
+    }
+
     /// The shape of the cluster, over exactly its nodes.
     pub fn shape(&self) -> &Shape
         ensures value { result.now ≡ self.now.shape }

@@ -4,8 +4,9 @@ ghost use Rattle.std.specs.Prelude.{◌≡◌, ◌⊎◌, ◌≤◌, Err, IfOk, 
 ghost use Rattle.serde_json.specs.Find.{get};
 ghost use Rattle.serde_json.specs.View.{view};
 ghost use Rattle.mx_plan.specs.Text.{AreNames};
-ghost use Rattle.mx_plan.specs.Fields.{IsPlan};
-ghost use Rattle.mx_plan.specs.Values.{number_of};
+ghost use Rattle.mx_plan.specs.Fields.{IsPlan, IsShape};
+ghost use Rattle.mx_plan.specs.Values.{Answers, number_of};
+ghost use Rattle.mx_plan.specs.PlanParts as part;
 ghost use Rattle.mx_plan.specs.Plans as spec;
 
 use crate::algorithm::{Algorithm, algorithm_in};
@@ -54,23 +55,45 @@ fn plan_in(alloc: Global, value: &Value) -> Result<Plan, PlanFault>
         return Err(PlanFault::NotPlan(Place::Plan));
     }
     let algorithm = algorithm_in(value)?;
+    let (nodes, registers) = both_names(alloc, value)?;
+    setting_in(alloc, algorithm, value, &nodes).map(|(sections, origin, shape)| Plan::of(
+        nodes, registers, sections, origin, shape,
+    ))
+}
+
+/// The names of the nodes, and of the registers.
+fn both_names(alloc: Global, value: &Value) -> Result<(Names, Names), PlanFault>
+    ensures answers { Answers (part.both_names (view value.now)) result }
+    ensures nodes { IfOk result (λ names. AreNames 21 names.0) }
+    ensures registers { IfOk result (λ names. AreNames 32 names.1) }
+{
     let nodes = names_at(alloc, value.get("nodes"), MOST_NODES, Place::Nodes)?;
-    let registers = names_at(
+    names_at(
         alloc,
         value.get("registers"),
         MOST_REGISTERS,
         Place::Registers,
-    )?;
+    )
+    .map(|registers| (nodes, registers))
+}
+
+/// What a plan says beside its names: its sections, its origin and its shape.
+fn setting_in(
+    alloc: Global,
+    algorithm: Algorithm,
+    value: &Value,
+    nodes: &Names,
+) -> Result<(u64, u64, Shape), PlanFault>
+    requires { AreNames 21 nodes.now }
+    ensures answers { part.SettingAnswers (length nodes.now)
+        (part.setting_of algorithm nodes.now (view value.now)) result }
+    ensures low { IfOk result (λ setting. 1 ≤ setting.0) }
+    ensures high { IfOk result (λ setting. setting.0 ≤ 1000000) }
+    ensures shape { IfOk result (λ setting. IsShape (length nodes.now) setting.2) }
+{
     let sections = sections_in(value)?;
     let origin = origin_in(value)?;
-    let shape = shape_in(alloc, algorithm, value, &nodes)?;
-    Ok(Plan {
-        nodes,
-        registers,
-        sections,
-        origin,
-        shape,
-    })
+    shape_in(alloc, algorithm, value, nodes).map(|shape| (sections, origin, shape))
 }
 
 fn sections_in(value: &Value) -> Result<u64, PlanFault>

@@ -1,0 +1,52 @@
+-- The parts of a plan: its names, and what it says beside them.
+use Rattle.std.specs.Prelude.{◌≡◌, ◌⊎◌, ℕ, List, codes, Result, Ok, Err}
+use Rattle.serde_json.specs.Data.{Data}
+use Rattle.serde_json.specs.Find.{get}
+use Rattle.mx_plan.specs.Text.{Text}
+use Rattle.mx_plan.specs.Fields.{Fields}
+use Rattle.mx_plan.specs.Shapes.{PlannedShape, IsShapeOf, IsRefusalOf}
+use Rattle.mx_plan.specs.Values.{and_then, number_of}
+use Rattle.mx_plan.specs.NameLists.{names_of}
+use Rattle.mx_plan.specs.Plans.{in_range, origin_of, planned_of}
+use Rattle.mx_plan.specs.declared.place.Place.TheVariants as place
+use Rattle.mx_plan.specs.declared.shape.Shape.{Shape}
+use Rattle.mx_plan.specs.declared.algorithm.Algorithm.{Algorithm}
+use Rattle.mx_plan.specs.declared.faults.PlanFault.{PlanFault}
+use Rattle.mx_plan.specs.declared.faults.PlanFault.TheVariants.{BadShape, Memory}
+
+-- the names of the nodes, and of the registers
+abbrev pub both_names : Data → Result (List Text × List Text) PlanFault
+both_names d =
+    and_then (names_of 21 place.Nodes (get (codes "nodes") d))
+    (λ nodes. and_then (names_of 32 place.Registers (get (codes "registers") d))
+    (λ registers. Ok (nodes, registers)))
+
+-- the last section, the origin, and the shape that a plan for an algorithm asks for over these nodes
+abbrev pub setting_of : Algorithm → List Text → Data → Result (ℕ × ℕ × PlannedShape) PlanFault
+setting_of algorithm nodes d =
+    and_then (in_range place.Sections (number_of (get (codes "sections") d)))
+    (λ sections. and_then (origin_of (get (codes "origin") d))
+    (λ origin. and_then (planned_of algorithm nodes d)
+    (λ shape_planned. Ok (sections, origin, shape_planned))))
+
+-- the setting has what was asked for, over n nodes
+abbrev pub IsSettingOf : ℕ → ℕ × ℕ × PlannedShape → ℕ × ℕ × Shape → Type 0
+IsSettingOf n (sections, origin, shape_planned) setting =
+    (setting.0 ≡ sections) × (setting.1 ≡ origin) × IsShapeOf n shape_planned setting.2
+
+-- what comes of a setting that is asked for, in the same way as of a plan
+abbrev pub IsSettingOutcome : ℕ → Result (ℕ × ℕ × PlannedShape) PlanFault → Result (ℕ × ℕ × Shape) PlanFault → Type 0
+IsSettingOutcome n (Ok wanted) (Ok setting) = IsSettingOf n wanted setting
+IsSettingOutcome n (Ok wanted) (Err (BadShape fault)) = IsRefusalOf n wanted.2 fault
+IsSettingOutcome n (Ok wanted) (Err _) = ⊥
+IsSettingOutcome n (Err wanted) (Ok setting) = ⊥
+IsSettingOutcome n (Err wanted) (Err fault) = fault ≡ wanted
+
+-- or memory ran out
+abbrev pub SettingAnswers : ℕ → Result (ℕ × ℕ × PlannedShape) PlanFault → Result (ℕ × ℕ × Shape) PlanFault → Type 0
+SettingAnswers n wanted r = IsSettingOutcome n wanted r ⊎ (r ≡ Err Memory)
+
+-- the plan of these names and of this setting
+abbrev pub plan_of : List Text → List Text → ℕ → ℕ → Shape → Fields
+plan_of nodes registers sections origin shape =
+    record { nodes = nodes; registers = registers; sections = sections; origin = origin; shape = shape }
