@@ -80,10 +80,10 @@ module _ (d : Data) (algorithm : Algorithm) (object : is_object d ≡ true) (nam
   unfolding drafted rest_of
   names_first = rw (object, named) refl
 
-  pub names_refused : (e : PlanFault) → Answers (both_names d) (Err e)
-      → IsOutcome (draft_of d) (Err e) ⊎ (◌≡◌ {A = Result Fields PlanFault} (Err e) (Err Memory))
-  names_refused e (inl is) = inl (rw (names_first, both_refuse _ _ rest_of e (sym is)) refl)
-  names_refused e (inr is) = let memory : e ≡ Memory = cc in inr (ap Err memory)
+  pub names_refused : (e : PlanFault) (r : Result Fields PlanFault) → Answers (both_names d) (Err e) → r ≡ Err e
+      → IsOutcome (draft_of d) r ⊎ (r ≡ Err Memory)
+  names_refused e r (inl is) err = inl (rw (err, names_first, both_refuse _ _ rest_of e (sym is)) refl)
+  names_refused e r (inr is) err = let memory : e ≡ Memory = cc in inr (err ∙ ap Err memory)
 
   pub plan_made : (nodes registers : List Text) (s : Result (ℕ × ℕ × Shape) PlanFault) (r : Result Fields PlanFault)
       → Answers (both_names d) (Ok (nodes, registers))

@@ -1,4 +1,4 @@
-use Rattle.std.proofs.Common.{sym, rules}
+use Rattle.std.proofs.Common.{◌∙◌, ap, sym, rules, Err}
 use Rattle.std.proofs.lemmas.Result.{err_from_is_err_and}
 use Rattle.serde_json.specs.View.{view}
 use Rattle.mx_plan.proofs.PlanLemmas.{names_refused, plan_made}
@@ -7,7 +7,8 @@ use Rattle.mx_plan.proofs.plan_reader.plan_in.Goals as goal
 pub returns-in_err-nodes-clause-answers : goal.returns-in_err-nodes-clause-answers
 returns-in_err-nodes-clause-answers c =
     let p = err_from_is_err_and c.from_residual-in_err-nodes.result c.from_residual-in_err-nodes.ensures.1 in
-    rw (p.1, p.2) (names_refused (view c.args.value.now) c.in_ok-algorithm.algorithm (search rules) (sym c.in_ok-algorithm.ensures) c.in_err-nodes.field-0.0 c.in_err-nodes.ensures.answers)
+    names_refused (view c.args.value.now) c.in_ok-algorithm.algorithm (search rules) (sym c.in_ok-algorithm.ensures) c.in_err-nodes.field-0.0
+    c.from_residual-in_err-nodes.result c.in_err-nodes.ensures.answers (p.1 ∙ ap Err p.2)
 
 pub returns-clause-answers : goal.returns-clause-answers
 returns-clause-answers c =

@@ -44,7 +44,7 @@ loop-value-preserved c =
       so_far = c.loop-value.invariant.so_far
           ∙ rest_ok view (λ _. rule) values (lists_of c.loop-value.sets.items) i item set.items c.loop-value-test.true is
           ∙ ap (λ ls. after ls (rest view (λ _. rule) values (i + 1))) (sym lists);
-      counted = ap length grown ∙ grind (arith, length-append c.loop-value.sets.items (set ∷ []), c.loop-value.invariant.counted);
+      counted = ap length grown ∙ length-append c.loop-value.sets.items (set ∷ []) ∙ ap (λ n. n + 1) c.loop-value.invariant.counted;
     }
 
 pub returns : goal.returns
@@ -54,5 +54,5 @@ returns c =
       sets = c.loop-value.invariant.so_far
           ∙ ap (after (lists_of c.loop-value.sets.items)) (rest_end view (λ _. rule) c.args.values.now c.loop-value.value-index c.loop-value-test.false)
           ∙ ap Ok (append-nil (lists_of c.loop-value.sets.items));
-      one_each = grind (arith, c.loop-value.invariant.counted);
+      one_each = omega (arith, c.loop-value.invariant.counted, c.loop-value-test.false, c.loop-value.auto.value-index-end);
     }
