@@ -3,3 +3,4 @@ pub mod EachLemmas
 pub mod TextLemmas
 pub mod NameLemmas
 pub mod PlanLemmas
+pub mod EventLemmas

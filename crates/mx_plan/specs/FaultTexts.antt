@@ -25,6 +25,11 @@ place_text place.Holder = codes "holder"
 place_text place.Events = codes "events"
 place_text (place.Event k) = codes "event " ++ decimal k
 
+-- the word that names a place, which for an event its number follows
+abbrev pub place_word : Place → Text
+place_word (place.Event k) = codes "event"
+place_word p = place_text p
+
 abbrev pub quorum_text : QuorumFault → Text
 quorum_text quorum.NoNodes = codes "no nodes"
 quorum_text quorum.TooMany = codes "too many"
@@ -33,6 +38,16 @@ quorum_text (quorum.Stranger i j) = codes "stranger " ++ decimal i ++ codes " " 
 quorum_text (quorum.NotOwnMember i) = codes "not own member " ++ decimal i
 quorum_text (quorum.Apart i j) = codes "apart " ++ decimal i ++ codes " " ++ decimal j
 quorum_text (quorum.NoPlane n) = codes "no plane " ++ decimal n
+
+-- the words of a fault, which the numbers of its nodes follow
+abbrev pub quorum_words : QuorumFault → Text
+quorum_words quorum.NoNodes = codes "no nodes"
+quorum_words quorum.TooMany = codes "too many"
+quorum_words (quorum.EmptySet i) = codes "empty set"
+quorum_words (quorum.Stranger i j) = codes "stranger"
+quorum_words (quorum.NotOwnMember i) = codes "not own member"
+quorum_words (quorum.Apart i j) = codes "apart"
+quorum_words (quorum.NoPlane n) = codes "no plane"
 
 abbrev pub tree_text : TreeFault → Text
 tree_text tree.NoNodes = codes "no nodes"

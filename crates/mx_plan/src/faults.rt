@@ -1,7 +1,7 @@
 //! Why a text is no plan, or no list of events.
 
-ghost use Rattle.std.specs.Prelude.{Some};
-ghost use Rattle.mx_plan.specs.FaultTexts.{quorum_text, tree_text, shape_text, fault_text};
+ghost use Rattle.std.specs.Prelude.{◌≡◌, Some};
+ghost use Rattle.mx_plan.specs.FaultTexts.{quorum_text, quorum_words, tree_text, shape_text, fault_text};
 
 use crate::place::Place;
 use mx_quorums::QuorumFault;
@@ -94,18 +94,36 @@ impl From<ShapeFault> for PlanFault {
 #[derive(Clone, Copy)]
 struct QuorumText(QuorumFault);
 
+impl QuorumText {
+    /// The words of this fault, which the numbers of its nodes follow.
+    fn words(&self) -> &str
+        ensures { result.now ≡ quorum_words self.now.0 }
+    {
+        match self.0 {
+            QuorumFault::NoNodes => "no nodes",
+            QuorumFault::TooMany => "too many",
+            QuorumFault::EmptySet(_) => "empty set",
+            QuorumFault::Stranger(_, _) => "stranger",
+            QuorumFault::NotOwnMember(_) => "not own member",
+            QuorumFault::Apart(_, _) => "apart",
+            QuorumFault::NoPlane(_) => "no plane",
+        }
+    }
+}
+
 impl fmt::Display for QuorumText {
     ghost output = { λ t. Some (quorum_text t.0) };
 
     fn fmt<W: fmt::Write>(&self, f: &mut fmt::Formatter<W>) -> fmt::Result {
+        let words = self.words();
         match self.0 {
-            QuorumFault::NoNodes => write!(f, "no nodes"),
-            QuorumFault::TooMany => write!(f, "too many"),
-            QuorumFault::EmptySet(i) => write!(f, "empty set {i}"),
-            QuorumFault::Stranger(i, j) => write!(f, "stranger {i} {j}"),
-            QuorumFault::NotOwnMember(i) => write!(f, "not own member {i}"),
-            QuorumFault::Apart(i, j) => write!(f, "apart {i} {j}"),
-            QuorumFault::NoPlane(n) => write!(f, "no plane {n}"),
+            QuorumFault::NoNodes | QuorumFault::TooMany => f.write_str(words),
+            QuorumFault::EmptySet(i) | QuorumFault::NotOwnMember(i) | QuorumFault::NoPlane(i) => {
+                write!(f, "{words} {i}")
+            }
+            QuorumFault::Stranger(i, j) | QuorumFault::Apart(i, j) => {
+                write!(f, "{words} {i} {j}")
+            }
         }
     }
 }
@@ -119,12 +137,12 @@ impl fmt::Display for TreeText {
 
     fn fmt<W: fmt::Write>(&self, f: &mut fmt::Formatter<W>) -> fmt::Result {
         match self.0 {
-            TreeFault::NoNodes => write!(f, "no nodes"),
-            TreeFault::TooMany => write!(f, "too many"),
+            TreeFault::NoNodes => f.write_str("no nodes"),
+            TreeFault::TooMany => f.write_str("too many"),
             TreeFault::BadEdge(k) => write!(f, "bad edge {k}"),
-            TreeFault::WrongCount => write!(f, "wrong count"),
+            TreeFault::WrongCount => f.write_str("wrong count"),
             TreeFault::NotJoined(i) => write!(f, "not joined {i}"),
-            TreeFault::BadHolder => write!(f, "bad holder"),
+            TreeFault::BadHolder => f.write_str("bad holder"),
         }
     }
 }
@@ -145,12 +163,12 @@ impl fmt::Display for PlanFault {
 
     fn fmt<W: fmt::Write>(&self, f: &mut fmt::Formatter<W>) -> fmt::Result {
         match self {
-            PlanFault::NotJson => write!(f, "not json"),
+            PlanFault::NotJson => f.write_str("not json"),
             PlanFault::NotPlan(place) => write!(f, "bad plan: {place}"),
             PlanFault::DoubleName(place) => write!(f, "double name: {place}"),
             PlanFault::UnknownName(place) => write!(f, "unknown name: {place}"),
             PlanFault::BadShape(fault) => write!(f, "bad shape: {fault}"),
-            PlanFault::Memory => write!(f, "out of memory"),
+            PlanFault::Memory => f.write_str("out of memory"),
         }
     }
 }

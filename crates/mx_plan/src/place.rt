@@ -1,7 +1,7 @@
 //! The places of plans and of lists of events.
 
-ghost use Rattle.std.specs.Prelude.{Some};
-ghost use Rattle.mx_plan.specs.FaultTexts.{place_text};
+ghost use Rattle.std.specs.Prelude.{◌≡◌, Some};
+ghost use Rattle.mx_plan.specs.FaultTexts.{place_text, place_word};
 
 use std::fmt;
 
@@ -28,22 +28,34 @@ pub enum Place {
     Event(u64),
 }
 
+impl Place {
+    /// The word that names this place, which for an event its number follows.
+    fn word(&self) -> &str
+        ensures { result.now ≡ place_word self.now }
+    {
+        match self {
+            Place::Plan => "plan",
+            Place::Algorithm => "algorithm",
+            Place::Nodes => "nodes",
+            Place::Registers => "registers",
+            Place::Sections => "sections",
+            Place::Origin => "origin",
+            Place::Quorums => "quorums",
+            Place::Edges => "edges",
+            Place::Holder => "holder",
+            Place::Events => "events",
+            Place::Event(_) => "event",
+        }
+    }
+}
+
 impl fmt::Display for Place {
     ghost output = { λ p. Some (place_text p) };
 
     fn fmt<W: fmt::Write>(&self, f: &mut fmt::Formatter<W>) -> fmt::Result {
         match self {
-            Place::Plan => write!(f, "plan"),
-            Place::Algorithm => write!(f, "algorithm"),
-            Place::Nodes => write!(f, "nodes"),
-            Place::Registers => write!(f, "registers"),
-            Place::Sections => write!(f, "sections"),
-            Place::Origin => write!(f, "origin"),
-            Place::Quorums => write!(f, "quorums"),
-            Place::Edges => write!(f, "edges"),
-            Place::Holder => write!(f, "holder"),
-            Place::Events => write!(f, "events"),
             Place::Event(k) => write!(f, "event {k}"),
+            place => f.write_str(place.word()),
         }
     }
 }
