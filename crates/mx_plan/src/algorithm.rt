@@ -9,7 +9,7 @@ use crate::place::Place;
 use serde_json::Value;
 
 /// The algorithm by which nodes exclude one another.
-#[derive(Clone, Copy, Debug, PartialEq, Eq)]
+#[derive(Clone, Copy)]
 pub enum Algorithm {
     Ricart,
     Maekawa,
@@ -20,14 +20,11 @@ pub enum Algorithm {
 fn named(word: &str) -> Result<Algorithm, PlanFault>
     ensures { result ≡ spec.algorithm_named word.now }
 {
-    if word == "ricart" {
-        Ok(Algorithm::Ricart)
-    } else if word == "maekawa" {
-        Ok(Algorithm::Maekawa)
-    } else if word == "raymond" {
-        Ok(Algorithm::Raymond)
-    } else {
-        Err(PlanFault::NotPlan(Place::Algorithm))
+    match word {
+        "ricart" => Ok(Algorithm::Ricart),
+        "maekawa" => Ok(Algorithm::Maekawa),
+        "raymond" => Ok(Algorithm::Raymond),
+        _ => Err(PlanFault::NotPlan(Place::Algorithm)),
     }
 }
 

@@ -89,14 +89,11 @@ fn with_one(plan: &Plan, word: &str, a: &Value, k: u64) -> Result<Event, PlanFau
 fn with_two(plan: &Plan, word: &str, a: &Value, b: &Value, k: u64) -> Result<Event, PlanFault>
     ensures { result ≡ spec.with_two plan.now k word.now (view a.now) (view b.now) }
 {
-    if word == "read" {
-        reading(plan, a, b, k)
-    } else if word == "want" {
-        wanting(plan, a, b, k)
-    } else if word == "settle" {
-        settling(plan, a, b, k)
-    } else {
-        Err(PlanFault::NotPlan(Place::Event(k)))
+    match word {
+        "read" => reading(plan, a, b, k),
+        "want" => wanting(plan, a, b, k),
+        "settle" => settling(plan, a, b, k),
+        _ => Err(PlanFault::NotPlan(Place::Event(k))),
     }
 }
 

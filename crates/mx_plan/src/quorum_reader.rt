@@ -47,16 +47,15 @@ fn of_kind(alloc: Global, kind: &str, value: &Value, nodes: &Names) -> Result<Sh
         (spec.kind_of nodes.now (view value.now) kind.now) result }
 {
     let count = nodes.len() as u8;
-    if kind == "plane" {
-        Ok(Shape::plane(count)?)
-    } else if kind == "grid" {
-        let rows = number_in(value.get("rows"));
-        let cols = number_in(value.get("cols"));
-        grid_in(count, rows, cols)
-    } else if kind == "listed" {
-        sets_in(alloc, value.get("sets"), nodes)
-    } else {
-        Err(PlanFault::NotPlan(Place::Quorums))
+    match kind {
+        "plane" => Ok(Shape::plane(count)?),
+        "grid" => {
+            let rows = number_in(value.get("rows"));
+            let cols = number_in(value.get("cols"));
+            grid_in(count, rows, cols)
+        }
+        "listed" => sets_in(alloc, value.get("sets"), nodes),
+        _ => Err(PlanFault::NotPlan(Place::Quorums)),
     }
 }
 
