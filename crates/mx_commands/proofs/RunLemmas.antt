@@ -12,7 +12,7 @@ use Rattle.mx_nodelaws.specs.Core.{Core}
 use Rattle.mx_member.specs.declared.acts.Act.{Act}
 use Rattle.mx_member.specs.Member.{MemberState}
 use Rattle.mx_member.specs.Steps.{start_of}
-use Rattle.mx_network.specs.Step.{ClusterState, step_of, at_part, at_member, part_of, grown, answer_of, NamesNoNode}
+use Rattle.mx_network.specs.Step.{ClusterState, step_of, at_part, at_member, part_of, grown, answer_of, IsFaultOf, NamesNoNode}
 use Rattle.mx_events.specs.declared.event.Event.{Event}
 use Rattle.mx_events.specs.declared.event.Event.TheVariants as event
 use Rattle.mx_network.specs.declared.outcome.Outcome.{Outcome}
@@ -21,6 +21,7 @@ use Rattle.mx_network.specs.declared.faults.StepFault.TheVariants as step_fault
 use Rattle.mx_plan.specs.Text.{Text}
 use Rattle.mx_plan.specs.Fields.{Fields}
 use Rattle.mx_commands.specs.declared.faults.Stop.{Stop}
+use Rattle.mx_commands.specs.declared.faults.Stop.TheVariants as stop
 use Rattle.mx_commands.specs.declared.faults.Fault.{Fault}
 use Rattle.mx_commands.specs.declared.faults.Fault.TheVariants.{NoParcel}
 use Rattle.mx_commands.specs.declared.output.PutFault.{PutFault}
@@ -115,6 +116,11 @@ has_nodes g (event.Want i j) lt (inr le) = let h = lt.1 in absurd (omega (arith,
 has_nodes g (event.Settle i upto) lt le = absurd (omega (arith, lt, le))
 has_nodes g (event.Restart i) lt le = absurd (omega (arith, lt, le))
 has_nodes g (event.Deliver k) lt le = le
+
+-- an event that stops a run delivers a parcel that was not sent
+pub stops_without : {G : Type 0} (k : ℕ) (wanted : Result G StepFault) → IsFaultOf wanted step_fault.NoParcel → StopsAt k wanted (stop.Fault (NoParcel k))
+stops_without k wanted (inl memory) = let bad : step_fault.NoParcel ≡ step_fault.Memory = memory.0 in cc
+stops_without k wanted (inr none) = inr (refl, none)
 
 pub named_at : (n : ℕ) (es : List Event) (k : ℕ) (d : Event) → AllNameNodes n es → k < length es → NamesNodes n (get_or es k d)
 named_at n [] k d all lt = absurd (omega (arith, lt))

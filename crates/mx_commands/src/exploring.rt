@@ -5,8 +5,9 @@ ghost use Rattle.std.specs.List.{count_by};
 ghost use Rattle.mx_words.specs.Words as task;
 ghost use Rattle.mx_commands.specs.Outputs.{refused_after};
 ghost use Rattle.mx_commands.specs.Runs.{whole};
-ghost use Rattle.mx_commands.specs.Explored.{after_drawn, after_placed, explored_text, is_entry, summary_by, summary_text};
+ghost use Rattle.mx_commands.specs.Explored.{after_drawn, after_placed, explored_text, is_entry, or_stay, summary_by, summary_text};
 ghost use Rattle.mx_explorer.specs.Place.{place_of};
+ghost use Rattle.mx_network.specs.Step.{step_of};
 ghost use Rattle.mx_commands.specs.Ran.{Ran, RanOf, verdict_status};
 
 use crate::checking::print;
@@ -81,20 +82,31 @@ fn add_summary_of(
     match plan.shape() {
         Shape::Ricart(count) => {
             let mut cluster = start::<Ricart>(alloc, plan, count)?;
-            happen(&mut cluster, events)?;
-            add_summary(&cluster, events, text)
+            add_summary_after(&mut cluster, events, text)
         }
         Shape::Maekawa(sets) => {
             let mut cluster = start::<Maekawa>(alloc, plan, sets)?;
-            happen(&mut cluster, events)?;
-            add_summary(&cluster, events, text)
+            add_summary_after(&mut cluster, events, text)
         }
         Shape::Raymond(tree) => {
             let mut cluster = start::<Raymond>(alloc, plan, tree)?;
-            happen(&mut cluster, events)?;
-            add_summary(&cluster, events, text)
+            add_summary_after(&mut cluster, events, text)
         }
     }
+}
+
+/// The events happen; then the summary.
+fn add_summary_after<C: Exclusion>(
+    cluster: &mut Cluster<C>,
+    events: &[Event],
+    text: &mut String,
+) -> Result<Verdict, AllocError>
+    ensures text { OnOk result (string_bytes text.new ≡ string_bytes text.old
+        ++ summary_text (length events.now) (after_drawn C.core cluster.old events.now)) }
+    ensures sound { IfOk result (λ verdict. verdict ≡ Verdict.Sound) }
+{
+    happen(cluster, events)?;
+    add_summary(cluster, events, text)
 }
 
 /// Each event in turn.
@@ -116,7 +128,14 @@ fn step<C: Exclusion>(cluster: &mut Cluster<C>, event: &Event) -> Result<(), All
     let Some(placed) = place(*event, cluster.sent()) else {
         return Ok(());
     };
-    match cluster.advance(placed) {
+    advance_or_stay(cluster, placed)
+}
+
+/// One event. One that can't happen is passed over.
+fn advance_or_stay<C: Exclusion>(cluster: &mut Cluster<C>, event: Event) -> Result<(), AllocError>
+    ensures { OnOk result (or_stay cluster.old (step_of C.core cluster.old event) ≡ cluster.new) }
+{
+    match cluster.advance(event) {
         Err(StepFault::Memory) => Err(AllocError),
         Ok(_) | Err(StepFault::NoNode | StepFault::NoParcel) => Ok(()),
     }

@@ -23,19 +23,42 @@ pub fn fetch_run<S: Source>(
 {
     if are_dashes(names) {
         let one = fetch(alloc, source, names.plan, Named::Plan)?;
-        let (line, rest) = split_line(one.as_slice());
-        let plan = plan_in(alloc, line)?;
-        return with_events(alloc, plan, rest);
+        return run_in(alloc, one.as_slice());
     }
     let plan = fetch_plan(alloc, source, names.plan)?;
-    let events = fetch(alloc, source, names.events, Named::Events)?;
-    with_events(alloc, plan, events.as_slice())
+    let events = fetch_events(alloc, source, names.events, &plan)?;
+    Ok((plan, events))
 }
 
-/// A plan with the events that a text lists.
-fn with_events(alloc: Global, plan: Plan, text: &[u8]) -> Result<(Plan, Vec<Event>), Stop>
+/// The plan of the first line of a text, and the events of what follows it.
+fn run_in(alloc: Global, text: &[u8]) -> Result<(Plan, Vec<Event>), Stop>
     ensures taken { (before : Bool) → refused_after result before ≡ before }
 {
-    let events = read_events(alloc, text, &plan)?;
+    let (line, rest) = split_line(text);
+    let plan = plan_in(alloc, line)?;
+    let events = events_in(alloc, rest, &plan)?;
     Ok((plan, events))
+}
+
+/// The events of a name.
+fn fetch_events<S: Source>(
+    alloc: Global,
+    source: &mut S,
+    name: &str,
+    plan: &Plan,
+) -> Result<Vec<Event>, Stop>
+    ensures taken { (before : Bool) → refused_after result before ≡ before }
+{
+    let bytes = fetch(alloc, source, name, Named::Events)?;
+    events_in(alloc, bytes.as_slice(), plan)
+}
+
+/// The events that a text lists.
+fn events_in(alloc: Global, text: &[u8], plan: &Plan) -> Result<Vec<Event>, Stop>
+    ensures taken { (before : Bool) → refused_after result before ≡ before }
+{
+    match read_events(alloc, text, plan) {
+        Ok(events) => Ok(events),
+        Err(fault) => Err(Stop::from(fault)),
+    }
 }

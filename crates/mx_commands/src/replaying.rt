@@ -1,13 +1,14 @@
 //! `replay`: the plan is read, then the events, and they happen one after another.
 
-ghost use Rattle.std.specs.Prelude.{◌≡◌, ◌+◌, ◌<◌, ◌≤◌, ◌==◌, ◌&&◌, length, Some, IfOk};
+ghost use Rattle.std.specs.Prelude.{◌≡◌, ◌+◌, ◌<◌, ◌≤◌, ◌==◌, ◌&&◌, length, Some, IfOk, IfSome};
 ghost use Rattle.std.specs.List.{before_first, after_first, position_or_len};
 ghost use Rattle.mx_words.specs.Words.{names_of};
 ghost use Rattle.mx_words.specs.Words as task;
 ghost use Rattle.mx_commands.specs.Outputs.{refused_after};
-ghost use Rattle.mx_commands.specs.Jobs.{report_of_events, is_dash};
+ghost use Rattle.mx_commands.specs.Jobs.{on_events, report_of_events, is_dash};
 ghost use Rattle.mx_commands.specs.Jobs as job;
 ghost use Rattle.mx_commands.specs.Ran.{Ran, RanOf, RanOn};
+ghost use Rattle.mx_commands.specs.Runs.{AllNameNodes};
 
 use crate::faults::{Named, Stop};
 use crate::output::Output;
@@ -15,6 +16,7 @@ use crate::planning::{fetch, fetch_plan, plan_in};
 use crate::running::{run, start};
 use crate::source::Source;
 use mx_maekawa::Maekawa;
+use mx_network::Event;
 use mx_plan::{Plan, Shape, read_events};
 use mx_raymond::Raymond;
 use mx_ricart::Ricart;
@@ -39,8 +41,25 @@ pub(crate) fn replay<S: Source, O: Output>(
         return replay_one(alloc, one.as_slice(), out);
     }
     let plan = fetch_plan(alloc, source, names.plan)?;
-    let events = fetch(alloc, source, names.events, Named::Events)?;
-    replay_events(alloc, &plan, events.as_slice(), out)
+    replay_named(alloc, &plan, source, names.events, out)
+}
+
+/// A replay of the events of a name.
+fn replay_named<S: Source, O: Output>(
+    alloc: Global,
+    plan: &Plan,
+    source: &mut S,
+    name: &str,
+    out: &mut O,
+) -> Result<u8, Stop>
+    ensures ran { IfSome (S.told source.old name.now) (λ telling.
+        Ran (O.takes_all out.old) (O.written out.old) (O.written out.new) (on_events plan.now telling) result) }
+    ensures refused { O.has_refused out.new ≡ refused_after result (O.has_refused out.old) }
+    ensures zero { IfOk result (λ status. status ≡ 0) }
+    ensures stays { O.takes_all out.new ≡ O.takes_all out.old }
+{
+    let events = fetch(alloc, source, name, Named::Events)?;
+    replay_events(alloc, plan, events.as_slice(), out)
 }
 
 /// Whether both names are standard input.
@@ -103,18 +122,30 @@ fn replay_events<O: Output>(
     ensures stays { O.takes_all out.new ≡ O.takes_all out.old }
 {
     let events = read_events(alloc, text, plan)?;
+    run_by(alloc, plan, events.as_slice(), out)
+}
+
+/// Runs events of a plan, by its algorithm.
+fn run_by<O: Output>(alloc: Global, plan: &Plan, events: &[Event], out: &mut O) -> Result<u8, Stop>
+    requires { AllNameNodes (length plan.now.nodes) events.now }
+    ensures ran { Ran (O.takes_all out.old) (O.written out.old) (O.written out.new)
+        (job.run_by plan.now plan.now.shape events.now) result }
+    ensures refused { O.has_refused out.new ≡ refused_after result (O.has_refused out.old) }
+    ensures zero { IfOk result (λ status. status ≡ 0) }
+    ensures stays { O.takes_all out.new ≡ O.takes_all out.old }
+{
     match plan.shape() {
         Shape::Ricart(count) => {
             let mut cluster = start::<Ricart>(alloc, plan, count)?;
-            run(alloc, plan, &mut cluster, events.as_slice(), out)
+            run(alloc, plan, &mut cluster, events, out)
         }
         Shape::Maekawa(sets) => {
             let mut cluster = start::<Maekawa>(alloc, plan, sets)?;
-            run(alloc, plan, &mut cluster, events.as_slice(), out)
+            run(alloc, plan, &mut cluster, events, out)
         }
         Shape::Raymond(tree) => {
             let mut cluster = start::<Raymond>(alloc, plan, tree)?;
-            run(alloc, plan, &mut cluster, events.as_slice(), out)
+            run(alloc, plan, &mut cluster, events, out)
         }
     }
 }
