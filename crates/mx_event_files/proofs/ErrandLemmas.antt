@@ -1,5 +1,5 @@
 -- What comes of the words of `draw` and `script`.
-use Rattle.std.proofs.Common.{◌≡◌, ◌∙◌, ◌⊎◌, ◌&&◌, ◌==◌, if◌then◌else◌, true, false, option_map, Vec, inl, inr, ℕ, Bool, Option, Some, None, Result, Ok, Err, IfOk, IfSome, IsSome, refl, subst, sym, List}
+use Rattle.std.proofs.Common.{◌≡◌, ◌∙◌, ◌⊎◌, ◌&&◌, ◌==◌, if◌then◌else◌, true, false, option_map, Vec, inl, inr, ℕ, Bool, Option, Some, None, Result, Ok, Err, IfOk, IfSome, IsSome, refl, subst, sym, ap, List}
 use Rattle.std.specs.Io.KnownBytes.{Appends, Keeps}
 use Rattle.std.specs.List.{before_first, concat}
 use Rattle.std.specs.declared.alloc.Global.{Global}
@@ -179,3 +179,30 @@ line_planned told names one line p dashes fetched is read =
     let first : Option Telling = option_map (λ t. option_map (λ bytes. before_first (λ b. b == 10) bytes) t) (told names.0) in
     let of_first = of_one (told names.0) one p fetched (subst (λ (l : List ℕ). Reads (Some l) (Ok p)) is read) in
     subst (λ (b : Bool). IsPlanOf (if b then first else told names.0) p) (sym dashes) of_first
+
+-- the whole text was read
+pub text_planned : (told : Text → Option Telling) (names : Text × Text) (p : Fields) → (is_dash names.0 && is_dash names.1) ≡ false → IsPlanOf (told names.0) p
+    → IsPlanOf (files_of told names) p
+text_planned told names p dashes read =
+    let first : Option Telling = option_map (λ t. option_map (λ bytes. before_first (λ b. b == 10) bytes) t) (told names.0) in
+    subst (λ (b : Bool). IsPlanOf (if b then first else told names.0) p) (sym dashes) read
+
+-- the events of a script were printed
+pub script_done : {E : Type 0} (told : Text → Option Telling) (names : Text × Text) (p : Fields) (a b : Held) (r : Result ℕ E) → IsPlanOf (files_of told names) p
+    → IfOk r (λ _. PrintsEvents p a b) → IfOk r (λ _. HasDone told (script names) a b)
+script_done told names p a b (Ok status) read prints = (p, read, prints)
+script_done told names p a b (Err end) read prints = tt
+
+-- the same of a script that stands below the line of its plan
+pub split_done : {E : Type 0} (told : Text → Option Telling) (names : Text × Text) (one : Vec ℕ Global) (bytes : List ℕ) (a b : Held) (r : Result ℕ E)
+    → (is_dash names.0 && is_dash names.1) ≡ true → IfSome (told names.0) (λ telling. Fetches Plan telling (Ok one)) → bytes ≡ one.items
+    → IfOk r (λ _. (p : Fields) × Reads (Some (before_first (λ b. b == 10) bytes)) (Ok p) × PrintsEvents p a b) → IfOk r (λ _. HasDone told (script names) a b)
+split_done told names one bytes a b (Ok status) dashes fetched is done =
+    (done.0, line_planned told names one (before_first (λ b. b == 10) bytes) done.0 dashes fetched (ap (λ (l : List ℕ). before_first (λ b. b == 10) l) is) done.1, done.2)
+split_done told names one bytes a b (Err end) dashes fetched is done = tt
+
+-- the line of the plan was read, and the events of the script were printed
+pub printed_of : {E : Type 0} (p : Fields) (bytes line : List ℕ) (a b : Held) (r : Result ℕ E) → line ≡ before_first (λ b. b == 10) bytes → Reads (Some line) (Ok p)
+    → IfOk r (λ _. PrintsEvents p a b) → IfOk r (λ _. (q : Fields) × Reads (Some (before_first (λ b. b == 10) bytes)) (Ok q) × PrintsEvents q a b)
+printed_of p bytes line a b (Ok status) is read prints = (p, subst (λ (l : List ℕ). Reads (Some l) (Ok p)) is read, prints)
+printed_of p bytes line a b (Err end) is read prints = tt

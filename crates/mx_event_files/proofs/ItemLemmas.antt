@@ -16,8 +16,6 @@ use Rattle.json.proofs.Printed.Strings.{content-escape, escape_byte_plain, lex-e
 use Rattle.json.proofs.Printed.Numbers.{lex-number}
 use Rattle.json.proofs.Printed.Decimals.{IsNumber-decimal}
 use Rattle.json.proofs.Printed.Utf8.{IsUtf8-are_ascii}
-use Rattle.serde_json.specs.Data.{string, number, array, Items, no_items, item}
-use Rattle.serde_json.specs.Read.{read}
 use Rattle.mx_events.specs.declared.event.Event.{Event}
 use Rattle.mx_events.specs.declared.event.Event.TheVariants.{Ask, Enter, Read, Write, Leave, Cancel, Tick, Want, Settle, Restart, Deliver}
 use Rattle.mx_plan.specs.Text.{Text, is_name_byte}

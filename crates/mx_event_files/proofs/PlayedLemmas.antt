@@ -1,6 +1,6 @@
 -- Events that happened, one after another.
 use Rattle.std.proofs.Common.{◌≡◌, ◌≤◌, ◌∙◌, ◌⊎◌, ℕ, arith, List, [], ◌∷◌, ◌++◌, Option, Some, None, Result, Ok, Err, length, slice_get, ap, subst, sym, refl, inl, inr, IfSome}
-use Rattle.std.specs.Prelude.{OnOk}
+use Rattle.std.specs.Prelude.{IfOk, OnOk}
 use Rattle.std.specs.Bool.{⊤}
 use Rattle.std.proofs.lemmas.List.{length-append, map-append}
 use Rattle.mx_stamps.specs.Lists.{IsIn}
@@ -118,9 +118,14 @@ module _ {H S M : Type 0} (core : Core H S M) where
   plays_or_stay nodes registers g e (Err f) is over = λ start played. played
   plays_or_stay nodes registers g e (Ok new) is over = plays_step nodes registers g new e is over
 
-  pub plays_placed : (nodes registers : ℕ) (g : ClusterState S M) (o : Option Event) → IfSome o (IsDrawn nodes registers) → Plays core nodes registers g (after_placed core g o)
-  plays_placed nodes registers g None over = λ start played. played
-  plays_placed nodes registers g (Some e) over = plays_or_stay nodes registers g e (step_of core g e) refl over
+  plays_after : (nodes registers : ℕ) (g : ClusterState S M) (o : Option Event) → IfSome o (IsDrawn nodes registers) → Plays core nodes registers g (after_placed core g o)
+  plays_after nodes registers g None over = λ start played. played
+  plays_after nodes registers g (Some e) over = plays_or_stay nodes registers g e (step_of core g e) refl over
+
+  -- an event more, or none
+  pub plays_placed : (nodes registers : ℕ) (g new : ClusterState S M) (o : Option Event) → after_placed core g o ≡ new → IfSome o (IsDrawn nodes registers)
+      → Plays core nodes registers g new
+  plays_placed nodes registers g new o is over = subst (λ (x : ClusterState S M). Plays core nodes registers g x) is (plays_after nodes registers g o over)
 
   -- the same where the event may have failed
   pub plays_on_ok : {E : Type 0} (nodes registers : ℕ) (g new : ClusterState S M) (e : Event) (w : Result ⊤ E) → OnOk w (step_of core g e ≡ Ok new) → IsDrawn nodes registers e
@@ -133,11 +138,24 @@ module _ {H S M : Type 0} (core : Core H S M) where
   plays_nothing nodes registers g (Ok done) = λ start played. played
   plays_nothing nodes registers g (Err fault) = tt
 
-  -- the file of what was played
-  pub file_of_played : (p : Fields) (start g : ClusterState S M) (text : Text) → IsPlayed core (length p.nodes) (length p.registers) start g
-      → text ≡ file_text p (events_of g.trace) → IsFileOf core p start text
-  file_of_played p start g text played is =
-      record { events = events_of g.trace; is = is; over = played.over; last = g; runs = played.runs }
+  pub file_of_played : (p : Fields) (start g : ClusterState S M) (trace : List Entry) (text : Text) → start.trace ≡ [] → Plays core (length p.nodes) (length p.registers) start g
+      → trace ≡ g.trace → text ≡ file_text p (events_of trace) → IsFileOf core p start text
+  file_of_played p start g trace text empty plays same is =
+      let played = plays start (played_at_rest (length p.nodes) (length p.registers) start empty) in
+      record { events = events_of g.trace; is = is ∙ ap (λ (t : List Entry). file_text p (events_of t)) same; over = played.over; last = g; runs = played.runs }
+
+  -- the same of a text that may be missing
+  pub file_if_played : {A E : Type 0} (bytes : A → Text) (p : Fields) (start g : ClusterState S M) (trace : List Entry) (r : Result A E) → start.trace ≡ []
+      → Plays core (length p.nodes) (length p.registers) start g → trace ≡ g.trace → IfOk r (λ text. bytes text ≡ file_text p (events_of trace))
+      → IfOk r (λ text. IsFileOf core p start (bytes text))
+  file_if_played bytes p start g trace (Ok text) empty plays same is = file_of_played p start g trace (bytes text) empty plays same is
+  file_if_played bytes p start g trace (Err e) empty plays same is = tt
+
+  -- the file of what was drawn
+  pub file_drawn : {E : Type 0} (p : Fields) (start g : ClusterState S M) (es : List Event) (trace : List Entry) (old text : Text) (w : Result ⊤ E) → after_drawn core start es ≡ g
+      → trace ≡ g.trace → OnOk w (text ≡ old ++ file_text p (events_of trace)) → OnOk w (text ≡ old ++ file_text p (events_of (after_drawn core start es).trace))
+  file_drawn p start g es trace old text w drawn same is =
+      subst (λ (t : List Entry). OnOk w (text ≡ old ++ file_text p (events_of t))) (same ∙ sym (ap (λ (x : ClusterState S M). x.trace) drawn)) is
 
 -- the placed schedule leads to the same cluster as the drawn one
 pub leads : (p : Fields) (es : List Event) (shape : Shape) → LeadsAs p es (placed_in p es shape) shape

@@ -3,18 +3,20 @@
 ghost use Rattle.std.specs.Prelude.{◌≡◌, ◌≤◌, ◌^◌, ◌++◌, Ok, string_bytes, IfOk, OnOk};
 ghost use Rattle.mx_plan.specs.Events.{events_at};
 ghost use Rattle.mx_plan.specs.Fields.{IsPlan};
-ghost use Rattle.mx_commands.specs.Explored.{schedule_of};
+ghost use Rattle.mx_commands.specs.Explored.{after_drawn, schedule_of};
 ghost use Rattle.mx_commands.specs.Outputs.{refused_after};
 ghost use Rattle.mx_commands.specs.Ran.{Ran};
 ghost use Rattle.mx_commands.specs.Runs.{whole};
 ghost use Rattle.mx_event_files.specs.Drawn.{LeadsAs, drawn_file, parcels_in, placed_in, placed_schedule};
 ghost use Rattle.mx_event_files.specs.Files.{file_text};
+ghost use Rattle.mx_event_files.specs.Played.{events_of};
 
 use crate::files::add_file;
 use mx_commands::{Output, Stop, happen, print, start};
 use mx_explorer::schedule;
 use mx_maekawa::Maekawa;
-use mx_network::Event;
+use mx_network::{Cluster, Event};
+use mx_nodelaws::Exclusion;
 use mx_plan::{Plan, Shape};
 use mx_raymond::Raymond;
 use mx_ricart::Ricart;
@@ -66,18 +68,29 @@ fn add_placed(
     match plan.shape() {
         Shape::Ricart(count) => {
             let mut cluster = start::<Ricart>(alloc, plan, count)?;
-            happen(&mut cluster, events)?;
-            add_file(plan, cluster.trace(), text)
+            add_happened(plan, &mut cluster, events, text)
         }
         Shape::Maekawa(sets) => {
             let mut cluster = start::<Maekawa>(alloc, plan, sets)?;
-            happen(&mut cluster, events)?;
-            add_file(plan, cluster.trace(), text)
+            add_happened(plan, &mut cluster, events, text)
         }
         Shape::Raymond(tree) => {
             let mut cluster = start::<Raymond>(alloc, plan, tree)?;
-            happen(&mut cluster, events)?;
-            add_file(plan, cluster.trace(), text)
+            add_happened(plan, &mut cluster, events, text)
         }
     }
+}
+
+/// The drawn events happen in a cluster; then the file of what happened.
+fn add_happened<C: Exclusion>(
+    plan: &Plan,
+    cluster: &mut Cluster<C>,
+    events: &[Event],
+    text: &mut String,
+) -> Result<(), AllocError>
+    ensures { OnOk result (string_bytes text.new ≡ string_bytes text.old
+        ++ file_text plan.now (events_of (after_drawn C.core cluster.old events.now).trace)) }
+{
+    happen(cluster, events)?;
+    add_file(plan, cluster.trace(), text)
 }

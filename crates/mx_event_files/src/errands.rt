@@ -1,10 +1,12 @@
 //! `draw` and `script`: from words, named bytes and two outputs to a status.
 
-ghost use Rattle.std.specs.Prelude.{◌≡◌, ◌⊎◌, false, IsSome, IfSome, IfOk, Some};
+ghost use Rattle.std.specs.Prelude.{◌≡◌, ◌⊎◌, ◌==◌, ◌&&◌, true, false, IsSome, IfSome, IfOk, Some, Ok};
 ghost use Rattle.mx_words.specs.Words.{names_of, texts_of, AreWrong, AskHelp};
+ghost use Rattle.std.specs.List.{before_first};
+ghost use Rattle.mx_commands.specs.Jobs.{is_dash, Reads};
 ghost use Rattle.mx_commands.specs.Ran.{Helps, IsRunStatus, RanOn, Scolds, seen};
 ghost use Rattle.mx_plan.specs.Fields.{Fields};
-ghost use Rattle.mx_event_files.specs.Errands.{Draws, DrawsPlan, HasDone, IsPlanOf, draw_job, files_of};
+ghost use Rattle.mx_event_files.specs.Errands.{Draws, DrawsPlan, HasDone, PrintsEvents, draw_job};
 ghost use Rattle.mx_event_files.specs.Words as task;
 ghost use Rattle.mx_event_files.specs.Words.{errand_asked, errand_of, file_line};
 
@@ -211,30 +213,86 @@ fn print_script<S: Source, O: Output>(
         (O.written out.old) (O.written out.new)) }
     ensures zero { IfOk result (λ status. status ≡ 0) }
 {
-    let (plan, script) = fetch_both(alloc, names, source)?;
-    let script = text_in(script.as_slice())?;
-    let file = script_file(alloc, &plan, script)?;
-    let status = print(file.as_bytes(), out)?;
-    Ok(status)
+    if are_dashes(names) {
+        print_one(alloc, names, source, out)
+    } else {
+        print_two(alloc, names, source, out)
+    }
 }
 
-/// The plan, and the bytes of the script. Of one text the first line is the plan, and what follows is the
+/// Prints the events of a script. The first line of the one text is the plan, and what follows is the
 /// script.
-fn fetch_both<S: Source>(
+fn print_one<S: Source, O: Output>(
     alloc: Global,
     names: &Names<'_>,
     source: &mut S,
-) -> Result<(Plan, Vec<u8>), Stop>
-    ensures { IfOk result (λ both. IsPlanOf (files_of (S.told source.old) (names_of names.now)) both.0) }
+    out: &mut O,
+) -> Result<u8, Halt>
+    requires { (is_dash names.now.plan.now && is_dash names.now.events.now) ≡ true }
+    ensures done { IfOk result (λ _. HasDone (S.told source.old) (task.script (names_of names.now))
+        (O.written out.old) (O.written out.new)) }
+    ensures zero { IfOk result (λ status. status ≡ 0) }
 {
-    if are_dashes(names) {
-        let one = fetch(alloc, source, names.plan, Named::Plan)?;
-        let (line, rest) = split_line(one.as_slice());
-        let plan = plan_in(alloc, line)?;
-        let script = Vec::from_slice(alloc, rest)?;
-        return Ok((plan, script));
-    }
+    let one = fetch(alloc, source, names.plan, Named::Plan)?;
+    print_split(alloc, one.as_slice(), out)
+}
+
+/// Prints the events of a script, which stands below the line of its plan. Answers the status.
+fn print_split<O: Output>(alloc: Global, one: &[u8], out: &mut O) -> Result<u8, Halt>
+    ensures done { IfOk result (λ _. (p : Fields)
+        × Reads (Some (before_first (λ b. b == 10) one.now)) (Ok p)
+        × PrintsEvents p (O.written out.old) (O.written out.new)) }
+    ensures zero { IfOk result (λ status. status ≡ 0) }
+{
+    let (line, script) = split_line(one);
+    let plan = plan_in(alloc, line)?;
+    print_events(alloc, &plan, script, out)
+}
+
+/// Prints the events of a script. The plan is a text of its own.
+fn print_two<S: Source, O: Output>(
+    alloc: Global,
+    names: &Names<'_>,
+    source: &mut S,
+    out: &mut O,
+) -> Result<u8, Halt>
+    requires { (is_dash names.now.plan.now && is_dash names.now.events.now) ≡ false }
+    ensures done { IfOk result (λ _. HasDone (S.told source.old) (task.script (names_of names.now))
+        (O.written out.old) (O.written out.new)) }
+    ensures zero { IfOk result (λ status. status ≡ 0) }
+{
     let plan = fetch_plan(alloc, source, names.plan)?;
-    let script = fetch(alloc, source, names.events, Named::Events)?;
-    Ok((plan, script))
+    print_fetched(alloc, &plan, names.events, source, out)
+}
+
+/// Prints the events of the script of a name. Answers the status.
+fn print_fetched<S: Source, O: Output>(
+    alloc: Global,
+    plan: &Plan,
+    name: &str,
+    source: &mut S,
+    out: &mut O,
+) -> Result<u8, Halt>
+    ensures done { IfOk result (λ _.
+        PrintsEvents plan.now (O.written out.old) (O.written out.new)) }
+    ensures zero { IfOk result (λ status. status ≡ 0) }
+{
+    let script = fetch(alloc, source, name, Named::Events)?;
+    print_events(alloc, plan, script.as_slice(), out)
+}
+
+/// Prints the events of the bytes of a script. Answers the status.
+fn print_events<O: Output>(
+    alloc: Global,
+    plan: &Plan,
+    script: &[u8],
+    out: &mut O,
+) -> Result<u8, Halt>
+    ensures done { IfOk result (λ _.
+        PrintsEvents plan.now (O.written out.old) (O.written out.new)) }
+    ensures zero { IfOk result (λ status. status ≡ 0) }
+{
+    let file = script_file(alloc, plan, text_in(script)?)?;
+    let status = print(file.as_bytes(), out)?;
+    Ok(status)
 }

@@ -1,6 +1,6 @@
 //! Files of events: a list in JSON, with one event a line.
 
-ghost use Rattle.std.specs.Prelude.{◌≡◌, ◌++◌, Ok, Some, string_bytes, OnOk};
+ghost use Rattle.std.specs.Prelude.{◌≡◌, ◌++◌, Ok, Some, string_bytes, IfOk, OnOk};
 ghost use Rattle.mx_plan.specs.Events.{events_at};
 ghost use Rattle.mx_plan.specs.Fields.{IsPlan};
 ghost use Rattle.mx_texts.specs.EventTexts.{name_of, register_name_of};
@@ -12,7 +12,7 @@ ghost use Rattle.mx_event_files.specs.Readable.{AreReadable};
 use mx_network::{Entry, Event};
 use mx_plan::Plan;
 use mx_stamps::NodeId;
-use std::alloc::AllocError;
+use std::alloc::{AllocError, Global};
 use std::fmt;
 
 /// The name that the plan gives a node.
@@ -149,6 +149,16 @@ pub fn reads_back(plan: &Plan, events: &[Event])
     ensures { IsPlan plan.now → AreReadable plan.now events.now
         → events_at plan.now (file_text plan.now events.now) ≡ Ok events.now }
 {}
+
+/// The file of the events of a trace.
+pub(crate) fn file_of(alloc: Global, plan: &Plan, trace: &[Entry]) -> Result<String, AllocError>
+    ensures { IfOk result (λ text.
+        string_bytes text ≡ file_text plan.now (events_of trace.now)) }
+{
+    let mut text = String::new(alloc);
+    add_file(plan, trace, &mut text)?;
+    Ok(text)
+}
 
 /// Appends the file of the events of a trace.
 pub(crate) fn add_file(plan: &Plan, trace: &[Entry], text: &mut String) -> Result<(), AllocError>

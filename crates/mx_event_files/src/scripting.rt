@@ -5,7 +5,7 @@ ghost use Rattle.mx_network.specs.Step.{step_of};
 ghost use Rattle.mx_event_files.specs.Played.{IsEventFile, IsFileOf, Plays};
 ghost use Rattle.mx_event_files.specs.Scripts.{IsOver};
 
-use crate::files::add_file;
+use crate::files::file_of;
 use crate::halts::Halt;
 use crate::line_faults::LineFault;
 use crate::lines::{Order, read_line};
@@ -56,8 +56,7 @@ fn file_of_script<C: Exclusion>(
     ensures { IfOk result (λ text. IsFileOf C.core plan.now cluster.old (string_bytes text)) }
 {
     each_line(alloc, plan, cluster, mail, script)?;
-    let mut text = String::new(alloc);
-    add_file(plan, cluster.trace(), &mut text)?;
+    let text = file_of(alloc, plan, cluster.trace())?;
     Ok(text)
 }
 
@@ -103,7 +102,6 @@ fn one_line<C: Exclusion>(
 }
 
 /// What a line asks for, once.
-#[tactic(auto, using(crate::proofs::PlayedLemmas::plays_on_ok, crate::proofs::PlayedLemmas::plays_nothing))]
 fn obey<C: Exclusion>(
     plan: &Plan,
     order: &Order,

@@ -3,7 +3,7 @@
 ghost use Rattle.std.specs.Prelude.{◌≡◌, [], length, string_bytes, IfOk, OnOk};
 ghost use Rattle.mx_event_files.specs.Played.{IsEventFile, IsFileOf, Plays};
 
-use crate::files::add_file;
+use crate::files::file_of;
 use crate::playing::play;
 use crate::walk::Walk;
 use mx_commands::start;
@@ -52,9 +52,7 @@ fn file_of_walk<C: Exclusion>(
     ensures { IfOk result (λ text. IsFileOf C.core plan.now cluster.old (string_bytes text)) }
 {
     walk(alloc, plan, cluster, seed, steps)?;
-    let mut text = String::new(alloc);
-    add_file(plan, cluster.trace(), &mut text)?;
-    Ok(text)
+    file_of(alloc, plan, cluster.trace())
 }
 
 /// So many steps, each of an event or none.
