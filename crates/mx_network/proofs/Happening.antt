@@ -54,6 +54,10 @@ pub memory_told : {A G : Type 0} (wanted : Result G StepFault) (r : Result A Ste
 memory_told wanted (Ok a) is fault = absurd is
 memory_told wanted (Err f) is fault = subst (λ x. IsFaultOf wanted x) (sym is) fault
 
+pub fault_told : {A G : Type 0} (wanted : Result G StepFault) (fault : StepFault) (r : Result A StepFault) → IsErrAnd r (λ f. f ≡ fault) → IsFaultOf wanted fault → IfErr r (IsFaultOf wanted)
+fault_told wanted fault (Ok a) is h = absurd is
+fault_told wanted fault (Err f) is h = subst (λ x. IsFaultOf wanted x) (sym is) h
+
 module _ {H S M : Type 0} (core : Core H S M) (g : ClusterState S M) (e : Event) (p : ℕ × Act M) (part : part_of (length g.members) g.sent e ≡ Ok p) where
   -- its node isn't there
   pub gone : length g.members ≤ p.0 → IsFaultOf (step_of core g e) NoNode
