@@ -1,10 +1,11 @@
-use Rattle.std.proofs.Common.{ℕ, ◌≡◌, ◌∙◌, true, false, List, ap, subst, sym}
+use Rattle.std.proofs.Common.{ℕ, ◌≡◌, ◌∙◌, true, false, List, IfOk, OnOk, ap, subst, sym}
 use Rattle.mx_nodelaws.specs.Core.{Core}
 use Rattle.mx_member.specs.declared.acts.Answer.TheVariants as answer
 use Rattle.mx_member.specs.declared.parcel.Parcel.{Parcel}
 use Rattle.mx_member.specs.Acts.{act_of}
 use Rattle.mx_member.specs.Member.{MemberState}
 use Rattle.mx_events.specs.declared.event.Event.{Event}
+use Rattle.mx_network.specs.Outcome.{answer_by}
 use Rattle.mx_network.specs.Step.{act_in, is_leaving}
 use Rattle.mx_network.proofs.parts.act.Goals as goal
 
@@ -80,6 +81,18 @@ returns-in-Want-clause-answer g c = ap (λ d. d.answer) (acted g.C.Exclusion.cor
 
 pub returns-in-Want-clause-letters : goal.returns-in-Want-clause-letters
 returns-in-Want-clause-letters g c = c.want.ensures.letters ∙ ap (λ d. d.letters) (acted g.C.Exclusion.core c.args.sent.now c.args.member.now c.args.event.now _ c.in-Want.is)
+
+pub returns-in-Deliver-clause-state : goal.returns-in-Deliver-clause-state
+returns-in-Deliver-clause-state g c =
+    subst (λ (e : Event). OnOk c.deliver.result (c.deliver.new.member ≡ (act_of g.C.Exclusion.core (act_in c.args.sent.now e) c.args.member.now).state)) (sym c.in-Deliver.is) c.deliver.ensures.state
+
+pub returns-in-Deliver-clause-answer : goal.returns-in-Deliver-clause-answer
+returns-in-Deliver-clause-answer g c =
+    subst (λ (e : Event). IfOk c.deliver.result (λ brief. answer_by brief ≡ (act_of g.C.Exclusion.core (act_in c.args.sent.now e) c.args.member.now).answer)) (sym c.in-Deliver.is) c.deliver.ensures.answer
+
+pub returns-in-Deliver-clause-letters : goal.returns-in-Deliver-clause-letters
+returns-in-Deliver-clause-letters g c =
+    subst (λ (e : Event). OnOk c.deliver.result (c.deliver.new.out ≡ (act_of g.C.Exclusion.core (act_in c.args.sent.now e) c.args.member.now).letters)) (sym c.in-Deliver.is) c.deliver.ensures.letters
 
 pub returns-in-Restart-clause-state : goal.returns-in-Restart-clause-state
 returns-in-Restart-clause-state g c = c.restart.ensures ∙ ap (λ d. d.state) (acted g.C.Exclusion.core c.args.sent.now c.args.member.now c.args.event.now _ c.in-Restart.is)
