@@ -1,5 +1,4 @@
-use Rattle.std.proofs.Common.{◌∙◌, ap, length, refl, subst, sym, arith}
-use Rattle.mx_journal.specs.Drafted.{Drafted}
+use Rattle.std.proofs.Common.{◌∙◌, ap, refl, sym, arith}
 use Rattle.mx_member.specs.declared.faults.WriteFault.TheVariants as write
 use Rattle.mx_member.proofs.Choosing.{not_full}
 use Rattle.mx_member.proofs.Refusing.{is_err}
