@@ -1,10 +1,10 @@
 //! How the stations of a table are made, one for each node.
 
-ghost use Rattle.std.specs.Prelude.{◌≡◌, ◌≤◌, ◌<◌, ℕ, List, [], IfOk};
+ghost use Rattle.std.specs.Prelude.{◌≡◌, ◌≤◌, ◌<◌, [], ◌∷◌, IfOk, OnOk};
 ghost use Rattle.std.specs.Arc.{arc_value};
 ghost use Rattle.mx_member.specs.Steps.{start_of};
 ghost use Rattle.mx_stations.specs.Opened.{AreFresh, starts_of};
-ghost use Rattle.mx_stations.specs.Running.{all_of, fresh};
+ghost use Rattle.mx_stations.specs.Running.{all_but_first, all_of, fresh, only_first};
 
 use crate::field::{Field, Place};
 use crate::rule::{HandOn, Setup};
@@ -50,49 +50,63 @@ impl<C: Exclusion> Field<C> {
         let words = Vec::from_elem(alloc, 0u64, count + slots)?;
         let (board, seat) = Table::vacant(alloc, words.as_slice(), slots, &setup)?;
         let field = Arc::new(alloc, Field { board, nodes })?;
-        let (all, _) = seat_all(alloc, &setup, field, seat)?;
-        Ok(all)
+        seat_all(alloc, &setup, &field, seat)
     }
 }
 
-/// The members at rest, in order.
-fn start_members<C: Exclusion>(
+/// The station of a node at rest, with a seat that it takes from the one of all nodes.
+fn seat_one<C: Exclusion>(
     alloc: Global,
     setup: &Setup<C::Shape>,
-) -> Result<Vec<Member<C>>, AllocError>
-    requires nodes { setup.now.nodes ≡ C.core.count setup.now.shape }
-    requires named { setup.now.nodes ≤ 21 }
+    field: &Arc<Field<C>, Global>,
+    seat: &mut Place<C>,
+    node: NodeId,
+) -> Result<Station<C>, AllocError>
+    requires table { seat.old.table_id ≡ (arc_value field.now).board.shared.table_id }
+    requires nodes { (arc_value field.now).nodes ≡ setup.now.nodes }
+    requires within { node < setup.now.nodes }
+    requires counted { setup.now.nodes ≡ C.core.count setup.now.shape }
     requires low { 0 < setup.now.limit }
     requires high { setup.now.limit ≤ 1000000 }
     requires some { 0 < setup.now.registers }
     requires few { setup.now.registers ≤ 32 }
-    ensures { IfOk result (λ all. all.items ≡ all_of setup.now.nodes (starts_of C.core setup.now)) }
+    requires first { only_first seat.old.me.0 ≡ fresh node (starts_of C.core setup.now node) ∷ [] }
+    ensures left { OnOk result ((seat.new.table_id ≡ seat.old.table_id)
+        × (seat.new.me ≡ (all_but_first seat.old.me.0, seat.old.me.1))) }
+    ensures station { IfOk result (λ one. (one.table ≡ seat.old.table_id)
+        × (one.nodes ≡ setup.now.nodes) × (one.me ≡ fresh node (starts_of C.core setup.now node))
+        × (one.waiting ≡ [])) }
 {
-    let mut members = Vec::new(alloc);
-    for index in 0..setup.nodes {
-        if let Some(me) = NodeId::of(index) {
-            members.push(Member::start(
-                alloc,
-                &setup.shape,
-                me,
-                setup.origin,
-                setup.limit,
-                setup.registers,
-            ))?;
-        }
-    }
-    Ok(members)
+    let shared = Arc::try_clone(field)?;
+    let own = field.board.shared.split_seat::<HandOn>(seat);
+    Ok(Station {
+        field: shared,
+        seat: own,
+        node,
+        member: Member::start(
+            alloc,
+            &setup.shape,
+            node,
+            setup.origin,
+            setup.limit,
+            setup.registers,
+        ),
+        hand: None,
+        receipts: Vec::new(alloc),
+        out: Outbox::new(),
+        waiting: ArrayVec::new(),
+    })
 }
 
-/// A station for each member at rest, with a seat of its own, and the members that are left over.
+/// A station for each node, in order, each at rest.
 fn seat_all<C: Exclusion>(
     alloc: Global,
     setup: &Setup<C::Shape>,
-    field: Arc<Field<C>, Global>,
+    field: &Arc<Field<C>, Global>,
     mut seat: Place<C>,
-) -> Result<(Vec<Station<C>>, Vec<Member<C>>), AllocError>
-    requires table { seat.table_id ≡ (arc_value field).board.shared.table_id }
-    requires nodes { (arc_value field).nodes ≡ setup.now.nodes }
+) -> Result<Vec<Station<C>>, AllocError>
+    requires table { seat.table_id ≡ (arc_value field.now).board.shared.table_id }
+    requires nodes { (arc_value field.now).nodes ≡ setup.now.nodes }
     requires named { setup.now.nodes ≤ 21 }
     requires counted { setup.now.nodes ≡ C.core.count setup.now.shape }
     requires low { 0 < setup.now.limit }
@@ -100,27 +114,14 @@ fn seat_all<C: Exclusion>(
     requires some { 0 < setup.now.registers }
     requires few { setup.now.registers ≤ 32 }
     requires all { seat.me ≡ (all_of setup.now.nodes (λ i. fresh i (starts_of C.core setup.now i)), []) }
-    ensures { IfOk result (λ all. AreFresh setup.now.nodes (starts_of C.core setup.now) all.0.items) }
+    ensures { IfOk result (λ all. AreFresh setup.now.nodes (starts_of C.core setup.now) all.items) }
 {
-    let mut members = start_members(alloc, setup)?;
     let mut all = Vec::new(alloc);
     for index in 0..setup.nodes {
         let Some(node) = NodeId::of(index) else {
             unreachable!();
         };
-        let shared = Arc::try_clone(&field)?;
-        all.reserve(1)?;
-        let own = field.board.shared.split_seat::<HandOn>(&mut seat);
-        all.push_reserved(Station {
-            field: shared,
-            seat: own,
-            node,
-            member: members.remove(0),
-            hand: None,
-            receipts: Vec::new(alloc),
-            out: Outbox::new(),
-            waiting: ArrayVec::new(),
-        });
+        all.push(seat_one(alloc, setup, field, &mut seat, node)?)?;
     }
-    Ok((all, members))
+    Ok(all)
 }

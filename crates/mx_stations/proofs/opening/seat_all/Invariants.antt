@@ -10,5 +10,5 @@ invariant-loop-index g l =
     let starts = starts_of g.C.Exclusion.core l.setup in
     (l.seat.table_id ≡ (arc_value l.field).board.shared.table_id)
     × ((arc_value l.field).nodes ≡ l.setup.nodes)
-    × ((m : ℕ) × (l.index + m ≡ l.setup.nodes) × (l.seat.me ≡ (all_from l.index m (λ i. fresh i (starts i)), [])) × (l.members.items ≡ all_from l.index m starts))
+    × ((m : ℕ) × (l.index + m ≡ l.setup.nodes) × (l.seat.me ≡ (all_from l.index m (λ i. fresh i (starts i)), [])))
     × SoFar starts l.setup.nodes (arc_value l.field).board.shared.table_id l.index l.all.items

@@ -1,4 +1,4 @@
-use Rattle.std.proofs.Common.{rules, length, sym, ap, ◌∙◌, arith, subst, ℕ}
+use Rattle.std.proofs.Common.{rules, length, sym, ap, ◌∙◌, arith, subst, ℕ, IfOk}
 use Rattle.std.proofs.lemmas.Nat.{mul-le}
 use Rattle.mx_member.specs.Steps.{start_of}
 use Rattle.mx_stations.specs.Opened.{AreFresh}
@@ -32,4 +32,4 @@ seat_all-requires g c =
     (search rules, (search rules, (b.2 ∙ sym (ap (λ z. z.board.shared.table_id) f.ok), (ap (λ z. z.nodes) f.ok, (n.high, (n.value, (r.low, (r.high, (r.some, (r.few, b.4))))))))))
 
 pub returns : goal.returns
-returns g c = subst (λ (n : ℕ). AreFresh n (λ i. start_of g.C.Exclusion.core c.args.shape.now i c.args.origin c.args.limit c.args.registers) c.in_ok-all.all.items) c.nodes-nodes.ensures.value c.in_ok-all.ensures
+returns g c = subst (λ (n : ℕ). IfOk c.seat_all.result (λ all. AreFresh n (λ i. start_of g.C.Exclusion.core c.args.shape.now i c.args.origin c.args.limit c.args.registers) all.items)) c.nodes-nodes.ensures.value c.seat_all.ensures
