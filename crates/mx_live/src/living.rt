@@ -1,12 +1,13 @@
 //! `live`: from words, named bytes and two outputs to a status, by threads.
 
-ghost use Rattle.std.specs.Prelude.{◌≡◌, ◌⊎◌, length, IfErr, IfSome, OnOk};
+ghost use Rattle.std.specs.Prelude.{◌≡◌, ◌⊎◌, Option, length, IfErr, IfSome, OnOk};
 ghost use Rattle.std.specs.Io.KnownBytes.{Appends};
 ghost use Rattle.mx_words.specs.Words.{texts_of, AreWrong, AskHelp};
 ghost use Rattle.mx_words.specs.LiveWords.{order_asked, order_of, live_line};
 ghost use Rattle.mx_commands.specs.Ran.{Helps, Scolds, seen};
+ghost use Rattle.mx_commands.specs.Told.{Telling};
 ghost use Rattle.mx_live.specs.Halts.{Fails, halt_status};
-ghost use Rattle.mx_live.specs.Lives.{Ends, Lives};
+ghost use Rattle.mx_live.specs.Lives.{Ends, IsPlanOf, Lives};
 ghost use Rattle.mx_live.specs.Shown.{live_text};
 
 use crate::halts::{Halt, HaltLine};
@@ -91,7 +92,7 @@ fn tell<E: Output>(alloc: Global, halt: Halt, plan: &str, err: &mut E) -> u8
     }
 }
 
-/// Runs the nodes of a plan, and prints what their journals have together.
+/// Runs the nodes of a plan from its source, and prints what their journals have together.
 fn live_and_show<R: Threads + Clock, S: Source, O: Output, E: Output>(
     rt: &R,
     alloc: Global,
@@ -104,11 +105,28 @@ fn live_and_show<R: Threads + Clock, S: Source, O: Output, E: Output>(
         (O.written out.old) (O.written out.new) result }
 {
     let plan = fetch_plan(alloc, source, run.plan)?;
+    live_plan(rt, alloc, &plan, run, out, err)
+}
+
+/// Runs the nodes of a plan, where it has sections enough, and prints what their journals have
+/// together.
+fn live_plan<R: Threads + Clock, O: Output, E: Output>(
+    rt: &R,
+    alloc: Global,
+    plan: &Plan,
+    run: &LiveRun<'_>,
+    out: &mut O,
+    err: &mut E,
+) -> Result<(), Halt>
+    ensures { (told : Option Telling) → IsPlanOf told plan.now
+        → Ends (O.takes_all out.old) told (order_of run.now)
+        (O.written out.old) (O.written out.new) result }
+{
     if u64::from(plan.nodes()).saturating_mul(run.sections) > plan.sections() {
         return Err(Halt::TooFewSections);
     }
-    let gathered = live_by_shape(rt, alloc, &plan, run, err)?;
-    show(alloc, &plan, &gathered, out)
+    let gathered = live_by_shape(rt, alloc, plan, run, err)?;
+    show(alloc, plan, &gathered, out)
 }
 
 /// Prints what the nodes have together.

@@ -1,7 +1,6 @@
-use Rattle.std.proofs.Common.{ℕ, ◌*◌, ◌≤◌, ◌∙◌, arith, subst}
 use Rattle.std.proofs.lemmas.Result.{err_from_is_err_and}
 use Rattle.mx_words.specs.LiveWords.{order_of}
-use Rattle.mx_live.proofs.HaltLemmas.{plan_ends, shown_ends}
+use Rattle.mx_live.proofs.HaltLemmas.{plan_ends}
 use Rattle.mx_live.proofs.living.live_and_show.Goals as goal
 
 pub returns-in_err-plan : goal.returns-in_err-plan
@@ -11,11 +10,4 @@ returns-in_err-plan g c =
     c.from_residual.result e.0 c.in_err-plan.field-0.0 (g.O.Output.written c.args.out.now) e.1 e.2 c.in_err-plan.ensures.told c.in_err-plan.ensures.taken
 
 pub returns : goal.returns
-returns g c =
-    let p = c.in_ok-plan.plan in
-    let all = c.in_ok-gathered in
-    let fits : c.from.result * c.args.run.now.sections ≤ p.sections =
-    omega (arith, c.saturating_mul.ensures, c.if-saturating_mul-sections.false, c.sections.ensures.value, c.sections.ensures.high) in
-    shown_ends (g.O.Output.takes_all c.args.out.now) (g.S.Source.told c.args.source.now c.args.run.now.plan.now) (order_of c.args.run.now)
-    p all.gathered.receipts.items all.gathered.journal c.show.result (g.O.Output.written c.args.out.now) (g.O.Output.written c.show.new.out)
-    c.in_ok-plan.ensures.told (subst (λ (n : ℕ). n * c.args.run.now.sections ≤ p.sections) (c.from.ensures ∙ c.nodes.ensures.value) fits) all.ensures.serial all.ensures.sections c.show.ensures.ok c.show.ensures.err
+returns g c = c.live_plan.ensures (g.S.Source.told c.args.source.now c.args.run.now.plan.now) c.in_ok-plan.ensures.told
