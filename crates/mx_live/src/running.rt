@@ -64,12 +64,10 @@ fn live_ricart<R: Threads + Clock, E: Output>(
         HaveSections (length plan.now.nodes) run.now.sections all.receipts.items) }
     ensures err { IfErr result RanInVain }
 {
-    let stations = stations_in::<Ricart>(alloc, plan, shape)?;
-    let watch = watch_over(stations.as_slice())?;
+    let (stations, watch) = watched_stations::<Ricart>(alloc, plan, shape)?;
     let any = any_ricart(alloc, stations)?;
     let left = run_all(rt, alloc, plan, any, watch, run, err)?;
-    let own = all_ricart(alloc, left)?;
-    gather_all(alloc, own)
+    gather_all(alloc, all_ricart(alloc, left)?)
 }
 
 /// Runs the nodes of the algorithm of Maekawa.
@@ -87,12 +85,10 @@ fn live_maekawa<R: Threads + Clock, E: Output>(
         HaveSections (length plan.now.nodes) run.now.sections all.receipts.items) }
     ensures err { IfErr result RanInVain }
 {
-    let stations = stations_in::<Maekawa>(alloc, plan, shape)?;
-    let watch = watch_over(stations.as_slice())?;
+    let (stations, watch) = watched_stations::<Maekawa>(alloc, plan, shape)?;
     let any = any_maekawa(alloc, stations)?;
     let left = run_all(rt, alloc, plan, any, watch, run, err)?;
-    let own = all_maekawa(alloc, left)?;
-    gather_all(alloc, own)
+    gather_all(alloc, all_maekawa(alloc, left)?)
 }
 
 /// Runs the nodes of the algorithm of Raymond.
@@ -110,12 +106,25 @@ fn live_raymond<R: Threads + Clock, E: Output>(
         HaveSections (length plan.now.nodes) run.now.sections all.receipts.items) }
     ensures err { IfErr result RanInVain }
 {
-    let stations = stations_in::<Raymond>(alloc, plan, shape)?;
-    let watch = watch_over(stations.as_slice())?;
+    let (stations, watch) = watched_stations::<Raymond>(alloc, plan, shape)?;
     let any = any_raymond(alloc, stations)?;
     let left = run_all(rt, alloc, plan, any, watch, run, err)?;
-    let own = all_raymond(alloc, left)?;
-    gather_all(alloc, own)
+    gather_all(alloc, all_raymond(alloc, left)?)
+}
+
+/// The stations of a plan, and a watch over them.
+fn watched_stations<C: Exclusion>(
+    alloc: Global,
+    plan: &Plan,
+    shape: &C::Shape,
+) -> Result<(Vec<Station<C>>, Option<Watch<C>>), AllocError>
+    requires { C.core.count shape.now ≡ length plan.now.nodes }
+    ensures { (algorithm : Algorithm) → IfOk result (λ all.
+        AreAtHome algorithm (length plan.now.nodes) all.0.items) }
+{
+    let stations = stations_in::<C>(alloc, plan, shape)?;
+    let watch = watch_over(stations.as_slice())?;
+    Ok((stations, watch))
 }
 
 /// The stations of a plan.
@@ -153,20 +162,36 @@ fn run_all<C: Exclusion, R: Threads + Clock, E: Output>(
     ensures err { IfErr result RanInVain }
 {
     let gate = shared_gate(alloc, plan.nodes())?;
-    let orders = Orders {
+    let workers = start_all(rt, alloc, stations, &gate, orders_of(run))?;
+    if run.progress {
+        tell_watched(rt, alloc, &watch, &*gate, err);
+    }
+    finished(join_all(rt, workers)?)
+}
+
+/// What a run asks of each worker.
+fn orders_of(run: &LiveRun<'_>) -> Orders
+    ensures { result.sections ≡ run.now.sections }
+{
+    Orders {
         sections: run.sections,
         seed: run.seed,
         turns: run.turns,
         settle: run.settle,
-    };
-    let workers = start_all(rt, alloc, stations, &gate, orders)?;
-    if let Some(watch) = watch
-        && run.progress
-    {
-        tell_progress(rt, alloc, &watch, &*gate, err);
     }
-    let left = join_all(rt, workers)?;
-    finished(left)
+}
+
+/// Tells how far a run has come, where there are nodes to watch.
+fn tell_watched<C: Exclusion, R: Clock, E: Output>(
+    rt: &R,
+    alloc: Global,
+    watch: &Option<Watch<C>>,
+    gate: &Assembly,
+    err: &mut E,
+) {
+    if let Some(watch) = watch {
+        tell_progress(rt, alloc, watch, gate, err);
+    }
 }
 
 /// What was left, where each worker is done. Else why not.

@@ -12,9 +12,9 @@ all_maekawa-requires g c =
 pub gather_all-requires : goal.gather_all-requires
 gather_all-requires g c =
     let at = c.in_ok-stations.ensures maekawa in
-    (omega arith, of_one_table maekawa _ _ _ (c.in_ok-own.ensures _ _ (c.in_ok-left.ensures.done _ (c.in_ok-any.ensures _ at.1))))
+    (omega arith, of_one_table maekawa _ _ _ (c.in_ok-all_maekawa.ensures _ _ (c.in_ok-left.ensures.done _ (c.in_ok-any.ensures _ at.1))))
 
 pub returns-clause-sections : goal.returns-clause-sections
 returns-clause-sections g c =
     let at = c.in_ok-stations.ensures maekawa in
-    c.gather_all.ensures.sections maekawa _ _ (c.in_ok-own.ensures _ _ (c.in_ok-left.ensures.done _ (c.in_ok-any.ensures _ at.1)))
+    c.gather_all.ensures.sections maekawa _ _ (c.in_ok-all_maekawa.ensures _ _ (c.in_ok-left.ensures.done _ (c.in_ok-any.ensures _ at.1)))

@@ -12,9 +12,9 @@ all_ricart-requires g c =
 pub gather_all-requires : goal.gather_all-requires
 gather_all-requires g c =
     let at = c.in_ok-stations.ensures ricart in
-    (omega arith, of_one_table ricart _ _ _ (c.in_ok-own.ensures _ _ (c.in_ok-left.ensures.done _ (c.in_ok-any.ensures _ at.1))))
+    (omega arith, of_one_table ricart _ _ _ (c.in_ok-all_ricart.ensures _ _ (c.in_ok-left.ensures.done _ (c.in_ok-any.ensures _ at.1))))
 
 pub returns-clause-sections : goal.returns-clause-sections
 returns-clause-sections g c =
     let at = c.in_ok-stations.ensures ricart in
-    c.gather_all.ensures.sections ricart _ _ (c.in_ok-own.ensures _ _ (c.in_ok-left.ensures.done _ (c.in_ok-any.ensures _ at.1)))
+    c.gather_all.ensures.sections ricart _ _ (c.in_ok-all_ricart.ensures _ _ (c.in_ok-left.ensures.done _ (c.in_ok-any.ensures _ at.1)))
