@@ -1,12 +1,13 @@
 -- How a run that is drawn ends: as its report does.
 use Rattle.std.proofs.Common.{◌≡◌, ◌∙◌, ◌<◌, ◌++◌, ℕ, Bool, true, false, List, Some, None, Result, Ok, Err, OnOk, ap, get_or, inl, inr, length, refl, subst, sym}
-use Rattle.std.specs.Prelude.{codes, is_ok, if◌then◌else◌}
+use Rattle.std.specs.Prelude.{IfErr, codes, is_ok, if◌then◌else◌}
 use Rattle.std.specs.Bool.{⊤}
 use Rattle.std.specs.declared.alloc.AllocError.{AllocError}
 use Rattle.std.specs.Io.KnownBytes.{Keeps}
 use Rattle.mx_nodelaws.specs.Core.{Core}
-use Rattle.mx_network.specs.Step.{ClusterState, step_of}
+use Rattle.mx_network.specs.Step.{ClusterState, step_of, IsFaultOf}
 use Rattle.mx_events.specs.declared.event.Event.{Event}
+use Rattle.mx_network.specs.declared.faults.StepFault.{StepFault}
 use Rattle.mx_network.specs.declared.faults.StepFault.TheVariants as step_fault
 use Rattle.mx_plan.specs.Text.{Text}
 use Rattle.mx_plan.specs.Fields.{Fields}
@@ -22,6 +23,13 @@ use Rattle.mx_commands.specs.Runs.{Report}
 use Rattle.mx_commands.proofs.RunLemmas.{Appends-keeps, Keeps-refl, rest, rest_err}
 use Rattle.mx_texts.specs.Lines.{line_feed}
 use Rattle.mx_picture.specs.Pictures.{Draws, IsWhole, StopsAs}
+
+-- where a step answers that there is no parcel, there is none
+pub no_parcel_is : {T G : Type 0} (r : Result T StepFault) (wanted : Result G StepFault) → IfErr r (IsFaultOf wanted)
+    → r ≡ Err step_fault.NoParcel → wanted ≡ Err step_fault.NoParcel
+no_parcel_is (Ok t) wanted h is = cc
+no_parcel_is (Err f) wanted (inl memory) is = let m = memory.0 in cc
+no_parcel_is (Err f) wanted (inr same) is = cc
 
 -- a run that stops at an event stops as its report
 pub stops : {H S M : Type 0} (core : Core H S M) (letter : Fields → M → Text) (p : Fields) (es : List Event) (r : Report) (k : ℕ) (g : ClusterState S M) (d : Event) (s : Stop)

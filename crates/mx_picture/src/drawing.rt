@@ -1,6 +1,6 @@
 //! A run that is drawn: events of a cluster, one after another.
 
-ghost use Rattle.std.specs.Prelude.{◌≡◌, ◌≤◌, Ok, None, length, IfErr, OnOk};
+ghost use Rattle.std.specs.Prelude.{◌≡◌, ◌≤◌, Ok, Err, None, length, IfErr, OnOk};
 ghost use Rattle.mx_network.specs.Step.{step_of};
 ghost use Rattle.mx_commands.specs.Runs.{AllNameNodes, NamesNodes, run_from};
 ghost use Rattle.mx_commands.specs.Ran.{StopsAt};
@@ -98,12 +98,22 @@ fn happen<C: Exclusion>(
     ensures ok { OnOk result (step_of C.core cluster.old event.now ≡ Ok cluster.new) }
     ensures err { IfErr result (StopsAt index (step_of C.core cluster.old event.now)) }
 {
-    match cluster.step(*event) {
+    match step(event, cluster) {
         Ok(outcome) => Ok(outcome),
         Err(StepFault::NoParcel) => Err(Stop::Fault(Fault::NoParcel(index))),
         Err(StepFault::Memory) => Err(Stop::Memory),
         Err(StepFault::NoNode) => unreachable!(),
     }
+}
+
+/// One event, of nodes that the cluster has.
+fn step<C: Exclusion>(event: &Event, cluster: &mut Cluster<C>) -> Result<Outcome, StepFault>
+    requires named { NamesNodes (length cluster.old.members) event.now }
+    ensures ok { OnOk result (step_of C.core cluster.old event.now ≡ Ok cluster.new) }
+    ensures no_node { (result ≡ Err StepFault.NoNode) → ⊥ }
+    ensures no_parcel { (result ≡ Err StepFault.NoParcel) → step_of C.core cluster.old event.now ≡ Err StepFault.NoParcel }
+{
+    cluster.step(*event)
 }
 
 /// What happened, at the node where it did.
