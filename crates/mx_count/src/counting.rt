@@ -9,6 +9,8 @@ use crate::running::{Course, add_counts_of};
 use crate::words::{Order, asked_order};
 use mx_commands::{Output, Source, Stop, close, fetch_plan, fetch_run, print, refuse};
 use mx_explorer::schedule;
+use mx_network::Event;
+use mx_plan::Plan;
 use mx_words::{Exploration, Names};
 use std::alloc::Global;
 
@@ -79,9 +81,7 @@ fn count_given<S: Source, O: Output>(
     ensures zero { IfOk result (λ status. status ≡ 0) }
 {
     let (plan, events) = fetch_run(alloc, source, names)?;
-    let mut text = String::new(alloc);
-    add_counts_of(alloc, &plan, events.as_slice(), Course::Given, &mut text)?;
-    print(text.as_bytes(), out)
+    count_run(alloc, &plan, events.as_slice(), Course::Given, out)
 }
 
 /// Reads a plan, draws a schedule of this many steps, and prints what is counted of it.
@@ -95,7 +95,20 @@ fn count_drawn<S: Source, O: Output>(
 {
     let plan = fetch_plan(alloc, source, exploration.plan)?;
     let events = schedule(alloc, exploration.seed, exploration.steps, &plan)?;
+    count_run(alloc, &plan, events.as_slice(), Course::Drawn, out)
+}
+
+/// Prints what is counted of the events of a plan.
+fn count_run<O: Output>(
+    alloc: Global,
+    plan: &Plan,
+    events: &[Event],
+    course: Course,
+    out: &mut O,
+) -> Result<u8, Stop>
+    ensures zero { IfOk result (λ status. status ≡ 0) }
+{
     let mut text = String::new(alloc);
-    add_counts_of(alloc, &plan, events.as_slice(), Course::Drawn, &mut text)?;
+    add_counts_of(alloc, plan, events, course, &mut text)?;
     print(text.as_bytes(), out)
 }

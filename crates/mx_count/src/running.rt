@@ -13,7 +13,7 @@ use crate::waits::longest_wait;
 use mx_commands::{Fault, Stop, VerdictLine, entries_in, happen, start, verdict_status};
 use mx_explorer::judge;
 use mx_maekawa::Maekawa;
-use mx_network::{Cluster, Event, StepFault};
+use mx_network::{Cluster, Event, RunFault, StepFault};
 use mx_nodelaws::Exclusion;
 use mx_plan::{Plan, Shape};
 use mx_raymond::Raymond;
@@ -43,17 +43,36 @@ pub(crate) fn add_counts_of(
 {
     match plan.shape() {
         Shape::Ricart(count) => {
-            let mut cluster = start::<Ricart>(alloc, plan, count)?;
-            add_counts_after(&mut cluster, &RICART, &REFUSALS, events, course, text)
+            let started = start::<Ricart>(alloc, plan, count);
+            add_counts_from(started, &RICART, &REFUSALS, events, course, text)
         }
         Shape::Maekawa(sets) => {
-            let mut cluster = start::<Maekawa>(alloc, plan, sets)?;
-            add_counts_after(&mut cluster, &MAEKAWA, &REFUSALS, events, course, text)
+            let started = start::<Maekawa>(alloc, plan, sets);
+            add_counts_from(started, &MAEKAWA, &REFUSALS, events, course, text)
         }
         Shape::Raymond(tree) => {
-            let mut cluster = start::<Raymond>(alloc, plan, tree)?;
-            add_counts_after(&mut cluster, &RAYMOND, &REFUSALS, events, course, text)
+            let started = start::<Raymond>(alloc, plan, tree);
+            add_counts_from(started, &RAYMOND, &REFUSALS, events, course, text)
         }
+    }
+}
+
+/// The same of a cluster, if it could be started.
+fn add_counts_from<C: Exclusion>(
+    started: Result<Cluster<C>, AllocError>,
+    names: &[&str],
+    causes: &[&str],
+    events: &[Event],
+    course: Course,
+    text: &mut String,
+) -> Result<u8, Stop>
+where
+    C::Msg: Kinded,
+    ensures { IfOk result (λ status. status ≡ 0) }
+{
+    match started {
+        Ok(mut cluster) => add_counts_after(&mut cluster, names, causes, events, course, text),
+        Err(AllocError) => Err(Stop::Memory),
     }
 }
 
@@ -97,8 +116,16 @@ fn run_given<C: Exclusion>(cluster: &mut Cluster<C>, events: &[Event]) -> Result
     cluster.make_room(events.len())?;
     match cluster.run(events) {
         Ok(()) => Ok(()),
-        Err(stopped) if stopped.fault == StepFault::Memory => Err(Stop::Memory),
-        Err(stopped) => Err(Stop::Fault(Fault::NoParcel(stopped.index))),
+        Err(stopped) => Err(stop_of(&stopped)),
+    }
+}
+
+/// Why a run stops of which each event names nodes of the plan.
+fn stop_of(stopped: &RunFault) -> Stop {
+    if stopped.fault == StepFault::Memory {
+        Stop::Memory
+    } else {
+        Stop::Fault(Fault::NoParcel(stopped.index))
     }
 }
 

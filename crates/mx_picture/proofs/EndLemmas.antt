@@ -1,6 +1,6 @@
 -- How a run that is drawn ends: as its report does.
 use Rattle.std.proofs.Common.{◌≡◌, ◌∙◌, ◌<◌, ◌++◌, ℕ, Bool, true, false, List, Some, None, Result, Ok, Err, OnOk, ap, get_or, inl, inr, length, refl, subst, sym}
-use Rattle.std.specs.Prelude.{IfErr, codes, is_ok, if◌then◌else◌}
+use Rattle.std.specs.Prelude.{IfErr, IfOk, codes, is_ok, if◌then◌else◌}
 use Rattle.std.specs.Bool.{⊤}
 use Rattle.std.specs.declared.alloc.AllocError.{AllocError}
 use Rattle.std.specs.Io.KnownBytes.{Keeps}
@@ -19,8 +19,8 @@ use Rattle.mx_commands.specs.declared.faults.Stop.TheVariants as stop
 use Rattle.mx_commands.specs.Jobs.{run_by, where_read}
 use Rattle.mx_commands.specs.Outputs.{Held, stop_of}
 use Rattle.mx_commands.specs.Ran.{Ran, StopsAt}
-use Rattle.mx_commands.specs.Runs.{Report}
-use Rattle.mx_commands.proofs.RunLemmas.{Appends-keeps, Keeps-refl, rest, rest_err}
+use Rattle.mx_commands.specs.Runs.{Report, at_rest}
+use Rattle.mx_commands.proofs.RunLemmas.{Appends-keeps, Keeps-refl, members_at_rest, rest, rest_err}
 use Rattle.mx_texts.specs.Lines.{line_feed}
 use Rattle.mx_picture.specs.Pictures.{Draws, IsWhole, StopsAs}
 
@@ -30,6 +30,19 @@ pub no_parcel_is : {T G : Type 0} (r : Result T StepFault) (wanted : Result G St
 no_parcel_is (Ok t) wanted h is = cc
 no_parcel_is (Err f) wanted (inl memory) is = let m = memory.0 in cc
 no_parcel_is (Err f) wanted (inr same) is = cc
+
+-- a cluster that was started has the members of its shape
+pub members_started : {H S M E : Type 0} (core : Core H S M) (p : Fields) (shape : H) (n : ℕ) (r : Result (ClusterState S M) E) → IfOk r (λ g. g ≡ at_rest core p shape)
+    → core.count shape ≡ n → IfOk r (λ g. length g.members ≡ n)
+members_started core p shape n (Ok g) is count = members_at_rest core p shape n g is count
+members_started core p shape n (Err e) is count = tt
+
+-- what holds of a cluster that was started
+pub if_ok : {T E : Type 0} (r : Result T E) (x : T) (P : T → Type 0) → r ≡ Ok x → P x → IfOk r P
+if_ok {T} {E} r x P is h = subst (λ (q : Result T E). IfOk q P) (sym is) h
+
+pub members_of : {S M E : Type 0} (r : Result (ClusterState S M) E) (g : ClusterState S M) (n : ℕ) → r ≡ Ok g → IfOk r (λ x. length x.members ≡ n) → length g.members ≡ n
+members_of {S} {M} {E} r g n is h = subst (λ (q : Result (ClusterState S M) E). IfOk q (λ x. length x.members ≡ n)) is h
 
 -- a run that stops at an event stops as its report
 pub stops : {H S M : Type 0} (core : Core H S M) (letter : Fields → M → Text) (p : Fields) (es : List Event) (r : Report) (k : ℕ) (g : ClusterState S M) (d : Event) (s : Stop)

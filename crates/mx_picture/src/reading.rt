@@ -1,25 +1,28 @@
 //! The plan is read, then the events, as `replay` does it; then they are drawn.
 
-ghost use Rattle.std.specs.Prelude.{◌≡◌, Some, None, length, string_bytes, IfErr, IfOk, OnOk};
+ghost use Rattle.std.specs.Prelude.{◌≡◌, Some, None, Err, length, string_bytes, IfErr, IfOk, OnErr, OnOk};
 ghost use Rattle.mx_words.specs.Words.{names_of};
 ghost use Rattle.mx_words.specs.Words as task;
 ghost use Rattle.mx_commands.specs.Jobs.{replay_one, report_of_events, run_by};
-ghost use Rattle.mx_commands.specs.Runs.{AllNameNodes};
+ghost use Rattle.mx_commands.specs.Runs.{AllNameNodes, run_from};
 ghost use Rattle.mx_commands.specs.Ran.{Ran, RanOf, RanOn};
 ghost use Rattle.mx_picture.specs.Pictures.{Draws, IsWhole, StopsAs};
 
 use crate::drawing::{Drawing, draw_events};
+use crate::inks::Inked;
 use crate::page::add_page;
 use mx_commands::{
     Named, Output, Source, Stop, are_dashes, fetch, fetch_plan, plan_in, split_line, start,
 };
 use mx_maekawa::Maekawa;
-use mx_network::Event;
+use mx_network::{Cluster, Event};
+use mx_nodelaws::Exclusion;
 use mx_plan::{Plan, Shape, read_events};
 use mx_raymond::Raymond;
 use mx_ricart::Ricart;
+use mx_texts::Letter;
 use mx_words::Names;
-use std::alloc::Global;
+use std::alloc::{AllocError, Global};
 
 /// Reads the plan, then the events, and prints their picture. Answers the status.
 pub(crate) fn draw<S: Source, O: Output>(
@@ -93,16 +96,36 @@ fn draw_by_shape(
 {
     match plan.shape() {
         Shape::Ricart(count) => {
-            let mut cluster = start::<Ricart>(alloc, plan, count)?;
-            draw_events(plan, &mut cluster, events, drawing)
+            draw_started(plan, start::<Ricart>(alloc, plan, count), events, drawing)
         }
         Shape::Maekawa(sets) => {
-            let mut cluster = start::<Maekawa>(alloc, plan, sets)?;
-            draw_events(plan, &mut cluster, events, drawing)
+            draw_started(plan, start::<Maekawa>(alloc, plan, sets), events, drawing)
         }
         Shape::Raymond(tree) => {
-            let mut cluster = start::<Raymond>(alloc, plan, tree)?;
-            draw_events(plan, &mut cluster, events, drawing)
+            draw_started(plan, start::<Raymond>(alloc, plan, tree), events, drawing)
         }
+    }
+}
+
+/// Draws the events of a cluster, if it could be started.
+fn draw_started<C: Exclusion>(
+    plan: &Plan,
+    started: Result<Cluster<C>, AllocError>,
+    events: &[Event],
+    drawing: &mut Drawing,
+) -> Result<(), Stop>
+where
+    C::Msg: Letter + Inked,
+    requires members { IfOk started (λ cluster. length cluster.members ≡ length plan.now.nodes) }
+    requires named { AllNameNodes (length plan.now.nodes) events.now }
+    ensures memory { OnErr started (result ≡ Err Stop.Memory) }
+    ensures ok { IfOk started (λ cluster. OnOk result
+        ((run_from C.core C.Msg.letter_text plan.now 0 cluster events.now).end ≡ None)) }
+    ensures err { IfOk started (λ cluster. IfErr result
+        (StopsAs (run_from C.core C.Msg.letter_text plan.now 0 cluster events.now))) }
+{
+    match started {
+        Ok(mut cluster) => draw_events(plan, &mut cluster, events, drawing),
+        Err(AllocError) => Err(Stop::Memory),
     }
 }
