@@ -3,7 +3,12 @@ use Rattle.std.proofs.Common.{◌≡◌, ◌∙◌, ◌<◌, ◌^◌, ℕ, Bool,
 use Rattle.std.specs.Prelude.{option_and_then}
 use Rattle.std.specs.Str.Parse.{IsNumeral, ParsesUnsigned, digits_value, without_leading_plus}
 use Rattle.clap.specs.declared.parser.matches.ArgMatches.{ArgMatches}
-use Rattle.clap.specs.Words.{App, ReadsOne, Row, Text, is_simple, one_text, subcommand_of, subcommand_rows_of}
+use Rattle.std.proofs.Common.{ap₂, ◌||◌}
+use Rattle.std.proofs.lemmas.Result.{IfOk-weaker}
+use Rattle.std.specs.declared.alloc.AllocError.{AllocError}
+use Rattle.clap.specs.declared.builder.arg.Arg.{Arg}
+use Rattle.clap.specs.declared.builder.command.Command.{Command}
+use Rattle.clap.specs.Words.{AddsArg, AddsSubcommand, App, ReadsOne, Row, Rule, Text, app_of, is_simple, one_text, rule_of, subcommand_of, subcommand_rows_of, with_rule, with_subcommand}
 use Rattle.clap.specs.ValueTests.{is_unsigned_in}
 use Rattle.clap.specs.declared.builder.value_parser.ValueParser.TheVariants.{Unsigned}
 use Rattle.clap.specs.Walk.{rows_of}
@@ -15,7 +20,7 @@ use Rattle.clap.proofs.WalkLemmas.{one_text-rows}
 use Rattle.clap.proofs.ValueTestLemmas.{Accepts-accepts, accepts-Accepts}
 use Rattle.clap.specs.Faults.{fault_of, is_simple_and_free}
 use Rattle.clap.proofs.OnLiterals.{clap_on_literals}
-use Rattle.mx_words.specs.Words.{asked_of, mx_app, number_at, number_of, task_asked, task_in, where_none}
+use Rattle.mx_words.specs.Words.{HasNoGlobals, IsArgument, IsCommand, asked_of, mx_app, needed, number_at, number_of, task_asked, task_in, where_none}
 
 -- ---- numbers
 
@@ -44,25 +49,56 @@ module _ {E : Type 0} (G : List ℕ → Result ℕ E → Type 0) (only : (t : Li
   pub number_read : (f : Found) (id : Text) (r : Option ℕ) → (one_text f id ≡ None → r ≡ None) → ((t : List ℕ) → one_text f id ≡ Some t → ReadsOne G t r) → r ≡ number_at id (rows_of f)
   number_read f id r none some = found_read (one_text f id) r none some ∙ ap (option_and_then number_of) (one_text-rows f id)
 
--- ---- a parse
+-- ---- arguments and commands
 
-pub mx_is_simple : is_simple_and_free mx_app ≡ true
-unfolding clap_on_literals mx_app
-mx_is_simple = refl
+module _ {before : Arg} {rule : Rule} where
+  pub is_needed : {after : Arg} → IsArgument rule before → after ≡ (let a : Arg = record before { required = true } in a) → IsArgument (needed rule) after
+  is_needed h e = record {
+    rule = ap rule_of e ∙ ap needed h.rule;
+    local = ap (λ (a : Arg). a.global) e ∙ h.local;
+  }
+
+module _ {before : Command} {app : App} {argument : Arg} {rule : Rule} where
+  pub with_one : {after : Command} → IsCommand app before → IsArgument rule argument → AddsArg before argument after → IsCommand (with_rule app rule) after
+  with_one h i adds = record {
+    app = adds.shape i.local ∙ ap₂ with_rule h.app i.rule;
+    local = adds.globals ∙ ap₂ ◌||◌ h.local i.local;
+  }
+
+  pub with_last : (r : Result Command AllocError) → IsCommand app before → IsArgument rule argument → IfOk r (AddsArg before argument) → IfOk r (IsCommand (with_rule app rule))
+  with_last r h i = IfOk-weaker r _ _ (λ command adds. with_one h i adds)
+
+-- a command line with one more command
+pub with_command : {before after command : Command} {line app : App} → app_of before ≡ line → IsCommand app command → AddsSubcommand before command after → app_of after ≡ with_subcommand line app.top
+with_command e h adds = adds.shape h.local ∙ ap₂ with_subcommand e (ap (λ (a : App). a.top) h.app)
+
+-- ---- a parse
 
 pub mx_is_plain : is_simple mx_app ≡ true
 unfolding clap_on_literals mx_app
 mx_is_plain = refl
 
--- what the parse of a command line answers, of what is read there
-module _ {X : Type 0} (line : App) (read : Option (Text × List Row) → Option X) (words : List Text) where
-  read_of : fault_of line words ≡ [] → asked_of line read words ≡ read (subcommand_of line words)
-  read_of h = ap (λ kinds. where_none kinds (read (subcommand_of line words))) h
+pub mx_is_free : is_simple_and_free mx_app ≡ true
+unfolding clap_on_literals mx_app
+mx_is_free = refl
 
-  pub answered : (r : Result ArgMatches Error) → FailsBy (fault_of line words) r → IfOk r (λ m. subcommand_rows_of m ≡ subcommand_of line words)
-      → IfOk r (λ m. fault_of line words ≡ []) × IfOk r (λ m. read (subcommand_rows_of m) ≡ asked_of line read words) × IfErr r (HasKind (fault_of line words))
-  answered (Ok m) none rows = (none, ap read rows ∙ sym (read_of none), tt)
-  answered (Err e) kinds rows = (tt, tt, kinds)
+-- what the parse of a command line answers
+pub parsed : (line : App) (words : List Text) (r : Result ArgMatches Error) → FailsBy (fault_of line words) r → IfOk r (λ m. subcommand_rows_of m ≡ subcommand_of line words)
+    → IfOk r (λ m. fault_of line words ≡ []) × IfOk r (λ m. subcommand_rows_of m ≡ subcommand_of line words) × IfErr r (HasKind (fault_of line words))
+parsed line words (Ok m) none found = (none, found, tt)
+parsed line words (Err e) kinds found = (tt, tt, kinds)
+
+-- what a line that is read as this application answers, and what is read of its matches
+module _ {line app : App} (is : line ≡ app) where
+  pub readable : is_simple app ≡ true → is_simple_and_free app ≡ true → (plain : is_simple line ≡ true) × is_simple_and_free line ≡ true
+  readable plain free = (ap is_simple is ∙ plain, ap is_simple_and_free is ∙ free)
+
+  pub same_faults : (words : List Text) → fault_of line words ≡ fault_of app words
+  same_faults words = ap (λ a. fault_of a words) is
+
+  pub answered : {X : Type 0} (read : Option (Text × List Row) → Option X) (words : List Text) {rows : Option (Text × List Row)} {o : Option X} → fault_of line words ≡ [] → rows ≡ subcommand_of line words → o ≡ read rows → o ≡ asked_of app read words
+  answered read words none found e =
+      e ∙ ap read (found ∙ ap (λ a. subcommand_of a words) is) ∙ sym (ap (λ kinds. where_none kinds (read (subcommand_of app words))) (sym (same_faults words) ∙ none))
 
 -- ---- what an error's kind says of the words
 

@@ -1,27 +1,25 @@
 -- What the words of `live` ask for, as `clap` reads them.
-use Rattle.std.specs.Prelude.{ℕ, List, Option, Some, None, true, codes, if◌then◌else◌, option_map, option_and_then, unwrap_or}
+use Rattle.std.specs.Prelude.{ℕ, List, Option, Some, None, codes, if◌then◌else◌, option_map, option_and_then, unwrap_or}
 use Rattle.std.specs.Str.{bytes_eq}
-use Rattle.clap.specs.Words.{App, Row, Rule, Text, first_of, new_app, new_rule, with_rule, with_subcommand}
-use Rattle.clap.specs.declared.builder.action.ArgAction.TheVariants.{SetTrue}
-use Rattle.clap.specs.declared.builder.value_parser.ValueParser.TheVariants.{Unsigned}
+use Rattle.clap.specs.Words.{App, Row, Rule, Text, first_of, new_app, with_rule}
 use Rattle.mx_words.specs.declared.live_words.LiveRun.{LiveRun}
-use Rattle.mx_words.specs.Words.{asked_of, mx_start, number_at, plan_rule, seed_rule}
+use Rattle.mx_words.specs.Words.{asked_of, flag_rule, line_with, needed, number_at, number_rule, plan_rule, seed_rule}
 
 -- `--sections M`, a number to 1000000
 abbrev pub sections_rule : Rule
-sections_rule = record (new_rule (codes "sections")) { long = Some (codes "sections"); parser = Some (Unsigned 0 1000000); required = true }
+sections_rule = needed (number_rule (codes "sections") 1000000)
 
 -- `--turns T`, a number of 64 bits
 abbrev pub turns_rule : Rule
-turns_rule = record (new_rule (codes "turns")) { long = Some (codes "turns"); parser = Some (Unsigned 0 18446744073709551615); required = true }
+turns_rule = needed (number_rule (codes "turns") 18446744073709551615)
 
 -- `--settle N`, a number to 1000000
 abbrev pub settle_rule : Rule
-settle_rule = record (new_rule (codes "settle")) { long = Some (codes "settle"); parser = Some (Unsigned 0 1000000) }
+settle_rule = number_rule (codes "settle") 1000000
 
 -- `--progress`
 abbrev pub progress_rule : Rule
-progress_rule = record (new_rule (codes "progress")) { long = Some (codes "progress"); action = Some SetTrue }
+progress_rule = flag_rule (codes "progress")
 
 -- `live PLAN --sections M --seed S --turns T`, and perhaps `--settle N` and `--progress`
 abbrev pub live_app : App
@@ -29,7 +27,7 @@ live_app = with_rule (with_rule (with_rule (with_rule (with_rule (with_rule (new
 
 -- the whole command line
 unfoldable pub live_line : App
-live_line = with_subcommand mx_start live_app.top
+live_line = line_with live_app
 
 -- the name of the plan, how many sections each node is to have, the seed, how many turns each may take, and after how many
 -- of its sections it settles its journal (0 for never)

@@ -1,38 +1,72 @@
 -- What the words of a command line ask for, as `clap` reads them.
-use Rattle.std.specs.Prelude.{◌≡◌, ◌≢◌, ◌⊎◌, ℕ, List, [], ◌∷◌, Option, Some, None, true, false, codes, map, if◌then◌else◌, option_map, option_and_then}
+use Rattle.std.specs.Prelude.{◌≡◌, ◌≢◌, ◌⊎◌, ℕ, Bool, List, [], ◌∷◌, Option, Some, None, true, false, codes, map, if◌then◌else◌, option_map, option_and_then}
 use Rattle.std.specs.Borrow.{Bor}
+use Rattle.std.specs.Option.{option_map_or}
 use Rattle.std.specs.Str.{bytes_eq}
 use Rattle.std.specs.Str.Parse.{digits_value, without_leading_plus}
-use Rattle.clap.specs.Words.{App, Row, Rule, Text, first_of, one_of, new_app, new_rule, subcommand_of, with_rule, with_subcommand}
+use Rattle.clap.specs.Words.{App, Row, Rule, Text, app_of, first_of, one_of, new_app, new_rule, rule_of, subcommand_of, with_rule, with_subcommand}
 use Rattle.clap.specs.Faults.{fault_of}
 use Rattle.clap.specs.Kinds.{Kinds, IsAmong}
 use Rattle.clap.specs.ValueTests.{is_unsigned_in}
+use Rattle.clap.specs.declared.builder.arg.Arg.{Arg}
 use Rattle.clap.specs.declared.builder.command.Command.{Command}
 use Rattle.clap.specs.declared.builder.command.Command.TheViews.{out-Command}
+use Rattle.clap.specs.declared.builder.action.ArgAction.TheVariants.{SetTrue}
 use Rattle.clap.specs.declared.builder.value_parser.ValueParser.TheVariants.{Unsigned}
+use Rattle.mx_words.specs.declared.words.Exploration.{Exploration}
 use Rattle.mx_words.specs.declared.words.Names.{Names}
 use Rattle.mx_words.specs.declared.words.Request.{Request}
 use Rattle.mx_words.specs.declared.words.Request.TheVariants.{Check, Replay, Explore}
 use Rattle.clap.specs.declared.error.kind.ErrorKind.{ErrorKind}
 use Rattle.clap.specs.declared.error.kind.ErrorKind.TheVariants.{DisplayHelp, DisplayVersion}
 
+-- an argument that has to be given
+abbrev pub needed : Rule → Rule
+needed rule = record rule { required = true }
+
+-- a file that has to be named
+abbrev pub file_rule : Text → Rule
+file_rule id = needed (new_rule id)
+
+-- `--ID`
+abbrev pub flag_rule : Text → Rule
+flag_rule id = record (new_rule id) { long = Some id; action = Some SetTrue }
+
+-- `--ID TEXT`
+abbrev pub text_rule : Text → Rule
+text_rule id = record (new_rule id) { long = Some id }
+
+-- `--ID N`, a number up to the most
+abbrev pub number_rule : Text → ℕ → Rule
+number_rule id most = record (new_rule id) { long = Some id; parser = Some (Unsigned 0 most) }
+
 abbrev pub plan_rule : Rule
-plan_rule = record (new_rule (codes "PLAN")) { required = true }
+plan_rule = file_rule (codes "PLAN")
 
 abbrev pub events_rule : Rule
-events_rule = record (new_rule (codes "EVENTS")) { required = true }
+events_rule = file_rule (codes "EVENTS")
+
+-- the argument is read by this rule, and is not one of subcommands too
+pub record IsArgument (read_by : Rule) (argument : Arg) : Type 0 where
+  pub rule : rule_of argument ≡ read_by
+  pub local : argument.global ≡ false
 
 -- no argument of the command is one of its subcommands too
 abbrev pub HasNoGlobals : Command → Type 0
 HasNoGlobals command = (out-Command command).has_globals ≡ false
 
+-- the command is read as this application, and none of its arguments is one of its subcommands too
+pub record IsCommand (read_as : App) (command : Command) : Type 0 where
+  pub app : app_of command ≡ read_as
+  pub local : HasNoGlobals command
+
 -- `--seed S`, a number of 64 bits
 abbrev pub seed_rule : Rule
-seed_rule = record (new_rule (codes "seed")) { long = Some (codes "seed"); parser = Some (Unsigned 0 18446744073709551615); required = true }
+seed_rule = needed (number_rule (codes "seed") 18446744073709551615)
 
 -- `--steps K`, a number to 1000000
 abbrev pub steps_rule : Rule
-steps_rule = record (new_rule (codes "steps")) { long = Some (codes "steps"); parser = Some (Unsigned 0 1000000); required = true }
+steps_rule = needed (number_rule (codes "steps") 1000000)
 
 -- `check PLAN`
 abbrev pub check_app : App
@@ -48,6 +82,10 @@ explore_app = with_rule (with_rule (with_rule (new_app (codes "explore")) plan_r
 
 abbrev pub mx_start : App
 mx_start = let a = new_app (codes "mx") in record a { top = record a.top { no_binary_name = true; subcommand_required = true; disable_help_subcommand = true; has_version = true } }
+
+-- the command line with this subcommand alone
+abbrev pub line_with : App → App
+line_with app = with_subcommand mx_start app.top
 
 -- the whole command line
 unfoldable pub mx_app : App
@@ -68,6 +106,10 @@ pub data Task : Type 0 where
 abbrev pub names_of : Names → Text × Text
 names_of names = (names.plan.now, names.events.now)
 
+-- the name of the plan, the seed and the number of steps
+abbrev pub explored : Exploration → Text × (ℕ × ℕ)
+explored exploration = (exploration.plan.now, (exploration.seed, exploration.steps))
+
 abbrev pub task_of : Request → Task
 task_of (Check plan) = check plan.now
 task_of (Replay names) = replay (names_of names)
@@ -81,17 +123,28 @@ number_of text =
 abbrev pub number_at : Text → List Row → Option ℕ
 number_at id rows = option_and_then number_of (one_of id rows)
 
+-- a flag was given
+abbrev pub is_given : Text → List Row → Bool
+is_given id rows = option_map_or (λ text. bytes_eq text (codes "true")) (first_of id rows) false
+
+-- the names that were given for a plan and its events
+abbrev pub names_at : List Row → Option (Text × Text)
+names_at rows = option_and_then (λ plan. option_map (λ events. (plan, events)) (first_of (codes "EVENTS") rows)) (first_of (codes "PLAN") rows)
+
+-- the plan, the seed and the number of steps that were given
+abbrev pub exploration_at : List Row → Option (Text × (ℕ × ℕ))
+exploration_at rows = option_and_then (λ plan. option_and_then (λ seed. option_map (λ steps. (plan, (seed, steps)))
+    (number_at (codes "steps") rows)) (number_at (codes "seed") rows)) (first_of (codes "PLAN") rows)
+
 -- what was given for the arguments of each command
 abbrev pub check_in : List Row → Option Task
 check_in rows = option_map check (first_of (codes "PLAN") rows)
 
 abbrev pub replay_in : List Row → Option Task
-replay_in rows =
-    option_and_then (λ plan. option_map (λ events. replay (plan, events)) (first_of (codes "EVENTS") rows)) (first_of (codes "PLAN") rows)
+replay_in rows = option_map replay (names_at rows)
 
 abbrev pub explore_in : List Row → Option Task
-explore_in rows = option_and_then (λ plan. option_and_then (λ seed. option_map (explore plan seed)
-    (number_at (codes "steps") rows)) (number_at (codes "seed") rows)) (first_of (codes "PLAN") rows)
+explore_in rows = option_map (λ e. explore e.0 e.1.0 e.1.1) (exploration_at rows)
 
 -- the command that was met, and what was given for it
 abbrev pub task_in : Option (Text × List Row) → Option Task

@@ -1,15 +1,15 @@
 //! The words of `live`, which are read apart from those of the other commands.
 
-ghost use Rattle.std.specs.Prelude.{◌≡◌, [], IfOk, IfErr, false, option_map};
-ghost use Rattle.clap.specs.Words.{app_of, fault_of, found_of, rows_of, rule_of, subcommand_rows_of, HasKind};
-ghost use Rattle.mx_words.specs.Words.{HasNoGlobals, texts_of};
+ghost use Rattle.std.specs.Prelude.{◌≡◌, [], IfOk, IfErr, option_map};
+ghost use Rattle.clap.specs.Words.{fault_of, found_of, rows_of, subcommand_rows_of, HasKind};
+ghost use Rattle.mx_words.specs.Words.{IsArgument, IsCommand, texts_of};
 ghost use Rattle.mx_words.specs.LiveWords.{live_app, live_in, live_line, order_asked, order_in, order_of, progress_rule, sections_rule, settle_in, settle_rule, turns_rule};
 
+use crate::arguments::{flag_arg, number_arg, plan_arg, seed_arg};
 use crate::help;
-use crate::line::command_line;
-use crate::words::{number_at, plan_arg, seed_arg, text_at};
-use clap::builder::ValueParser;
-use clap::{Arg, ArgAction, ArgMatches, Command, Error};
+use crate::line::{bare_command, line_of, matches_in};
+use crate::words::{number_at, text_at};
+use clap::{Arg, ArgMatches, Command, Error};
 use std::alloc::{AllocError, Global};
 
 /// The greatest number of sections of a node.
@@ -32,73 +32,43 @@ pub struct LiveRun<'a> {
 }
 
 fn sections_arg<'a>(alloc: Global) -> Arg<'a>
-    ensures rule { rule_of result ≡ sections_rule }
-    ensures local { result.global ≡ false }
+    ensures { IsArgument sections_rule result }
 {
-    Arg::new(alloc, "sections")
-        .long("sections")
-        .help("How many sections each node is to have, 0 to 1000000")
-        .value_parser(ValueParser::Unsigned(0, MOST_SECTIONS))
-        .required(true)
+    let help = "How many sections each node is to have, 0 to 1000000";
+    number_arg(alloc, "sections", help, MOST_SECTIONS).required(true)
 }
 
 fn turns_arg<'a>(alloc: Global) -> Arg<'a>
-    ensures rule { rule_of result ≡ turns_rule }
-    ensures local { result.global ≡ false }
+    ensures { IsArgument turns_rule result }
 {
-    Arg::new(alloc, "turns")
-        .long("turns")
-        .help("How many turns each node may take, a whole number of 64 bits")
-        .value_parser(ValueParser::Unsigned(0, u64::MAX))
-        .required(true)
+    let help = "How many turns each node may take, a whole number of 64 bits";
+    number_arg(alloc, "turns", help, u64::MAX).required(true)
 }
 
 fn settle_arg<'a>(alloc: Global) -> Arg<'a>
-    ensures rule { rule_of result ≡ settle_rule }
-    ensures local { result.global ≡ false }
+    ensures { IsArgument settle_rule result }
 {
-    Arg::new(alloc, "settle")
-        .long("settle")
-        .help(
-            "After how many of its sections each node settles its journal, 0 to 1000000; 0 for never",
-        )
-        .value_parser(ValueParser::Unsigned(0, MOST_SETTLED))
+    let help = "After how many of its sections each node settles its journal, 0 to 1000000; 0 for never";
+    number_arg(alloc, "settle", help, MOST_SETTLED)
 }
 
 fn progress_arg<'a>(alloc: Global) -> Arg<'a>
-    ensures rule { rule_of result ≡ progress_rule }
-    ensures local { result.global ≡ false }
+    ensures { IsArgument progress_rule result }
 {
-    Arg::new(alloc, "progress")
-        .long("progress")
-        .help("Tells on standard error, about once a second, how many sections stand so far")
-        .action(ArgAction::SetTrue)
+    let help = "Tells on standard error, about once a second, how many sections stand so far";
+    flag_arg(alloc, "progress", help)
 }
 
 fn live_command<'a>(alloc: Global) -> Result<Command<'a>, AllocError>
-    ensures app { IfOk result (λ command. app_of command ≡ live_app) }
-    ensures local { IfOk result HasNoGlobals }
+    ensures { IfOk result (IsCommand live_app) }
 {
-    let begun = Command::new(alloc, "live")
-        .about(help::LIVE)
-        .after_help(help::LIVE_EXAMPLE);
+    let begun = bare_command(alloc, "live", help::LIVE, help::LIVE_EXAMPLE);
     let with_plan = begun.arg(plan_arg(alloc))?;
     let with_sections = with_plan.arg(sections_arg(alloc))?;
     let with_seed = with_sections.arg(seed_arg(alloc))?;
     let with_turns = with_seed.arg(turns_arg(alloc))?;
     let with_settle = with_turns.arg(settle_arg(alloc))?;
-    let whole = with_settle.arg(progress_arg(alloc))?;
-    Ok(whole)
-}
-
-/// The command that is read: `live` alone.
-fn live_line<'a>(alloc: Global) -> Result<Command<'a>, AllocError>
-    ensures { IfOk result (λ command. app_of command ≡ live_line) }
-{
-    let begun = command_line(alloc)?;
-    let live = live_command(alloc)?;
-    let whole = begun.subcommand(live)?;
-    Ok(whole)
+    with_settle.arg(progress_arg(alloc))
 }
 
 /// What the words, of which `live` is the first, ask for. Their faults are those of `clap`, and words
@@ -109,18 +79,9 @@ pub fn asked_live<'a>(alloc: Global, words: &'a [&'a str]) -> Result<Option<Live
         option_map order_of run ≡ order_asked (texts_of words.entry.now)) }
     ensures err { IfErr result (HasKind (fault_of live_line (texts_of words.entry.now))) }
 {
-    let matches = live_matches_of(alloc, words)?;
+    let line = line_of(alloc, live_command(alloc)?)?;
+    let matches = matches_in(line, words)?;
     Ok(run_in(&matches))
-}
-
-fn live_matches_of<'a>(alloc: Global, words: &'a [&'a str]) -> Result<ArgMatches<'a>, Error>
-    ensures read { IfOk result (λ _. fault_of live_line (texts_of words.entry.now) ≡ []) }
-    ensures ok { IfOk result (λ matches.
-        order_in (subcommand_rows_of matches) ≡ order_asked (texts_of words.entry.now)) }
-    ensures err { IfErr result (HasKind (fault_of live_line (texts_of words.entry.now))) }
-{
-    let command = live_line(alloc)?;
-    command.try_get_matches_from(words)
 }
 
 fn run_in<'a>(matches: &ArgMatches<'a>) -> Option<LiveRun<'a>>

@@ -1,18 +1,16 @@
 //! The command line.
 
-ghost use Rattle.std.specs.Prelude.{◌≡◌, [], IfOk, IfErr, false, option_map};
-ghost use Rattle.clap.specs.Words.{app_of, fault_of, first_of, found_of, rows_of, rule_of, subcommand_rows_of, HasKind};
-ghost use Rattle.mx_words.specs.Words.{HasNoGlobals, check_app, events_rule, explore_app, mx_app, plan_rule, replay_app, seed_rule, steps_rule};
-ghost use Rattle.mx_words.specs.Words.{check_in, explore_in, number_at, replay_in, task_asked, task_in, task_of, texts_of};
+ghost use Rattle.std.specs.Prelude.{◌≡◌, [], IfOk, IfErr, option_map};
+ghost use Rattle.clap.specs.Words.{app_of, fault_of, first_of, found_of, rows_of, subcommand_rows_of, HasKind};
+ghost use Rattle.mx_words.specs.Words.{IsCommand, check_app, explore_app, mx_app, replay_app};
+ghost use Rattle.mx_words.specs.Words.{check_in, exploration_at, explore_in, explored, is_given, names_at, names_of, number_at, replay_in};
+ghost use Rattle.mx_words.specs.Words.{task_asked, task_in, task_of, texts_of};
 
+use crate::arguments::{events_arg, plan_arg, seed_arg, steps_arg};
 use crate::help;
-use crate::line::command_line;
-use clap::builder::ValueParser;
-use clap::{Arg, ArgMatches, Command, Error};
+use crate::line::{bare_command, command_line, matches_in};
+use clap::{ArgMatches, Command, Error};
 use std::alloc::{AllocError, Global};
-
-/// The greatest number of steps of an exploration.
-const MOST_STEPS: u64 = 1_000_000;
 
 /// The names of a plan and of its events.
 #[derive(Clone, Copy, Debug, PartialEq, Eq)]
@@ -38,86 +36,29 @@ pub enum Request<'a> {
     Explore(Exploration<'a>),
 }
 
-/// The argument of a plan's name.
-pub fn plan_arg<'a>(alloc: Global) -> Arg<'a>
-    ensures rule { rule_of result ≡ plan_rule }
-    ensures local { result.global ≡ false }
-{
-    Arg::new(alloc, "PLAN")
-        .help("The file of the plan, or - for standard input")
-        .required(true)
-}
-
-/// The argument of the name of a plan's events.
-pub fn events_arg<'a>(alloc: Global) -> Arg<'a>
-    ensures rule { rule_of result ≡ events_rule }
-    ensures local { result.global ≡ false }
-{
-    Arg::new(alloc, "EVENTS")
-        .help("The file of the events, or - for standard input")
-        .required(true)
-}
-
-/// The argument `--seed`.
-pub fn seed_arg<'a>(alloc: Global) -> Arg<'a>
-    ensures rule { rule_of result ≡ seed_rule }
-    ensures local { result.global ≡ false }
-{
-    Arg::new(alloc, "seed")
-        .long("seed")
-        .help("The seed that is drawn from, a whole number of 64 bits")
-        .value_parser(ValueParser::Unsigned(0, u64::MAX))
-        .required(true)
-}
-
-/// The argument `--steps`.
-pub fn steps_arg<'a>(alloc: Global) -> Arg<'a>
-    ensures rule { rule_of result ≡ steps_rule }
-    ensures local { result.global ≡ false }
-{
-    Arg::new(alloc, "steps")
-        .long("steps")
-        .help("How many steps the schedule has, 0 to 1000000")
-        .value_parser(ValueParser::Unsigned(0, MOST_STEPS))
-        .required(true)
-}
-
 fn check_command<'a>(alloc: Global) -> Result<Command<'a>, AllocError>
-    ensures app { IfOk result (λ command. app_of command ≡ check_app) }
-    ensures local { IfOk result HasNoGlobals }
+    ensures { IfOk result (IsCommand check_app) }
 {
-    let begun = Command::new(alloc, "check")
-        .about(help::CHECK)
-        .after_help(help::CHECK_EXAMPLE);
-    let whole = begun.arg(plan_arg(alloc))?;
-    Ok(whole)
+    bare_command(alloc, "check", help::CHECK, help::CHECK_EXAMPLE).arg(plan_arg(alloc))
 }
 
 /// `replay PLAN EVENTS`.
 pub fn replay_command<'a>(alloc: Global) -> Result<Command<'a>, AllocError>
-    ensures app { IfOk result (λ command. app_of command ≡ replay_app) }
-    ensures local { IfOk result HasNoGlobals }
+    ensures { IfOk result (IsCommand replay_app) }
 {
-    let begun = Command::new(alloc, "replay")
-        .about(help::REPLAY)
-        .after_help(help::REPLAY_EXAMPLE);
+    let begun = bare_command(alloc, "replay", help::REPLAY, help::REPLAY_EXAMPLE);
     let with_plan = begun.arg(plan_arg(alloc))?;
-    let whole = with_plan.arg(events_arg(alloc))?;
-    Ok(whole)
+    with_plan.arg(events_arg(alloc))
 }
 
 /// `explore PLAN --seed S --steps K`.
 pub fn explore_command<'a>(alloc: Global) -> Result<Command<'a>, AllocError>
-    ensures app { IfOk result (λ command. app_of command ≡ explore_app) }
-    ensures local { IfOk result HasNoGlobals }
+    ensures { IfOk result (IsCommand explore_app) }
 {
-    let begun = Command::new(alloc, "explore")
-        .about(help::EXPLORE)
-        .after_help(help::EXPLORE_EXAMPLE);
+    let begun = bare_command(alloc, "explore", help::EXPLORE, help::EXPLORE_EXAMPLE);
     let with_plan = begun.arg(plan_arg(alloc))?;
     let with_seed = with_plan.arg(seed_arg(alloc))?;
-    let whole = with_seed.arg(steps_arg(alloc))?;
-    Ok(whole)
+    with_seed.arg(steps_arg(alloc))
 }
 
 /// The commands that are read.
@@ -125,13 +66,9 @@ fn mx_command<'a>(alloc: Global) -> Result<Command<'a>, AllocError>
     ensures { IfOk result (λ command. app_of command ≡ mx_app) }
 {
     let begun = command_line(alloc)?.after_help(help::MX_EXAMPLE);
-    let check = check_command(alloc)?;
-    let replay = replay_command(alloc)?;
-    let explore = explore_command(alloc)?;
-    let with_check = begun.subcommand(check)?;
-    let with_replay = with_check.subcommand(replay)?;
-    let whole = with_replay.subcommand(explore)?;
-    Ok(whole)
+    let with_check = begun.subcommand(check_command(alloc)?)?;
+    let with_replay = with_check.subcommand(replay_command(alloc)?)?;
+    with_replay.subcommand(explore_command(alloc)?)
 }
 
 /// What the words ask for. Their faults are those of `clap`, and words that ask for help or for the
@@ -142,18 +79,8 @@ pub fn asked<'a>(alloc: Global, words: &'a [&'a str]) -> Result<Option<Request<'
         option_map task_of request ≡ task_asked (texts_of words.entry.now)) }
     ensures err { IfErr result (HasKind (fault_of mx_app (texts_of words.entry.now))) }
 {
-    let matches = matches_of(alloc, words)?;
+    let matches = matches_in(mx_command(alloc)?, words)?;
     Ok(request_in(&matches))
-}
-
-fn matches_of<'a>(alloc: Global, words: &'a [&'a str]) -> Result<ArgMatches<'a>, Error>
-    ensures read { IfOk result (λ _. fault_of mx_app (texts_of words.entry.now) ≡ []) }
-    ensures ok { IfOk result (λ matches.
-        task_in (subcommand_rows_of matches) ≡ task_asked (texts_of words.entry.now)) }
-    ensures err { IfErr result (HasKind (fault_of mx_app (texts_of words.entry.now))) }
-{
-    let command = mx_command(alloc)?;
-    command.try_get_matches_from(words)
 }
 
 fn request_in<'a>(matches: &ArgMatches<'a>) -> Option<Request<'a>>
@@ -179,17 +106,31 @@ fn check_in<'a>(matches: &ArgMatches<'a>) -> Option<Request<'a>>
 fn replay_in<'a>(matches: &ArgMatches<'a>) -> Option<Request<'a>>
     ensures { option_map task_of result ≡ replay_in (rows_of (found_of matches.now)) }
 {
+    names_at(matches).map(Request::Replay)
+}
+
+fn explore_in<'a>(matches: &ArgMatches<'a>) -> Option<Request<'a>>
+    ensures { option_map task_of result ≡ explore_in (rows_of (found_of matches.now)) }
+{
+    exploration_at(matches).map(Request::Explore)
+}
+
+/// The names that were given for a plan and its events.
+pub fn names_at<'a>(matches: &ArgMatches<'a>) -> Option<Names<'a>>
+    ensures { option_map names_of result ≡ names_at (rows_of (found_of matches.now)) }
+{
     let Some(plan) = text_at(matches, "PLAN") else {
         return None;
     };
     let Some(events) = text_at(matches, "EVENTS") else {
         return None;
     };
-    Some(Request::Replay(Names { plan, events }))
+    Some(Names { plan, events })
 }
 
-fn explore_in<'a>(matches: &ArgMatches<'a>) -> Option<Request<'a>>
-    ensures { option_map task_of result ≡ explore_in (rows_of (found_of matches.now)) }
+/// The plan, the seed and the number of steps that were given.
+pub fn exploration_at<'a>(matches: &ArgMatches<'a>) -> Option<Exploration<'a>>
+    ensures { option_map explored result ≡ exploration_at (rows_of (found_of matches.now)) }
 {
     let Some(plan) = text_at(matches, "PLAN") else {
         return None;
@@ -200,7 +141,7 @@ fn explore_in<'a>(matches: &ArgMatches<'a>) -> Option<Request<'a>>
     let Some(steps) = number_at(matches, "steps") else {
         return None;
     };
-    Some(Request::Explore(Exploration { plan, seed, steps }))
+    Some(Exploration { plan, seed, steps })
 }
 
 /// The text that was given for an argument.
@@ -215,4 +156,14 @@ pub fn number_at(matches: &ArgMatches<'_>, id: &str) -> Option<u64>
     ensures { result ≡ number_at id.now (rows_of (found_of matches.now)) }
 {
     matches.get_one::<u64>(id)
+}
+
+/// Whether a flag was given.
+pub fn is_given(matches: &ArgMatches<'_>, id: &str) -> bool
+    ensures { result ≡ is_given id.now (rows_of (found_of matches.now)) }
+{
+    match text_at(matches, id) {
+        Some(text) => text == "true",
+        None => false,
+    }
 }
