@@ -8,9 +8,9 @@ use Rattle.clap.proofs.OnLiterals.{clap_on_literals}
 use Rattle.mx_count.specs.CountWords.{count_line, order_asked, order_in}
 use Rattle.mx_words.proofs.WordLemmas.{none_asked}
 
-pub line_is_simple : is_simple_and_free count_line ≡ true
+pub line_is_free : is_simple_and_free count_line ≡ true
 unfolding clap_on_literals count_line
-line_is_simple = refl
+line_is_free = refl
 
 pub line_is_plain : is_simple count_line ≡ true
 unfolding clap_on_literals count_line

@@ -1,15 +1,14 @@
 -- What the words of `count`, and of `explore` with `--count`, ask for, as `clap` reads them.
-use Rattle.std.specs.Prelude.{ℕ, List, Option, Some, None, codes, if◌then◌else◌, option_map, option_and_then}
+use Rattle.std.specs.Prelude.{ℕ, List, Option, Some, None, codes, if◌then◌else◌, option_map}
 use Rattle.std.specs.Str.{bytes_eq}
-use Rattle.clap.specs.Words.{App, Row, Rule, Text, first_of, new_app, new_rule, with_rule, with_subcommand}
-use Rattle.clap.specs.declared.builder.action.ArgAction.TheVariants.{SetTrue}
-use Rattle.mx_words.specs.Words.{events_rule, explore_app, mx_start, names_of, number_at, plan_rule, asked_of}
+use Rattle.clap.specs.Words.{App, Row, Rule, Text, new_app, with_rule, with_subcommand}
+use Rattle.mx_words.specs.Words.{asked_of, events_rule, exploration_at, explore_app, flag_rule, line_with, names_at, names_of, plan_rule}
 use Rattle.mx_count.specs.declared.words.Order.{Order}
 use Rattle.mx_count.specs.declared.words.Order.TheVariants.{Given, Drawn}
 
 -- `--count`
 abbrev pub count_rule : Rule
-count_rule = record (new_rule (codes "count")) { long = Some (codes "count"); action = Some SetTrue }
+count_rule = flag_rule (codes "count")
 
 -- `count PLAN EVENTS`
 abbrev pub count_app : App
@@ -21,7 +20,7 @@ drawn_app = with_rule explore_app count_rule
 
 -- the whole command line
 unfoldable pub count_line : App
-count_line = with_subcommand (with_subcommand mx_start count_app.top) drawn_app.top
+count_line = with_subcommand (line_with count_app) drawn_app.top
 
 -- what is to be counted: what comes of the events of these names, or of those of a seed and a number of steps
 pub data Wanted : Type 0 where
@@ -34,12 +33,10 @@ order_of (Drawn exploration) = drawn exploration.plan.now exploration.seed explo
 
 -- what was given for the arguments of each command
 abbrev pub given_in : List Row → Option Wanted
-given_in rows =
-    option_and_then (λ plan. option_map (λ events. given (plan, events)) (first_of (codes "EVENTS") rows)) (first_of (codes "PLAN") rows)
+given_in rows = option_map given (names_at rows)
 
 abbrev pub drawn_in : List Row → Option Wanted
-drawn_in rows = option_and_then (λ plan. option_and_then (λ seed. option_map (drawn plan seed)
-    (number_at (codes "steps") rows)) (number_at (codes "seed") rows)) (first_of (codes "PLAN") rows)
+drawn_in rows = option_map (λ e. drawn e.0 e.1.0 e.1.1) (exploration_at rows)
 
 abbrev pub order_in : Option (Text × List Row) → Option Wanted
 order_in None = None

@@ -1,14 +1,15 @@
 //! The words of `count`, and those of `explore` with `--count`.
 
-ghost use Rattle.std.specs.Prelude.{◌≡◌, [], IfOk, IfErr, false, option_map};
-ghost use Rattle.clap.specs.Words.{app_of, fault_of, found_of, rows_of, rule_of, subcommand_rows_of, HasKind};
-ghost use Rattle.mx_words.specs.Words.{HasNoGlobals, names_of, texts_of};
-ghost use Rattle.mx_count.specs.CountWords.{count_app, count_line, count_rule, drawn_app, drawn_in, given_in, order_asked, order_in, order_of};
+ghost use Rattle.std.specs.Prelude.{◌≡◌, [], IfOk, IfErr, option_map};
+ghost use Rattle.clap.specs.Words.{app_of, fault_of, found_of, rows_of, subcommand_rows_of, HasKind};
+ghost use Rattle.mx_words.specs.Words.{IsCommand, texts_of};
+ghost use Rattle.mx_count.specs.CountWords.{count_app, count_line, drawn_app, drawn_in, given_in, order_asked, order_in, order_of};
 
 use crate::help;
-use clap::{Arg, ArgAction, ArgMatches, Command, Error};
+use clap::{ArgMatches, Command, Error};
 use mx_words::{
-    Exploration, Names, command_line, events_arg, explore_command, number_at, plan_arg, text_at,
+    Exploration, Names, bare_command, events_arg, exploration_at, explore_command, flag_arg,
+    line_of, matches_in, names_at, plan_arg,
 };
 use std::alloc::{AllocError, Global};
 
@@ -34,47 +35,26 @@ impl<'a> Order<'a> {
     }
 }
 
-fn count_arg<'a>(alloc: Global) -> Arg<'a>
-    ensures rule { rule_of result ≡ count_rule }
-    ensures local { result.global ≡ false }
-{
-    Arg::new(alloc, "count")
-        .long("count")
-        .help("Prints the counts of `mx count` too")
-        .action(ArgAction::SetTrue)
-}
-
 fn count_command<'a>(alloc: Global) -> Result<Command<'a>, AllocError>
-    ensures app { IfOk result (λ command. app_of command ≡ count_app) }
-    ensures local { IfOk result HasNoGlobals }
+    ensures { IfOk result (IsCommand count_app) }
 {
-    let begun = Command::new(alloc, "count")
-        .about(help::COUNT)
-        .after_help(help::COUNT_EXAMPLE);
+    let begun = bare_command(alloc, "count", help::COUNT, help::COUNT_EXAMPLE);
     let with_plan = begun.arg(plan_arg(alloc))?;
-    let whole = with_plan.arg(events_arg(alloc))?;
-    Ok(whole)
+    with_plan.arg(events_arg(alloc))
 }
 
 fn drawn_command<'a>(alloc: Global) -> Result<Command<'a>, AllocError>
-    ensures app { IfOk result (λ command. app_of command ≡ drawn_app) }
-    ensures local { IfOk result HasNoGlobals }
+    ensures { IfOk result (IsCommand drawn_app) }
 {
-    let begun = explore_command(alloc)?;
-    let whole = begun.arg(count_arg(alloc))?;
-    Ok(whole)
+    let help = "Prints the counts of `mx count` too";
+    explore_command(alloc)?.arg(flag_arg(alloc, "count", help))
 }
 
 /// The commands that are read.
 fn count_line<'a>(alloc: Global) -> Result<Command<'a>, AllocError>
     ensures { IfOk result (λ command. app_of command ≡ count_line) }
 {
-    let begun = command_line(alloc)?;
-    let count = count_command(alloc)?;
-    let drawn = drawn_command(alloc)?;
-    let with_count = begun.subcommand(count)?;
-    let whole = with_count.subcommand(drawn)?;
-    Ok(whole)
+    line_of(alloc, count_command(alloc)?)?.subcommand(drawn_command(alloc)?)
 }
 
 /// What the words ask to count. Their faults are those of `clap`, and words that ask for help come as
@@ -88,18 +68,8 @@ pub(crate) fn asked_order<'a>(
         option_map order_of order ≡ order_asked (texts_of words.entry.now)) }
     ensures err { IfErr result (HasKind (fault_of count_line (texts_of words.entry.now))) }
 {
-    let matches = count_matches_of(alloc, words)?;
+    let matches = matches_in(count_line(alloc)?, words)?;
     Ok(order_in(&matches))
-}
-
-fn count_matches_of<'a>(alloc: Global, words: &'a [&'a str]) -> Result<ArgMatches<'a>, Error>
-    ensures read { IfOk result (λ _. fault_of count_line (texts_of words.entry.now) ≡ []) }
-    ensures ok { IfOk result (λ matches.
-        order_in (subcommand_rows_of matches) ≡ order_asked (texts_of words.entry.now)) }
-    ensures err { IfErr result (HasKind (fault_of count_line (texts_of words.entry.now))) }
-{
-    let command = count_line(alloc)?;
-    command.try_get_matches_from(words)
 }
 
 fn order_in<'a>(matches: &ArgMatches<'a>) -> Option<Order<'a>>
@@ -115,26 +85,11 @@ fn order_in<'a>(matches: &ArgMatches<'a>) -> Option<Order<'a>>
 fn given_in<'a>(matches: &ArgMatches<'a>) -> Option<Order<'a>>
     ensures { option_map order_of result ≡ given_in (rows_of (found_of matches.now)) }
 {
-    let Some(plan) = text_at(matches, "PLAN") else {
-        return None;
-    };
-    let Some(events) = text_at(matches, "EVENTS") else {
-        return None;
-    };
-    Some(Order::Given(Names { plan, events }))
+    names_at(matches).map(Order::Given)
 }
 
 fn drawn_in<'a>(matches: &ArgMatches<'a>) -> Option<Order<'a>>
     ensures { option_map order_of result ≡ drawn_in (rows_of (found_of matches.now)) }
 {
-    let Some(plan) = text_at(matches, "PLAN") else {
-        return None;
-    };
-    let Some(seed) = number_at(matches, "seed") else {
-        return None;
-    };
-    let Some(steps) = number_at(matches, "steps") else {
-        return None;
-    };
-    Some(Order::Drawn(Exploration { plan, seed, steps }))
+    exploration_at(matches).map(Order::Drawn)
 }

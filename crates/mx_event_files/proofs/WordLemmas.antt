@@ -8,9 +8,9 @@ use Rattle.clap.proofs.OnLiterals.{clap_on_literals}
 use Rattle.mx_words.proofs.WordLemmas.{none_asked}
 use Rattle.mx_event_files.specs.Words.{errand_asked, errand_in, file_line}
 
-pub line_is_simple : is_simple_and_free file_line ≡ true
+pub line_is_free : is_simple_and_free file_line ≡ true
 unfolding clap_on_literals file_line
-line_is_simple = refl
+line_is_free = refl
 
 pub line_is_plain : is_simple file_line ≡ true
 unfolding clap_on_literals file_line

@@ -1,19 +1,17 @@
 -- What the words of `draw` and `script` ask for, as `clap` reads them.
-use Rattle.std.specs.Prelude.{ℕ, List, Bool, false, Option, Some, None, true, codes, if◌then◌else◌, option_map, option_and_then}
-use Rattle.std.specs.Option.{option_map_or}
+use Rattle.std.specs.Prelude.{ℕ, List, Bool, Option, Some, None, codes, if◌then◌else◌, option_map, option_and_then}
 use Rattle.std.specs.Str.{bytes_eq}
-use Rattle.clap.specs.Words.{App, Row, Rule, Text, first_of, new_app, new_rule, with_rule, with_subcommand}
-use Rattle.clap.specs.declared.builder.action.ArgAction.TheVariants.{SetTrue}
-use Rattle.mx_words.specs.Words.{mx_start, names_of, number_at, plan_rule, seed_rule, steps_rule, asked_of}
+use Rattle.clap.specs.Words.{App, Row, Rule, Text, first_of, new_app, with_rule, with_subcommand}
+use Rattle.mx_words.specs.Words.{asked_of, exploration_at, file_rule, flag_rule, is_given, line_with, names_of, plan_rule, seed_rule, steps_rule}
 use Rattle.mx_event_files.specs.declared.words.Errand.{Errand}
 use Rattle.mx_event_files.specs.declared.words.Errand.TheVariants as asked
 
 -- `--walk`
 abbrev pub walk_rule : Rule
-walk_rule = record (new_rule (codes "walk")) { long = Some (codes "walk"); action = Some SetTrue }
+walk_rule = flag_rule (codes "walk")
 
 abbrev pub script_rule : Rule
-script_rule = record (new_rule (codes "SCRIPT")) { required = true }
+script_rule = file_rule (codes "SCRIPT")
 
 -- `draw PLAN --seed S --steps K`, and perhaps `--walk`
 abbrev pub draw_app : App
@@ -25,7 +23,7 @@ script_app = with_rule (with_rule (new_app (codes "script")) plan_rule) script_r
 
 -- the whole command line
 unfoldable pub file_line : App
-file_line = with_subcommand (with_subcommand mx_start draw_app.top) script_app.top
+file_line = with_subcommand (line_with draw_app) script_app.top
 
 -- ---- what is asked for
 
@@ -40,17 +38,12 @@ errand_of (asked.Draw exploration) = draw exploration.plan.now exploration.seed 
 errand_of (asked.Walk exploration) = walk exploration.plan.now exploration.seed exploration.steps
 errand_of (asked.Script names) = script (names_of names)
 
--- a flag was given
-abbrev pub is_given : Text → List Row → Bool
-is_given id rows = option_map_or (λ text. bytes_eq text (codes "true")) (first_of id rows) false
-
-abbrev pub drawing : Bool → Text → ℕ → ℕ → Task
-drawing with_walk plan seed steps = if with_walk then walk plan seed steps else draw plan seed steps
+abbrev pub drawing : Bool → Text × (ℕ × ℕ) → Task
+drawing with_walk e = if with_walk then walk e.0 e.1.0 e.1.1 else draw e.0 e.1.0 e.1.1
 
 -- what was given for the arguments of each command
 abbrev pub draw_in : List Row → Option Task
-draw_in rows = option_and_then (λ plan. option_and_then (λ seed. option_map (drawing (is_given (codes "walk") rows) plan seed)
-    (number_at (codes "steps") rows)) (number_at (codes "seed") rows)) (first_of (codes "PLAN") rows)
+draw_in rows = option_map (drawing (is_given (codes "walk") rows)) (exploration_at rows)
 
 abbrev pub script_in : List Row → Option Task
 script_in rows =

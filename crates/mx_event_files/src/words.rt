@@ -1,14 +1,15 @@
 //! The words of `draw` and `script`, which are read apart from those of the other commands.
 
-ghost use Rattle.std.specs.Prelude.{◌≡◌, [], IfOk, IfErr, false, option_map};
-ghost use Rattle.clap.specs.Words.{app_of, fault_of, found_of, rows_of, rule_of, subcommand_rows_of, HasKind};
-ghost use Rattle.mx_words.specs.Words.{HasNoGlobals, texts_of};
-ghost use Rattle.mx_event_files.specs.Words.{draw_app, draw_in, errand_asked, errand_in, errand_of, file_line, is_given, script_app, script_in, script_rule, walk_rule};
+ghost use Rattle.std.specs.Prelude.{◌≡◌, [], IfOk, IfErr, option_map};
+ghost use Rattle.clap.specs.Words.{app_of, fault_of, found_of, rows_of, subcommand_rows_of, HasKind};
+ghost use Rattle.mx_words.specs.Words.{IsCommand, texts_of};
+ghost use Rattle.mx_event_files.specs.Words.{draw_app, draw_in, errand_asked, errand_in, errand_of, file_line, script_app, script_in};
 
 use crate::help;
-use clap::{Arg, ArgAction, ArgMatches, Command, Error};
+use clap::{ArgMatches, Command, Error};
 use mx_words::{
-    Exploration, Names, command_line, number_at, plan_arg, seed_arg, steps_arg, text_at,
+    Exploration, Names, bare_command, exploration_at, file_arg, flag_arg, is_given, line_of,
+    matches_in, plan_arg, seed_arg, steps_arg, text_at,
 };
 use std::alloc::{AllocError, Global};
 
@@ -23,61 +24,31 @@ pub enum Errand<'a> {
     Script(Names<'a>),
 }
 
-fn walk_arg<'a>(alloc: Global) -> Arg<'a>
-    ensures rule { rule_of result ≡ walk_rule }
-    ensures local { result.global ≡ false }
-{
-    Arg::new(alloc, "walk")
-        .long("walk")
-        .help("Draws with purpose: parcels arrive, and nodes enter and leave")
-        .action(ArgAction::SetTrue)
-}
-
-fn script_arg<'a>(alloc: Global) -> Arg<'a>
-    ensures rule { rule_of result ≡ script_rule }
-    ensures local { result.global ≡ false }
-{
-    Arg::new(alloc, "SCRIPT")
-        .help("The file of the script, or - for standard input")
-        .required(true)
-}
-
 fn draw_command<'a>(alloc: Global) -> Result<Command<'a>, AllocError>
-    ensures app { IfOk result (λ command. app_of command ≡ draw_app) }
-    ensures local { IfOk result HasNoGlobals }
+    ensures { IfOk result (IsCommand draw_app) }
 {
-    let begun = Command::new(alloc, "draw")
-        .about(help::DRAW)
-        .after_help(help::DRAW_EXAMPLE);
+    let begun = bare_command(alloc, "draw", help::DRAW, help::DRAW_EXAMPLE);
     let with_plan = begun.arg(plan_arg(alloc))?;
     let with_seed = with_plan.arg(seed_arg(alloc))?;
     let with_steps = with_seed.arg(steps_arg(alloc))?;
-    let whole = with_steps.arg(walk_arg(alloc))?;
-    Ok(whole)
+    let help = "Draws with purpose: parcels arrive, and nodes enter and leave";
+    with_steps.arg(flag_arg(alloc, "walk", help))
 }
 
 fn script_command<'a>(alloc: Global) -> Result<Command<'a>, AllocError>
-    ensures app { IfOk result (λ command. app_of command ≡ script_app) }
-    ensures local { IfOk result HasNoGlobals }
+    ensures { IfOk result (IsCommand script_app) }
 {
-    let begun = Command::new(alloc, "script")
-        .about(help::SCRIPT)
-        .after_help(help::SCRIPT_EXAMPLE);
+    let begun = bare_command(alloc, "script", help::SCRIPT, help::SCRIPT_EXAMPLE);
     let with_plan = begun.arg(plan_arg(alloc))?;
-    let whole = with_plan.arg(script_arg(alloc))?;
-    Ok(whole)
+    let help = "The file of the script, or - for standard input";
+    with_plan.arg(file_arg(alloc, "SCRIPT", help))
 }
 
 /// The commands that are read.
 fn file_line<'a>(alloc: Global) -> Result<Command<'a>, AllocError>
     ensures { IfOk result (λ command. app_of command ≡ file_line) }
 {
-    let begun = command_line(alloc)?;
-    let draw = draw_command(alloc)?;
-    let script = script_command(alloc)?;
-    let with_draw = begun.subcommand(draw)?;
-    let whole = with_draw.subcommand(script)?;
-    Ok(whole)
+    line_of(alloc, draw_command(alloc)?)?.subcommand(script_command(alloc)?)
 }
 
 /// What the words, of which `draw` or `script` is the first, ask for. Their faults are those of `clap`,
@@ -88,18 +59,8 @@ pub(crate) fn asked<'a>(alloc: Global, words: &'a [&'a str]) -> Result<Option<Er
         option_map errand_of errand ≡ errand_asked (texts_of words.entry.now)) }
     ensures err { IfErr result (HasKind (fault_of file_line (texts_of words.entry.now))) }
 {
-    let matches = matches_of(alloc, words)?;
+    let matches = matches_in(file_line(alloc)?, words)?;
     Ok(errand_in(&matches))
-}
-
-fn matches_of<'a>(alloc: Global, words: &'a [&'a str]) -> Result<ArgMatches<'a>, Error>
-    ensures read { IfOk result (λ _. fault_of file_line (texts_of words.entry.now) ≡ []) }
-    ensures ok { IfOk result (λ matches.
-        errand_in (subcommand_rows_of matches) ≡ errand_asked (texts_of words.entry.now)) }
-    ensures err { IfErr result (HasKind (fault_of file_line (texts_of words.entry.now))) }
-{
-    let command = file_line(alloc)?;
-    command.try_get_matches_from(words)
 }
 
 fn errand_in<'a>(matches: &ArgMatches<'a>) -> Option<Errand<'a>>
@@ -115,16 +76,9 @@ fn errand_in<'a>(matches: &ArgMatches<'a>) -> Option<Errand<'a>>
 fn draw_in<'a>(matches: &ArgMatches<'a>) -> Option<Errand<'a>>
     ensures { option_map errand_of result ≡ draw_in (rows_of (found_of matches.now)) }
 {
-    let Some(plan) = text_at(matches, "PLAN") else {
+    let Some(exploration) = exploration_at(matches) else {
         return None;
     };
-    let Some(seed) = number_at(matches, "seed") else {
-        return None;
-    };
-    let Some(steps) = number_at(matches, "steps") else {
-        return None;
-    };
-    let exploration = Exploration { plan, seed, steps };
     if is_given(matches, "walk") {
         Some(Errand::Walk(exploration))
     } else {
@@ -145,14 +99,4 @@ fn script_in<'a>(matches: &ArgMatches<'a>) -> Option<Errand<'a>>
         plan,
         events: script,
     }))
-}
-
-/// Whether a flag was given.
-fn is_given(matches: &ArgMatches<'_>, id: &str) -> bool
-    ensures { result ≡ is_given id.now (rows_of (found_of matches.now)) }
-{
-    match text_at(matches, id) {
-        Some(text) => text == "true",
-        None => false,
-    }
 }

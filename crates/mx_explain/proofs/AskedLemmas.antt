@@ -8,9 +8,9 @@ use Rattle.clap.proofs.OnLiterals.{clap_on_literals}
 use Rattle.mx_explain.specs.Asked.{explain_line, task_asked, task_in}
 use Rattle.mx_words.proofs.WordLemmas.{none_asked}
 
-pub line_is_simple : is_simple_and_free explain_line ≡ true
+pub line_is_free : is_simple_and_free explain_line ≡ true
 unfolding clap_on_literals explain_line
-line_is_simple = refl
+line_is_free = refl
 
 pub line_is_plain : is_simple explain_line ≡ true
 unfolding clap_on_literals explain_line

@@ -1,8 +1,8 @@
 -- What the words of `explain` ask for, as `clap` reads them: a check or a replay that is to be explained.
 use Rattle.std.specs.Prelude.{List, Option, Some, None, codes, if◌then◌else◌, option_map}
 use Rattle.std.specs.Str.{bytes_eq}
-use Rattle.clap.specs.Words.{App, Row, Rule, Text, first_of, new_app, new_rule, with_rule, with_subcommand}
-use Rattle.mx_words.specs.Words.{Task, check, replay, plan_rule, mx_start, asked_of}
+use Rattle.clap.specs.Words.{App, Row, Rule, Text, first_of, new_app, new_rule, with_rule}
+use Rattle.mx_words.specs.Words.{Task, asked_of, check, line_with, plan_rule, replay}
 
 -- `[EVENTS]`
 abbrev pub events_rule : Rule
@@ -14,7 +14,7 @@ explain_app = with_rule (with_rule (new_app (codes "explain")) plan_rule) events
 
 -- the whole command line
 unfoldable pub explain_line : App
-explain_line = with_subcommand mx_start explain_app.top
+explain_line = line_with explain_app
 
 -- a replay where events are named, else a check
 abbrev pub task_on : Text → Option Text → Task

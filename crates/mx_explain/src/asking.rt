@@ -1,42 +1,27 @@
 //! The words of `explain`, which are read apart from those of the other commands.
 
-ghost use Rattle.std.specs.Prelude.{◌≡◌, [], IfOk, IfErr, false, option_map};
-ghost use Rattle.clap.specs.Words.{app_of, fault_of, found_of, rows_of, rule_of, subcommand_rows_of, HasKind};
-ghost use Rattle.mx_words.specs.Words.{HasNoGlobals, task_of, texts_of};
+ghost use Rattle.std.specs.Prelude.{◌≡◌, [], IfOk, IfErr, option_map};
+ghost use Rattle.clap.specs.Words.{app_of, fault_of, found_of, rows_of, subcommand_rows_of, HasKind};
+ghost use Rattle.mx_words.specs.Words.{IsArgument, IsCommand, task_of, texts_of};
 ghost use Rattle.mx_explain.specs.Asked.{events_rule, explain_app, explain_in, explain_line, task_asked, task_in};
 
 use crate::help;
 use clap::{Arg, ArgMatches, Command, Error};
-use mx_words::{Names, Request, command_line, plan_arg, text_at};
+use mx_words::{Names, Request, bare_command, line_of, matches_in, plan_arg, text_at};
 use std::alloc::{AllocError, Global};
 
 fn events_arg<'a>(alloc: Global) -> Arg<'a>
-    ensures rule { rule_of result ≡ events_rule }
-    ensures local { result.global ≡ false }
+    ensures { IsArgument events_rule result }
 {
     Arg::new(alloc, "EVENTS").help("The file of the events, or - for standard input")
 }
 
 fn explain_command<'a>(alloc: Global) -> Result<Command<'a>, AllocError>
-    ensures app { IfOk result (λ command. app_of command ≡ explain_app) }
-    ensures local { IfOk result HasNoGlobals }
+    ensures { IfOk result (IsCommand explain_app) }
 {
-    let begun = Command::new(alloc, "explain")
-        .about(help::ABOUT)
-        .after_help(help::EXAMPLE);
+    let begun = bare_command(alloc, "explain", help::ABOUT, help::EXAMPLE);
     let with_plan = begun.arg(plan_arg(alloc))?;
-    let whole = with_plan.arg(events_arg(alloc))?;
-    Ok(whole)
-}
-
-/// The command that is read: `explain` alone.
-fn explain_line<'a>(alloc: Global) -> Result<Command<'a>, AllocError>
-    ensures { IfOk result (λ command. app_of command ≡ explain_line) }
-{
-    let begun = command_line(alloc)?;
-    let explain = explain_command(alloc)?;
-    let whole = begun.subcommand(explain)?;
-    Ok(whole)
+    with_plan.arg(events_arg(alloc))
 }
 
 /// The check or the replay that the words, of which `explain` is the first, ask to have explained.
@@ -49,18 +34,9 @@ pub(crate) fn asked_explain<'a>(
         option_map task_of request ≡ task_asked (texts_of words.entry.now)) }
     ensures err { IfErr result (HasKind (fault_of explain_line (texts_of words.entry.now))) }
 {
-    let matches = explain_matches_of(alloc, words)?;
+    let line = line_of(alloc, explain_command(alloc)?)?;
+    let matches = matches_in(line, words)?;
     Ok(request_in(&matches))
-}
-
-fn explain_matches_of<'a>(alloc: Global, words: &'a [&'a str]) -> Result<ArgMatches<'a>, Error>
-    ensures read { IfOk result (λ _. fault_of explain_line (texts_of words.entry.now) ≡ []) }
-    ensures ok { IfOk result (λ matches.
-        task_in (subcommand_rows_of matches) ≡ task_asked (texts_of words.entry.now)) }
-    ensures err { IfErr result (HasKind (fault_of explain_line (texts_of words.entry.now))) }
-{
-    let command = explain_line(alloc)?;
-    command.try_get_matches_from(words)
 }
 
 fn request_in<'a>(matches: &ArgMatches<'a>) -> Option<Request<'a>>

@@ -1,8 +1,8 @@
 -- What the words of `picture` ask for, as `clap` reads them.
-use Rattle.std.specs.Prelude.{List, Option, Some, None, codes, if◌then◌else◌, option_map, option_and_then}
+use Rattle.std.specs.Prelude.{List, Option, Some, None, codes, if◌then◌else◌}
 use Rattle.std.specs.Str.{bytes_eq}
-use Rattle.clap.specs.Words.{App, Row, Text, first_of, new_app, with_rule, with_subcommand}
-use Rattle.mx_words.specs.Words.{events_rule, mx_start, plan_rule, asked_of}
+use Rattle.clap.specs.Words.{App, Row, Text, new_app, with_rule}
+use Rattle.mx_words.specs.Words.{asked_of, events_rule, line_with, names_at, plan_rule}
 
 -- `picture PLAN EVENTS`
 abbrev pub picture_app : App
@@ -10,16 +10,12 @@ picture_app = with_rule (with_rule (new_app (codes "picture")) plan_rule) events
 
 -- the whole command line
 unfoldable pub picture_line : App
-picture_line = with_subcommand mx_start picture_app.top
+picture_line = line_with picture_app
 
 -- the names of the plan and of the events, where they were given
-abbrev pub names_given : List Row → Option (Text × Text)
-names_given rows =
-    option_and_then (λ plan. option_map (λ events. (plan, events)) (first_of (codes "EVENTS") rows)) (first_of (codes "PLAN") rows)
-
 abbrev pub names_in : Option (Text × List Row) → Option (Text × Text)
 names_in None = None
-names_in (Some p) = if bytes_eq p.0 (codes "picture") then names_given p.1 else None
+names_in (Some p) = if bytes_eq p.0 (codes "picture") then names_at p.1 else None
 
 -- what the words ask for, where they are `picture` with its arguments
 unfoldable pub names_asked : List Text → Option (Text × Text)

@@ -8,9 +8,9 @@ use Rattle.clap.proofs.OnLiterals.{clap_on_literals}
 use Rattle.mx_views.specs.ViewWords.{view_line, views_asked, views_in}
 use Rattle.mx_words.proofs.WordLemmas.{none_asked}
 
-pub line_is_simple : is_simple_and_free view_line ≡ true
+pub line_is_free : is_simple_and_free view_line ≡ true
 unfolding clap_on_literals view_line
-line_is_simple = refl
+line_is_free = refl
 
 pub line_is_plain : is_simple view_line ≡ true
 unfolding clap_on_literals view_line

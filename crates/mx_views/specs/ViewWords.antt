@@ -1,23 +1,21 @@
 -- What the words of `replay` with `--quiet`, `--node` or `--json` ask for, as `clap` reads them.
-use Rattle.std.specs.Prelude.{Bool, false, List, Option, Some, None, codes, if◌then◌else◌, option_map, option_and_then}
-use Rattle.std.specs.Option.{option_map_or}
+use Rattle.std.specs.Prelude.{Bool, List, Option, Some, None, codes, if◌then◌else◌, option_map}
 use Rattle.std.specs.Str.{bytes_eq}
-use Rattle.clap.specs.Words.{App, Row, Rule, Text, first_of, new_rule, with_rule, with_subcommand}
-use Rattle.clap.specs.declared.builder.action.ArgAction.TheVariants.{SetTrue}
-use Rattle.mx_words.specs.Words.{mx_start, names_of, replay_app, asked_of}
+use Rattle.clap.specs.Words.{App, Row, Rule, Text, first_of, with_rule}
+use Rattle.mx_words.specs.Words.{asked_of, flag_rule, is_given, line_with, names_at, names_of, replay_app, text_rule}
 use Rattle.mx_views.specs.declared.words.Wish.{Wish}
 
 -- `--quiet`
 abbrev pub quiet_rule : Rule
-quiet_rule = record (new_rule (codes "quiet")) { long = Some (codes "quiet"); action = Some SetTrue }
+quiet_rule = flag_rule (codes "quiet")
 
 -- `--node NAME`
 abbrev pub node_rule : Rule
-node_rule = record (new_rule (codes "node")) { long = Some (codes "node") }
+node_rule = text_rule (codes "node")
 
 -- `--json`
 abbrev pub json_rule : Rule
-json_rule = record (new_rule (codes "json")) { long = Some (codes "json"); action = Some SetTrue }
+json_rule = flag_rule (codes "json")
 
 -- `replay PLAN EVENTS`, and perhaps `--quiet`, `--node NAME` and `--json`
 abbrev pub view_app : App
@@ -25,7 +23,7 @@ view_app = with_rule (with_rule (with_rule replay_app quiet_rule) node_rule) jso
 
 -- the whole command line
 unfoldable pub view_line : App
-view_line = with_subcommand mx_start view_app.top
+view_line = line_with view_app
 
 -- the names of the plan and of the events; whether the closing lines alone are to be shown, of which node alone, and
 -- whether as JSON
@@ -41,16 +39,12 @@ shown names is_quiet node is_json = record { names = names; is_quiet = is_quiet;
 abbrev pub shown_by : Wish → Shown
 shown_by wish = shown (names_of wish.names) wish.is_quiet (option_map (λ name. name.now) wish.node) wish.is_json
 
--- a flag was given
-abbrev pub is_given : Text → List Row → Bool
-is_given id rows = option_map_or (λ text. bytes_eq text (codes "true")) (first_of id rows) false
-
 -- what was given for the arguments
-abbrev pub view_of : List Row → Text → Text → Shown
-view_of rows plan events = shown (plan, events) (is_given (codes "quiet") rows) (first_of (codes "node") rows) (is_given (codes "json") rows)
+abbrev pub view_of : List Row → Text × Text → Shown
+view_of rows names = shown names (is_given (codes "quiet") rows) (first_of (codes "node") rows) (is_given (codes "json") rows)
 
 abbrev pub view_in : List Row → Option Shown
-view_in rows = option_and_then (λ plan. option_map (view_of rows plan) (first_of (codes "EVENTS") rows)) (first_of (codes "PLAN") rows)
+view_in rows = option_map (view_of rows) (names_at rows)
 
 abbrev pub views_in : Option (Text × List Row) → Option Shown
 views_in None = None

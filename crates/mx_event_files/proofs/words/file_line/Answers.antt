@@ -1,10 +1,12 @@
-use Rattle.std.proofs.Common.{ap, ap₂, ◌∙◌}
-use Rattle.clap.specs.Words.{App, with_subcommand}
+use Rattle.std.proofs.Common.{ap, ◌∙◌}
+use Rattle.std.proofs.lemmas.Result.{IfOk-weaker}
+use Rattle.mx_words.specs.Words.{line_with}
+use Rattle.mx_words.proofs.WordLemmas.{with_command}
 use Rattle.mx_event_files.specs.Words.{file_line}
 use Rattle.mx_event_files.proofs.words.file_line.Goals as goal
 
 pub returns : goal.returns
 unfolding file_line
 returns c =
-    let drawn = c.in_ok-with_draw.ensures.shape c.in_ok-draw.ensures.local ∙ ap₂ with_subcommand c.in_ok-begun.ensures (ap (λ (a : App). a.top) c.in_ok-draw.ensures.app) in
-    c.in_ok-whole.ensures.shape c.in_ok-script.ensures.local ∙ ap₂ with_subcommand drawn (ap (λ (a : App). a.top) c.in_ok-script.ensures.app)
+    let first = c.in_ok-line_of.ensures ∙ ap line_with c.in_ok-draw_command.ensures.app in
+    IfOk-weaker c.subcommand.result _ _ (λ line adds. with_command first c.in_ok-script_command.ensures adds) c.subcommand.ensures

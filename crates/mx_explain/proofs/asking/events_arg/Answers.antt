@@ -3,8 +3,8 @@ use Rattle.clap.specs.Words.{rule_of}
 use Rattle.clap.specs.declared.builder.arg.Arg.{Arg}
 use Rattle.mx_explain.proofs.asking.events_arg.Goals as goal
 
-pub returns-clause-rule : goal.returns-clause-rule
-returns-clause-rule c = ap rule_of c.help.ensures ∙ c.new.ensures.rule
-
-pub returns-clause-local : goal.returns-clause-local
-returns-clause-local c = ap (λ (a : Arg). a.global) c.help.ensures ∙ c.new.ensures.optional.1
+pub returns : goal.returns
+returns c = record {
+  rule = ap rule_of c.help.ensures ∙ c.new.ensures.rule;
+  local = ap (λ (a : Arg). a.global) c.help.ensures ∙ c.new.ensures.optional.1;
+}
