@@ -44,20 +44,30 @@ pub(crate) fn value_in(
 /// Says why a text is not JSON. The reader's place may lie behind the token that does not fit.
 fn say_no_json(page: &mut Page<'_>, text: &[u8], part: Part, e: &Error) -> Result<(), AllocError> {
     let offset = offset_of(text, e.line(), e.column().max(1));
-    if let Some(said) = reason(page.alloc, text, offset, e)? {
-        let (line, column) = place_in(text, part, offset);
-        return page.say(NoJson { line, column, said });
+    match reason(page.alloc, text, offset, e)? {
+        Some(said) => {
+            let (line, column) = place_in(text, part, offset);
+            page.say(NoJson { line, column, said })
+        }
+        None => say_unfit(page, text, part, offset, e.is_eof()),
     }
+}
+
+/// Says what does not fit up to a place, or that the text is cut there.
+fn say_unfit(
+    page: &mut Page<'_>,
+    text: &[u8],
+    part: Part,
+    offset: usize,
+    is_cut: bool,
+) -> Result<(), AllocError> {
     let scan = scanned(page.alloc, text)?;
     match scan.misfit() {
         Some(misfit) if misfit <= offset => {
             say_misfit(page, text, part, misfit, scan.expected())
         }
-        None if e.is_eof() => say_cut(page, text, part, &scan),
-        _ => {
-            let expected = expected_at(page.alloc, text, offset)?;
-            say_misfit(page, text, part, offset, expected)
-        }
+        None if is_cut => say_cut(page, text, part, &scan),
+        _ => say_unexpected(page, text, part, offset),
     }
 }
 
@@ -105,6 +115,17 @@ fn expected_at(alloc: Global, text: &[u8], offset: usize) -> Result<&'static str
         (_, Some(before)) => Ok(scanned(alloc, before)?.expected()),
         _ => Ok("JSON"),
     }
+}
+
+/// Says what is expected at a place, up to which all tokens fit.
+fn say_unexpected(
+    page: &mut Page<'_>,
+    text: &[u8],
+    part: Part,
+    offset: usize,
+) -> Result<(), AllocError> {
+    let expected = expected_at(page.alloc, text, offset)?;
+    say_misfit(page, text, part, offset, expected)
 }
 
 /// Says that something else is expected at a place.

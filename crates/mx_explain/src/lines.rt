@@ -43,22 +43,25 @@ pub(crate) struct Found<'a>(pub(crate) Option<&'a Value>);
 
 impl Display for Found<'_> {
     fn fmt<W: fmt::Write>(&self, f: &mut fmt::Formatter<W>) -> fmt::Result {
-        let Some(value) = self.0 else {
-            return f.write_str("nothing");
-        };
-        if value.is_object() {
-            return f.write_str("an object");
+        match self.0 {
+            Some(value) if value.is_object() => f.write_str("an object"),
+            Some(value) => write_found(value, f),
+            None => f.write_str("nothing"),
         }
-        if let Some(items) = elements(Some(value)) {
-            let count = items.len();
-            return write!(f, "an array of {count}");
-        }
-        let bytes = text_in(Some(value)).len();
-        if bytes > MOST_BYTES {
-            return write!(f, "a text of {bytes} bytes");
-        }
-        write!(f, "{value}")
     }
+}
+
+/// Writes a value that is no object, in short.
+fn write_found<W: fmt::Write>(value: &Value, f: &mut fmt::Formatter<W>) -> fmt::Result {
+    if let Some(items) = elements(Some(value)) {
+        let count = items.len();
+        return write!(f, "an array of {count}");
+    }
+    let bytes = text_in(Some(value)).len();
+    if bytes > MOST_BYTES {
+        return write!(f, "a text of {bytes} bytes");
+    }
+    write!(f, "{value}")
 }
 
 /// The name that is nearest to what stands at a place, where one is near.

@@ -20,13 +20,33 @@ pub(crate) fn explain_parcel(
     events: &[u8],
     k: u64,
 ) -> Result<(), AllocError> {
-    let Ok(plan) = read_plan(page.alloc, plan) else {
-        return Err(AllocError);
-    };
-    let Ok(events) = read_events(page.alloc, events, &plan) else {
-        return Err(AllocError);
-    };
-    let sent = parcels_sent(page.alloc, &plan, events.as_slice())?;
+    match read_plan(page.alloc, plan) {
+        Ok(plan) => explain_parcel_in(page, &plan, events, k),
+        Err(_) => Err(AllocError),
+    }
+}
+
+/// The same of the events of a plan that was read.
+fn explain_parcel_in(
+    page: &mut Page<'_>,
+    plan: &Plan,
+    events: &[u8],
+    k: u64,
+) -> Result<(), AllocError> {
+    match read_events(page.alloc, events, plan) {
+        Ok(events) => explain_unsent(page, plan, events.as_slice(), k),
+        Err(_) => Err(AllocError),
+    }
+}
+
+/// The same of events that were read.
+fn explain_unsent(
+    page: &mut Page<'_>,
+    plan: &Plan,
+    events: &[Event],
+    k: u64,
+) -> Result<(), AllocError> {
+    let sent = parcels_sent(page.alloc, plan, events)?;
     match events.get(k as usize) {
         Some(Event::Deliver(number)) => page.say(Unsent {
             k,
@@ -40,19 +60,21 @@ pub(crate) fn explain_parcel(
 /// How many parcels the events send, up to the first that can't happen.
 fn parcels_sent(alloc: Global, plan: &Plan, events: &[Event]) -> Result<u64, AllocError> {
     match plan.shape() {
-        Shape::Ricart(count) => {
-            let mut cluster = start::<Ricart>(alloc, plan, count)?;
-            sent_after(&mut cluster, events)
-        }
-        Shape::Maekawa(sets) => {
-            let mut cluster = start::<Maekawa>(alloc, plan, sets)?;
-            sent_after(&mut cluster, events)
-        }
-        Shape::Raymond(tree) => {
-            let mut cluster = start::<Raymond>(alloc, plan, tree)?;
-            sent_after(&mut cluster, events)
-        }
+        Shape::Ricart(count) => sent_in::<Ricart>(alloc, plan, count, events),
+        Shape::Maekawa(sets) => sent_in::<Maekawa>(alloc, plan, sets, events),
+        Shape::Raymond(tree) => sent_in::<Raymond>(alloc, plan, tree, events),
     }
+}
+
+/// How many parcels the events send in a cluster of this shape.
+fn sent_in<C: Exclusion>(
+    alloc: Global,
+    plan: &Plan,
+    shape: &C::Shape,
+    events: &[Event],
+) -> Result<u64, AllocError> {
+    let mut cluster = start::<C>(alloc, plan, shape)?;
+    sent_after(&mut cluster, events)
 }
 
 /// How many parcels are sent once these events happened, up to the first that can't.

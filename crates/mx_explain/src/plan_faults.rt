@@ -47,29 +47,33 @@ pub(crate) fn explain_plan(page: &mut Page<'_>, plan: &Value) -> Result<(), Allo
         let expected = "an object with algorithm, nodes, registers and sections";
         return expect(page, Path::of("the plan"), Some(plan), expected);
     }
-    let algorithms = "an algorithm: ricart, maekawa or raymond";
-    let algorithm = plan.get("algorithm");
-    expect_word(
-        page,
-        Path::of("algorithm"),
-        algorithm,
-        &ALGORITHMS,
-        algorithms,
-    )?;
-    let (nodes, registers) = ("an array of 1 to 21 names", "an array of 1 to 32 names");
-    explain_names(page, "nodes", plan.get("nodes"), MOST_NODES, nodes)?;
-    explain_names(
-        page,
-        "registers",
-        plan.get("registers"),
-        MOST_REGISTERS,
-        registers,
-    )?;
+    explain_algorithm(page, plan.get("algorithm"))?;
+    explain_lists(page, plan)?;
     explain_numbers(page, plan)?;
-    let nodes = names_in(page.alloc, plan.get("nodes"), MOST_NODES)?;
-    explain_shape(page, text_in(algorithm), plan, nodes.as_slice())?;
+    let algorithm = text_in(plan.get("algorithm"));
+    explain_shape_of(page, algorithm, plan)?;
     warn_of_unread(page, "", plan, &MEMBERS)?;
-    warn_of_foreign(page, text_in(algorithm), plan)
+    warn_of_foreign(page, algorithm, plan)
+}
+
+fn explain_algorithm(page: &mut Page<'_>, value: Option<&Value>) -> Result<(), AllocError> {
+    let expected = "an algorithm: ricart, maekawa or raymond";
+    expect_word(page, Path::of("algorithm"), value, &ALGORITHMS, expected)
+}
+
+/// The names of the nodes and of the registers.
+fn explain_lists(page: &mut Page<'_>, plan: &Value) -> Result<(), AllocError> {
+    let (nodes, registers) = (plan.get("nodes"), plan.get("registers"));
+    let expected = "an array of 1 to 21 names";
+    explain_names(page, "nodes", nodes, MOST_NODES, expected)?;
+    let expected = "an array of 1 to 32 names";
+    explain_names(page, "registers", registers, MOST_REGISTERS, expected)
+}
+
+/// The members that this algorithm reads alone.
+fn explain_shape_of(page: &mut Page<'_>, algorithm: &str, plan: &Value) -> Result<(), AllocError> {
+    let nodes = names_in(page.alloc, plan.get("nodes"), MOST_NODES)?;
+    explain_shape(page, algorithm, plan, nodes.as_slice())
 }
 
 /// The bounds of a plan.

@@ -11,8 +11,12 @@ use std::fmt;
 /// Warns of each member whose key stands earlier in the same object.
 pub(crate) fn warn_of_repeated(page: &mut Page<'_>, text: &[u8]) -> Result<(), AllocError> {
     let scan = scanned(page.alloc, text)?;
+    warn_of_members(page, text, scan.members())
+}
+
+fn warn_of_members(page: &mut Page<'_>, text: &[u8], members: &[Member]) -> Result<(), AllocError> {
     let mut seen = BTreeSet::new(page.alloc);
-    for member in scan.members() {
+    for member in members {
         let key = key_of(text, member);
         if !seen.insert((member.object, key))? {
             say_repeated(page, text, member.from, key)?;

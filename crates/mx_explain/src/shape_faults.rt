@@ -55,18 +55,11 @@ impl fmt::Display for QuorumWords<'_> {
         let nodes = self.nodes;
         match self.fault {
             QuorumFault::EmptySet(i) => {
-                let node = Node { nodes, i };
-                write!(
-                    f,
-                    " quorums.sets[{i}]: the set of {node} is empty, expected that it has the node itself"
-                )
+                let said = "is empty, expected that it has the node itself";
+                write_of_set(Node { nodes, i }, said, f)
             }
             QuorumFault::NotOwnMember(i) => {
-                let node = Node { nodes, i };
-                write!(
-                    f,
-                    " quorums.sets[{i}]: the set of {node} lacks the node itself"
-                )
+                write_of_set(Node { nodes, i }, "lacks the node itself", f)
             }
             QuorumFault::Apart(i, j) => {
                 let (first, second) = (Node { nodes, i }, Node { nodes, i: j });
@@ -84,6 +77,16 @@ impl fmt::Display for QuorumWords<'_> {
             }
         }
     }
+}
+
+/// Writes what is wrong in the set of a node.
+fn write_of_set<W: fmt::Write>(
+    node: Node<'_>,
+    said: &str,
+    f: &mut fmt::Formatter<W>,
+) -> fmt::Result {
+    let i = node.i;
+    write!(f, " quorums.sets[{i}]: the set of {node} {said}")
 }
 
 /// A fault of a tree, of so many edges.
