@@ -8,9 +8,9 @@ ghost use Rattle.mx_explain.specs.Explained.{Explains, FailsToPrint};
 
 use crate::asking::asked_explain;
 use crate::files::explain_files;
-use crate::page::Page;
 use crate::reasons::Reasons;
 use mx_commands::{Fault, Output, PutFault, Source, Stop, carry_out, close, names_in, refuse};
+use mx_mistakes::Page;
 use mx_words::Request;
 use std::alloc::{AllocError, Global};
 

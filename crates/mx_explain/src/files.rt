@@ -1,19 +1,11 @@
 //! What is wrong in the files that a check or a replay reads.
 
-use crate::event_faults::{Known, explain_events};
-use crate::json_faults::{Part, value_in};
-use crate::lines::Unreadable;
-use crate::page::Page;
 use crate::parcels::explain_parcel;
-use crate::plan_faults::{MOST_NODES, MOST_REGISTERS, explain_plan};
 use crate::reasons::Reasons;
-use crate::repeated::warn_of_repeated;
-use crate::shape_faults::explain_shape_fault;
-use crate::values::{member_of, names_in};
 use mx_commands::{Fault, Source, SourceFault, split_line};
-use mx_plan::PlanFault;
+use mx_mistakes::{Page, Unreadable, explain_event_text, explain_plan_text};
+use mx_plan::{PlanFault, ShapeFault};
 use mx_words::{Names, Request};
-use serde_json::Value;
 use std::alloc::AllocError;
 
 /// Says what is wrong in the files of a check or of a replay that ended with this fault.
@@ -41,7 +33,7 @@ fn explain_alone<S: Source + Reasons>(
     source: &mut S,
 ) -> Result<(), AllocError> {
     if let Some(text) = fetched(page, name, source)? {
-        let _ = explain_plan_text(page, text.as_slice(), fault)?;
+        let _ = explain_plan_text(page, text.as_slice(), shape_fault_in(fault))?;
     }
     Ok(())
 }
@@ -57,7 +49,7 @@ fn explain_one<'a, S: Source + Reasons>(
         return Ok(());
     };
     let (line, rest) = split_line(text.as_slice());
-    let plan = explain_plan_text(page, line, fault)?;
+    let plan = explain_plan_text(page, line, shape_fault_in(fault))?;
     page.turn_to(names.events)?;
     explain_event_text(page, plan.as_ref(), rest, 1)?;
     explain_unsent(page, line, rest, fault)
@@ -73,7 +65,7 @@ fn explain_two<'a, S: Source + Reasons>(
     let Some(text) = fetched(page, names.plan, source)? else {
         return Ok(());
     };
-    let plan = explain_plan_text(page, text.as_slice(), fault)?;
+    let plan = explain_plan_text(page, text.as_slice(), shape_fault_in(fault))?;
     page.turn_to(names.events)?;
     let Some(events) = fetched(page, names.events, source)? else {
         return Ok(());
@@ -98,46 +90,12 @@ fn fetched<S: Source + Reasons>(
     }
 }
 
-/// Says what is wrong in a plan, and answers its value where it is JSON.
-fn explain_plan_text(
-    page: &mut Page<'_>,
-    text: &[u8],
-    fault: Option<Fault>,
-) -> Result<Option<Value>, AllocError> {
-    let part = Part {
-        above: 0,
-        nesting: 4,
-    };
-    let Some(plan) = value_in(page, text, part)? else {
-        return Ok(None);
-    };
-    explain_plan(page, &plan)?;
-    if let Some(Fault::BadText(PlanFault::BadShape(fault))) = fault {
-        let nodes = names_in(page.alloc, plan.get("nodes"), MOST_NODES)?;
-        explain_shape_fault(page, &plan, nodes.as_slice(), fault)?;
+/// Why the nodes of a plan have no shape, where that is the fault.
+fn shape_fault_in(fault: Option<Fault>) -> Option<ShapeFault> {
+    match fault {
+        Some(Fault::BadText(PlanFault::BadShape(fault))) => Some(fault),
+        _ => None,
     }
-    warn_of_repeated(page, text)?;
-    Ok(Some(plan))
-}
-
-/// Says what is wrong in events below so many lines, by the names of the plan where it is JSON.
-fn explain_event_text(
-    page: &mut Page<'_>,
-    plan: Option<&Value>,
-    text: &[u8],
-    above: usize,
-) -> Result<(), AllocError> {
-    let part = Part { above, nesting: 2 };
-    let Some(events) = value_in(page, text, part)? else {
-        return Ok(());
-    };
-    let nodes = names_in(page.alloc, member_of(plan, "nodes"), MOST_NODES)?;
-    let registers = names_in(page.alloc, member_of(plan, "registers"), MOST_REGISTERS)?;
-    let known = Known {
-        nodes: nodes.as_slice(),
-        registers: registers.as_slice(),
-    };
-    explain_events(page, &events, known)
 }
 
 /// Says how many parcels there were, where the fault is that one was not sent.

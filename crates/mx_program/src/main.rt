@@ -2,26 +2,22 @@
 //! that the first word names, and to `command` where it names none of the others.
 #![tactic(auto)]
 
-mod counted;
 mod kept;
-mod stream;
-mod streams;
 
 use crate::kept::Kept;
-use crate::stream::Stream;
-use crate::streams::Streams;
-use mx_commands::{Output, command};
+use mx_commands::command;
 use mx_count::count;
 use mx_event_files::event_file;
 use mx_explain::explain;
 use mx_live::live;
 use mx_picture::picture;
+use mx_streams::{Stream, Streams, as_slices, given_words, status_of};
 use mx_views::replay_view;
-use std::io::{BufWriter, ErrorKind, Write};
+use std::io;
+use std::io::{BufWriter, Write};
 use std::process::ExitCode;
 use std::rt::{Clock, Env, Files};
 use std::thread::Threads;
-use std::{env, io};
 
 /// Runs the command line of the process. An `Err` means that memory ran out, or that an argument is
 /// not UTF-8.
@@ -31,11 +27,8 @@ fn run_words<
     E: Write + Drop,
 >(rt: &R, out: O, err: E) -> io::Result<u8> {
     let alloc = rt.alloc();
-    let given: Vec<String> = env::args(rt)?.skip(1).collect(alloc)?;
-    let mut words = Vec::new(alloc);
-    for word in &given {
-        words.push(word.as_str())?;
-    }
+    let given = given_words(rt)?;
+    let words = as_slices(alloc, given.as_slice())?;
     let mut out = Stream(BufWriter::new(alloc, out)?);
     let mut err = Stream(err);
     let mut source = Streams { rt };
@@ -76,16 +69,6 @@ fn has_word(words: &[&str], wanted: &str) -> bool {
 }
 
 fn main(rt: HostRuntime) -> ExitCode {
-    match run_words(&rt, rt.stdout(), rt.stderr()) {
-        Ok(status) => ExitCode::from(status),
-        Err(e) => {
-            let mut err = Stream(rt.stderr());
-            if e.kind() == ErrorKind::OutOfMemory {
-                let _ = err.put("mx: out of memory\n".as_bytes());
-                return ExitCode::from(5);
-            }
-            let _ = err.put("error: the words are not UTF-8\n".as_bytes());
-            ExitCode::from(2)
-        }
-    }
+    let ended = run_words(&rt, rt.stdout(), rt.stderr());
+    ExitCode::from(status_of(ended, rt.stderr()))
 }

@@ -15,14 +15,14 @@ const MOST_READS: u64 = 268_435_456;
 
 /// Why a name gives no bytes.
 #[derive(Clone, Copy)]
-pub(crate) enum Refusal {
+pub enum Refusal {
     Because(&'static str),
     Memory,
 }
 
 impl Refusal {
     /// The fault of a source, which has no reason.
-    pub(crate) fn fault(self) -> SourceFault {
+    pub fn fault(self) -> SourceFault {
         match self {
             Refusal::Because(_) => SourceFault::Unreadable,
             Refusal::Memory => SourceFault::Memory,
@@ -32,8 +32,8 @@ impl Refusal {
 
 /// Files by their paths, and standard input by the name `-`.
 #[derive(Drop)]
-pub(crate) struct Streams<'a, R: Files + Input> {
-    pub(crate) rt: &'a R,
+pub struct Streams<'a, R: Files + Input> {
+    pub rt: &'a R,
 }
 
 impl<R: Files + Input> Source for Streams<'_, R> {
@@ -46,7 +46,7 @@ impl<R: Files + Input> Source for Streams<'_, R> {
 }
 
 /// The bytes of a file, or of standard input.
-pub(crate) fn read_name<R: Files + Input>(
+pub fn read_name<R: Files + Input>(
     rt: &R,
     alloc: Global,
     name: &str,

@@ -153,7 +153,7 @@ impl Display for Foreign<'_> {
 
 /// Why a file can't be read.
 #[derive(Clone, Copy)]
-pub(crate) struct Unreadable(pub(crate) &'static str);
+pub struct Unreadable(pub &'static str);
 
 impl Display for Unreadable {
     fn fmt<W: fmt::Write>(&self, f: &mut fmt::Formatter<W>) -> fmt::Result {

@@ -9,15 +9,15 @@ const MOST_LINES: u64 = 20;
 
 /// The lines of the files so far, and the file that is looked at now.
 #[derive(Drop)]
-pub(crate) struct Page<'a> {
-    pub(crate) alloc: Global,
+pub struct Page<'a> {
+    pub alloc: Global,
     file: &'a str,
     text: String,
     lines: u64,
 }
 
 impl<'a> Page<'a> {
-    pub(crate) fn new(alloc: Global, file: &'a str) -> Self {
+    pub fn new(alloc: Global, file: &'a str) -> Self {
         Page {
             alloc,
             file,
@@ -27,12 +27,12 @@ impl<'a> Page<'a> {
     }
 
     /// All lines, in order.
-    pub(crate) fn text(&self) -> &str {
+    pub fn text(&self) -> &str {
         self.text.as_str()
     }
 
     /// Adds a line of the file. It begins with a space, or with the line and the column that it is of.
-    pub(crate) fn say<D: Display + Drop>(&mut self, line: D) -> Result<(), AllocError> {
+    pub fn say<D: Display + Drop>(&mut self, line: D) -> Result<(), AllocError> {
         self.lines = self.lines.saturating_add(1);
         if self.lines > MOST_LINES {
             return Ok(());
@@ -49,7 +49,7 @@ impl<'a> Page<'a> {
     }
 
     /// Ends the lines of the file, and goes on with another.
-    pub(crate) fn turn_to(&mut self, file: &'a str) -> Result<(), AllocError> {
+    pub fn turn_to(&mut self, file: &'a str) -> Result<(), AllocError> {
         self.end_file()?;
         self.file = file;
         self.lines = 0;
@@ -57,7 +57,7 @@ impl<'a> Page<'a> {
     }
 
     /// Ends all lines; where all is well that is the last one.
-    pub(crate) fn end(&mut self, well: bool) -> Result<(), AllocError> {
+    pub fn end(&mut self, well: bool) -> Result<(), AllocError> {
         self.end_file()?;
         if well {
             self.text.push_str("nothing is at fault\n")?;

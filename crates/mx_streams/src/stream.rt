@@ -6,7 +6,7 @@ use std::io::{ErrorKind, Write};
 
 /// A writer outside, of which nothing is known.
 #[derive(Drop)]
-pub(crate) struct Stream<W: Write + Drop>(pub(crate) W);
+pub struct Stream<W: Write + Drop>(pub W);
 
 impl<W: Write + Drop> Output for Stream<W> {
     fn put(&mut self, text: &[u8]) -> Result<(), PutFault> {

@@ -1,0 +1,11 @@
+//! The words, the files and the streams of the process, as the commands take them.
+#![tactic(auto)]
+
+mod counted;
+mod given;
+mod stream;
+mod streams;
+
+pub use given::{as_slices, given_words, status_of};
+pub use stream::Stream;
+pub use streams::{Refusal, Streams, read_name};
