@@ -18,6 +18,14 @@ name_of p node = unwrap_or (slice_get p.nodes node) []
 abbrev pub register_name_of : Fields → ℕ → Text
 register_name_of p register = unwrap_or (slice_get p.registers register) []
 
+-- a word, and a name behind it
+abbrev pub named : Text → Text → Text
+named word name = word ++ codes " " ++ name
+
+-- a word, and a number behind it
+abbrev pub numbered : Text → ℕ → Text
+numbered word number = word ++ codes " " ++ decimal number
+
 abbrev pub cause_text : Cause → Text
 cause_text NotIdle = codes "not idle"
 cause_text StampsSpent = codes "stamps spent"
@@ -26,18 +34,18 @@ cause_text NotGranted = codes "not granted"
 cause_text NumbersSpent = codes "numbers spent"
 cause_text NotInside = codes "not inside"
 cause_text NoRegister = codes "no register"
-cause_text (Gap n) = codes "gap " ++ decimal n
+cause_text (Gap n) = numbered (codes "gap") n
 cause_text Full = codes "full"
-cause_text (Below k) = codes "below " ++ decimal k
+cause_text (Below k) = numbered (codes "below") k
 
 abbrev pub outcome_text : Outcome → Text
-outcome_text (Asked stamp) = codes "asked " ++ decimal stamp.number
-outcome_text (Entered n) = codes "entered " ++ decimal n
-outcome_text (Value value) = codes "value " ++ decimal value
+outcome_text (Asked stamp) = numbered (codes "asked") stamp.number
+outcome_text (Entered n) = numbered (codes "entered") n
+outcome_text (Value value) = numbered (codes "value") value
 outcome_text Written = codes "written"
-outcome_text (Left receipt) = codes "left " ++ decimal receipt.number ++ codes " writes " ++ decimal (length receipt.writes.items)
+outcome_text (Left receipt) = numbered (codes "left") receipt.number ++ codes " writes " ++ decimal (length receipt.writes.items)
 outcome_text Cancelled = codes "cancelled"
-outcome_text (Sent count) = codes "sent " ++ decimal count
+outcome_text (Sent count) = numbered (codes "sent") count
 outcome_text Settled = codes "settled"
 outcome_text Delivered = codes "delivered"
 outcome_text Woken = codes "woken"
@@ -45,18 +53,18 @@ outcome_text (Refused cause) = codes "refused " ++ cause_text cause
 
 -- an event, as a file of events has it, without brackets and quotes
 abbrev pub event_text : Fields → Event → Text
-event_text p (Ask node) = codes "ask " ++ name_of p node
-event_text p (Enter node) = codes "enter " ++ name_of p node
-event_text p (Read node register) = codes "read " ++ name_of p node ++ codes " " ++ register_name_of p register
+event_text p (Ask node) = named (codes "ask") (name_of p node)
+event_text p (Enter node) = named (codes "enter") (name_of p node)
+event_text p (Read node register) = named (codes "read") (name_of p node) ++ codes " " ++ register_name_of p register
 event_text p (Write node register value) =
-    codes "write " ++ name_of p node ++ codes " " ++ register_name_of p register ++ codes " " ++ decimal value
-event_text p (Leave node) = codes "leave " ++ name_of p node
-event_text p (Cancel node) = codes "cancel " ++ name_of p node
-event_text p (Tick node) = codes "tick " ++ name_of p node
-event_text p (Want node other) = codes "want " ++ name_of p node ++ codes " " ++ name_of p other
-event_text p (Settle node upto) = codes "settle " ++ name_of p node ++ codes " " ++ decimal upto
-event_text p (Restart node) = codes "restart " ++ name_of p node
-event_text p (Deliver k) = codes "deliver " ++ decimal k
+    named (codes "write") (name_of p node) ++ codes " " ++ register_name_of p register ++ codes " " ++ decimal value
+event_text p (Leave node) = named (codes "leave") (name_of p node)
+event_text p (Cancel node) = named (codes "cancel") (name_of p node)
+event_text p (Tick node) = named (codes "tick") (name_of p node)
+event_text p (Want node other) = named (codes "want") (name_of p node) ++ codes " " ++ name_of p other
+event_text p (Settle node upto) = named (codes "settle") (name_of p node) ++ codes " " ++ decimal upto
+event_text p (Restart node) = named (codes "restart") (name_of p node)
+event_text p (Deliver k) = numbered (codes "deliver") k
 
 -- the line of the k-th event
 abbrev pub event_line : Fields → ℕ → Event → Outcome → Text

@@ -1,7 +1,7 @@
 //! The lines of events.
 
 ghost use Rattle.std.specs.Prelude.{◌≡◌, Some};
-ghost use Rattle.mx_texts.specs.EventTexts.{name_of, register_name_of, cause_text, outcome_text, event_text, event_line};
+ghost use Rattle.mx_texts.specs.EventTexts.{name_of, named, numbered, register_name_of, cause_text, outcome_text, event_text, event_line};
 
 use mx_network::{Cause, Event, Outcome};
 use mx_plan::Plan;
@@ -22,6 +22,28 @@ pub(crate) fn register_name_of(plan: &Plan, register: u8) -> &str
     plan.register_name(register).unwrap_or("")
 }
 
+/// A word and a number.
+#[derive(Clone, Copy)]
+struct WordAndNumber {
+    word: &'static str,
+    number: u64,
+}
+
+impl fmt::Display for WordAndNumber {
+    ghost output = { λ n. Some (numbered n.word.now n.number) };
+
+    fn fmt<W: fmt::Write>(&self, f: &mut fmt::Formatter<W>) -> fmt::Result {
+        write!(f, "{} {}", self.word, self.number)
+    }
+}
+
+fn numbered(word: &'static str, number: u64) -> WordAndNumber
+    ensures word { result.word.now ≡ word.now }
+    ensures number { result.number ≡ number }
+{
+    WordAndNumber { word, number }
+}
+
 /// Why a node refused.
 #[derive(Clone, Copy)]
 pub struct CauseText<'a>(pub &'a Cause);
@@ -31,16 +53,16 @@ impl fmt::Display for CauseText<'_> {
 
     fn fmt<W: fmt::Write>(&self, f: &mut fmt::Formatter<W>) -> fmt::Result {
         match self.0 {
-            Cause::NotIdle => write!(f, "not idle"),
-            Cause::StampsSpent => write!(f, "stamps spent"),
-            Cause::NotWaiting => write!(f, "not waiting"),
-            Cause::NotGranted => write!(f, "not granted"),
-            Cause::NumbersSpent => write!(f, "numbers spent"),
-            Cause::NotInside => write!(f, "not inside"),
-            Cause::NoRegister => write!(f, "no register"),
-            Cause::Gap(number) => write!(f, "gap {number}"),
-            Cause::Full => write!(f, "full"),
-            Cause::Below(number) => write!(f, "below {number}"),
+            Cause::NotIdle => f.write_str("not idle"),
+            Cause::StampsSpent => f.write_str("stamps spent"),
+            Cause::NotWaiting => f.write_str("not waiting"),
+            Cause::NotGranted => f.write_str("not granted"),
+            Cause::NumbersSpent => f.write_str("numbers spent"),
+            Cause::NotInside => f.write_str("not inside"),
+            Cause::NoRegister => f.write_str("no register"),
+            Cause::Gap(number) => numbered("gap", *number).fmt(f),
+            Cause::Full => f.write_str("full"),
+            Cause::Below(number) => numbered("below", *number).fmt(f),
         }
     }
 }
@@ -54,21 +76,37 @@ impl fmt::Display for OutcomeText<'_> {
 
     fn fmt<W: fmt::Write>(&self, f: &mut fmt::Formatter<W>) -> fmt::Result {
         match self.0 {
-            Outcome::Asked(stamp) => write!(f, "asked {}", stamp.number),
-            Outcome::Entered(number) => write!(f, "entered {number}"),
-            Outcome::Value(value) => write!(f, "value {value}"),
-            Outcome::Written => write!(f, "written"),
+            Outcome::Asked(stamp) => numbered("asked", stamp.number).fmt(f),
+            Outcome::Entered(number) => numbered("entered", *number).fmt(f),
+            Outcome::Value(value) => numbered("value", *value).fmt(f),
+            Outcome::Written => f.write_str("written"),
             Outcome::Left(receipt) => {
+                let left = numbered("left", receipt.number);
                 let writes = receipt.writes.len();
-                write!(f, "left {} writes {writes}", receipt.number)
+                write!(f, "{left} writes {writes}")
             }
-            Outcome::Cancelled => write!(f, "cancelled"),
-            Outcome::Sent(count) => write!(f, "sent {count}"),
-            Outcome::Settled => write!(f, "settled"),
-            Outcome::Delivered => write!(f, "delivered"),
-            Outcome::Woken => write!(f, "woken"),
+            Outcome::Cancelled => f.write_str("cancelled"),
+            Outcome::Sent(count) => numbered("sent", *count).fmt(f),
+            Outcome::Settled => f.write_str("settled"),
+            Outcome::Delivered => f.write_str("delivered"),
+            Outcome::Woken => f.write_str("woken"),
             Outcome::Refused(cause) => write!(f, "refused {}", CauseText(cause)),
         }
+    }
+}
+
+/// A word, and a name behind it.
+#[derive(Clone, Copy)]
+struct WordAndName<'a> {
+    word: &'static str,
+    name: &'a str,
+}
+
+impl fmt::Display for WordAndName<'_> {
+    ghost output = { λ n. Some (named n.word.now n.name.now) };
+
+    fn fmt<W: fmt::Write>(&self, f: &mut fmt::Formatter<W>) -> fmt::Result {
+        write!(f, "{} {}", self.word, self.name)
     }
 }
 
@@ -79,37 +117,44 @@ pub struct EventText<'a> {
     pub event: &'a Event,
 }
 
+impl<'a> EventText<'a> {
+    /// The word of the event, and the name of its node.
+    fn of(&self, word: &'static str, node: NodeId) -> WordAndName<'a>
+        ensures word { result.word.now ≡ word.now }
+        ensures name { result.name.now ≡ name_of self.now.plan.now node }
+    {
+        WordAndName {
+            word,
+            name: name_of(self.plan, node),
+        }
+    }
+}
+
 impl fmt::Display for EventText<'_> {
     ghost output = { λ e. Some (event_text e.plan.now e.event.now) };
 
     fn fmt<W: fmt::Write>(&self, f: &mut fmt::Formatter<W>) -> fmt::Result {
         match self.event {
-            Event::Ask(node) => write!(f, "ask {}", name_of(self.plan, *node)),
-            Event::Enter(node) => write!(f, "enter {}", name_of(self.plan, *node)),
+            Event::Ask(node) => self.of("ask", *node).fmt(f),
+            Event::Enter(node) => self.of("enter", *node).fmt(f),
             Event::Read(node, register) => {
-                let name = name_of(self.plan, *node);
                 let register = register_name_of(self.plan, *register);
-                write!(f, "read {name} {register}")
+                write!(f, "{} {register}", self.of("read", *node))
             }
             Event::Write(node, register, value) => {
-                let name = name_of(self.plan, *node);
                 let register = register_name_of(self.plan, *register);
-                write!(f, "write {name} {register} {value}")
+                write!(f, "{} {register} {value}", self.of("write", *node))
             }
-            Event::Leave(node) => write!(f, "leave {}", name_of(self.plan, *node)),
-            Event::Cancel(node) => write!(f, "cancel {}", name_of(self.plan, *node)),
-            Event::Tick(node) => write!(f, "tick {}", name_of(self.plan, *node)),
+            Event::Leave(node) => self.of("leave", *node).fmt(f),
+            Event::Cancel(node) => self.of("cancel", *node).fmt(f),
+            Event::Tick(node) => self.of("tick", *node).fmt(f),
             Event::Want(node, other) => {
-                let name = name_of(self.plan, *node);
                 let other = name_of(self.plan, *other);
-                write!(f, "want {name} {other}")
+                write!(f, "{} {other}", self.of("want", *node))
             }
-            Event::Settle(node, upto) => {
-                let name = name_of(self.plan, *node);
-                write!(f, "settle {name} {upto}")
-            }
-            Event::Restart(node) => write!(f, "restart {}", name_of(self.plan, *node)),
-            Event::Deliver(number) => write!(f, "deliver {number}"),
+            Event::Settle(node, upto) => write!(f, "{} {upto}", self.of("settle", *node)),
+            Event::Restart(node) => self.of("restart", *node).fmt(f),
+            Event::Deliver(number) => numbered("deliver", *number).fmt(f),
         }
     }
 }

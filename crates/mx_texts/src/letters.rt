@@ -3,7 +3,7 @@
 ghost use Rattle.std.specs.Prelude.{◌≡◌, ◌++◌, OnOk, Some, string_bytes};
 ghost use Rattle.mx_plan.specs.Text.{Text};
 ghost use Rattle.mx_plan.specs.Fields.{Fields};
-ghost use Rattle.mx_texts.specs.LetterTexts.{stamp_text, ricart_text, maekawa_text, raymond_text};
+ghost use Rattle.mx_texts.specs.LetterTexts.{stamp_text, with_stamp, with_number, ricart_text, maekawa_text, raymond_text};
 
 use crate::events::name_of;
 use mx_letters::{MaekawaMsg, RaymondMsg, RicartMsg};
@@ -39,6 +39,65 @@ impl fmt::Display for StampText<'_> {
     }
 }
 
+/// The word of a letter, and its stamp.
+#[derive(Clone, Copy)]
+struct WithStamp<'a> {
+    word: &'static str,
+    stamp: StampText<'a>,
+}
+
+impl fmt::Display for WithStamp<'_> {
+    ghost output = { λ l. Some (with_stamp l.word.now (stamp_text l.stamp.plan.now l.stamp.stamp.now)) };
+
+    fn fmt<W: fmt::Write>(&self, f: &mut fmt::Formatter<W>) -> fmt::Result {
+        write!(f, "{} {}", self.word, self.stamp)
+    }
+}
+
+/// The word of a letter, its stamp, and a number by its name.
+#[derive(Clone, Copy)]
+struct WithNumber<'a> {
+    begun: WithStamp<'a>,
+    name: &'static str,
+    number: u64,
+}
+
+impl fmt::Display for WithNumber<'_> {
+    ghost output = { λ l. Some (with_number
+        (with_stamp l.begun.word.now (stamp_text l.begun.stamp.plan.now l.begun.stamp.stamp.now)) l.name.now l.number) };
+
+    fn fmt<W: fmt::Write>(&self, f: &mut fmt::Formatter<W>) -> fmt::Result {
+        write!(f, "{} {} {}", self.begun, self.name, self.number)
+    }
+}
+
+/// A letter of this word and stamp.
+fn with_stamp<'a>(word: &'static str, plan: &'a Plan, stamp: &'a Stamp) -> WithStamp<'a>
+    ensures word { result.word.now ≡ word.now }
+    ensures plan { result.stamp.plan.now ≡ plan.now }
+    ensures stamp { result.stamp.stamp.now ≡ stamp.now }
+{
+    WithStamp {
+        word,
+        stamp: StampText { plan, stamp },
+    }
+}
+
+impl<'a> WithStamp<'a> {
+    /// And this number.
+    fn and(self, name: &'static str, number: u64) -> WithNumber<'a>
+        ensures begun { result.begun ≡ self.entry }
+        ensures name { result.name.now ≡ name.now }
+        ensures number { result.number ≡ number }
+    {
+        WithNumber {
+            begun: self,
+            name,
+            number,
+        }
+    }
+}
+
 /// A letter of Ricart and Agrawala's algorithm.
 #[derive(Clone, Copy)]
 pub struct RicartText<'a> {
@@ -52,9 +111,9 @@ impl fmt::Display for RicartText<'_> {
     fn fmt<W: fmt::Write>(&self, f: &mut fmt::Formatter<W>) -> fmt::Result {
         let plan = self.plan;
         match self.letter {
-            RicartMsg::Request(stamp) => write!(f, "request {}", StampText { plan, stamp }),
+            RicartMsg::Request(stamp) => with_stamp("request", plan, stamp).fmt(f),
             RicartMsg::Reply(stamp, top) => {
-                write!(f, "reply {} top {top}", StampText { plan, stamp })
+                with_stamp("reply", plan, stamp).and("top", *top).fmt(f)
             }
         }
     }
@@ -81,20 +140,24 @@ impl fmt::Display for MaekawaText<'_> {
     fn fmt<W: fmt::Write>(&self, f: &mut fmt::Formatter<W>) -> fmt::Result {
         let plan = self.plan;
         match self.letter {
-            MaekawaMsg::Request(stamp) => write!(f, "request {}", StampText { plan, stamp }),
+            MaekawaMsg::Request(stamp) => with_stamp("request", plan, stamp).fmt(f),
             MaekawaMsg::Locked(stamp, grant, last) => {
-                let stamp = StampText { plan, stamp };
-                write!(f, "locked {stamp} grant {grant} last {last}")
+                let locked = with_stamp("locked", plan, stamp).and("grant", *grant);
+                write!(f, "{locked} last {last}")
             }
-            MaekawaMsg::Failed(stamp) => write!(f, "failed {}", StampText { plan, stamp }),
+            MaekawaMsg::Failed(stamp) => with_stamp("failed", plan, stamp).fmt(f),
             MaekawaMsg::Inquire(stamp, grant) => {
-                write!(f, "inquire {} grant {grant}", StampText { plan, stamp })
+                with_stamp("inquire", plan, stamp)
+                    .and("grant", *grant)
+                    .fmt(f)
             }
             MaekawaMsg::Relinquish(stamp, grant) => {
-                write!(f, "relinquish {} grant {grant}", StampText { plan, stamp })
+                with_stamp("relinquish", plan, stamp)
+                    .and("grant", *grant)
+                    .fmt(f)
             }
             MaekawaMsg::Release(stamp, top) => {
-                write!(f, "release {} top {top}", StampText { plan, stamp })
+                with_stamp("release", plan, stamp).and("top", *top).fmt(f)
             }
         }
     }
