@@ -1,8 +1,5 @@
 //! Times the journal against a plain `BTreeMap`: puts in order, in reverse and in a seeded shuffle,
-//! and merges of two halves. Usage: bench_journal RECORDS SEED. Besides, bench_journal settle RECORDS
-//! EVERY puts records in order, and settles the journal after so many each time, or never where that
-//! is 0. Without words it says so.
-#![tactic(auto)]
+//! and merges of two halves; and puts in order into a journal that is settled after so many each time.
 
 use anyhow::{Result, bail};
 use mx_journal::{Journal, Record, Write};
@@ -12,7 +9,6 @@ use rand_core::utils::NextWord;
 use rand_pcg::Pcg32;
 use std::alloc::Global;
 use std::collections::BTreeMap;
-use std::env;
 use std::time::Instant;
 
 /// The record of a section that wrote its number.
@@ -110,7 +106,8 @@ fn time_merges(rt: &HostRuntime, numbers: &[u64]) -> Result<()> {
     time_merge(rt, "the greater half into the lesser", lesser, greater)
 }
 
-fn measure(rt: &HostRuntime, records: u64, seed: u64) -> Result<()> {
+/// Times puts and merges of so many records.
+pub(crate) fn time_journals(rt: &HostRuntime, records: u64, seed: u64) -> Result<()> {
     let mut numbers = ascending(rt.alloc(), records)?;
     time_puts(rt, "in order", &numbers)?;
     time_merges(rt, &numbers)?;
@@ -141,7 +138,8 @@ fn put_and_settle(alloc: Global, records: u64, every: u64) -> Result<Journal> {
     Ok(journal)
 }
 
-fn time_settling(rt: &HostRuntime, records: u64, every: u64) -> Result<()> {
+/// Times puts in order into a journal that is settled after so many each time, or never where that is 0.
+pub(crate) fn time_settling(rt: &HostRuntime, records: u64, every: u64) -> Result<()> {
     let begun = Instant::now(rt)?;
     let journal = put_and_settle(rt.alloc(), records, every)?;
     let took = begun.elapsed(rt)?.as_millis();
@@ -151,21 +149,4 @@ fn time_settling(rt: &HostRuntime, records: u64, every: u64) -> Result<()> {
         "put in order, settled each {every}: base {base}, {len} records above it, {took} ms"
     )?;
     Ok(())
-}
-
-fn main(rt: HostRuntime) -> Result<()> {
-    let alloc = rt.alloc();
-    let words: Vec<String> = env::args(&rt)?.skip(1).collect(alloc)?;
-    match words.as_slice() {
-        [records, seed] => measure(&rt, records.as_str().parse()?, seed.as_str().parse()?),
-        [word, records, every] if word.as_str() == "settle" => {
-            time_settling(&rt, records.as_str().parse()?, every.as_str().parse()?)
-        }
-        _ => {
-            println!(rt;
-                "usage: bench_journal RECORDS SEED, or bench_journal settle RECORDS EVERY"
-            )?;
-            Ok(())
-        }
-    }
 }

@@ -1,11 +1,5 @@
 //! Times stations in threads, one for each node, over a network that loses nothing: how long they
 //! take to enter so many sections in all, and how many parcels that takes.
-//! Usage: bench_live ALGORITHM NODES SECTIONS. Without words it says so.
-#![tactic(auto)]
-
-mod meeting;
-mod nodes;
-mod shapes;
 
 use crate::meeting::Meeting;
 use crate::nodes::{AnyStation, sections_of};
@@ -15,7 +9,7 @@ use std::rt::Clock;
 use std::sync::atomic::{AtomicU64, Ordering};
 use std::thread::Threads;
 use std::time::Instant;
-use std::{env, thread};
+use std::thread;
 
 fn total(numbers: &[u64]) -> u64 {
     let mut sum = 0u64;
@@ -47,19 +41,13 @@ fn measure<R: Threads + Sync + Clock + Print>(
     Ok(())
 }
 
-fn main(rt: HostRuntime) -> Result<()> {
-    let alloc = rt.alloc();
-    let words: Vec<String> = env::args(&rt)?.skip(1).collect(alloc)?;
-    match words.as_slice() {
-        [algorithm, nodes, sections] => {
-            let nodes: u8 = nodes.as_str().parse()?;
-            let sections: u64 = sections.as_str().parse()?;
-            let stations = stations_of(alloc, algorithm.as_str(), nodes)?;
-            measure(&rt, stations, sections / u64::from(nodes.max(1)))
-        }
-        _ => {
-            println!(rt; "usage: bench_live ALGORITHM NODES SECTIONS")?;
-            Ok(())
-        }
-    }
+/// Runs the nodes of an algorithm until they have entered so many sections in all.
+pub(crate) fn time_stations(
+    rt: &HostRuntime,
+    algorithm: &str,
+    nodes: u8,
+    sections: u64,
+) -> Result<()> {
+    let stations = stations_of(rt.alloc(), algorithm, nodes)?;
+    measure(rt, stations, sections / u64::from(nodes.max(1)))
 }
