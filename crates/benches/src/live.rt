@@ -42,8 +42,8 @@ fn measure<R: Threads + Sync + Clock + Print>(
 }
 
 /// Runs the nodes of an algorithm until they have entered so many sections in all.
-pub(crate) fn time_stations(
-    rt: &HostRuntime,
+pub(crate) fn time_stations<R: Threads + Sync + Clock + Print + AllocGlobal>(
+    rt: &R,
     algorithm: &str,
     nodes: u8,
     sections: u64,

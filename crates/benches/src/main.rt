@@ -15,7 +15,7 @@ use std::env;
 
 const USAGE: &str = "usage: benches journals RECORDS SEED, benches settling RECORDS EVERY, or benches stations ALGORITHM NODES SECTIONS";
 
-/// Times what these words ask for.
+/// Times what these words ask for of journals.
 fn time(rt: &HostRuntime, what: &str, first: &str, second: &str) -> Result<()> {
     match what {
         "journals" => time_journals(rt, first.parse()?, second.parse()?),
