@@ -15,7 +15,7 @@ TUNABLES = {**os.environ, "GLIBC_TUNABLES": "glibc.malloc.hugetlb=1:glibc.malloc
 
 def build():
     """Builds the program where it has to be."""
-    subprocess.run([os.path.join(ROOT, "mx"), "--help"], check=True, stdout=subprocess.DEVNULL)
+    subprocess.run([os.path.join(ROOT, "mx"), "build"], check=True)
 
 
 def measured(words, printed, wanted=0, program=PROGRAM, environment=TUNABLES):
