@@ -7,9 +7,9 @@ use crate::shapes::stations_of;
 use anyhow::Result;
 use std::rt::Clock;
 use std::sync::atomic::{AtomicU64, Ordering};
+use std::thread;
 use std::thread::Threads;
 use std::time::Instant;
-use std::thread;
 
 fn total(numbers: &[u64]) -> u64 {
     let mut sum = 0u64;

@@ -13,7 +13,8 @@ use crate::live::time_stations;
 use anyhow::{Result, bail};
 use std::env;
 
-const USAGE: &str = "usage: benches journals RECORDS SEED, benches settling RECORDS EVERY, or benches stations ALGORITHM NODES SECTIONS";
+const USAGE: &str =
+    "usage: benches journals RECORDS SEED, benches settling RECORDS EVERY, or benches stations ALGORITHM NODES SECTIONS";
 
 /// Times what these words ask for of journals.
 fn time(rt: &HostRuntime, what: &str, first: &str, second: &str) -> Result<()> {

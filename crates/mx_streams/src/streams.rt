@@ -46,11 +46,7 @@ impl<R: Files + Input> Source for Streams<'_, R> {
 }
 
 /// The bytes of a file, or of standard input.
-pub fn read_name<R: Files + Input>(
-    rt: &R,
-    alloc: Global,
-    name: &str,
-) -> Result<Vec<u8>, Refusal> {
+pub fn read_name<R: Files + Input>(rt: &R, alloc: Global, name: &str) -> Result<Vec<u8>, Refusal> {
     if name == "-" {
         return read_all(alloc, rt.reader());
     }
