@@ -8,14 +8,9 @@ use crate::stations::two;
 use crate::working::Assembly;
 use mx_explorer::Weather;
 use mx_journal::SettleFault;
-use mx_maekawa::Maekawa;
-use mx_nodelaws::Exclusion;
-use mx_quorums::Quorums;
-use mx_raymond::Raymond;
 use mx_registers::view;
 use mx_ricart::{Count, Ricart};
 use mx_stations::{Field, Gathered, Script, Station, gather, work_settling};
-use mx_trees::Tree;
 use std::alloc::{AllocError, Global};
 use std::test::Fail;
 use std::thread;
@@ -90,7 +85,7 @@ fn a_section_reads_what_was_settled(rt: HostRuntime) -> Result<(), Fail> {
 }
 
 /// Counts 20 sections, and settles after each tenth, over links that lose and repeat.
-fn count_on<C: Exclusion>(station: Station<C>, gate: &Assembly) -> Station<C>
+fn count_on(station: Station<Ricart>, gate: &Assembly) -> Station<Ricart>
     ensures { KeepsTable station result }
 {
     let script = Script {
@@ -101,8 +96,8 @@ fn count_on<C: Exclusion>(station: Station<C>, gate: &Assembly) -> Station<C>
     work_settling(station, script, 10, gate, weather, 100_000_000).0
 }
 
-/// Gives each station of Ricart and Agrawala's algorithm to a thread of its own, and has them back when all threads have ended.
-fn ricart_in_threads<R: Threads + Sync>(
+/// Gives each station to a thread of its own, and has them back when all threads have ended.
+fn in_threads<R: Threads + Sync>(
     rt: &R,
     stations: Vec<Station<Ricart>>,
 ) -> Result<Vec<Station<Ricart>>, AllocError>
@@ -114,44 +109,6 @@ fn ricart_in_threads<R: Threads + Sync>(
         rt,
         stations,
         &|station: Station<Ricart>| -> Station<Ricart>
-            ensures { KeepsTable station result }
-        { count_on(station, &gate) },
-    )?;
-    Ok(back)
-}
-
-/// Gives each station of Maekawa's algorithm to a thread of its own, and has them back when all threads have ended.
-fn maekawa_in_threads<R: Threads + Sync>(
-    rt: &R,
-    stations: Vec<Station<Maekawa>>,
-) -> Result<Vec<Station<Maekawa>>, AllocError>
-    requires { OfOneTable stations.items }
-    ensures { IfOk result (λ all. OfOneTable all.items) }
-{
-    let gate = Assembly::new(5, 100_000_000);
-    let back = thread::map_vec(
-        rt,
-        stations,
-        &|station: Station<Maekawa>| -> Station<Maekawa>
-            ensures { KeepsTable station result }
-        { count_on(station, &gate) },
-    )?;
-    Ok(back)
-}
-
-/// Gives each station of Raymond's algorithm to a thread of its own, and has them back when all threads have ended.
-fn raymond_in_threads<R: Threads + Sync>(
-    rt: &R,
-    stations: Vec<Station<Raymond>>,
-) -> Result<Vec<Station<Raymond>>, AllocError>
-    requires { OfOneTable stations.items }
-    ensures { IfOk result (λ all. OfOneTable all.items) }
-{
-    let gate = Assembly::new(5, 100_000_000);
-    let back = thread::map_vec(
-        rt,
-        stations,
-        &|station: Station<Raymond>| -> Station<Raymond>
             ensures { KeepsTable station result }
         { count_on(station, &gate) },
     )?;
@@ -173,7 +130,7 @@ fn told(all: &Gathered) -> (usize, u64, u64, usize, Option<u64>) {
 
 /// What is gathered of stations. Section 100 is the twentieth of its node, which knows of all before it,
 /// since it read inside. So it has settled them all.
-fn is_counted<C: Exclusion>(alloc: Global, stations: Vec<Station<C>>) -> bool
+fn is_counted(alloc: Global, stations: Vec<Station<Ricart>>) -> bool
     requires { OfOneTable stations.items }
 {
     match gather(alloc, stations) {
@@ -183,28 +140,10 @@ fn is_counted<C: Exclusion>(alloc: Global, stations: Vec<Station<C>>) -> bool
 }
 
 #[test]
-fn settling_workers_of_ricart_count_to_one_hundred(rt: HostRuntime) -> Result<(), Fail> {
+fn settling_workers_count_to_one_hundred(rt: HostRuntime) -> Result<(), Fail> {
     let shape = Count::of(5).ok_or("count")?;
     let stations = Field::<Ricart>::stations(rt.alloc(), &shape, 0, 1000, 1)?;
-    let back = ricart_in_threads(&rt, stations)?;
-    assert!(rt; is_counted(rt.alloc(), back));
-    Ok(())
-}
-
-#[test]
-fn settling_workers_of_maekawa_count_to_one_hundred(rt: HostRuntime) -> Result<(), Fail> {
-    let shape = Quorums::grid(1, 5)?;
-    let stations = Field::<Maekawa>::stations(rt.alloc(), &shape, 0, 1000, 1)?;
-    let back = maekawa_in_threads(&rt, stations)?;
-    assert!(rt; is_counted(rt.alloc(), back));
-    Ok(())
-}
-
-#[test]
-fn settling_workers_of_raymond_count_to_one_hundred(rt: HostRuntime) -> Result<(), Fail> {
-    let shape = Tree::of(5, &[(0, 1), (1, 2), (2, 3), (3, 4)], 0)?;
-    let stations = Field::<Raymond>::stations(rt.alloc(), &shape, 0, 1000, 1)?;
-    let back = raymond_in_threads(&rt, stations)?;
+    let back = in_threads(&rt, stations)?;
     assert!(rt; is_counted(rt.alloc(), back));
     Ok(())
 }

@@ -13,6 +13,7 @@ use mx_stamps::NodeId;
 use mx_stations::{Field, Station, Taken};
 use mx_trees::Tree;
 use std::alloc::Global;
+use std::process::Abort;
 use std::test::Fail;
 
 /// Both stations take turns, often enough for whatever one of them asks.
@@ -184,32 +185,37 @@ const ONE: AtRest = AtRest {
     ..ZERO
 };
 
+/// Both stations go through a section each.
+fn assert_calls<C: Exclusion>(
+    rt: &impl Abort,
+    zero: &mut Station<C>,
+    one: &mut Station<C>,
+) -> Result<(), Fail>
+    requires { zero.old.table ≡ one.old.table }
+{
+    assert_eq!(rt; first_section(zero, one)?, (1, 3));
+    assert_eq!(rt; second_section(zero, one)?, (2, 5));
+    assert_eq!(rt; (shown(zero), shown(one)), (ZERO, ONE));
+    Ok(())
+}
+
 #[test]
 fn calls_of_ricart_stations(rt: HostRuntime) -> Result<(), Fail> {
     let shape = Count::of(2).ok_or("count")?;
     let (mut zero, mut one) = pair::<Ricart>(rt.alloc(), &shape)?;
-    assert_eq!(rt; first_section(&mut zero, &mut one)?, (1, 3));
-    assert_eq!(rt; second_section(&mut zero, &mut one)?, (2, 5));
-    assert_eq!(rt; (shown(&zero), shown(&one)), (ZERO, ONE));
-    Ok(())
+    assert_calls(&rt, &mut zero, &mut one)
 }
 
 #[test]
 fn calls_of_maekawa_stations(rt: HostRuntime) -> Result<(), Fail> {
     let shape = Quorums::grid(1, 2)?;
     let (mut zero, mut one) = pair::<Maekawa>(rt.alloc(), &shape)?;
-    assert_eq!(rt; first_section(&mut zero, &mut one)?, (1, 3));
-    assert_eq!(rt; second_section(&mut zero, &mut one)?, (2, 5));
-    assert_eq!(rt; (shown(&zero), shown(&one)), (ZERO, ONE));
-    Ok(())
+    assert_calls(&rt, &mut zero, &mut one)
 }
 
 #[test]
 fn calls_of_raymond_stations(rt: HostRuntime) -> Result<(), Fail> {
     let shape = Tree::of(2, &[(0, 1)], 1)?;
     let (mut zero, mut one) = pair::<Raymond>(rt.alloc(), &shape)?;
-    assert_eq!(rt; first_section(&mut zero, &mut one)?, (1, 3));
-    assert_eq!(rt; second_section(&mut zero, &mut one)?, (2, 5));
-    assert_eq!(rt; (shown(&zero), shown(&one)), (ZERO, ONE));
-    Ok(())
+    assert_calls(&rt, &mut zero, &mut one)
 }
