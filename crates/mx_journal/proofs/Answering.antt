@@ -1,12 +1,14 @@
 -- What the answers of a journal rule out.
-use Rattle.std.proofs.Common.{ℕ, ◌≡◌, inl, inr, List, Option, Some, None, Result, Ok, Err, IsErrAnd, OnErr, OnOk, sym, ◌∙◌, ap, refl, subst, arith}
-use Rattle.std.specs.Prelude.{IfOk, IsOk, ◌↔◌, ◌⊎◌}
+use Rattle.std.proofs.Common.{ℕ, Bool, true, false, ◌≡◌, inl, inr, List, Option, Some, None, Result, Ok, Err, IsErrAnd, OnErr, OnOk, sym, ◌∙◌, ap, refl, subst, arith}
+use Rattle.std.specs.Prelude.{IfOk, IsErr, IsOk, ◌↔◌, ◌⊎◌, ◌≢◌, ◌≤◌}
 use Rattle.mx_stamps.proofs.Lists.{none_is_no_some}
 use Rattle.mx_stamps.proofs.Choices.{compared}
 use Rattle.mx_journal.specs.declared.records.Record.{Record}
 use Rattle.mx_journal.specs.declared.puts.PutFault.{PutFault}
 use Rattle.mx_journal.specs.declared.puts.PutFault.TheVariants.{Conflict, Memory, ZeroNumber}
-use Rattle.mx_journal.specs.Records.{Ascending, IsNumbered, IsThere, record_at}
+use Rattle.mx_journal.specs.declared.puts.Put.{Put}
+use Rattle.mx_journal.specs.declared.puts.Put.TheVariants.{New, Same}
+use Rattle.mx_journal.specs.Records.{Ascending, IsNumbered, IsThere, record_at, with_record}
 use Rattle.mx_journal.specs.Agreement.{IsConsistent, IsFirstConflict, IsOther}
 use Rattle.mx_journal.proofs.Maps.{ascending_above, none_found}
 
@@ -53,8 +55,8 @@ on_err (Err e) p q f = f p q
 one_conflict : (m n : ℕ) (result : Result ℕ PutFault) → result ≡ Err (Conflict m) → result ≡ Err (Conflict n) → m ≡ n
 one_conflict m n result d e = cc
 
--- a refused growth answers no value, and what holds anyway holds at a failure
-pub no_value : {X : Type 0} (r : Result X PutFault) (P : X → Type 0) → r ≡ Err Memory → IfOk r P
+-- a failure answers no value, and what holds anyway holds at a failure
+pub no_value : {X E : Type 0} (r : Result X E) (P : X → Type 0) → IsErr r → IfOk r P
 no_value (Ok x) P e = absurd (let f = e in cc)
 no_value (Err fault) P e = tt
 
@@ -99,4 +101,100 @@ ok_verdict k list all numbered consistent = record {
   zero = (λ e. absurd (let f = e in cc), λ w. absurd (not_numbered list w numbered));
   conflict = λ n. (λ e. absurd (let f = e in cc), λ h. absurd (not_consistent n all h.1 consistent));
   agreed = (λ _. (numbered, consistent), λ _. inl refl);
+}
+
+-- a failure is no success
+pub no_success : {X E : Type 0} (r : Result X E) (P : Type 0) → IsErr r → OnOk r P
+no_success (Ok x) P e = absurd (let f = e in cc)
+no_success (Err fault) P e = tt
+
+pub on_failure : {X E P Q : Type 0} (r : Result X E) → OnErr r P → (P → Q) → OnErr r Q
+on_failure (Ok x) p f = tt
+on_failure (Err fault) p f = f p
+
+pub if_both : {X E : Type 0} (r : Result X E) (P Q : X → Type 0) → IfOk r P → IfOk r Q → IfOk r (λ x. P x × Q x)
+if_both (Ok x) P Q p q = (p, q)
+if_both (Err fault) P Q p q = tt
+
+-- no test is both true and false
+pub not_true : (b : Bool) → b ≡ true → b ≡ false → ⊥
+not_true b t f = cc
+
+pub no_truth : false ≡ true → ⊥
+no_truth e = cc
+
+-- what an answer to one record says of it, where `found` is what bears its number already
+pub record PutVerdict (result : Result Put PutFault) (entry : Record) (before after : List Record) : Type 0 where
+  pub zero : (result ≡ Err ZeroNumber) ↔ (entry.number ≡ 0)
+  pub conflict : (n : ℕ) → (result ≡ Err (Conflict n)) ↔ ((n ≡ entry.number) × IsOther entry (record_at n before))
+  pub same : (result ≡ Ok Same) ↔ (record_at entry.number before ≡ Some entry)
+  pub new : (result ≡ Ok New) → after ≡ with_record entry before
+  pub fresh : ((result ≡ Ok New) ⊎ (result ≡ Err Memory)) ↔ ((1 ≤ entry.number) × (record_at entry.number before ≡ None))
+  pub kept : (result ≡ Ok New) ⊎ (after ≡ before)
+
+some_no_none : (x : Record) (o : Option Record) → o ≡ Some x → o ≡ None → ⊥
+some_no_none x o e n = none_is_no_some x (sym n ∙ e)
+
+no_other_at : (entry : Record) (n : ℕ) (before : List Record) → record_at entry.number before ≡ None → n ≡ entry.number → IsOther entry (record_at n before) → ⊥
+no_other_at entry n before none same other = no_other entry (record_at n before) (ap (λ k. record_at k before) same ∙ none) other
+
+-- a record numbered 0 is refused
+pub zero_put : (result : Result Put PutFault) (entry : Record) (before after : List Record) → result ≡ Err ZeroNumber → entry.number ≡ 0 → record_at entry.number before ≡ None → after ≡ before → PutVerdict result entry before after
+zero_put result entry before after is zero none kept = record {
+  zero = (λ _. zero, λ _. is);
+  conflict = λ n. (λ e. absurd (cc (is, e)), λ h. absurd (no_other_at entry n before none h.0 h.1));
+  same = (λ e. absurd (cc (is, e)), λ h. absurd (some_no_none entry (record_at entry.number before) h none));
+  new = λ e. absurd (cc (is, e));
+  fresh = (λ h. elim h [ inl e ↦ absurd (cc (is, e)) | inr e ↦ absurd (cc (is, e)) ], λ h. absurd (let low = h.0 in omega arith));
+  kept = inr kept;
+}
+
+-- so is one whose number another bears
+pub conflict_put : (result : Result Put PutFault) (entry there : Record) (before after : List Record) → result ≡ Err (Conflict entry.number) → entry.number ≢ 0 → record_at entry.number before ≡ Some there → there ≢ entry → after ≡ before → PutVerdict result entry before after
+conflict_put result entry there before after is some found differs kept = record {
+  zero = (λ e. absurd (cc (is, e)), λ e. absurd (some e));
+  conflict = λ n. (
+    λ e. (let same : n ≡ entry.number = cc (is, e) in (same, subst (λ o. IsOther entry o) (sym (ap (λ k. record_at k before) same ∙ found)) differs)),
+    λ h. is ∙ ap (λ k. Err (Conflict k)) (sym h.0),
+  );
+  same = (λ e. absurd (cc (is, e)), λ h. absurd (differs (let both : Some there ≡ Some entry = sym found ∙ h in cc)));
+  new = λ e. absurd (cc (is, e));
+  fresh = (λ h. elim h [ inl e ↦ absurd (cc (is, e)) | inr e ↦ absurd (cc (is, e)) ], λ h. absurd (some_no_none there (record_at entry.number before) found h.1));
+  kept = inr kept;
+}
+
+-- a record that is there already is the same
+pub same_put : (result : Result Put PutFault) (entry there : Record) (before after : List Record) → result ≡ Ok Same → entry.number ≢ 0 → record_at entry.number before ≡ Some there → there ≡ entry → after ≡ before → PutVerdict result entry before after
+same_put result entry there before after is some found equal kept = record {
+  zero = (λ e. absurd (cc (is, e)), λ e. absurd (some e));
+  conflict = λ n. (
+    λ e. absurd (cc (is, e)),
+    λ h. absurd (subst (λ o. IsOther entry o) (ap (λ k. record_at k before) h.0 ∙ found) h.1 equal),
+  );
+  same = (λ _. found ∙ ap (λ x. Some x) equal, λ _. is);
+  new = λ e. absurd (cc (is, e));
+  fresh = (λ h. elim h [ inl e ↦ absurd (cc (is, e)) | inr e ↦ absurd (cc (is, e)) ], λ h. absurd (some_no_none there (record_at entry.number before) found h.1));
+  kept = inr kept;
+}
+
+-- where memory runs out nothing changes
+pub memory_put : (result : Result Put PutFault) (entry : Record) (before after : List Record) → result ≡ Err Memory → entry.number ≢ 0 → record_at entry.number before ≡ None → after ≡ before → PutVerdict result entry before after
+memory_put result entry before after is some none kept = record {
+  zero = (λ e. absurd (cc (is, e)), λ e. absurd (some e));
+  conflict = λ n. (λ e. absurd (cc (is, e)), λ h. absurd (no_other_at entry n before none h.0 h.1));
+  same = (λ e. absurd (cc (is, e)), λ h. absurd (some_no_none entry (record_at entry.number before) h none));
+  new = λ e. absurd (cc (is, e));
+  fresh = (λ _. (omega (arith, some), none), λ _. inr is);
+  kept = inr kept;
+}
+
+-- a new record is taken in
+pub new_put : (result : Result Put PutFault) (entry : Record) (before after : List Record) → result ≡ Ok New → entry.number ≢ 0 → record_at entry.number before ≡ None → after ≡ with_record entry before → PutVerdict result entry before after
+new_put result entry before after is some none done = record {
+  zero = (λ e. absurd (cc (is, e)), λ e. absurd (some e));
+  conflict = λ n. (λ e. absurd (cc (is, e)), λ h. absurd (no_other_at entry n before none h.0 h.1));
+  same = (λ e. absurd (cc (is, e)), λ h. absurd (some_no_none entry (record_at entry.number before) h none));
+  new = λ _. done;
+  fresh = (λ _. (omega (arith, some), none), λ _. inl is);
+  kept = inl is;
 }

@@ -1,5 +1,6 @@
 use Rattle.std.proofs.Common.{◌≤◌, ◌++◌, ◌-◌, [], get_or, length, slice_set, sym, ◌∙◌, ap, subst}
 use Rattle.mx_journal.specs.Runs.{TouchesBelow, first_number, sewn}
+use Rattle.mx_journal.proofs.Answering.{not_true}
 use Rattle.mx_journal.proofs.Seams.{sewn_by_gap, sewn_by_touch}
 use Rattle.mx_journal.proofs.sewing.sew.Goals as goal
 
@@ -11,8 +12,7 @@ returns-then-not-go_on-clause-ok c =
     ∙ sewn_by_gap runs others (λ t.
     let s = subst (λ l. (1 ≤ length l) × TouchesBelow (first_number (get_or l 0 [])) (length runs) runs) (sym c.deref-2.ensures.value) t in
     let e = c.go_on.ensures.1 (subst (λ l. (1 ≤ length c.deref-2.result.now) × TouchesBelow (first_number (get_or c.deref-2.result.now 0 [])) (length l) l) (sym c.deref.ensures.value) s) in
-    let f = c.if-not-go_on.true in
-    let bad : ⊥ = cc in bad)
+    not_true c.go_on.result e c.if-not-go_on.true)
     ∙ ap (λ l. sewn l others) c.in_ok-reserve.ensures.items
 
 pub returns-clause-ok : goal.returns-clause-ok

@@ -2,6 +2,7 @@ use Rattle.std.proofs.Common.{suc, ◌<◌, sym, subst, arith}
 use Rattle.mx_stamps.specs.Lists.{IsIn}
 use Rattle.mx_journal.specs.Records.{Ascending, above, with_records}
 use Rattle.mx_journal.specs.Settled.{JournalState}
+use Rattle.mx_journal.proofs.Answering.{no_truth}
 use Rattle.mx_journal.proofs.Found.{in_above}
 use Rattle.mx_journal.proofs.Going.{ascending_rest_above}
 use Rattle.mx_journal.proofs.Maps.{ascending_above}
@@ -17,7 +18,7 @@ returns-in_err-count-clause-contained c = λ within.
     let there = subst (λ (j : JournalState). IsIn x j.records) c.other.view_is (in_above own theirs x h) in
     let behind = subst (λ (j : JournalState). j.base.upto < x.number) c.self.view_is (omega (arith, high, c.upto.ensures.value)) in
     subst (λ (j : JournalState). IsIn x j.records) (sym c.self.view_is) (within.records x there behind)) in
-    let bad : ⊥ = cc in absurd bad
+    absurd (no_truth never)
 
 pub invariant_of-self-2 : goal.invariant_of-self-2
 invariant_of-self-2 c =

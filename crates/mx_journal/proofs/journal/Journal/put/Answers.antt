@@ -2,7 +2,7 @@ use Rattle.std.proofs.Common.{suc, ◌<◌, inl, inr, sym, subst, arith}
 use Rattle.mx_stamps.proofs.Choices.{dec_le}
 use Rattle.mx_journal.specs.Records.{Ascending, record_at}
 use Rattle.mx_journal.specs.Settled.{JournalState}
-use Rattle.mx_journal.proofs.Answering.{no_other}
+use Rattle.mx_journal.proofs.Answering.{no_other, not_true}
 use Rattle.mx_journal.proofs.Maps.{ascending_with}
 use Rattle.mx_journal.proofs.Settled.{none_settled}
 use Rattle.mx_journal.proofs.journal.Journal.put.Goals as goal
@@ -21,9 +21,9 @@ invariant_of-self c =
       | inl e ↦
           let low = (c.put.ensures.fresh.0 (inl e)).0 in
           let high : k < c.args.entry.number = elim (dec_le c.args.entry.number k) [
-            | inl l ↦ (let t = c.is_settled.ensures.1 (low, l) in let bad : ⊥ = cc in absurd bad)
+            | inl l ↦ (let t = c.is_settled.ensures.1 (low, l) in absurd (not_true c.is_settled.result t c.if-is_settled.false))
             | inr l ↦ l
           ] in
-          subst (λ l. Ascending (suc k) l) (sym (c.put.ensures.new e)) (ascending_with (suc k) c.args.entry c.self.inside.records c.self.invariant (omega arith))
+          subst (λ l. Ascending (suc k) l) (sym (c.put.ensures.new e)) (ascending_with (suc k) c.args.entry c.self.inside.records c.self.invariant high)
       | inr e ↦ subst (λ l. Ascending (suc k) l) (sym e) c.self.invariant
     ]

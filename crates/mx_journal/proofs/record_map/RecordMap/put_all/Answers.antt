@@ -35,7 +35,7 @@ returns-in_err-other c =
     subst (λ xs. IsConsistent (xs ++ list)) (ap flatten c.deref.ensures.value ∙ c.self.view_is) c.in_default.ensures.none in
     let memory = is_memory c.from_residual.result c.from_residual.ensures.1 in
     let v = memory_verdict c.from_residual.result c.args.list.now (c.args.self.now ++ list) memory (c.has_zero.ensures.numbered c.if-has_zero.false) consistent in
-    record { zero = v.zero; conflict = v.conflict; agreed = v.agreed; ok = no_value c.from_residual.result _ memory; err = at_failure c.from_residual.result refl }
+    record { zero = v.zero; conflict = v.conflict; agreed = v.agreed; ok = no_value c.from_residual.result _ c.from_residual.ensures.0; err = at_failure c.from_residual.result refl }
 
 pub put_runs-requires-clause-fresh : goal.put_runs-requires-clause-fresh
 put_runs-requires-clause-fresh c =
@@ -59,7 +59,7 @@ returns-in_err-put_runs c =
     subst (λ xs. IsConsistent (xs ++ list)) (ap flatten c.deref.ensures.value ∙ c.self.view_is) c.in_default.ensures.none in
     let memory = is_memory c.from_residual-in_err-put_runs.result c.from_residual-in_err-put_runs.ensures.1 in
     let v = memory_verdict c.from_residual-in_err-put_runs.result c.args.list.now (c.args.self.now ++ list) memory (c.has_zero.ensures.numbered c.if-has_zero.false) consistent in
-    record { zero = v.zero; conflict = v.conflict; agreed = v.agreed; ok = no_value c.from_residual-in_err-put_runs.result _ memory; err = at_failure c.from_residual-in_err-put_runs.result (ap flatten c.in_err-put_runs.ensures.err ∙ c.self.view_is) }
+    record { zero = v.zero; conflict = v.conflict; agreed = v.agreed; ok = no_value c.from_residual-in_err-put_runs.result _ c.from_residual-in_err-put_runs.ensures.0; err = at_failure c.from_residual-in_err-put_runs.result (ap flatten c.in_err-put_runs.ensures.err ∙ c.self.view_is) }
 
 pub invariant_of-self-2 : goal.invariant_of-self-2
 invariant_of-self-2 c = c.in_ok-put_runs.ensures.runs
