@@ -1,7 +1,7 @@
 -- Reading the elements of a list one by one.
-use Rattle.std.proofs.Common.{◌≡◌, ◌∙◌, ℕ, ◌+◌, ◌<◌, List, [], ◌∷◌, ◌++◌, length, map, drop, get_or, ap, sym, refl, append_assoc, add-one, drop-cons, ◌≤◌, Result, Ok, Err}
+use Rattle.std.proofs.Common.{◌≡◌, ◌∙◌, Global, IfOk, IsErr, IsErrAnd, Vec, inl, subst, ℕ, ◌+◌, ◌<◌, List, [], ◌∷◌, ◌++◌, length, map, drop, get_or, ap, sym, refl, append_assoc, add-one, drop-cons, ◌≤◌, Result, Ok, Err}
 use Rattle.std.proofs.lemmas.List.{drop_all}
-use Rattle.mx_plan.specs.Values.{and_then, each_from}
+use Rattle.mx_plan.specs.Values.{Gives, and_then, each_from}
 use Rattle.mx_plan.specs.declared.faults.PlanFault.{PlanFault}
 
 -- what was read so far, and then the rest
@@ -42,3 +42,13 @@ module _ {X A B : Type 0} (view : X → A) (f : ℕ → A → Result B PlanFault
   pub rest_end : (k : ℕ) → length xs ≤ k → rest k ≡ Ok []
   unfolding each_from
   rest_end k h = ap (λ l. each_from f k (map view l)) (drop_all k xs h)
+
+-- a fault of an element is answered as the fault of the list
+pub gives_fault : {B : Type 0} (wanted : Result (List B) PlanFault) (e : PlanFault) (answer : Result (Vec B Global) PlanFault) → IsErrAnd answer (λ f. f ≡ e) → wanted ≡ Err e → Gives wanted answer
+gives_fault wanted e (Ok list) is why = absurd is
+gives_fault wanted e (Err f) is why = inl (subst (λ (x : PlanFault). wanted ≡ Err x) (sym is) why)
+
+-- a failure answers no value
+pub no_value : {X E : Type 0} (r : Result X E) (P : X → Type 0) → IsErr r → IfOk r P
+no_value (Ok x) P e = absurd (let f = e in cc)
+no_value (Err fault) P e = tt

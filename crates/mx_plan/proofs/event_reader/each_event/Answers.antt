@@ -1,7 +1,7 @@
 use Rattle.std.proofs.Common.{◌≡◌, ◌∙◌, ap, sym, rules, Ok, Err, append-nil, map, get_or, ◌++◌, ◌∷◌, [], ◌+◌}
 use Rattle.serde_json.specs.View.{view}
 use Rattle.mx_plan.specs.Events.{event_of, events_from}
-use Rattle.mx_plan.proofs.EachLemmas.{after, rest, rest_end, rest_err, rest_ok}
+use Rattle.mx_plan.proofs.EachLemmas.{after, gives_fault, rest, rest_end, rest_err, rest_ok}
 use Rattle.mx_plan.proofs.event_reader.each_event.Goals as goal
 
 pub returns-in_err-event : goal.returns-in_err-event
@@ -13,7 +13,7 @@ returns-in_err-event c =
     ap (λ v. event_of p k (view v)) (sym c.index-values-k.is) ∙ sym c.event_in.ensures ∙ c.in_err-event.was in
     let wanted : events_from p 0 (map view values) ≡ Err c.in_err-event.field-0.0 =
     c.loop-k.invariant ∙ rest_err view (event_of p) values c.loop-k.events.items k c.index-values-k.result c.in_err-event.field-0.0 c.loop-k-test.true is in
-    rw wanted (search rules)
+    gives_fault _ c.in_err-event.field-0.0 c.from_residual.result c.from_residual.ensures.1 wanted
 
 pub loop-k-preserved : goal.loop-k-preserved
 loop-k-preserved c =
