@@ -28,10 +28,10 @@ pub(crate) fn put_runs(runs: &mut Vec<Run>, new: &[Run]) -> Result<u64, AllocErr
     }
     let first = new[0].first();
     let last = top_in(new);
-    let alloc = *runs.allocator();
-    let (mut middle, _) = joined_up_to(alloc, runs, new, first - 1, last)?;
     let from = place_of(runs, first);
     let to = place_of(runs, last);
+    let alloc = *runs.allocator();
+    let (mut middle, _) = joined_up_to(alloc, runs, new, first - 1, last)?;
     renew(runs, from, to, &mut middle)?;
     Ok(len_of(new) as u64)
 }
@@ -122,11 +122,9 @@ fn sew(runs: &mut Vec<Run>, others: &mut Vec<Run>) -> Result<(), AllocError>
     ensures capacity { vec_capacity runs.old ≤ vec_capacity runs.new }
 {
     runs.reserve(others.len())?;
-    if !go_on(runs, others) {
-        add_all(runs, others);
-        return Ok(());
+    if go_on(runs, others) {
+        sew_first(runs, others)?;
     }
-    sew_first(runs, others)?;
     add_all(runs, others);
     Ok(())
 }

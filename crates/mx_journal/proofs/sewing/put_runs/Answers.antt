@@ -11,7 +11,7 @@ use Rattle.mx_journal.proofs.sewing.put_runs.Goals as goal
 
 pub joined_up_to-requires-clause-agreeing : goal.joined_up_to-requires-clause-agreeing
 joined_up_to-requires-clause-agreeing c = λ x y h t e.
-    absurd (none_in y.number (flatten c.args.runs.now.items) (c.requires.fresh y t) x (subst (λ l. IsIn x (flatten l)) c.deref.ensures.value h) e)
+    absurd (none_in y.number (flatten c.args.runs.now.items) (c.requires.fresh y t) x (subst (λ l. IsIn x (flatten l)) c.deref-3.ensures.value h) e)
 
 -- the least and the greatest of the new numbers
 ends : (runs new : List (List Record)) (run : List Record) (first last : ℕ) (none : Bool) → AreRuns 1 runs → AreRuns 1 new → AreNew (flatten new) (flatten runs) → none ≡ (length new == 0) → none ≡ false → run ≡ get_or new 0 run → first ≡ first_number run → last ≡ top_of (flatten new) → Ends first last runs new
@@ -24,8 +24,8 @@ renew-requires-clause-order c =
     let runs = c.args.runs.now.items in
     let both = (ends c.args.runs.now.items c.args.new.now c.index-new-0.result c.first-first.result c.top_in-last.result c.is_empty.result c.requires.runs c.requires.new c.requires.fresh c.is_empty.ensures c.if-is_empty.false c.index-new-0.is c.first-first.ensures c.top_in-last.ensures) in
     let order = both.order in
-    let from : c.place_of-from.result ≡ runs_up_to c.first-first.result runs = c.place_of-from.ensures.value ∙ ap (λ l. runs_up_to c.first-first.result l) c.deref-2.ensures.value in
-    let to : c.place_of-to.result ≡ runs_up_to c.top_in-last.result runs = c.place_of-to.ensures.value ∙ ap (λ l. runs_up_to c.top_in-last.result l) c.deref-3.ensures.value in
+    let from : c.place_of-from.result ≡ runs_up_to c.first-first.result runs = c.place_of-from.ensures.value ∙ ap (λ l. runs_up_to c.first-first.result l) c.deref.ensures.value in
+    let to : c.place_of-to.result ≡ runs_up_to c.top_in-last.result runs = c.place_of-to.ensures.value ∙ ap (λ l. runs_up_to c.top_in-last.result l) c.deref-2.ensures.value in
     omega (arith, from, to, up_to_more c.first-first.result c.top_in-last.result runs order)
 
 pub returns-clause-runs : goal.returns-clause-runs
@@ -36,8 +36,8 @@ returns-clause-runs c =
     let middle = c.in_ok-middle.middle.items in
     subst (λ l. AreRuns 1 l) (sym c.in_ok-renew.ensures.ok)
     (renewed_runs first last runs c.args.new.now middle c.place_of-from.result c.place_of-to.result (ends c.args.runs.now.items c.args.new.now c.index-new-0.result c.first-first.result c.top_in-last.result c.is_empty.result c.requires.runs c.requires.new c.requires.fresh c.is_empty.ensures c.if-is_empty.false c.index-new-0.is c.first-first.ensures c.top_in-last.ensures) c.in_ok-middle.ensures.runs
-    (subst (λ l. IsJoinedUpTo (first - 1) last (flatten l) (flatten c.args.new.now) (flatten middle)) c.deref.ensures.value c.in_ok-middle.ensures.records)
-    (c.place_of-from.ensures.value ∙ ap (λ l. runs_up_to first l) c.deref-2.ensures.value) (c.place_of-to.ensures.value ∙ ap (λ l. runs_up_to last l) c.deref-3.ensures.value))
+    (subst (λ l. IsJoinedUpTo (first - 1) last (flatten l) (flatten c.args.new.now) (flatten middle)) c.deref-3.ensures.value c.in_ok-middle.ensures.records)
+    (c.place_of-from.ensures.value ∙ ap (λ l. runs_up_to first l) c.deref.ensures.value) (c.place_of-to.ensures.value ∙ ap (λ l. runs_up_to last l) c.deref-2.ensures.value))
 
 pub returns-clause-records : goal.returns-clause-records
 returns-clause-records c =
@@ -47,8 +47,8 @@ returns-clause-records c =
     let middle = c.in_ok-middle.middle.items in
     ap flatten c.in_ok-renew.ensures.ok
     ∙ renewed_records first last runs c.args.new.now middle c.place_of-from.result c.place_of-to.result (ends c.args.runs.now.items c.args.new.now c.index-new-0.result c.first-first.result c.top_in-last.result c.is_empty.result c.requires.runs c.requires.new c.requires.fresh c.is_empty.ensures c.if-is_empty.false c.index-new-0.is c.first-first.ensures c.top_in-last.ensures) c.in_ok-middle.ensures.runs
-    (subst (λ l. IsJoinedUpTo (first - 1) last (flatten l) (flatten c.args.new.now) (flatten middle)) c.deref.ensures.value c.in_ok-middle.ensures.records)
-    (c.place_of-from.ensures.value ∙ ap (λ l. runs_up_to first l) c.deref-2.ensures.value) (c.place_of-to.ensures.value ∙ ap (λ l. runs_up_to last l) c.deref-3.ensures.value)
+    (subst (λ l. IsJoinedUpTo (first - 1) last (flatten l) (flatten c.args.new.now) (flatten middle)) c.deref-3.ensures.value c.in_ok-middle.ensures.records)
+    (c.place_of-from.ensures.value ∙ ap (λ l. runs_up_to first l) c.deref.ensures.value) (c.place_of-to.ensures.value ∙ ap (λ l. runs_up_to last l) c.deref-2.ensures.value)
 
 pub returns-clause-count : goal.returns-clause-count
 returns-clause-count c =
