@@ -26,19 +26,8 @@ pub fn names_at(
     ensures valid { IfOk result (λ names. AreNames most names) }
 {
     match array_in(value) {
-        Some(values) => names_in(alloc, values, most, place),
-        None => Err(PlanFault::NotPlan(place)),
-    }
-}
-
-fn names_in(alloc: Global, values: &[Value], most: usize, place: Place) -> Result<Names, PlanFault>
-    ensures answers { Answers (spec.names_from most place (map view values.now)) result }
-    ensures valid { IfOk result (λ names. AreNames most names) }
-{
-    if are_names(values, most) {
-        distinct_names(alloc, values, place)
-    } else {
-        Err(PlanFault::NotPlan(place))
+        Some(values) if are_names(values, most) => distinct_names(alloc, values, place),
+        _ => Err(PlanFault::NotPlan(place)),
     }
 }
 
