@@ -70,11 +70,9 @@ pub(crate) fn find(runs: &[Run], number: u64) -> Option<&Record>
     if number == 0 {
         return None;
     }
-    let found = next_in(runs, number - 1)?;
-    if found.number == number {
-        Some(found)
-    } else {
-        None
+    match next_in(runs, number - 1) {
+        Some(found) if found.number == number => Some(found),
+        _ => None,
     }
 }
 
