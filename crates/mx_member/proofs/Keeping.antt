@@ -1,6 +1,5 @@
 -- What putting records, and settling, leaves in the journal and in its view.
 use Rattle.std.proofs.Common.{ℕ, suc, ◌<◌, ◌≤◌, ◌≡◌, ◌↔◌, ◌⊎◌, ◌++◌, inl, inr, List, [], ◌∷◌, Option, Some, None, Result, Ok, Err, refl, sym, ◌∙◌, ap, subst, arith}
-use Rattle.mx_stamps.specs.Lists.{IsIn}
 use Rattle.mx_stamps.proofs.Choices.{dec_le}
 use Rattle.mx_stamps.proofs.Lists.{in_left, in_right}
 use Rattle.mx_journal.specs.declared.records.Record.{Record}
@@ -9,7 +8,7 @@ use Rattle.mx_journal.specs.declared.puts.Put.TheVariants.{New, Same}
 use Rattle.mx_journal.specs.declared.puts.PutFault.{PutFault}
 use Rattle.mx_journal.specs.declared.puts.PutFault.TheVariants.{ZeroNumber, Conflict, Memory}
 use Rattle.mx_journal.specs.Agreement.{IsConsistent, IsOther}
-use Rattle.mx_journal.specs.Records.{Ascending, record_at, with_record, with_records}
+use Rattle.mx_journal.specs.Records.{Ascending, record_at, with_records}
 use Rattle.mx_journal.specs.Settled.{Covers, IsSettled, JournalState, beyond, with_entry, with_list}
 use Rattle.mx_journal.proofs.Beyond.{beyond_all, beyond_same, in_beyond}
 use Rattle.mx_journal.proofs.Maps.{found_in, none_in, with_record_there}

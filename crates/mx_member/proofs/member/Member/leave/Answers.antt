@@ -1,6 +1,10 @@
-use Rattle.std.proofs.Common.{◌∙◌, ap, sym}
-use Rattle.mx_journal.specs.Drafted.{receipt_of}
-use Rattle.mx_member.proofs.Leaving.{lacks_record}
+use Rattle.std.proofs.Common.{ℕ, ◌∙◌, List, [], ◌∷◌, ap, rules, sym}
+use Rattle.mx_journal.specs.declared.records.Record.{Record}
+use Rattle.mx_journal.specs.declared.receipts.Receipt.{Receipt}
+use Rattle.mx_journal.specs.Drafted.{receipt_of, record_of}
+use Rattle.mx_journal.specs.Settled.{with_list}
+use Rattle.mx_member.specs.Member.{guarded}
+use Rattle.mx_member.proofs.Leaving.{lacks_record, left_answer, left_letters, left_state}
 use Rattle.mx_member.proofs.Refusing.{is_err, left, not_left}
 use Rattle.mx_member.proofs.member.Member.leave.Goals as goal
 
@@ -22,3 +26,19 @@ pub returns-in_err-keep-clause-memory : goal.returns-in_err-keep-clause-memory
 returns-in_err-keep-clause-memory g c = λ memory.
     lacks_record g.C.Exclusion.core c.args.self.now _ c.in-Inside.number c.close-receipt.result c.to_record.result c.self.inside.draft c.self.view_is (sym c.phase.ensures.value ∙ c.in-Inside.is)
     (c.close-receipt.ensures.value ∙ ap (λ m. receipt_of c.in-Inside.number m.setting.me c.self.inside.draft) c.self.view_is) c.to_record.ensures c.in_err-keep.ensures.missing
+
+pub returns-clause-state : goal.returns-clause-state
+returns-clause-state g c =
+    left_state g.C.Exclusion.core c.args.self.now _ c.in-Inside.number c.self.view_is (sym c.phase.ensures.value ∙ c.in-Inside.is) _ _ _ c.leave.ensures.state
+    (c.in_ok-keep.ensures.ok ∙ ap (λ (e : Record). with_list (e ∷ []) c.self.inside.journal) (c.to_record.ensures ∙ ap (λ (r : Receipt). record_of r) c.close-receipt.ensures.value))
+    (search rules)
+
+pub returns-clause-answer : goal.returns-clause-answer
+returns-clause-answer g c =
+    left_answer g.C.Exclusion.core c.args.self.now _ c.in-Inside.number c.self.view_is (sym c.phase.ensures.value ∙ c.in-Inside.is) c.close-receipt.result c.close-receipt.ensures.value
+
+pub returns-clause-letters : goal.returns-clause-letters
+returns-clause-letters g c =
+    c.guard_all.ensures.sent
+    ∙ ap (λ (ps : List (ℕ × g.row.C-Msg.Denot)). guarded ps) c.leave.ensures.letters
+    ∙ left_letters g.C.Exclusion.core c.args.self.now _ c.in-Inside.number c.self.view_is (sym c.phase.ensures.value ∙ c.in-Inside.is)
