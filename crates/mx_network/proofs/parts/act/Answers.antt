@@ -1,12 +1,12 @@
-use Rattle.std.proofs.Common.{ℕ, ◌≡◌, ◌∙◌, true, false, List, IfOk, OnOk, ap, subst, sym}
+use Rattle.std.proofs.Common.{rules, ℕ, ◌≡◌, ◌∙◌, true, false, List, IfOk, OnOk, ap, subst, sym}
 use Rattle.mx_nodelaws.specs.Core.{Core}
 use Rattle.mx_member.specs.declared.acts.Answer.TheVariants as answer
 use Rattle.mx_member.specs.declared.parcel.Parcel.{Parcel}
-use Rattle.mx_member.specs.Acts.{act_of}
+use Rattle.mx_member.specs.Acts.{act_of, IsDoable}
 use Rattle.mx_member.specs.Member.{MemberState}
 use Rattle.mx_events.specs.declared.event.Event.{Event}
 use Rattle.mx_network.specs.Outcome.{answer_by}
-use Rattle.mx_network.specs.Step.{act_in, is_leaving}
+use Rattle.mx_network.specs.Step.{act_in, is_leaving, IsOfSent}
 use Rattle.mx_network.proofs.parts.act.Goals as goal
 
 never : true ≡ false → ⊥
@@ -102,3 +102,117 @@ returns-in-Restart-clause-answer g c = ap (λ d. d.answer) (acted g.C.Exclusion.
 
 pub returns-in-Restart-clause-letters : goal.returns-in-Restart-clause-letters
 returns-in-Restart-clause-letters g c = c.requires.empty ∙ ap (λ d. d.letters) (acted g.C.Exclusion.core c.args.sent.now c.args.member.now c.args.event.now _ c.in-Restart.is)
+
+pub ask-requires : goal.ask-requires
+ask-requires g c = (search rules, (search rules, c.requires.empty))
+
+pub enter-requires : goal.enter-requires
+enter-requires g c = search rules
+
+pub read-requires : goal.read-requires
+read-requires g c = search rules
+
+pub write-requires : goal.write-requires
+write-requires g c = search rules
+
+pub cancel-requires : goal.cancel-requires
+cancel-requires g c = (search rules, (search rules, c.requires.empty))
+
+pub settle-requires : goal.settle-requires
+settle-requires g c = search rules
+
+pub tick-requires : goal.tick-requires
+tick-requires g c = (search rules, (search rules, c.requires.empty))
+
+pub want-requires : goal.want-requires
+want-requires g c = (search rules, (search rules, c.requires.empty))
+
+pub deliver-requires : goal.deliver-requires
+deliver-requires g c = (
+  search rules,
+  (
+    search rules,
+    (
+      c.requires.empty,
+      (
+        subst (λ (e : Event). IsOfSent c.args.sent.now e) c.in-Deliver.is c.requires.there,
+        subst (λ (e : Event). IsDoable (act_in c.args.sent.now e) c.args.member.now) c.in-Deliver.is c.requires.doable,
+      ),
+    ),
+  ),
+)
+
+pub restart-requires : goal.restart-requires
+restart-requires g c = search rules
+
+pub unreachable-unreachable : goal.unreachable-unreachable
+unreachable-unreachable g c = search rules
+
+pub returns-in-Ask-clause-err : goal.returns-in-Ask-clause-err
+returns-in-Ask-clause-err g c = tt
+
+pub returns-in-Ask-clause-quiet : goal.returns-in-Ask-clause-quiet
+returns-in-Ask-clause-quiet g c = tt
+
+pub returns-in-Enter-clause-state : goal.returns-in-Enter-clause-state
+returns-in-Enter-clause-state g c = c.enter.ensures.state ∙ ap (λ d. d.state) (acted g.C.Exclusion.core c.args.sent.now c.args.member.now c.args.event.now _ c.in-Enter.is)
+
+pub returns-in-Enter-clause-answer : goal.returns-in-Enter-clause-answer
+returns-in-Enter-clause-answer g c = ap answer.Entered c.enter.ensures.answer ∙ ap (λ d. d.answer) (acted g.C.Exclusion.core c.args.sent.now c.args.member.now c.args.event.now _ c.in-Enter.is)
+
+pub returns-in-Enter-clause-letters : goal.returns-in-Enter-clause-letters
+returns-in-Enter-clause-letters g c = c.requires.empty ∙ ap (λ d. d.letters) (acted g.C.Exclusion.core c.args.sent.now c.args.member.now c.args.event.now _ c.in-Enter.is)
+
+pub returns-in-Enter-clause-err : goal.returns-in-Enter-clause-err
+returns-in-Enter-clause-err g c = tt
+
+pub returns-in-Enter-clause-quiet : goal.returns-in-Enter-clause-quiet
+returns-in-Enter-clause-quiet g c = tt
+
+pub returns-in-Read-clause-err : goal.returns-in-Read-clause-err
+returns-in-Read-clause-err g c = tt
+
+pub returns-in-Read-clause-quiet : goal.returns-in-Read-clause-quiet
+returns-in-Read-clause-quiet g c = tt
+
+pub returns-in-Write-clause-err : goal.returns-in-Write-clause-err
+returns-in-Write-clause-err g c = tt
+
+pub returns-in-Write-clause-quiet : goal.returns-in-Write-clause-quiet
+returns-in-Write-clause-quiet g c = tt
+
+pub returns-in-Cancel-clause-err : goal.returns-in-Cancel-clause-err
+returns-in-Cancel-clause-err g c = tt
+
+pub returns-in-Cancel-clause-quiet : goal.returns-in-Cancel-clause-quiet
+returns-in-Cancel-clause-quiet g c = tt
+
+pub returns-in-Settle-clause-err : goal.returns-in-Settle-clause-err
+returns-in-Settle-clause-err g c = tt
+
+pub returns-in-Settle-clause-quiet : goal.returns-in-Settle-clause-quiet
+returns-in-Settle-clause-quiet g c = tt
+
+pub returns-in-Tick-clause-err : goal.returns-in-Tick-clause-err
+returns-in-Tick-clause-err g c = tt
+
+pub returns-in-Tick-clause-quiet : goal.returns-in-Tick-clause-quiet
+returns-in-Tick-clause-quiet g c = tt
+
+pub returns-in-Want-clause-err : goal.returns-in-Want-clause-err
+returns-in-Want-clause-err g c = tt
+
+pub returns-in-Want-clause-quiet : goal.returns-in-Want-clause-quiet
+returns-in-Want-clause-quiet g c = tt
+
+pub returns-in-Deliver-clause-err : goal.returns-in-Deliver-clause-err
+returns-in-Deliver-clause-err g c = c.deliver.ensures.err
+
+pub returns-in-Deliver-clause-quiet : goal.returns-in-Deliver-clause-quiet
+returns-in-Deliver-clause-quiet g c = c.deliver.ensures.quiet
+
+pub returns-in-Restart-clause-err : goal.returns-in-Restart-clause-err
+returns-in-Restart-clause-err g c = tt
+
+pub returns-in-Restart-clause-quiet : goal.returns-in-Restart-clause-quiet
+returns-in-Restart-clause-quiet g c = tt
