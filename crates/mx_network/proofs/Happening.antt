@@ -20,6 +20,12 @@ pub part_is : {M : Type 0} (n k : ℕ) (xs ys : List (ℕ × ℕ × Parcel M)) (
 part_is {M} n k xs ys e i same_n same_xs is =
     subst (λ m. part_of m ys e ≡ Ok (i, act_in ys e)) same_n (subst (λ (l : List (ℕ × ℕ × Parcel M)). part_of n l e ≡ Ok (i, act_in l e)) same_xs is)
 
+-- an event that has no part, and what its step is then
+pub without : {H S M : Type 0} (core : Core H S M) (g : ClusterState S M) (e : Event) (n : ℕ) (xs : List (ℕ × ℕ × Parcel M)) (fault : StepFault) → n ≡ length g.members → xs ≡ g.sent → part_of n xs e ≡ Err fault → IsFaultOf (step_of core g e) fault
+without {H} {S} {M} core g e n xs fault same_n same_xs is =
+    inr (ap (λ (r : Result (ℕ × Act M) StepFault). at_part core g e r)
+    (subst (λ (l : List (ℕ × ℕ × Parcel M)). part_of (length g.members) l e ≡ Err fault) same_xs (subst (λ (m : ℕ). part_of m xs e ≡ Err fault) same_n is)))
+
 -- a place below the length holds something
 pub held : {X : Type 0} (xs : List X) (k : ℕ) → k < length xs → (x : X) × (slice_get xs k ≡ Some x)
 held xs k l = elim (slice_get_cases xs k).1 [ inl p ↦ (p.0, p.2) | inr q ↦ absurd (omega (arith, q.0, l)) ]
@@ -41,6 +47,11 @@ one_more xs new f i j x was is e next =
 pub at_err : {A F : Type 0} (P : Type 0) (r : Result A F) → P → OnErr r P
 at_err P (Ok a) h = tt
 at_err P (Err f) h = h
+
+-- a cluster of equal lists
+pub same_parts : {S M : Type 0} (members members' : List (MemberState S)) (sent sent' : List (ℕ × ℕ × Parcel M)) (trace trace' : List Entry) → members' ≡ members → sent' ≡ sent → trace' ≡ trace →
+    ◌≡◌ {A = ClusterState S M} (record { members = members'; sent = sent'; trace = trace' }) (record { members = members; sent = sent; trace = trace })
+same_parts members members' sent sent' trace trace' a b c = rw (a, b, c) refl
 
 -- a member that did not change, in its place
 pub unchanged : {S M : Type 0} (members : List (MemberState S)) (sent sent' : List (ℕ × ℕ × Parcel M)) (trace trace' : List Entry) (k : ℕ) (m m' : MemberState S) → slice_get members k ≡ Some m → m' ≡ m → sent' ≡ sent → trace' ≡ trace →

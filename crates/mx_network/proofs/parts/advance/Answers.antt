@@ -1,11 +1,12 @@
 use Rattle.std.proofs.Common.{rules, ℕ, arith, ◌≡◌, List, [], ◌∷◌, ◌++◌, Ok, length, refl, sym, subst, ap, ◌∙◌, slice_get}
+use Rattle.std.proofs.lemmas.Result.{IfOk-from_err}
 use Rattle.mx_nodelaws.specs.World.{sent_by}
 use Rattle.mx_member.specs.declared.parcel.Parcel.{Parcel}
 use Rattle.mx_member.specs.Acts.{IsDoable}
 use Rattle.mx_network.specs.declared.outcome.Entry.{Entry}
 use Rattle.mx_network.specs.Step.{act_in, answer_of, cluster_state_of, IsOfSent}
 use Rattle.mx_network.proofs.EventParts.{was_sent}
-use Rattle.mx_network.proofs.Happening.{at_err, at_place, gone, grown_parts, memory_alone, memory_told, part_is, unchanged}
+use Rattle.mx_network.proofs.Happening.{at_err, at_place, fault_told, gone, grown_parts, memory_alone, memory_told, part_is, same_parts, unchanged, without}
 use Rattle.mx_network.proofs.parts.advance.Given.{Over}
 use Rattle.mx_network.proofs.parts.advance.Goals as goal
 
@@ -95,3 +96,119 @@ returns-clause-ok g c =
     (e.sent ∙ ap (λ (l : List (ℕ × ℕ × Parcel g.row.C-Msg.Denot)). l ++ sent_by c.in_ok-node.node (answer_of core (act_in l c.args.event) m).letters) same
     ∙ ap (λ (n : ℕ). c.args.sent.now.items ++ sent_by n (answer_of core a m).letters) (sym c.get-index.ensures.value))
     (noted g c)
+
+pub deref-requires : goal.deref-requires
+deref-requires g c = search rules
+
+pub node_of-requires : goal.node_of-requires
+node_of-requires g c = search rules
+
+pub branch-node-requires : goal.branch-node-requires
+branch-node-requires g c = search rules
+
+pub from_residual-requires : goal.from_residual-requires
+from_residual-requires g c = search rules
+
+pub returns-in_err-node-clause-out : goal.returns-in_err-node-clause-out
+returns-in_err-node-clause-out g c = c.requires.empty
+
+pub returns-in_err-node-clause-ok : goal.returns-in_err-node-clause-ok
+returns-in_err-node-clause-ok g c = IfOk-from_err _ _ c.from_residual.ensures.0
+
+pub returns-in_err-node-clause-noted : goal.returns-in_err-node-clause-noted
+returns-in_err-node-clause-noted g c = IfOk-from_err _ _ c.from_residual.ensures.0
+
+pub returns-in_err-node-clause-fault : goal.returns-in_err-node-clause-fault
+returns-in_err-node-clause-fault g c =
+    fault_told _ _ _ c.from_residual.ensures.1
+    (without g.C.Exclusion.core (cluster_state_of c.args.members.now c.args.sent.now c.args.trace.now) c.args.event _ _ _ (ap length c.as_slice-nodes.ensures.value) c.deref.ensures.value c.in_err-node.ensures.err)
+
+pub returns-in_err-node-clause-err : goal.returns-in_err-node-clause-err
+returns-in_err-node-clause-err g c = at_err _ _ refl
+
+pub get-index-requires : goal.get-index-requires
+get-index-requires g c = tt
+
+pub overflow_cast-index : goal.overflow_cast-index
+overflow_cast-index g c = search rules
+
+pub returns-then-index-nodes-clause-out : goal.returns-then-index-nodes-clause-out
+returns-then-index-nodes-clause-out g c = c.requires.empty
+
+pub returns-then-index-nodes-clause-ok : goal.returns-then-index-nodes-clause-ok
+returns-then-index-nodes-clause-ok g c = tt
+
+pub returns-then-index-nodes-clause-noted : goal.returns-then-index-nodes-clause-noted
+returns-then-index-nodes-clause-noted g c = tt
+
+pub returns-then-index-nodes-clause-err : goal.returns-then-index-nodes-clause-err
+returns-then-index-nodes-clause-err g c = refl
+
+pub reserve-requires : goal.reserve-requires
+reserve-requires g c = search rules
+
+pub branch-reserve-requires : goal.branch-reserve-requires
+branch-reserve-requires g c = search rules
+
+pub from_residual-requires-in_err-reserve : goal.from_residual-requires-in_err-reserve
+from_residual-requires-in_err-reserve g c = search rules
+
+pub returns-in_err-reserve-clause-out : goal.returns-in_err-reserve-clause-out
+returns-in_err-reserve-clause-out g c = c.requires.empty
+
+pub returns-in_err-reserve-clause-ok : goal.returns-in_err-reserve-clause-ok
+returns-in_err-reserve-clause-ok g c = IfOk-from_err _ _ c.from_residual-in_err-reserve.ensures.0
+
+pub returns-in_err-reserve-clause-noted : goal.returns-in_err-reserve-clause-noted
+returns-in_err-reserve-clause-noted g c = IfOk-from_err _ _ c.from_residual-in_err-reserve.ensures.0
+
+pub returns-in_err-reserve-clause-err : goal.returns-in_err-reserve-clause-err
+returns-in_err-reserve-clause-err g c = at_err _ _ (same_parts _ _ _ _ _ _ refl c.in_err-reserve.ensures.items refl)
+
+pub reserve-requires-2 : goal.reserve-requires-2
+reserve-requires-2 g c = search rules
+
+pub branch-reserve-requires-2 : goal.branch-reserve-requires-2
+branch-reserve-requires-2 g c = search rules
+
+pub from_residual-requires-in_err-reserve-2 : goal.from_residual-requires-in_err-reserve-2
+from_residual-requires-in_err-reserve-2 g c = search rules
+
+pub returns-in_err-reserve-2-clause-out : goal.returns-in_err-reserve-2-clause-out
+returns-in_err-reserve-2-clause-out g c = c.requires.empty
+
+pub returns-in_err-reserve-2-clause-ok : goal.returns-in_err-reserve-2-clause-ok
+returns-in_err-reserve-2-clause-ok g c = IfOk-from_err _ _ c.from_residual-in_err-reserve-2.ensures.0
+
+pub returns-in_err-reserve-2-clause-noted : goal.returns-in_err-reserve-2-clause-noted
+returns-in_err-reserve-2-clause-noted g c = IfOk-from_err _ _ c.from_residual-in_err-reserve-2.ensures.0
+
+pub returns-in_err-reserve-2-clause-err : goal.returns-in_err-reserve-2-clause-err
+returns-in_err-reserve-2-clause-err g c = at_err _ _ (same_parts _ _ _ _ _ _ refl c.in_ok-reserve.ensures.items c.in_err-reserve-2.ensures.items)
+
+pub index_mut-requires : goal.index_mut-requires
+index_mut-requires g c = search rules
+
+pub branch-act_and_send-requires : goal.branch-act_and_send-requires
+branch-act_and_send-requires g c = search rules
+
+pub from_residual-requires-in_err-act_and_send : goal.from_residual-requires-in_err-act_and_send
+from_residual-requires-in_err-act_and_send g c = search rules
+
+pub returns-in_err-act_and_send-clause-out : goal.returns-in_err-act_and_send-clause-out
+returns-in_err-act_and_send-clause-out g c = c.in_err-act_and_send.ensures.out
+
+pub returns-in_err-act_and_send-clause-ok : goal.returns-in_err-act_and_send-clause-ok
+returns-in_err-act_and_send-clause-ok g c = IfOk-from_err _ _ c.from_residual-in_err-act_and_send.ensures.0
+
+pub returns-in_err-act_and_send-clause-noted : goal.returns-in_err-act_and_send-clause-noted
+returns-in_err-act_and_send-clause-noted g c = IfOk-from_err _ _ c.from_residual-in_err-act_and_send.ensures.0
+
+pub returns-clause-out : goal.returns-clause-out
+returns-clause-out g c = c.in_ok-act_and_send.ensures.out
+
+pub returns-clause-fault : goal.returns-clause-fault
+returns-clause-fault g c = tt
+
+pub returns-clause-err : goal.returns-clause-err
+returns-clause-err g c = tt

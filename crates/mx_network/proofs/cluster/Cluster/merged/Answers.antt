@@ -1,11 +1,13 @@
-use Rattle.std.proofs.Common.{ℕ, suc, ◌≡◌, List, [], ◌+◌, get_or, take, subst, sym, ap, ◌∙◌}
+use Rattle.std.proofs.Common.{rules, arith, Result, Ok, Err, ℕ, suc, ◌≡◌, List, [], ◌+◌, get_or, take, subst, sym, ap, ◌∙◌}
 use Rattle.std.proofs.lemmas.List.{take_all}
+use Rattle.std.proofs.lemmas.Result.{IfOk-from_err}
 use Rattle.mx_journal.specs.Records.{Ascending}
 use Rattle.mx_journal.specs.Settled.{IsWithin, JournalState}
 use Rattle.mx_member.specs.Journals.{IsJournalOf}
 use Rattle.mx_member.proofs.OfSections.{unsettled_of, whole_registers}
 use Rattle.mx_member.proofs.SectionLists.{journal_ascends}
 use Rattle.mx_member.proofs.SectionWrites.{covered_shows}
+use Rattle.mx_merge.specs.declared.merging.MergeFault.TheVariants.{Conflict}
 use Rattle.mx_network.specs.Kept.{IsKept}
 use Rattle.mx_network.specs.Merged.{IsAboveAll, IsBelowEach}
 use Rattle.mx_network.specs.Sections.{journal_of, sections}
@@ -14,6 +16,9 @@ use Rattle.mx_network.proofs.Finding.{none_at, some_at}
 use Rattle.mx_network.proofs.Merging.{least_more, least_same, mergeable, merged_more, merged_same, merged_whole, merged_within, no_conflict}
 use Rattle.mx_network.proofs.cluster.Cluster.merged.Goals as goal
 use Rattle.mx_network.proofs.cluster.Cluster.merged.Goals.{in-Some+in_ok-merge, in_default}
+
+never : {A E : Type 0} (x : A) (f : E) → ◌≡◌ {A = Result A E} (Ok x) (Err f) → ⊥
+never x f e = cc
 
 pub loop-node-init : goal.loop-node-init
 loop-node-init g c =
@@ -85,3 +90,60 @@ returns-clause-whole g c every =
 pub returns-clause-shown : goal.returns-clause-shown
 returns-clause-shown g c every count few =
     whole_registers count (journal_of c.args.self.now.trace) c.loop-node.all few (journal_ascends (sections c.args.self.now.trace)) (returns-clause-whole g c every)
+
+pub new-all-requires : goal.new-all-requires
+new-all-requires g c = tt
+
+pub bounds-nodes-node-index : goal.bounds-nodes-node-index
+bounds-nodes-node-index g c = c.loop-node-test.true
+
+pub get-requires : goal.get-requires
+get-requires g c = tt
+
+pub overflow_cast-get : goal.overflow_cast-get
+overflow_cast-get g c = search rules
+
+pub get-requires-in-loop-node : goal.get-requires-in-loop-node
+get-requires-in-loop-node g c = search rules
+
+pub journal-requires : goal.journal-requires
+journal-requires g c = search rules
+
+pub merge-requires : goal.merge-requires
+merge-requires g c = tt
+
+pub branch-merge-requires : goal.branch-merge-requires
+branch-merge-requires g c = search rules
+
+pub from_residual-requires : goal.from_residual-requires
+from_residual-requires g c = search rules
+
+pub drop-all-inside-requires : goal.drop-all-inside-requires
+drop-all-inside-requires g c = search rules
+
+pub returns-in_err-merge-clause-all : goal.returns-in_err-merge-clause-all
+returns-in_err-merge-clause-all g c = IfOk-from_err _ _ c.from_residual.ensures.0
+
+pub returns-in_err-merge-clause-least : goal.returns-in_err-merge-clause-least
+returns-in_err-merge-clause-least g c = IfOk-from_err _ _ c.from_residual.ensures.0
+
+pub returns-in_err-merge-clause-sections : goal.returns-in_err-merge-clause-sections
+returns-in_err-merge-clause-sections g c = IfOk-from_err _ _ c.from_residual.ensures.0
+
+pub returns-in_err-merge-clause-whole : goal.returns-in_err-merge-clause-whole
+returns-in_err-merge-clause-whole g c = λ every. IfOk-from_err _ _ c.from_residual.ensures.0
+
+pub returns-in_err-merge-clause-shown : goal.returns-in_err-merge-clause-shown
+returns-in_err-merge-clause-shown g c = λ every. IfOk-from_err _ _ c.from_residual.ensures.0
+
+pub returns-in_err-merge-clause-in_order : goal.returns-in_err-merge-clause-in_order
+returns-in_err-merge-clause-in_order g c = IfOk-from_err _ _ c.from_residual.ensures.0
+
+pub loop-node-smaller : goal.loop-node-smaller
+loop-node-smaller g c = (let t = c.loop-node-test.true in omega arith)
+
+pub returns-clause-sections : goal.returns-clause-sections
+returns-clause-sections g c = c.loop-node.invariant.sections
+
+pub returns-clause-conflict : goal.returns-clause-conflict
+returns-clause-conflict g c = λ n e. never _ (Conflict n) e
