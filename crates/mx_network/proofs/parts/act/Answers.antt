@@ -106,9 +106,6 @@ returns-in-Restart-clause-letters g c = c.requires.empty ∙ ap (λ d. d.letters
 pub ask-requires : goal.ask-requires
 ask-requires g c = (search rules, (search rules, c.requires.empty))
 
-pub enter-requires : goal.enter-requires
-enter-requires g c = search rules
-
 pub read-requires : goal.read-requires
 read-requires g c = search rules
 
@@ -153,21 +150,6 @@ returns-in-Ask-clause-err g c = tt
 
 pub returns-in-Ask-clause-quiet : goal.returns-in-Ask-clause-quiet
 returns-in-Ask-clause-quiet g c = tt
-
-pub returns-in-Enter-clause-state : goal.returns-in-Enter-clause-state
-returns-in-Enter-clause-state g c = c.enter.ensures.state ∙ ap (λ d. d.state) (acted g.C.Exclusion.core c.args.sent.now c.args.member.now c.args.event.now _ c.in-Enter.is)
-
-pub returns-in-Enter-clause-answer : goal.returns-in-Enter-clause-answer
-returns-in-Enter-clause-answer g c = ap answer.Entered c.enter.ensures.answer ∙ ap (λ d. d.answer) (acted g.C.Exclusion.core c.args.sent.now c.args.member.now c.args.event.now _ c.in-Enter.is)
-
-pub returns-in-Enter-clause-letters : goal.returns-in-Enter-clause-letters
-returns-in-Enter-clause-letters g c = c.requires.empty ∙ ap (λ d. d.letters) (acted g.C.Exclusion.core c.args.sent.now c.args.member.now c.args.event.now _ c.in-Enter.is)
-
-pub returns-in-Enter-clause-err : goal.returns-in-Enter-clause-err
-returns-in-Enter-clause-err g c = tt
-
-pub returns-in-Enter-clause-quiet : goal.returns-in-Enter-clause-quiet
-returns-in-Enter-clause-quiet g c = tt
 
 pub returns-in-Read-clause-err : goal.returns-in-Read-clause-err
 returns-in-Read-clause-err g c = tt

@@ -100,9 +100,6 @@ bounds-nodes-node-index g c = c.loop-node-test.true
 pub get-requires : goal.get-requires
 get-requires g c = tt
 
-pub overflow_cast-get : goal.overflow_cast-get
-overflow_cast-get g c = search rules
-
 pub get-requires-in-loop-node : goal.get-requires-in-loop-node
 get-requires-in-loop-node g c = search rules
 
