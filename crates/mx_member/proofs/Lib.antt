@@ -10,7 +10,7 @@
 -- CoreSteps: what the laws of a core say of it. UntoldSteps: acts of which no section tells.
 -- EntrySteps: entering and leaving. DraftSteps: acts inside a section. CallsKept: each call.
 -- ReceiptLists, OwnReceipts, ReceiptActs, ReceiptHistory: receipts of sections, and of one node.
--- Guarded, Choosing, Writing, Keeping, Settling, Sending, Refusing, Delivering, Leaving: what the calls of a member do,
+-- CoreDone, Guarded, Choosing, Writing, Keeping, Settling, Sending, Refusing, Delivering, Leaving: what the calls of a member do,
 -- over plain variables.
 pub mod Phases
 pub mod CorePart
@@ -44,6 +44,7 @@ pub mod Joining
 pub mod RunningStays
 pub mod Owners
 pub mod Sharing
+pub mod CoreDone
 pub mod Guarded
 pub mod Choosing
 pub mod Writing
