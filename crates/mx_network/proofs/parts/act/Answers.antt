@@ -106,17 +106,8 @@ returns-in-Restart-clause-letters g c = c.requires.empty ∙ ap (λ d. d.letters
 pub ask-requires : goal.ask-requires
 ask-requires g c = (search rules, (search rules, c.requires.empty))
 
-pub read-requires : goal.read-requires
-read-requires g c = search rules
-
-pub write-requires : goal.write-requires
-write-requires g c = search rules
-
 pub cancel-requires : goal.cancel-requires
 cancel-requires g c = (search rules, (search rules, c.requires.empty))
-
-pub settle-requires : goal.settle-requires
-settle-requires g c = search rules
 
 pub tick-requires : goal.tick-requires
 tick-requires g c = (search rules, (search rules, c.requires.empty))
@@ -139,62 +130,8 @@ deliver-requires g c = (
   ),
 )
 
-pub restart-requires : goal.restart-requires
-restart-requires g c = search rules
-
-pub unreachable-unreachable : goal.unreachable-unreachable
-unreachable-unreachable g c = search rules
-
-pub returns-in-Ask-clause-err : goal.returns-in-Ask-clause-err
-returns-in-Ask-clause-err g c = tt
-
-pub returns-in-Ask-clause-quiet : goal.returns-in-Ask-clause-quiet
-returns-in-Ask-clause-quiet g c = tt
-
-pub returns-in-Read-clause-err : goal.returns-in-Read-clause-err
-returns-in-Read-clause-err g c = tt
-
-pub returns-in-Read-clause-quiet : goal.returns-in-Read-clause-quiet
-returns-in-Read-clause-quiet g c = tt
-
-pub returns-in-Write-clause-err : goal.returns-in-Write-clause-err
-returns-in-Write-clause-err g c = tt
-
-pub returns-in-Write-clause-quiet : goal.returns-in-Write-clause-quiet
-returns-in-Write-clause-quiet g c = tt
-
-pub returns-in-Cancel-clause-err : goal.returns-in-Cancel-clause-err
-returns-in-Cancel-clause-err g c = tt
-
-pub returns-in-Cancel-clause-quiet : goal.returns-in-Cancel-clause-quiet
-returns-in-Cancel-clause-quiet g c = tt
-
-pub returns-in-Settle-clause-err : goal.returns-in-Settle-clause-err
-returns-in-Settle-clause-err g c = tt
-
-pub returns-in-Settle-clause-quiet : goal.returns-in-Settle-clause-quiet
-returns-in-Settle-clause-quiet g c = tt
-
-pub returns-in-Tick-clause-err : goal.returns-in-Tick-clause-err
-returns-in-Tick-clause-err g c = tt
-
-pub returns-in-Tick-clause-quiet : goal.returns-in-Tick-clause-quiet
-returns-in-Tick-clause-quiet g c = tt
-
-pub returns-in-Want-clause-err : goal.returns-in-Want-clause-err
-returns-in-Want-clause-err g c = tt
-
-pub returns-in-Want-clause-quiet : goal.returns-in-Want-clause-quiet
-returns-in-Want-clause-quiet g c = tt
-
 pub returns-in-Deliver-clause-err : goal.returns-in-Deliver-clause-err
 returns-in-Deliver-clause-err g c = c.deliver.ensures.err
 
 pub returns-in-Deliver-clause-quiet : goal.returns-in-Deliver-clause-quiet
 returns-in-Deliver-clause-quiet g c = c.deliver.ensures.quiet
-
-pub returns-in-Restart-clause-err : goal.returns-in-Restart-clause-err
-returns-in-Restart-clause-err g c = tt
-
-pub returns-in-Restart-clause-quiet : goal.returns-in-Restart-clause-quiet
-returns-in-Restart-clause-quiet g c = tt

@@ -69,27 +69,3 @@ returns-clause-noted g c =
 
 pub returns-clause-out : goal.returns-clause-out
 returns-clause-out g c = c.clear.ensures
-
-pub deref-requires : goal.deref-requires
-deref-requires g c = search rules
-
-pub branch-do_and_note-requires : goal.branch-do_and_note-requires
-branch-do_and_note-requires g c = search rules
-
-pub from_residual-requires : goal.from_residual-requires
-from_residual-requires g c = search rules
-
-pub as_slice-requires : goal.as_slice-requires
-as_slice-requires g c = search rules
-
-pub clear-requires : goal.clear-requires
-clear-requires g c = search rules
-
-pub returns-clause-same : goal.returns-clause-same
-returns-clause-same g c = tt
-
-pub returns-clause-unsent : goal.returns-clause-unsent
-returns-clause-unsent g c = tt
-
-pub returns-clause-unnoted : goal.returns-clause-unnoted
-returns-clause-unnoted g c = tt

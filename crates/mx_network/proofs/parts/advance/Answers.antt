@@ -97,18 +97,6 @@ returns-clause-ok g c =
     ∙ ap (λ (n : ℕ). c.args.sent.now.items ++ sent_by n (answer_of core a m).letters) (sym c.get-index.ensures.value))
     (noted g c)
 
-pub deref-requires : goal.deref-requires
-deref-requires g c = search rules
-
-pub node_of-requires : goal.node_of-requires
-node_of-requires g c = search rules
-
-pub branch-node-requires : goal.branch-node-requires
-branch-node-requires g c = search rules
-
-pub from_residual-requires : goal.from_residual-requires
-from_residual-requires g c = search rules
-
 pub returns-in_err-node-clause-out : goal.returns-in_err-node-clause-out
 returns-in_err-node-clause-out g c = c.requires.empty
 
@@ -126,32 +114,8 @@ returns-in_err-node-clause-fault g c =
 pub returns-in_err-node-clause-err : goal.returns-in_err-node-clause-err
 returns-in_err-node-clause-err g c = at_err _ _ refl
 
-pub get-index-requires : goal.get-index-requires
-get-index-requires g c = tt
-
-pub overflow_cast-index : goal.overflow_cast-index
-overflow_cast-index g c = search rules
-
 pub returns-then-index-nodes-clause-out : goal.returns-then-index-nodes-clause-out
 returns-then-index-nodes-clause-out g c = c.requires.empty
-
-pub returns-then-index-nodes-clause-ok : goal.returns-then-index-nodes-clause-ok
-returns-then-index-nodes-clause-ok g c = tt
-
-pub returns-then-index-nodes-clause-noted : goal.returns-then-index-nodes-clause-noted
-returns-then-index-nodes-clause-noted g c = tt
-
-pub returns-then-index-nodes-clause-err : goal.returns-then-index-nodes-clause-err
-returns-then-index-nodes-clause-err g c = refl
-
-pub reserve-requires : goal.reserve-requires
-reserve-requires g c = search rules
-
-pub branch-reserve-requires : goal.branch-reserve-requires
-branch-reserve-requires g c = search rules
-
-pub from_residual-requires-in_err-reserve : goal.from_residual-requires-in_err-reserve
-from_residual-requires-in_err-reserve g c = search rules
 
 pub returns-in_err-reserve-clause-out : goal.returns-in_err-reserve-clause-out
 returns-in_err-reserve-clause-out g c = c.requires.empty
@@ -165,15 +129,6 @@ returns-in_err-reserve-clause-noted g c = IfOk-from_err _ _ c.from_residual-in_e
 pub returns-in_err-reserve-clause-err : goal.returns-in_err-reserve-clause-err
 returns-in_err-reserve-clause-err g c = at_err _ _ (same_parts _ _ _ _ _ _ refl c.in_err-reserve.ensures.items refl)
 
-pub reserve-requires-2 : goal.reserve-requires-2
-reserve-requires-2 g c = search rules
-
-pub branch-reserve-requires-2 : goal.branch-reserve-requires-2
-branch-reserve-requires-2 g c = search rules
-
-pub from_residual-requires-in_err-reserve-2 : goal.from_residual-requires-in_err-reserve-2
-from_residual-requires-in_err-reserve-2 g c = search rules
-
 pub returns-in_err-reserve-2-clause-out : goal.returns-in_err-reserve-2-clause-out
 returns-in_err-reserve-2-clause-out g c = c.requires.empty
 
@@ -186,15 +141,6 @@ returns-in_err-reserve-2-clause-noted g c = IfOk-from_err _ _ c.from_residual-in
 pub returns-in_err-reserve-2-clause-err : goal.returns-in_err-reserve-2-clause-err
 returns-in_err-reserve-2-clause-err g c = at_err _ _ (same_parts _ _ _ _ _ _ refl c.in_ok-reserve.ensures.items c.in_err-reserve-2.ensures.items)
 
-pub index_mut-requires : goal.index_mut-requires
-index_mut-requires g c = search rules
-
-pub branch-act_and_send-requires : goal.branch-act_and_send-requires
-branch-act_and_send-requires g c = search rules
-
-pub from_residual-requires-in_err-act_and_send : goal.from_residual-requires-in_err-act_and_send
-from_residual-requires-in_err-act_and_send g c = search rules
-
 pub returns-in_err-act_and_send-clause-out : goal.returns-in_err-act_and_send-clause-out
 returns-in_err-act_and_send-clause-out g c = c.in_err-act_and_send.ensures.out
 
@@ -206,9 +152,3 @@ returns-in_err-act_and_send-clause-noted g c = IfOk-from_err _ _ c.from_residual
 
 pub returns-clause-out : goal.returns-clause-out
 returns-clause-out g c = c.in_ok-act_and_send.ensures.out
-
-pub returns-clause-fault : goal.returns-clause-fault
-returns-clause-fault g c = tt
-
-pub returns-clause-err : goal.returns-clause-err
-returns-clause-err g c = tt

@@ -29,9 +29,6 @@ returns-in-Ok-clause-letters g c =
     c.in-Ok.ensures.letters
     ∙ ap (λ (o : Option (ℕ × ℕ × Parcel g.row.C-Msg.Denot)). (act_of g.C.Exclusion.core (act_of_delivery o) c.args.member.now).letters) (sym (found g c))
 
-pub get-requires : goal.get-requires
-get-requires g c = search rules
-
 pub receive-requires : goal.receive-requires
 receive-requires g c = (search rules, (search rules, c.requires.empty))
 
@@ -39,24 +36,6 @@ pub unreachable-requires : goal.unreachable-requires
 unreachable-requires g c =
     never (subst (λ (o : Option (ℕ × ℕ × Parcel g.row.C-Msg.Denot)). IsSome o)
     (none_at c.args.sent.now c.args.sent.now c.args.number refl c.in-None.ensures.lookup.0) c.requires.there)
-
-pub unreachable-unreachable : goal.unreachable-unreachable
-unreachable-unreachable g c = search rules
-
-pub returns-in-Ok-clause-err : goal.returns-in-Ok-clause-err
-returns-in-Ok-clause-err g c = tt
-
-pub returns-in-Ok-clause-quiet : goal.returns-in-Ok-clause-quiet
-returns-in-Ok-clause-quiet g c = tt
-
-pub returns-in-Err-clause-state : goal.returns-in-Err-clause-state
-returns-in-Err-clause-state g c = tt
-
-pub returns-in-Err-clause-answer : goal.returns-in-Err-clause-answer
-returns-in-Err-clause-answer g c = tt
-
-pub returns-in-Err-clause-letters : goal.returns-in-Err-clause-letters
-returns-in-Err-clause-letters g c = tt
 
 pub returns-in-Err-clause-err : goal.returns-in-Err-clause-err
 returns-in-Err-clause-err g c = c.in-Err.ensures.err

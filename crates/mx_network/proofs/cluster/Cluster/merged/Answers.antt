@@ -1,4 +1,4 @@
-use Rattle.std.proofs.Common.{rules, arith, Result, Ok, Err, ℕ, suc, ◌≡◌, List, [], ◌+◌, get_or, take, subst, sym, ap, ◌∙◌}
+use Rattle.std.proofs.Common.{arith, Result, Ok, Err, ℕ, suc, ◌≡◌, List, [], ◌+◌, get_or, take, subst, sym, ap, ◌∙◌}
 use Rattle.std.proofs.lemmas.List.{take_all}
 use Rattle.std.proofs.lemmas.Result.{IfOk-from_err}
 use Rattle.mx_journal.specs.Records.{Ascending}
@@ -91,32 +91,8 @@ pub returns-clause-shown : goal.returns-clause-shown
 returns-clause-shown g c every count few =
     whole_registers count (journal_of c.args.self.now.trace) c.loop-node.all few (journal_ascends (sections c.args.self.now.trace)) (returns-clause-whole g c every)
 
-pub new-all-requires : goal.new-all-requires
-new-all-requires g c = tt
-
 pub bounds-nodes-node-index : goal.bounds-nodes-node-index
 bounds-nodes-node-index g c = c.loop-node-test.true
-
-pub get-requires : goal.get-requires
-get-requires g c = tt
-
-pub get-requires-in-loop-node : goal.get-requires-in-loop-node
-get-requires-in-loop-node g c = search rules
-
-pub journal-requires : goal.journal-requires
-journal-requires g c = search rules
-
-pub merge-requires : goal.merge-requires
-merge-requires g c = tt
-
-pub branch-merge-requires : goal.branch-merge-requires
-branch-merge-requires g c = search rules
-
-pub from_residual-requires : goal.from_residual-requires
-from_residual-requires g c = search rules
-
-pub drop-all-inside-requires : goal.drop-all-inside-requires
-drop-all-inside-requires g c = search rules
 
 pub returns-in_err-merge-clause-all : goal.returns-in_err-merge-clause-all
 returns-in_err-merge-clause-all g c = IfOk-from_err _ _ c.from_residual.ensures.0

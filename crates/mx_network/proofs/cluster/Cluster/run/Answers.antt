@@ -1,4 +1,4 @@
-use Rattle.std.proofs.Common.{rules, arith, List, [], ◌∷◌, ◌++◌, IfSome, Option, take, refl, subst, sym, ap, ◌∙◌}
+use Rattle.std.proofs.Common.{arith, List, [], ◌∷◌, ◌++◌, IfSome, Option, take, refl, subst, sym, ap, ◌∙◌}
 use Rattle.std.proofs.lemmas.List.{take_all, take_more}
 use Rattle.mx_events.specs.declared.event.Event.{Event}
 use Rattle.mx_network.specs.Step.{ClusterState, IsFaultOf, RunsTo, step_of}
@@ -36,17 +36,8 @@ returns-clause-ok g c =
     subst (λ (es : List Event). RunsTo g.C.Exclusion.core c.args.self.now es c.loop-index.self)
     (take_all c.loop-index.index c.args.events.now c.loop-index-test.false) c.loop-index.invariant.runs
 
-pub offset_bounds-events-index : goal.offset_bounds-events-index
-offset_bounds-events-index g c = search rules
-
 pub bounds-events-index : goal.bounds-events-index
 bounds-events-index g c = c.loop-index-test.true
-
-pub advance-requires : goal.advance-requires
-advance-requires g c = search rules
-
-pub returns-in-Err-clause-ok : goal.returns-in-Err-clause-ok
-returns-in-Err-clause-ok g c = tt
 
 pub returns-in-Err-clause-err : goal.returns-in-Err-clause-err
 returns-in-Err-clause-err g c = (c.loop-index-test.true, subst (λ (s : ClusterState g.row.C.Denot g.row.C-Msg.Denot). RunsTo g.C.Exclusion.core c.args.self.now (take c.loop-index.index c.args.events.now) s) (sym c.in-Err.ensures.err) c.loop-index.invariant.runs)
@@ -62,12 +53,6 @@ returns-in-Err-clause-serial g c = c.in-Err.ensures.serial
 
 pub loop-index-smaller : goal.loop-index-smaller
 loop-index-smaller g c = (let t = c.loop-index-test.true in omega arith)
-
-pub returns-clause-err : goal.returns-clause-err
-returns-clause-err g c = tt
-
-pub returns-clause-fault : goal.returns-clause-fault
-returns-clause-fault g c = tt
 
 pub returns-clause-exclusive : goal.returns-clause-exclusive
 returns-clause-exclusive g c = c.loop-index.invariant.exclusive
