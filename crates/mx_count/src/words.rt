@@ -1,8 +1,8 @@
 //! The words of `count`, and those of `explore` with `--count`.
 
 ghost use Rattle.std.specs.Prelude.{◌≡◌, [], IfOk, IfErr, option_map};
-ghost use Rattle.clap.specs.Words.{app_of, fault_of, found_of, rows_of, subcommand_rows_of, HasKind};
-ghost use Rattle.mx_words.specs.Words.{IsCommand, texts_of};
+ghost use Rattle.clap.specs.Words.{app_of, fault_of, found_of, rows_of, subcommand_of, subcommand_rows_of, HasKind};
+ghost use Rattle.mx_words.specs.Words.{IsCommand, line_with, texts_of};
 ghost use Rattle.mx_count.specs.CountWords.{count_app, count_line, drawn_app, drawn_in, given_in, order_asked, order_in, order_of};
 
 use crate::help;
@@ -54,7 +54,14 @@ fn drawn_command<'a>(alloc: Global) -> Result<Command<'a>, AllocError>
 fn count_line<'a>(alloc: Global) -> Result<Command<'a>, AllocError>
     ensures { IfOk result (λ command. app_of command ≡ count_line) }
 {
-    line_of(alloc, count_command(alloc)?)?.subcommand(drawn_command(alloc)?)
+    counted_line(alloc)?.subcommand(drawn_command(alloc)?)
+}
+
+/// The command line of `count` alone.
+fn counted_line<'a>(alloc: Global) -> Result<Command<'a>, AllocError>
+    ensures { IfOk result (λ command. app_of command ≡ line_with count_app) }
+{
+    line_of(alloc, count_command(alloc)?)
 }
 
 /// What the words ask to count. Their faults are those of `clap`, and words that ask for help come as
@@ -68,8 +75,18 @@ pub(crate) fn asked_order<'a>(
         option_map order_of order ≡ order_asked (texts_of words.entry.now)) }
     ensures err { IfErr result (HasKind (fault_of count_line (texts_of words.entry.now))) }
 {
-    let matches = matches_in(count_line(alloc)?, words)?;
+    let matches = matches_of(alloc, words)?;
     Ok(order_in(&matches))
+}
+
+/// What is found in the words.
+fn matches_of<'a>(alloc: Global, words: &'a [&'a str]) -> Result<ArgMatches<'a>, Error>
+    ensures read { IfOk result (λ _. fault_of count_line (texts_of words.entry.now) ≡ []) }
+    ensures found { IfOk result (λ matches.
+        subcommand_rows_of matches ≡ subcommand_of count_line (texts_of words.entry.now)) }
+    ensures err { IfErr result (HasKind (fault_of count_line (texts_of words.entry.now))) }
+{
+    matches_in(count_line(alloc)?, words)
 }
 
 fn order_in<'a>(matches: &ArgMatches<'a>) -> Option<Order<'a>>
