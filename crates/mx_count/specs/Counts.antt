@@ -1,6 +1,5 @@
 -- What is counted of a cluster after its events, and the lines of that.
 use Rattle.std.specs.Prelude.{ℕ, ◌+◌, ◌*◌, ◌/◌, ◌%◌, ◌&&◌, ◌++◌, Bool, true, false, not, List, [], ◌∷◌, codes, decimal, length, max, nat_eq, ◌==◌, position, unwrap_or, if◌then◌else◌}
-use Rattle.std.specs.Borrow.{Bor}
 use Rattle.std.specs.List.{count_by}
 use Rattle.mx_member.specs.declared.parcel.Parcel.{Parcel}
 use Rattle.mx_network.specs.Step.{ClusterState}
@@ -11,7 +10,7 @@ use Rattle.mx_network.specs.declared.outcome.Outcome.{Outcome}
 use Rattle.mx_network.specs.declared.outcome.Outcome.TheVariants.{Asked, Refused}
 use Rattle.mx_plan.specs.Text.{Text}
 use Rattle.mx_texts.specs.Lines.{each_text, line_feed}
-use Rattle.mx_count.specs.Kinds.{is_refused_under, is_under}
+use Rattle.mx_count.specs.Kinds.{is_refused_under, is_under, refusal_names}
 
 -- a name and its count
 abbrev pub tally_line : Text → ℕ → Text
@@ -20,15 +19,15 @@ tally_line name count = name ++ codes " " ++ decimal count ++ line_feed
 -- ---- parcels and refusals
 
 -- a line for each name, of how many parcels count under it
-abbrev pub parcels_text : {M : Type 0} → (M → Text) → List (ℕ × ℕ × Parcel M) → List (Bor Text) → Text
-parcels_text kind_text sent = each_text (λ (name : Bor Text). tally_line name.now (count_by (is_under kind_text name.now) sent))
+abbrev pub parcels_text : {M : Type 0} → (M → Text) → List (ℕ × ℕ × Parcel M) → List Text → Text
+parcels_text kind_text sent = each_text (λ name. tally_line name (count_by (is_under kind_text name) sent))
 
 abbrev pub is_entry_under : Text → Entry → Bool
 is_entry_under name entry = is_refused_under name entry.outcome
 
 -- a line for each name, of how many refusals count under it
-abbrev pub refusals_text : List Entry → List (Bor Text) → Text
-refusals_text trace = each_text (λ (name : Bor Text). tally_line name.now (count_by (is_entry_under name.now) trace))
+abbrev pub refusals_text : List Entry → List Text → Text
+refusals_text trace = each_text (λ name. tally_line name (count_by (is_entry_under name) trace))
 
 -- ---- waits
 
@@ -77,8 +76,8 @@ abbrev pub head_text : ℕ → ℕ → ℕ → Text
 head_text events sections parcels =
     tally_line (codes "events") events ++ tally_line (codes "sections") sections ++ tally_line (codes "parcels") parcels
 
--- what is counted of a cluster of which so many sections were entered, by the names of its parcels and refusals
-abbrev pub tallies_text : {S M : Type 0} → (M → Text) → ClusterState S M → ℕ → List (Bor Text) → List (Bor Text) → Text
-tallies_text kind_text g sections names causes =
+-- what is counted of a cluster of which so many sections were entered, by the names of its parcels
+abbrev pub tallies_text : {S M : Type 0} → (M → Text) → List Text → ClusterState S M → ℕ → Text
+tallies_text kind_text names g sections =
     parcels_text kind_text g.sent names ++ share_text (count_by (is_under kind_text (codes "letters")) g.sent) sections
-    ++ refusals_text g.trace causes ++ tally_line (codes "longest wait") (longest_wait g.trace)
+    ++ refusals_text g.trace refusal_names ++ tally_line (codes "longest wait") (longest_wait g.trace)

@@ -1,5 +1,5 @@
 -- The kinds of letters and of refusals, and the names under which each is counted.
-use Rattle.std.specs.Prelude.{ℕ, ◌||◌, Bool, false, codes, nat_eq, if◌then◌else◌}
+use Rattle.std.specs.Prelude.{ℕ, ◌||◌, Bool, false, List, [], ◌∷◌, codes, nat_eq, if◌then◌else◌}
 use Rattle.std.specs.Str.{bytes_eq}
 use Rattle.mx_letters.specs.declared.ricart.RicartMsg.{RicartMsg}
 use Rattle.mx_letters.specs.declared.ricart.RicartMsg.TheVariants as ricart
@@ -63,3 +63,19 @@ cause_kind (Below n) = codes "below"
 abbrev pub is_refused_under : Text → Outcome → Bool
 is_refused_under name (Refused cause) = bytes_eq name (codes "refused") || bytes_eq name (cause_kind cause)
 is_refused_under name _ = false
+
+-- the names under which the parcels of each algorithm are counted, in the order of their lines
+abbrev pub ricart_names : List Text
+ricart_names = codes "letters" ∷ codes "request" ∷ codes "reply" ∷ codes "own" ∷ codes "gossip" ∷ codes "want" ∷ codes "base" ∷ codes "records" ∷ []
+
+abbrev pub maekawa_names : List Text
+maekawa_names = codes "letters" ∷ codes "request" ∷ codes "locked" ∷ codes "failed" ∷ codes "inquire" ∷ codes "relinquish" ∷ codes "release" ∷ codes "own" ∷ codes "gossip" ∷ codes "want" ∷ codes "base" ∷ codes "records" ∷ []
+
+abbrev pub raymond_names : List Text
+raymond_names = codes "letters" ∷ codes "request" ∷ codes "privilege" ∷ codes "got" ∷ codes "own" ∷ codes "gossip" ∷ codes "want" ∷ codes "base" ∷ codes "records" ∷ []
+
+-- those under which refusals are counted
+abbrev pub refusal_names : List Text
+refusal_names =
+    codes "refused" ∷ codes "not idle" ∷ codes "stamps spent" ∷ codes "not waiting" ∷ codes "not granted" ∷ codes "numbers spent"
+    ∷ codes "not inside" ∷ codes "no register" ∷ codes "gap" ∷ codes "full" ∷ codes "below" ∷ []

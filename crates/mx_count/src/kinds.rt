@@ -1,8 +1,8 @@
 //! The kinds of letters, and under which names a parcel is counted.
 
-ghost use Rattle.std.specs.Prelude.{◌≡◌};
+ghost use Rattle.std.specs.Prelude.{◌≡◌, List, map};
 ghost use Rattle.mx_plan.specs.Text.{Text};
-ghost use Rattle.mx_count.specs.Kinds.{cause_kind, is_refused_under, is_under, maekawa_kind, raymond_kind, ricart_kind};
+ghost use Rattle.mx_count.specs.Kinds.{cause_kind, is_refused_under, is_under, maekawa_kind, maekawa_names, raymond_kind, raymond_names, refusal_names, ricart_kind, ricart_names};
 
 use mx_letters::{MaekawaMsg, RaymondMsg, RicartMsg};
 use mx_member::Parcel;
@@ -15,13 +15,22 @@ pub trait Kinded: Letter {
     // the kind, which is the word that the letter's text begins with
     ghost kind_text: { Self → Text };
 
+    // the names under which the parcels of its algorithm are counted
+    ghost names: { List Text };
+
     /// The word that its text begins with.
     fn kind(&self) -> &'static str
         ensures { result.now ≡ kind_text self.now };
+
+    /// The names under which the parcels of its algorithm are counted.
+    fn names() -> &'static [&'static str]
+        ensures { map (λ name. name.now) result.now ≡ names };
 }
 
 impl Kinded for RicartMsg {
     ghost kind_text = { ricart_kind };
+
+    ghost names = { ricart_names };
 
     fn kind(&self) -> &'static str {
         match self {
@@ -29,10 +38,18 @@ impl Kinded for RicartMsg {
             RicartMsg::Reply(_, _) => "reply",
         }
     }
+
+    fn names() -> &'static [&'static str] {
+        &[
+            "letters", "request", "reply", "own", "gossip", "want", "base", "records",
+        ]
+    }
 }
 
 impl Kinded for MaekawaMsg {
     ghost kind_text = { maekawa_kind };
+
+    ghost names = { maekawa_names };
 
     fn kind(&self) -> &'static str {
         match self {
@@ -44,10 +61,29 @@ impl Kinded for MaekawaMsg {
             MaekawaMsg::Release(_, _) => "release",
         }
     }
+
+    fn names() -> &'static [&'static str] {
+        &[
+            "letters",
+            "request",
+            "locked",
+            "failed",
+            "inquire",
+            "relinquish",
+            "release",
+            "own",
+            "gossip",
+            "want",
+            "base",
+            "records",
+        ]
+    }
 }
 
 impl Kinded for RaymondMsg {
     ghost kind_text = { raymond_kind };
+
+    ghost names = { raymond_names };
 
     fn kind(&self) -> &'static str {
         match self {
@@ -56,56 +92,40 @@ impl Kinded for RaymondMsg {
             RaymondMsg::Got(_) => "got",
         }
     }
+
+    fn names() -> &'static [&'static str] {
+        &[
+            "letters",
+            "request",
+            "privilege",
+            "got",
+            "own",
+            "gossip",
+            "want",
+            "base",
+            "records",
+        ]
+    }
 }
 
-/// The names under which the parcels of Ricart and Agrawala's algorithm are counted.
-pub(crate) const RICART: [&str; 8] = [
-    "letters", "request", "reply", "own", "gossip", "want", "base", "records",
-];
-
-/// Those of Maekawa's.
-pub(crate) const MAEKAWA: [&str; 12] = [
-    "letters",
-    "request",
-    "locked",
-    "failed",
-    "inquire",
-    "relinquish",
-    "release",
-    "own",
-    "gossip",
-    "want",
-    "base",
-    "records",
-];
-
-/// Those of Raymond's.
-pub(crate) const RAYMOND: [&str; 9] = [
-    "letters",
-    "request",
-    "privilege",
-    "got",
-    "own",
-    "gossip",
-    "want",
-    "base",
-    "records",
-];
-
 /// The names under which refusals are counted.
-pub(crate) const REFUSALS: [&str; 11] = [
-    "refused",
-    "not idle",
-    "stamps spent",
-    "not waiting",
-    "not granted",
-    "numbers spent",
-    "not inside",
-    "no register",
-    "gap",
-    "full",
-    "below",
-];
+pub(crate) fn refusal_names() -> &'static [&'static str]
+    ensures { map (λ name. name.now) result.now ≡ refusal_names }
+{
+    &[
+        "refused",
+        "not idle",
+        "stamps spent",
+        "not waiting",
+        "not granted",
+        "numbers spent",
+        "not inside",
+        "no register",
+        "gap",
+        "full",
+        "below",
+    ]
+}
 
 /// Whether a parcel is counted under a name. A letter that a node sends to itself is one of its own, and
 /// counts under that alone.

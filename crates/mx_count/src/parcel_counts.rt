@@ -1,6 +1,6 @@
 //! How many parcels there are of each kind.
 
-ghost use Rattle.std.specs.Prelude.{◌≡◌, ◌+◌, ◌<◌, ◌++◌, OnOk, drop, length, string_bytes};
+ghost use Rattle.std.specs.Prelude.{◌≡◌, ◌+◌, ◌<◌, ◌++◌, OnOk, drop, length, string_bytes, map};
 ghost use Rattle.std.specs.List.{count_by};
 ghost use Rattle.mx_count.specs.Counts.{parcels_text};
 ghost use Rattle.mx_count.specs.Kinds.{is_under};
@@ -20,7 +20,7 @@ pub(crate) fn add_parcel_counts<C: Exclusion>(
 where
     C::Msg: Kinded,
     ensures { OnOk result (string_bytes text.new
-        ≡ string_bytes text.old ++ parcels_text C.Msg.kind_text cluster.now.sent names.now) }
+        ≡ string_bytes text.old ++ parcels_text C.Msg.kind_text cluster.now.sent (map (λ name. name.now) names.now)) }
 {
     for name in names {
         text.write(TallyLine {

@@ -1,6 +1,6 @@
 //! How many events were refused, for each cause.
 
-ghost use Rattle.std.specs.Prelude.{◌≡◌, ◌++◌, OnOk, string_bytes};
+ghost use Rattle.std.specs.Prelude.{◌≡◌, ◌++◌, OnOk, string_bytes, map};
 ghost use Rattle.std.specs.List.{count_by};
 ghost use Rattle.mx_count.specs.Counts.{is_entry_under, refusals_text};
 
@@ -16,7 +16,7 @@ pub(crate) fn add_refusal_counts(
     text: &mut String,
 ) -> Result<(), AllocError>
     ensures { OnOk result (string_bytes text.new
-        ≡ string_bytes text.old ++ refusals_text trace.now names.now) }
+        ≡ string_bytes text.old ++ refusals_text trace.now (map (λ name. name.now) names.now)) }
 {
     for name in names {
         text.write(TallyLine {

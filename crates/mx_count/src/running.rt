@@ -3,17 +3,17 @@
 ghost use Rattle.std.specs.Prelude.{◌≡◌, ◌++◌, IfOk, OnOk, string_bytes};
 ghost use Rattle.mx_network.specs.Step.{RunsTo};
 ghost use Rattle.mx_count.specs.Counts.{head_text, share_text, tallies_text};
-ghost use Rattle.mx_count.specs.Counted.{AddsCounts, Leads, counts_text, first_text};
+ghost use Rattle.mx_count.specs.Counted.{AddsCounts, AddsCountsBy, Leads, counts_text, first_text};
 
 use crate::count_lines::{ShareLine, TallyLine};
-use crate::kinds::{Kinded, MAEKAWA, RAYMOND, REFUSALS, RICART};
+use crate::kinds::{Kinded, refusal_names};
 use crate::parcel_counts::{add_parcel_counts, count_parcels};
 use crate::refusal_counts::add_refusal_counts;
 use crate::waits::longest_wait;
 use mx_commands::{Fault, Stop, VerdictLine, entries_in, happen, start, verdict_status};
 use mx_explorer::judge;
 use mx_maekawa::Maekawa;
-use mx_network::{Cluster, Event, StepFault};
+use mx_network::{Cluster, Event, RunFault, StepFault};
 use mx_nodelaws::Exclusion;
 use mx_plan::{Plan, Shape};
 use mx_raymond::Raymond;
@@ -39,20 +39,22 @@ pub(crate) fn add_counts_of(
     course: Course,
     text: &mut String,
 ) -> Result<u8, Stop>
-    ensures { IfOk result (λ status. status ≡ 0) }
+    ensures text { OnOk result (AddsCountsBy course plan.now events.now
+        (string_bytes text.old) (string_bytes text.new) plan.now.shape) }
+    ensures zero { IfOk result (λ status. status ≡ 0) }
 {
     match plan.shape() {
         Shape::Ricart(count) => {
             let mut cluster = start::<Ricart>(alloc, plan, count)?;
-            add_counts_after(&mut cluster, &RICART, &REFUSALS, events, course, text)
+            add_counts_after(&mut cluster, events, course, text)
         }
         Shape::Maekawa(sets) => {
             let mut cluster = start::<Maekawa>(alloc, plan, sets)?;
-            add_counts_after(&mut cluster, &MAEKAWA, &REFUSALS, events, course, text)
+            add_counts_after(&mut cluster, events, course, text)
         }
         Shape::Raymond(tree) => {
             let mut cluster = start::<Raymond>(alloc, plan, tree)?;
-            add_counts_after(&mut cluster, &RAYMOND, &REFUSALS, events, course, text)
+            add_counts_after(&mut cluster, events, course, text)
         }
     }
 }
@@ -60,20 +62,18 @@ pub(crate) fn add_counts_of(
 /// The events happen; then what is counted of them, and the verdict. Answers the status.
 fn add_counts_after<C: Exclusion>(
     cluster: &mut Cluster<C>,
-    names: &[&str],
-    causes: &[&str],
     events: &[Event],
     course: Course,
     text: &mut String,
 ) -> Result<u8, Stop>
 where
     C::Msg: Kinded,
-    ensures text { OnOk result (AddsCounts C.core C.Msg.kind_text names.now causes.now course events.now
+    ensures text { OnOk result (AddsCounts C.core C.Msg.kind_text C.Msg.names course events.now
         cluster.old (string_bytes text.old) (string_bytes text.new)) }
     ensures zero { IfOk result (λ status. status ≡ 0) }
 {
     bring_about(cluster, events, course)?;
-    add_counts(cluster, names, causes, events.len() as u64, course, text)
+    add_counts(cluster, events.len() as u64, course, text)
 }
 
 /// Each event in turn.
@@ -97,16 +97,21 @@ fn run_given<C: Exclusion>(cluster: &mut Cluster<C>, events: &[Event]) -> Result
     cluster.make_room(events.len())?;
     match cluster.run(events) {
         Ok(()) => Ok(()),
-        Err(stopped) if stopped.fault == StepFault::Memory => Err(Stop::Memory),
-        Err(stopped) => Err(Stop::Fault(Fault::NoParcel(stopped.index))),
+        Err(stopped) => Err(stop_at(stopped)),
+    }
+}
+
+/// Why the events of a file end at one of them.
+fn stop_at(stopped: RunFault) -> Stop {
+    match stopped.fault {
+        StepFault::Memory => Stop::Memory,
+        StepFault::NoNode | StepFault::NoParcel => Stop::Fault(Fault::NoParcel(stopped.index)),
     }
 }
 
 /// Appends the counts and the verdict.
 fn add_counts<C: Exclusion>(
     cluster: &Cluster<C>,
-    names: &[&str],
-    causes: &[&str],
     steps: u64,
     course: Course,
     text: &mut String,
@@ -114,13 +119,13 @@ fn add_counts<C: Exclusion>(
 where
     C::Msg: Kinded,
     ensures text { OnOk result (string_bytes text.new ≡ string_bytes text.old
-        ++ counts_text C.Msg.kind_text names.now causes.now course steps cluster.now) }
+        ++ counts_text C.Msg.kind_text C.Msg.names course steps cluster.now) }
     ensures zero { IfOk result (λ status. status ≡ 0) }
 {
     let trace = cluster.trace();
     let entered = entries_in(trace);
     add_first(course, steps, entered, cluster.sent(), text)?;
-    add_tallies(cluster, entered, names, causes, text)?;
+    add_tallies(cluster, entered, text)?;
     let verdict = judge(trace);
     text.write(VerdictLine(verdict))?;
     Ok(verdict_status(verdict))
@@ -170,20 +175,18 @@ fn add_head(events: u64, sections: u64, parcels: u64, text: &mut String) -> Resu
 fn add_tallies<C: Exclusion>(
     cluster: &Cluster<C>,
     entered: u64,
-    names: &[&str],
-    causes: &[&str],
     text: &mut String,
 ) -> Result<(), AllocError>
 where
     C::Msg: Kinded,
     ensures { OnOk result (string_bytes text.new
         ≡ string_bytes text.old
-        ++ tallies_text C.Msg.kind_text cluster.now entered names.now causes.now) }
+        ++ tallies_text C.Msg.kind_text C.Msg.names cluster.now entered) }
 {
     let trace = cluster.trace();
-    add_parcel_counts(cluster, names, text)?;
+    add_parcel_counts(cluster, C::Msg::names(), text)?;
     add_share(count_parcels(cluster, "letters"), entered, text)?;
-    add_refusal_counts(trace, causes, text)?;
+    add_refusal_counts(trace, refusal_names(), text)?;
     text.write(TallyLine {
         name: "longest wait",
         count: longest_wait(trace),
