@@ -1,14 +1,22 @@
 //! `count`: from words, named bytes and two outputs to a status.
 
-ghost use Rattle.std.specs.Prelude.{◌≡◌, IsSome, IfOk};
-ghost use Rattle.mx_words.specs.Words.{texts_of, AreWrong, AskHelp};
+ghost use Rattle.std.specs.Prelude.{◌≡◌, IsSome, IfSome, IfOk};
+ghost use Rattle.mx_words.specs.Words.{names_of, texts_of, AreWrong, AskHelp};
+ghost use Rattle.mx_commands.specs.Explored.{schedule_of};
 ghost use Rattle.mx_commands.specs.Ran.{Helps, IsRunStatus, Scolds, seen};
-ghost use Rattle.mx_count.specs.CountWords.{order_asked, count_line};
+ghost use Rattle.mx_count.specs.CountWords.{order_asked, order_of, count_line};
+ghost use Rattle.mx_count.specs.CountWords as wanted;
+ghost use Rattle.mx_count.specs.Printed.{PrintsCounts, PrintsCountsOf, PrintsListed, PrintsSplit, PrintsTold};
 
 use crate::running::{Course, add_counts_of};
 use crate::words::{Order, asked_order};
-use mx_commands::{Output, Source, Stop, close, fetch_plan, fetch_run, print, refuse};
+use mx_commands::{
+    Named, Output, Source, Stop, are_dashes, close, fetch, fetch_plan, plan_in, print, refuse,
+    split_line,
+};
 use mx_explorer::schedule;
+use mx_network::Event;
+use mx_plan::{Plan, read_events};
 use mx_words::{Exploration, Names};
 use std::alloc::Global;
 
@@ -23,6 +31,8 @@ pub fn count<S: Source, O: Output, E: Output>(
     out: &mut O,
     err: &mut E,
 ) -> u8
+    ensures printed { IfSome (order_asked (texts_of words.entry.now)) (λ wanted.
+        result ≡ 0 → PrintsCounts (S.told source.old) wanted (O.written out.old) (O.written out.new)) }
     ensures status { IsSome (order_asked (texts_of words.entry.now)) → IsRunStatus result }
     ensures help { AskHelp count_line (texts_of words.entry.now) → Helps (O.takes_all out.old)
         (seen (O.written out.old) (E.written err.old) (O.has_refused out.old) (O.keeps_back out.old))
@@ -48,7 +58,9 @@ fn count_and_close<S: Source, O: Output, E: Output>(
     out: &mut O,
     err: &mut E,
 ) -> u8
-    ensures { IsRunStatus result }
+    ensures printed { result ≡ 0 → PrintsCounts (S.told source.old) (order_of order.now)
+        (O.written out.old) (O.written out.new) }
+    ensures status { IsRunStatus result }
 {
     let ended = count_order(alloc, order, source, out);
     close(alloc, ended, &order.names(), out, err)
@@ -61,6 +73,8 @@ fn count_order<S: Source, O: Output>(
     source: &mut S,
     out: &mut O,
 ) -> Result<u8, Stop>
+    ensures printed { IfOk result (λ _. PrintsCounts (S.told source.old) (order_of order.now)
+        (O.written out.old) (O.written out.new)) }
     ensures zero { IfOk result (λ status. status ≡ 0) }
 {
     match order {
@@ -69,19 +83,59 @@ fn count_order<S: Source, O: Output>(
     }
 }
 
-/// Reads a plan and its events, and prints what is counted of them.
+/// Reads a plan and its events, as `replay` does, and prints what is counted of them.
 fn count_given<S: Source, O: Output>(
     alloc: Global,
     names: &Names<'_>,
     source: &mut S,
     out: &mut O,
 ) -> Result<u8, Stop>
+    ensures printed { IfOk result (λ _. PrintsCounts (S.told source.old) (wanted.given (names_of names.now))
+        (O.written out.old) (O.written out.new)) }
     ensures zero { IfOk result (λ status. status ≡ 0) }
 {
-    let (plan, events) = fetch_run(alloc, source, names)?;
-    let mut text = String::new(alloc);
-    add_counts_of(alloc, &plan, events.as_slice(), Course::Given, &mut text)?;
-    print(text.as_bytes(), out)
+    if are_dashes(names) {
+        let one = fetch(alloc, source, names.plan, Named::Plan)?;
+        return count_split(alloc, one.as_slice(), out);
+    }
+    let plan = fetch_plan(alloc, source, names.plan)?;
+    count_named(alloc, &plan, source, names.events, out)
+}
+
+/// Counts of one text: its first line is the plan, and what follows is the events.
+fn count_split<O: Output>(alloc: Global, one: &[u8], out: &mut O) -> Result<u8, Stop>
+    ensures printed { IfOk result (λ _. PrintsSplit one.now (O.written out.old) (O.written out.new)) }
+    ensures zero { IfOk result (λ status. status ≡ 0) }
+{
+    let (line, rest) = split_line(one);
+    let plan = plan_in(alloc, line)?;
+    count_listed(alloc, &plan, rest, out)
+}
+
+/// Reads the events of a name, and prints what is counted of them.
+fn count_named<S: Source, O: Output>(
+    alloc: Global,
+    plan: &Plan,
+    source: &mut S,
+    name: &str,
+    out: &mut O,
+) -> Result<u8, Stop>
+    ensures printed { IfOk result (λ _. PrintsTold plan.now (S.told source.old name.now)
+        (O.written out.old) (O.written out.new)) }
+    ensures zero { IfOk result (λ status. status ≡ 0) }
+{
+    let text = fetch(alloc, source, name, Named::Events)?;
+    count_listed(alloc, plan, text.as_slice(), out)
+}
+
+/// Prints what is counted of the events that a text lists.
+fn count_listed<O: Output>(alloc: Global, plan: &Plan, text: &[u8], out: &mut O) -> Result<u8, Stop>
+    ensures printed { IfOk result (λ _. PrintsListed plan.now text.now
+        (O.written out.old) (O.written out.new)) }
+    ensures zero { IfOk result (λ status. status ≡ 0) }
+{
+    let events = read_events(alloc, text, plan)?;
+    print_counts(alloc, plan, events.as_slice(), Course::Given, out)
 }
 
 /// Reads a plan, draws a schedule of this many steps, and prints what is counted of it.
@@ -91,11 +145,44 @@ fn count_drawn<S: Source, O: Output>(
     source: &mut S,
     out: &mut O,
 ) -> Result<u8, Stop>
+    ensures printed { IfOk result (λ _. PrintsCounts (S.told source.old)
+        (wanted.drawn exploration.now.plan.now exploration.now.seed exploration.now.steps)
+        (O.written out.old) (O.written out.new)) }
     ensures zero { IfOk result (λ status. status ≡ 0) }
 {
     let plan = fetch_plan(alloc, source, exploration.plan)?;
-    let events = schedule(alloc, exploration.seed, exploration.steps, &plan)?;
+    count_schedule(alloc, &plan, exploration.seed, exploration.steps, out)
+}
+
+/// Draws a schedule of this many steps, and prints what is counted of it.
+fn count_schedule<O: Output>(
+    alloc: Global,
+    plan: &Plan,
+    seed: u64,
+    steps: u64,
+    out: &mut O,
+) -> Result<u8, Stop>
+    ensures printed { IfOk result (λ _. PrintsCountsOf Course.Drawn plan.now (schedule_of plan.now seed steps)
+        (O.written out.old) (O.written out.new)) }
+    ensures zero { IfOk result (λ status. status ≡ 0) }
+{
+    let events = schedule(alloc, seed, steps, plan)?;
+    print_counts(alloc, plan, events.as_slice(), Course::Drawn, out)
+}
+
+/// Prints what is counted of these events.
+fn print_counts<O: Output>(
+    alloc: Global,
+    plan: &Plan,
+    events: &[Event],
+    course: Course,
+    out: &mut O,
+) -> Result<u8, Stop>
+    ensures printed { IfOk result (λ _. PrintsCountsOf course plan.now events.now
+        (O.written out.old) (O.written out.new)) }
+    ensures zero { IfOk result (λ status. status ≡ 0) }
+{
     let mut text = String::new(alloc);
-    add_counts_of(alloc, &plan, events.as_slice(), Course::Drawn, &mut text)?;
+    add_counts_of(alloc, plan, events, course, &mut text)?;
     print(text.as_bytes(), out)
 }

@@ -1,6 +1,6 @@
 use Rattle.mx_words.specs.Words.{texts_of}
 use Rattle.mx_commands.specs.Ran.{seen}
-use Rattle.mx_count.proofs.ClosedLemmas.{status_refused}
+use Rattle.mx_count.proofs.ClosedLemmas.{printed_refused, status_refused}
 use Rattle.mx_count.specs.CountWords.{count_line}
 use Rattle.mx_count.proofs.counting.count.Goals as goal
 
@@ -9,6 +9,12 @@ returns-in-Err-clause-status g c = status_refused (g.O.Output.takes_all c.args.o
     (seen (g.O.Output.written c.args.out.now) (g.E.Output.written c.args.err.now) (g.O.Output.has_refused c.args.out.now) (g.O.Output.keeps_back c.args.out.now))
     (seen (g.O.Output.written c.refuse.new.out) (g.E.Output.written c.refuse.new.err) (g.O.Output.has_refused c.refuse.new.out) (g.O.Output.keeps_back c.refuse.new.out))
     c.refuse.result c.in-Err.e (texts_of c.args.words.now) c.in-Err.ensures.err c.refuse.ensures.memory
+
+pub returns-in-Err-clause-printed : goal.returns-in-Err-clause-printed
+returns-in-Err-clause-printed g c = printed_refused (g.O.Output.takes_all c.args.out.now)
+    (seen (g.O.Output.written c.args.out.now) (g.E.Output.written c.args.err.now) (g.O.Output.has_refused c.args.out.now) (g.O.Output.keeps_back c.args.out.now))
+    (seen (g.O.Output.written c.refuse.new.out) (g.E.Output.written c.refuse.new.err) (g.O.Output.has_refused c.refuse.new.out) (g.O.Output.keeps_back c.refuse.new.out))
+    c.refuse.result c.in-Err.e (texts_of c.args.words.now) c.in-Err.ensures.err c.refuse.ensures.memory (g.S.Source.told c.args.source.now)
 
 pub returns-in-Err-clause-help : goal.returns-in-Err-clause-help
 returns-in-Err-clause-help g c = c.refuse.ensures.help count_line (texts_of c.args.words.now) c.in-Err.ensures.err
