@@ -1,6 +1,6 @@
 //! Files of events: a list in JSON, with one event a line.
 
-ghost use Rattle.std.specs.Prelude.{◌≡◌, ◌++◌, Ok, Some, string_bytes, IfOk, OnOk};
+ghost use Rattle.std.specs.Prelude.{◌≡◌, ◌++◌, Ok, Some, codes, decimal, string_bytes, IfOk, OnOk};
 ghost use Rattle.mx_plan.specs.Events.{events_at};
 ghost use Rattle.mx_plan.specs.Fields.{IsPlan};
 ghost use Rattle.mx_texts.specs.EventTexts.{name_of, register_name_of};
@@ -56,6 +56,59 @@ impl fmt::Display for OfNode<'_> {
     }
 }
 
+impl<'a> OfNode<'a> {
+    /// And a further name.
+    fn and_name(self, name: &'a str) -> WithName<'a>
+        ensures begun { result.begun ≡ self.entry }
+        ensures name { result.name.now ≡ name.now }
+    {
+        WithName { begun: self, name }
+    }
+
+    /// And a number.
+    fn and_number(self, number: u64) -> WithNumber<'a>
+        ensures begun { result.begun ≡ self.entry }
+        ensures number { result.number ≡ number }
+    {
+        WithNumber {
+            begun: self,
+            number,
+        }
+    }
+}
+
+/// The word of an event, the name of a node, and a further name.
+#[derive(Clone, Copy)]
+struct WithName<'a> {
+    begun: OfNode<'a>,
+    name: &'a str,
+}
+
+impl fmt::Display for WithName<'_> {
+    ghost output = { λ o. Some (of_node o.begun.word.now o.begun.name.now
+        ++ codes "," ++ quoted o.name.now) };
+
+    fn fmt<W: fmt::Write>(&self, f: &mut fmt::Formatter<W>) -> fmt::Result {
+        write!(f, "{},{}", self.begun, Quoted(self.name))
+    }
+}
+
+/// The word of an event, the name of a node, and a number.
+#[derive(Clone, Copy)]
+struct WithNumber<'a> {
+    begun: OfNode<'a>,
+    number: u64,
+}
+
+impl fmt::Display for WithNumber<'_> {
+    ghost output = { λ o. Some (of_node o.begun.word.now o.begun.name.now
+        ++ codes "," ++ decimal o.number) };
+
+    fn fmt<W: fmt::Write>(&self, f: &mut fmt::Formatter<W>) -> fmt::Result {
+        write!(f, "{},{}", self.begun, self.number)
+    }
+}
+
 /// An event, as a file has it, without the brackets.
 #[derive(Clone, Copy)]
 struct ItemsText<'a> {
@@ -81,25 +134,26 @@ impl fmt::Display for ItemsText<'_> {
 
     fn fmt<W: fmt::Write>(&self, f: &mut fmt::Formatter<W>) -> fmt::Result {
         match self.event {
-            Event::Ask(node) => write!(f, "{}", self.of("ask", *node)),
-            Event::Enter(node) => write!(f, "{}", self.of("enter", *node)),
+            Event::Ask(node) => self.of("ask", *node).fmt(f),
+            Event::Enter(node) => self.of("enter", *node).fmt(f),
             Event::Read(node, register) => {
-                let register = Quoted(register_name_of(self.plan, *register));
-                write!(f, "{},{register}", self.of("read", *node))
+                let register = register_name_of(self.plan, *register);
+                self.of("read", *node).and_name(register).fmt(f)
             }
             Event::Write(node, register, value) => {
-                let register = Quoted(register_name_of(self.plan, *register));
-                write!(f, "{},{register},{value}", self.of("write", *node))
+                let register = register_name_of(self.plan, *register);
+                let written = self.of("write", *node).and_name(register);
+                write!(f, "{written},{value}")
             }
-            Event::Leave(node) => write!(f, "{}", self.of("leave", *node)),
-            Event::Cancel(node) => write!(f, "{}", self.of("cancel", *node)),
-            Event::Tick(node) => write!(f, "{}", self.of("tick", *node)),
+            Event::Leave(node) => self.of("leave", *node).fmt(f),
+            Event::Cancel(node) => self.of("cancel", *node).fmt(f),
+            Event::Tick(node) => self.of("tick", *node).fmt(f),
             Event::Want(node, other) => {
-                let other = Quoted(name_of(self.plan, *other));
-                write!(f, "{},{other}", self.of("want", *node))
+                let other = name_of(self.plan, *other);
+                self.of("want", *node).and_name(other).fmt(f)
             }
-            Event::Settle(node, upto) => write!(f, "{},{upto}", self.of("settle", *node)),
-            Event::Restart(node) => write!(f, "{}", self.of("restart", *node)),
+            Event::Settle(node, upto) => self.of("settle", *node).and_number(*upto).fmt(f),
+            Event::Restart(node) => self.of("restart", *node).fmt(f),
             Event::Deliver(number) => write!(f, "{},{number}", Quoted("deliver")),
         }
     }
