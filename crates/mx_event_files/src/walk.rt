@@ -63,17 +63,25 @@ impl Walk {
     {
         let chance = self.below(64);
         if chance < REPEATS {
-            return Some(Event::Deliver(self.repeat()?));
+            return self.repeat();
         }
         if chance >= ANYBODY && chance < DELIVERIES && !self.flying.is_empty() {
-            return Some(Event::Deliver(self.take_up()?));
+            return self.take_up();
         }
+        let node = self.actor(plan, cluster, chance);
+        self.act(plan, cluster, node)
+    }
+
+    /// The node that acts, by chance.
+    fn actor<C: Exclusion>(&mut self, plan: &Plan, cluster: &Cluster<C>, chance: u32) -> NodeId
+        ensures { result < length plan.now.nodes }
+    {
         let any = self.node(plan);
         if chance < ANYBODY {
-            return self.act(plan, cluster, any);
+            any
+        } else {
+            ready_or(plan, cluster, any)
         }
-        let node = ready_or(plan, cluster, any);
-        self.act(plan, cluster, node)
     }
 
     /// A drawn number.
@@ -84,8 +92,10 @@ impl Walk {
         self.words.next_word() % count
     }
 
-    /// Takes up a parcel that is under way, wherever it stands. One of 64 is lost.
-    fn take_up(&mut self) -> Option<u64> {
+    /// Delivers a parcel that is under way, wherever it stands. One of 64 is lost.
+    fn take_up(&mut self) -> Option<Event>
+        ensures { (nodes registers : ℕ) → IfSome result (IsDrawn nodes registers) }
+    {
         let count = self.flying.len();
         if count == 0 {
             return None;
@@ -95,17 +105,19 @@ impl Walk {
         if self.below(64) == 0 {
             return None;
         }
-        Some(number)
+        Some(Event::Deliver(number))
     }
 
-    /// One of the newest parcels.
-    fn repeat(&mut self) -> Option<u64> {
+    /// Delivers one of the newest parcels.
+    fn repeat(&mut self) -> Option<Event>
+        ensures { (nodes registers : ℕ) → IfSome result (IsDrawn nodes registers) }
+    {
         let seen = self.seen;
         if seen == 0 {
             return None;
         }
         let back = u64::from(self.words.next_word()) % seen.min(WINDOW);
-        Some(seen - 1 - back)
+        Some(Event::Deliver(seen - 1 - back))
     }
 
     /// A drawn node.
