@@ -157,12 +157,17 @@ pub print_done : (told : Text → Option Telling) (task : Task) (p : Fields) (ta
 print_done told task p takes a b text (Ok status) read prints ran = (p, read, prints (printed takes a b text status ran))
 print_done told task p takes a b text (Err end) read prints ran = tt
 
--- the same of a file of events
-pub file_done : (told : Text → Option Telling) (task : Task) (p : Fields) (takes : Bool) (a b : Held) (text file : Text) (r : Result ℕ Stop)
-    → IsPlanOf (plan_told told task) p → (PrintsEvents p a b → Prints task p a b) → text ≡ file → IsEventFile p file p.shape → Ran takes a b (whole text) r
-    → IfOk r (λ _. HasDone told task a b)
-file_done told task p takes a b text file r read prints is of_plan ran =
-    print_done told task p takes a b text r read (λ h. prints (text, subst (λ (x : Text). IsEventFile p x p.shape) (sym is) of_plan, h)) ran
+-- a file of events was printed whole
+pub events_printed : (p : Fields) (takes : Bool) (a b : Held) (text file : Text) (r : Result ℕ Stop) → text ≡ file → IsEventFile p file p.shape → Ran takes a b (whole text) r
+    → IfOk r (λ _. PrintsEvents p a b)
+events_printed p takes a b text file (Ok status) is of_plan ran = (text, subst (λ (x : Text). IsEventFile p x p.shape) (sym is) of_plan, printed takes a b text status ran)
+events_printed p takes a b text file (Err end) is of_plan ran = tt
+
+-- the events of a walk were printed
+pub walk_done : {E : Type 0} (told : Text → Option Telling) (name : Text) (seed steps : ℕ) (p : Fields) (a b : Held) (r : Result ℕ E) → IsPlanOf (told name) p
+    → IfOk r (λ _. PrintsEvents p a b) → IfOk r (λ _. HasDone told (walk name seed steps) a b)
+walk_done told name seed steps p a b (Ok status) read prints = (p, read, prints)
+walk_done told name seed steps p a b (Err end) read prints = tt
 
 -- ---- the plan of two names that are one text
 

@@ -198,7 +198,22 @@ fn print_walk<S: Source, O: Output>(
     ensures zero { IfOk result (λ status. status ≡ 0) }
 {
     let plan = fetch_plan(alloc, source, exploration.plan)?;
-    let file = walk_file(alloc, &plan, exploration.seed, exploration.steps)?;
+    print_walked(alloc, &plan, exploration.seed, exploration.steps, out)
+}
+
+/// Prints a walk of a plan. Answers the status.
+fn print_walked<O: Output>(
+    alloc: Global,
+    plan: &Plan,
+    seed: u64,
+    steps: u64,
+    out: &mut O,
+) -> Result<u8, Stop>
+    ensures done { IfOk result (λ _.
+        PrintsEvents plan.now (O.written out.old) (O.written out.new)) }
+    ensures zero { IfOk result (λ status. status ≡ 0) }
+{
+    let file = walk_file(alloc, plan, seed, steps)?;
     print(file.as_bytes(), out)
 }
 

@@ -1,12 +1,8 @@
-use Rattle.std.proofs.Common.{string_bytes}
-use Rattle.mx_event_files.specs.Words.{walk}
-use Rattle.mx_event_files.proofs.ErrandLemmas.{file_done}
+use Rattle.mx_event_files.proofs.ErrandLemmas.{walk_done}
 use Rattle.mx_event_files.proofs.errands.print_walk.Goals as goal
 
 pub returns-clause-done : goal.returns-clause-done
 returns-clause-done g c =
     let e = c.args.exploration.now in
-    let p = c.in_ok-plan.plan in
-    file_done (g.S.Source.told c.args.source.now) (walk e.plan.now e.seed e.steps) p (g.O.Output.takes_all c.args.out.now) (g.O.Output.written c.args.out.now)
-    (g.O.Output.written c.print.new.out) c.as_bytes.result.now (string_bytes c.in_ok-file.file) c.print.result c.in_ok-plan.ensures.told (λ h. h)
-    c.as_bytes.ensures.value c.in_ok-file.ensures c.print.ensures.ran
+    walk_done (g.S.Source.told c.args.source.now) e.plan.now e.seed e.steps c.in_ok-plan.plan (g.O.Output.written c.args.out.now) (g.O.Output.written c.print_walked.new.out)
+    c.print_walked.result c.in_ok-plan.ensures.told c.print_walked.ensures.done
