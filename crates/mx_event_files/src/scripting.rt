@@ -27,19 +27,18 @@ const MOST_EVENTS: usize = 1_000_000;
 pub(crate) fn script_file(alloc: Global, plan: &Plan, script: &str) -> Result<String, Halt>
     ensures { IfOk result (λ text. IsEventFile plan.now (string_bytes text) plan.now.shape) }
 {
-    let mut mail = Mail::new(alloc);
     match plan.shape() {
         Shape::Ricart(count) => {
             let mut cluster = start::<Ricart>(alloc, plan, count)?;
-            file_of_script(alloc, plan, &mut cluster, &mut mail, script)
+            file_of_script(alloc, plan, &mut cluster, script)
         }
         Shape::Maekawa(sets) => {
             let mut cluster = start::<Maekawa>(alloc, plan, sets)?;
-            file_of_script(alloc, plan, &mut cluster, &mut mail, script)
+            file_of_script(alloc, plan, &mut cluster, script)
         }
         Shape::Raymond(tree) => {
             let mut cluster = start::<Raymond>(alloc, plan, tree)?;
-            file_of_script(alloc, plan, &mut cluster, &mut mail, script)
+            file_of_script(alloc, plan, &mut cluster, script)
         }
     }
 }
@@ -49,15 +48,28 @@ fn file_of_script<C: Exclusion>(
     alloc: Global,
     plan: &Plan,
     cluster: &mut Cluster<C>,
-    mail: &mut Mail,
     script: &str,
 ) -> Result<String, Halt>
     requires { cluster.old.trace ≡ [] }
     ensures { IfOk result (λ text. IsFileOf C.core plan.now cluster.old (string_bytes text)) }
 {
-    each_line(alloc, plan, cluster, mail, script)?;
+    all_lines(alloc, plan, cluster, script)?;
     let text = file_of(alloc, plan, cluster.trace())?;
     Ok(text)
+}
+
+/// All lines, from before any parcel was sent.
+fn all_lines<C: Exclusion>(
+    alloc: Global,
+    plan: &Plan,
+    cluster: &mut Cluster<C>,
+    script: &str,
+) -> Result<(), Halt>
+    ensures { OnOk result
+        (Plays C.core (length plan.now.nodes) (length plan.now.registers) cluster.old cluster.new) }
+{
+    let mut mail = Mail::new(alloc);
+    each_line(alloc, plan, cluster, &mut mail, script)
 }
 
 /// Each line in turn. A fault names its line, counted from 1.

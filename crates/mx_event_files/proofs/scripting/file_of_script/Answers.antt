@@ -4,5 +4,5 @@ use Rattle.mx_event_files.proofs.scripting.file_of_script.Goals as goal
 
 pub returns : goal.returns
 returns g c =
-    file_of_played g.C.Exclusion.core c.args.plan.now c.args.cluster.now c.each_line.new.cluster c.trace.result.now (string_bytes c.in_ok-text.text) c.requires
-    c.in_ok-each_line.ensures c.trace.ensures.value c.in_ok-text.ensures
+    file_of_played g.C.Exclusion.core c.args.plan.now c.args.cluster.now c.all_lines.new.cluster c.trace.result.now (string_bytes c.in_ok-text.text) c.requires
+    c.in_ok-all_lines.ensures c.trace.ensures.value c.in_ok-text.ensures
