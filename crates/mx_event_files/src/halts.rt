@@ -5,7 +5,7 @@ use mx_commands::Stop;
 use std::alloc::AllocError;
 
 /// Why there is no file.
-#[derive(Clone, Copy, Debug, PartialEq, Eq)]
+#[derive(Clone, Copy)]
 pub(crate) enum Halt {
     Stop(Stop),
     /// The line of this number of a script, counted from 1, is refused.

@@ -8,7 +8,7 @@ use std::alloc::{AllocError, AllocFailed};
 use std::fmt;
 
 /// Why a line of a script is refused.
-#[derive(Clone, Copy, Debug, PartialEq, Eq)]
+#[derive(Clone, Copy)]
 pub(crate) enum LineFault {
     /// It is not in UTF-8.
     NotText,
@@ -76,17 +76,17 @@ impl fmt::Display for LineFault {
 
     fn fmt<W: fmt::Write>(&self, f: &mut fmt::Formatter<W>) -> fmt::Result {
         match self {
-            LineFault::NotText => write!(f, "not UTF-8"),
-            LineFault::NoWord => write!(f, "no such word"),
-            LineFault::WordCount => write!(f, "words missing or too many"),
-            LineFault::NoNode => write!(f, "no such node"),
-            LineFault::NoRegister => write!(f, "no such register"),
-            LineFault::NotNumber => write!(f, "not a number"),
-            LineFault::NoParcel => write!(f, "no such parcel"),
-            LineFault::NotUnderWay => write!(f, "no such parcel under way"),
-            LineFault::NotDelivered => write!(f, "no such parcel delivered"),
-            LineFault::TooMany => write!(f, "more than 1000000"),
-            LineFault::Memory => write!(f, "out of memory"),
+            LineFault::NotText => f.write_str("not UTF-8"),
+            LineFault::NoWord => f.write_str("no such word"),
+            LineFault::WordCount => f.write_str("words missing or too many"),
+            LineFault::NoNode => f.write_str("no such node"),
+            LineFault::NoRegister => f.write_str("no such register"),
+            LineFault::NotNumber => f.write_str("not a number"),
+            LineFault::NoParcel => f.write_str("no such parcel"),
+            LineFault::NotUnderWay => f.write_str("no such parcel under way"),
+            LineFault::NotDelivered => f.write_str("no such parcel delivered"),
+            LineFault::TooMany => f.write_str("more than 1000000"),
+            LineFault::Memory => f.write_str("out of memory"),
         }
     }
 }
