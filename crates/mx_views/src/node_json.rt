@@ -2,6 +2,7 @@
 
 use crate::json::{Number, Word};
 use mx_explorer::{Clause, Verdict};
+use mx_journal::Journal;
 use mx_member::Member;
 use mx_nodelaws::{Exclusion, Phase};
 use mx_plan::Plan;
@@ -20,12 +21,26 @@ pub(crate) fn add_node_json<C: Exclusion>(
     text.push_str("{\"node\":\"")?;
     text.push_str(plan.node_name(node.get()).unwrap_or(""))?;
     text.push_str("\"")?;
+    add_member(plan, member, text)?;
+    text.push_str("}\n")
+}
+
+/// Appends where a node stands, without its name.
+fn add_member<C: Exclusion>(
+    plan: &Plan,
+    member: &Member<C>,
+    text: &mut String,
+) -> Result<(), AllocError> {
     add_phase(member.phase(), text)?;
     text.write(Number("mine", member.mine()))?;
-    text.write(Number("records", member.journal().len() as u64))?;
-    text.write(Number("gapless", member.journal().gapless_to()))?;
-    add_registers(plan, member, text)?;
-    text.push_str("}\n")
+    add_journal(member.journal(), text)?;
+    add_registers(plan, member, text)
+}
+
+/// Appends how many records a journal has, and up to where it has no gap.
+fn add_journal(journal: &Journal, text: &mut String) -> Result<(), AllocError> {
+    text.write(Number("records", journal.len() as u64))?;
+    text.write(Number("gapless", journal.gapless_to()))
 }
 
 /// Appends a phase, with the number of the section inside.
