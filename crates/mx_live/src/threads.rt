@@ -104,7 +104,7 @@ fn work_at<C: Exclusion>(
     work_settling(station, script, orders.settle, gate, weather, orders.turns)
 }
 
-/// Starts a thread for a station.
+/// Starts a thread for a station, with a share of the gate.
 fn start<R: Threads>(
     rt: &R,
     station: AnyStation,
@@ -114,10 +114,21 @@ fn start<R: Threads>(
     ensures { IfOk result (λ worker. Promises (sight_of station).home orders.sections
         (sight_of worker.promise.at.value) worker.promise.sections) }
 {
-    let at = Snapshot::of(&station);
-    let gate = Arc::try_clone(shared)?;
+    spawn(rt, station, Arc::try_clone(shared)?, orders)
+}
+
+/// Starts a thread for a station.
+fn spawn<R: Threads>(
+    rt: &R,
+    station: AnyStation,
+    gate: Arc<Assembly, Global>,
+    orders: Orders,
+) -> Result<Worker, AllocError>
+    ensures { IfOk result (λ worker. Promises (sight_of station).home orders.sections
+        (sight_of worker.promise.at.value) worker.promise.sections) }
+{
     let promise = WorkAt {
-        at,
+        at: Snapshot::of(&station),
         sections: orders.sections,
     };
     let started = thread::spawn_with(
