@@ -9,7 +9,7 @@ use std::alloc::AllocError;
 use std::fmt;
 
 /// Why a live run ends without a journal.
-#[derive(Clone, Copy, Debug, PartialEq, Eq)]
+#[derive(Clone, Copy, PartialEq, Eq)]
 pub(crate) enum Halt {
     /// The plan can't be read, or is refused.
     Plan(Fault),
