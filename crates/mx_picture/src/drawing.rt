@@ -10,7 +10,7 @@ use crate::inks::{Inked, ink_of};
 use crate::sheet::{Sheet, Spot};
 use mx_commands::{Fault, Stop};
 use mx_member::Parcel;
-use mx_network::{Cluster, Event, Outcome, StepFault};
+use mx_network::{Cluster, Entry, Event, Outcome, StepFault};
 use mx_nodelaws::{Exclusion, Phase};
 use mx_plan::Plan;
 use mx_stamps::NodeId;
@@ -80,47 +80,15 @@ where
     ensures err { IfErr result (StopsAt index (step_of C.core cluster.old event.now)) }
 {
     let before = cluster.sent();
-    let outcome = happen(index, event, cluster)?;
-    drawing.sheet.begin(index)?;
-    draw_happened(plan, event, &outcome, before, cluster, drawing)?;
-    draw_sent(plan, cluster, before, drawing)?;
-    drawing.sheet.go_down()?;
+    happen(index, event, cluster)?;
+    draw_row(plan, index, before, cluster, drawing)?;
     Ok(())
 }
 
-/// One event, of this index.
-fn happen<C: Exclusion>(
-    index: u64,
-    event: &Event,
-    cluster: &mut Cluster<C>,
-) -> Result<Outcome, Stop>
-    requires named { NamesNodes (length cluster.old.members) event.now }
-    ensures ok { OnOk result (step_of C.core cluster.old event.now ≡ Ok cluster.new) }
-    ensures err { IfErr result (StopsAt index (step_of C.core cluster.old event.now)) }
-{
-    match step(event, cluster) {
-        Ok(outcome) => Ok(outcome),
-        Err(StepFault::NoParcel) => Err(Stop::Fault(Fault::NoParcel(index))),
-        Err(StepFault::Memory) => Err(Stop::Memory),
-        Err(StepFault::NoNode) => unreachable!(),
-    }
-}
-
-/// One event, of nodes that the cluster has.
-fn step<C: Exclusion>(event: &Event, cluster: &mut Cluster<C>) -> Result<Outcome, StepFault>
-    requires named { NamesNodes (length cluster.old.members) event.now }
-    ensures ok { OnOk result (step_of C.core cluster.old event.now ≡ Ok cluster.new) }
-    ensures no_node { (result ≡ Err StepFault.NoNode) → ⊥ }
-    ensures no_parcel { (result ≡ Err StepFault.NoParcel) → step_of C.core cluster.old event.now ≡ Err StepFault.NoParcel }
-{
-    cluster.step(*event)
-}
-
-/// What happened, at the node where it did.
-fn draw_happened<C: Exclusion>(
+/// The newest event, of this index, in a row of its own, and the parcels from `before` on, which it sent.
+fn draw_row<C: Exclusion>(
     plan: &Plan,
-    event: &Event,
-    outcome: &Outcome,
+    index: u64,
     before: u64,
     cluster: &Cluster<C>,
     drawing: &mut Drawing,
@@ -128,7 +96,50 @@ fn draw_happened<C: Exclusion>(
 where
     C::Msg: Letter + Inked,
 {
-    match event {
+    drawing.sheet.begin(index)?;
+    draw_happened(plan, before, cluster, drawing)?;
+    draw_sent(plan, cluster, before, drawing)?;
+    drawing.sheet.go_down()
+}
+
+/// One event, of this index.
+fn happen<C: Exclusion>(index: u64, event: &Event, cluster: &mut Cluster<C>) -> Result<(), Stop>
+    requires named { NamesNodes (length cluster.old.members) event.now }
+    ensures ok { OnOk result (step_of C.core cluster.old event.now ≡ Ok cluster.new) }
+    ensures err { IfErr result (StopsAt index (step_of C.core cluster.old event.now)) }
+{
+    match step(event, cluster) {
+        Ok(()) => Ok(()),
+        Err(StepFault::NoParcel) => Err(Stop::Fault(Fault::NoParcel(index))),
+        Err(StepFault::Memory) => Err(Stop::Memory),
+        Err(StepFault::NoNode) => unreachable!(),
+    }
+}
+
+/// One event, of nodes that the cluster has.
+fn step<C: Exclusion>(event: &Event, cluster: &mut Cluster<C>) -> Result<(), StepFault>
+    requires named { NamesNodes (length cluster.old.members) event.now }
+    ensures ok { OnOk result (step_of C.core cluster.old event.now ≡ Ok cluster.new) }
+    ensures no_node { (result ≡ Err StepFault.NoNode) → ⊥ }
+    ensures no_parcel { (result ≡ Err StepFault.NoParcel) → step_of C.core cluster.old event.now ≡ Err StepFault.NoParcel }
+{
+    cluster.advance(*event)
+}
+
+/// What happened last, at the node where it did. It sent the parcels from `before` on.
+fn draw_happened<C: Exclusion>(
+    plan: &Plan,
+    before: u64,
+    cluster: &Cluster<C>,
+    drawing: &mut Drawing,
+) -> Result<(), AllocError>
+where
+    C::Msg: Letter + Inked,
+{
+    let Some(entry) = cluster.trace().last() else {
+        return Ok(());
+    };
+    match &entry.event {
         Event::Deliver(number) => draw_delivery(plan, cluster, *number, drawing),
         Event::Ask(node)
         | Event::Enter(node)
@@ -141,7 +152,7 @@ where
         | Event::Want(node, _)
         | Event::Restart(node) => {
             let spot = spot_of_act(cluster, *node, before);
-            draw_act(plan, *node, spot, event, outcome, drawing)
+            draw_act(plan, *node, spot, entry, drawing)
         }
     }
 }
@@ -172,33 +183,47 @@ fn draw_act(
     plan: &Plan,
     node: NodeId,
     spot: Spot,
-    event: &Event,
-    outcome: &Outcome,
+    entry: &Entry,
     drawing: &mut Drawing,
 ) -> Result<(), AllocError> {
-    let done = EventText { plan, event };
-    let came = OutcomeText(outcome);
-    drawing.label.clear();
-    write!(drawing.label, "{done}: {came}")?;
+    tell_act(plan, entry, &mut drawing.label)?;
     drawing.sheet.text(node, spot, drawing.label.as_str())?;
+    tell_section(&entry.outcome, drawing)?;
+    draw_outcome(node, &entry.outcome, &mut drawing.sheet)
+}
+
+/// Puts an act and what came of it in place of the label.
+fn tell_act(plan: &Plan, entry: &Entry, label: &mut String) -> Result<(), AllocError> {
+    let done = EventText {
+        plan,
+        event: &entry.event,
+    };
+    let came = OutcomeText(&entry.outcome);
+    label.clear();
+    write!(label, "{done}: {came}")
+}
+
+/// Tells in words that a node entered or left.
+fn tell_section(outcome: &Outcome, drawing: &mut Drawing) -> Result<(), AllocError> {
     match outcome {
-        Outcome::Entered(number) => {
-            drawing.sheet.tell(drawing.label.as_str())?;
-            drawing.sheet.change(node, Phase::Inside(*number))
-        }
-        Outcome::Left(_) => {
-            drawing.sheet.tell(drawing.label.as_str())?;
-            drawing.sheet.turn(node, Phase::Idle)
-        }
-        Outcome::Asked(_) => drawing.sheet.turn(node, Phase::Waiting),
-        Outcome::Cancelled => drawing.sheet.turn(node, Phase::Idle),
+        Outcome::Entered(_) | Outcome::Left(_) => drawing.sheet.tell(drawing.label.as_str()),
+        _ => Ok(()),
+    }
+}
+
+/// What came of an act at its node: another phase, or a dot.
+fn draw_outcome(node: NodeId, outcome: &Outcome, sheet: &mut Sheet) -> Result<(), AllocError> {
+    match outcome {
+        Outcome::Entered(number) => sheet.change(node, Phase::Inside(*number)),
+        Outcome::Left(_) | Outcome::Cancelled => sheet.turn(node, Phase::Idle),
+        Outcome::Asked(_) => sheet.turn(node, Phase::Waiting),
         Outcome::Value(_)
         | Outcome::Written
         | Outcome::Sent(_)
         | Outcome::Settled
         | Outcome::Delivered
         | Outcome::Woken
-        | Outcome::Refused(_) => drawing.sheet.dot(node),
+        | Outcome::Refused(_) => sheet.dot(node),
     }
 }
 
@@ -220,12 +245,11 @@ where
     } else {
         Spot::Left
     };
+    tell_parcel(plan, number, parcel.2, &mut drawing.label)?;
     drawing
         .sheet
         .arrow(number, parcel.0, parcel.1, ink_of(parcel.2))?;
-    drawing.sheet.dot(parcel.1)?;
-    tell_parcel(plan, number, parcel.2, &mut drawing.label)?;
-    drawing.sheet.text(parcel.1, spot, drawing.label.as_str())
+    drawing.sheet.mark(parcel.1, spot, drawing.label.as_str())
 }
 
 /// The parcels from `before` on, which the present event sent.
@@ -265,12 +289,23 @@ where
     } else {
         Spot::LeftInAir
     };
-    drawing.sheet.go_down()?;
-    drawing.sheet.lose(parcel.0, spot)?;
-    tell_parcel(plan, number, parcel.2, &mut drawing.label)?;
-    let name = plan.node_name(parcel.1.get()).unwrap_or("");
-    write!(drawing.label, " to {name}")?;
-    drawing.sheet.text(parcel.0, spot, drawing.label.as_str())
+    tell_loss(plan, number, parcel.2, parcel.1, &mut drawing.label)?;
+    drawing
+        .sheet
+        .lose_below(parcel.0, spot, drawing.label.as_str())
+}
+
+/// Puts the number and the text of a parcel, and to whom it was sent, in place of the label.
+fn tell_loss<M: Letter>(
+    plan: &Plan,
+    number: u64,
+    parcel: &Parcel<M>,
+    to: NodeId,
+    label: &mut String,
+) -> Result<(), AllocError> {
+    tell_parcel(plan, number, parcel, label)?;
+    let name = plan.node_name(to.get()).unwrap_or("");
+    write!(label, " to {name}")
 }
 
 /// Puts the number and the text of a parcel in place of the label.

@@ -49,10 +49,27 @@ pub(crate) fn add_page(
     add_size(&frame, text)?;
     add_title(plan, events, text)?;
     add_story(sheet, text)?;
-    add_head(&frame, text)?;
-    add_guides(sheet, &frame, text)?;
+    add_ground(plan, sheet, &frame, text)?;
+    add_drawn(sheet, text)
+}
+
+/// Appends what lies below all that was drawn.
+fn add_ground(
+    plan: &Plan,
+    sheet: &Sheet,
+    frame: &Frame,
+    text: &mut String,
+) -> Result<(), AllocError> {
+    add_head(frame, text)?;
+    add_guides(sheet, frame, text)?;
     add_indices(sheet, frame.left, text)?;
-    add_lanes(plan, y_of(sheet.row), text)?;
+    add_lanes(plan, y_of(sheet.row), text)
+}
+
+/// Appends what was drawn, and closes the picture.
+fn add_drawn(sheet: &Sheet, text: &mut String) -> Result<(), AllocError>
+    ensures { OnOk result (IsWhole (string_bytes text.new)) }
+{
     text.push_str(sheet.bars.as_str())?;
     text.push_str(sheet.arrows.as_str())?;
     text.push_str(sheet.texts.as_str())?;

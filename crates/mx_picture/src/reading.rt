@@ -1,9 +1,9 @@
 //! The plan is read, then the events, as `replay` does it; then they are drawn.
 
-ghost use Rattle.std.specs.Prelude.{◌≡◌, Some, None, length, string_bytes, IfErr, IfOk, OnOk};
+ghost use Rattle.std.specs.Prelude.{◌≡◌, Some, None, length, string_bytes, IfErr, IfOk, IfSome, OnOk};
 ghost use Rattle.mx_words.specs.Words.{names_of};
 ghost use Rattle.mx_words.specs.Words as task;
-ghost use Rattle.mx_commands.specs.Jobs.{replay_one, report_of_events, run_by};
+ghost use Rattle.mx_commands.specs.Jobs.{on_events, replay_one, report_of_events, run_by};
 ghost use Rattle.mx_commands.specs.Runs.{AllNameNodes};
 ghost use Rattle.mx_commands.specs.Ran.{Ran, RanOf, RanOn};
 ghost use Rattle.mx_picture.specs.Pictures.{Draws, IsWhole, StopsAs};
@@ -38,8 +38,24 @@ pub(crate) fn draw<S: Source, O: Output>(
         return draw_one(alloc, one.as_slice(), out);
     }
     let plan = fetch_plan(alloc, source, names.plan)?;
-    let events = fetch(alloc, source, names.events, Named::Events)?;
-    draw_text(alloc, &plan, events.as_slice(), out)
+    draw_named(alloc, &plan, source, names.events, out)
+}
+
+/// The picture of the events of a name.
+fn draw_named<S: Source, O: Output>(
+    alloc: Global,
+    plan: &Plan,
+    source: &mut S,
+    name: &str,
+    out: &mut O,
+) -> Result<u8, Stop>
+    ensures ran { IfSome (S.told source.old name.now) (λ telling.
+        Ran (O.takes_all out.old) None None (on_events plan.now telling) result) }
+    ensures drawn { Draws (O.written out.old) (O.written out.new) result }
+    ensures stays { O.takes_all out.new ≡ O.takes_all out.old }
+{
+    let events = fetch(alloc, source, name, Named::Events)?;
+    draw_text(alloc, plan, events.as_slice(), out)
 }
 
 /// The picture of one text: its first line is the plan, and what follows is the events.

@@ -127,6 +127,12 @@ impl Sheet {
         self.texts.push_str("</text>\n")
     }
 
+    /// The dot of an event at its node, and a text beside it.
+    pub(crate) fn mark(&mut self, node: NodeId, spot: Spot, text: &str) -> Result<(), AllocError> {
+        self.dot(node)?;
+        self.text(node, spot, text)
+    }
+
     /// Makes the page wide enough for a text of this width.
     fn make_room(&mut self, x: u64, spot: Spot, width: u64) {
         match spot {
@@ -152,8 +158,21 @@ impl Sheet {
         Ok(())
     }
 
-    /// The end of a parcel, sent by the present event, that is never delivered: in the air, in this row.
-    pub(crate) fn lose(&mut self, from: NodeId, spot: Spot) -> Result<(), AllocError> {
+    /// The end of a parcel, sent by the present event, that is never delivered: in the air, in the next
+    /// row, and a text beside it.
+    pub(crate) fn lose_below(
+        &mut self,
+        from: NodeId,
+        spot: Spot,
+        text: &str,
+    ) -> Result<(), AllocError> {
+        self.go_down()?;
+        self.lose(from, spot)?;
+        self.text(from, spot, text)
+    }
+
+    /// The end of such a parcel, in this row.
+    fn lose(&mut self, from: NodeId, spot: Spot) -> Result<(), AllocError> {
         let x = x_of(from);
         let y = y_of(self.event);
         let down = y_of(self.row - self.event);

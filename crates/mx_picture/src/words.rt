@@ -1,7 +1,7 @@
 //! The words of `picture`.
 
 ghost use Rattle.std.specs.Prelude.{◌≡◌, [], IfOk, IfErr, option_map};
-ghost use Rattle.clap.specs.Words.{fault_of, subcommand_rows_of, HasKind};
+ghost use Rattle.clap.specs.Words.{app_of, fault_of, subcommand_of, subcommand_rows_of, HasKind};
 ghost use Rattle.mx_words.specs.Words.{IsCommand, names_of, texts_of};
 ghost use Rattle.mx_picture.specs.PictureWords.{names_asked, names_in, picture_app, picture_line};
 
@@ -29,9 +29,25 @@ pub(crate) fn asked_names<'a>(
         option_map names_of names ≡ names_asked (texts_of words.entry.now)) }
     ensures err { IfErr result (HasKind (fault_of picture_line (texts_of words.entry.now))) }
 {
-    let line = line_of(alloc, picture_command(alloc)?)?;
-    let matches = matches_in(line, words)?;
+    let matches = matches_of(alloc, words)?;
     Ok(names_in(&matches))
+}
+
+/// What is found in the words.
+fn matches_of<'a>(alloc: Global, words: &'a [&'a str]) -> Result<ArgMatches<'a>, Error>
+    ensures read { IfOk result (λ _. fault_of picture_line (texts_of words.entry.now) ≡ []) }
+    ensures found { IfOk result (λ matches.
+        subcommand_rows_of matches ≡ subcommand_of picture_line (texts_of words.entry.now)) }
+    ensures err { IfErr result (HasKind (fault_of picture_line (texts_of words.entry.now))) }
+{
+    matches_in(picture_line(alloc)?, words)
+}
+
+/// The commands that are read.
+fn picture_line<'a>(alloc: Global) -> Result<Command<'a>, AllocError>
+    ensures { IfOk result (λ command. app_of command ≡ picture_line) }
+{
+    line_of(alloc, picture_command(alloc)?)
 }
 
 fn names_in<'a>(matches: &ArgMatches<'a>) -> Option<Names<'a>>

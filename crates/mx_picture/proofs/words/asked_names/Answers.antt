@@ -1,27 +1,11 @@
-use Rattle.std.proofs.Common.{IfErr, ap, rules, sym, subst, ◌∙◌}
-use Rattle.clap.specs.Kinds.{HasKind}
-use Rattle.mx_words.specs.Words.{line_with, texts_of}
-use Rattle.mx_words.proofs.WordLemmas.{answered, readable, same_faults}
-use Rattle.mx_picture.specs.PictureWords.{picture_line, names_asked, names_in}
-use Rattle.mx_picture.proofs.PictureWordLemmas.{line_is_readable}
+use Rattle.std.proofs.Common.{refl}
+use Rattle.mx_words.specs.Words.{texts_of}
+use Rattle.mx_words.proofs.WordLemmas.{answered}
+use Rattle.mx_picture.specs.PictureWords.{names_asked, names_in, picture_line}
 use Rattle.mx_picture.proofs.words.asked_names.Goals as goal
 
-pub matches_in-requires : goal.matches_in-requires
-unfolding picture_line
-matches_in-requires c = readable (c.in_ok-line.ensures ∙ ap line_with c.in_ok-picture_command.ensures.app) line_is_readable
-
-pub returns-clause-read : goal.returns-clause-read
-unfolding picture_line
-returns-clause-read c = sym (same_faults (c.in_ok-line.ensures ∙ ap line_with c.in_ok-picture_command.ensures.app) (texts_of c.args.words.now)) ∙ c.in_ok-matches.ensures.read
-
 pub returns-clause-ok : goal.returns-clause-ok
-unfolding picture_line names_asked
+unfolding names_asked
 returns-clause-ok c =
     let found = c.in_ok-matches.ensures in
-    answered (c.in_ok-line.ensures ∙ ap line_with c.in_ok-picture_command.ensures.app) names_in (texts_of c.args.words.now) found.read found.found c.names_in.ensures
-
-pub returns-in_err-matches-clause-err : goal.returns-in_err-matches-clause-err
-unfolding picture_line
-returns-in_err-matches-clause-err c =
-    let same = same_faults (c.in_ok-line.ensures ∙ ap line_with c.in_ok-picture_command.ensures.app) (texts_of c.args.words.now) in
-    subst (λ kinds. IfErr c.from_residual-in_err-matches.result (HasKind kinds)) same (search rules)
+    answered {line = picture_line} refl names_in (texts_of c.args.words.now) found.read found.found c.names_in.ensures
