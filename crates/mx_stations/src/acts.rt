@@ -1,20 +1,24 @@
 //! What a station does to its node: each act is one event of it, and one store to its word. A
 //! refused act stores nothing.
 
-ghost use Rattle.std.specs.Prelude.{◌≡◌, ◌<◌, ◌↔◌, Err, IfOk, Ok, OnErr, OnOk};
+ghost use Rattle.std.specs.Prelude.{◌≡◌, ◌<◌, ◌↔◌, [], Err, IfOk, MatchBool, Ok, OnErr, OnOk};
 ghost use Rattle.std.specs.Vec.{vec_capacity, vec_len};
 ghost use Rattle.mx_nodelaws.specs.Core.{IsInside};
 ghost use Rattle.mx_member.specs.Steps.{ask_of, cancel_of, enter_of, leave_of, read_of, settle_of, write_of};
 ghost use Rattle.mx_member.specs.declared.acts.Act.TheVariants.{Ask, Cancel, Enter, Leave, Read, Restart, Settle, Tick, Want, Write};
-ghost use Rattle.mx_stations.specs.Posts.{does};
+ghost use Rattle.mx_member.specs.Acts.{IsDoable, IsRefusal, NeedsMemory, act_of};
+ghost use Rattle.mx_member.specs.Receipts.{closed_by};
+ghost use Rattle.mx_stations.specs.Posts.{after_act, does, left_in};
+ghost use Rattle.mx_stations.specs.Running.{MayDo};
 
 use crate::field::act;
 use crate::station::Station;
 use crate::waiting::store_up;
 use mx_journal::{Receipt, SettleFault};
-use mx_member::{CloseFault, ReadFault, WriteFault};
+use mx_member::{Act, Answer, CloseFault, Parcel, ReadFault, WriteFault, perform};
 use mx_nodelaws::{AskFault, CancelFault, EnterFault, Exclusion, Phase};
 use mx_stamps::{NodeId, Stamp};
+use std::alloc::AllocError;
 
 /// Ends an act of the member: the one store that tells it, and what it sent joins what waits. The
 /// station is whole again only after it, so that no method can do this.
@@ -40,10 +44,10 @@ impl<C: Exclusion> Station<C> {
         ensures done { OnOk result (self.new ≡ does C.core Ask self.old) }
         ensures refused { OnErr result (self.new ≡ self.old) }
     {
-        self.out.clear();
-        let stamp = self.member.ask(&mut self.out)?;
-        tell!(self);
-        Ok(stamp)
+        match self.does(Act::Ask) {
+            Answer::Asked(stamp) => stamp,
+            _ => unreachable!(),
+        }
     }
 
     /// Gives the request up: the node is idle again, and may ask anew.
@@ -52,10 +56,10 @@ impl<C: Exclusion> Station<C> {
         ensures done { OnOk result (self.new ≡ does C.core Cancel self.old) }
         ensures refused { OnErr result (self.new ≡ self.old) }
     {
-        self.out.clear();
-        self.member.cancel(&mut self.out)?;
-        tell!(self);
-        Ok(())
+        match self.does(Act::Cancel) {
+            Answer::Cancelled(done) => done,
+            _ => unreachable!(),
+        }
     }
 
     /// Enters the section with an empty draft, and answers its number.
@@ -64,10 +68,10 @@ impl<C: Exclusion> Station<C> {
         ensures done { OnOk result (self.new ≡ does C.core Enter self.old) }
         ensures refused { OnErr result (self.new ≡ self.old) }
     {
-        self.out.clear();
-        let number = self.member.enter()?;
-        tell!(self);
-        Ok(number)
+        match self.does(Act::Enter) {
+            Answer::Entered(number) => number,
+            _ => unreachable!(),
+        }
     }
 
     /// Reads a register inside: the value that the own draft wrote last, or else what the sections
@@ -77,10 +81,10 @@ impl<C: Exclusion> Station<C> {
         ensures done { OnOk result (self.new ≡ does C.core (Read register) self.old) }
         ensures refused { OnErr result (self.new ≡ self.old) }
     {
-        self.out.clear();
-        let value = self.member.read(register)?;
-        tell!(self);
-        Ok(value)
+        match self.does(Act::Read(register)) {
+            Answer::Read(value) => value,
+            _ => unreachable!(),
+        }
     }
 
     /// Writes a register inside.
@@ -89,10 +93,10 @@ impl<C: Exclusion> Station<C> {
         ensures done { OnOk result (self.new ≡ does C.core (Write register value) self.old) }
         ensures refused { OnErr result (self.new ≡ self.old) }
     {
-        self.out.clear();
-        self.member.write(register, value)?;
-        tell!(self);
-        Ok(())
+        match self.does(Act::Write(register, value)) {
+            Answer::Written(done) => done,
+            _ => unreachable!(),
+        }
     }
 
     /// Puts the registers after sections 1 to `upto` in place of their records in the journal. It is
@@ -102,19 +106,17 @@ impl<C: Exclusion> Station<C> {
         ensures done { OnOk result (self.new ≡ does C.core (Settle upto) self.old) }
         ensures refused { OnErr result (self.new ≡ self.old) }
     {
-        self.out.clear();
-        self.member.settle(upto)?;
-        tell!(self);
-        Ok(())
+        match self.does(Act::Settle(upto)) {
+            Answer::Settled(done) => done,
+            _ => unreachable!(),
+        }
     }
 
     /// Sends again what is outstanding, as any letter may have been lost.
     pub fn tick(&mut self)
         ensures { self.new ≡ does C.core Tick self.old }
     {
-        self.out.clear();
-        self.member.tick(&mut self.out);
-        tell!(self);
+        let _ticked = self.does(Act::Tick);
     }
 
     /// Asks another node for the records that are missing.
@@ -122,18 +124,14 @@ impl<C: Exclusion> Station<C> {
         requires { to < self.old.nodes }
         ensures { self.new ≡ does C.core (Want to) self.old }
     {
-        self.out.clear();
-        self.member.want(to, &mut self.out);
-        tell!(self);
+        let _wanted = self.does(Act::Want(to));
     }
 
     /// Wakes up again: core and journal stay, the draft is emptied.
     pub fn restart(&mut self)
         ensures { self.new ≡ does C.core Restart self.old }
     {
-        self.out.clear();
-        self.member.restart();
-        tell!(self);
+        let _woken = self.does(Act::Restart);
     }
 
     /// Leaves the section. Its record joins the journal, and its receipt those of this station.
@@ -157,6 +155,70 @@ impl<C: Exclusion> Station<C> {
         self.receipts.push_reserved(receipt.copy());
         tell!(self);
         Ok(receipt)
+    }
+    /// One act that takes no memory, moves no parcel and closes no section.
+    fn does(&mut self, act: Act<C::Msg>) -> Answer
+        requires may { MayDo self.old.nodes self.old.me.hand act }
+        requires doable { IsDoable act self.old.me.member }
+        requires receipts { closed_by (act_of C.core act self.old.me.member).answer ≡ [] }
+        requires lean { NeedsMemory C.core act self.old.me.member → ⊥ }
+        ensures answer { result ≡ (act_of C.core act self.old.me.member).answer }
+        ensures done { (IsRefusal result → ⊥) → self.new ≡ does C.core act self.old }
+        ensures refused { IsRefusal result → self.new ≡ self.old }
+    {
+        match self.step(act, true) {
+            Ok(answer) => answer,
+            Err(_) => unreachable!(),
+        }
+    }
+
+    /// One act of the node that closes no section, and the one store that tells it, but none where
+    /// it is refused. The hand is empty after it, but where its parcel is to be delivered `again`.
+    pub(crate) fn step(&mut self, act: Act<C::Msg>, again: bool) -> Result<Answer, AllocError>
+        requires may { MayDo self.old.nodes self.old.me.hand act }
+        requires doable { IsDoable act self.old.me.member }
+        requires receipts { closed_by (act_of C.core act self.old.me.member).answer ≡ [] }
+        ensures answer { IfOk result (λ answer.
+            answer ≡ (act_of C.core act self.old.me.member).answer) }
+        ensures done { IfOk result (λ answer. (IsRefusal answer → ⊥)
+            → self.new ≡ after_act C.core act (left_in again self.old.me.hand) self.old) }
+        ensures refused { IfOk result (λ answer. IsRefusal answer → self.new ≡ self.old) }
+        ensures memory { OnErr result (NeedsMemory C.core act self.old.me.member) }
+        ensures kept { OnErr result (self.new ≡ self.old) }
+    {
+        self.out.clear();
+        let answer = perform(&mut self.member, act, &mut self.out)?;
+        if is_refusal(&answer) {
+            return Ok(answer);
+        }
+        let_go(&mut self.hand, again);
+        tell!(self);
+        Ok(answer)
+    }
+}
+
+/// Whether a member refused what it was asked.
+fn is_refusal(answer: &Answer) -> bool
+    ensures { MatchBool result (IsRefusal answer.now) (IsRefusal answer.now → ⊥) }
+{
+    match answer {
+        Answer::Asked(stamp) => stamp.is_err(),
+        Answer::Entered(number) => number.is_err(),
+        Answer::Read(value) => value.is_err(),
+        Answer::Left(receipt) => receipt.is_err(),
+        Answer::Written(done) => done.is_err(),
+        Answer::Cancelled(done) => done.is_err(),
+        Answer::Settled(done) => done.is_err(),
+        Answer::Ticked | Answer::Wanted | Answer::Delivered | Answer::Woken => false,
+    }
+}
+
+/// Empties the hand, but where its parcel is to be delivered again.
+fn let_go<M: Copy + Default>(hand: &mut Option<(NodeId, Parcel<M>)>, again: bool)
+    ensures { hand.new ≡ left_in again hand.old }
+{
+    if !again {
+        *hand = None;
     }
 }
 

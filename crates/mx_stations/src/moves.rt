@@ -1,25 +1,16 @@
 //! How the parcels of a station cross the links: each call makes one try.
 
 ghost use Rattle.std.specs.Prelude.{◌≡◌, ◌≢◌, ◌<◌, IfOk, MatchBool, None, OnErr};
-ghost use Rattle.mx_stations.specs.Posts.{Delivers, DeliversAs, Fetches, FindsNone, KeepsInHand, PutsOut, TakesIn, left_in};
+ghost use Rattle.mx_stations.specs.Posts.{Delivers, DeliversAs, Fetches, FindsNone, KeepsInHand, PutsOut, TakesIn};
 
 use crate::answers::{PutOut, TakeFault, Taken};
-use crate::field::{act, look};
+use crate::field::look;
 use crate::slots::{claim_empty, place, release, take_up};
 use crate::station::Station;
-use crate::waiting::{store_up, take_first};
-use mx_member::{Act, Parcel, perform};
+use crate::waiting::take_first;
+use mx_member::Act;
 use mx_nodelaws::Exclusion;
 use mx_stamps::NodeId;
-
-/// Empties the hand, but where its parcel is to be delivered again.
-fn let_go<M: Copy + Default>(hand: &mut Option<(NodeId, Parcel<M>)>, again: bool)
-    ensures { hand.new ≡ left_in again hand.old }
-{
-    if !again {
-        *hand = None;
-    }
-}
 
 impl<C: Exclusion> Station<C> {
     /// Delivers the parcel in hand, which stays there where it is to be delivered again. False
@@ -37,19 +28,7 @@ impl<C: Exclusion> Station<C> {
         let from = held.0;
         let parcel = held.1.copy();
         look(&self.field, &mut self.seat);
-        self.out.clear();
-        perform(&mut self.member, Act::Deliver(from, parcel), &mut self.out)?;
-        let_go(&mut self.hand, again);
-        act(
-            &self.field,
-            &mut self.seat,
-            self.node,
-            &self.member,
-            &self.out,
-            &self.hand,
-            &self.receipts,
-        );
-        store_up(&mut self.waiting, &self.out);
+        self.step(Act::Deliver(from, parcel), again)?;
         Ok(true)
     }
 

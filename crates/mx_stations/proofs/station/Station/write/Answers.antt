@@ -1,38 +1,20 @@
-use Rattle.std.proofs.Common.{rules, refl, sym, ap, ◌∙◌, inl, subst, append-nil, ◌≡◌, [], ◌∷◌}
-use Rattle.std.specs.Arc.{arc_value}
-use Rattle.mx_member.specs.declared.acts.Act.TheVariants.{Write}
+use Rattle.std.proofs.Common.{rules, refl}
 use Rattle.mx_member.specs.declared.acts.Answer.TheVariants as answer
 use Rattle.mx_member.specs.Acts.{IsRefusal}
-use Rattle.mx_member.proofs.Refused.{refused_stays}
-use Rattle.mx_stations.specs.Posts.{post, shown}
-use Rattle.mx_stations.specs.Running.{GoToNodes}
-use Rattle.mx_stations.proofs.Posts.{acted_seat, acted_waits, acts_so, on_err, ready}
+use Rattle.mx_stations.proofs.Posts.{on_done, on_refused}
 use Rattle.mx_stations.proofs.station.Station.write.Goals as goal
 
-pub act-requires : goal.act-requires
-act-requires g c =
-    let i = c.self.invariant in let a = c.write.ensures in
-    let same = i.0 ∙ sym (ap (λ f. f.board.shared.table_id) c.deref.ensures) in
-    (search rules, (search rules, ready g.C.Exclusion.core _ _ _ _ _ i.1 _ _ _ _ (Write c.args.register c.args.value) _ _ _ _ same (ap (λ f. f.nodes) c.deref.ensures) i.2 tt (inl refl) a.state c.clear.ensures (sym (append-nil _))))
+pub does-requires : goal.does-requires
+does-requires g c = (search rules, (tt, (tt, (refl, λ h. h))))
 
-pub invariant_of-self : goal.invariant_of-self
-invariant_of-self g c =
-    let i = c.self.invariant in let a = c.write.ensures in let p = c.self.inside in
-    let stays = refused_stays g.C.Exclusion.core g.met.C.Exclusion.phases p.member (Write c.args.register c.args.value) (subst (λ r. IsRefusal (answer.Written r)) (sym c.in_err-write.was ∙ a.answer) tt) in
-    (i.0, subst (λ y. p.seat.me ≡ (shown p.node y p.hand p.receipts.items p.seat.me.0 ∷ [], [])) (sym (a.state ∙ stays.0)) i.1, i.2, i.3)
+pub unreachable-requires : goal.unreachable-requires
+unreachable-requires g c = c.in_default.not-Written _ c.does.ensures.answer
 
-pub returns-in_err-write-clause-refused : goal.returns-in_err-write-clause-refused
-returns-in_err-write-clause-refused g c =
-    let a = c.write.ensures in let p = c.self.inside in
-    let stays = refused_stays g.C.Exclusion.core g.met.C.Exclusion.phases p.member (Write c.args.register c.args.value) (subst (λ r. IsRefusal (answer.Written r)) (sym c.in_err-write.was ∙ a.answer) tt) in
-    on_err c.from_residual.result _ (ap (λ y. post p.seat.table_id (arc_value p.field).nodes (shown p.node y p.hand p.receipts.items p.seat.me.0) p.waiting.items) (a.state ∙ stays.0) ∙ c.self.view_is)
-
-pub invariant_of-self-2 : goal.invariant_of-self-2
-invariant_of-self-2 g c =
-    let i = c.self.invariant in let n = c.act.ensures in
-    (n.same.0 ∙ i.0, (acted_seat _ _ _ _ _ i.1 _ _ _ _ _ n.view).0, i.2, acted_waits _ _ _ _ _ i.1 _ _ _ _ _ _ _ _ n.view i.3 (subst (λ f. GoToNodes f.nodes c.act.new.seat.me.0) c.deref.ensures n.sent) c.store_up.ensures)
+pub returns-clause-answer : goal.returns-clause-answer
+returns-clause-answer g c = let e = c.in-Written.ensures.answer in cc
 
 pub returns-clause-done : goal.returns-clause-done
-returns-clause-done g c =
-    let i = c.self.invariant in let n = c.act.ensures in let a = c.write.ensures in
-    acts_so g.C.Exclusion.core _ _ _ _ _ i.1 (Write c.args.register c.args.value) _ _ _ _ _ _ _ _ _ _ c.self.view_is n.same.0 n.view c.store_up.ensures a.state c.clear.ensures (sym (append-nil _))
+returns-clause-done g c = on_done c.in-Written.done (λ r. IsRefusal (answer.Written r)) _ (λ a h. h) c.in-Written.ensures.done
+
+pub returns-clause-refused : goal.returns-clause-refused
+returns-clause-refused g c = on_refused c.in-Written.done (λ r. IsRefusal (answer.Written r)) _ (λ e. tt) c.in-Written.ensures.refused
