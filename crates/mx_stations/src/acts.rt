@@ -156,6 +156,7 @@ impl<C: Exclusion> Station<C> {
         tell!(self);
         Ok(receipt)
     }
+
     /// One act that takes no memory, moves no parcel and closes no section.
     fn does(&mut self, act: Act<C::Msg>) -> Answer
         requires may { MayDo self.old.nodes self.old.me.hand act }
