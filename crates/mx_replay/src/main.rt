@@ -2,12 +2,23 @@
 //! program: it hands the words, the files and the streams of the process to `command`.
 #![tactic(auto)]
 
-use mx_commands::command;
+use mx_commands::{Output, command};
 use mx_streams::{Stream, Streams, as_slices, given_words, status_of};
 use std::io;
 use std::io::{BufWriter, Write};
 use std::process::ExitCode;
 use std::rt::{Env, Files};
+
+/// Runs a command line over the files of the process and two outputs. Answers the status.
+fn carry_out<R: Files + Input + AllocGlobal, O: Output, E: Output>(
+    rt: &R,
+    words: &[&str],
+    out: &mut O,
+    err: &mut E,
+) -> u8 {
+    let mut source = Streams { rt };
+    command(rt.alloc(), words, &mut source, out, err)
+}
 
 /// Runs the command line of the process. An `Err` means that memory ran out, or that an argument is
 /// not UTF-8.
@@ -20,9 +31,7 @@ fn run_words<R: Files + Env + Input + AllocGlobal, O: Write + Drop, E: Write + D
     let given = given_words(rt)?;
     let words = as_slices(alloc, given.as_slice())?;
     let mut out = Stream(BufWriter::new(alloc, out)?);
-    let mut err = Stream(err);
-    let mut source = Streams { rt };
-    Ok(command(alloc, words.as_slice(), &mut source, &mut out, &mut err))
+    Ok(carry_out(rt, words.as_slice(), &mut out, &mut Stream(err)))
 }
 
 fn main(rt: HostRuntime) -> ExitCode {
