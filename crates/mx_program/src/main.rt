@@ -5,7 +5,7 @@
 mod kept;
 
 use crate::kept::Kept;
-use mx_commands::command;
+use mx_commands::{Output, command};
 use mx_count::count;
 use mx_event_files::event_file;
 use mx_explain::explain;
@@ -19,6 +19,27 @@ use std::process::ExitCode;
 use std::rt::{Clock, Env, Files};
 use std::thread::Threads;
 
+/// Runs a command line over the files and threads of the process and two outputs. Answers the status.
+fn carry_out<R: Files + Clock + Input + AllocGlobal + Threads, O: Output, E: Output>(
+    rt: &R,
+    words: &[&str],
+    out: &mut O,
+    err: &mut E,
+) -> u8 {
+    let alloc = rt.alloc();
+    let mut source = Streams { rt };
+    match first_of(words) {
+        "count" => count(alloc, words, &mut source, out, err),
+        "draw" | "script" => event_file(alloc, words, &mut source, out, err),
+        "explain" => explain(alloc, words, &mut Kept::new(alloc, source), out, err),
+        "explore" if has_word(words, "--count") => count(alloc, words, &mut source, out, err),
+        "live" => live(rt, alloc, words, &mut source, out, err),
+        "picture" => picture(alloc, words, &mut source, out, err),
+        "replay" if is_view(words) => replay_view(alloc, words, &mut source, out, err),
+        _ => command(alloc, words, &mut source, out, err),
+    }
+}
+
 /// Runs the command line of the process. An `Err` means that memory ran out, or that an argument is
 /// not UTF-8.
 fn run_words<
@@ -30,24 +51,7 @@ fn run_words<
     let given = given_words(rt)?;
     let words = as_slices(alloc, given.as_slice())?;
     let mut out = Stream(BufWriter::new(alloc, out)?);
-    let mut err = Stream(err);
-    let mut source = Streams { rt };
-    let words = words.as_slice();
-    Ok(match first_of(words) {
-        "count" => count(alloc, words, &mut source, &mut out, &mut err),
-        "draw" | "script" => event_file(alloc, words, &mut source, &mut out, &mut err),
-        "explain" => {
-            let mut kept = Kept::new(alloc, source);
-            explain(alloc, words, &mut kept, &mut out, &mut err)
-        }
-        "explore" if has_word(words, "--count") => {
-            count(alloc, words, &mut source, &mut out, &mut err)
-        }
-        "live" => live(rt, alloc, words, &mut source, &mut out, &mut err),
-        "picture" => picture(alloc, words, &mut source, &mut out, &mut err),
-        "replay" if is_view(words) => { replay_view(alloc, words, &mut source, &mut out, &mut err) }
-        _ => command(alloc, words, &mut source, &mut out, &mut err),
-    })
+    Ok(carry_out(rt, words.as_slice(), &mut out, &mut Stream(err)))
 }
 
 /// The first word, or nothing where there is none.

@@ -19,50 +19,33 @@ enum Call {
     PutOut(PutOut),
     /// It ticks first, so that what is outstanding waits again.
     PutOutAgain(PutOut),
-    TakeIn(u8, Taken),
+    /// It takes from the other node.
+    TakeIn(Taken),
     Enter(u64),
 }
 
-fn assert_asks<C: Exclusion>(rt: &impl Abort, station: &mut Station<C>)
+/// Whether the station answers the call so.
+fn answers<C: Exclusion>(station: &mut Station<C>, call: &Call) -> bool
     ensures { KeepsTable station.old station.new }
 {
-    let asked = station.ask();
-    assert!(rt; asked.is_ok());
+    match call {
+        Call::Ask => station.ask().is_ok(),
+        Call::PutOut(answer) => station.put_out() == *answer,
+        Call::PutOutAgain(answer) => {
+            station.tick();
+            station.put_out() == *answer
+        }
+        Call::TakeIn(answer) => takes_from_other(station, *answer),
+        Call::Enter(number) => station.enter() == Ok(*number),
+    }
 }
 
-fn assert_ticks<C: Exclusion>(station: &mut Station<C>)
+/// Whether taking a parcel in from the other of two nodes is answered so.
+fn takes_from_other<C: Exclusion>(station: &mut Station<C>, answer: Taken) -> bool
     ensures { KeepsTable station.old station.new }
 {
-    station.tick();
-}
-
-fn assert_puts_out<C: Exclusion>(rt: &impl Abort, station: &mut Station<C>, answer: PutOut)
-    ensures { KeepsTable station.old station.new }
-{
-    let put = station.put_out();
-    assert_eq!(rt; put, answer);
-}
-
-fn assert_puts_out_again<C: Exclusion>(rt: &impl Abort, station: &mut Station<C>, answer: PutOut)
-    ensures { KeepsTable station.old station.new }
-{
-    assert_ticks(station);
-    assert_puts_out(rt, station, answer);
-}
-
-fn assert_takes_in<C: Exclusion>(rt: &impl Abort, station: &mut Station<C>, from: u8, answer: Taken)
-    ensures { KeepsTable station.old station.new }
-{
-    assert!(rt; from < station.nodes() && from < 21);
-    let taken = station.take_in(node(from));
-    assert_eq!(rt; taken, Ok(answer));
-}
-
-fn assert_enters<C: Exclusion>(rt: &impl Abort, station: &mut Station<C>, number: u64)
-    ensures { KeepsTable station.old station.new }
-{
-    let entered = station.enter();
-    assert_eq!(rt; entered, Ok(number));
+    let other = if station.node().get() == 0 { 1 } else { 0 };
+    other < station.nodes() && station.take_in(node(other)) == Ok(answer)
 }
 
 fn assert_leaves<C: Exclusion>(rt: &impl Abort, station: &mut Station<C>, number: u64)
@@ -72,57 +55,34 @@ fn assert_leaves<C: Exclusion>(rt: &impl Abort, station: &mut Station<C>, number
     assert_eq!(rt; left.map(|receipt| receipt.number), Ok(number));
 }
 
-/// The station answers the call so.
-fn assert_call<C: Exclusion>(rt: &impl Abort, station: &mut Station<C>, call: &Call)
-    ensures { KeepsTable station.old station.new }
-{
-    match call {
-        Call::Ask => assert_asks(rt, station),
-        Call::PutOut(answer) => assert_puts_out(rt, station, *answer),
-        Call::PutOutAgain(answer) => assert_puts_out_again(rt, station, *answer),
-        Call::TakeIn(from, answer) => assert_takes_in(rt, station, *from, *answer),
-        Call::Enter(number) => assert_enters(rt, station, *number),
-    }
-}
-
-/// It does so each of several times.
-fn assert_each<C: Exclusion>(rt: &impl Abort, station: &mut Station<C>, times: u8, call: &Call)
-    ensures { KeepsTable station.old station.new }
-{
-    for _time in 0..times {
-        assert_call(rt, station, call);
-    }
-}
-
-/// So does that of the two whose node it is.
-fn assert_one_call<C: Exclusion>(
-    rt: &impl Abort,
+/// Whether that of the two does so whose node it is.
+fn one_answers<C: Exclusion>(
     zero: &mut Station<C>,
     one: &mut Station<C>,
     node: u8,
-    times: u8,
     call: &Call,
-)
+) -> bool
     ensures { KeepsTable zero.old zero.new × KeepsTable one.old one.new }
 {
     if node == 0 {
-        assert_each(rt, zero, times, call);
+        answers(zero, call)
     } else {
-        assert_each(rt, one, times, call);
+        answers(one, call)
     }
 }
 
-/// And so do both answer all calls, one after another.
+/// Both answer all calls so, one after another.
 fn assert_calls<C: Exclusion>(
     rt: &impl Abort,
     zero: &mut Station<C>,
     one: &mut Station<C>,
-    calls: &[(u8, u8, Call)],
+    calls: &[(u8, Call)],
 )
     ensures { KeepsTable zero.old zero.new × KeepsTable one.old one.new }
 {
-    for (node, times, call) in calls {
-        assert_one_call(rt, zero, one, *node, *times, call);
+    for (i, (node, call)) in calls.iter().enumerate() {
+        let is_so = one_answers(zero, one, *node, call);
+        assert!(rt; is_so, "call {i}");
     }
 }
 
@@ -228,17 +188,25 @@ fn stations_four_slots(rt: HostRuntime) -> Result<(), Fail> {
     let alloc = rt.alloc();
     let (mut zero, mut one) = two(alloc)?;
     let calls = [
-        (0, 1, Call::Ask),
-        (0, 1, Call::PutOut(PutOut::Sent)),
-        (0, 1, Call::PutOut(PutOut::Nothing)),
-        (0, 3, Call::PutOutAgain(PutOut::Sent)),
-        (0, 1, Call::PutOutAgain(PutOut::Full)),
-        (1, 4, Call::TakeIn(0, Taken::Got)),
-        (1, 1, Call::TakeIn(0, Taken::Empty)),
-        (1, 4, Call::PutOut(PutOut::Sent)),
-        (1, 1, Call::PutOut(PutOut::Nothing)),
-        (0, 1, Call::TakeIn(1, Taken::Got)),
-        (0, 1, Call::Enter(1)),
+        (0, Call::Ask),
+        (0, Call::PutOut(PutOut::Sent)),
+        (0, Call::PutOut(PutOut::Nothing)),
+        (0, Call::PutOutAgain(PutOut::Sent)),
+        (0, Call::PutOutAgain(PutOut::Sent)),
+        (0, Call::PutOutAgain(PutOut::Sent)),
+        (0, Call::PutOutAgain(PutOut::Full)),
+        (1, Call::TakeIn(Taken::Got)),
+        (1, Call::TakeIn(Taken::Got)),
+        (1, Call::TakeIn(Taken::Got)),
+        (1, Call::TakeIn(Taken::Got)),
+        (1, Call::TakeIn(Taken::Empty)),
+        (1, Call::PutOut(PutOut::Sent)),
+        (1, Call::PutOut(PutOut::Sent)),
+        (1, Call::PutOut(PutOut::Sent)),
+        (1, Call::PutOut(PutOut::Sent)),
+        (1, Call::PutOut(PutOut::Nothing)),
+        (0, Call::TakeIn(Taken::Got)),
+        (0, Call::Enter(1)),
     ];
     assert_calls(&rt, &mut zero, &mut one, &calls);
     let one = alone(&rt, alloc, one)?;

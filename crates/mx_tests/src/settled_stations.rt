@@ -23,12 +23,12 @@ fn section(
     other: &mut Station<Ricart>,
     value: u64,
 ) -> Result<u64, Fail> {
-    one.ask().map_err(|_| "ask")?;
+    one.ask()?;
     exchange(one, other)?;
-    one.enter().map_err(|_| "enter")?;
-    let before = one.read(0).map_err(|_| "read")?;
-    one.write(0, value).map_err(|_| "write")?;
-    one.leave().map_err(|_| "leave")?;
+    one.enter()?;
+    let before = one.read(0)?;
+    one.write(0, value)?;
+    one.leave()?;
     Ok(before)
 }
 

@@ -1,17 +1,15 @@
-//! Stations of small clusters, parcel by parcel, by turns, and in threads.
+//! Stations of small clusters, parcel by parcel and by turns.
 
 ghost use Rattle.std.specs.Prelude.{IfOk};
 ghost use Rattle.mx_stations.specs.Gathered.{KeepsTable};
 
 use crate::station_calls::takes;
 use mx_letters::{Fair, Fate, Fates};
-use mx_nodelaws::Phase;
 use mx_ricart::{Count, Ricart};
 use mx_stamps::NodeId;
 use mx_stations::{Field, PutOut, Station, TurnReport};
 use std::alloc::Global;
 use std::test::Fail;
-use std::thread;
 
 /// The two stations of a cluster of two nodes.
 pub(crate) fn two(alloc: Global) -> Result<(Station<Ricart>, Station<Ricart>), Fail>
@@ -31,20 +29,21 @@ pub(crate) fn two(alloc: Global) -> Result<(Station<Ricart>, Station<Ricart>), F
 #[test]
 fn turns_report_what_they_did(rt: HostRuntime) -> Result<(), Fail> {
     let (mut zero, mut one) = two(rt.alloc())?;
+    let put = TurnReport {
+        put: 1,
+        ..TurnReport::default()
+    };
+    let both = TurnReport { taken: 1, ..put };
     assert!(rt; zero.ask().is_ok());
-    let none = TurnReport::default();
-    let first = zero.turn(&mut Fair).map_err(|_| "memory")?;
-    let put = TurnReport { put: 1, ..none };
     assert_eq!(rt;
-        first,
-        TurnReport {
+        zero.turn(&mut Fair),
+        Ok(TurnReport {
             ticked: true,
             ..put
-        }
+        })
     );
-    let both = TurnReport { taken: 1, ..put };
-    assert_eq!(rt; one.turn(&mut Fair).map_err(|_| "memory")?, both);
-    assert_eq!(rt; zero.turn(&mut Fair).map_err(|_| "memory")?, both);
+    assert_eq!(rt; one.turn(&mut Fair), Ok(both));
+    assert_eq!(rt; zero.turn(&mut Fair), Ok(both));
     assert_eq!(rt; zero.enter(), Ok(1));
     Ok(())
 }
@@ -64,7 +63,7 @@ fn report_of(alloc: Global, fate: Fate) -> Result<TurnReport, Fail> {
     let (mut zero, mut one) = two(alloc)?;
     let _ = zero.ask();
     let _ = zero.put_out();
-    Ok(one.turn(&mut Always(fate)).map_err(|_| "memory")?)
+    Ok(one.turn(&mut Always(fate))?)
 }
 
 #[test]
@@ -123,41 +122,5 @@ fn sixty_four_parcels_wait(rt: HostRuntime) -> Result<(), Fail> {
     assert_eq!(rt; zero.waits(), 64);
     assert_eq!(rt; put_all(&mut zero, &mut one)?, 64);
     assert_eq!(rt; zero.waits(), 0);
-    Ok(())
-}
-
-/// What one thread does: node 0 takes turns until it enters, node 1 until it has answered.
-fn work(mut station: Station<Ricart>) -> Station<Ricart> {
-    let asks = station.node().get() == 0;
-    if asks {
-        let _ = station.ask();
-    }
-    let mut taken = 0u32;
-    for _turn in 0..2_000_000u32 {
-        if asks && station.enter().is_ok() {
-            return station;
-        }
-        if !asks && taken > 0 && station.waits() == 0 {
-            return station;
-        }
-        if let Ok(report) = station.turn(&mut Fair) {
-            taken = taken.saturating_add(report.taken);
-        }
-    }
-    station
-}
-
-#[test]
-fn threads_exchange_parcels(rt: HostRuntime) -> Result<(), Fail> {
-    let shape = Count::of(2).ok_or("count")?;
-    let all = Field::<Ricart>::stations(rt.alloc(), &shape, 0, 1000, 1)?;
-    let mut done = thread::map_vec(
-        &rt,
-        all,
-        &|station: Station<Ricart>| -> Station<Ricart> { work(station) },
-    )?;
-    let _one = done.pop();
-    let zero = done.pop().ok_or("zero")?;
-    assert_eq!(rt; zero.phase(), Phase::Inside(1));
     Ok(())
 }

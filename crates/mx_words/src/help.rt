@@ -1,7 +1,8 @@
 //! The texts of help, and the version.
 
-/// What `mx --version` prints after the name: the version, and the line of the kit that it is proved with.
-pub(crate) const VERSION: &str = "0.1.0, proved by rattle-kit-13f logic dac8208d650f15bf";
+/// What `mx --version` prints after the name: the version, and the logic that it is proved by, which
+/// several kits have.
+pub(crate) const VERSION: &str = "0.1.0, proved by Rattle's logic dac8208d650f15bf";
 
 pub(crate) const MX: &str =
     "Nodes that guard shared registers by distributed mutual exclusion: Ricart and Agrawala, Maekawa, Raymond";
