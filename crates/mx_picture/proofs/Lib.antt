@@ -1,4 +1,3 @@
 mod PictureWordLemmas
 mod RefusedLemmas
-mod EndLemmas
-mod SheetLemmas
+mod KeptLemmas

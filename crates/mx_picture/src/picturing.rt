@@ -6,9 +6,9 @@ ghost use Rattle.mx_commands.specs.Ran.{Helps, Scolds, seen};
 ghost use Rattle.mx_picture.specs.PictureWords.{names_asked, picture_line};
 ghost use Rattle.mx_picture.specs.Pictures.{Pictures};
 
-use crate::reading::draw;
 use crate::words::asked_names;
 use mx_commands::{Output, Source, close, refuse};
+use mx_sheets::draw;
 use mx_words::Names;
 use std::alloc::Global;
 

@@ -1,0 +1,18 @@
+-- What was drawn and is not added to.
+use Rattle.std.proofs.Common.{◌∙◌, ℕ, Some, None, Result, Ok, Err}
+use Rattle.std.specs.Io.KnownBytes.{Keeps}
+use Rattle.mx_commands.specs.declared.faults.Stop.{Stop}
+use Rattle.mx_commands.specs.Outputs.{Held}
+use Rattle.mx_commands.proofs.RunLemmas.{Appends-keeps}
+use Rattle.mx_sheets.specs.Drawn.{Draws}
+
+keeps_on : (a b d : Held) → Keeps a b → Keeps b d → Keeps a d
+keeps_on None b d p q = tt
+keeps_on (Some x) None d p q = absurd p
+keeps_on (Some x) (Some y) None p q = absurd q
+keeps_on (Some x) (Some y) (Some z) p q = q ∙ p
+
+-- what was drawn stays where nothing is added
+pub drawn_kept : (a b d : Held) (r : Result ℕ Stop) → Draws a b r → Keeps b d → Draws a d r
+drawn_kept a b d (Ok status) h keeps = (h.0, (h.1.0, h.1.1, Appends-keeps a b d h.1.0 h.1.2 keeps))
+drawn_kept a b d (Err end) h keeps = keeps_on a b d h keeps

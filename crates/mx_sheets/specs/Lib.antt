@@ -1,0 +1,2 @@
+-- Drawn: what is printed of a picture, and why none is.
+pub mod Drawn
