@@ -1,7 +1,2 @@
-pub mod FileLemmas
-pub mod PlayedLemmas
-pub mod ItemLemmas
-pub mod ReadLemmas
-pub mod DrawnLemmas
 pub mod WordLemmas
-pub mod ErrandLemmas
+pub mod RefusedLemmas

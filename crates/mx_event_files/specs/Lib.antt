@@ -1,10 +1,2 @@
--- Files: the files of lists of events. Played: events that happened in a cluster, one after another. Readable: events that
--- are read back from their file. Drawn: what is drawn of a plan and a seed. Scripts: the lines of a script, and their faults. Words: what the words ask for. Errands: what comes
--- of them.
-pub mod Files
-pub mod Played
-pub mod Readable
-pub mod Drawn
-pub mod Scripts
+-- Words: what the words ask for.
 pub mod Words
-pub mod Errands

@@ -3,6 +3,7 @@ use Rattle.std.specs.Prelude.{ℕ, List, Bool, Option, Some, None, codes, if◌t
 use Rattle.std.specs.Str.{bytes_eq}
 use Rattle.clap.specs.Words.{App, Row, Rule, Text, first_of, new_app, with_rule, with_subcommand}
 use Rattle.mx_words.specs.Words.{asked_of, exploration_at, file_rule, flag_rule, is_given, line_with, names_of, plan_rule, seed_rule, steps_rule}
+use Rattle.mx_scripts.specs.Tasks.{Task, draw, walk, script}
 use Rattle.mx_event_files.specs.declared.words.Errand.{Errand}
 use Rattle.mx_event_files.specs.declared.words.Errand.TheVariants as asked
 
@@ -26,12 +27,6 @@ unfoldable pub file_line : App
 file_line = with_subcommand (line_with draw_app) script_app.top
 
 -- ---- what is asked for
-
--- of a plan, a seed and a number of steps: what `explore` does; a walk. Of a plan: what a script says
-pub data Task : Type 0 where
-  draw : Text → ℕ → ℕ → Task
-  walk : Text → ℕ → ℕ → Task
-  script : Text × Text → Task
 
 abbrev pub errand_of : Errand → Task
 errand_of (asked.Draw exploration) = draw exploration.plan.now exploration.seed exploration.steps

@@ -1,22 +1,10 @@
 //! `mx draw` and `mx script`: files of events, drawn from a seed or written as a script.
 #![tactic(auto)]
 
-mod drawing;
-mod errands;
-mod files;
-mod halts;
+mod command;
 mod help;
-mod line_faults;
-mod lines;
-mod mail;
-mod playing;
-mod scripting;
-mod texts;
-mod walk;
-mod walking;
 mod words;
 
-pub use drawing::replays_as_explored;
-pub use errands::event_file;
-pub use files::reads_back;
+pub use command::event_file;
+pub use mx_scripts::{reads_back, replays_as_explored};
 pub use words::Errand;

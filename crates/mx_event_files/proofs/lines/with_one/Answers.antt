@@ -1,5 +1,0 @@
-use Rattle.std.proofs.Common.{length}
-use Rattle.mx_event_files.proofs.lines.with_one.Goals as goal
-
-pub returns-in-deliver : goal.returns-in-deliver
-returns-in-deliver c = c.delivery.ensures (length c.args.plan.now.nodes) (length c.args.plan.now.registers)

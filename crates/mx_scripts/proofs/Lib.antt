@@ -1,0 +1,6 @@
+pub mod FileLemmas
+pub mod PlayedLemmas
+pub mod ItemLemmas
+pub mod ReadLemmas
+pub mod DrawnLemmas
+pub mod ErrandLemmas

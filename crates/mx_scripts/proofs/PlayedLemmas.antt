@@ -1,0 +1,164 @@
+-- Events that happened, one after another.
+use Rattle.std.proofs.Common.{◌≡◌, ◌≤◌, ◌∙◌, ◌⊎◌, ℕ, arith, List, [], ◌∷◌, ◌++◌, Option, Some, None, Result, Ok, Err, length, slice_get, ap, subst, sym, refl, inl, inr, IfSome}
+use Rattle.std.specs.Prelude.{IfOk, OnOk}
+use Rattle.std.specs.Bool.{⊤}
+use Rattle.std.proofs.lemmas.List.{length-append, map-append}
+use Rattle.mx_stamps.specs.Lists.{IsIn}
+use Rattle.mx_stamps.proofs.Lists.{in_append}
+use Rattle.mx_nodelaws.specs.Core.{Core}
+use Rattle.mx_ricart.specs.Step.{ricart_core}
+use Rattle.mx_maekawa.specs.Step.{maekawa_core}
+use Rattle.mx_raymond.specs.Step.{raymond_core}
+use Rattle.mx_member.specs.declared.acts.Act.{Act}
+use Rattle.mx_member.specs.Member.{MemberState}
+use Rattle.mx_network.specs.Step.{ClusterState, RunsTo, step_of, at_part, at_member, part_of, grown, answer_of}
+use Rattle.mx_events.specs.declared.event.Event.{Event}
+use Rattle.mx_network.specs.declared.faults.StepFault.{StepFault}
+use Rattle.mx_network.specs.declared.outcome.Entry.{Entry}
+use Rattle.mx_plan.specs.Text.{Text}
+use Rattle.mx_plan.specs.Fields.{Fields}
+use Rattle.mx_plan.specs.declared.shape.Shape.{Shape}
+use Rattle.mx_plan.specs.declared.shape.Shape.TheVariants.{Ricart, Maekawa, Raymond}
+use Rattle.mx_explorer.specs.Drawn.{IsDrawn}
+use Rattle.mx_explorer.specs.Place.{place_of}
+use Rattle.mx_commands.specs.Explored.{after_drawn, after_placed, or_stay}
+use Rattle.mx_commands.specs.Runs.{at_rest}
+use Rattle.mx_scripts.specs.Files.{file_text}
+use Rattle.mx_scripts.specs.Played.{AreOver, IsFileOf, IsPlayed, Plays, events_of}
+use Rattle.mx_scripts.specs.Drawn.{LeadsAs, placed_in}
+
+same_Ok : {A E : Type 0} (x y : A) → ◌≡◌ {A = Result A E} (Ok x) (Ok y) → x ≡ y
+same_Ok x y e = cc
+
+not_Ok : {A : Type 0} (f : StepFault) (x : A) → ◌≡◌ {A = Result A StepFault} (Err f) (Ok x) → ⊥
+not_Ok f x e = cc
+
+-- the last of a list, or one before
+one_more : (nodes registers : ℕ) (e x : Event) (es : List Event) → AreOver nodes registers es → IsDrawn nodes registers e
+    → IsIn x es ⊎ IsIn x (e ∷ []) → IsDrawn nodes registers x
+one_more nodes registers e x es over last (inl h) = over x h
+one_more nodes registers e x es over last (inr (inl is)) = subst (λ (y : Event). IsDrawn nodes registers y) (sym is) last
+one_more nodes registers e x es over last (inr (inr h)) = absurd h
+
+module _ {H S M : Type 0} (core : Core H S M) where
+  module _ (g new : ClusterState S M) (e : Event) where
+    at_member_noted : (i : ℕ) (a : Act M) (o : Option (MemberState S)) → at_member core g e i a o ≡ Ok new → events_of new.trace ≡ events_of g.trace ++ e ∷ []
+    at_member_noted i a None h = absurd (not_Ok _ _ h)
+    at_member_noted i a (Some m) h =
+        let is : grown g e i (answer_of core a m) ≡ new = same_Ok _ _ h in
+        ap (λ (q : ClusterState S M). events_of q.trace) (sym is) ∙ map-append (λ (entry : Entry). entry.event) g.trace _
+
+    at_part_noted : (o : Result (ℕ × Act M) StepFault) → at_part core g e o ≡ Ok new → events_of new.trace ≡ events_of g.trace ++ e ∷ []
+    at_part_noted (Err f) h = absurd (not_Ok _ _ h)
+    at_part_noted (Ok p) h = at_member_noted p.0 p.1 (slice_get g.members p.0) h
+
+    -- an event joins the trace
+    pub noted : step_of core g e ≡ Ok new → events_of new.trace ≡ events_of g.trace ++ e ∷ []
+    noted h = at_part_noted (part_of (length g.members) g.sent e) h
+
+    at_member_more : (i : ℕ) (a : Act M) (o : Option (MemberState S)) → at_member core g e i a o ≡ Ok new → length g.sent ≤ length new.sent
+    at_member_more i a None h = absurd (not_Ok _ _ h)
+    at_member_more i a (Some m) h =
+        let is : grown g e i (answer_of core a m) ≡ new = same_Ok _ _ h in
+        let sent = ap (λ (q : ClusterState S M). length q.sent) (sym is) ∙ length-append g.sent _ in
+        omega (arith, sent)
+
+    at_part_more : (o : Result (ℕ × Act M) StepFault) → at_part core g e o ≡ Ok new → length g.sent ≤ length new.sent
+    at_part_more (Err f) h = absurd (not_Ok _ _ h)
+    at_part_more (Ok p) h = at_member_more p.0 p.1 (slice_get g.members p.0) h
+
+    -- no parcel is taken back
+    pub more_sent : step_of core g e ≡ Ok new → length g.sent ≤ length new.sent
+    more_sent h = at_part_more (part_of (length g.members) g.sent e) h
+
+  -- a run, and one event more
+  run_on : (start mid new : ClusterState S M) (es : List Event) (e : Event) → RunsTo core start es mid → step_of core mid e ≡ Ok new → RunsTo core start (es ++ e ∷ []) new
+  run_on start mid new [] e is step = (new, subst (λ (g : ClusterState S M). step_of core g e ≡ Ok new) is step, refl)
+  run_on start mid new (x ∷ xs) e run step = (run.0, run.1, run_on run.0 mid new xs e run.2 step)
+
+  runs_step : (start g new : ClusterState S M) (e : Event) → RunsTo core start (events_of g.trace) g → step_of core g e ≡ Ok new → RunsTo core start (events_of new.trace) new
+  runs_step start g new e run step =
+      subst (λ (es : List Event). RunsTo core start es new) (sym (noted g new e step)) (run_on start g new (events_of g.trace) e run step)
+
+  runs_or_stay : (start g : ClusterState S M) (e : Event) (w : Result (ClusterState S M) StepFault) → RunsTo core start (events_of g.trace) g → step_of core g e ≡ w
+      → RunsTo core start (events_of (or_stay g w).trace) (or_stay g w)
+  runs_or_stay start g e (Err f) run is = run
+  runs_or_stay start g e (Ok new) run is = runs_step start g new e run is
+
+  runs_placed : (start g : ClusterState S M) (o : Option Event) → RunsTo core start (events_of g.trace) g
+      → RunsTo core start (events_of (after_placed core g o).trace) (after_placed core g o)
+  runs_placed start g None run = run
+  runs_placed start g (Some e) run = runs_or_stay start g e (step_of core g e) run refl
+
+  -- the events of the trace after drawn events lead to the cluster after them
+  runs_drawn : (start g : ClusterState S M) (es : List Event) → RunsTo core start (events_of g.trace) g
+      → RunsTo core start (events_of (after_drawn core g es).trace) (after_drawn core g es)
+  unfolding after_drawn
+  runs_drawn start g [] run = run
+  runs_drawn start g (e ∷ es) run =
+      runs_drawn start (after_placed core g (place_of e (length g.sent))) es (runs_placed start g (place_of e (length g.sent)) run)
+
+  -- nothing was played at rest
+  pub played_at_rest : (nodes registers : ℕ) (g : ClusterState S M) → g.trace ≡ [] → IsPlayed core nodes registers g g
+  played_at_rest nodes registers g empty = record {
+    runs = subst (λ (t : List Entry). RunsTo core g (events_of t) g) (sym empty) refl;
+    over = λ e h. absurd (subst (λ (t : List Entry). IsIn e (events_of t)) empty h);
+  }
+
+  -- an event more
+  pub plays_step : (nodes registers : ℕ) (g new : ClusterState S M) (e : Event) → step_of core g e ≡ Ok new → IsDrawn nodes registers e → Plays core nodes registers g new
+  plays_step nodes registers g new e step over = λ start played. record {
+    runs = runs_step start g new e played.runs step;
+    over = λ x h. one_more nodes registers e x (events_of g.trace) played.over over
+        (in_append x (events_of g.trace) (e ∷ []) (subst (λ (es : List Event). IsIn x es) (noted g new e step) h));
+  }
+
+  plays_or_stay : (nodes registers : ℕ) (g : ClusterState S M) (e : Event) (w : Result (ClusterState S M) StepFault) → step_of core g e ≡ w → IsDrawn nodes registers e
+      → Plays core nodes registers g (or_stay g w)
+  plays_or_stay nodes registers g e (Err f) is over = λ start played. played
+  plays_or_stay nodes registers g e (Ok new) is over = plays_step nodes registers g new e is over
+
+  plays_after : (nodes registers : ℕ) (g : ClusterState S M) (o : Option Event) → IfSome o (IsDrawn nodes registers) → Plays core nodes registers g (after_placed core g o)
+  plays_after nodes registers g None over = λ start played. played
+  plays_after nodes registers g (Some e) over = plays_or_stay nodes registers g e (step_of core g e) refl over
+
+  -- an event more, or none
+  pub plays_placed : (nodes registers : ℕ) (g new : ClusterState S M) (o : Option Event) → after_placed core g o ≡ new → IfSome o (IsDrawn nodes registers)
+      → Plays core nodes registers g new
+  plays_placed nodes registers g new o is over = subst (λ (x : ClusterState S M). Plays core nodes registers g x) is (plays_after nodes registers g o over)
+
+  -- the same where the event may have failed
+  pub plays_on_ok : {E : Type 0} (nodes registers : ℕ) (g new : ClusterState S M) (e : Event) (w : Result ⊤ E) → OnOk w (step_of core g e ≡ Ok new) → IsDrawn nodes registers e
+      → OnOk w (Plays core nodes registers g new)
+  plays_on_ok nodes registers g new e (Ok done) step over = plays_step nodes registers g new e step over
+  plays_on_ok nodes registers g new e (Err fault) step over = tt
+
+  -- nothing happened
+  pub plays_nothing : {E : Type 0} (nodes registers : ℕ) (g : ClusterState S M) (w : Result ⊤ E) → OnOk w (Plays core nodes registers g g)
+  plays_nothing nodes registers g (Ok done) = λ start played. played
+  plays_nothing nodes registers g (Err fault) = tt
+
+  pub file_of_played : (p : Fields) (start g : ClusterState S M) (trace : List Entry) (text : Text) → start.trace ≡ [] → Plays core (length p.nodes) (length p.registers) start g
+      → trace ≡ g.trace → text ≡ file_text p (events_of trace) → IsFileOf core p start text
+  file_of_played p start g trace text empty plays same is =
+      let played = plays start (played_at_rest (length p.nodes) (length p.registers) start empty) in
+      record { events = events_of g.trace; is = is ∙ ap (λ (t : List Entry). file_text p (events_of t)) same; over = played.over; last = g; runs = played.runs }
+
+  -- the same of a text that may be missing
+  pub file_if_played : {A E : Type 0} (bytes : A → Text) (p : Fields) (start g : ClusterState S M) (trace : List Entry) (r : Result A E) → start.trace ≡ []
+      → Plays core (length p.nodes) (length p.registers) start g → trace ≡ g.trace → IfOk r (λ text. bytes text ≡ file_text p (events_of trace))
+      → IfOk r (λ text. IsFileOf core p start (bytes text))
+  file_if_played bytes p start g trace (Ok text) empty plays same is = file_of_played p start g trace (bytes text) empty plays same is
+  file_if_played bytes p start g trace (Err e) empty plays same is = tt
+
+  -- the file of what was drawn
+  pub file_drawn : {E : Type 0} (p : Fields) (start g : ClusterState S M) (es : List Event) (trace : List Entry) (old text : Text) (w : Result ⊤ E) → after_drawn core start es ≡ g
+      → trace ≡ g.trace → OnOk w (text ≡ old ++ file_text p (events_of trace)) → OnOk w (text ≡ old ++ file_text p (events_of (after_drawn core start es).trace))
+  file_drawn p start g es trace old text w drawn same is =
+      subst (λ (t : List Entry). OnOk w (text ≡ old ++ file_text p (events_of t))) (same ∙ sym (ap (λ (x : ClusterState S M). x.trace) drawn)) is
+
+-- the placed schedule leads to the same cluster as the drawn one
+pub leads : (p : Fields) (es : List Event) (shape : Shape) → LeadsAs p es (placed_in p es shape) shape
+leads p es (Ricart count) = runs_drawn ricart_core (at_rest ricart_core p count) (at_rest ricart_core p count) es refl
+leads p es (Maekawa family) = runs_drawn maekawa_core (at_rest maekawa_core p family) (at_rest maekawa_core p family) es refl
+leads p es (Raymond tree) = runs_drawn raymond_core (at_rest raymond_core p tree) (at_rest raymond_core p tree) es refl

@@ -1,0 +1,50 @@
+-- Events that happened in a cluster, one after another.
+use Rattle.std.specs.Prelude.{ℕ, ◌≡◌, List, map, length}
+use Rattle.mx_stamps.specs.Lists.{IsIn}
+use Rattle.mx_nodelaws.specs.Core.{Core}
+use Rattle.mx_ricart.specs.Step.{ricart_core}
+use Rattle.mx_maekawa.specs.Step.{maekawa_core}
+use Rattle.mx_raymond.specs.Step.{raymond_core}
+use Rattle.mx_network.specs.Step.{ClusterState, RunsTo}
+use Rattle.mx_events.specs.declared.event.Event.{Event}
+use Rattle.mx_network.specs.declared.outcome.Entry.{Entry}
+use Rattle.mx_plan.specs.Text.{Text}
+use Rattle.mx_plan.specs.Fields.{Fields}
+use Rattle.mx_plan.specs.declared.shape.Shape.{Shape}
+use Rattle.mx_plan.specs.declared.shape.Shape.TheVariants.{Ricart, Maekawa, Raymond}
+use Rattle.mx_explorer.specs.Drawn.{IsDrawn}
+use Rattle.mx_commands.specs.Runs.{at_rest}
+use Rattle.mx_scripts.specs.Files.{file_text}
+
+-- the events of a trace, without what came of them
+abbrev pub events_of : List Entry → List Event
+events_of = map (λ entry. entry.event)
+
+-- each event names nodes below `nodes` and registers below `registers`
+abbrev pub AreOver : ℕ → ℕ → List Event → Type 0
+AreOver nodes registers es = (e : Event) → IsIn e es → IsDrawn nodes registers e
+
+-- the events of the trace lead from the start to the cluster, and name its nodes and registers
+pub record IsPlayed {H S M : Type 0} (core : Core H S M) (nodes registers : ℕ) (start g : ClusterState S M) : Type 0 where
+  pub runs : RunsTo core start (events_of g.trace) g
+  pub over : AreOver nodes registers (events_of g.trace)
+
+-- events over these nodes and registers lead from one cluster to another
+abbrev pub Plays : {H S M : Type 0} → Core H S M → ℕ → ℕ → ClusterState S M → ClusterState S M → Type 0
+Plays {H} {S} {M} core nodes registers old new =
+    (start : ClusterState S M) → IsPlayed core nodes registers start old → IsPlayed core nodes registers start new
+
+-- the text is a file of events over the names of the plan that lead from the start to some cluster: each parcel that is
+-- delivered was sent
+pub record IsFileOf {H S M : Type 0} (core : Core H S M) (p : Fields) (start : ClusterState S M) (text : Text) : Type 0 where
+  pub events : List Event
+  pub is : text ≡ file_text p events
+  pub over : AreOver (length p.nodes) (length p.registers) events
+  pub last : ClusterState S M
+  pub runs : RunsTo core start events last
+
+-- the same of the cluster of a plan, at rest, by its algorithm
+abbrev pub IsEventFile : Fields → Text → Shape → Type 0
+IsEventFile p text (Ricart count) = IsFileOf ricart_core p (at_rest ricart_core p count) text
+IsEventFile p text (Maekawa family) = IsFileOf maekawa_core p (at_rest maekawa_core p family) text
+IsEventFile p text (Raymond tree) = IsFileOf raymond_core p (at_rest raymond_core p tree) text

@@ -1,0 +1,20 @@
+-- Events that are read back from their file.
+use Rattle.std.specs.Prelude.{◌≤◌, ◌<◌, ◌^◌, ⊤, List, length}
+use Rattle.mx_stamps.specs.Lists.{IsIn}
+use Rattle.mx_events.specs.declared.event.Event.{Event}
+use Rattle.mx_events.specs.declared.event.Event.TheVariants.{Write, Settle, Deliver}
+use Rattle.mx_plan.specs.Fields.{Fields}
+use Rattle.mx_scripts.specs.Played.{AreOver}
+
+-- a number in the event is one of 64 bits
+abbrev pub IsNumbered : Event → Type 0
+IsNumbered (Write node register value) = value < 2 ^ 64
+IsNumbered (Settle node upto) = upto < 2 ^ 64
+IsNumbered (Deliver k) = k < 2 ^ 64
+IsNumbered _ = ⊤
+
+-- at most a million events over the names of the plan
+pub record AreReadable (p : Fields) (es : List Event) : Type 0 where
+  pub over : AreOver (length p.nodes) (length p.registers) es
+  pub numbered : (e : Event) → IsIn e es → IsNumbered e
+  pub few : length es ≤ 1000000

@@ -1,0 +1,96 @@
+//! `draw`: what `explore` does from a seed, as a file of events.
+
+ghost use Rattle.std.specs.Prelude.{◌≡◌, ◌≤◌, ◌^◌, ◌++◌, Ok, string_bytes, IfOk, OnOk};
+ghost use Rattle.mx_plan.specs.Events.{events_at};
+ghost use Rattle.mx_plan.specs.Fields.{IsPlan};
+ghost use Rattle.mx_commands.specs.Explored.{after_drawn, schedule_of};
+ghost use Rattle.mx_commands.specs.Outputs.{refused_after};
+ghost use Rattle.mx_commands.specs.Ran.{Ran};
+ghost use Rattle.mx_commands.specs.Runs.{whole};
+ghost use Rattle.mx_scripts.specs.Drawn.{LeadsAs, drawn_file, parcels_in, placed_in, placed_schedule};
+ghost use Rattle.mx_scripts.specs.Files.{file_text};
+ghost use Rattle.mx_scripts.specs.Played.{events_of};
+
+use crate::files::add_file;
+use mx_commands::{Output, Stop, happen, print, start};
+use mx_explorer::schedule;
+use mx_maekawa::Maekawa;
+use mx_network::{Cluster, Event};
+use mx_nodelaws::Exclusion;
+use mx_plan::{Plan, Shape};
+use mx_raymond::Raymond;
+use mx_ricart::Ricart;
+use std::alloc::{AllocError, Global};
+
+/// Prints the file of the events that `explore` does from a seed: the schedule of so many steps, each
+/// delivery at its place among the parcels sent, and without the deliveries before any was sent. A
+/// replay of that file does the same to the cluster. Answers the status.
+pub(crate) fn draw_schedule<O: Output>(
+    alloc: Global,
+    plan: &Plan,
+    seed: u64,
+    steps: u64,
+    out: &mut O,
+) -> Result<u8, Stop>
+    ensures ran { Ran (O.takes_all out.old) (O.written out.old) (O.written out.new)
+        (whole (drawn_file plan.now seed steps)) result }
+    ensures refused { O.has_refused out.new ≡ refused_after result (O.has_refused out.old) }
+    ensures zero { IfOk result (λ status. status ≡ 0) }
+    ensures stays { O.takes_all out.new ≡ O.takes_all out.old }
+{
+    let events = schedule(alloc, seed, steps, plan)?;
+    let mut text = String::new(alloc);
+    add_placed(alloc, plan, events.as_slice(), &mut text)?;
+    print(text.as_bytes(), out)
+}
+
+/// A replay of the file of a seed reads the placed schedule, and that leads to the very cluster that
+/// `explore` judges: the same members, parcels and trace. There is nothing to do.
+pub fn replays_as_explored(plan: &Plan, seed: u64, steps: u64)
+    ensures reads { IsPlan plan.now → steps ≤ 1000000
+        → parcels_in plan.now (schedule_of plan.now seed steps) plan.now.shape ≤ 2 ^ 64
+        → events_at plan.now (drawn_file plan.now seed steps)
+        ≡ Ok (placed_schedule plan.now seed steps) }
+    ensures leads { LeadsAs plan.now (schedule_of plan.now seed steps)
+        (placed_schedule plan.now seed steps) plan.now.shape }
+{}
+
+/// The drawn events happen, by the plan's algorithm; then the file of what happened.
+fn add_placed(
+    alloc: Global,
+    plan: &Plan,
+    events: &[Event],
+    text: &mut String,
+) -> Result<(), AllocError>
+    ensures { OnOk result (string_bytes text.new
+        ≡ string_bytes text.old ++ file_text plan.now (placed_in plan.now events.now plan.now.shape)) }
+{
+    match plan.shape() {
+        Shape::Ricart(count) => {
+            let mut cluster = start::<Ricart>(alloc, plan, count)?;
+            add_happened(plan, &mut cluster, events, text)
+        }
+        Shape::Maekawa(sets) => {
+            let mut cluster = start::<Maekawa>(alloc, plan, sets)?;
+            add_happened(plan, &mut cluster, events, text)
+        }
+        Shape::Raymond(tree) => {
+            let mut cluster = start::<Raymond>(alloc, plan, tree)?;
+            add_happened(plan, &mut cluster, events, text)
+        }
+    }
+}
+
+/// The drawn events happen in a cluster; then the file of what happened.
+fn add_happened<C: Exclusion>(
+    plan: &Plan,
+    cluster: &mut Cluster<C>,
+    events: &[Event],
+    text: &mut String,
+) -> Result<(), AllocError>
+    ensures { OnOk result (string_bytes text.new ≡ string_bytes text.old
+        ++ file_text plan.now (events_of (after_drawn C.core cluster.old events.now).trace)) }
+{
+    happen(cluster, events)?;
+    add_file(plan, cluster.trace(), text)
+}

@@ -1,0 +1,246 @@
+//! Files of events: a list in JSON, with one event a line.
+
+ghost use Rattle.std.specs.Prelude.{◌≡◌, ◌++◌, Ok, Some, codes, decimal, string_bytes, IfOk, OnOk};
+ghost use Rattle.mx_plan.specs.Events.{events_at};
+ghost use Rattle.mx_plan.specs.Fields.{IsPlan};
+ghost use Rattle.mx_texts.specs.EventTexts.{name_of, register_name_of};
+ghost use Rattle.mx_texts.specs.Lines.{each_text};
+ghost use Rattle.mx_scripts.specs.Files.{file_text, item_text, items_text, next_text, of_node, quoted};
+ghost use Rattle.mx_scripts.specs.Played.{events_of};
+ghost use Rattle.mx_scripts.specs.Readable.{AreReadable};
+
+use mx_network::{Entry, Event};
+use mx_plan::Plan;
+use mx_stamps::NodeId;
+use std::alloc::{AllocError, Global};
+use std::fmt;
+
+/// The name that the plan gives a node.
+fn name_of(plan: &Plan, node: NodeId) -> &str
+    ensures { result.now ≡ name_of plan.now node }
+{
+    plan.node_name(node.get()).unwrap_or("")
+}
+
+/// The name that the plan gives a register.
+fn register_name_of(plan: &Plan, register: u8) -> &str
+    ensures { result.now ≡ register_name_of plan.now register }
+{
+    plan.register_name(register).unwrap_or("")
+}
+
+/// A word in quotes.
+#[derive(Clone, Copy)]
+struct Quoted<'a>(&'a str);
+
+impl fmt::Display for Quoted<'_> {
+    ghost output = { λ q. Some (quoted q.0.now) };
+
+    fn fmt<W: fmt::Write>(&self, f: &mut fmt::Formatter<W>) -> fmt::Result {
+        write!(f, "\"{}\"", self.0)
+    }
+}
+
+/// The word of an event, and the name of a node.
+#[derive(Clone, Copy)]
+struct OfNode<'a> {
+    word: &'a str,
+    name: &'a str,
+}
+
+impl fmt::Display for OfNode<'_> {
+    ghost output = { λ o. Some (of_node o.word.now o.name.now) };
+
+    fn fmt<W: fmt::Write>(&self, f: &mut fmt::Formatter<W>) -> fmt::Result {
+        write!(f, "{},{}", Quoted(self.word), Quoted(self.name))
+    }
+}
+
+impl<'a> OfNode<'a> {
+    /// And a further name.
+    fn and_name(self, name: &'a str) -> WithName<'a>
+        ensures begun { result.begun ≡ self.entry }
+        ensures name { result.name.now ≡ name.now }
+    {
+        WithName { begun: self, name }
+    }
+
+    /// And a number.
+    fn and_number(self, number: u64) -> WithNumber<'a>
+        ensures begun { result.begun ≡ self.entry }
+        ensures number { result.number ≡ number }
+    {
+        WithNumber {
+            begun: self,
+            number,
+        }
+    }
+}
+
+/// The word of an event, the name of a node, and a further name.
+#[derive(Clone, Copy)]
+struct WithName<'a> {
+    begun: OfNode<'a>,
+    name: &'a str,
+}
+
+impl fmt::Display for WithName<'_> {
+    ghost output = { λ o. Some (of_node o.begun.word.now o.begun.name.now
+        ++ codes "," ++ quoted o.name.now) };
+
+    fn fmt<W: fmt::Write>(&self, f: &mut fmt::Formatter<W>) -> fmt::Result {
+        write!(f, "{},{}", self.begun, Quoted(self.name))
+    }
+}
+
+/// The word of an event, the name of a node, and a number.
+#[derive(Clone, Copy)]
+struct WithNumber<'a> {
+    begun: OfNode<'a>,
+    number: u64,
+}
+
+impl fmt::Display for WithNumber<'_> {
+    ghost output = { λ o. Some (of_node o.begun.word.now o.begun.name.now
+        ++ codes "," ++ decimal o.number) };
+
+    fn fmt<W: fmt::Write>(&self, f: &mut fmt::Formatter<W>) -> fmt::Result {
+        write!(f, "{},{}", self.begun, self.number)
+    }
+}
+
+/// An event, as a file has it, without the brackets.
+#[derive(Clone, Copy)]
+struct ItemsText<'a> {
+    plan: &'a Plan,
+    event: &'a Event,
+}
+
+impl<'a> ItemsText<'a> {
+    /// The word of the event, and the name of its node.
+    fn of(&self, word: &'a str, node: NodeId) -> OfNode<'a>
+        ensures word { result.word.now ≡ word.now }
+        ensures name { result.name.now ≡ name_of self.now.plan.now node }
+    {
+        OfNode {
+            word,
+            name: name_of(self.plan, node),
+        }
+    }
+}
+
+impl fmt::Display for ItemsText<'_> {
+    ghost output = { λ e. Some (items_text e.plan.now e.event.now) };
+
+    fn fmt<W: fmt::Write>(&self, f: &mut fmt::Formatter<W>) -> fmt::Result {
+        match self.event {
+            Event::Ask(node) => self.of("ask", *node).fmt(f),
+            Event::Enter(node) => self.of("enter", *node).fmt(f),
+            Event::Read(node, register) => {
+                let register = register_name_of(self.plan, *register);
+                self.of("read", *node).and_name(register).fmt(f)
+            }
+            Event::Write(node, register, value) => {
+                let register = register_name_of(self.plan, *register);
+                let written = self.of("write", *node).and_name(register);
+                write!(f, "{written},{value}")
+            }
+            Event::Leave(node) => self.of("leave", *node).fmt(f),
+            Event::Cancel(node) => self.of("cancel", *node).fmt(f),
+            Event::Tick(node) => self.of("tick", *node).fmt(f),
+            Event::Want(node, other) => {
+                let other = name_of(self.plan, *other);
+                self.of("want", *node).and_name(other).fmt(f)
+            }
+            Event::Settle(node, upto) => self.of("settle", *node).and_number(*upto).fmt(f),
+            Event::Restart(node) => self.of("restart", *node).fmt(f),
+            Event::Deliver(number) => write!(f, "{},{number}", Quoted("deliver")),
+        }
+    }
+}
+
+/// An event, as an array of JSON.
+#[derive(Clone, Copy)]
+struct ItemText<'a> {
+    plan: &'a Plan,
+    event: &'a Event,
+}
+
+impl fmt::Display for ItemText<'_> {
+    ghost output = { λ e. Some (item_text e.plan.now e.event.now) };
+
+    fn fmt<W: fmt::Write>(&self, f: &mut fmt::Formatter<W>) -> fmt::Result {
+        let items = ItemsText {
+            plan: self.plan,
+            event: self.event,
+        };
+        write!(f, "[{items}]")
+    }
+}
+
+/// A further event, on a line of its own.
+#[derive(Clone, Copy)]
+struct NextText<'a> {
+    plan: &'a Plan,
+    event: &'a Event,
+}
+
+impl fmt::Display for NextText<'_> {
+    ghost output = { λ e. Some (next_text e.plan.now e.event.now) };
+
+    fn fmt<W: fmt::Write>(&self, f: &mut fmt::Formatter<W>) -> fmt::Result {
+        let item = ItemText {
+            plan: self.plan,
+            event: self.event,
+        };
+        write!(f, ",\n{item}")
+    }
+}
+
+/// The file of events over the names of a plan is read back as these events, by whoever reads events as
+/// `replay` does. There is nothing to do.
+pub fn reads_back(plan: &Plan, events: &[Event])
+    ensures { IsPlan plan.now → AreReadable plan.now events.now
+        → events_at plan.now (file_text plan.now events.now) ≡ Ok events.now }
+{}
+
+/// The file of the events of a trace.
+pub(crate) fn file_of(alloc: Global, plan: &Plan, trace: &[Entry]) -> Result<String, AllocError>
+    ensures { IfOk result (λ text.
+        string_bytes text ≡ file_text plan.now (events_of trace.now)) }
+{
+    let mut text = String::new(alloc);
+    add_file(plan, trace, &mut text)?;
+    Ok(text)
+}
+
+/// Appends the file of the events of a trace.
+pub(crate) fn add_file(plan: &Plan, trace: &[Entry], text: &mut String) -> Result<(), AllocError>
+    ensures { OnOk result (string_bytes text.new
+        ≡ string_bytes text.old ++ file_text plan.now (events_of trace.now)) }
+{
+    let Some((first, rest)) = trace.split_first() else {
+        return text.push_str("[]\n");
+    };
+    text.push_str("[\n")?;
+    text.write(ItemText {
+        plan,
+        event: &first.event,
+    })?;
+    add_next(plan, rest, text)?;
+    text.push_str("\n]\n")
+}
+
+/// Appends the further events of a trace.
+fn add_next(plan: &Plan, trace: &[Entry], text: &mut String) -> Result<(), AllocError>
+    ensures { OnOk result (string_bytes text.new
+        ≡ string_bytes text.old ++ each_text (λ entry. next_text plan.now entry.event) trace.now) }
+{
+    for entry in trace {
+        text.write(NextText {
+            plan,
+            event: &entry.event,
+        })?;
+    }
+    Ok(())
+}

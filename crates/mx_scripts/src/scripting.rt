@@ -1,0 +1,216 @@
+//! `script`: the events that the lines of a script ask for, as a file.
+
+ghost use Rattle.std.specs.Prelude.{◌≡◌, ℕ, Ok, [], length, string_bytes, IfOk, OnOk};
+ghost use Rattle.mx_network.specs.Step.{step_of};
+ghost use Rattle.mx_scripts.specs.Played.{IsEventFile, IsFileOf, Plays};
+ghost use Rattle.mx_scripts.specs.Scripts.{IsOver};
+
+use crate::files::file_of;
+use crate::halts::Halt;
+use crate::line_faults::LineFault;
+use crate::lines::{Order, read_line};
+use crate::mail::Mail;
+use mx_commands::start;
+use mx_maekawa::Maekawa;
+use mx_network::{Cluster, Event};
+use mx_nodelaws::Exclusion;
+use mx_plan::{Plan, Shape};
+use mx_raymond::Raymond;
+use mx_ricart::Ricart;
+use mx_stamps::NodeId;
+use std::alloc::Global;
+
+/// The greatest number of events that a file lists.
+const MOST_EVENTS: usize = 1_000_000;
+
+/// The file of the events of a script, by the plan's algorithm.
+pub(crate) fn script_file(alloc: Global, plan: &Plan, script: &str) -> Result<String, Halt>
+    ensures { IfOk result (λ text. IsEventFile plan.now (string_bytes text) plan.now.shape) }
+{
+    match plan.shape() {
+        Shape::Ricart(count) => {
+            let mut cluster = start::<Ricart>(alloc, plan, count)?;
+            file_of_script(alloc, plan, &mut cluster, script)
+        }
+        Shape::Maekawa(sets) => {
+            let mut cluster = start::<Maekawa>(alloc, plan, sets)?;
+            file_of_script(alloc, plan, &mut cluster, script)
+        }
+        Shape::Raymond(tree) => {
+            let mut cluster = start::<Raymond>(alloc, plan, tree)?;
+            file_of_script(alloc, plan, &mut cluster, script)
+        }
+    }
+}
+
+/// The lines happen in a cluster at rest; then the file of what happened.
+fn file_of_script<C: Exclusion>(
+    alloc: Global,
+    plan: &Plan,
+    cluster: &mut Cluster<C>,
+    script: &str,
+) -> Result<String, Halt>
+    requires { cluster.old.trace ≡ [] }
+    ensures { IfOk result (λ text. IsFileOf C.core plan.now cluster.old (string_bytes text)) }
+{
+    all_lines(alloc, plan, cluster, script)?;
+    let text = file_of(alloc, plan, cluster.trace())?;
+    Ok(text)
+}
+
+/// All lines, from before any parcel was sent.
+fn all_lines<C: Exclusion>(
+    alloc: Global,
+    plan: &Plan,
+    cluster: &mut Cluster<C>,
+    script: &str,
+) -> Result<(), Halt>
+    ensures { OnOk result
+        (Plays C.core (length plan.now.nodes) (length plan.now.registers) cluster.old cluster.new) }
+{
+    let mut mail = Mail::new(alloc);
+    each_line(alloc, plan, cluster, &mut mail, script)
+}
+
+/// Each line in turn. A fault names its line, counted from 1.
+fn each_line<C: Exclusion>(
+    alloc: Global,
+    plan: &Plan,
+    cluster: &mut Cluster<C>,
+    mail: &mut Mail,
+    script: &str,
+) -> Result<(), Halt>
+    ensures { OnOk result
+        (Plays C.core (length plan.now.nodes) (length plan.now.registers) cluster.old cluster.new) }
+{
+    let mut number = 0u64;
+    for line in script.lines() {
+        number = number.saturating_add(1);
+        if let Err(fault) = one_line(alloc, plan, line, cluster, mail) {
+            return Err(Halt::at_line(number, fault));
+        }
+    }
+    Ok(())
+}
+
+/// What a line asks for, as often as it asks.
+fn one_line<C: Exclusion>(
+    alloc: Global,
+    plan: &Plan,
+    line: &str,
+    cluster: &mut Cluster<C>,
+    mail: &mut Mail,
+) -> Result<(), LineFault>
+    ensures { OnOk result
+        (Plays C.core (length plan.now.nodes) (length plan.now.registers) cluster.old cluster.new) }
+{
+    let Some(line) = read_line(alloc, plan, line)? else {
+        return Ok(());
+    };
+    for _ in 0..line.times {
+        obey(plan, &line.order, cluster, mail)?;
+    }
+    Ok(())
+}
+
+/// What a line asks for, once.
+fn obey<C: Exclusion>(
+    plan: &Plan,
+    order: &Order,
+    cluster: &mut Cluster<C>,
+    mail: &mut Mail,
+) -> Result<(), LineFault>
+    requires { IsOver (length plan.now.nodes) (length plan.now.registers) order.now }
+    ensures { OnOk result
+        (Plays C.core (length plan.now.nodes) (length plan.now.registers) cluster.old cluster.new) }
+{
+    match order {
+        Order::Happens(event) => happen(event, cluster, mail),
+        Order::AllArrive => all_arrive(plan, cluster, mail),
+        Order::Arrives(from, to) => arrive(*from, *to, cluster, mail),
+        Order::IsLost(from, to) => lose(*from, *to, cluster, mail),
+        Order::ArrivesAgain(from, to) => arrive_again(*from, *to, cluster, mail),
+    }
+}
+
+/// An event, and what it does to the parcels under way.
+fn happen<C: Exclusion>(
+    event: &Event,
+    cluster: &mut Cluster<C>,
+    mail: &mut Mail,
+) -> Result<(), LineFault>
+    ensures { OnOk result (step_of C.core cluster.old event.now ≡ Ok cluster.new) }
+{
+    if cluster.trace().len() >= MOST_EVENTS {
+        return Err(LineFault::TooMany);
+    }
+    cluster.advance(*event)?;
+    mail.note(event, cluster)?;
+    Ok(())
+}
+
+/// All parcels under way are delivered, the oldest first, until none is left.
+fn all_arrive<C: Exclusion>(
+    plan: &Plan,
+    cluster: &mut Cluster<C>,
+    mail: &mut Mail,
+) -> Result<(), LineFault>
+    ensures { OnOk result
+        (Plays C.core (length plan.now.nodes) (length plan.now.registers) cluster.old cluster.new) }
+{
+    for _ in 0..MOST_EVENTS {
+        let Some(number) = mail.oldest(cluster.sent()) else {
+            return Ok(());
+        };
+        happen(&Event::Deliver(number), cluster, mail)?;
+    }
+    Ok(())
+}
+
+/// The oldest parcel under way from one node to another is delivered.
+fn arrive<C: Exclusion>(
+    from: NodeId,
+    to: NodeId,
+    cluster: &mut Cluster<C>,
+    mail: &mut Mail,
+) -> Result<(), LineFault>
+    ensures { (nodes registers : ℕ)
+        → OnOk result (Plays C.core nodes registers cluster.old cluster.new) }
+{
+    match mail.oldest_between(cluster, from, to) {
+        Some(number) => happen(&Event::Deliver(number), cluster, mail),
+        None => Err(LineFault::NotUnderWay),
+    }
+}
+
+/// The oldest parcel under way from one node to another is lost.
+fn lose<C: Exclusion>(
+    from: NodeId,
+    to: NodeId,
+    cluster: &Cluster<C>,
+    mail: &mut Mail,
+) -> Result<(), LineFault> {
+    match mail.oldest_between(cluster, from, to) {
+        Some(number) => {
+            mail.lose(number);
+            Ok(())
+        }
+        None => Err(LineFault::NotUnderWay),
+    }
+}
+
+/// The parcel from one node to another that was delivered last is delivered again.
+fn arrive_again<C: Exclusion>(
+    from: NodeId,
+    to: NodeId,
+    cluster: &mut Cluster<C>,
+    mail: &mut Mail,
+) -> Result<(), LineFault>
+    ensures { (nodes registers : ℕ)
+        → OnOk result (Plays C.core nodes registers cluster.old cluster.new) }
+{
+    match mail.last_between(from, to) {
+        Some(number) => happen(&Event::Deliver(number), cluster, mail),
+        None => Err(LineFault::NotDelivered),
+    }
+}
