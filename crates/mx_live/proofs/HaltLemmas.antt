@@ -11,10 +11,11 @@ use Rattle.mx_commands.specs.declared.faults.Stop.TheVariants as stop
 use Rattle.mx_commands.specs.Jobs.{Reads}
 use Rattle.mx_commands.specs.Outputs.{Held, refused_after}
 use Rattle.mx_commands.specs.Told.{Telling}
-use Rattle.mx_live.specs.declared.halts.Halt.{Halt}
-use Rattle.mx_live.specs.Halts.{Fails, RanInVain, halt_of_stop}
-use Rattle.mx_live.specs.Lives.{AreSerial, Ends, Fits, Halts, HaveSections, IsPlanOf, IsSilent}
-use Rattle.mx_live.specs.Shown.{live_text}
+use Rattle.mx_threads.specs.declared.halts.Halt.{Halt}
+use Rattle.mx_threads.specs.Halts.{Fails, RanInVain, halt_of_stop}
+use Rattle.mx_threads.specs.Shown.{live_text}
+use Rattle.mx_threads.specs.Together.{AreSerial, HaveSections}
+use Rattle.mx_live.specs.Lives.{Ends, Fits, Halts, IsPlanOf, IsSilent}
 
 same_held : (held : Held) → Keeps held held
 same_held None = tt

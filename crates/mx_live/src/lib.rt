@@ -2,15 +2,7 @@
 //! sections of its own; then their journals are gathered.
 #![tactic(auto)]
 
-mod any_station;
-mod assembly;
-mod by_algorithm;
-mod halts;
 mod living;
-mod progress;
-mod running;
-mod shown;
-mod threads;
 
-pub use assembly::Assembly;
 pub use living::live;
+pub use mx_threads::Assembly;

@@ -1,21 +1,19 @@
 //! `live`: from words, named bytes and two outputs to a status, by threads.
 
-ghost use Rattle.std.specs.Prelude.{◌≡◌, ◌⊎◌, Option, length, IfErr, IfSome, OnOk};
+ghost use Rattle.std.specs.Prelude.{Option, length, IfErr, IfSome, OnOk};
 ghost use Rattle.std.specs.Io.KnownBytes.{Appends};
 ghost use Rattle.mx_words.specs.Words.{texts_of, AreWrong, AskHelp};
 ghost use Rattle.mx_words.specs.LiveWords.{order_asked, order_of, live_line};
 ghost use Rattle.mx_commands.specs.Ran.{Helps, Scolds, seen};
 ghost use Rattle.mx_commands.specs.Told.{Telling};
-ghost use Rattle.mx_live.specs.Halts.{Fails, halt_status};
+ghost use Rattle.mx_threads.specs.Halts.{Fails};
+ghost use Rattle.mx_threads.specs.Shown.{live_text};
 ghost use Rattle.mx_live.specs.Lives.{Ends, IsPlanOf, Lives};
-ghost use Rattle.mx_live.specs.Shown.{live_text};
 
-use crate::halts::{Halt, HaltLine};
-use crate::running::live_by_shape;
-use crate::shown::add_journal;
-use mx_commands::{Output, PutFault, Source, fetch_plan, put_line, refuse, tell_memory};
+use mx_commands::{Output, Source, fetch_plan, refuse};
 use mx_plan::Plan;
 use mx_stations::Gathered;
+use mx_threads::{Halt, add_journal, live_by_shape, tell};
 use mx_words::{LiveRun, asked_live};
 use std::alloc::Global;
 use std::rt::Clock;
@@ -73,22 +71,6 @@ fn run_live<R: Threads + Clock, S: Source, O: Output, E: Output>(
     match live_and_show(rt, alloc, run, source, out, err) {
         Ok(()) => 0,
         Err(halt) => tell(alloc, halt, run.plan, err),
-    }
-}
-
-/// Tells why a run has no journal, and answers the status. A writer that refuses is told nothing.
-fn tell<E: Output>(alloc: Global, halt: Halt, plan: &str, err: &mut E) -> u8
-    ensures { (result ≡ halt_status halt) ⊎ (result ≡ 5) }
-{
-    if halt == Halt::Writer {
-        return 1;
-    }
-    if halt == Halt::Memory {
-        return tell_memory(err);
-    }
-    match put_line(alloc, err, HaltLine { halt, plan }) {
-        Ok(()) | Err(PutFault::Refused) => halt.status(),
-        Err(PutFault::Memory) => tell_memory(err),
     }
 }
 

@@ -1,8 +1,0 @@
-use Rattle.std.proofs.Common.{◌≡◌}
-use Rattle.mx_live.specs.Stations.{AreAll, Home, ricart, sight, sight_of}
-use Rattle.mx_live.proofs.by_algorithm.any_ricart.Given as goal
-
-abbrev pub invariant-loop-station : goal.invariant-loop-station
-invariant-loop-station l =
-    (here : Home) → AreAll (λ s. (sight ricart s).home ≡ here) l.fn.stations.items
-    → AreAll (λ one. (sight_of one).home ≡ here) l.all.items × AreAll (λ s. (sight ricart s).home ≡ here) l.station-iterator.rest.items

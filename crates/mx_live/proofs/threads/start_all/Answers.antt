@@ -1,6 +1,0 @@
-use Rattle.std.proofs.Common.{rules}
-use Rattle.mx_live.proofs.StationLemmas.{none_so}
-use Rattle.mx_live.proofs.threads.start_all.Goals as goal
-
-pub returns-in-Ok : goal.returns-in-Ok
-returns-in-Ok g c = λ here all. c.in-Ok.ensures here all (none_so _ (search rules))

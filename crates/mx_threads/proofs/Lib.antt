@@ -1,0 +1,4 @@
+pub mod ShownLemmas
+pub mod StationLemmas
+pub mod WorkerLemmas
+pub mod SectionLemmas

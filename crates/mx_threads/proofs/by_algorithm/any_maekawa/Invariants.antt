@@ -1,0 +1,8 @@
+use Rattle.std.proofs.Common.{◌≡◌}
+use Rattle.mx_threads.specs.Stations.{AreAll, Home, maekawa, sight, sight_of}
+use Rattle.mx_threads.proofs.by_algorithm.any_maekawa.Given as goal
+
+abbrev pub invariant-loop-station : goal.invariant-loop-station
+invariant-loop-station l =
+    (here : Home) → AreAll (λ s. (sight maekawa s).home ≡ here) l.fn.stations.items
+    → AreAll (λ one. (sight_of one).home ≡ here) l.all.items × AreAll (λ s. (sight maekawa s).home ≡ here) l.station-iterator.rest.items

@@ -1,0 +1,20 @@
+use Rattle.std.proofs.Common.{ap, arith}
+use Rattle.mx_threads.specs.Stations.{Home, raymond}
+use Rattle.mx_threads.proofs.SectionLemmas.{of_one_table}
+use Rattle.mx_threads.proofs.StationLemmas.{weaker_so}
+use Rattle.mx_threads.proofs.running.live_raymond.Goals as goal
+
+pub all_raymond-requires : goal.all_raymond-requires
+all_raymond-requires g c =
+    let at = c.in_ok-stations.ensures raymond in
+    weaker_so _ (λ x done. ap (λ (h : Home). h.algorithm) done.home) (c.in_ok-left.ensures.done _ (c.in_ok-any.ensures _ at.1))
+
+pub gather_all-requires : goal.gather_all-requires
+gather_all-requires g c =
+    let at = c.in_ok-stations.ensures raymond in
+    (omega arith, of_one_table raymond _ _ _ (c.in_ok-own.ensures _ _ (c.in_ok-left.ensures.done _ (c.in_ok-any.ensures _ at.1))))
+
+pub returns-clause-sections : goal.returns-clause-sections
+returns-clause-sections g c =
+    let at = c.in_ok-stations.ensures raymond in
+    c.gather_all.ensures.sections raymond _ _ (c.in_ok-own.ensures _ _ (c.in_ok-left.ensures.done _ (c.in_ok-any.ensures _ at.1)))

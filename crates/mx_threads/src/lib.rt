@@ -1,0 +1,17 @@
+//! The stations of a live run in threads of their own: each adds 1 to the first register in
+//! sections of its own; then their journals are gathered.
+#![tactic(auto)]
+
+mod any_station;
+mod assembly;
+mod by_algorithm;
+mod halts;
+mod progress;
+mod running;
+mod shown;
+mod threads;
+
+pub use assembly::Assembly;
+pub use halts::{Halt, tell};
+pub use running::live_by_shape;
+pub use shown::add_journal;
