@@ -62,32 +62,42 @@ fn insert_each(alloc: Global, numbers: &[u64]) -> Result<usize> {
     Ok(map.len())
 }
 
-fn time_puts(rt: &HostRuntime, name: &str, numbers: &[u64]) -> Result<()> {
+/// How many records were put into a journal, and in how many milliseconds.
+fn timed_puts(rt: &HostRuntime, numbers: &[u64]) -> Result<(usize, u128)> {
     let begun = Instant::now(rt)?;
-    let journal = put_each(rt.alloc(), numbers)?;
-    let took = begun.elapsed(rt)?.as_millis();
+    let put = put_each(rt.alloc(), numbers)?.len();
+    Ok((put, begun.elapsed(rt)?.as_millis()))
+}
+
+/// How many were inserted into a map, and in how many milliseconds.
+fn timed_inserts(rt: &HostRuntime, numbers: &[u64]) -> Result<(usize, u128)> {
     let begun = Instant::now(rt)?;
     let len = insert_each(rt.alloc(), numbers)?;
-    let map_took = begun.elapsed(rt)?.as_millis();
-    let put = journal.len();
+    Ok((len, begun.elapsed(rt)?.as_millis()))
+}
+
+fn time_puts(rt: &HostRuntime, name: &str, numbers: &[u64]) -> Result<()> {
+    let (put, took) = timed_puts(rt, numbers)?;
+    let (len, map_took) = timed_inserts(rt, numbers)?;
     println!(rt; "{name}: {put} records, journal {took} ms; {len} in a map, {map_took} ms")?;
     Ok(())
 }
 
-/// Whether the other's records were merged into the journal, and in how many milliseconds.
-fn timed_merge(rt: &HostRuntime, journal: &mut Journal, other: &Journal) -> Result<(bool, u128)> {
+/// Merges the other's records into the journal, and tells whether they were, and in how many
+/// milliseconds.
+fn tell_merge(rt: &HostRuntime, name: &str, journal: &mut Journal, other: &Journal) -> Result<()> {
     let begun = Instant::now(rt)?;
     let merged = merge(journal, other).is_ok();
-    Ok((merged, begun.elapsed(rt)?.as_millis()))
+    let took = begun.elapsed(rt)?.as_millis();
+    println!(rt; "merge of {name}: {merged}, {took} ms")?;
+    Ok(())
 }
 
 /// Merges the records of the second numbers into those of the first.
 fn time_merge(rt: &HostRuntime, name: &str, into: &[u64], from: &[u64]) -> Result<()> {
     let mut journal = put_each(rt.alloc(), into)?;
     let other = put_each(rt.alloc(), from)?;
-    let (merged, took) = timed_merge(rt, &mut journal, &other)?;
-    println!(rt; "merge of {name}: {merged}, {took} ms")?;
-    Ok(())
+    tell_merge(rt, name, &mut journal, &other)
 }
 
 /// Odd numbers into even ones, and the greater half into the lesser.
@@ -138,10 +148,8 @@ fn put_and_settle(alloc: Global, records: u64, every: u64) -> Result<Journal> {
     Ok(journal)
 }
 
-/// Times puts in order into a journal that is settled after so many each time, or never where that is 0.
-pub(crate) fn time_settling(rt: &HostRuntime, records: u64, every: u64) -> Result<()> {
-    let begun = Instant::now(rt)?;
-    let journal = put_and_settle(rt.alloc(), records, every)?;
+/// Tells up to where a journal is settled, how many records it has above, and how long that took.
+fn tell_settled(rt: &HostRuntime, journal: &Journal, every: u64, begun: Instant) -> Result<()> {
     let took = begun.elapsed(rt)?.as_millis();
     let base = journal.base().upto();
     let len = journal.len();
@@ -149,4 +157,11 @@ pub(crate) fn time_settling(rt: &HostRuntime, records: u64, every: u64) -> Resul
         "put in order, settled each {every}: base {base}, {len} records above it, {took} ms"
     )?;
     Ok(())
+}
+
+/// Times puts in order into a journal that is settled after so many each time, or never where that is 0.
+pub(crate) fn time_settling(rt: &HostRuntime, records: u64, every: u64) -> Result<()> {
+    let begun = Instant::now(rt)?;
+    let journal = put_and_settle(rt.alloc(), records, every)?;
+    tell_settled(rt, &journal, every, begun)
 }
