@@ -2,15 +2,8 @@
 //! they refused, and how long they waited.
 #![tactic(auto)]
 
-mod count_lines;
 mod counting;
 mod help;
-mod kinds;
-mod parcel_counts;
-mod refusal_counts;
-mod running;
-mod waits;
 mod words;
 
 pub use counting::count;
-pub use kinds::Kinded;

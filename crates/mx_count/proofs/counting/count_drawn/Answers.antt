@@ -1,4 +1,5 @@
-use Rattle.mx_count.proofs.PrintedLemmas.{drawn_printed, on_ok}
+use Rattle.mx_tallies.proofs.ListedLemmas.{on_ok}
+use Rattle.mx_count.proofs.PrintedLemmas.{drawn_printed}
 use Rattle.mx_count.proofs.counting.count_drawn.Goals as goal
 
 pub returns-clause-printed : goal.returns-clause-printed

@@ -2,8 +2,9 @@ use Rattle.std.proofs.Common.{◌∙◌, Option, IfOk, subst, sym}
 use Rattle.mx_words.specs.Words.{names_of}
 use Rattle.mx_plan.specs.Text.{Text}
 use Rattle.mx_commands.specs.Told.{Telling}
-use Rattle.mx_count.specs.Printed.{PrintsTold}
-use Rattle.mx_count.proofs.PrintedLemmas.{on_ok, one_printed, two_printed}
+use Rattle.mx_tallies.specs.Listed.{PrintsTold}
+use Rattle.mx_tallies.proofs.ListedLemmas.{on_ok}
+use Rattle.mx_count.proofs.PrintedLemmas.{one_printed, two_printed}
 use Rattle.mx_count.proofs.counting.count_given.Goals as goal
 
 pub returns-then-are_dashes-clause-printed : goal.returns-then-are_dashes-clause-printed

@@ -1,0 +1,14 @@
+//! What is counted of the events of a plan: how many letters of each kind the nodes sent, how often and
+//! why they refused, and how long they waited.
+#![tactic(auto)]
+
+mod count_lines;
+mod kinds;
+mod parcel_counts;
+mod printing;
+mod refusal_counts;
+mod running;
+mod waits;
+
+pub use printing::{count_named, count_schedule, count_split};
+pub use running::Course;
