@@ -1,4 +1,4 @@
-use Rattle.std.proofs.Common.{suc, ◌<◌, inl, inr, sym, subst, arith}
+use Rattle.std.proofs.Common.{suc, ◌<◌, inl, inr, refl, sym, subst, arith}
 use Rattle.mx_stamps.proofs.Choices.{dec_le}
 use Rattle.mx_journal.specs.Records.{Ascending, record_at}
 use Rattle.mx_journal.specs.Settled.{JournalState}
@@ -27,3 +27,6 @@ invariant_of-self c =
           subst (λ l. Ascending (suc k) l) (sym (c.put.ensures.new e)) (ascending_with (suc k) c.args.entry c.self.inside.records c.self.invariant high)
       | inr e ↦ subst (λ l. Ascending (suc k) l) (sym e) c.self.invariant
     ]
+
+pub returns-then-is_settled-clause-same : goal.returns-then-is_settled-clause-same
+returns-then-is_settled-clause-same c = (λ _. inl (rw (← c.self.view_is) (c.is_settled.ensures.0 c.if-is_settled.true)), λ _. refl)

@@ -5,3 +5,6 @@ use Rattle.mx_journal.proofs.record_map.RecordMap.len.Goals as goal
 
 pub returns-clause-ordered : goal.returns-clause-ordered
 returns-clause-ordered c = subst (λ l. Ascending 1 l) c.self.view_is (ascending_flat 1 c.self.inside.runs.items c.self.invariant)
+
+pub returns-clause-value : goal.returns-clause-value
+returns-clause-value c = cc
