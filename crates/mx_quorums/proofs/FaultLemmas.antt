@@ -1,7 +1,6 @@
 -- At most one fault is the first, and where there is a first fault the lists are no meeting family.
 use Rattle.std.proofs.Common.{ℕ, ◌<◌, ◌≡◌, ◌↔◌, Bool, List, length, refl, sym, ◌∙◌, ap, subst, arith, find, nat_le, Ok, Err, Result, IsOk, IfOk, IsErrOf, IsErrAnd}
 use Rattle.std.proofs.lemmas.Option.{same_Some}
-use Rattle.mx_stamps.proofs.Stamps.{not_before}
 use Rattle.mx_quorums.specs.Family.{Family, IsMeeting}
 use Rattle.mx_quorums.specs.Rules.{IsLeast, Meet, IsFirstApartOf}
 use Rattle.mx_quorums.specs.Rows.{IsMember, MarksLists, IsFirstRowFault, IsChecked}

@@ -1,5 +1,5 @@
 -- Any two sets of a grid meet, and any two of a plane.
-use Rattle.std.proofs.Common.{ℕ, zero, suc, ◌+◌, ◌*◌, ◌/◌, ◌%◌, ◌<◌, ◌≡◌, inl, inr, ◌↔◌, Bool, true, false, ◌&&◌, ◌||◌, nat_eq, List, [], ◌∷◌, refl, sym, subst, arith, add-zero, Ok, Err, Result, IsOk, IfErr}
+use Rattle.std.proofs.Common.{ℕ, zero, suc, ◌+◌, ◌*◌, ◌/◌, ◌%◌, ◌<◌, ◌≡◌, inl, inr, ◌↔◌, Bool, true, false, ◌&&◌, ◌||◌, nat_eq, List, [], ◌∷◌, refl, sym, subst, arith, add-zero, Ok, Err, Result, IsOk, IfOk, IfErr}
 use Rattle.std.proofs.lemmas.Nat.{rows, mod-mul-add, div-mul-add}
 use Rattle.std.proofs.Math.Nat.{mod-eq_of_lt}
 use Rattle.std.proofs.lemmas.Bool.Decides.{nat_tests}
@@ -8,7 +8,7 @@ use Rattle.mx_stamps.proofs.Lists.{dec_eq}
 use Rattle.mx_stamps.proofs.Choices.{bool_cases, and_true, or_false}
 use Rattle.mx_quorums.specs.Family.{Family}
 use Rattle.mx_quorums.specs.Rules.{AllOwn, AllMeet}
-use Rattle.mx_quorums.specs.Shapes.{IsInLine, IsPlaneSize, difference_set, IsShifted}
+use Rattle.mx_quorums.specs.Shapes.{IsInLine, IsGrid, IsPlaneSize, difference_set, IsShifted}
 use Rattle.mx_quorums.specs.Rows.{IsMember, IsFirstRowFault, IsChecked}
 use Rattle.mx_quorums.specs.declared.fault.QuorumFault.{QuorumFault}
 use Rattle.mx_quorums.specs.declared.fault.QuorumFault.TheVariants.{NotOwnMember, Apart}
@@ -46,6 +46,16 @@ grid_accepted height (suc c) n marks e some same r h =
     let w = grid_meet height (suc c) i j (omega arith) (subst (λ m. i < m) e lt) (subst (λ m. j < m) e lt2) in
     (w.0, (same i w.0).1 (lt, subst (λ m. IsInLine m (suc c) i w.0) (sym e) w.1), (same j w.0).1 (lt2, subst (λ m. IsInLine m (suc c) j w.0) (sym e) w.2)) in
     accepts n marks (λ i lt. (same i i).1 (lt, (lt, inl refl))) meet r h
+
+-- what is accepted is the grid
+pub grid_sets : (height cols n : ℕ) (marks : List (List Bool)) → n ≡ height * cols
+    → ((i j : ℕ) → IsMember marks i j ↔ ((i < n) × IsInLine n cols i j))
+    → (r : Result Family QuorumFault) → IsChecked n marks r → IfOk r (λ f. IsGrid height cols f)
+grid_sets height cols n marks e same (Ok q) h = subst (λ f. IsGrid height cols f) (sym h.0) (record {
+  count = e;
+  sets = λ i j. subst (λ m. IsMember marks i j ↔ ((i < m) × IsInLine m cols i j)) e (same i j);
+})
+grid_sets height cols n marks e same (Err f) h = tt
 
 -- the test passes at each number below n
 all_under : (ℕ → Bool) → ℕ → Bool

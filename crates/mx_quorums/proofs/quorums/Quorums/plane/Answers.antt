@@ -1,4 +1,4 @@
-use Rattle.std.proofs.Common.{ℕ, ◌<◌, ◌↔◌, List, IsOk, subst}
+use Rattle.std.proofs.Common.{ℕ, ◌<◌, ◌↔◌, List, IsOk, refl, subst}
 use Rattle.mx_quorums.specs.Rows.{IsMember}
 use Rattle.mx_quorums.specs.Shapes.{IsShifted}
 use Rattle.mx_quorums.proofs.ShapeLemmas.{plane_accepted, no_error}
@@ -17,3 +17,6 @@ returns-clause-ok c = ((λ h. c.in-Some.ensures.0), (λ size. is_ok c))
 
 pub returns-clause-no_plane : goal.returns-clause-no_plane
 returns-clause-no_plane c = no_error _ c.checked.result (is_ok c)
+
+pub returns-in_default-clause-no_plane : goal.returns-in_default-clause-no_plane
+returns-in_default-clause-no_plane c = refl
