@@ -1,9 +1,12 @@
 -- The k-th event, from the values that it lists.
-use Rattle.std.proofs.Common.{◌≡◌, ◌∙◌, ℕ, ◌≤◌, ◌<◌, List, [], ◌∷◌, length, map, get_or, ap, sym, arith}
+use Rattle.std.proofs.Common.{◌≡◌, ◌∙◌, ℕ, ◌≤◌, ◌<◌, List, [], ◌∷◌, length, map, get_or, ap, sym, arith, nat_lt, false, Some, Result, Vec, Global}
+use Rattle.std.proofs.lemmas.Bool.Decides.{nat_tests}
 use Rattle.serde_json.specs.Data.{Data}
 use Rattle.mx_plan.specs.Fields.{Fields}
-use Rattle.mx_plan.specs.Values.{list_in, text_of}
-use Rattle.mx_plan.specs.Events.{event_of, listed, with_one, with_two, with_three}
+use Rattle.mx_plan.specs.Values.{Gives, elements, list_in, text_of}
+use Rattle.mx_plan.specs.Events.{event_of, events_from, events_of, listed, with_one, with_two, with_three}
+use Rattle.mx_plan.specs.declared.faults.PlanFault.{PlanFault}
+use Rattle.mx_events.specs.declared.event.Event.{Event}
 
 -- a list of so many values is the list of these values
 module _ {X : Type 0} where
@@ -48,3 +51,10 @@ module _ {X : Type 0} (view : X → Data) (p : Fields) (k : ℕ) (d : Data) (xs 
       → event_of p k d ≡ with_three p k (text_of (view x)) (view y) (view z) (view w)
   of_four x y z w some few first second third fourth =
       of_list (x ∷ y ∷ z ∷ w ∷ []) (four xs x y z w some few first second third fourth)
+
+-- few enough events are read one by one
+pub few_read : (p : Fields) (d : Data) (ds : List Data) (r : Result (Vec Event Global) PlanFault)
+    → Some ds ≡ elements d → length ds ≤ 1000000 → Gives (events_from p 0 ds) r → Gives (events_of p d) r
+few_read p d ds r listed few given =
+    let no_more : nat_lt 1000000 (length ds) ≡ false = grind (arith, nat_tests) in
+    rw (← listed, no_more) given

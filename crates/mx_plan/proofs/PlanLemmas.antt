@@ -1,9 +1,9 @@
 -- What comes of a plan, from what comes of its parts.
-use Rattle.std.proofs.Common.{◌≡◌, ◌⊎◌, ◌∙◌, ℕ, List, true, length, ap, subst, sym, refl, Result, Ok, Err, inl, inr, codes}
+use Rattle.std.proofs.Common.{◌≡◌, ◌⊎◌, ◌∙◌, ℕ, List, true, length, ap, subst, sym, refl, Result, Ok, Err, IfOk, inl, inr, codes}
 use Rattle.std.specs.Result.{MatchResult, IsOkAnd}
 use Rattle.serde_json.specs.Data.{Data}
 use Rattle.serde_json.specs.Find.{get}
-use Rattle.mx_plan.specs.Text.{Text}
+use Rattle.mx_plan.specs.Text.{Text, AreNames}
 use Rattle.mx_plan.specs.Fields.{Fields}
 use Rattle.mx_plan.specs.Shapes.{PlannedShape}
 use Rattle.mx_plan.specs.Values.{Answers, and_then, is_object, number_of}
@@ -43,6 +43,33 @@ in_turn (Err fault) s t f = refl
 answered : {T : Type 0} (wanted : Result T PlanFault) (x : T) → Answers wanted (Ok x) → wanted ≡ Ok x
 answered wanted x (inl is) = sym is
 answered wanted x (inr h) = let bad : ⊥ = cc in absurd bad
+
+-- a fault of the names of the nodes is the fault of both
+pub nodes_refused : (d : Data) (e : PlanFault) (r : Result (List Text × List Text) PlanFault)
+    → Answers (names_of 21 place.Nodes (get (codes "nodes") d)) (Err e) → r ≡ Err e → Answers (both_names d) r
+nodes_refused d e r (inl is) err = inl (rw (err, ← is) refl)
+nodes_refused d e r (inr is) err = let memory : e ≡ Memory = cc in inr (err ∙ ap Err memory)
+
+-- the names of the nodes, and what comes of the registers
+module _ (nodes : List Text) where
+  abbrev pub ArePaired : Result (List Text) PlanFault → Result (List Text × List Text) PlanFault → Type 0
+  ArePaired registers r = MatchResult registers (λ names. IsOkAnd r (λ both. both ≡ (nodes, names))) (λ e. r ≡ Err e)
+
+  pub both_given : (d : Data) (registers : Result (List Text) PlanFault) (r : Result (List Text × List Text) PlanFault)
+      → Answers (names_of 21 place.Nodes (get (codes "nodes") d)) (Ok nodes)
+      → Answers (names_of 32 place.Registers (get (codes "registers") d)) registers → ArePaired registers r → Answers (both_names d) r
+  both_given d (Ok names) (Ok both) (inl first) (inl second) made = inl (rw (made, ← first, ← second) refl)
+  both_given d (Ok names) (Ok both) (inl first) (inr second) made = let bad : ⊥ = cc in absurd bad
+  both_given d (Ok names) (Err e) (inl first) second made = absurd made
+  both_given d (Err e) r (inl first) (inl second) made = inl (rw (made, ← first, ← second) refl)
+  both_given d (Err e) r (inl first) (inr second) made = let memory : e ≡ Memory = cc in inr (made ∙ ap Err memory)
+  both_given d registers r (inr first) second made = let bad : ⊥ = cc in absurd bad
+
+  pub nodes_kept : (registers : Result (List Text) PlanFault) (r : Result (List Text × List Text) PlanFault)
+      → AreNames 21 nodes → ArePaired registers r → IfOk r (λ names. AreNames 21 names.0)
+  nodes_kept (Ok names) (Ok both) are made = rw made are
+  nodes_kept (Err e) (Ok both) are made = let bad : ⊥ = cc in absurd bad
+  nodes_kept registers (Err e) are made = tt
 
 drafted : List Text → List Text → ℕ → ℕ → PlannedShape → Draft
 drafted nodes registers sections origin shape_planned =

@@ -1,4 +1,4 @@
-use Rattle.std.proofs.Common.{◌≡◌, inr, refl, sym, ◌∙◌, true, false}
+use Rattle.std.proofs.Common.{◌≡◌, inl, inr, refl, sym, ◌∙◌, true, false}
 use Rattle.mx_plan.proofs.TextLemmas.{value_of-none, value_of-utf8}
 use Rattle.mx_plan.proofs.values.parse.Goals as goal
 
@@ -13,3 +13,6 @@ returns-in-Err-2-clause-err c =
           let told : true ≡ false = sym (c.is_memory.ensures.1 memory) ∙ c.if-is_memory.false in
           cc)),
     )
+
+pub returns-in-Err-clause-err : goal.returns-in-Err-clause-err
+returns-in-Err-clause-err c = inl refl
