@@ -1,6 +1,6 @@
 //! The fates of parcels, drawn from a seed.
 
-ghost use Rattle.std.specs.Prelude.{◌≡◌, ◌≢◌, ◌+◌, ◌≤◌, ◌%◌};
+ghost use Rattle.std.specs.Prelude.{◌≡◌, ◌≢◌, ◌+◌, ◌≤◌};
 ghost use Rattle.mx_explorer.specs.Weather.{Climate, after_fate, fate_by, fate_in, generator_of};
 
 use mx_letters::{Fate, Fates};
@@ -52,15 +52,14 @@ impl Fates for Weather {
         ensures always_repeated { self.old.lost ≡ 0 → self.old.doubled ≡ 256 → result ≡ Fate.Twice }
     {
         let word = self.words.next_word();
-        fate_of(word, self.lost, self.doubled)
+        fate_of(word % 256, self.lost, self.doubled)
     }
 }
 
-/// The fate that a word stands for.
-fn fate_of(word: u32, lost: u16, doubled: u16) -> Fate
-    ensures { result ≡ fate_by (word % 256) lost doubled }
+/// The fate that a byte stands for.
+fn fate_of(byte: u32, lost: u16, doubled: u16) -> Fate
+    ensures { result ≡ fate_by byte lost doubled }
 {
-    let byte = word % 256;
     let lost = u32::from(lost);
     if byte < lost {
         Fate::Drop

@@ -1,10 +1,18 @@
-use Rattle.std.proofs.Common.{suc, ◌≡◌, ◌+◌, ◌++◌, [], ◌∷◌, sym, ◌∙◌, ap, subst, arith}
+use Rattle.std.proofs.Common.{suc, ◌≡◌, ◌+◌, ◌++◌, [], ◌∷◌, sym, ◌∙◌, ap, subst, arith, refl}
 use Rattle.mx_stamps.specs.Lists.{IsIn}
 use Rattle.mx_stamps.proofs.Lists.{append_append, append_nil}
 use Rattle.mx_explorer.specs.Drawn.{after_drawn, drawn_list}
 use Rattle.mx_explorer.specs.Weather.{generator_of}
 use Rattle.mx_explorer.proofs.Schedules.{all_drawn}
 use Rattle.mx_explorer.proofs.drawing.schedule_over.Goals as goal
+
+pub loop-init : goal.loop-init
+loop-init c = record {
+  count = c.new-events.ensures.len;
+  value = λ rest is.
+      let all : rest ≡ c.args.steps = omega (arith, is) in
+      rw (c.new-events.ensures.items, c.seed_from_u64-words.ensures, all) refl;
+}
 
 pub loop-preserved : goal.loop-preserved
 loop-preserved c =
