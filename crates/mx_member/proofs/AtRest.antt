@@ -1,6 +1,6 @@
 -- The world in which each member has just been started, and nothing was sent, is sound.
 use Rattle.std.proofs.Common.{ℕ, suc, ◌≤◌, ◌<◌, ◌^◌, ◌≡◌, List, [], Some, map, slice_get, sym, ◌∙◌, ap, subst, arith}
-use Rattle.mx_stamps.specs.Lists.{IsIn, each_below}
+use Rattle.mx_stamps.specs.Lists.{each_below}
 use Rattle.mx_stamps.proofs.Lists.{get_each_below, greatest_below, length_each_below}
 use Rattle.mx_nodelaws.specs.World.{World}
 use Rattle.mx_nodelaws.specs.Core.{Core, KeepsPhases}

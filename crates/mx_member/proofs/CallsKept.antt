@@ -18,7 +18,7 @@ use Rattle.mx_journal.specs.declared.settling.SettleFault.TheVariants as settle
 use Rattle.mx_journal.specs.declared.settling.SettleFault.{SettleFault}
 use Rattle.mx_journal.specs.Agreement.{IsSubmap}
 use Rattle.mx_journal.specs.Drafted.{with_read, with_write}
-use Rattle.mx_journal.specs.Settled.{JournalState, settled, with_base, with_list}
+use Rattle.mx_journal.specs.Settled.{settled, with_base, with_list}
 use Rattle.mx_journal.proofs.Settled.{ascending_beyond}
 use Rattle.mx_stamps.proofs.Choices.{le_false, lt_false}
 use Rattle.mx_merge.specs.Missing.{in_ranges}

@@ -1,5 +1,5 @@
 -- What a sound world says of its members: who is inside, and what their journals show.
-use Rattle.std.proofs.Common.{ℕ, suc, ◌<◌, ◌≤◌, ◌≡◌, List, [], ◌∷◌, Result, Ok, Err, length, nat_le, nat_lt, refl, subst, arith, if◌then◌else◌}
+use Rattle.std.proofs.Common.{ℕ, ◌<◌, ◌≤◌, ◌≡◌, List, [], ◌∷◌, Result, Ok, Err, length, nat_le, nat_lt, refl, subst, arith, if◌then◌else◌}
 use Rattle.mx_stamps.proofs.Choices.{le_true}
 use Rattle.mx_stamps.proofs.Lists.{cond_case}
 use Rattle.mx_nodelaws.specs.World.{World, Quiet}

@@ -1,10 +1,8 @@
 -- What journals go on covering, whatever joins them or is settled.
 use Rattle.std.proofs.Common.{ℕ, suc, ◌+◌, ◌-◌, ◌<◌, ◌≤◌, ◌≡◌, inl, inr, List, [], ◌∷◌, refl, sym, subst, arith}
-use Rattle.mx_stamps.specs.Lists.{IsIn}
-use Rattle.mx_stamps.proofs.Choices.{compared, dec_le}
+use Rattle.mx_stamps.proofs.Choices.{dec_le}
 use Rattle.mx_journal.specs.declared.records.Record.{Record}
 use Rattle.mx_journal.specs.Bases.{BaseState}
-use Rattle.mx_journal.specs.Gapless.{first_missing}
 use Rattle.mx_journal.specs.Records.{Ascending, IsThere, above, top_of, with_record, with_records}
 use Rattle.mx_journal.specs.Settled.{Covers, IsCovered, IsFirstGap, IsWithin, JournalState, beyond, settled, top_covered, with_base, with_list}
 use Rattle.mx_journal.proofs.Below.{first_missing_above, there_below_first_missing}

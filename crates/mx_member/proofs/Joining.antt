@@ -1,13 +1,13 @@
 -- The join of all nodes' journals, made of one after another.
-use Rattle.std.proofs.Common.{ℕ, zero, suc, ◌+◌, ◌<◌, ◌≤◌, ◌≡◌, ◌⊎◌, inl, inr, List, [], ◌∷◌, ◌++◌, Some, length, take, slice_get, refl, sym, ◌∙◌, ap, subst, arith}
+use Rattle.std.proofs.Common.{ℕ, zero, suc, ◌+◌, ◌<◌, ◌≡◌, ◌⊎◌, inl, inr, List, [], ◌∷◌, ◌++◌, Some, length, take, slice_get, refl, sym, ◌∙◌, ap, subst, arith}
 use Rattle.mx_stamps.specs.Lists.{IsIn}
 use Rattle.mx_stamps.proofs.Lists.{get_append_left, get_at_end, get_snoc, none_is_no_some, take_at}
 use Rattle.mx_journal.specs.declared.records.Record.{Record}
-use Rattle.mx_journal.specs.Bases.{BaseState, origin}
-use Rattle.mx_journal.specs.Records.{Ascending, above, with_records}
-use Rattle.mx_journal.specs.Settled.{DoAgree, IsWithin, JournalState, joined, unsettled, with_base}
+use Rattle.mx_journal.specs.Bases.{BaseState}
+use Rattle.mx_journal.specs.Records.{above, with_records}
+use Rattle.mx_journal.specs.Settled.{DoAgree, IsWithin, JournalState, joined, unsettled}
 use Rattle.mx_journal.proofs.Found.{in_above}
-use Rattle.mx_journal.proofs.Maps.{ascending_above, in_with_records}
+use Rattle.mx_journal.proofs.Maps.{in_with_records}
 use Rattle.mx_merge.proofs.Joins.{with_base_case}
 use Rattle.mx_merge.specs.Join.{IsLeastJournal}
 use Rattle.mx_nodelaws.specs.World.{World}

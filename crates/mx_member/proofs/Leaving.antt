@@ -14,7 +14,7 @@ use Rattle.mx_member.specs.declared.acts.Act.TheVariants as act
 use Rattle.mx_member.specs.declared.acts.Answer.{Answer}
 use Rattle.mx_member.specs.declared.acts.Answer.TheVariants as answer
 use Rattle.mx_member.specs.declared.parcel.Parcel.{Parcel}
-use Rattle.mx_member.specs.Member.{MemberState, fresh, guarded}
+use Rattle.mx_member.specs.Member.{MemberState, fresh, guarded, with_journal}
 use Rattle.mx_member.specs.Steps.{LacksItsRecord, leave_at, leave_of, left}
 use Rattle.mx_member.specs.Acts.{NeedsMemory, act_of}
 
@@ -35,6 +35,10 @@ module _ {H S M : Type 0} (core : Core H S M) (m : MemberState S) where
 
   pub needs_memory : (a : Act M) → a ≡ act.Leave → LacksItsRecord core m → NeedsMemory core a m
   needs_memory a is lacks = subst (λ (b : Act M). NeedsMemory core b m) (sym is) lacks
+
+-- a member that was refused memory has the journal that it had
+pub unchanged : {S : Type 0} (was m : MemberState S) (journal : JournalState) → was ≡ m → journal ≡ was.journal → with_journal journal was ≡ m
+unchanged was m journal same is = ap (λ j. with_journal j was) is ∙ same
 
 -- it lacks its record where the journal does not cover the record of its receipt
 pub lacks_record : {H S M : Type 0} (core : Core H S M) (m fields : MemberState S) (n : ℕ) (receipt : Receipt) (entry : Record) (draft : Drafted) → fields ≡ m → core.phase fields.core ≡ Inside n → receipt ≡ receipt_of n m.setting.me draft → entry ≡ record_of receipt → (Covers entry.number fields.journal → ⊥) → LacksItsRecord core m

@@ -1,8 +1,7 @@
 -- Bases and journals of the sections that were left: what they cover, what stays as more are left, and what putting,
 -- taking a base and settling make of them.
-use Rattle.std.proofs.Common.{ℕ, zero, suc, ◌<◌, ◌≤◌, ◌≡◌, inl, inr, List, [], ◌∷◌, ◌++◌, replicate, refl, sym, ◌∙◌, ap, subst, arith}
+use Rattle.std.proofs.Common.{ℕ, zero, suc, ◌≤◌, ◌≡◌, inl, inr, List, [], ◌∷◌, ◌++◌, replicate, refl, sym, ◌∙◌, ap, subst, arith}
 use Rattle.mx_stamps.specs.Lists.{IsIn}
-use Rattle.mx_stamps.proofs.Choices.{dec_le}
 use Rattle.mx_stamps.proofs.Lists.{in_append}
 use Rattle.mx_journal.specs.declared.cells.Cell.{Cell as BaseCell}
 use Rattle.mx_journal.specs.declared.records.Record.{Record}

@@ -1,5 +1,5 @@
 -- What one act does to a node's receipts and to its journal.
-use Rattle.std.proofs.Common.{ℕ, suc, ◌≤◌, ◌≡◌, inl, inr, List, [], ◌∷◌, Result, Ok, Err, length, nat_lt, nat_le, refl, sym, ap, subst, arith, if◌then◌else◌}
+use Rattle.std.proofs.Common.{ℕ, suc, ◌≡◌, inl, inr, List, [], ◌∷◌, Result, Ok, Err, length, nat_lt, nat_le, refl, sym, ap, subst, arith, if◌then◌else◌}
 use Rattle.mx_stamps.specs.Lists.{IsIn}
 use Rattle.mx_stamps.proofs.Lists.{cond_case}
 use Rattle.mx_nodelaws.specs.World.{World, Quiet}

@@ -1,5 +1,5 @@
 -- What settling answers, from what the journal tells, and the view that stays.
-use Rattle.std.proofs.Common.{ℕ, suc, ◌<◌, ◌≤◌, ◌≡◌, ◌↔◌, true, false, Result, Ok, Err, IsOk, OnErr, OnOk, List, nat_le, nat_lt, refl, sym, ◌∙◌, ap, arith}
+use Rattle.std.proofs.Common.{ℕ, suc, ◌<◌, ◌≤◌, ◌≡◌, ◌↔◌, Result, Ok, Err, IsOk, OnErr, OnOk, List, nat_le, nat_lt, refl, sym, ◌∙◌, ap, arith}
 use Rattle.std.proofs.lemmas.Bool.Decides.{nat_tests}
 use Rattle.mx_stamps.proofs.Choices.{cond_false, cond_true, lt_is, lt_not}
 use Rattle.mx_journal.specs.declared.settling.SettleFault.{SettleFault}

@@ -1,4 +1,4 @@
-use Rattle.std.proofs.Common.{◌≡◌, Err, sym, ap, ◌∙◌}
+use Rattle.std.proofs.Common.{◌≡◌, Err, sym, ap, rules, ◌∙◌}
 use Rattle.mx_nodelaws.specs.Core.{Core}
 use Rattle.mx_member.specs.declared.acts.Act.{Act}
 use Rattle.mx_member.specs.declared.acts.Answer.TheVariants as answer
@@ -11,6 +11,27 @@ use Rattle.mx_member.proofs.acts.perform.Goals as goal
 -- what an act gives, once it is known which act it is
 acted : {H S M : Type 0} (core : Core H S M) (m : MemberState S) (a is : Act M) → a ≡ is → act_of core is m ≡ act_of core a m
 acted core m a is same = ap (λ x. act_of core x m) (sym same)
+
+pub returns-in-Ok-clause-state : goal.returns-in-Ok-clause-state
+returns-in-Ok-clause-state g c = c.in-Ok.ensures.state ∙ ap (λ d. d.state) (acted g.C.Exclusion.core c.args.member.now c.args.act _ c.in-Leave.is)
+
+pub returns-in-Ok-clause-answer : goal.returns-in-Ok-clause-answer
+returns-in-Ok-clause-answer g c = sym (ap answer.Left c.in-Ok.ensures.answer) ∙ ap (λ d. d.answer) (acted g.C.Exclusion.core c.args.member.now c.args.act _ c.in-Leave.is)
+
+pub returns-in-Ok-clause-letters : goal.returns-in-Ok-clause-letters
+returns-in-Ok-clause-letters g c = c.in-Ok.ensures.letters ∙ ap (λ d. d.letters) (acted g.C.Exclusion.core c.args.member.now c.args.act _ c.in-Leave.is)
+
+pub returns-in-Ok-deliver-clause-state : goal.returns-in-Ok-deliver-clause-state
+returns-in-Ok-deliver-clause-state g c = c.in-Ok-deliver.ensures.state ∙ ap (λ d. d.state) (acted g.C.Exclusion.core c.args.member.now c.args.act _ c.in-Deliver.is)
+
+pub returns-in-Ok-deliver-clause-answer : goal.returns-in-Ok-deliver-clause-answer
+returns-in-Ok-deliver-clause-answer g c = ap (λ d. d.answer) (acted g.C.Exclusion.core c.args.member.now c.args.act _ c.in-Deliver.is)
+
+pub returns-in-Ok-deliver-clause-letters : goal.returns-in-Ok-deliver-clause-letters
+returns-in-Ok-deliver-clause-letters g c = c.in-Ok-deliver.ensures.letters ∙ ap (λ d. d.letters) (acted g.C.Exclusion.core c.args.member.now c.args.act _ c.in-Deliver.is)
+
+pub deliver-requires : goal.deliver-requires
+deliver-requires g c = search rules
 
 pub returns-in-Err-NotInside-clause-state : goal.returns-in-Err-NotInside-clause-state
 returns-in-Err-NotInside-clause-state g c =
@@ -80,8 +101,23 @@ returns-in-Cancel-clause-answer g c = ap answer.Cancelled c.cancel.ensures.answe
 pub returns-in-Cancel-clause-letters : goal.returns-in-Cancel-clause-letters
 returns-in-Cancel-clause-letters g c = c.cancel.ensures.letters ∙ ap (λ d. d.letters) (acted g.C.Exclusion.core c.args.member.now c.args.act _ c.in-Cancel.is)
 
+pub returns-in-Settle-clause-state : goal.returns-in-Settle-clause-state
+returns-in-Settle-clause-state g c = c.settle.ensures.state ∙ ap (λ d. d.state) (acted g.C.Exclusion.core c.args.member.now c.args.act _ c.in-Settle.is)
+
+pub returns-in-Settle-clause-answer : goal.returns-in-Settle-clause-answer
+returns-in-Settle-clause-answer g c = ap answer.Settled c.settle.ensures.answer ∙ ap (λ d. d.answer) (acted g.C.Exclusion.core c.args.member.now c.args.act _ c.in-Settle.is)
+
+pub returns-in-Settle-clause-letters : goal.returns-in-Settle-clause-letters
+returns-in-Settle-clause-letters g c = c.requires.empty ∙ ap (λ d. d.letters) (acted g.C.Exclusion.core c.args.member.now c.args.act _ c.in-Settle.is)
+
+pub returns-in-Tick-clause-state : goal.returns-in-Tick-clause-state
+returns-in-Tick-clause-state g c = c.tick.ensures.state ∙ ap (λ d. d.state) (acted g.C.Exclusion.core c.args.member.now c.args.act _ c.in-Tick.is)
+
 pub returns-in-Tick-clause-answer : goal.returns-in-Tick-clause-answer
 returns-in-Tick-clause-answer g c = ap (λ d. d.answer) (acted g.C.Exclusion.core c.args.member.now c.args.act _ c.in-Tick.is)
+
+pub returns-in-Tick-clause-letters : goal.returns-in-Tick-clause-letters
+returns-in-Tick-clause-letters g c = c.tick.ensures.letters ∙ ap (λ d. d.letters) (acted g.C.Exclusion.core c.args.member.now c.args.act _ c.in-Tick.is)
 
 pub returns-in-Want-clause-state : goal.returns-in-Want-clause-state
 returns-in-Want-clause-state g c = ap (λ d. d.state) (acted g.C.Exclusion.core c.args.member.now c.args.act _ c.in-Want.is)

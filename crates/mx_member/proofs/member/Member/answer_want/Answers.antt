@@ -1,5 +1,4 @@
-use Rattle.std.proofs.Common.{rules, ℕ, ◌≤◌, ◌++◌, List, length, take, subst, ap, sym, ◌∙◌}
-use Rattle.mx_member.specs.declared.parcel.Parcel.{Parcel}
+use Rattle.std.proofs.Common.{rules, ◌≤◌, ◌++◌, length, subst, ap, sym, ◌∙◌}
 use Rattle.mx_member.specs.Steps.{base_to, records_to}
 use Rattle.mx_member.proofs.Sending.{base_short}
 use Rattle.mx_member.proofs.member.Member.answer_want.Goals as goal

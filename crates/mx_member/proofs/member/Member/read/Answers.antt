@@ -45,6 +45,12 @@ invariant_of-self-2 g c =
       was.5,
     )
 
+pub invariant_of-self : goal.invariant_of-self
+invariant_of-self g c =
+    let was = c.self.invariant in
+    let same = sym c.in_err-read.ensures.err in
+    (was.0, was.1, was.2, subst (λ (d : Drafted). length d.reads ≤ 8) same was.3, subst (λ (d : Drafted). length d.writes ≤ 8) same was.4, was.5)
+
 pub returns-in_err-read-clause-state : goal.returns-in_err-read-clause-state
 returns-in_err-read-clause-state g c =
     full_state g.C.Exclusion.core c.args.register c.in-Inside.number c.args.self.now _ c.self.view_is (sym c.phase.ensures.value ∙ c.in-Inside.is) (omega arith)

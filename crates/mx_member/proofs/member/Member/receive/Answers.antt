@@ -1,17 +1,120 @@
-use Rattle.std.proofs.Common.{◌≡◌, ◌∙◌, ◌++◌, inl, Ok, refl, sym, ap, subst, arith}
+use Rattle.std.proofs.Common.{ℕ, ◌≡◌, ◌≤◌, ◌<◌, ◌↔◌, ◌∙◌, ◌++◌, Result, Ok, Err, inl, refl, sym, ap, subst, arith}
 use Rattle.mx_journal.specs.Agreement.{IsConsistent}
 use Rattle.mx_journal.specs.Bases.{BaseState}
 use Rattle.mx_journal.specs.Records.{IsNumbered}
 use Rattle.mx_journal.specs.Settled.{JournalState, beyond}
 use Rattle.mx_registers.specs.Based.{registers_from}
+use Rattle.mx_member.specs.declared.faults.DeliverFault.{DeliverFault}
+use Rattle.mx_member.specs.declared.faults.DeliverFault.TheVariants.{Conflict, Memory, Stranger}
+use Rattle.mx_member.specs.declared.parcel.Parcel.{Parcel}
 use Rattle.mx_member.specs.declared.parcel.Parcel.TheVariants.{Guard, Want, Base, Records}
 use Rattle.mx_member.specs.Faults.{base_fault_of, fault_of}
-use Rattle.mx_member.specs.Member.{IsViewOf}
-use Rattle.mx_member.proofs.Refusing.{is_err}
-use Rattle.mx_member.proofs.Delivering.{Tells, base_tells, based_tells, fault_known, fault_told, letter_tells, put_tells, stranger_tells, told, want_tells}
+use Rattle.mx_member.specs.Member.{BringsRecords, IsViewOf}
+use Rattle.mx_member.specs.Steps.{IsDisputed}
+use Rattle.mx_member.proofs.Refusing.{is_err, no_ok, where_err}
+use Rattle.mx_member.proofs.Delivering.{Tells, base_fault_known, base_tells, based_tells, fault_known, fault_told, letter_tells, put_tells, stranger_tells, told, want_tells}
 use Rattle.mx_member.proofs.Keeping.{shown_all}
-use Rattle.mx_member.proofs.member.Member.receive.Given.{Over}
 use Rattle.mx_member.proofs.member.Member.receive.Goals as goal
+
+-- what an answer says of strangers, and of memory
+abbrev taken : Result (Unit {0}) DeliverFault
+taken = Ok tt
+
+abbrev refused : DeliverFault → Result (Unit {0}) DeliverFault
+refused fault = Err fault
+
+taken_known : (nodes from : ℕ) → from < nodes → (taken ≡ Err Stranger) ↔ (nodes ≤ from)
+taken_known nodes from l = ((λ e. absurd (let bad : ⊥ = cc in bad)), λ h. absurd (omega arith))
+
+taken_remembers : {P : Type 0} → taken ≡ Err Memory → P
+taken_remembers e = absurd (let bad : ⊥ = cc in bad)
+
+stranger_known : (nodes from : ℕ) → nodes ≤ from → (refused Stranger ≡ Err Stranger) ↔ (nodes ≤ from)
+stranger_known nodes from l = ((λ _. l), (λ _. refl))
+
+stranger_disputes : {M : Type 0} (n nodes from : ℕ) (parcel : Parcel M) (journal : JournalState) → nodes ≤ from → (refused Stranger ≡ Err (Conflict n)) ↔ ((from < nodes) × IsDisputed n parcel journal)
+stranger_disputes n nodes from parcel journal l = ((λ e. absurd (let bad : ⊥ = cc in bad)), λ h. absurd (let k = h.0 in omega arith))
+
+stranger_remembers : {P : Type 0} → refused Stranger ≡ Err Memory → P
+stranger_remembers e = absurd (let bad : ⊥ = cc in bad)
+
+pub returns-then-get-self-clause-stranger : goal.returns-then-get-self-clause-stranger
+returns-then-get-self-clause-stranger g c =
+    let nodes : c.self.inside.nodes ≡ c.args.self.now.setting.nodes = ap (λ m. m.setting.nodes) c.self.view_is in
+    stranger_known c.args.self.now.setting.nodes c.args.from (omega (arith, nodes))
+
+pub returns-then-get-self-clause-conflict : goal.returns-then-get-self-clause-conflict
+returns-then-get-self-clause-conflict g c = λ n.
+    let nodes : c.self.inside.nodes ≡ c.args.self.now.setting.nodes = ap (λ m. m.setting.nodes) c.self.view_is in
+    stranger_disputes n c.args.self.now.setting.nodes c.args.from c.args.parcel.now c.args.self.now.journal (omega (arith, nodes))
+
+pub returns-then-get-self-clause-memory : goal.returns-then-get-self-clause-memory
+returns-then-get-self-clause-memory g c = λ e. stranger_remembers e
+
+pub take_base-requires-clause-least : goal.take_base-requires-clause-least
+take_base-requires-clause-least g c = c.self.invariant.1
+
+pub take_base-requires-clause-most : goal.take_base-requires-clause-most
+take_base-requires-clause-most g c = c.self.invariant.2
+
+pub returns-in-Guard-clause-stranger : goal.returns-in-Guard-clause-stranger
+returns-in-Guard-clause-stranger g c =
+    let nodes : c.self.inside.nodes ≡ c.args.self.now.setting.nodes = ap (λ m. m.setting.nodes) c.self.view_is in
+    taken_known c.args.self.now.setting.nodes c.args.from (omega (arith, nodes))
+
+pub returns-in-Guard-clause-memory : goal.returns-in-Guard-clause-memory
+returns-in-Guard-clause-memory g c = λ e. taken_remembers e
+
+pub returns-in-Want-clause-stranger : goal.returns-in-Want-clause-stranger
+returns-in-Want-clause-stranger g c =
+    let nodes : c.self.inside.nodes ≡ c.args.self.now.setting.nodes = ap (λ m. m.setting.nodes) c.self.view_is in
+    taken_known c.args.self.now.setting.nodes c.args.from (omega (arith, nodes))
+
+pub returns-in-Want-clause-memory : goal.returns-in-Want-clause-memory
+returns-in-Want-clause-memory g c = λ e. taken_remembers e
+
+pub returns-in_ok-take_base-in-Base-clause-stranger : goal.returns-in_ok-take_base-in-Base-clause-stranger
+returns-in_ok-take_base-in-Base-clause-stranger g c =
+    let nodes : c.self.inside.nodes ≡ c.args.self.now.setting.nodes = ap (λ m. m.setting.nodes) c.self.view_is in
+    taken_known c.args.self.now.setting.nodes c.args.from (omega (arith, nodes))
+
+pub returns-in_ok-take_base-in-Base-clause-memory : goal.returns-in_ok-take_base-in-Base-clause-memory
+returns-in_ok-take_base-in-Base-clause-memory g c = λ e. taken_remembers e
+
+pub returns-in_ok-put_all-in-Records-clause-stranger : goal.returns-in_ok-put_all-in-Records-clause-stranger
+returns-in_ok-put_all-in-Records-clause-stranger g c =
+    let nodes : c.self.inside.nodes ≡ c.args.self.now.setting.nodes = ap (λ m. m.setting.nodes) c.self.view_is in
+    taken_known c.args.self.now.setting.nodes c.args.from (omega (arith, nodes))
+
+pub returns-in_ok-put_all-in-Records-clause-memory : goal.returns-in_ok-put_all-in-Records-clause-memory
+returns-in_ok-put_all-in-Records-clause-memory g c = λ e. taken_remembers e
+
+pub returns-in_err-take_base-in-Base-clause-stranger : goal.returns-in_err-take_base-in-Base-clause-stranger
+returns-in_err-take_base-in-Base-clause-stranger g c =
+    let is = is_err c.from_residual.result (base_fault_of c.in_err-take_base-in-Base.field-0.0) c.from_residual.ensures.1 in
+    let nodes : c.self.inside.nodes ≡ c.args.self.now.setting.nodes = ap (λ m. m.setting.nodes) c.self.view_is in
+    ((λ e. absurd (base_fault_known c.in_err-take_base-in-Base.field-0.0 (sym is ∙ e))), (λ h. absurd (omega (arith, nodes, h))))
+
+pub returns-in_err-put_all-in-Records-clause-memory : goal.returns-in_err-put_all-in-Records-clause-memory
+returns-in_err-put_all-in-Records-clause-memory g c = λ _. subst (λ p. BringsRecords p) (sym c.in-Records.is) tt
+
+pub returns-in_err-take_base-in-Base-clause-state : goal.returns-in_err-take_base-in-Base-clause-state
+returns-in_err-take_base-in-Base-clause-state g c = no_ok _ c.from_residual.result (base_fault_of c.in_err-take_base-in-Base.field-0.0) (is_err c.from_residual.result (base_fault_of c.in_err-take_base-in-Base.field-0.0) c.from_residual.ensures.1)
+
+pub returns-in_err-take_base-in-Base-clause-letters : goal.returns-in_err-take_base-in-Base-clause-letters
+returns-in_err-take_base-in-Base-clause-letters g c = no_ok _ c.from_residual.result (base_fault_of c.in_err-take_base-in-Base.field-0.0) (is_err c.from_residual.result (base_fault_of c.in_err-take_base-in-Base.field-0.0) c.from_residual.ensures.1)
+
+pub returns-in_err-take_base-in-Base-clause-quiet : goal.returns-in_err-take_base-in-Base-clause-quiet
+returns-in_err-take_base-in-Base-clause-quiet g c = where_err c.from_residual.result c.requires
+
+pub returns-in_err-put_all-in-Records-clause-state : goal.returns-in_err-put_all-in-Records-clause-state
+returns-in_err-put_all-in-Records-clause-state g c = no_ok _ c.from_residual-in_err-put_all-in-Records.result (fault_of c.in_err-put_all-in-Records.field-0.0) (is_err c.from_residual-in_err-put_all-in-Records.result (fault_of c.in_err-put_all-in-Records.field-0.0) c.from_residual-in_err-put_all-in-Records.ensures.1)
+
+pub returns-in_err-put_all-in-Records-clause-letters : goal.returns-in_err-put_all-in-Records-clause-letters
+returns-in_err-put_all-in-Records-clause-letters g c = no_ok _ c.from_residual-in_err-put_all-in-Records.result (fault_of c.in_err-put_all-in-Records.field-0.0) (is_err c.from_residual-in_err-put_all-in-Records.result (fault_of c.in_err-put_all-in-Records.field-0.0) c.from_residual-in_err-put_all-in-Records.ensures.1)
+
+pub returns-in_err-put_all-in-Records-clause-quiet : goal.returns-in_err-put_all-in-Records-clause-quiet
+returns-in_err-put_all-in-Records-clause-quiet g c = where_err c.from_residual-in_err-put_all-in-Records.result c.requires
 
 pub returns-then-get-self-clause-taken : goal.returns-then-get-self-clause-taken
 returns-then-get-self-clause-taken g c =

@@ -1,7 +1,6 @@
 use Rattle.std.proofs.Common.{subst}
 use Rattle.mx_journal.specs.Bases.{AreCellsOf, BaseState}
 use Rattle.mx_member.proofs.Settling.{settled_over, settles, shown_settled}
-use Rattle.mx_member.proofs.member.Member.settle.Given.{Over}
 use Rattle.mx_member.proofs.member.Member.settle.Goals as goal
 
 pub invariant_of-self : goal.invariant_of-self
