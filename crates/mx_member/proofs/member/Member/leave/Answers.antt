@@ -71,7 +71,7 @@ pub returns-clause-state : goal.returns-clause-state
 returns-clause-state g c =
     left_state g.C.Exclusion.core c.args.self.now _ c.in-Inside.number c.self.view_is (sym c.phase.ensures.value ∙ c.in-Inside.is) _ _ _ c.leave.ensures.state
     (c.in_ok-keep.ensures.ok ∙ ap (λ (e : Record). with_list (e ∷ []) c.self.inside.journal) (c.to_record.ensures ∙ ap (λ (r : Receipt). record_of r) c.close-receipt.ensures.value))
-    cc
+    c.clear.ensures
 
 pub returns-clause-answer : goal.returns-clause-answer
 returns-clause-answer g c =
