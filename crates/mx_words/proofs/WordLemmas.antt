@@ -20,7 +20,7 @@ use Rattle.clap.proofs.WalkLemmas.{one_text-rows}
 use Rattle.clap.proofs.ValueTestLemmas.{Accepts-accepts, accepts-Accepts}
 use Rattle.clap.specs.Faults.{fault_of, is_simple_and_free}
 use Rattle.clap.proofs.OnLiterals.{clap_on_literals}
-use Rattle.mx_words.specs.Words.{IsArgument, IsCommand, IsReadable, asked_of, mx_app, needed, number_at, number_of, task_asked, task_in, where_none}
+use Rattle.mx_words.specs.Words.{AddsMade, IsArgument, IsCommand, IsReadable, asked_of, mx_app, needed, number_at, number_of, task_asked, task_in, where_none}
 
 -- ---- numbers
 
@@ -71,6 +71,11 @@ module _ {before : Command} {app : App} {argument : Arg} {rule : Rule} where
 -- a command line with one more command
 pub with_command : {before after command : Command} {line app : App} → app_of before ≡ line → IsCommand app command → AddsSubcommand before command after → app_of after ≡ with_subcommand line app.top
 with_command e h adds = adds.shape h.local ∙ ap₂ with_subcommand e (ap (λ (a : App). a.top) h.app)
+
+-- the same of a command that was made
+pub with_made : (before after : Command) (made : Result Command AllocError) {line : App} (app : App) → app_of before ≡ line → IfOk made (IsCommand app) → AddsMade before made after → app_of after ≡ with_subcommand line app.top
+with_made before after (Ok command) app e h adds = with_command e h adds
+with_made before after (Err error) app e h adds = absurd adds
 
 -- ---- a parse
 

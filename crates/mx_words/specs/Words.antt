@@ -1,10 +1,11 @@
 -- What the words of a command line ask for, as `clap` reads them.
-use Rattle.std.specs.Prelude.{◌≡◌, ◌≢◌, ◌⊎◌, ℕ, Bool, List, [], ◌∷◌, Option, Some, None, true, false, codes, map, if◌then◌else◌, option_map, option_and_then}
+use Rattle.std.specs.Prelude.{◌≡◌, ◌≢◌, ◌⊎◌, ℕ, Bool, List, [], ◌∷◌, Option, Some, None, true, false, codes, map, if◌then◌else◌, option_map, option_and_then, Result, Ok, Err}
+use Rattle.std.specs.declared.alloc.AllocError.{AllocError}
 use Rattle.std.specs.Borrow.{Bor}
 use Rattle.std.specs.Option.{option_map_or}
 use Rattle.std.specs.Str.{bytes_eq}
 use Rattle.std.specs.Str.Parse.{digits_value, without_leading_plus}
-use Rattle.clap.specs.Words.{App, Row, Rule, Text, app_of, first_of, is_simple, one_of, new_app, new_rule, rule_of, subcommand_of, with_rule, with_subcommand}
+use Rattle.clap.specs.Words.{AddsSubcommand, App, Row, Rule, Text, app_of, first_of, is_simple, one_of, new_app, new_rule, rule_of, subcommand_of, with_rule, with_subcommand}
 use Rattle.clap.specs.Faults.{fault_of, is_simple_and_free}
 use Rattle.clap.specs.Kinds.{Kinds, IsAmong}
 use Rattle.clap.specs.ValueTests.{is_unsigned_in}
@@ -86,6 +87,11 @@ mx_start = let a = new_app (codes "mx") in record a { top = record a.top { no_bi
 -- the command line with this subcommand alone
 abbrev pub line_with : App → App
 line_with app = with_subcommand mx_start app.top
+
+-- the subcommand was made, and the second command line is the first with it added
+abbrev pub AddsMade : Command → Result Command AllocError → Command → Type 0
+AddsMade before (Ok command) after = AddsSubcommand before command after
+AddsMade before (Err e) after = ⊥
 
 -- what the words of the command line ask for, and what is wrong with them, follows from the words alone
 pub record IsReadable (line : App) : Type 0 where

@@ -2,7 +2,7 @@
 
 ghost use Rattle.std.specs.Prelude.{◌≡◌, [], IfOk, IfErr};
 ghost use Rattle.clap.specs.Words.{app_of, fault_of, new_app, subcommand_of, subcommand_rows_of, HasKind};
-ghost use Rattle.mx_words.specs.Words.{line_with, mx_start, texts_of, HasNoGlobals, IsCommand, IsReadable};
+ghost use Rattle.mx_words.specs.Words.{line_with, mx_start, texts_of, AddsMade, HasNoGlobals, IsCommand, IsReadable};
 
 use crate::help;
 use clap::{ArgMatches, Command, Error};
@@ -28,6 +28,16 @@ pub fn line_of<'a>(alloc: Global, command: Command<'a>) -> Result<Command<'a>, A
     ensures { IfOk result (λ line. app_of line ≡ line_with (app_of command.entry)) }
 {
     command_line(alloc)?.subcommand(command)
+}
+
+/// The command line with one more subcommand, where that was made.
+pub(crate) fn with_made<'a>(
+    line: Command<'a>,
+    command: Result<Command<'a>, AllocError>,
+) -> Result<Command<'a>, AllocError>
+    ensures { IfOk result (AddsMade line.entry command.entry) }
+{
+    line.subcommand(command?)
 }
 
 /// A subcommand that has no argument yet, with what its help says and the example there.

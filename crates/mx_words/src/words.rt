@@ -8,7 +8,7 @@ ghost use Rattle.mx_words.specs.Words.{task_asked, task_in, task_of, texts_of};
 
 use crate::arguments::{events_arg, plan_arg, seed_arg, steps_arg};
 use crate::help;
-use crate::line::{bare_command, command_line, matches_in};
+use crate::line::{bare_command, command_line, matches_in, with_made};
 use clap::{ArgMatches, Command, Error};
 use std::alloc::{AllocError, Global};
 
@@ -66,9 +66,9 @@ fn mx_command<'a>(alloc: Global) -> Result<Command<'a>, AllocError>
     ensures { IfOk result (λ command. app_of command ≡ mx_app) }
 {
     let begun = command_line(alloc)?.after_help(help::MX_EXAMPLE);
-    let with_check = begun.subcommand(check_command(alloc)?)?;
-    let with_replay = with_check.subcommand(replay_command(alloc)?)?;
-    with_replay.subcommand(explore_command(alloc)?)
+    let with_check = with_made(begun, check_command(alloc))?;
+    let with_replay = with_made(with_check, replay_command(alloc))?;
+    with_made(with_replay, explore_command(alloc))
 }
 
 /// What the words ask for. Their faults are those of `clap`, and words that ask for help or for the
