@@ -1,7 +1,7 @@
 //! What a station does to its node: each act is one event of it, and one store to its word. A
 //! refused act stores nothing.
 
-ghost use Rattle.std.specs.Prelude.{◌≡◌, ◌<◌, ◌↔◌, [], Err, IfOk, MatchBool, Ok, OnErr, OnOk};
+ghost use Rattle.std.specs.Prelude.{◌≡◌, ◌<◌, ◌↔◌, ◌++◌, [], ◌∷◌, Err, IfOk, MatchBool, Ok, OnErr, OnOk};
 ghost use Rattle.std.specs.Vec.{vec_capacity, vec_len};
 ghost use Rattle.mx_nodelaws.specs.Core.{IsInside};
 ghost use Rattle.mx_member.specs.Steps.{ask_of, cancel_of, enter_of, leave_of, read_of, settle_of, write_of};
@@ -15,7 +15,8 @@ use crate::field::act;
 use crate::station::Station;
 use crate::waiting::store_up;
 use mx_journal::{Receipt, SettleFault};
-use mx_member::{Act, Answer, CloseFault, Parcel, ReadFault, WriteFault, perform};
+use mx_letters::Outbox;
+use mx_member::{Act, Answer, CloseFault, Member, Parcel, ReadFault, WriteFault, perform};
 use mx_nodelaws::{AskFault, CancelFault, EnterFault, Exclusion, Phase};
 use mx_stamps::{NodeId, Stamp};
 use std::alloc::AllocError;
@@ -135,7 +136,6 @@ impl<C: Exclusion> Station<C> {
     }
 
     /// Leaves the section. Its record joins the journal, and its receipt those of this station.
-    /// Memory is asked for before anything changes.
     pub fn leave(&mut self) -> Result<Receipt, CloseFault>
         ensures not_inside { (result ≡ Err CloseFault.NotInside)
             ↔ (IsInside C.core self.old.me.member.core → ⊥) }
@@ -146,13 +146,7 @@ impl<C: Exclusion> Station<C> {
             × (self.new ≡ self.old) }
         ensures refused { OnErr result (self.new ≡ self.old) }
     {
-        let Phase::Inside(_) = self.member.phase() else {
-            return Err(CloseFault::NotInside);
-        };
-        make_room(&mut self.receipts)?;
-        self.out.clear();
-        let receipt = self.member.leave(&mut self.out)?;
-        self.receipts.push_reserved(receipt.copy());
+        let receipt = close(&mut self.member, &mut self.receipts, &mut self.out)?;
         tell!(self);
         Ok(receipt)
     }
@@ -196,6 +190,34 @@ impl<C: Exclusion> Station<C> {
         tell!(self);
         Ok(answer)
     }
+}
+
+/// Leaves the section of a member, whose receipt joins the others. Memory is asked for before
+/// anything changes.
+fn close<C: Exclusion>(
+    member: &mut Member<C>,
+    receipts: &mut Vec<Receipt>,
+    out: &mut Outbox<Parcel<C::Msg>>,
+) -> Result<Receipt, CloseFault>
+    ensures not_inside { (result ≡ Err CloseFault.NotInside)
+        ↔ (IsInside C.core member.old.core → ⊥) }
+    ensures memory { result ≡ Err CloseFault.Memory → IsInside C.core member.old.core }
+    ensures answer { IfOk result (λ receipt. (leave_of C.core member.old).answer ≡ Ok receipt) }
+    ensures state { OnOk result (member.new ≡ (leave_of C.core member.old).state) }
+    ensures letters { OnOk result (out.new ≡ (leave_of C.core member.old).letters) }
+    ensures receipts { IfOk result (λ receipt.
+        receipts.new.items ≡ receipts.old.items ++ receipt ∷ []) }
+    ensures kept { OnErr result ((member.new ≡ member.old)
+        × (receipts.new.items ≡ receipts.old.items)) }
+{
+    let Phase::Inside(_) = member.phase() else {
+        return Err(CloseFault::NotInside);
+    };
+    make_room(receipts)?;
+    out.clear();
+    let receipt = member.leave(out)?;
+    receipts.push_reserved(receipt.copy());
+    Ok(receipt)
 }
 
 /// Whether a member refused what it was asked.

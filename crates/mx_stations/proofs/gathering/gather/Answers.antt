@@ -1,4 +1,4 @@
-use Rattle.std.proofs.Common.{rules, Err, subst, ap}
+use Rattle.std.proofs.Common.{rules, refl, Err, subst, ap}
 use Rattle.mx_stations.specs.declared.gathering.GatherFault.TheVariants.{Memory}
 use Rattle.mx_stations.specs.Gathered.{Disagree, IsReady, IsTogether, IsWhole, Refuses, owned_in}
 use Rattle.mx_stations.proofs.Deciding.{gathered_ready, never_empty, not_inside, not_missing, refused_inside, refused_missing, refused_ready}
@@ -60,3 +60,9 @@ returns-in-Ok-clause-still_inside g c =
 pub returns-in-Ok-clause-ready : goal.returns-in-Ok-clause-ready
 returns-in-Ok-clause-ready g c =
     gathered_ready g.C.Exclusion.core _ (subst (IsReady g.C.Exclusion.core) c.as_slice.ensures.value c.in_default.ensures.none)
+
+pub returns-in-Some-clause-kept : goal.returns-in-Some-clause-kept
+returns-in-Some-clause-kept g c = refl
+
+pub returns-in-Err-Memory-clause-kept : goal.returns-in-Err-Memory-clause-kept
+returns-in-Err-Memory-clause-kept g c = refl

@@ -1,7 +1,7 @@
-use Rattle.std.proofs.Common.{◌≡◌, Bool, true, false}
+use Rattle.std.proofs.Common.{rules, ◌≡◌, Bool, true, false}
 use Rattle.atomic_table.proofs.Lists.{at_index}
 use Rattle.mx_nodelaws.specs.Core.{IsInside}
-use Rattle.mx_stations.proofs.Gathers.{below_more, below_all}
+use Rattle.mx_stations.proofs.Gathers.{below_more, below_all, below_none}
 use Rattle.mx_stations.proofs.gathering.has_inside.Goals as goal
 use Rattle.mx_stations.proofs.gathering.has_inside.Goals.{else-is_of-via-then-is_of+else-is_inside, else-is_of-via-else-is_of}
 
@@ -22,3 +22,12 @@ loop-station-preserved g c =
 
 pub returns : goal.returns
 returns g c = below_all (λ s. s.me.node ≡ c.args.node → IsInside g.C.Exclusion.core s.me.member.core → ⊥) _ _ c.loop-station.invariant c.loop-station-test.false
+
+pub is_of-requires : goal.is_of-requires
+is_of-requires g c = search rules
+
+pub is_inside-requires : goal.is_inside-requires
+is_inside-requires g c = search rules
+
+pub loop-station-init : goal.loop-station-init
+loop-station-init g c = below_none _ _

@@ -51,9 +51,9 @@ loop-index-preserved g c =
     let own = c.split_seat-own.ensures in
     let node = c.in-Some.ensures.value in
     let left : suc first.1.0 ≡ i.2.0 = (let a = first.1.1 in let b = i.2.1 in omega arith) in (
-      search rules,
-      search rules,
-      (first.1.0, first.1.1, search (rules, first.1.2), c.remove.ensures.items ∙ out.1 first.1.0 left),
+      own.0 ∙ i.0,
+      i.1,
+      (first.1.0, first.1.1, own.2 ∙ (λ j. (first.1.2 j, (i.2.2 j).1)), c.remove.ensures.items ∙ out.1 first.1.0 left),
       one_more starts n _ k _ _ _ _ i.3 c.reserve.ensures.items c.push_reserved.ensures.items (search rules) (search rules)
           (opened starts k _ _ c.remove.result c.new.result.items (own.4 ∙ ap (λ v. (v, [])) first.0) node out.0 c.new.ensures.items).1 c.new-in-loop-index-2.ensures,
     )

@@ -1,4 +1,4 @@
-use Rattle.std.proofs.Common.{arith, rules, subst, ◌∙◌}
+use Rattle.std.proofs.Common.{arith, ap, subst, ◌∙◌}
 use Rattle.mx_stations.specs.Together.{RunTogether}
 use Rattle.mx_stations.proofs.Seats.{joins, splits}
 use Rattle.mx_stations.proofs.Tells.{parted}
@@ -11,18 +11,18 @@ split_seat-mine-requires g c =
 
 pub join_seat-requires : goal.join_seat-requires
 join_seat-requires g c =
-    let f = c.args.field.now in let X = g.C.Exclusion in
-    (search rules, search rules, search rules, omega (arith, f.words, f.some), joins X.core X.Good _ _ _ _ _)
+    let f = c.args.field.now in let X = g.C.Exclusion in let r = c.requires in let s = c.split_seat-mine.ensures in
+    (r.same_table ∙ r.table, s.3 ∙ r.table, ap (λ m. m.1) s.4, omega (arith, f.words, f.some), joins X.core X.Good _ _ _ _ _)
 
 pub split_seat-mine-requires-2 : goal.split_seat-mine-requires-2
 split_seat-mine-requires-2 g c =
-    let f = c.args.field.now in let X = g.C.Exclusion in
-    (search rules, omega (arith, f.words, f.some), splits X.core X.Good _ _ _)
+    let f = c.args.field.now in let X = g.C.Exclusion in let r = c.requires in
+    (c.see.ensures.same.0 ∙ c.join_seat.ensures.0 ∙ r.same_table ∙ r.table, omega (arith, f.words, f.some), splits X.core X.Good _ _ _)
 
 pub join_seat-requires-2 : goal.join_seat-requires-2
 join_seat-requires-2 g c =
-    let f = c.args.field.now in let X = g.C.Exclusion in
-    (search rules, search rules, search rules, omega (arith, f.words, f.some), joins X.core X.Good _ _ _ _ _)
+    let f = c.args.field.now in let X = g.C.Exclusion in let r = c.requires in let t = c.split_seat-mine-2.ensures in
+    (c.split_seat-mine.ensures.0 ∙ r.table, t.3 ∙ c.see.ensures.same.0 ∙ c.join_seat.ensures.0 ∙ r.same_table ∙ r.table, ap (λ m. m.1) t.4, omega (arith, f.words, f.some), joins X.core X.Good _ _ _ _ _)
 
 pub returns-clause-one : goal.returns-clause-one
 returns-clause-one g c =

@@ -1,4 +1,4 @@
-use Rattle.std.proofs.Common.{refl, sym}
+use Rattle.std.proofs.Common.{rules, refl, sym}
 use Rattle.mx_stations.proofs.Endings.{done_not_yet, done_shut, not_yet_shut, same_turns, shut_done, shut_not_yet}
 use Rattle.mx_stations.proofs.Leaving.{turn_works}
 use Rattle.mx_stations.proofs.Toils.{rests, works_on}
@@ -54,3 +54,9 @@ returns-clause-not_yet g c = λ n ended. same_turns c.args.turns n ended
 
 pub returns-clause-shut : goal.returns-clause-shut
 returns-clause-shut g c = λ shut. absurd (not_yet_shut c.args.turns shut)
+
+pub take_turn-requires : goal.take_turn-requires
+take_turn-requires g c = search rules
+
+pub is_finished-requires : goal.is_finished-requires
+is_finished-requires g c = search rules

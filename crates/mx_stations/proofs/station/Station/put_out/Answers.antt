@@ -1,8 +1,8 @@
 use Rattle.std.proofs.Common.{refl, sym, ap, ◌∙◌, inl, subst, ℕ, ◌<◌}
 use Rattle.std.specs.Arc.{arc_value}
 use Rattle.mx_stations.specs.Links.{slot_at}
-use Rattle.mx_stations.specs.Posts.{sent_in, Waits}
-use Rattle.mx_stations.proofs.Posts.{same_seat}
+use Rattle.mx_stations.specs.Posts.{post, sent_in, shown, Waits}
+use Rattle.mx_stations.proofs.Posts.{idle, same_seat}
 use Rattle.mx_stations.proofs.Crossing.{fills, placed_seat, placed_waits, put_sent, put_full, turned_waits}
 use Rattle.mx_stamps.specs.Lists.{IsIn}
 use Rattle.mx_stations.proofs.station.Station.put_out.Goals as goal
@@ -53,3 +53,20 @@ pub invariant_of-self : goal.invariant_of-self
 invariant_of-self g c =
     let i = c.self.invariant in let p = c.self.inside in
     (i.0, i.1, i.2, subst (λ w. Waits (arc_value p.field).nodes (sent_in p.seat.me.0) w.items) (sym c.in_default.ensures.none.1) i.3)
+
+pub claim_empty-requires-clause-table : goal.claim_empty-requires-clause-table
+claim_empty-requires-clause-table g c = c.self.invariant.0 ∙ sym (ap (λ f. f.board.shared.table_id) c.deref-field.ensures)
+
+pub claim_empty-requires-clause-idle : goal.claim_empty-requires-clause-idle
+claim_empty-requires-clause-idle g c = idle _ _ _ _ _ c.self.invariant.1
+
+pub place-requires-clause-table : goal.place-requires-clause-table
+place-requires-clause-table g c = c.in-Some-claim_empty.ensures.same.0 ∙ c.self.invariant.0 ∙ sym (ap (λ f. f.board.shared.table_id) c.deref-field.ensures)
+
+pub place-requires-clause-index : goal.place-requires-clause-index
+place-requires-clause-index g c = c.in-Some-claim_empty.ensures.some.0
+
+pub returns-in_default : goal.returns-in_default
+returns-in_default g c =
+    let p = c.self.inside in let n = c.in_default.ensures.none in
+    (ap (λ s. s.waiting) (sym c.self.view_is) ∙ n.0, ap (λ w. post p.seat.table_id (arc_value p.field).nodes (shown p.node p.member p.hand p.receipts.items p.seat.me.0) w.items) n.1 ∙ c.self.view_is)

@@ -1,6 +1,6 @@
 use Rattle.std.proofs.Common.{sym, ap, ◌∙◌, subst, ℕ, ◌<◌}
 use Rattle.std.specs.Arc.{arc_value}
-use Rattle.mx_stations.specs.Posts.{Waits, sent_in}
+use Rattle.mx_stations.specs.Posts.{Waits, post, sent_in, shown}
 use Rattle.mx_stations.proofs.Posts.{same_seat}
 use Rattle.mx_stations.proofs.Tells.{even_beside, own_word, seen_by}
 use Rattle.mx_stations.proofs.station.Station.status.Goals as goal
@@ -25,3 +25,13 @@ pub returns-clause-alone : goal.returns-clause-alone
 returns-clause-alone g c =
     let X = g.C.Exclusion in let laws = g.met.C.Exclusion in
     even_beside X.core X.IsShape X.Good laws.laws _ _ _ (seen_by X.core X.Good _ _ _ _ _ _ c.get.ensures.value (ap (λ m. m.0) c.self.invariant.1) (ap (λ s. s.me) c.self.view_is) c.see.ensures.seen)
+
+pub returns-clause-same : goal.returns-clause-same
+returns-clause-same g c =
+    let n = c.see.ensures in let p = c.self.inside in
+    (λ j. post (n.same.0 j) (arc_value p.field).nodes (shown p.node p.member p.hand p.receipts.items (n.same.1 j).0) p.waiting.items) ∙ c.self.view_is
+
+pub returns-clause-shows : goal.returns-clause-shows
+returns-clause-shows g c =
+    let X = g.C.Exclusion in
+    seen_by X.core X.Good _ _ _ _ _ _ c.get.ensures.value (ap (λ m. m.0) c.self.invariant.1) (ap (λ s. s.me) c.self.view_is) c.see.ensures.seen

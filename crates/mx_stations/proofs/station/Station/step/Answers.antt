@@ -1,4 +1,4 @@
-use Rattle.std.proofs.Common.{rules, sym, ap, ◌∙◌, subst, ◌≡◌, [], ◌∷◌, ◌++◌, append-nil}
+use Rattle.std.proofs.Common.{rules, Result, Ok, Err, IfOk, IsErrAnd, sym, ap, ◌∙◌, subst, ◌≡◌, [], ◌∷◌, ◌++◌, append-nil}
 use Rattle.std.specs.Arc.{arc_value}
 use Rattle.mx_member.specs.Acts.{IsDoable, IsRefusal, NeedsMemory, act_of}
 use Rattle.mx_member.specs.Receipts.{closed_by}
@@ -7,6 +7,10 @@ use Rattle.mx_stations.specs.Posts.{after_act, left_in, post, shown}
 use Rattle.mx_stations.specs.Running.{GoToNodes, MayDo}
 use Rattle.mx_stations.proofs.Posts.{acted_seat, acted_waits, happens, keeps_left, on_err, ready}
 use Rattle.mx_stations.proofs.station.Station.step.Goals as goal
+
+none_ok : {A E : Type 0} (r : Result A E) (fault : E) (P : A → Type 0) → IsErrAnd r (λ e. e ≡ fault) → IfOk r P
+none_ok (Ok a) fault P bad = absurd bad
+none_ok (Err e) fault P is = tt
 
 pub perform-requires : goal.perform-requires
 perform-requires g c = (search rules, (search rules, (c.clear.ensures, subst (λ s. IsDoable c.args.act s.me.member) (sym c.self.view_is) c.requires.doable)))
@@ -59,3 +63,21 @@ returns-clause-done g c = λ told.
     let closes = sym (append-nil _) ∙ ap (λ r. c.self.inside.receipts.items ++ r) (sym (subst (λ s. closed_by (act_of g.C.Exclusion.core c.args.act s.me.member).answer ≡ []) (sym c.self.view_is) c.requires.receipts)) in
     happens g.C.Exclusion.core _ _ c.self.inside.hand _ _ i.1 c.args.act _ _ _ _ _ _ _ _ _ _ _ c.self.view_is n.same.0 n.view c.store_up.ensures a.state a.letters closes
     ∙ ap (λ h. after_act g.C.Exclusion.core c.args.act h c.args.self.now) (c.let_go.ensures ∙ ap (λ s. left_in c.args.again s.me.hand) c.self.view_is)
+
+pub returns-in_err-answer-clause-answer : goal.returns-in_err-answer-clause-answer
+returns-in_err-answer-clause-answer g c = none_ok c.from_residual.result c.in_err-answer.field-0.0 _ c.from_residual.ensures.1
+
+pub returns-in_err-answer-clause-done : goal.returns-in_err-answer-clause-done
+returns-in_err-answer-clause-done g c = none_ok c.from_residual.result c.in_err-answer.field-0.0 _ c.from_residual.ensures.1
+
+pub returns-in_err-answer-clause-refused : goal.returns-in_err-answer-clause-refused
+returns-in_err-answer-clause-refused g c = none_ok c.from_residual.result c.in_err-answer.field-0.0 _ c.from_residual.ensures.1
+
+pub returns-then-is_refusal-clause-answer : goal.returns-then-is_refusal-clause-answer
+returns-then-is_refusal-clause-answer g c = subst (λ s. c.in_ok-answer.answer ≡ (act_of g.C.Exclusion.core c.args.act s.me.member).answer) c.self.view_is c.in_ok-answer.ensures.answer
+
+pub returns-clause-answer : goal.returns-clause-answer
+returns-clause-answer g c = subst (λ s. c.in_ok-answer.answer ≡ (act_of g.C.Exclusion.core c.args.act s.me.member).answer) c.self.view_is c.in_ok-answer.ensures.answer
+
+pub returns-clause-refused : goal.returns-clause-refused
+returns-clause-refused g c = λ refused. absurd (c.if-is_refusal.ensures refused)
