@@ -1,4 +1,4 @@
-use Rattle.std.proofs.Common.{suc, sym, subst, []}
+use Rattle.std.proofs.Common.{rules, suc, sym, subst, []}
 use Rattle.atomic_table.proofs.Lists.{at_index}
 use Rattle.mx_journal.specs.Records.{Ascending}
 use Rattle.mx_journal.specs.Settled.{DoAgree, JournalState}
@@ -36,3 +36,9 @@ loop-station-preserved g c =
 
 pub returns-clause-join : goal.returns-clause-join
 returns-clause-join g c = join_whole c.args.stations.now c.loop-station.station-index c.loop-station.all c.loop-station.invariant.join c.loop-station-test.false
+
+pub journal-requires : goal.journal-requires
+journal-requires g c = search rules
+
+pub returns-clause-ordered : goal.returns-clause-ordered
+returns-clause-ordered g c = c.loop-station.invariant.ordered

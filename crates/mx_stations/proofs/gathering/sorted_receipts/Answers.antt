@@ -21,3 +21,6 @@ returns-clause-each g c =
 pub returns-clause-sorted : goal.returns-clause-sorted
 returns-clause-sorted g c =
     IsNonDecreasingBy-from_sort_by_key (λ (r : Receipt). r.number) _ c.sort_unstable_by_key.ensures.sorted (λ a r q k. search rules)
+
+pub receipts-requires : goal.receipts-requires
+receipts-requires g c = search rules

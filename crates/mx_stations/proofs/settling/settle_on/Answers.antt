@@ -59,3 +59,9 @@ is_finished-requires g c = search rules
 
 pub settle_if_due-requires : goal.settle_if_due-requires
 settle_if_due-requires g c = search rules
+
+pub receipts-before-requires : goal.receipts-before-requires
+receipts-before-requires g c = search rules
+
+pub take_turn-requires : goal.take_turn-requires
+take_turn-requires g c = search rules

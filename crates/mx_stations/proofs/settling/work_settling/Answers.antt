@@ -1,3 +1,4 @@
+use Rattle.std.proofs.Common.{rules}
 use Rattle.mx_stations.proofs.Rounding.{rounds_kept, rounds_never, rounds_node}
 use Rattle.mx_stations.proofs.settling.work_settling.Goals as goal
 
@@ -24,3 +25,6 @@ returns-clause-not_yet g c = c.settle_on-worked.ensures.not_yet
 
 pub returns-clause-shut : goal.returns-clause-shut
 returns-clause-shut g c = c.settle_on-worked.ensures.shut
+
+pub settle_on-worked-requires : goal.settle_on-worked-requires
+settle_on-worked-requires g c = search rules

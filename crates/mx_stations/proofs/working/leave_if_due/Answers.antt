@@ -1,4 +1,4 @@
-use Rattle.std.proofs.Common.{inl, sym, subst}
+use Rattle.std.proofs.Common.{rules, inl, sym, subst}
 use Rattle.mx_stations.specs.Works.{MayLeave}
 use Rattle.mx_stations.proofs.Leaving.{leave_trying}
 use Rattle.mx_stations.proofs.working.leave_if_due.Goals as goal
@@ -15,3 +15,6 @@ returns-else-stance g c =
           (leave_trying g.C.Exclusion.core w.leave.result _ _ w.leave.ensures.done w.leave.ensures.refused)
       | else-stance-via-else-stance w ↦ inl w.station-is
     ]
+
+pub leave-requires : goal.leave-requires
+leave-requires g c = search rules

@@ -11,3 +11,6 @@ want-requires g c = (search rules, subst (λ (n : ℕ). c.node_after-next.result
 
 pub node_after-next-requires : goal.node_after-next-requires
 node_after-next-requires g c = c.count_of.ensures.some
+
+pub count_of-requires : goal.count_of-requires
+count_of-requires g c = search rules

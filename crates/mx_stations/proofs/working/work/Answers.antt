@@ -1,3 +1,4 @@
+use Rattle.std.proofs.Common.{rules}
 use Rattle.mx_stations.proofs.Toils.{works_kept, works_node}
 use Rattle.mx_stations.proofs.working.work.Goals as goal
 
@@ -21,3 +22,6 @@ returns-clause-not_yet g c = c.work_at-worked.ensures.not_yet
 
 pub returns-clause-shut : goal.returns-clause-shut
 returns-clause-shut g c = c.work_at-worked.ensures.shut
+
+pub work_at-worked-requires : goal.work_at-worked-requires
+work_at-worked-requires g c = search rules

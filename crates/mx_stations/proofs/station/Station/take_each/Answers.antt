@@ -1,6 +1,7 @@
 use Rattle.std.proofs.Common.{rules, ◌≡◌, ℕ, true, false, [], refl, ◌∙◌, subst, arith}
 use Rattle.mx_stations.specs.Turns.{TakesFated}
 use Rattle.mx_stations.proofs.Going.{goes_nodes, goes_on, stays}
+use Rattle.mx_stations.proofs.Posts.{on_err}
 use Rattle.mx_stations.proofs.Turning.{few_so_far, one_more_taken}
 use Rattle.mx_stations.proofs.station.Station.take_each.Goals as goal
 
@@ -41,3 +42,9 @@ pub take_fated-requires : goal.take_fated-requires
 take_fated-requires g c =
     let is = c.in-Some.ensures.value in let low = c.loop-index-test.true in let count = c.nodes-index-end.ensures.value in let i = c.loop-index.invariant in
     (search rules, (omega (arith, is, low, count, i.3), i.2))
+
+pub returns-in_err-took-clause-kept : goal.returns-in_err-took-clause-kept
+returns-in_err-took-clause-kept g c = on_err c.from_residual.result _ c.in_err-took.ensures.kept
+
+pub returns-clause-goes : goal.returns-clause-goes
+returns-clause-goes g c = c.loop-index.invariant.1

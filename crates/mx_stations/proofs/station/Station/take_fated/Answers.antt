@@ -29,3 +29,12 @@ returns-in_err-deliver_more-clause-kept g c = on_err c.from_residual.result _ c.
 
 pub fetch_fated-requires : goal.fetch_fated-requires
 fetch_fated-requires g c = (search rules, (c.requires.within, c.requires.empty))
+
+pub deliver_more-requires : goal.deliver_more-requires
+deliver_more-requires g c = search rules
+
+pub deliver-requires : goal.deliver-requires
+deliver-requires g c = search rules
+
+pub returns-in_default-clause-taken : goal.returns-in_default-clause-taken
+returns-in_default-clause-taken g c = c.in_default.ensures

@@ -23,3 +23,9 @@ pub returns-clause-taken : goal.returns-clause-taken
 returns-clause-taken g c =
     let still = match_false _ c.in_ok-deliver.field-0 c.in_ok-deliver.ensures.delivered c.if-branch.false in
     took g.C.Exclusion.core _ _ _ _ _ c.in_ok-deliver-2.field-0 still c.if-not-fetch.ensures c.in_ok-deliver-2.ensures.delivered
+
+pub deliver-requires : goal.deliver-requires
+deliver-requires g c = search rules
+
+pub deliver-requires-2 : goal.deliver-requires-2
+deliver-requires-2 g c = search rules
