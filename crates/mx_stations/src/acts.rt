@@ -136,6 +136,7 @@ impl<C: Exclusion> Station<C> {
     }
 
     /// Leaves the section. Its record joins the journal, and its receipt those of this station.
+    /// Memory is asked for before anything changes.
     pub fn leave(&mut self) -> Result<Receipt, CloseFault>
         ensures not_inside { (result ≡ Err CloseFault.NotInside)
             ↔ (IsInside C.core self.old.me.member.core → ⊥) }
@@ -192,8 +193,7 @@ impl<C: Exclusion> Station<C> {
     }
 }
 
-/// Leaves the section of a member, whose receipt joins the others. Memory is asked for before
-/// anything changes.
+/// Leaves the section of a member, whose receipt joins the others.
 fn close<C: Exclusion>(
     member: &mut Member<C>,
     receipts: &mut Vec<Receipt>,
