@@ -1,12 +1,13 @@
-//! Clusters: events that can't happen, refusals of a node alone, and a section that is full.
+//! Events that can't happen in a cluster, and the calls of a node alone.
 
 use crate::given::node;
-use crate::told::{Told, assert_steps};
-use mx_network::{Cause, Cluster, Event, StepFault};
+use mx_letters::Outbox;
+use mx_network::{Cluster, Event, StepFault};
+use mx_nodelaws::{Exclusion, Phase};
 use mx_ricart::{Count, Ricart};
 use mx_solo::{One, Solo};
-use mx_stamps::{Clock, NodeId};
-use std::alloc::{AllocError, Global};
+use mx_stamps::Clock;
+use std::alloc::Global;
 use std::test::Fail;
 
 /// Two nodes at rest.
@@ -22,71 +23,80 @@ fn drawn_after_five() -> Option<u64> {
     Some(clock.next(node(2))?.number)
 }
 
-#[test]
-fn step_faults_and_clock(rt: HostRuntime) -> Result<(), Fail> {
-    let mut cluster = two_nodes(rt.alloc())?;
-    let cases = [
+/// Whether two nodes that have done nothing refuse what can't happen, each for its fault, and note nothing.
+fn refuse_all(cluster: &mut Cluster<Ricart>) -> bool {
+    for (event, fault) in [
         (Event::Ask(node(2)), StepFault::NoNode),
         (Event::Want(node(0), node(2)), StepFault::NoNode),
         (Event::Deliver(0), StepFault::NoParcel),
-    ];
-    for (event, fault) in &cases {
-        assert_eq!(rt; cluster.step(*event), Err(*fault));
-        assert!(rt; cluster.trace().is_empty());
+    ] {
+        if cluster.step(event).err() != Some(fault) || !cluster.trace().is_empty() {
+            return false;
+        }
     }
+    true
+}
+
+#[test]
+fn step_faults_and_clock(rt: HostRuntime) -> Result<(), Fail> {
+    let all_refused = refuse_all(&mut two_nodes(rt.alloc())?);
+    assert!(rt; all_refused);
     assert_eq!(rt; drawn_after_five(), Some(6));
     Ok(())
 }
 
-#[test]
-fn one_node_acts_alone(rt: HostRuntime) -> Result<(), Fail> {
-    let mut cluster: Cluster<Solo> = Cluster::start(rt.alloc(), &One, 0, 1, 1)?;
-    let a = node(0);
-    let steps = [
-        (Event::Enter(a), Told::Refused(Cause::NotWaiting)),
-        (Event::Cancel(a), Told::Refused(Cause::NotWaiting)),
-        (Event::Ask(a), Told::Asked(0)),
-        (Event::Cancel(a), Told::Cancelled),
-        (Event::Ask(a), Told::Asked(0)),
-        (Event::Ask(a), Told::Refused(Cause::NotIdle)),
-        (Event::Enter(a), Told::Entered(1)),
-        (Event::Cancel(a), Told::Refused(Cause::NotWaiting)),
-        (Event::Tick(a), Told::Sent(0)),
-        (Event::Restart(a), Told::Woken),
-        (Event::Leave(a), Told::Left(1)),
-        (Event::Leave(a), Told::Refused(Cause::NotInside)),
-        (Event::Ask(a), Told::Asked(1)),
-        (Event::Enter(a), Told::Refused(Cause::NumbersSpent)),
-    ];
-    assert_steps(&rt, rt.alloc(), &mut cluster, &[a], &steps)
+/// What a node alone is called for.
+#[derive(Clone, Copy)]
+enum Call {
+    Ask,
+    Enter,
+    Leave,
+    Cancel,
+    Tick,
+    Deliver,
 }
 
-/// A section with eight writes, eight reads, and more than there is room for.
-fn crowded(alloc: Global, a: NodeId) -> Result<Vec<(Event, Told)>, AllocError> {
-    let mut steps = Vec::new(alloc);
-    steps.push((Event::Ask(a), Told::Asked(0)))?;
-    steps.push((Event::Enter(a), Told::Entered(1)))?;
-    for register in 0..8 {
-        steps.push((Event::Write(a, register, 1), Told::Written))?;
-        steps.push((Event::Read(a, register), Told::Value(1)))?;
-    }
-    let more = [
-        (Event::Write(a, 0, 2), Told::Refused(Cause::Full)),
-        (Event::Read(a, 0), Told::Refused(Cause::Full)),
-        (Event::Read(a, 32), Told::Refused(Cause::NoRegister)),
-        (Event::Write(a, 32, 1), Told::Refused(Cause::NoRegister)),
-        (Event::Leave(a), Told::Left(1)),
-        (Event::Read(a, 0), Told::Refused(Cause::NotInside)),
-    ];
-    for step in more {
-        steps.push(step)?;
-    }
-    Ok(steps)
+/// The phase of a node alone after this call, which changes nothing where it is refused.
+fn phase_after(solo: &mut Solo, call: Call) -> Phase {
+    let mut out = Outbox::new();
+    match call {
+        Call::Ask => solo.ask(&mut out).is_ok(),
+        Call::Enter => solo.enter().is_ok(),
+        Call::Leave => solo.leave(&mut out).is_ok(),
+        Call::Cancel => solo.cancel(&mut out).is_ok(),
+        Call::Tick => {
+            solo.tick(&mut out);
+            true
+        }
+        Call::Deliver => {
+            solo.deliver(node(0), 0, &mut out);
+            true
+        }
+    };
+    solo.phase()
 }
 
+/// Calls of a node with one section, each with its phase after it.
+const CALLS: [(Call, Phase); 13] = [
+    (Call::Enter, Phase::Idle),
+    (Call::Cancel, Phase::Idle),
+    (Call::Ask, Phase::Waiting),
+    (Call::Cancel, Phase::Idle),
+    (Call::Ask, Phase::Waiting),
+    (Call::Ask, Phase::Waiting),
+    (Call::Deliver, Phase::Waiting),
+    (Call::Enter, Phase::Inside(1)),
+    (Call::Cancel, Phase::Inside(1)),
+    (Call::Tick, Phase::Inside(1)),
+    (Call::Leave, Phase::Idle),
+    (Call::Ask, Phase::Waiting),
+    (Call::Enter, Phase::Waiting),
+];
+
 #[test]
-fn a_section_has_room_for_eight_of_each(rt: HostRuntime) -> Result<(), Fail> {
-    let mut cluster: Cluster<Solo> = Cluster::start(rt.alloc(), &One, 0, 2, 32)?;
-    let steps = crowded(rt.alloc(), node(0))?;
-    assert_steps(&rt, rt.alloc(), &mut cluster, &[node(0)], steps.as_slice())
+fn one_node_acts_alone(rt: HostRuntime) {
+    let mut solo = Solo::start(&One, node(0), 0, 1);
+    for (k, (call, phase)) in CALLS.iter().enumerate() {
+        assert_eq!(rt; phase_after(&mut solo, *call), *phase, "call {k}");
+    }
 }

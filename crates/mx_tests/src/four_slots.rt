@@ -1,13 +1,12 @@
 //! Two stations whose links have four slots each: what each call answers, and what is gathered.
 
 ghost use Rattle.std.specs.Prelude.{◌≡◌, [], ◌∷◌, IfOk};
-ghost use Rattle.mx_stations.specs.Gathered.{KeepsTable, OfOneTable};
+ghost use Rattle.mx_stations.specs.Gathered.{KeepsTable};
 
 use crate::given::node;
 use crate::stations::two;
 use mx_nodelaws::Exclusion;
-use mx_ricart::Ricart;
-use mx_stations::{GatherFault, PutOut, Station, Taken, gather};
+use mx_stations::{PutOut, Station, Taken, gather};
 use std::alloc::{AllocError, Global};
 use std::process::Abort;
 use std::test::Fail;
@@ -86,23 +85,6 @@ fn assert_calls<C: Exclusion>(
     }
 }
 
-/// The stations that come back where they are not gathered, for this fault.
-fn refused<C: Exclusion>(
-    rt: &impl Abort,
-    alloc: Global,
-    stations: Vec<Station<C>>,
-    fault: GatherFault,
-) -> Result<Vec<Station<C>>, Fail>
-    requires { OfOneTable stations.items }
-    ensures { IfOk result (λ back. back.items ≡ stations.items) }
-{
-    let Err(back) = gather(alloc, stations) else {
-        return Err("gathered")?;
-    };
-    assert_eq!(rt; back.fault, fault);
-    Ok(back.stations)
-}
-
 /// A list of two stations.
 fn pair<C: Exclusion>(
     alloc: Global,
@@ -116,49 +98,6 @@ fn pair<C: Exclusion>(
     all.push_reserved(zero);
     all.push_reserved(one);
     Ok(all)
-}
-
-/// A list of one.
-fn single<C: Exclusion>(alloc: Global, one: Station<C>) -> Result<Vec<Station<C>>, AllocError>
-    ensures { IfOk result (λ all. all.items ≡ one ∷ []) }
-{
-    let mut all = Vec::new(alloc);
-    all.reserve(1)?;
-    all.push_reserved(one);
-    Ok(all)
-}
-
-/// Station 1 alone is not gathered.
-fn alone<C: Exclusion>(rt: &impl Abort, alloc: Global, one: Station<C>) -> Result<Station<C>, Fail>
-    ensures { IfOk result (λ back. back ≡ one) }
-{
-    let stations = single(alloc, one)?;
-    let mut back = refused(rt, alloc, stations, GatherFault::NotAll(node(0)))?;
-    let Some(one) = back.pop() else {
-        return Err("one")?;
-    };
-    Ok(one)
-}
-
-/// Both are not gathered while node 0 is inside.
-fn both<C: Exclusion>(
-    rt: &impl Abort,
-    alloc: Global,
-    zero: Station<C>,
-    one: Station<C>,
-) -> Result<(Station<C>, Station<C>), Fail>
-    requires { KeepsTable zero one }
-    ensures { IfOk result (λ back. (back.0 ≡ zero) × (back.1 ≡ one)) }
-{
-    let stations = pair(alloc, zero, one)?;
-    let mut back = refused(rt, alloc, stations, GatherFault::StillInside(node(0)))?;
-    let Some(one) = back.pop() else {
-        return Err("one")?;
-    };
-    let Some(zero) = back.pop() else {
-        return Err("zero")?;
-    };
-    Ok((zero, one))
 }
 
 /// Both are gathered: one section, of node 0.
@@ -209,11 +148,6 @@ fn stations_four_slots(rt: HostRuntime) -> Result<(), Fail> {
         (0, Call::Enter(1)),
     ];
     assert_calls(&rt, &mut zero, &mut one, &calls);
-    let one = alone(&rt, alloc, one)?;
-    let nobody: Vec<Station<Ricart>> = Vec::new(alloc);
-    let none = refused(&rt, alloc, nobody, GatherFault::NotAll(node(0)))?;
-    assert!(rt; none.is_empty());
-    let (mut zero, one) = both(&rt, alloc, zero, one)?;
     assert_leaves(&rt, &mut zero, 1);
     assert_gathers(&rt, alloc, zero, one)
 }

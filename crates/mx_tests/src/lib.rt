@@ -16,8 +16,6 @@ mod journals;
 #[cfg(test)]
 mod members;
 #[cfg(test)]
-mod merging;
-#[cfg(test)]
 mod plans;
 #[cfg(test)]
 mod registers;
@@ -35,8 +33,6 @@ mod station_calls;
 mod stations;
 #[cfg(test)]
 mod texts;
-#[cfg(test)]
-mod told;
 #[cfg(test)]
 mod verdicts;
 #[cfg(test)]

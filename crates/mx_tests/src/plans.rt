@@ -1,60 +1,86 @@
-//! Plans and events, each with what it is read as, or with its fault.
+//! Plans that are refused, each with its fault. Many more stand in `examples/hostile`.
 
-mod events;
-mod faults;
-mod shapes;
-
-use mx_plan::{Plan, read_plan};
+use mx_plan::{Plan, PlanFault, read_events, read_plan};
 use std::alloc::{AllocError, Global};
-use std::process::Abort;
 use std::test::Fail;
 
 /// The plan of the worked example `first_replay`.
 const FIRST: &str =
     "{\"algorithm\":\"ricart\",\"nodes\":[\"a\",\"b\",\"c\"],\"registers\":[\"count\"],\"sections\":10}";
 
-/// The start of a plan for Maekawa's algorithm: its quorums and `}` follow.
-const MAEKAWA: &str =
-    "{\"algorithm\":\"maekawa\",\"nodes\":[\"a\",\"b\",\"c\"],\"registers\":[\"r\"],\"sections\":10,\"quorums\":";
-
-/// The start of a plan for Raymond's algorithm: its edges, its holder and `}` follow.
-const RAYMOND: &str =
-    "{\"algorithm\":\"raymond\",\"nodes\":[\"a\",\"b\",\"c\"],\"registers\":[\"r\"],\"sections\":10,\"edges\":";
-
-/// The end of a text, and the fault that the whole text has, as it is printed.
+/// A text, and the fault that it has, as it is printed; nothing where it has none.
 type Case = (&'static str, &'static str);
 
-/// Two parts as one text.
-fn joined(alloc: Global, start: &str, end: &str) -> Result<String, AllocError> {
-    let mut text = String::from_str(alloc, start)?;
-    text.push_str(end)?;
-    Ok(text)
-}
+/// Plans of the worked example.
+const PLANS: [Case; 9] = [
+    (FIRST, ""),
+    ("{", "not json"),
+    ("[]", "bad plan: plan"),
+    ("{}", "bad plan: algorithm"),
+    ("{\"algorithm\":\"lamport\"}", "bad plan: algorithm"),
+    (
+        "{\"algorithm\":\"ricart\",\"nodes\":[\"a\",\"a\"],\"registers\":[\"count\"],\"sections\":10}",
+        "double name: nodes",
+    ),
+    (
+        "{\"algorithm\":\"ricart\",\"nodes\":[\"a\",\"b\",\"c\"],\"registers\":[\"count\"],\"sections\":0}",
+        "bad plan: sections",
+    ),
+    (
+        "{\"algorithm\":\"raymond\",\"nodes\":[\"a\",\"b\"],\"registers\":[\"count\"],\"sections\":10,\"edges\":[[\"a\",\"c\"]],\"holder\":\"a\"}",
+        "unknown name: edges",
+    ),
+    (
+        "{\"algorithm\":\"maekawa\",\"nodes\":[\"a\",\"b\",\"c\",\"d\",\"e\",\"f\",\"g\",\"h\"],\"registers\":[\"count\"],\"sections\":10,\"quorums\":{\"kind\":\"plane\"}}",
+        "bad shape: no plane 8",
+    ),
+];
 
-/// The plan of a text.
-fn plan_of(alloc: Global, start: &str, end: &str) -> Result<Plan, Fail> {
-    let text = joined(alloc, start, end)?;
-    Ok(read_plan(alloc, text.as_bytes())?)
-}
+/// Events for the first of them.
+const EVENTS: [Case; 4] = [
+    ("[[\"ask\",\"a\"],[\"deliver\",0]]", ""),
+    ("{}", "bad plan: events"),
+    (
+        "[[\"tick\",\"a\"],[\"ask\"],[\"ask\",\"z\"]]",
+        "bad plan: event 1",
+    ),
+    ("[[\"ask\",\"z\"],[\"ask\"]]", "unknown name: event 0"),
+];
 
-/// Why a text is no plan, as it is printed; nothing where it is one.
-fn refusal(alloc: Global, text: &str) -> Result<String, AllocError> {
-    match read_plan(alloc, text.as_bytes()) {
-        Ok(_) => Ok(String::new(alloc)),
-        Err(fault) => format!(in alloc; "{fault}"),
+/// A fault as it is printed; nothing where there is none.
+fn told(alloc: Global, fault: Option<PlanFault>) -> Result<String, AllocError> {
+    match fault {
+        Some(fault) => format!(in alloc; "{fault}"),
+        None => Ok(String::new(alloc)),
     }
 }
 
-/// Each text with this start has its fault.
-fn assert_refused(
-    rt: &impl Abort,
-    alloc: Global,
-    start: &str,
-    cases: &[Case],
-) -> Result<(), AllocError> {
-    for (end, fault) in cases {
-        let text = joined(alloc, start, *end)?;
-        assert_eq!(rt; refusal(alloc, text.as_str())?.as_str(), *fault, "{text}");
+/// What is wrong with the text of a plan.
+fn plan_fault(alloc: Global, text: &str) -> Option<PlanFault> {
+    read_plan(alloc, text.as_bytes()).err()
+}
+
+/// What is wrong with the text of a list of events.
+fn events_fault(alloc: Global, text: &str, plan: &Plan) -> Option<PlanFault> {
+    read_events(alloc, text.as_bytes(), plan).err()
+}
+
+/// Whether these lists of events have their faults.
+fn are_refused(alloc: Global, plan: &Plan) -> Result<bool, AllocError> {
+    for (text, fault) in &EVENTS {
+        if told(alloc, events_fault(alloc, *text, plan))?.as_str() != *fault {
+            return Ok(false);
+        }
     }
+    Ok(true)
+}
+
+#[test]
+fn plan_and_event_faults(rt: HostRuntime) -> Result<(), Fail> {
+    let alloc = rt.alloc();
+    for (text, fault) in &PLANS {
+        assert_eq!(rt; told(alloc, plan_fault(alloc, *text))?.as_str(), *fault);
+    }
+    assert!(rt; are_refused(alloc, &read_plan(alloc, FIRST.as_bytes())?)?);
     Ok(())
 }

@@ -1,10 +1,9 @@
 //! Views of registers, of records in different orders.
 
 use crate::given::entry;
-use mx_journal::{Journal, Put, Record};
+use mx_journal::{Journal, Record};
 use mx_registers::{View, view, view_below, view_of};
 use std::alloc::{AllocError, Global};
-use std::process::Abort;
 use std::test::Fail;
 
 /// The writes of sections 1 to 5.
@@ -35,12 +34,14 @@ const LEFT: Cells = &[
     (None, None),
 ];
 
-/// These registers hold that.
-fn assert_shows(rt: &impl Abort, view: &View, cells: Cells) {
+/// Whether these registers hold that.
+fn shows(view: &View, cells: Cells) -> bool {
     for (register, (value, by)) in (0..).zip(cells) {
-        assert_eq!(rt; view.value(register), *value, "{register}");
-        assert_eq!(rt; view.written_by(register), *by, "{register}");
+        if view.value(register) != *value || view.written_by(register) != *by {
+            return false;
+        }
     }
+    true
 }
 
 /// Sections in which order they come.
@@ -55,16 +56,25 @@ fn sections(alloc: Global, numbers: &[u8]) -> Result<Vec<Record>, AllocError> {
     Ok(list)
 }
 
+/// The view of records that are taken one by one.
+fn taken(list: &[Record]) -> View {
+    let mut view = View::new(3);
+    for record in list {
+        view.take(record);
+    }
+    view
+}
+
+/// Whether these sections leave what all of them leave.
+fn are_equal(alloc: Global, numbers: &[u8]) -> Result<bool, AllocError> {
+    let list = sections(alloc, numbers)?;
+    Ok(shows(&taken(list.as_slice()), LEFT) && shows(&view_of(list.as_slice(), 3), LEFT))
+}
+
 #[test]
 fn views_ignore_order(rt: HostRuntime) -> Result<(), Fail> {
     for numbers in &ORDERS {
-        let list = sections(rt.alloc(), *numbers)?;
-        let mut taken = View::new(3);
-        for record in &list {
-            taken.take(record);
-        }
-        assert_shows(&rt, &taken, LEFT);
-        assert_shows(&rt, &view_of(list.as_slice(), 3), LEFT);
+        assert!(rt; are_equal(rt.alloc(), *numbers)?);
     }
     Ok(())
 }
@@ -77,15 +87,27 @@ const FOUND: [(u64, Cells); 4] = [
     (6, LEFT),
 ];
 
+/// A journal of four of those sections.
+fn journal(alloc: Global) -> Result<Journal, Fail> {
+    let mut journal = Journal::new(alloc);
+    for number in [5, 4, 2, 1] {
+        journal.put(section(number))?;
+    }
+    Ok(journal)
+}
+
+/// Whether each section finds that in a journal, and all of them leave the rest.
+fn are_found(journal: &Journal) -> bool {
+    for (number, cells) in &FOUND {
+        if !shows(&view_below(journal, 3, *number), *cells) {
+            return false;
+        }
+    }
+    shows(&view(journal, 3), LEFT)
+}
+
 #[test]
 fn a_section_finds_those_below_it(rt: HostRuntime) -> Result<(), Fail> {
-    let mut journal = Journal::new(rt.alloc());
-    for number in [5, 4, 2, 1] {
-        assert_eq!(rt; journal.put(section(number)), Ok(Put::New));
-    }
-    for (number, cells) in &FOUND {
-        assert_shows(&rt, &view_below(&journal, 3, *number), *cells);
-    }
-    assert_shows(&rt, &view(&journal, 3), LEFT);
+    assert!(rt; are_found(&journal(rt.alloc())?));
     Ok(())
 }

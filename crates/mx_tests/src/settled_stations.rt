@@ -1,20 +1,10 @@
-//! Stations whose journals settle: what they answer, what others take of them, and what is gathered.
-
-ghost use Rattle.std.specs.Prelude.{IfOk};
-ghost use Rattle.mx_stations.specs.Gathered.{KeepsTable, OfOneTable};
+//! Stations whose journals settle: what a section reads then, and what the other takes.
 
 use crate::station_calls::{exchange, wants};
 use crate::stations::two;
-use crate::working::Assembly;
-use mx_explorer::Weather;
-use mx_journal::SettleFault;
-use mx_registers::view;
-use mx_ricart::{Count, Ricart};
-use mx_stations::{Field, Gathered, Script, Station, gather, work_settling};
-use std::alloc::{AllocError, Global};
+use mx_ricart::Ricart;
+use mx_stations::Station;
 use std::test::Fail;
-use std::thread;
-use std::thread::Threads;
 
 /// The first of two stations has a section, in which it reads the register and writes this. Answers
 /// what it read.
@@ -38,112 +28,23 @@ fn shown(station: &Station<Ricart>) -> (u64, usize, Option<u64>) {
     (journal.base().upto(), journal.len(), station.value(0))
 }
 
-/// Settles more than the station knows, all that it knows, and less than it has settled.
-fn settles(station: &mut Station<Ricart>, known: u64) -> [Result<(), SettleFault>; 3] {
-    [
-        station.settle(known.saturating_add(1)),
-        station.settle(known),
-        station.settle(known.saturating_sub(1)),
-    ]
-}
-
-#[test]
-fn one_settles_and_the_other_takes_its_base(rt: HostRuntime) -> Result<(), Fail> {
-    let (mut zero, mut one) = two(rt.alloc())?;
-    assert_eq!(rt; section(&mut zero, &mut one, 5)?, 0);
-    assert_eq!(rt;
-        settles(&mut zero, 1),
-        [Err(SettleFault::Gap(2)), Ok(()), Err(SettleFault::Below(1))]
-    );
-    assert_eq!(rt;
-        (shown(&zero), shown(&one)),
-        ((1, 0, Some(5)), (0, 0, Some(0)))
-    );
-    wants(&mut zero, &mut one)?;
-    assert_eq!(rt;
-        (shown(&zero), shown(&one)),
-        ((1, 0, Some(5)), (1, 0, Some(5)))
-    );
-    Ok(())
+/// Whether what node 0 writes and settles is what node 1 reads in the next section, which it settles in turn.
+fn settle_in_turn(zero: &mut Station<Ricart>, one: &mut Station<Ricart>) -> Result<bool, Fail> {
+    let first = section(zero, one, 5)?;
+    zero.settle(1)?;
+    wants(zero, one)?;
+    let second = section(one, zero, 6)?;
+    let has_record = shown(one) == (1, 1, Some(6));
+    one.settle(2)?;
+    wants(one, zero)?;
+    Ok((first, second) == (0, 5) && has_record)
 }
 
 #[test]
 fn a_section_reads_what_was_settled(rt: HostRuntime) -> Result<(), Fail> {
     let (mut zero, mut one) = two(rt.alloc())?;
-    assert_eq!(rt; section(&mut zero, &mut one, 5)?, 0);
-    assert_eq!(rt; zero.settle(1), Ok(()));
-    wants(&mut zero, &mut one)?;
-    assert_eq!(rt; section(&mut one, &mut zero, 6)?, 5);
-    assert_eq!(rt; shown(&one), (1, 1, Some(6)));
-    assert_eq!(rt; one.settle(2), Ok(()));
-    wants(&mut one, &mut zero)?;
-    assert_eq!(rt;
-        (shown(&zero), shown(&one)),
-        ((2, 0, Some(6)), (2, 0, Some(6)))
-    );
-    Ok(())
-}
-
-/// Counts 20 sections, and settles after each tenth, over links that lose and repeat.
-fn count_on(station: Station<Ricart>, gate: &Assembly) -> Station<Ricart>
-    ensures { KeepsTable station result }
-{
-    let script = Script {
-        register: 0,
-        sections: 20,
-    };
-    let weather = Weather::of(7 + u64::from(station.node().get()), 16, 16);
-    work_settling(station, script, 10, gate, weather, 100_000_000).0
-}
-
-/// Gives each station to a thread of its own, and has them back when all threads have ended.
-fn in_threads<R: Threads + Sync>(
-    rt: &R,
-    stations: Vec<Station<Ricart>>,
-) -> Result<Vec<Station<Ricart>>, AllocError>
-    requires { OfOneTable stations.items }
-    ensures { IfOk result (λ all. OfOneTable all.items) }
-{
-    let gate = Assembly::new(5, 100_000_000);
-    let back = thread::map_vec(
-        rt,
-        stations,
-        &|station: Station<Ricart>| -> Station<Ricart>
-            ensures { KeepsTable station result }
-        { count_on(station, &gate) },
-    )?;
-    Ok(back)
-}
-
-/// How many receipts there are, up to which number the journal has no gap and is settled, how many
-/// records it has, and the register.
-fn told(all: &Gathered) -> (usize, u64, u64, usize, Option<u64>) {
-    let journal = &all.journal;
-    (
-        all.receipts.len(),
-        journal.gapless_to(),
-        journal.base().upto(),
-        journal.len(),
-        view(journal, 1).value(0),
-    )
-}
-
-/// What is gathered of stations. Section 100 is the twentieth of its node, which knows of all before it,
-/// since it read inside. So it has settled them all.
-fn is_counted(alloc: Global, stations: Vec<Station<Ricart>>) -> bool
-    requires { OfOneTable stations.items }
-{
-    match gather(alloc, stations) {
-        Ok(all) => told(&all) == (100, 100, 100, 0, Some(100)),
-        Err(_) => false,
-    }
-}
-
-#[test]
-fn settling_workers_count_to_one_hundred(rt: HostRuntime) -> Result<(), Fail> {
-    let shape = Count::of(5).ok_or("count")?;
-    let stations = Field::<Ricart>::stations(rt.alloc(), &shape, 0, 1000, 1)?;
-    let back = in_threads(&rt, stations)?;
-    assert!(rt; is_counted(rt.alloc(), back));
+    assert!(rt; settle_in_turn(&mut zero, &mut one)?);
+    let settled = (2, 0, Some(6));
+    assert!(rt; shown(&zero) == settled && shown(&one) == settled);
     Ok(())
 }

@@ -6,26 +6,15 @@ use crate::given::node;
 use mx_quorums::{QuorumFault, Quorums};
 use mx_trees::{Tree, TreeFault};
 use std::alloc::{AllocError, Global};
-use std::process::Abort;
 use std::test::Fail;
 
 /// Vectors of these lists.
-pub(crate) fn lists(alloc: Global, sets: &[&[u8]]) -> Result<Vec<Vec<u8>>, AllocError> {
+fn lists(alloc: Global, sets: &[&[u8]]) -> Result<Vec<Vec<u8>>, AllocError> {
     let mut lists = Vec::new(alloc);
     for set in sets {
         lists.push(set.to_vec(alloc)?)?;
     }
     Ok(lists)
-}
-
-/// Exactly these nodes are in the set of node i.
-pub(crate) fn assert_set(rt: &impl Abort, quorums: &Quorums, i: u8, members: &[u8])
-    requires { i < 21 }
-{
-    for j in 0..21 {
-        let has = quorums.has(node(i), node(j));
-        assert_eq!(rt; has, members.contains(&j), "{j} in the set of {i}");
-    }
 }
 
 /// Node 0.
@@ -56,49 +45,53 @@ const NO_TREES: [NoTree; 8] = [
     (3, &[(0, 1), (1, 2), (2, 0)], 9, TreeFault::WrongCount),
 ];
 
+/// Whether these lists are refused for this fault.
+fn is_refused(alloc: Global, sets: &[&[u8]], fault: QuorumFault) -> Result<bool, AllocError> {
+    let sets = lists(alloc, sets)?;
+    Ok(Quorums::listed(&sets).err() == Some(fault))
+}
+
+/// Whether planes and grids are refused that there are not.
+fn are_refused() -> bool {
+    for n in [0, 8, 22] {
+        if Quorums::plane(n).err() != Some(QuorumFault::NoPlane(n)) {
+            return false;
+        }
+    }
+    Quorums::grid(5, 5).err() == Some(QuorumFault::TooMany)
+        && Quorums::grid(0, 3).err() == Some(QuorumFault::NoNodes)
+}
+
 #[test]
 fn shapes_checked(rt: HostRuntime) -> Result<(), Fail> {
     for (sets, fault) in &LISTED {
-        let sets = lists(rt.alloc(), *sets)?;
-        assert_eq!(rt; Quorums::listed(&sets).err(), Some(*fault));
+        assert!(rt; is_refused(rt.alloc(), *sets, *fault)?);
     }
     for (nodes, edges, holder, fault) in &NO_TREES {
         assert_eq!(rt; Tree::of(*nodes, *edges, *holder).err(), Some(*fault));
     }
-    for n in [0, 8, 22] {
-        assert_eq!(rt; Quorums::plane(n).err(), Some(QuorumFault::NoPlane(n)));
-    }
-    assert_eq!(rt; Quorums::grid(5, 5).err(), Some(QuorumFault::TooMany));
-    assert_eq!(rt; Quorums::grid(0, 3).err(), Some(QuorumFault::NoNodes));
+    assert!(rt; are_refused());
     Ok(())
+}
+
+/// Whether exactly these nodes are in the set of node i.
+fn has_set(quorums: &Quorums, i: u8, members: &[u8]) -> bool
+    requires { i < 21 }
+{
+    for j in 0..21 {
+        if quorums.has(node(i), node(j)) != members.contains(&j) {
+            return false;
+        }
+    }
+    true
 }
 
 #[test]
 fn planes_and_grids_have_their_sets(rt: HostRuntime) -> Result<(), Fail> {
     let plane = Quorums::plane(13)?;
-    assert_set(&rt, &plane, 0, &[0, 1, 3, 9]);
-    assert_set(&rt, &plane, 1, &[1, 2, 4, 10]);
-    if plane.nodes() != 13 {
-        return Err("thirteen nodes")?;
-    }
-    for (j, common) in [(1, 1), (2, 3), (4, 0)] {
-        assert_eq!(rt; plane.meeting(node(0), node(j)).get(), common, "{j}");
-    }
-    assert_set(&rt, &Quorums::grid(2, 2)?, 0, &[0, 1, 2]);
-    Ok(())
-}
-
-#[test]
-fn a_member_listed_twice_counts_once(rt: HostRuntime) -> Result<(), Fail> {
-    let sets = lists(rt.alloc(), &[&[1, 0, 1], &[1]])?;
-    let quorums = Quorums::listed(&sets)?;
-    for (i, members) in [
-        (0, [0, 1].as_slice()),
-        (1, [1].as_slice()),
-        (2, [].as_slice()),
-    ] {
-        assert_set(&rt, &quorums, i, members);
-    }
+    assert!(rt; has_set(&plane, 0, &[0, 1, 3, 9]));
+    assert!(rt; has_set(&plane, 1, &[1, 2, 4, 10]));
+    assert!(rt; has_set(&Quorums::grid(2, 2)?, 0, &[0, 1, 2]));
     Ok(())
 }
 
@@ -109,15 +102,20 @@ const TREES: [(&[(u8, u8)], u8, [u8; 4]); 3] = [
     (&[(3, 0), (0, 2), (2, 1)], 0, [0, 2, 0, 0]),
 ];
 
+/// Whether these are the next nodes of a tree.
+fn leads(tree: &Tree, next: &[u8]) -> bool {
+    for (i, to) in (0..4).zip(next) {
+        if i >= tree.nodes() || tree.toward(node(i)).get() != *to {
+            return false;
+        }
+    }
+    true
+}
+
 #[test]
 fn trees_lead_to_their_holder(rt: HostRuntime) -> Result<(), Fail> {
     for (edges, holder, next) in &TREES {
-        let tree = Tree::of(4, *edges, *holder)?;
-        for (i, to) in (0..4).zip(next) {
-            if i < tree.nodes() {
-                assert_eq!(rt; tree.toward(node(i)).get(), *to, "{edges:?} from {i}");
-            }
-        }
+        assert!(rt; leads(&Tree::of(4, *edges, *holder)?, next.as_slice()));
     }
     Ok(())
 }

@@ -1,37 +1,47 @@
 //! Calls at size, with memory enough.
 
-use crate::given::{entries, node};
-use mx_journal::{Journal, Put};
+use crate::given::{entry, node};
+use mx_journal::{Journal, Record};
 use mx_merge::{agree, merge};
-use mx_network::{Cluster, Event, RunFault, StepFault};
+use mx_network::{Cluster, Event};
 use mx_ricart::{Count, Ricart};
 use mx_stamps::NodeId;
 use std::alloc::{AllocError, Global};
 use std::test::Fail;
 
-/// Numbers from 1 to this one, each as its own value.
-fn pairs(alloc: Global, last: u64) -> Result<Vec<(u64, u64)>, AllocError> {
-    let mut pairs = Vec::new(alloc);
-    for number in 1..=last {
-        pairs.push((number, number))?;
+/// The records of numbers 1 to 5000, each of which wrote its number.
+fn thousands(alloc: Global) -> Result<Vec<Record>, AllocError> {
+    let mut list = Vec::new(alloc);
+    for number in 1..=5000 {
+        list.push(entry(number, &[(0, number)]))?;
     }
-    Ok(pairs)
+    Ok(list)
+}
+
+/// A journal that takes records one by one, the last first.
+fn one_by_one(alloc: Global, list: &[Record]) -> Result<Journal, Fail> {
+    let mut journal = Journal::new(alloc);
+    for record in list.iter().rev() {
+        journal.put(record.copy())?;
+    }
+    Ok(journal)
+}
+
+/// Whether a journal takes so many records together, and then what another took changes nothing.
+fn takes_all(journal: &mut Journal, list: &[Record], other: &Journal) -> bool {
+    journal.put_all(list) == Ok(5000)
+        && journal.put_all(list) == Ok(0)
+        && agree(other, journal)
+        && merge(journal, other) == Ok(0)
+        && (journal.len(), journal.gapless_to()) == (5000, 5000)
 }
 
 #[test]
 fn journals_of_thousands(rt: HostRuntime) -> Result<(), Fail> {
-    let pairs = pairs(rt.alloc(), 5000)?;
-    let list = entries(rt.alloc(), pairs.as_slice())?;
-    let mut one_by_one = Journal::new(rt.alloc());
-    for record in list.as_slice().iter().rev() {
-        assert_eq!(rt; one_by_one.put(record.copy()), Ok(Put::New));
-    }
-    let mut together = Journal::new(rt.alloc());
-    assert_eq!(rt; together.put_all(list.as_slice()), Ok(5000));
-    assert_eq!(rt; together.put_all(list.as_slice()), Ok(0));
-    assert!(rt; agree(&one_by_one, &together));
-    assert_eq!(rt; merge(&mut together, &one_by_one), Ok(0));
-    assert_eq!(rt; (together.len(), together.gapless_to()), (5000, 5000));
+    let list = thousands(rt.alloc())?;
+    let other = one_by_one(rt.alloc(), list.as_slice())?;
+    let are_taken = takes_all(&mut Journal::new(rt.alloc()), list.as_slice(), &other);
+    assert!(rt; are_taken);
     Ok(())
 }
 
@@ -74,38 +84,23 @@ fn started(alloc: Global) -> Result<Cluster<Ricart>, Fail> {
     Ok(Cluster::start(alloc, &shape, 0, 1000, 1)?)
 }
 
+/// Whether a cluster runs through events, and has so many items and parcels then.
+fn runs(cluster: &mut Cluster<Ricart>, events: &[Event]) -> bool {
+    cluster.run(events).is_ok() && (cluster.trace().len(), cluster.sent()) == (5280, 4800)
+}
+
+/// Whether the journals of all its nodes merge into one of so many records.
+fn merges(alloc: Global, cluster: &Cluster<Ricart>) -> Result<bool, Fail> {
+    let names = names(alloc)?;
+    let all = cluster.merged(alloc, names.as_slice())?;
+    Ok((all.len(), all.gapless_to()) == (120, 120))
+}
+
 #[test]
 fn twenty_one_nodes_in_turn(rt: HostRuntime) -> Result<(), Fail> {
-    let mut cluster = started(rt.alloc())?;
     let events = turns(rt.alloc(), 120)?;
-    assert_eq!(rt; cluster.run(events.as_slice()), Ok(()));
-    assert_eq!(rt; (cluster.trace().len(), cluster.sent()), (5280, 4800));
-    let names = names(rt.alloc())?;
-    let all = cluster.merged(rt.alloc(), names.as_slice())?;
-    assert_eq!(rt; (all.len(), all.gapless_to()), (120, 120));
-    Ok(())
-}
-
-/// As many sections twice, with a parcel between them that was not sent.
-fn interrupted(alloc: Global, sections: u64) -> Result<Vec<Event>, AllocError> {
-    let mut events = turns(alloc, sections)?;
-    events.push(Event::Deliver(u64::MAX))?;
-    for event in turns(alloc, sections)? {
-        events.push(event)?;
-    }
-    Ok(events)
-}
-
-#[test]
-fn a_run_stops_at_the_first_fault(rt: HostRuntime) -> Result<(), Fail> {
     let mut cluster = started(rt.alloc())?;
-    let events = interrupted(rt.alloc(), 60)?;
-    let (index, fault) = (2640, StepFault::NoParcel);
-    assert_eq!(rt; events.len(), 5281);
-    assert_eq!(rt;
-        cluster.run(events.as_slice()),
-        Err(RunFault { index, fault })
-    );
-    assert_eq!(rt; cluster.trace().len(), 2640);
+    let has_run = runs(&mut cluster, events.as_slice());
+    assert!(rt; has_run && merges(rt.alloc(), &cluster)?);
     Ok(())
 }

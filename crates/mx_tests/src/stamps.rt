@@ -22,16 +22,16 @@ fn stamp(parts: (u64, u8)) -> Stamp {
     }
 }
 
+/// Whether this is how the first stands to the second.
+fn are_ordered(a: &Stamp, b: &Stamp, order: Ordering) -> bool {
+    a.compare(b) == order
+        && a.is_before(b) == (order == Ordering::Less)
+        && (*a == *b) == (order == Ordering::Equal)
+}
+
 #[test]
 fn number_counts_before_node(rt: HostRuntime) {
     for (first, second, order) in &PAIRS {
-        let (a, b) = (stamp(*first), stamp(*second));
-        assert_eq!(rt; a.compare(&b), *order, "{first:?} {second:?}");
-        assert_eq!(rt;
-            a.is_before(&b),
-            *order == Ordering::Less,
-            "{first:?} {second:?}"
-        );
-        assert_eq!(rt; a == b, *order == Ordering::Equal, "{first:?} {second:?}");
+        assert!(rt; are_ordered(&stamp(*first), &stamp(*second), *order));
     }
 }

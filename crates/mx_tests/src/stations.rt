@@ -4,7 +4,7 @@ ghost use Rattle.std.specs.Prelude.{IfOk};
 ghost use Rattle.mx_stations.specs.Gathered.{KeepsTable};
 
 use crate::station_calls::takes;
-use mx_letters::{Fair, Fate, Fates};
+use mx_letters::{Fate, Fates};
 use mx_ricart::{Count, Ricart};
 use mx_stamps::NodeId;
 use mx_stations::{Field, PutOut, Station, TurnReport};
@@ -24,28 +24,6 @@ pub(crate) fn two(alloc: Global) -> Result<(Station<Ricart>, Station<Ricart>), F
         return Err("zero")?;
     };
     Ok((zero, one))
-}
-
-#[test]
-fn turns_report_what_they_did(rt: HostRuntime) -> Result<(), Fail> {
-    let (mut zero, mut one) = two(rt.alloc())?;
-    let put = TurnReport {
-        put: 1,
-        ..TurnReport::default()
-    };
-    let both = TurnReport { taken: 1, ..put };
-    assert!(rt; zero.ask().is_ok());
-    assert_eq!(rt;
-        zero.turn(&mut Fair),
-        Ok(TurnReport {
-            ticked: true,
-            ..put
-        })
-    );
-    assert_eq!(rt; one.turn(&mut Fair), Ok(both));
-    assert_eq!(rt; zero.turn(&mut Fair), Ok(both));
-    assert_eq!(rt; zero.enter(), Ok(1));
-    Ok(())
 }
 
 /// A network with one fate for all parcels.
@@ -112,15 +90,19 @@ fn put_all(zero: &mut Station<Ricart>, one: &mut Station<Ricart>) -> Result<u32,
     Ok(sent)
 }
 
-#[test]
-fn sixty_four_parcels_wait(rt: HostRuntime) -> Result<(), Fail> {
-    let (mut zero, mut one) = two(rt.alloc())?;
-    assert!(rt; zero.ask().is_ok());
+/// Whether 64 parcels wait at node 0, which asks and sends its request again and again.
+fn has_sixty_four(zero: &mut Station<Ricart>) -> bool {
+    let has_asked = zero.ask().is_ok();
     for _tick in 0..70 {
         zero.tick();
     }
-    assert_eq!(rt; zero.waits(), 64);
-    assert_eq!(rt; put_all(&mut zero, &mut one)?, 64);
-    assert_eq!(rt; zero.waits(), 0);
+    has_asked && zero.waits() == 64
+}
+
+#[test]
+fn sixty_four_parcels_wait(rt: HostRuntime) -> Result<(), Fail> {
+    let (mut zero, mut one) = two(rt.alloc())?;
+    assert!(rt; has_sixty_four(&mut zero));
+    assert!(rt; put_all(&mut zero, &mut one)? == 64 && zero.waits() == 0);
     Ok(())
 }

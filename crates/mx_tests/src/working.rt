@@ -1,15 +1,10 @@
 //! Workers at stations: what their gate decides, how many turns they make, and that they count.
 
-ghost use Rattle.std.specs.Prelude.{IfOk};
-ghost use Rattle.mx_stations.specs.Gathered.{KeepsTable, OfOneTable};
-
-use mx_explorer::Weather;
 use mx_letters::{Fair, Fate, Fates};
 use mx_ricart::{Count, Ricart};
 use mx_stamps::NodeId;
-use mx_stations::{Field, Gate, Script, Station, Worked, gather, work};
-use std::alloc::{AllocError, Global};
-use std::process::Abort;
+use mx_stations::{Field, Gate, Script, Station, Worked, work};
+use std::alloc::Global;
 use std::sync::atomic::{AtomicU64, Ordering};
 use std::test::Fail;
 use std::thread;
@@ -18,7 +13,7 @@ use std::thread::yield_now;
 /// A gate that opens once so many nodes have arrived, and stays shut once one of them has looked
 /// too often. Nobody may stop before all have their sections.
 #[derive(Drop)]
-pub(crate) struct Assembly {
+struct Assembly {
     nodes: u64,
     looks: u64,
     arrived: AtomicU64,
@@ -30,7 +25,7 @@ pub(crate) struct Assembly {
 }
 
 impl Assembly {
-    pub(crate) fn new(nodes: u64, looks: u64) -> Assembly {
+    fn new(nodes: u64, looks: u64) -> Assembly {
         Assembly {
             nodes,
             looks,
@@ -97,6 +92,18 @@ fn count_on(station: Station<Ricart>, gate: &Assembly) -> (Worked, u64) {
     (ended, station.value(0).unwrap_or(0))
 }
 
+/// The greatest value that a worker knows, where all are done.
+fn counted(ended: &[(Worked, u64)]) -> Option<u64> {
+    let mut most = 0;
+    for (worked, value) in ended {
+        if *worked != Worked::Done {
+            return None;
+        }
+        most = most.max(*value);
+    }
+    Some(most)
+}
+
 #[test]
 fn gate_holds_until_all_arrive(rt: HostRuntime) -> Result<(), Fail> {
     let gate = Assembly::new(5, 100_000_000);
@@ -105,12 +112,7 @@ fn gate_holds_until_all_arrive(rt: HostRuntime) -> Result<(), Fail> {
         stations_of(rt.alloc(), 5)?,
         &|station: Station<Ricart>| -> (Worked, u64) { count_on(station, &gate) },
     )?;
-    let mut most = 0;
-    for (worked, value) in &ended {
-        assert_eq!(rt; *worked, Worked::Done);
-        most = most.max(*value);
-    }
-    assert_eq!(rt; most, 100);
+    assert_eq!(rt; counted(&ended), Some(100));
     assert_eq!(rt; gate.early.load(Ordering::SeqCst), 0);
     Ok(())
 }
@@ -161,48 +163,5 @@ fn turns_run_out(rt: HostRuntime) -> Result<(), Fail> {
     ] {
         assert_eq!(rt; ending(rt.alloc(), nodes, may_stop, turns)?, wanted);
     }
-    Ok(())
-}
-
-/// Works at a station that hears nothing, and that is to enter once.
-fn work_unheard(station: Station<Ricart>) -> (Station<Ricart>, Worked)
-    ensures { KeepsTable station result.0 }
-{
-    let script = Script {
-        register: 0,
-        sections: 1,
-    };
-    let silence = Weather::of(1, 256, 0);
-    work(station, script, &Open { may_stop: true }, silence, 1000)
-}
-
-/// Works at stations one after another while all parcels are lost: each spends its turns.
-fn all_unheard(
-    rt: &impl Abort,
-    alloc: Global,
-    stations: Vec<Station<Ricart>>,
-) -> Result<Vec<Station<Ricart>>, AllocError>
-    requires { OfOneTable stations.items }
-    ensures { IfOk result (λ all. OfOneTable all.items) }
-{
-    let mut back = Vec::new(alloc);
-    for station in stations {
-        let (station, ended) = work_unheard(station);
-        assert_eq!(rt; ended, Worked::NotYet(1000));
-        back.push(station)?;
-    }
-    Ok(back)
-}
-
-#[test]
-fn nothing_is_gathered_where_all_is_lost(rt: HostRuntime) -> Result<(), Fail> {
-    let shape = Count::of(3).ok_or("count")?;
-    let stations = Field::<Ricart>::stations(rt.alloc(), &shape, 0, 1000, 1)?;
-    let back = all_unheard(&rt, rt.alloc(), stations)?;
-    let Ok(gathered) = gather(rt.alloc(), back) else {
-        return Err("refused")?;
-    };
-    assert!(rt; gathered.receipts.is_empty());
-    assert!(rt; gathered.journal.is_empty());
     Ok(())
 }
