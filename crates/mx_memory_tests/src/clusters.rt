@@ -65,17 +65,14 @@ fn step(
 ) -> Result<()> {
     let before = shown(cluster, nodes);
     call(rt, "Cluster::step");
-    let mut answer = cluster.step(*event);
+    let mut fault = cluster.step(*event).err();
     back(rt);
-    if answer == Err(StepFault::Memory) {
+    if fault == Some(StepFault::Memory) {
         refused(rt, "Cluster::step", shown(cluster, nodes) == before)?;
-        answer = cluster.step(*event);
+        fault = cluster.step(*event).err();
     }
-    answer?;
-    expect(
-        "Cluster::step",
-        cluster.trace().len() == before.0.saturating_add(1),
-    )
+    let has_stepped = cluster.trace().len() == before.0.saturating_add(1);
+    expect("Cluster::step", fault.is_none() && has_stepped)
 }
 
 /// Runs a list of events, whose first steps stand where memory is refused to a later one.
@@ -96,31 +93,29 @@ fn run(rt: &HostRuntime, cluster: &mut Cluster<Ricart>, list: &[Event]) -> Resul
     expect("Cluster::run", cluster.trace().len() == list.len())
 }
 
-/// Steps through the events one after another.
+/// Steps through the events one after another. Answers what the cluster shows then.
 fn each_step(
     rt: &HostRuntime,
     cluster: &mut Cluster<Ricart>,
     list: &[Event],
     nodes: [NodeId; 2],
-) -> Result<()> {
+) -> Result<Shown> {
     for event in list {
         step(rt, cluster, event, nodes)?;
     }
-    Ok(())
+    Ok(shown(cluster, nodes))
 }
 
-/// What a cluster shows that has stepped through these events.
-fn stepped(rt: &HostRuntime, shape: &Count, list: &[Event], nodes: [NodeId; 2]) -> Result<Shown> {
-    let mut cluster = start(rt, shape)?;
-    each_step(rt, &mut cluster, list, nodes)?;
-    Ok(shown(&cluster, nodes))
-}
-
-/// What one shows that has run them.
-fn ran(rt: &HostRuntime, shape: &Count, list: &[Event], nodes: [NodeId; 2]) -> Result<Shown> {
-    let mut cluster = started(rt.alloc(), shape)?;
-    run(rt, &mut cluster, list)?;
-    Ok(shown(&cluster, nodes))
+/// Runs them, and sees that it shows the same then.
+fn run_all(
+    rt: &HostRuntime,
+    cluster: &mut Cluster<Ricart>,
+    list: &[Event],
+    nodes: [NodeId; 2],
+    wanted: Shown,
+) -> Result<()> {
+    run(rt, cluster, list)?;
+    expect("Cluster::run", shown(cluster, nodes) == wanted)
 }
 
 pub(crate) fn each(rt: &HostRuntime) -> Result<()> {
@@ -128,6 +123,6 @@ pub(crate) fn each(rt: &HostRuntime) -> Result<()> {
         bail!("no such nodes");
     };
     let (list, nodes) = (events(zero, one), [zero, one]);
-    let wanted = stepped(rt, &shape, &list, nodes)?;
-    expect("Cluster::run", ran(rt, &shape, &list, nodes)? == wanted)
+    let wanted = each_step(rt, &mut start(rt, &shape)?, &list, nodes)?;
+    run_all(rt, &mut started(rt.alloc(), &shape)?, &list, nodes, wanted)
 }

@@ -86,75 +86,68 @@ fn put_all(
     expect("put_all", answer == Ok(new) && are_twins(journal, twin))
 }
 
-/// Merges another journal, and into the twin the other's twin.
+/// Merges another journal, into the twin too.
 fn merge_other(
     rt: &HostRuntime,
     journal: &mut Journal,
     twin: &mut Journal,
     other: &Journal,
-    other_twin: &Journal,
 ) -> Result<()> {
     call(rt, "merge");
     let mut answer = merge(journal, other);
     back(rt);
     if answer == Err(MergeFault::Memory) {
-        refused(
-            rt,
-            "merge",
-            are_twins(journal, twin) && are_twins(other, other_twin),
-        )?;
+        refused(rt, "merge", are_twins(journal, twin))?;
         answer = merge(journal, other);
     }
-    let new = merge(twin, other_twin)?;
+    let new = merge(twin, other)?;
     expect("merge", answer == Ok(new) && are_twins(journal, twin))
 }
 
-/// Merges a journal of these numbers.
-fn merge_one(
+fn each_put(rt: &HostRuntime, journal: &mut Journal, twin: &mut Journal) -> Result<()> {
+    for number in SINGLE {
+        put(rt, journal, twin, number)?;
+    }
+    Ok(())
+}
+
+/// Puts the records of these numbers together.
+fn put_list(
     rt: &HostRuntime,
     journal: &mut Journal,
     twin: &mut Journal,
     numbers: &[u64],
 ) -> Result<()> {
-    let other = journal_of(rt.alloc(), numbers)?;
-    let other_twin = journal_of(rt.alloc(), numbers)?;
-    merge_other(rt, journal, twin, &other, &other_twin)
+    put_all(rt, journal, twin, records(rt.alloc(), numbers)?.as_slice())
 }
 
-fn each_put(rt: &HostRuntime) -> Result<()> {
-    let mut journal = Journal::new(rt.alloc());
-    let mut twin = Journal::new(rt.alloc());
-    for number in SINGLE {
-        put(rt, &mut journal, &mut twin, number)?;
+fn each_put_all(rt: &HostRuntime, journal: &mut Journal, twin: &mut Journal) -> Result<()> {
+    for numbers in LISTS {
+        put_list(rt, journal, twin, numbers)?;
     }
     Ok(())
 }
 
-fn each_put_all(rt: &HostRuntime) -> Result<()> {
-    let mut journal = Journal::new(rt.alloc());
-    let mut twin = Journal::new(rt.alloc());
-    for numbers in LISTS {
-        put_all(
-            rt,
-            &mut journal,
-            &mut twin,
-            records(rt.alloc(), numbers)?.as_slice(),
-        )?;
-    }
-    Ok(())
+/// Merges a journal of these numbers.
+fn merge_list(
+    rt: &HostRuntime,
+    journal: &mut Journal,
+    twin: &mut Journal,
+    numbers: &[u64],
+) -> Result<()> {
+    merge_other(rt, journal, twin, &journal_of(rt.alloc(), numbers)?)
 }
 
-fn each_merge(rt: &HostRuntime) -> Result<()> {
-    let mut journal = Journal::new(rt.alloc());
-    let mut twin = Journal::new(rt.alloc());
+fn each_merge(rt: &HostRuntime, journal: &mut Journal, twin: &mut Journal) -> Result<()> {
     for numbers in LISTS {
-        merge_one(rt, &mut journal, &mut twin, numbers)?;
+        merge_list(rt, journal, twin, numbers)?;
     }
     Ok(())
 }
 
 pub(crate) fn each(rt: &HostRuntime) -> Result<()> {
-    each_put(rt)?;
-    each_put_all(rt)?;
-    each_merge(rt)
+    let alloc = rt.alloc();
+    each_put(rt, &mut Journal::new(alloc), &mut Journal::new(alloc))?;
+    each_put_all(rt, &mut Journal::new(alloc), &mut Journal::new(alloc))?;
+    each_merge(rt, &mut Journal::new(alloc), &mut Journal::new(alloc))
 }

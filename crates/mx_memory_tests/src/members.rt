@@ -39,20 +39,31 @@ fn enter(member: &mut Member<Ricart>) -> Result<()> {
     Ok(())
 }
 
+/// The member leaves. Whether its receipt is whole, and whether nothing is sent.
+fn left(member: &mut Member<Ricart>) -> (Result<bool, CloseFault>, bool) {
+    let mut out = Outbox::new();
+    let answer = match member.leave(&mut out) {
+        Ok(receipt) => Ok(
+            receipt.number == 1 && receipt.reads.len() == 1 && receipt.writes.len() == 1,
+        ),
+        Err(fault) => Err(fault),
+    };
+    (answer, out.is_empty())
+}
+
 /// Leaves section 1.
 fn leave(rt: &HostRuntime, member: &mut Member<Ricart>) -> Result<()> {
-    let mut out = Outbox::new();
     call(rt, "Member::leave");
-    let mut answer = member.leave(&mut out);
+    let (mut answer, is_quiet) = left(member);
     back(rt);
     if answer == Err(CloseFault::Memory) {
-        refused(rt, "Member::leave", is_inside(member) && out.is_empty())?;
-        out.clear();
-        answer = member.leave(&mut out);
+        refused(rt, "Member::leave", is_inside(member) && is_quiet)?;
+        answer = left(member).0;
     }
-    let receipt = answer?;
-    let is_whole = receipt.number == 1 && receipt.reads.len() == 1 && receipt.writes.len() == 1;
-    expect("Member::leave", is_whole && member.value(0) == Some(7))
+    expect(
+        "Member::leave",
+        answer == Ok(true) && member.value(0) == Some(7),
+    )
 }
 
 fn parcel_of(numbers: &[u64]) -> Parcel<RicartMsg> {
@@ -65,29 +76,35 @@ fn parcel_of(numbers: &[u64]) -> Parcel<RicartMsg> {
     Parcel::Records(records)
 }
 
-fn deliver(rt: &HostRuntime, member: &mut Member<Ricart>, numbers: &[u64]) -> Result<()> {
-    let from = NodeId::default();
-    let before = (
+/// The member takes the records of these numbers. What it answers, and whether nothing is sent.
+fn delivered(member: &mut Member<Ricart>, numbers: &[u64]) -> (Result<(), DeliverFault>, bool) {
+    let mut out = Outbox::new();
+    let answer = member.deliver(NodeId::default(), parcel_of(numbers), &mut out);
+    (answer, out.is_empty())
+}
+
+/// How many records a member has, the greatest number, and its register.
+fn shown(member: &Member<Ricart>) -> (usize, u64, Option<u64>) {
+    (
         member.journal().len(),
         member.journal().top(),
         member.value(0),
-    );
-    let mut out = Outbox::new();
+    )
+}
+
+fn deliver(rt: &HostRuntime, member: &mut Member<Ricart>, numbers: &[u64]) -> Result<()> {
+    let before = shown(member);
     call(rt, "Member::deliver");
-    let mut answer = member.deliver(from, parcel_of(numbers), &mut out);
+    let (mut answer, is_quiet) = delivered(member, numbers);
     back(rt);
     if answer == Err(DeliverFault::Memory) {
-        let now = (
-            member.journal().len(),
-            member.journal().top(),
-            member.value(0),
-        );
-        refused(rt, "Member::deliver", now == before && out.is_empty())?;
-        out.clear();
-        answer = member.deliver(from, parcel_of(numbers), &mut out);
+        refused(rt, "Member::deliver", shown(member) == before && is_quiet)?;
+        answer = delivered(member, numbers).0;
     }
-    answer?;
-    expect("Member::deliver", has_all(member, numbers))
+    expect(
+        "Member::deliver",
+        answer == Ok(()) && has_all(member, numbers),
+    )
 }
 
 fn has_all(member: &Member<Ricart>, numbers: &[u64]) -> bool {
@@ -99,21 +116,19 @@ fn has_all(member: &Member<Ricart>, numbers: &[u64]) -> bool {
     true
 }
 
-fn each_leaving(rt: &HostRuntime) -> Result<()> {
-    let mut member = started(rt.alloc())?;
-    enter(&mut member)?;
-    leave(rt, &mut member)
+fn each_leaving(rt: &HostRuntime, member: &mut Member<Ricart>) -> Result<()> {
+    enter(member)?;
+    leave(rt, member)
 }
 
-fn each_delivery(rt: &HostRuntime) -> Result<()> {
-    let mut member = started(rt.alloc())?;
+fn each_delivery(rt: &HostRuntime, member: &mut Member<Ricart>) -> Result<()> {
     for numbers in PARCELS {
-        deliver(rt, &mut member, numbers)?;
+        deliver(rt, member, numbers)?;
     }
     Ok(())
 }
 
 pub(crate) fn each(rt: &HostRuntime) -> Result<()> {
-    each_leaving(rt)?;
-    each_delivery(rt)
+    each_leaving(rt, &mut started(rt.alloc())?)?;
+    each_delivery(rt, &mut started(rt.alloc())?)
 }

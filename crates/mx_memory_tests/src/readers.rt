@@ -54,15 +54,11 @@ fn drawn(rt: &HostRuntime, plan: &Plan) -> Result<Vec<Event>> {
 
 /// Reads the events of a plan, and draws a schedule over it.
 fn each_list(rt: &HostRuntime, plan: &Plan) -> Result<()> {
-    let count = events(rt, plan)?.len();
-    let drawn = drawn(rt, plan)?.len();
-    expect("read_events", count == 5)?;
-    expect("schedule", drawn == 100)
+    expect("read_plan", plan.nodes() == 3)?;
+    expect("read_events", events(rt, plan)?.len() == 5)?;
+    expect("schedule", drawn(rt, plan)?.len() == 100)
 }
 
 pub(crate) fn each(rt: &HostRuntime) -> Result<()> {
-    let plan = plan(rt)?;
-    let nodes = plan.nodes();
-    each_list(rt, &plan)?;
-    expect("read_plan", nodes == 3)
+    each_list(rt, &plan(rt)?)
 }

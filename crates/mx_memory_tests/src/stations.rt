@@ -65,26 +65,28 @@ fn is_inside(station: &Station<Ricart>, number: u64, receipts: usize) -> bool {
         && station.journal().len() == receipts
 }
 
+/// The station leaves. Whether the receipt is that of section `number`, with one write.
+fn left(station: &mut Station<Ricart>, number: u64) -> Result<bool, CloseFault> {
+    let receipt = station.leave()?;
+    Ok(receipt.number == number && receipt.writes.len() == 1)
+}
+
 /// Leaves section `number`, the station's own next one.
 fn leave(rt: &HostRuntime, station: &mut Station<Ricart>, number: u64) -> Result<()> {
     let receipts = station.receipts().len();
     call(rt, "Station::leave");
-    let mut answer = station.leave();
+    let mut answer = left(station, number);
     back(rt);
     if answer == Err(CloseFault::Memory) {
         refused(rt, "Station::leave", is_inside(station, number, receipts))?;
-        answer = station.leave();
+        answer = left(station, number);
     }
-    let receipt = answer?;
-    let is_whole = receipt.number == number && receipt.writes.len() == 1;
-    expect(
-        "Station::leave",
-        is_whole && station.receipts().len() == receipts.saturating_add(1),
-    )
+    let has_one_more = station.receipts().len() == receipts.saturating_add(1);
+    expect("Station::leave", answer == Ok(true) && has_one_more)
 }
 
-/// Node 0 has a section, whose record it sends to node 1, and a request behind it.
-fn send_record(
+/// Node 0 has a section, to which node 1 replies.
+fn have_first(
     rt: &HostRuntime,
     zero: &mut Station<Ricart>,
     one: &mut Station<Ricart>,
@@ -94,7 +96,16 @@ fn send_record(
     hand_on(one, zero)?;
     zero.enter()?;
     zero.write(0, 5)?;
-    leave(rt, zero, 1)?;
+    leave(rt, zero, 1)
+}
+
+/// Node 0 has a section, whose record it sends to node 1, and a request behind it.
+fn send_record(
+    rt: &HostRuntime,
+    zero: &mut Station<Ricart>,
+    one: &mut Station<Ricart>,
+) -> Result<()> {
+    have_first(rt, zero, one)?;
     if zero.node().get() >= one.nodes() {
         bail!("no such node");
     }
@@ -126,10 +137,9 @@ fn take_record(rt: &HostRuntime, station: &mut Station<Ricart>, from: NodeId) ->
 }
 
 /// Node 1 takes in what node 0 has sent.
-fn take_in(rt: &HostRuntime) -> Result<()> {
-    let (mut zero, mut one) = two(rt)?;
-    send_record(rt, &mut zero, &mut one)?;
-    take_record(rt, &mut one, zero.node())
+fn take_in(rt: &HostRuntime, zero: &mut Station<Ricart>, one: &mut Station<Ricart>) -> Result<()> {
+    send_record(rt, zero, one)?;
+    take_record(rt, one, zero.node())
 }
 
 /// A station takes a turn, and where memory was refused another one, which delivers the record first.
@@ -149,10 +159,9 @@ fn take_turn(rt: &HostRuntime, station: &mut Station<Ricart>) -> Result<()> {
 }
 
 /// Node 1 takes a turn once node 0 has sent.
-fn turn(rt: &HostRuntime) -> Result<()> {
-    let (mut zero, mut one) = two(rt)?;
-    send_record(rt, &mut zero, &mut one)?;
-    take_turn(rt, &mut one)
+fn turn(rt: &HostRuntime, zero: &mut Station<Ricart>, one: &mut Station<Ricart>) -> Result<()> {
+    send_record(rt, zero, one)?;
+    take_turn(rt, one)
 }
 
 /// A list of one station.
@@ -210,21 +219,43 @@ fn have_sections(rt: &HostRuntime, station: &mut Station<Ricart>) -> Result<()> 
     Ok(())
 }
 
-/// A station that is alone has three sections, and is gathered.
-fn gather_one(rt: &HostRuntime) -> Result<()> {
+/// What a station that is alone and has had three sections is gathered to.
+fn gathered_one(rt: &HostRuntime, station: Station<Ricart>) -> Result<Gathered> {
+    gather_again(rt, single(rt.alloc(), station)?, 3)
+}
+
+/// A station that is alone has three sections.
+fn with_sections(rt: &HostRuntime) -> Result<Station<Ricart>> {
     let Some(mut station) = opened(rt, 1)?.pop() else {
         bail!("no station");
     };
     have_sections(rt, &mut station)?;
-    let all = gather_again(rt, single(rt.alloc(), station)?, 3)?;
+    Ok(station)
+}
+
+/// It is gathered.
+fn gather_one(rt: &HostRuntime) -> Result<()> {
+    let all = gathered_one(rt, with_sections(rt)?)?;
     expect(
         "gather",
         all.receipts.len() == 3 && all.journal.gapless_to() == 3,
     )
 }
 
+/// Two stations, of which the second takes a parcel in.
+fn each_parcel(rt: &HostRuntime) -> Result<()> {
+    let (mut zero, mut one) = two(rt)?;
+    take_in(rt, &mut zero, &mut one)
+}
+
+/// Two stations, of which the second takes a turn.
+fn each_turn(rt: &HostRuntime) -> Result<()> {
+    let (mut zero, mut one) = two(rt)?;
+    turn(rt, &mut zero, &mut one)
+}
+
 pub(crate) fn each(rt: &HostRuntime) -> Result<()> {
-    take_in(rt)?;
-    turn(rt)?;
+    each_parcel(rt)?;
+    each_turn(rt)?;
     gather_one(rt)
 }
