@@ -16,6 +16,8 @@ mod journals;
 #[cfg(test)]
 mod members;
 #[cfg(test)]
+mod merging;
+#[cfg(test)]
 mod plans;
 #[cfg(test)]
 mod registers;
