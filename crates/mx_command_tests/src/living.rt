@@ -15,9 +15,6 @@ const MAEKAWA: &str =
 const RAYMOND: &str =
     "{\"algorithm\":\"raymond\",\"nodes\":[\"a\",\"b\",\"c\",\"d\",\"e\"],\"registers\":[\"count\"],\"sections\":100,\"edges\":[[\"a\",\"b\"],[\"b\",\"c\"],[\"c\",\"d\"],[\"d\",\"e\"]],\"holder\":\"a\"}";
 
-const THREE: &str =
-    "{\"algorithm\":\"ricart\",\"nodes\":[\"a\",\"b\",\"c\"],\"registers\":[\"count\"],\"sections\":10}";
-
 /// What a run left.
 #[derive(Drop)]
 struct Ran {
@@ -52,54 +49,5 @@ fn live_counts_to_one_hundred(rt: HostRuntime) {
         assert_eq!(rt; ran.status, 0);
         assert!(rt; ran.err.is_empty());
         assert!(rt; ran.out.as_slice() == "receipts 100\ngapless 100\ncount=100\n".as_bytes());
-    }
-}
-
-#[test]
-fn settled_journals_count_to_one_hundred(rt: HostRuntime) {
-    let words = [
-        "live",
-        "p",
-        "--sections",
-        "20",
-        "--seed",
-        "7",
-        "--turns",
-        "100000000",
-        "--settle",
-        "5",
-    ];
-    for plan in [RICART, MAEKAWA, RAYMOND] {
-        let ran = run_words(&rt, rt.alloc(), &words, plan);
-        assert_eq!(rt; ran.status, 0);
-        assert!(rt; ran.err.is_empty());
-        assert!(rt; ran.out.as_slice() == "receipts 100\ngapless 100\ncount=100\n".as_bytes());
-    }
-}
-
-#[test]
-fn runs_of_three_nodes_end_as_they_should(rt: HostRuntime) {
-    let none = "receipts 0\ngapless 0\ncount=0\n";
-    let lines: [(&str, &str, u8, &str, &str); 4] = [
-        ("4", "10", 1, "", "mx: too few sections\n"),
-        ("3", "0", 3, "", "mx: turns spent\n"),
-        ("3", "1", 3, "", "mx: turns spent\n"),
-        ("0", "100000000", 0, none, ""),
-    ];
-    for (sections, turns, status, out, err) in &lines {
-        let words = [
-            "live",
-            "p",
-            "--sections",
-            *sections,
-            "--seed",
-            "1",
-            "--turns",
-            *turns,
-        ];
-        let ran = run_words(&rt, rt.alloc(), &words, THREE);
-        assert_eq!(rt; ran.status, *status);
-        assert!(rt; ran.out.as_slice() == out.as_bytes());
-        assert!(rt; ran.err.as_slice() == err.as_bytes());
     }
 }
