@@ -13,7 +13,7 @@ use std::thread::yield_now;
 /// A gate that opens once so many nodes have arrived, and stays shut once one of them has looked
 /// too often. Nobody may stop before all have their sections.
 #[derive(Drop)]
-struct Assembly {
+pub(crate) struct Assembly {
     nodes: u64,
     looks: u64,
     arrived: AtomicU64,
@@ -25,7 +25,7 @@ struct Assembly {
 }
 
 impl Assembly {
-    fn new(nodes: u64, looks: u64) -> Assembly {
+    pub(crate) fn new(nodes: u64, looks: u64) -> Assembly {
         Assembly {
             nodes,
             looks,
