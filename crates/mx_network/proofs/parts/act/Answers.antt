@@ -28,6 +28,15 @@ returns-in-Ask-clause-answer g c = ap answer.Asked c.ask.ensures.answer ∙ ap (
 pub returns-in-Ask-clause-letters : goal.returns-in-Ask-clause-letters
 returns-in-Ask-clause-letters g c = c.ask.ensures.letters ∙ ap (λ d. d.letters) (acted g.C.Exclusion.core c.args.sent.now c.args.member.now c.args.event.now _ c.in-Ask.is)
 
+pub returns-in-Enter-clause-state : goal.returns-in-Enter-clause-state
+returns-in-Enter-clause-state g c = c.enter.ensures.state ∙ ap (λ d. d.state) (acted g.C.Exclusion.core c.args.sent.now c.args.member.now c.args.event.now _ c.in-Enter.is)
+
+pub returns-in-Enter-clause-answer : goal.returns-in-Enter-clause-answer
+returns-in-Enter-clause-answer g c = ap answer.Entered c.enter.ensures.answer ∙ ap (λ d. d.answer) (acted g.C.Exclusion.core c.args.sent.now c.args.member.now c.args.event.now _ c.in-Enter.is)
+
+pub returns-in-Enter-clause-letters : goal.returns-in-Enter-clause-letters
+returns-in-Enter-clause-letters g c = c.requires.empty ∙ ap (λ d. d.letters) (acted g.C.Exclusion.core c.args.sent.now c.args.member.now c.args.event.now _ c.in-Enter.is)
+
 pub returns-in-Read-clause-state : goal.returns-in-Read-clause-state
 returns-in-Read-clause-state g c = c.read.ensures.state ∙ ap (λ d. d.state) (acted g.C.Exclusion.core c.args.sent.now c.args.member.now c.args.event.now _ c.in-Read.is)
 
