@@ -1,11 +1,10 @@
-use Rattle.std.proofs.Common.{◌≡◌, ◌∙◌, Err, arith, length, subst, sym}
+use Rattle.std.proofs.Common.{◌≡◌, Err, arith, length, subst}
 use Rattle.mx_ricart.specs.Step.{ricart_core}
 use Rattle.mx_maekawa.specs.Step.{maekawa_core}
 use Rattle.mx_raymond.specs.Step.{raymond_core}
 use Rattle.mx_plan.specs.Fields.{IsShape}
 use Rattle.mx_plan.specs.declared.shape.Shape.{Shape}
 use Rattle.mx_commands.specs.Jobs.{run_by}
-use Rattle.mx_commands.specs.Ran.{Ran}
 use Rattle.mx_commands.specs.declared.faults.Stop.TheVariants as stop
 use Rattle.mx_commands.proofs.JobLemmas.{ran_out}
 use Rattle.mx_commands.proofs.RunLemmas.{err_is, members_at_rest}
