@@ -1,4 +1,4 @@
-use Rattle.std.proofs.Common.{ℕ, ◌≡◌, ◌∙◌, Ok, ap}
+use Rattle.std.proofs.Common.{ℕ, ◌≡◌, ◌∙◌, Ok, ap, rules}
 use Rattle.mx_nodelaws.specs.Core.{Core}
 use Rattle.mx_journal.specs.Drafted.{Drafted}
 use Rattle.mx_member.specs.Member.{MemberState, fresh, with_core, with_draft}
@@ -16,3 +16,9 @@ inside core was m new n draft same state answer empty =
 pub returns-clause-state : goal.returns-clause-state
 returns-clause-state g c =
     inside g.C.Exclusion.core _ c.args.self.now c.enter.new.self c.in_ok-number.number _ c.self.view_is c.in_ok-number.ensures.state c.in_ok-number.ensures.answer c.clear.ensures
+
+pub invariant_of-self : goal.invariant_of-self
+invariant_of-self g c = c.self.invariant
+
+pub invariant_of-self-2 : goal.invariant_of-self-2
+invariant_of-self-2 g c = let was = c.self.invariant in (was.0, was.1, was.2, (search rules), (search rules), was.5)

@@ -5,7 +5,7 @@ use Rattle.mx_journal.specs.Drafted.{receipt_of, record_of}
 use Rattle.mx_journal.specs.Settled.{with_list}
 use Rattle.mx_member.specs.Member.{guarded}
 use Rattle.mx_member.proofs.Leaving.{lacks_record, left_answer, left_letters, left_state, unchanged}
-use Rattle.mx_member.proofs.Refusing.{closed_apart, is_err, left, memory_apart, not_inside, not_left, where_err}
+use Rattle.mx_member.proofs.Refusing.{closed_apart, is_err, left, memory_apart, no_ok, not_inside, not_left, where_err}
 use Rattle.mx_member.proofs.member.Member.leave.Goals as goal
 
 pub returns-in_default : goal.returns-in_default
@@ -27,6 +27,21 @@ keep-requires g c =
 
 pub returns-in_err-keep-clause-err : goal.returns-in_err-keep-clause-err
 returns-in_err-keep-clause-err g c = where_err c.from_residual.result (unchanged _ c.args.self.now _ c.self.view_is c.in_err-keep.ensures.err)
+
+pub returns-in_err-keep-clause-state : goal.returns-in_err-keep-clause-state
+returns-in_err-keep-clause-state g c = no_ok _ c.from_residual.result c.in_err-keep.field-0.0 (is_err c.from_residual.result c.in_err-keep.field-0.0 c.from_residual.ensures.1)
+
+pub returns-in_err-keep-clause-letters : goal.returns-in_err-keep-clause-letters
+returns-in_err-keep-clause-letters g c = no_ok _ c.from_residual.result c.in_err-keep.field-0.0 (is_err c.from_residual.result c.in_err-keep.field-0.0 c.from_residual.ensures.1)
+
+pub returns-in_err-keep-clause-quiet : goal.returns-in_err-keep-clause-quiet
+returns-in_err-keep-clause-quiet g c = where_err c.from_residual.result c.requires
+
+pub returns-clause-err : goal.returns-clause-err
+returns-clause-err g c = tt
+
+pub returns-clause-quiet : goal.returns-clause-quiet
+returns-clause-quiet g c = tt
 
 pub returns-clause-memory : goal.returns-clause-memory
 returns-clause-memory g c = λ e. absurd (closed_apart _ e)

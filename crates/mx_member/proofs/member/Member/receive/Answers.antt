@@ -9,7 +9,7 @@ use Rattle.mx_member.specs.declared.faults.DeliverFault.TheVariants.{Conflict, M
 use Rattle.mx_member.specs.declared.parcel.Parcel.{Parcel}
 use Rattle.mx_member.specs.declared.parcel.Parcel.TheVariants.{Guard, Want, Base, Records}
 use Rattle.mx_member.specs.Faults.{base_fault_of, fault_of}
-use Rattle.mx_member.specs.Member.{BringsRecords, IsViewOf}
+use Rattle.mx_member.specs.Member.{BringsRecords, IsViewOf, MemberState}
 use Rattle.mx_member.specs.Steps.{IsDisputed}
 use Rattle.mx_member.proofs.Refusing.{is_err, no_ok, where_err}
 use Rattle.mx_member.proofs.Delivering.{Tells, base_fault_known, base_tells, based_tells, fault_known, fault_told, letter_tells, put_tells, stranger_tells, told, want_tells}
@@ -28,6 +28,16 @@ taken_known nodes from l = ((λ e. absurd (let bad : ⊥ = cc in bad)), λ h. ab
 
 taken_remembers : {P : Type 0} → taken ≡ Err Memory → P
 taken_remembers e = absurd (let bad : ⊥ = cc in bad)
+
+-- who is no stranger, by the number that the test reads, and by the member that a contract sees
+heard : (from told nodes : ℕ) → told ≡ from → told < nodes → from < nodes
+heard from told nodes same l = subst (λ n. n < nodes) same l
+
+known : {S : Type 0} (from told : ℕ) (fields m : MemberState S) → fields ≡ m → told ≡ from → told < fields.setting.nodes → from < m.setting.nodes
+known from told fields m is same l = subst (λ m. from < m.setting.nodes) is (subst (λ n. n < fields.setting.nodes) same l)
+
+no_stranger : {P : Type 0} (nodes from : ℕ) → from < nodes → nodes ≤ from → P
+no_stranger nodes from l h = absurd (omega arith)
 
 stranger_known : (nodes from : ℕ) → nodes ≤ from → (refused Stranger ≡ Err Stranger) ↔ (nodes ≤ from)
 stranger_known nodes from l = ((λ _. l), (λ _. refl))
@@ -59,32 +69,28 @@ take_base-requires-clause-most g c = c.self.invariant.2
 
 pub returns-in-Guard-clause-stranger : goal.returns-in-Guard-clause-stranger
 returns-in-Guard-clause-stranger g c =
-    let nodes : c.self.inside.nodes ≡ c.args.self.now.setting.nodes = ap (λ m. m.setting.nodes) c.self.view_is in
-    taken_known c.args.self.now.setting.nodes c.args.from (omega (arith, nodes))
+    taken_known c.args.self.now.setting.nodes c.args.from (known c.args.from c.get.result _ c.args.self.now c.self.view_is c.get.ensures.value c.if-get-self.false)
 
 pub returns-in-Guard-clause-memory : goal.returns-in-Guard-clause-memory
 returns-in-Guard-clause-memory g c = λ e. taken_remembers e
 
 pub returns-in-Want-clause-stranger : goal.returns-in-Want-clause-stranger
 returns-in-Want-clause-stranger g c =
-    let nodes : c.self.inside.nodes ≡ c.args.self.now.setting.nodes = ap (λ m. m.setting.nodes) c.self.view_is in
-    taken_known c.args.self.now.setting.nodes c.args.from (omega (arith, nodes))
+    taken_known c.args.self.now.setting.nodes c.args.from (known c.args.from c.get.result _ c.args.self.now c.self.view_is c.get.ensures.value c.if-get-self.false)
 
 pub returns-in-Want-clause-memory : goal.returns-in-Want-clause-memory
 returns-in-Want-clause-memory g c = λ e. taken_remembers e
 
 pub returns-in_ok-take_base-in-Base-clause-stranger : goal.returns-in_ok-take_base-in-Base-clause-stranger
 returns-in_ok-take_base-in-Base-clause-stranger g c =
-    let nodes : c.self.inside.nodes ≡ c.args.self.now.setting.nodes = ap (λ m. m.setting.nodes) c.self.view_is in
-    taken_known c.args.self.now.setting.nodes c.args.from (omega (arith, nodes))
+    taken_known c.args.self.now.setting.nodes c.args.from (known c.args.from c.get.result _ c.args.self.now c.self.view_is c.get.ensures.value c.if-get-self.false)
 
 pub returns-in_ok-take_base-in-Base-clause-memory : goal.returns-in_ok-take_base-in-Base-clause-memory
 returns-in_ok-take_base-in-Base-clause-memory g c = λ e. taken_remembers e
 
 pub returns-in_ok-put_all-in-Records-clause-stranger : goal.returns-in_ok-put_all-in-Records-clause-stranger
 returns-in_ok-put_all-in-Records-clause-stranger g c =
-    let nodes : c.self.inside.nodes ≡ c.args.self.now.setting.nodes = ap (λ m. m.setting.nodes) c.self.view_is in
-    taken_known c.args.self.now.setting.nodes c.args.from (omega (arith, nodes))
+    taken_known c.args.self.now.setting.nodes c.args.from (known c.args.from c.get.result _ c.args.self.now c.self.view_is c.get.ensures.value c.if-get-self.false)
 
 pub returns-in_ok-put_all-in-Records-clause-memory : goal.returns-in_ok-put_all-in-Records-clause-memory
 returns-in_ok-put_all-in-Records-clause-memory g c = λ e. taken_remembers e
@@ -92,8 +98,7 @@ returns-in_ok-put_all-in-Records-clause-memory g c = λ e. taken_remembers e
 pub returns-in_err-take_base-in-Base-clause-stranger : goal.returns-in_err-take_base-in-Base-clause-stranger
 returns-in_err-take_base-in-Base-clause-stranger g c =
     let is = is_err c.from_residual.result (base_fault_of c.in_err-take_base-in-Base.field-0.0) c.from_residual.ensures.1 in
-    let nodes : c.self.inside.nodes ≡ c.args.self.now.setting.nodes = ap (λ m. m.setting.nodes) c.self.view_is in
-    ((λ e. absurd (base_fault_known c.in_err-take_base-in-Base.field-0.0 (sym is ∙ e))), (λ h. absurd (omega (arith, nodes, h))))
+    ((λ e. absurd (base_fault_known c.in_err-take_base-in-Base.field-0.0 (sym is ∙ e))), no_stranger c.args.self.now.setting.nodes c.args.from (known c.args.from c.get.result _ c.args.self.now c.self.view_is c.get.ensures.value c.if-get-self.false))
 
 pub returns-in_err-put_all-in-Records-clause-memory : goal.returns-in_err-put_all-in-Records-clause-memory
 returns-in_err-put_all-in-Records-clause-memory g c = λ _. subst (λ p. BringsRecords p) (sym c.in-Records.is) tt
@@ -124,48 +129,47 @@ returns-then-get-self-clause-taken g c =
 pub returns-in_err-put_all-in-Records-clause-stranger : goal.returns-in_err-put_all-in-Records-clause-stranger
 returns-in_err-put_all-in-Records-clause-stranger g c =
     let is = is_err c.from_residual-in_err-put_all-in-Records.result (fault_of c.in_err-put_all-in-Records.field-0.0) c.from_residual-in_err-put_all-in-Records.ensures.1 in
-    let nodes : c.self.inside.nodes ≡ c.args.self.now.setting.nodes = ap (λ m. m.setting.nodes) c.self.view_is in
-    ((λ e. absurd (fault_known c.in_err-put_all-in-Records.field-0.0 (sym is ∙ e))), (λ h. absurd (omega (arith, nodes, h))))
+    ((λ e. absurd (fault_known c.in_err-put_all-in-Records.field-0.0 (sym is ∙ e))), no_stranger c.args.self.now.setting.nodes c.args.from (known c.args.from c.get.result _ c.args.self.now c.self.view_is c.get.ensures.value c.if-get-self.false))
 
 pub returns-in-Guard-clause-conflict : goal.returns-in-Guard-clause-conflict
 returns-in-Guard-clause-conflict g c =
-    (told _ c.args.from (Guard c.in-Guard.letter) c.args.parcel.now _ c.args.self.now c.self.view_is c.in-Guard.is (letter_tells _ c.self.inside.nodes c.args.from c.in-Guard.letter c.self.inside.journal (omega arith))).0
+    (told _ c.args.from (Guard c.in-Guard.letter) c.args.parcel.now _ c.args.self.now c.self.view_is c.in-Guard.is (letter_tells _ c.self.inside.nodes c.args.from c.in-Guard.letter c.self.inside.journal (heard c.args.from c.get.result c.self.inside.nodes c.get.ensures.value c.if-get-self.false))).0
 
 pub returns-in-Guard-clause-taken : goal.returns-in-Guard-clause-taken
 returns-in-Guard-clause-taken g c =
-    (told _ c.args.from (Guard c.in-Guard.letter) c.args.parcel.now _ c.args.self.now c.self.view_is c.in-Guard.is (letter_tells _ c.self.inside.nodes c.args.from c.in-Guard.letter c.self.inside.journal (omega arith))).1
+    (told _ c.args.from (Guard c.in-Guard.letter) c.args.parcel.now _ c.args.self.now c.self.view_is c.in-Guard.is (letter_tells _ c.self.inside.nodes c.args.from c.in-Guard.letter c.self.inside.journal (heard c.args.from c.get.result c.self.inside.nodes c.get.ensures.value c.if-get-self.false))).1
 
 pub returns-in-Want-clause-conflict : goal.returns-in-Want-clause-conflict
 returns-in-Want-clause-conflict g c =
-    (told _ c.args.from (Want c.in-Want.ranges) c.args.parcel.now _ c.args.self.now c.self.view_is c.in-Want.is (want_tells g.row.C-Msg.Denot c.self.inside.nodes c.args.from c.in-Want.ranges c.self.inside.journal (omega arith))).0
+    (told _ c.args.from (Want c.in-Want.ranges) c.args.parcel.now _ c.args.self.now c.self.view_is c.in-Want.is (want_tells g.row.C-Msg.Denot c.self.inside.nodes c.args.from c.in-Want.ranges c.self.inside.journal (heard c.args.from c.get.result c.self.inside.nodes c.get.ensures.value c.if-get-self.false))).0
 
 pub returns-in-Want-clause-taken : goal.returns-in-Want-clause-taken
 returns-in-Want-clause-taken g c =
-    (told _ c.args.from (Want c.in-Want.ranges) c.args.parcel.now _ c.args.self.now c.self.view_is c.in-Want.is (want_tells g.row.C-Msg.Denot c.self.inside.nodes c.args.from c.in-Want.ranges c.self.inside.journal (omega arith))).1
+    (told _ c.args.from (Want c.in-Want.ranges) c.args.parcel.now _ c.args.self.now c.self.view_is c.in-Want.is (want_tells g.row.C-Msg.Denot c.self.inside.nodes c.args.from c.in-Want.ranges c.self.inside.journal (heard c.args.from c.get.result c.self.inside.nodes c.get.ensures.value c.if-get-self.false))).1
 
 pub returns-in_err-take_base-in-Base-clause-conflict : goal.returns-in_err-take_base-in-Base-clause-conflict
 returns-in_err-take_base-in-Base-clause-conflict g c =
     let is = is_err c.from_residual.result (base_fault_of c.in_err-take_base-in-Base.field-0.0) c.from_residual.ensures.1 in
     (told _ c.args.from (Base c.in-Base.base) c.args.parcel.now _ c.args.self.now c.self.view_is c.in-Base.is
     (subst (λ r. Tells {M = g.row.C-Msg.Denot} r c.self.inside.nodes c.args.from (Base c.in-Base.base) c.self.inside.journal) (sym is)
-    (base_tells g.row.C-Msg.Denot c.in_err-take_base-in-Base.field-0.0 c.self.inside.nodes c.args.from c.in-Base.base c.self.inside.journal (omega arith) c.in_err-take_base-in-Base.ensures.conflict))).0
+    (base_tells g.row.C-Msg.Denot c.in_err-take_base-in-Base.field-0.0 c.self.inside.nodes c.args.from c.in-Base.base c.self.inside.journal (heard c.args.from c.get.result c.self.inside.nodes c.get.ensures.value c.if-get-self.false) c.in_err-take_base-in-Base.ensures.conflict))).0
 
 pub returns-in_err-take_base-in-Base-clause-taken : goal.returns-in_err-take_base-in-Base-clause-taken
 returns-in_err-take_base-in-Base-clause-taken g c =
     let is = is_err c.from_residual.result (base_fault_of c.in_err-take_base-in-Base.field-0.0) c.from_residual.ensures.1 in
     (told _ c.args.from (Base c.in-Base.base) c.args.parcel.now _ c.args.self.now c.self.view_is c.in-Base.is
     (subst (λ r. Tells {M = g.row.C-Msg.Denot} r c.self.inside.nodes c.args.from (Base c.in-Base.base) c.self.inside.journal) (sym is)
-    (base_tells g.row.C-Msg.Denot c.in_err-take_base-in-Base.field-0.0 c.self.inside.nodes c.args.from c.in-Base.base c.self.inside.journal (omega arith) c.in_err-take_base-in-Base.ensures.conflict))).1
+    (base_tells g.row.C-Msg.Denot c.in_err-take_base-in-Base.field-0.0 c.self.inside.nodes c.args.from c.in-Base.base c.self.inside.journal (heard c.args.from c.get.result c.self.inside.nodes c.get.ensures.value c.if-get-self.false) c.in_err-take_base-in-Base.ensures.conflict))).1
 
 pub returns-in_ok-take_base-in-Base-clause-conflict : goal.returns-in_ok-take_base-in-Base-clause-conflict
 returns-in_ok-take_base-in-Base-clause-conflict g c =
     (told _ c.args.from (Base c.in-Base.base) c.args.parcel.now _ c.args.self.now c.self.view_is c.in-Base.is
-    (based_tells g.row.C-Msg.Denot c.self.inside.nodes c.args.from c.in-Base.base c.self.inside.journal (omega arith) (c.in_ok-take_base-in-Base.ensures.agreed.0 refl))).0
+    (based_tells g.row.C-Msg.Denot c.self.inside.nodes c.args.from c.in-Base.base c.self.inside.journal (heard c.args.from c.get.result c.self.inside.nodes c.get.ensures.value c.if-get-self.false) (c.in_ok-take_base-in-Base.ensures.agreed.0 refl))).0
 
 pub returns-in_ok-take_base-in-Base-clause-taken : goal.returns-in_ok-take_base-in-Base-clause-taken
 returns-in_ok-take_base-in-Base-clause-taken g c =
     (told _ c.args.from (Base c.in-Base.base) c.args.parcel.now _ c.args.self.now c.self.view_is c.in-Base.is
-    (based_tells g.row.C-Msg.Denot c.self.inside.nodes c.args.from c.in-Base.base c.self.inside.journal (omega arith) (c.in_ok-take_base-in-Base.ensures.agreed.0 refl))).1
+    (based_tells g.row.C-Msg.Denot c.self.inside.nodes c.args.from c.in-Base.base c.self.inside.journal (heard c.args.from c.get.result c.self.inside.nodes c.get.ensures.value c.if-get-self.false) (c.in_ok-take_base-in-Base.ensures.agreed.0 refl))).1
 
 pub returns-in_err-put_all-in-Records-clause-conflict : goal.returns-in_err-put_all-in-Records-clause-conflict
 returns-in_err-put_all-in-Records-clause-conflict g c =
@@ -173,7 +177,7 @@ returns-in_err-put_all-in-Records-clause-conflict g c =
     let is = is_err c.from_residual-in_err-put_all-in-Records.result (fault_of c.in_err-put_all-in-Records.field-0.0) c.from_residual-in_err-put_all-in-Records.ensures.1 in
     (told _ c.args.from (Records c.in-Records.records) c.args.parcel.now _ c.args.self.now c.self.view_is c.in-Records.is
     (subst (λ r. Tells {M = g.row.C-Msg.Denot} r c.self.inside.nodes c.args.from (Records c.in-Records.records) c.self.inside.journal) (sym is)
-    (fault_told g.row.C-Msg.Denot c.in_err-put_all-in-Records.field-0.0 c.self.inside.nodes c.args.from c.in-Records.records c.as_slice-list.result.now c.self.inside.journal c.as_slice-list.ensures.value (omega arith) e.zero e.conflict e.agreed))).0
+    (fault_told g.row.C-Msg.Denot c.in_err-put_all-in-Records.field-0.0 c.self.inside.nodes c.args.from c.in-Records.records c.as_slice-list.result.now c.self.inside.journal c.as_slice-list.ensures.value (heard c.args.from c.get.result c.self.inside.nodes c.get.ensures.value c.if-get-self.false) e.zero e.conflict e.agreed))).0
 
 pub returns-in_err-put_all-in-Records-clause-taken : goal.returns-in_err-put_all-in-Records-clause-taken
 returns-in_err-put_all-in-Records-clause-taken g c =
@@ -181,20 +185,20 @@ returns-in_err-put_all-in-Records-clause-taken g c =
     let is = is_err c.from_residual-in_err-put_all-in-Records.result (fault_of c.in_err-put_all-in-Records.field-0.0) c.from_residual-in_err-put_all-in-Records.ensures.1 in
     (told _ c.args.from (Records c.in-Records.records) c.args.parcel.now _ c.args.self.now c.self.view_is c.in-Records.is
     (subst (λ r. Tells {M = g.row.C-Msg.Denot} r c.self.inside.nodes c.args.from (Records c.in-Records.records) c.self.inside.journal) (sym is)
-    (fault_told g.row.C-Msg.Denot c.in_err-put_all-in-Records.field-0.0 c.self.inside.nodes c.args.from c.in-Records.records c.as_slice-list.result.now c.self.inside.journal c.as_slice-list.ensures.value (omega arith) e.zero e.conflict e.agreed))).1
+    (fault_told g.row.C-Msg.Denot c.in_err-put_all-in-Records.field-0.0 c.self.inside.nodes c.args.from c.in-Records.records c.as_slice-list.result.now c.self.inside.journal c.as_slice-list.ensures.value (heard c.args.from c.get.result c.self.inside.nodes c.get.ensures.value c.if-get-self.false) e.zero e.conflict e.agreed))).1
 
 pub returns-in_ok-put_all-in-Records-clause-conflict : goal.returns-in_ok-put_all-in-Records-clause-conflict
 returns-in_ok-put_all-in-Records-clause-conflict g c =
     let journal = c.self.inside.journal in
     (told _ c.args.from (Records c.in-Records.records) c.args.parcel.now _ c.args.self.now c.self.view_is c.in-Records.is
-    (put_tells g.row.C-Msg.Denot c.self.inside.nodes c.args.from c.in-Records.records journal (omega arith)
+    (put_tells g.row.C-Msg.Denot c.self.inside.nodes c.args.from c.in-Records.records journal (heard c.args.from c.get.result c.self.inside.nodes c.get.ensures.value c.if-get-self.false)
     (subst (λ l. IsNumbered l × IsConsistent (journal.records ++ beyond journal.base.upto l)) c.as_slice-list.ensures.value (c.in_ok-put_all-in-Records.ensures.agreed.0 (inl refl))))).0
 
 pub returns-in_ok-put_all-in-Records-clause-taken : goal.returns-in_ok-put_all-in-Records-clause-taken
 returns-in_ok-put_all-in-Records-clause-taken g c =
     let journal = c.self.inside.journal in
     (told _ c.args.from (Records c.in-Records.records) c.args.parcel.now _ c.args.self.now c.self.view_is c.in-Records.is
-    (put_tells g.row.C-Msg.Denot c.self.inside.nodes c.args.from c.in-Records.records journal (omega arith)
+    (put_tells g.row.C-Msg.Denot c.self.inside.nodes c.args.from c.in-Records.records journal (heard c.args.from c.get.result c.self.inside.nodes c.get.ensures.value c.if-get-self.false)
     (subst (λ l. IsNumbered l × IsConsistent (journal.records ++ beyond journal.base.upto l)) c.as_slice-list.ensures.value (c.in_ok-put_all-in-Records.ensures.agreed.0 (inl refl))))).1
 
 pub invariant_of-self-in-Records : goal.invariant_of-self-in-Records
