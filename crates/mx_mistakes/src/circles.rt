@@ -18,21 +18,21 @@ impl Parts {
         Ok(Parts(parts))
     }
 
-    /// Whether two nodes are joined.
-    fn are_joined(&self, i: usize, j: usize) -> bool {
-        self.0.get(i) == self.0.get(j)
+    /// The number of a node's part.
+    fn of(&self, node: usize) -> usize {
+        self.0.get(node).copied().unwrap_or(node)
     }
 
-    /// Joins two nodes.
-    fn join(&mut self, i: usize, j: usize) {
-        let (Some(kept), Some(gone)) = (self.0.get(i).copied(), self.0.get(j).copied()) else {
-            return;
-        };
+    /// Joins two nodes. Answers whether they were joined before.
+    fn join(&mut self, i: usize, j: usize) -> bool {
+        let kept = self.of(i);
+        let gone = self.of(j);
         for part in &mut self.0 {
             if *part == gone {
                 *part = kept;
             }
         }
+        kept == gone
     }
 }
 
@@ -60,15 +60,18 @@ fn explain_circle(
     let [first, second] = edge else {
         return Ok(());
     };
-    let ends = (node_in(first, nodes), node_in(second, nodes));
-    let (Some(i), Some(j)) = ends else {
-        return Ok(());
-    };
-    if i != j && parts.are_joined(i, j) {
-        page.say(Circle { k, first, second })?;
+    if closes_circle(first, second, nodes, parts) {
+        return page.say(Circle { k, first, second });
     }
-    parts.join(i, j);
     Ok(())
+}
+
+/// Joins the ends of an edge, where they are two nodes. Answers whether they were joined before.
+fn closes_circle(first: &Value, second: &Value, nodes: &[&str], parts: &mut Parts) -> bool {
+    match (node_in(first, nodes), node_in(second, nodes)) {
+        (Some(i), Some(j)) if i != j => parts.join(i, j),
+        _ => false,
+    }
 }
 
 /// The number of the node that a value names.
@@ -86,11 +89,12 @@ struct Circle<'a> {
 
 impl fmt::Display for Circle<'_> {
     fn fmt<W: fmt::Write>(&self, f: &mut fmt::Formatter<W>) -> fmt::Result {
-        let k = self.k;
-        let (first, second) = (Found(Some(self.first)), Found(Some(self.second)));
         write!(
             f,
-            " edges[{k}]: this edge closes a circle, since edges before it join {first} and {second}"
+            " edges[{}]: this edge closes a circle, since edges before it join {} and {}",
+            self.k,
+            Found(Some(self.first)),
+            Found(Some(self.second))
         )
     }
 }

@@ -3,7 +3,7 @@
 use crate::expecting::{expect, expect_number, expect_word};
 use crate::lines::Path;
 use crate::page::Page;
-use crate::values::{elements, items_in, text_in};
+use crate::values::{elements, is_among, items_in, text_in};
 use serde_json::Value;
 use std::alloc::AllocError;
 
@@ -18,6 +18,55 @@ const WORDS: [&str; 11] = [
 const EXPECTED_WORD: &str =
     "ask, enter, read, write, leave, cancel, settle, tick, want, deliver or restart";
 
+/// What an item of an event is.
+#[derive(Clone, Copy)]
+enum Wanted {
+    Node,
+    Register,
+    Number,
+}
+
+/// What stands behind the word of an event, where it is one of these.
+#[derive(Clone, Copy)]
+struct Form {
+    words: &'static [&'static str],
+    items: &'static [Wanted],
+    expected: &'static str,
+}
+
+const FORMS: [Form; 6] = [
+    Form {
+        words: &["ask", "enter", "leave", "cancel", "tick", "restart"],
+        items: &[Wanted::Node],
+        expected: "a node behind the word, and no more",
+    },
+    Form {
+        words: &["read"],
+        items: &[Wanted::Node, Wanted::Register],
+        expected: "a node and a register behind the word",
+    },
+    Form {
+        words: &["write"],
+        items: &[Wanted::Node, Wanted::Register, Wanted::Number],
+        expected: "a node, a register and a number behind the word",
+    },
+    Form {
+        words: &["want"],
+        items: &[Wanted::Node, Wanted::Node],
+        expected: "two nodes behind the word",
+    },
+    Form {
+        words: &["settle"],
+        items: &[Wanted::Node, Wanted::Number],
+        expected: "a node and the number of a section behind the word",
+    },
+    Form {
+        words: &["deliver"],
+        items: &[Wanted::Number],
+        expected: "the number of a parcel behind the word",
+    },
+];
+
 /// The names that events may have.
 #[derive(Clone, Copy)]
 pub(crate) struct Known<'a> {
@@ -31,14 +80,15 @@ pub(crate) fn explain_events(
     value: &Value,
     known: Known<'_>,
 ) -> Result<(), AllocError> {
-    let Some(events) = elements(Some(value)) else {
-        let expected = "an array of events, as [[\"ask\",NODE],[\"deliver\",0]]";
-        return expect(page, Path::of("events"), Some(value), expected);
+    let expected = match elements(Some(value)) {
+        Some(events) if events.len() <= MOST_EVENTS => return explain_each(page, events, known),
+        Some(_) => "at most 1000000 events",
+        None => "an array of events, as [[\"ask\",NODE],[\"deliver\",0]]",
     };
-    if events.len() > MOST_EVENTS {
-        let expected = "at most 1000000 events";
-        return expect(page, Path::of("events"), Some(value), expected);
-    }
+    expect(page, Path::Member("events"), Some(value), expected)
+}
+
+fn explain_each(page: &mut Page<'_>, events: &[Value], known: Known<'_>) -> Result<(), AllocError> {
     for (k, event) in events.iter().enumerate() {
         explain_event(page, k, event, known)?;
     }
@@ -51,77 +101,42 @@ fn explain_event(
     event: &Value,
     known: Known<'_>,
 ) -> Result<(), AllocError> {
-    let list = items_in(Some(event));
-    let Some(first) = list.first() else {
-        let items = [k];
+    let Some((first, arguments)) = items_in(Some(event)).split_first() else {
         let expected = "an array of a word and its arguments, as [\"ask\",NODE]";
-        return expect(page, Path::item("events", &items), Some(event), expected);
+        return expect(page, Path::Item("events", k), Some(event), expected);
     };
-    let word = text_in(Some(first));
-    let Some((len, expected)) = form_of(word) else {
-        let items = [k, 0];
-        let path = Path::item("events", &items);
-        return expect_word(page, path, Some(first), &WORDS, EXPECTED_WORD);
-    };
-    if list.len() != len {
-        let items = [k];
-        return expect(page, Path::item("events", &items), Some(event), expected);
-    }
-    explain_arguments(page, k, word, list, known)
-}
-
-/// How many items the event of a word has, and which.
-fn form_of(word: &str) -> Option<(usize, &'static str)> {
-    match word {
-        "ask" | "enter" | "leave" | "cancel" | "tick" | "restart" => {
-            Some((2, "a node behind the word, and no more"))
+    let path = Path::Inner("events", k, 0);
+    match form_of(text_in(Some(first))) {
+        Some(form) if form.items.len() == arguments.len() => {
+            explain_arguments(page, k, form.items, arguments, known)
         }
-        "read" => Some((3, "a node and a register behind the word")),
-        "write" => Some((4, "a node, a register and a number behind the word")),
-        "want" => Some((3, "two nodes behind the word")),
-        "settle" => Some((3, "a node and the number of a section behind the word")),
-        "deliver" => Some((2, "the number of a parcel behind the word")),
-        _ => None,
+        Some(form) => expect(page, Path::Item("events", k), Some(event), form.expected),
+        None => expect_word(page, path, Some(first), &WORDS, EXPECTED_WORD),
     }
 }
 
+/// The form of the events of a word.
+fn form_of(word: &str) -> Option<Form> {
+    for form in &FORMS {
+        if is_among(word, form.words) {
+            return Some(*form);
+        }
+    }
+    None
+}
+
+/// What stands behind the word of the k-th event, of which each item is wanted.
 fn explain_arguments(
     page: &mut Page<'_>,
     k: usize,
-    word: &str,
-    list: &[Value],
+    items: &[Wanted],
+    arguments: &[Value],
     known: Known<'_>,
 ) -> Result<(), AllocError> {
-    for (i, value) in list.iter().enumerate() {
-        let items = [k, i];
-        explain_argument(
-            page,
-            Path::item("events", &items),
-            item_of(word, i),
-            value,
-            known,
-        )?;
+    for (i, (wanted, value)) in items.iter().zip(arguments).enumerate() {
+        explain_argument(page, Path::Inner("events", k, i + 1), *wanted, value, known)?;
     }
     Ok(())
-}
-
-/// What an item of an event is.
-#[derive(Clone, Copy)]
-enum Wanted {
-    Word,
-    Node,
-    Register,
-    Number,
-}
-
-/// What the i-th item of the event of a word is.
-fn item_of(word: &str, i: usize) -> Wanted {
-    match (word, i) {
-        (_, 0) => Wanted::Word,
-        ("deliver", _) | ("settle", 2) | (_, 3) => Wanted::Number,
-        ("read" | "write", 2) => Wanted::Register,
-        _ => Wanted::Node,
-    }
 }
 
 fn explain_argument<'a>(
@@ -133,7 +148,6 @@ fn explain_argument<'a>(
 ) -> Result<(), AllocError> {
     let found = Some(value);
     match wanted {
-        Wanted::Word => Ok(()),
         Wanted::Node => expect_word(page, path, found, known.nodes, "a node of the plan"),
         Wanted::Register => {
             expect_word(page, path, found, known.registers, "a register of the plan")

@@ -1,6 +1,5 @@
 //! Places, and what is said of them.
 
-use crate::values::{elements, text_in};
 use serde_json::Value;
 use std::fmt;
 use std::fmt::Display;
@@ -8,32 +7,21 @@ use std::fmt::Display;
 /// A longer text is not shown.
 const MOST_BYTES: usize = 40;
 
-/// A place in a file: a member, and the numbers of items in it, counted from 0.
+/// A place in a file: a member, an item in it, or an item in that; items are counted from 0.
 #[derive(Clone, Copy)]
-pub(crate) struct Path<'a> {
-    pub(crate) member: &'a str,
-    pub(crate) items: &'a [usize],
-}
-
-impl<'a> Path<'a> {
-    /// A member itself.
-    pub(crate) fn of(member: &'a str) -> Self {
-        Path { member, items: &[] }
-    }
-
-    /// An item of a member, or an item of that.
-    pub(crate) fn item(member: &'a str, items: &'a [usize]) -> Self {
-        Path { member, items }
-    }
+pub(crate) enum Path<'a> {
+    Member(&'a str),
+    Item(&'a str, usize),
+    Inner(&'a str, usize, usize),
 }
 
 impl Display for Path<'_> {
     fn fmt<W: fmt::Write>(&self, f: &mut fmt::Formatter<W>) -> fmt::Result {
-        f.write_str(self.member)?;
-        for item in self.items {
-            write!(f, "[{item}]")?;
+        match self {
+            Path::Member(member) => f.write_str(member),
+            Path::Item(member, i) => write!(f, "{member}[{i}]"),
+            Path::Inner(member, i, j) => write!(f, "{member}[{i}][{j}]"),
         }
-        Ok(())
     }
 }
 
@@ -43,21 +31,15 @@ pub(crate) struct Found<'a>(pub(crate) Option<&'a Value>);
 
 impl Display for Found<'_> {
     fn fmt<W: fmt::Write>(&self, f: &mut fmt::Formatter<W>) -> fmt::Result {
-        let Some(value) = self.0 else {
-            return f.write_str("nothing");
-        };
-        if value.is_object() {
-            return f.write_str("an object");
+        match self.0 {
+            None => f.write_str("nothing"),
+            Some(Value::Object(_)) => f.write_str("an object"),
+            Some(Value::Array(items)) => write!(f, "an array of {}", items.len()),
+            Some(Value::String(text)) if text.len() > MOST_BYTES => {
+                write!(f, "a text of {} bytes", text.len())
+            }
+            Some(value) => write!(f, "{value}"),
         }
-        if let Some(items) = elements(Some(value)) {
-            let count = items.len();
-            return write!(f, "an array of {count}");
-        }
-        let bytes = text_in(Some(value)).len();
-        if bytes > MOST_BYTES {
-            return write!(f, "a text of {bytes} bytes");
-        }
-        write!(f, "{value}")
     }
 }
 

@@ -1,32 +1,65 @@
-//! Lines and columns of a text, both counted from 1.
+//! Lines and columns of a text.
 
-/// The line and the column of a byte.
-pub(crate) fn place_of(text: &[u8], offset: usize) -> (usize, usize) {
-    let mut place = (1, 1);
+use std::fmt;
+
+/// A line and a column of a text, both counted from 1.
+#[derive(Clone, Copy)]
+pub(crate) struct Place {
+    line: usize,
+    column: usize,
+}
+
+/// Where a text begins.
+const START: Place = Place { line: 1, column: 1 };
+
+impl Place {
+    /// The same place in a file where so many lines stand above the text.
+    pub(crate) fn below(self, lines: usize) -> Place {
+        Place {
+            line: self.line.saturating_add(lines),
+            column: self.column,
+        }
+    }
+
+    /// The place behind a byte that stands here.
+    fn behind(self, byte: u8) -> Place {
+        if byte == b'\n' {
+            Place {
+                line: self.line.saturating_add(1),
+                column: 1,
+            }
+        } else {
+            Place {
+                line: self.line,
+                column: self.column.saturating_add(1),
+            }
+        }
+    }
+}
+
+impl fmt::Display for Place {
+    fn fmt<W: fmt::Write>(&self, f: &mut fmt::Formatter<W>) -> fmt::Result {
+        write!(f, "{}:{}", self.line, self.column)
+    }
+}
+
+/// The place of a byte.
+pub(crate) fn place_of(text: &[u8], offset: usize) -> Place {
+    let mut place = START;
     for byte in text.iter().take(offset) {
-        place = place_after(place, *byte);
+        place = place.behind(*byte);
     }
     place
 }
 
 /// The byte of a line and a column, or the end of the text where there is none.
 pub(crate) fn offset_of(text: &[u8], line: usize, column: usize) -> usize {
-    let mut place = (1, 1);
+    let mut place = START;
     for (offset, byte) in text.iter().enumerate() {
-        if place == (line, column) {
+        if place.line == line && place.column == column {
             return offset;
         }
-        place = place_after(place, *byte);
+        place = place.behind(*byte);
     }
     text.len()
-}
-
-/// The line and the column behind a byte.
-fn place_after(place: (usize, usize), byte: u8) -> (usize, usize) {
-    let (line, column) = place;
-    if byte == b'\n' {
-        (line.saturating_add(1), 1)
-    } else {
-        (line, column.saturating_add(1))
-    }
 }

@@ -8,7 +8,7 @@ use crate::expecting::{expect, expect_number, expect_word, warn_of_unread};
 use crate::lines::{Foreign, Path};
 use crate::page::Page;
 use crate::shape_members::explain_shape;
-use crate::values::{is_among, items_in, names_in, text_in};
+use crate::values::{is_among, items_in, member_of, names_at, names_in, text_in};
 use serde_json::Value;
 use std::alloc::AllocError;
 
@@ -32,7 +32,7 @@ const MEMBERS: [&str; 8] = [
     "holder",
 ];
 
-/// Those that are read for one algorithm alone.
+/// Those that are read for one algorithm alone, and the algorithm.
 const OWNED: [(&str, &str); 3] = [
     ("quorums", "maekawa"),
     ("edges", "raymond"),
@@ -45,91 +45,120 @@ const NAMES: &str = "a name: 1 to 16 of letters, digits, _ and -";
 pub(crate) fn explain_plan(page: &mut Page<'_>, plan: &Value) -> Result<(), AllocError> {
     if !plan.is_object() {
         let expected = "an object with algorithm, nodes, registers and sections";
-        return expect(page, Path::of("the plan"), Some(plan), expected);
+        return expect(page, Path::Member("the plan"), Some(plan), expected);
     }
-    let algorithms = "an algorithm: ricart, maekawa or raymond";
-    let algorithm = plan.get("algorithm");
+    let algorithm = member_of(plan, "algorithm");
+    explain_algorithm(page, algorithm)?;
+    explain_members(page, text_in(algorithm), plan)?;
+    warn_of_foreign(page, text_in(algorithm), plan)
+}
+
+fn explain_algorithm(page: &mut Page<'_>, value: Option<&Value>) -> Result<(), AllocError> {
+    let expected = "an algorithm: ricart, maekawa or raymond";
     expect_word(
         page,
-        Path::of("algorithm"),
-        algorithm,
+        Path::Member("algorithm"),
+        value,
         &ALGORITHMS,
-        algorithms,
-    )?;
-    let (nodes, registers) = ("an array of 1 to 21 names", "an array of 1 to 32 names");
-    explain_names(page, "nodes", plan.get("nodes"), MOST_NODES, nodes)?;
-    explain_names(
-        page,
-        "registers",
-        plan.get("registers"),
-        MOST_REGISTERS,
-        registers,
-    )?;
+        expected,
+    )
+}
+
+/// The other members of a plan for an algorithm, and which ones nobody reads.
+fn explain_members(page: &mut Page<'_>, algorithm: &str, plan: &Value) -> Result<(), AllocError> {
+    explain_lists(page, plan)?;
     explain_numbers(page, plan)?;
-    let nodes = names_in(page.alloc, plan.get("nodes"), MOST_NODES)?;
-    explain_shape(page, text_in(algorithm), plan, nodes.as_slice())?;
-    warn_of_unread(page, "", plan, &MEMBERS)?;
-    warn_of_foreign(page, text_in(algorithm), plan)
+    explain_shape_of(page, algorithm, plan)?;
+    warn_of_unread(page, "", plan, &MEMBERS)
+}
+
+/// The names of a plan.
+fn explain_lists(page: &mut Page<'_>, plan: &Value) -> Result<(), AllocError> {
+    let (nodes, registers) = ("an array of 1 to 21 names", "an array of 1 to 32 names");
+    explain_names(page, "nodes", plan, MOST_NODES, nodes)?;
+    explain_names(page, "registers", plan, MOST_REGISTERS, registers)
+}
+
+/// The shape of its nodes.
+fn explain_shape_of(page: &mut Page<'_>, algorithm: &str, plan: &Value) -> Result<(), AllocError> {
+    let nodes = names_at(page.alloc, Some(plan), "nodes", MOST_NODES)?;
+    explain_shape(page, algorithm, plan, nodes.as_slice())
 }
 
 /// The bounds of a plan.
 fn explain_numbers(page: &mut Page<'_>, plan: &Value) -> Result<(), AllocError> {
-    let sections = plan.get("sections");
+    let sections = member_of(plan, "sections");
     let expected = "a whole number, 1 to 1000000";
-    expect_number(page, Path::of("sections"), sections, 1, 1_000_000, expected)?;
-    let Some(origin) = plan.get("origin") else {
-        return Ok(());
-    };
-    let expected = "a whole number of 64 bits without a sign";
     expect_number(
         page,
-        Path::of("origin"),
-        Some(origin),
-        0,
-        u64::MAX,
+        Path::Member("sections"),
+        sections,
+        1,
+        1_000_000,
         expected,
-    )
+    )?;
+    explain_origin(page, member_of(plan, "origin"))
+}
+
+/// The number of the first section, which a plan may leave out.
+fn explain_origin(page: &mut Page<'_>, value: Option<&Value>) -> Result<(), AllocError> {
+    if value.is_none() {
+        return Ok(());
+    }
+    let expected = "a whole number of 64 bits without a sign";
+    expect_number(page, Path::Member("origin"), value, 0, u64::MAX, expected)
 }
 
 /// A list of names, no two equal.
 fn explain_names<'a>(
     page: &mut Page<'_>,
     key: &'a str,
-    value: Option<&'a Value>,
+    plan: &'a Value,
     most: usize,
     expected: &'a str,
 ) -> Result<(), AllocError> {
+    let value = member_of(plan, key);
     let list = items_in(value);
     if list.is_empty() || list.len() > most {
-        return expect(page, Path::of(key), value, expected);
+        return expect(page, Path::Member(key), value, expected);
     }
-    let names = names_in(page.alloc, value, most)?;
-    for (i, item) in list.iter().enumerate() {
-        explain_name(page, key, i, item, names.as_slice())?;
+    let names = names_in(page.alloc, list, most)?;
+    explain_each_name(page, key, list, names.as_slice())
+}
+
+/// Each of these names.
+fn explain_each_name(
+    page: &mut Page<'_>,
+    key: &str,
+    list: &[Value],
+    names: &[&str],
+) -> Result<(), AllocError> {
+    for (i, value) in list.iter().enumerate() {
+        explain_name(
+            page,
+            Path::Item(key, i),
+            value,
+            names.get(..i).unwrap_or(&[]),
+        )?;
     }
     Ok(())
 }
 
-/// One of these names, the i-th.
+/// A name, which none of the earlier ones equals.
 fn explain_name<'a>(
     page: &mut Page<'_>,
-    key: &'a str,
-    i: usize,
+    path: Path<'a>,
     value: &'a Value,
-    names: &[&str],
+    earlier: &[&str],
 ) -> Result<(), AllocError> {
-    let items = [i];
-    let path = Path::item(key, &items);
     let name = text_in(Some(value));
     if !is_name(name) {
         return expect(page, path, Some(value), NAMES);
     }
-    match names.get(..i) {
-        Some(earlier) if is_among(name, earlier) => {
-            expect(page, path, Some(value), "a name that no earlier one equals")
-        }
-        _ => Ok(()),
+    if is_among(name, earlier) {
+        return expect(page, path, Some(value), "a name that no earlier one equals");
     }
+    Ok(())
 }
 
 /// Whether a text may be a name.
@@ -161,14 +190,26 @@ fn warn_of_foreign(page: &mut Page<'_>, algorithm: &str, plan: &Value) -> Result
     if !is_among(algorithm, &ALGORITHMS) {
         return Ok(());
     }
-    for (key, owner) in OWNED {
-        if owner != algorithm && plan.get(key).is_some() {
-            page.say(Foreign {
-                key,
-                owner,
-                algorithm,
-            })?;
-        }
+    for (key, owner) in &OWNED {
+        warn_of_owned(page, *key, *owner, algorithm, plan)?;
     }
     Ok(())
+}
+
+/// Warns of a member that is read for its owner alone, where it stands in a plan for another algorithm.
+fn warn_of_owned(
+    page: &mut Page<'_>,
+    key: &str,
+    owner: &str,
+    algorithm: &str,
+    plan: &Value,
+) -> Result<(), AllocError> {
+    if owner == algorithm || member_of(plan, key).is_none() {
+        return Ok(());
+    }
+    page.say(Foreign {
+        key,
+        owner,
+        algorithm,
+    })
 }

@@ -2,7 +2,7 @@
 
 use crate::lines::Key;
 use crate::page::Page;
-use crate::places::place_of;
+use crate::places::{Place, place_of};
 use crate::scan::{Member, scanned};
 use std::alloc::AllocError;
 use std::collections::BTreeSet;
@@ -37,10 +37,8 @@ fn say_repeated(
     key: &[u8],
 ) -> Result<(), AllocError> {
     let offset = if page.is_full() { 0 } else { from };
-    let (line, column) = place_of(text, offset);
     page.say(Repeated {
-        line,
-        column,
+        place: place_of(text, offset),
         key: str::from_utf8(key).unwrap_or("?"),
     })
 }
@@ -48,18 +46,17 @@ fn say_repeated(
 /// A warning of a member that stands twice.
 #[derive(Clone, Copy)]
 struct Repeated<'a> {
-    line: usize,
-    column: usize,
+    place: Place,
     key: &'a str,
 }
 
 impl fmt::Display for Repeated<'_> {
     fn fmt<W: fmt::Write>(&self, f: &mut fmt::Formatter<W>) -> fmt::Result {
-        let key = Key(self.key);
         write!(
             f,
-            "{}:{}: warning: {key} stands twice in one object, and the last counts",
-            self.line, self.column
+            "{}: warning: {} stands twice in one object, and the last counts",
+            self.place,
+            Key(self.key)
         )
     }
 }

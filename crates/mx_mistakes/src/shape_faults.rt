@@ -1,7 +1,8 @@
 //! Why nodes have no such shape.
 
 use crate::page::Page;
-use crate::values::items_in;
+use crate::plan_faults::MOST_NODES;
+use crate::values::{items_in, member_of, names_at};
 use mx_plan::ShapeFault;
 use mx_quorums::QuorumFault;
 use mx_trees::TreeFault;
@@ -10,10 +11,20 @@ use std::alloc::AllocError;
 use std::fmt;
 
 /// Says why the nodes of a plan have no such shape, by their names.
-pub(crate) fn explain_shape_fault<'a>(
+pub(crate) fn explain_shape_fault(
     page: &mut Page<'_>,
     plan: &Value,
-    nodes: &'a [&'a str],
+    fault: ShapeFault,
+) -> Result<(), AllocError> {
+    let nodes = names_at(page.alloc, Some(plan), "nodes", MOST_NODES)?;
+    let edges = items_in(member_of(plan, "edges")).len();
+    say_fault(page, nodes.as_slice(), edges, fault)
+}
+
+fn say_fault(
+    page: &mut Page<'_>,
+    nodes: &[&str],
+    edges: usize,
     fault: ShapeFault,
 ) -> Result<(), AllocError> {
     match fault {
@@ -21,7 +32,7 @@ pub(crate) fn explain_shape_fault<'a>(
         ShapeFault::Tree(fault) => page.say(TreeWords {
             fault,
             nodes,
-            edges: items_in(plan.get("edges")).len(),
+            edges,
         }),
     }
 }

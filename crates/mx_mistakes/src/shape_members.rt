@@ -4,7 +4,7 @@ use crate::circles::explain_circles;
 use crate::expecting::{expect, expect_number, expect_word, number_in, warn_of_unread};
 use crate::lines::Path;
 use crate::page::Page;
-use crate::values::{elements, items_in, text_in};
+use crate::values::{elements, items_in, member_of, text_in};
 use serde_json::Value;
 use std::alloc::AllocError;
 
@@ -18,7 +18,7 @@ pub(crate) fn explain_shape(
     nodes: &[&str],
 ) -> Result<(), AllocError> {
     match algorithm {
-        "maekawa" => explain_quorums(page, plan.get("quorums"), nodes),
+        "maekawa" => explain_quorums(page, member_of(plan, "quorums"), nodes),
         "raymond" => explain_tree(page, plan, nodes),
         _ => Ok(()),
     }
@@ -29,19 +29,37 @@ fn explain_quorums(
     value: Option<&Value>,
     nodes: &[&str],
 ) -> Result<(), AllocError> {
-    let Some(quorums) = object_in(value) else {
-        let expected = "an object: {\"kind\":\"plane\"}, or of kind grid or listed";
-        return expect(page, Path::of("quorums"), value, expected);
-    };
-    let kind = quorums.get("kind");
-    let kinds = "a kind: plane, grid or listed";
-    expect_word(page, Path::of("quorums.kind"), kind, &KINDS, kinds)?;
-    match text_in(kind) {
-        "grid" => explain_grid(page, quorums, nodes.len())?,
-        "listed" => explain_sets(page, quorums.get("sets"), nodes)?,
-        _ => {}
+    match value {
+        Some(quorums) if quorums.is_object() => explain_family(page, quorums, nodes),
+        _ => {
+            let expected = "an object: {\"kind\":\"plane\"}, or of kind grid or listed";
+            expect(page, Path::Member("quorums"), value, expected)
+        }
     }
-    warn_of_unread(page, " of quorums", quorums, members_of(text_in(kind)))
+}
+
+/// The kind of quorums, and what is read for it.
+fn explain_family(page: &mut Page<'_>, quorums: &Value, nodes: &[&str]) -> Result<(), AllocError> {
+    let value = member_of(quorums, "kind");
+    let expected = "a kind: plane, grid or listed";
+    expect_word(page, Path::Member("quorums.kind"), value, &KINDS, expected)?;
+    let kind = text_in(value);
+    explain_kind(page, kind, quorums, nodes)?;
+    warn_of_unread(page, " of quorums", quorums, members_of(kind))
+}
+
+/// What is read for a kind of quorums.
+fn explain_kind(
+    page: &mut Page<'_>,
+    kind: &str,
+    quorums: &Value,
+    nodes: &[&str],
+) -> Result<(), AllocError> {
+    match kind {
+        "grid" => explain_grid(page, quorums, nodes.len()),
+        "listed" => explain_sets(page, member_of(quorums, "sets"), nodes),
+        _ => Ok(()),
+    }
 }
 
 /// The members that are read in quorums of a kind.
@@ -54,25 +72,33 @@ fn members_of(kind: &str) -> &'static [&'static str] {
     }
 }
 
-fn object_in(value: Option<&Value>) -> Option<&Value> {
-    match value {
-        Some(value) if value.is_object() => Some(value),
-        _ => None,
-    }
-}
-
 /// Rows and columns, which together have as many places as there are nodes, where nodes are known.
 fn explain_grid(page: &mut Page<'_>, quorums: &Value, nodes: usize) -> Result<(), AllocError> {
-    let (rows, cols) = (quorums.get("rows"), quorums.get("cols"));
+    let (rows, cols) = (member_of(quorums, "rows"), member_of(quorums, "cols"));
+    explain_side(page, "quorums.rows", rows)?;
+    explain_side(page, "quorums.cols", cols)?;
+    if has_places(number_in(rows), number_in(cols), nodes) {
+        return Ok(());
+    }
+    let expected = "such rows that rows times cols is the number of nodes";
+    expect(page, Path::Member("quorums.rows"), rows, expected)
+}
+
+/// The number of rows or columns.
+fn explain_side(
+    page: &mut Page<'_>,
+    member: &str,
+    value: Option<&Value>,
+) -> Result<(), AllocError> {
     let expected = "a whole number, 1 to 21";
-    expect_number(page, Path::of("quorums.rows"), rows, 1, 21, expected)?;
-    expect_number(page, Path::of("quorums.cols"), cols, 1, 21, expected)?;
-    match (number_in(rows), number_in(cols)) {
-        (Some(r), Some(c)) if nodes > 0 && r.checked_mul(c) != Some(nodes as u64) => {
-            let expected = "such rows that rows times cols is the number of nodes";
-            expect(page, Path::of("quorums.rows"), rows, expected)
-        }
-        _ => Ok(()),
+    expect_number(page, Path::Member(member), value, 1, 21, expected)
+}
+
+/// Whether so many rows and columns have a place for each node, or that can't be told.
+fn has_places(rows: Option<u64>, cols: Option<u64>, nodes: usize) -> bool {
+    match (rows, cols) {
+        (Some(rows), Some(cols)) => nodes == 0 || rows.checked_mul(cols) == Some(nodes as u64),
+        _ => true,
     }
 }
 
@@ -81,51 +107,76 @@ fn explain_sets(
     value: Option<&Value>,
     nodes: &[&str],
 ) -> Result<(), AllocError> {
-    let sets = items_in(value);
-    if elements(value).is_none() || !nodes.is_empty() && sets.len() != nodes.len() {
-        let expected = "an array with a set for each node, in the order of nodes";
-        expect(page, Path::of("quorums.sets"), value, expected)?;
-    }
-    for (i, set) in sets.iter().enumerate() {
+    explain_set_count(page, value, nodes.len())?;
+    for (i, set) in items_in(value).iter().enumerate() {
         explain_nodes(page, "quorums.sets", i, set, nodes)?;
     }
     Ok(())
 }
 
-/// Edges, and the node that has the privilege first.
-fn explain_tree(page: &mut Page<'_>, plan: &Value, nodes: &[&str]) -> Result<(), AllocError> {
-    let value = plan.get("edges");
+/// How many sets there are, where nodes are known.
+fn explain_set_count(
+    page: &mut Page<'_>,
+    value: Option<&Value>,
+    nodes: usize,
+) -> Result<(), AllocError> {
     match elements(value) {
-        Some(edges) => {
-            explain_edges(page, edges, nodes)?;
-            explain_circles(page, edges, nodes)?;
-        }
-        None => {
-            let expected = "an array of edges, each an array of two nodes";
-            expect(page, Path::of("edges"), value, expected)?;
+        Some(sets) if nodes == 0 || sets.len() == nodes => Ok(()),
+        _ => {
+            let expected = "an array with a set for each node, in the order of nodes";
+            expect(page, Path::Member("quorums.sets"), value, expected)
         }
     }
-    let holder = plan.get("holder");
-    expect_word(
-        page,
-        Path::of("holder"),
-        holder,
-        nodes,
-        "a node of the plan",
-    )
 }
 
-fn explain_edges(page: &mut Page<'_>, edges: &[Value], nodes: &[&str]) -> Result<(), AllocError> {
+/// Edges, and the node that has the privilege first.
+fn explain_tree(page: &mut Page<'_>, plan: &Value, nodes: &[&str]) -> Result<(), AllocError> {
+    explain_edges(page, member_of(plan, "edges"), nodes)?;
+    let holder = member_of(plan, "holder");
+    let expected = "a node of the plan";
+    expect_word(page, Path::Member("holder"), holder, nodes, expected)
+}
+
+fn explain_edges(
+    page: &mut Page<'_>,
+    value: Option<&Value>,
+    nodes: &[&str],
+) -> Result<(), AllocError> {
+    let Some(edges) = elements(value) else {
+        let expected = "an array of edges, each an array of two nodes";
+        return expect(page, Path::Member("edges"), value, expected);
+    };
+    explain_each_edge(page, edges, nodes)?;
+    explain_circles(page, edges, nodes)
+}
+
+fn explain_each_edge(
+    page: &mut Page<'_>,
+    edges: &[Value],
+    nodes: &[&str],
+) -> Result<(), AllocError> {
     for (i, edge) in edges.iter().enumerate() {
-        if items_in(Some(edge)).len() == 2 {
-            explain_nodes(page, "edges", i, edge, nodes)?;
-        } else {
-            let items = [i];
-            let path = Path::item("edges", &items);
-            expect(page, path, Some(edge), "an array of two nodes")?;
-        }
+        explain_edge(page, i, edge, nodes)?;
     }
     Ok(())
+}
+
+/// The i-th edge.
+fn explain_edge(
+    page: &mut Page<'_>,
+    i: usize,
+    edge: &Value,
+    nodes: &[&str],
+) -> Result<(), AllocError> {
+    if items_in(Some(edge)).len() != 2 {
+        return expect(
+            page,
+            Path::Item("edges", i),
+            Some(edge),
+            "an array of two nodes",
+        );
+    }
+    explain_nodes(page, "edges", i, edge, nodes)
 }
 
 /// The i-th of several arrays of nodes.
@@ -137,13 +188,10 @@ fn explain_nodes(
     nodes: &[&str],
 ) -> Result<(), AllocError> {
     let Some(names) = elements(Some(value)) else {
-        let items = [i];
-        let path = Path::item(key, &items);
-        return expect(page, path, Some(value), "an array of nodes");
+        return expect(page, Path::Item(key, i), Some(value), "an array of nodes");
     };
     for (j, name) in names.iter().enumerate() {
-        let items = [i, j];
-        let path = Path::item(key, &items);
+        let path = Path::Inner(key, i, j);
         expect_word(page, path, Some(name), nodes, "a node of the plan")?;
     }
     Ok(())

@@ -6,7 +6,7 @@ use crate::page::Page;
 use crate::plan_faults::{MOST_NODES, MOST_REGISTERS, explain_plan};
 use crate::repeated::warn_of_repeated;
 use crate::shape_faults::explain_shape_fault;
-use crate::values::{member_of, names_in};
+use crate::values::names_at;
 use mx_plan::ShapeFault;
 use serde_json::Value;
 use std::alloc::AllocError;
@@ -19,19 +19,29 @@ pub fn explain_plan_text(
     fault: Option<ShapeFault>,
 ) -> Result<Option<Value>, AllocError> {
     let part = Part {
+        text,
         above: 0,
         nesting: 4,
     };
-    let Some(plan) = value_in(page, text, part)? else {
+    let Some(plan) = value_in(page, part)? else {
         return Ok(None);
     };
-    explain_plan(page, &plan)?;
-    if let Some(fault) = fault {
-        let nodes = names_in(page.alloc, plan.get("nodes"), MOST_NODES)?;
-        explain_shape_fault(page, &plan, nodes.as_slice(), fault)?;
-    }
-    warn_of_repeated(page, text)?;
+    explain_read_plan(page, &plan, text, fault)?;
     Ok(Some(plan))
+}
+
+/// Says what is wrong in the value of a plan, and in its text.
+fn explain_read_plan(
+    page: &mut Page<'_>,
+    plan: &Value,
+    text: &[u8],
+    fault: Option<ShapeFault>,
+) -> Result<(), AllocError> {
+    explain_plan(page, plan)?;
+    if let Some(fault) = fault {
+        explain_shape_fault(page, plan, fault)?;
+    }
+    warn_of_repeated(page, text)
 }
 
 /// Says what is wrong in events below so many lines of their file, by the names of the plan where that
@@ -42,15 +52,28 @@ pub fn explain_event_text(
     text: &[u8],
     above: usize,
 ) -> Result<(), AllocError> {
-    let part = Part { above, nesting: 2 };
-    let Some(events) = value_in(page, text, part)? else {
-        return Ok(());
+    let part = Part {
+        text,
+        above,
+        nesting: 2,
     };
-    let nodes = names_in(page.alloc, member_of(plan, "nodes"), MOST_NODES)?;
-    let registers = names_in(page.alloc, member_of(plan, "registers"), MOST_REGISTERS)?;
+    match value_in(page, part)? {
+        Some(events) => explain_read_events(page, plan, &events),
+        None => Ok(()),
+    }
+}
+
+/// Says what is wrong in the value of events.
+fn explain_read_events(
+    page: &mut Page<'_>,
+    plan: Option<&Value>,
+    events: &Value,
+) -> Result<(), AllocError> {
+    let nodes = names_at(page.alloc, plan, "nodes", MOST_NODES)?;
+    let registers = names_at(page.alloc, plan, "registers", MOST_REGISTERS)?;
     let known = Known {
         nodes: nodes.as_slice(),
         registers: registers.as_slice(),
     };
-    explain_events(page, &events, known)
+    explain_events(page, events, known)
 }

@@ -5,39 +5,53 @@ use std::alloc::{AllocError, Global};
 
 /// The items of an array.
 pub(crate) fn elements(value: Option<&Value>) -> Option<&[Value]> {
-    let list = value?.as_array()?;
-    Some(list.as_slice())
+    match value {
+        Some(Value::Array(list)) => Some(list.as_slice()),
+        _ => None,
+    }
 }
 
 /// The items of an array, none where the value is no array.
 pub(crate) fn items_in(value: Option<&Value>) -> &[Value] {
-    match elements(value) {
-        Some(list) => list,
-        None => &[],
+    match value {
+        Some(Value::Array(list)) => list.as_slice(),
+        _ => &[],
     }
 }
 
 /// The text of a string, or an empty one.
 pub(crate) fn text_in(value: Option<&Value>) -> &str {
     match value {
-        Some(value) => value.as_str().unwrap_or(""),
-        None => "",
+        Some(Value::String(text)) => text.as_str(),
+        _ => "",
     }
 }
 
 /// A member of an object.
-pub(crate) fn member_of<'a>(value: Option<&'a Value>, key: &str) -> Option<&'a Value> {
-    value?.get(key)
+pub(crate) fn member_of<'a>(value: &'a Value, key: &str) -> Option<&'a Value> {
+    value.get(key)
 }
 
-/// The names that an array lists, or none where there are more than a plan may have.
+/// The names that a member of an object lists, or none where there are more than a plan may have.
+pub(crate) fn names_at<'a>(
+    alloc: Global,
+    object: Option<&'a Value>,
+    key: &str,
+    most: usize,
+) -> Result<Vec<&'a str>, AllocError> {
+    match object {
+        Some(object) => names_in(alloc, items_in(member_of(object, key)), most),
+        None => Ok(Vec::new(alloc)),
+    }
+}
+
+/// The names of these values, or none where there are more than a plan may have.
 pub(crate) fn names_in<'a>(
     alloc: Global,
-    value: Option<&'a Value>,
+    items: &'a [Value],
     most: usize,
 ) -> Result<Vec<&'a str>, AllocError> {
     let mut names = Vec::new(alloc);
-    let items = items_in(value);
     if items.len() > most {
         return Ok(names);
     }

@@ -139,8 +139,25 @@ where
     let Some(entry) = cluster.trace().last() else {
         return Ok(());
     };
-    match &entry.event {
-        Event::Deliver(number) => draw_delivery(plan, cluster, *number, drawing),
+    match happening_of(&entry.event) {
+        Happening::Delivery(number) => draw_delivery(plan, cluster, number, drawing),
+        Happening::Act(node) => {
+            let spot = spot_of_act(cluster, node, before);
+            draw_act(plan, node, spot, entry, drawing)
+        }
+    }
+}
+
+/// What an event is: an act of a node, or the delivery of the parcel of a number.
+#[derive(Clone, Copy)]
+enum Happening {
+    Act(NodeId),
+    Delivery(u64),
+}
+
+fn happening_of(event: &Event) -> Happening {
+    match event {
+        Event::Deliver(number) => Happening::Delivery(*number),
         Event::Ask(node)
         | Event::Enter(node)
         | Event::Read(node, _)
@@ -150,10 +167,7 @@ where
         | Event::Settle(node, _)
         | Event::Tick(node)
         | Event::Want(node, _)
-        | Event::Restart(node) => {
-            let spot = spot_of_act(cluster, *node, before);
-            draw_act(plan, *node, spot, entry, drawing)
-        }
+        | Event::Restart(node) => Happening::Act(*node),
     }
 }
 

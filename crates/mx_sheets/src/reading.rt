@@ -10,6 +10,7 @@ ghost use Rattle.mx_sheets.specs.Drawn.{Draws, IsWhole, StopsAs};
 
 use crate::drawing::{Drawing, draw_events};
 use crate::page::add_page;
+use crate::sheet::Sheet;
 use mx_commands::{
     Named, Output, Source, Stop, are_dashes, fetch, fetch_plan, plan_in, split_line, start,
 };
@@ -19,7 +20,7 @@ use mx_plan::{Plan, Shape, read_events};
 use mx_raymond::Raymond;
 use mx_ricart::Ricart;
 use mx_words::Names;
-use std::alloc::Global;
+use std::alloc::{AllocError, Global};
 
 /// Reads the plan, then the events, and prints their picture. Answers the status.
 pub fn draw<S: Source, O: Output>(
@@ -90,9 +91,22 @@ fn page_of(alloc: Global, plan: &Plan, events: &[Event]) -> Result<String, Stop>
 {
     let mut drawing = Drawing::new(alloc, events)?;
     draw_by_shape(alloc, plan, events, &mut drawing)?;
-    drawing.sheet.close()?;
+    let page = whole_page(alloc, plan, events.len() as u64, &mut drawing.sheet)?;
+    Ok(page)
+}
+
+/// The page of what was drawn of so many events.
+fn whole_page(
+    alloc: Global,
+    plan: &Plan,
+    events: u64,
+    sheet: &mut Sheet,
+) -> Result<String, AllocError>
+    ensures { IfOk result (λ page. IsWhole (string_bytes page)) }
+{
+    sheet.close()?;
     let mut page = String::new(alloc);
-    add_page(plan, events.len() as u64, &drawing.sheet, &mut page)?;
+    add_page(plan, events, sheet, &mut page)?;
     Ok(page)
 }
 

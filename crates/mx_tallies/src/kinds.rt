@@ -1,6 +1,7 @@
 //! The kinds of letters, and under which names a parcel is counted.
 
-ghost use Rattle.std.specs.Prelude.{◌≡◌, List, map};
+ghost use Rattle.std.specs.Prelude.{◌≡◌, ◌||◌, List, map};
+ghost use Rattle.std.specs.Str.{bytes_eq};
 ghost use Rattle.mx_plan.specs.Text.{Text};
 ghost use Rattle.mx_tallies.specs.Kinds.{cause_kind, is_refused_under, is_under, maekawa_kind, maekawa_names, raymond_kind, raymond_names, refusal_names, ricart_kind, ricart_names};
 
@@ -134,11 +135,18 @@ pub(crate) fn is_under<M: Kinded>(name: &str, from: NodeId, to: NodeId, parcel: 
 {
     match parcel {
         Parcel::Guard(_) if from.get() == to.get() => name == "own",
-        Parcel::Guard(letter) => name == "letters" || name == letter.kind(),
-        Parcel::Want(_) => name == "gossip" || name == "want",
-        Parcel::Base(_) => name == "gossip" || name == "base",
-        Parcel::Records(_) => name == "gossip" || name == "records",
+        Parcel::Guard(letter) => is_either(name, "letters", letter.kind()),
+        Parcel::Want(_) => is_either(name, "gossip", "want"),
+        Parcel::Base(_) => is_either(name, "gossip", "base"),
+        Parcel::Records(_) => is_either(name, "gossip", "records"),
     }
+}
+
+/// Whether a name is one of two.
+fn is_either(name: &str, one: &str, other: &str) -> bool
+    ensures { result ≡ (bytes_eq name.now one.now || bytes_eq name.now other.now) }
+{
+    name == one || name == other
 }
 
 /// Whether an outcome is a refusal that is counted under a name.
@@ -146,7 +154,7 @@ pub(crate) fn is_refused_under(name: &str, outcome: &Outcome) -> bool
     ensures { result ≡ is_refused_under name.now outcome.now }
 {
     match outcome {
-        Outcome::Refused(cause) => name == "refused" || name == cause_kind(cause),
+        Outcome::Refused(cause) => is_either(name, "refused", cause_kind(cause)),
         _ => false,
     }
 }

@@ -1,7 +1,8 @@
 //! Events, and what came of them, as JSON.
 
-use crate::json::{Begun, Number, Word, add_node_name, add_register_name};
-use mx_network::{Cause, Event, Outcome};
+use crate::json::{Begun, add_node_name, add_number, add_register_name, add_word};
+use mx_journal::Receipt;
+use mx_network::{Cause, Entry, Event, Outcome};
 use mx_plan::Plan;
 use mx_stamps::NodeId;
 use std::alloc::AllocError;
@@ -10,13 +11,12 @@ use std::alloc::AllocError;
 pub(crate) fn add_event_json(
     plan: &Plan,
     index: u64,
-    event: &Event,
-    outcome: &Outcome,
+    entry: &Entry,
     text: &mut String,
 ) -> Result<(), AllocError> {
     text.write(Begun("event", index))?;
-    add_act(plan, event, text)?;
-    add_outcome(outcome, text)?;
+    add_act(plan, &entry.event, text)?;
+    add_outcome(&entry.outcome, text)?;
     text.push_str("}\n")
 }
 
@@ -25,38 +25,60 @@ fn add_act(plan: &Plan, event: &Event, text: &mut String) -> Result<(), AllocErr
     match event {
         Event::Ask(node) => add_own(plan, "ask", *node, text),
         Event::Enter(node) => add_own(plan, "enter", *node, text),
-        Event::Read(node, register) => {
-            add_own(plan, "read", *node, text)?;
-            add_register_name(plan, *register, text)
-        }
-        Event::Write(node, register, value) => {
-            add_own(plan, "write", *node, text)?;
-            add_register_name(plan, *register, text)?;
-            text.write(Number("value", *value))
-        }
+        Event::Read(node, register) => add_access(plan, "read", *node, *register, text),
+        Event::Write(node, register, value) => add_write(plan, *node, *register, *value, text),
         Event::Leave(node) => add_own(plan, "leave", *node, text),
         Event::Cancel(node) => add_own(plan, "cancel", *node, text),
-        Event::Settle(node, upto) => {
-            add_own(plan, "settle", *node, text)?;
-            text.write(Number("upto", *upto))
-        }
+        Event::Settle(node, upto) => add_settle(plan, *node, *upto, text),
         Event::Tick(node) => add_own(plan, "tick", *node, text),
-        Event::Want(node, other) => {
-            add_own(plan, "want", *node, text)?;
-            add_node_name(plan, "from", *other, text)
-        }
+        Event::Want(node, other) => add_want(plan, *node, *other, text),
         Event::Restart(node) => add_own(plan, "restart", *node, text),
-        Event::Deliver(number) => {
-            text.write(Word("act", "deliver"))?;
-            text.write(Number("parcel", *number))
-        }
+        Event::Deliver(number) => add_delivery(*number, text),
     }
 }
 
 /// Appends what a node does by itself.
 fn add_own(plan: &Plan, act: &str, node: NodeId, text: &mut String) -> Result<(), AllocError> {
-    text.write(Word("act", act))?;
+    add_word("act", act, text)?;
     add_node_name(plan, "node", node, text)
+}
+
+/// Appends what a node does with a register.
+fn add_access(
+    plan: &Plan,
+    act: &str,
+    node: NodeId,
+    register: u8,
+    text: &mut String,
+) -> Result<(), AllocError> {
+    add_own(plan, act, node, text)?;
+    add_register_name(plan, register, text)
+}
+
+fn add_write(
+    plan: &Plan,
+    node: NodeId,
+    register: u8,
+    value: u64,
+    text: &mut String,
+) -> Result<(), AllocError> {
+    add_access(plan, "write", node, register, text)?;
+    add_number("value", value, text)
+}
+
+fn add_settle(plan: &Plan, node: NodeId, upto: u64, text: &mut String) -> Result<(), AllocError> {
+    add_own(plan, "settle", node, text)?;
+    add_number("upto", upto, text)
+}
+
+fn add_want(plan: &Plan, node: NodeId, other: NodeId, text: &mut String) -> Result<(), AllocError> {
+    add_own(plan, "want", node, text)?;
+    add_node_name(plan, "from", other, text)
+}
+
+fn add_delivery(number: u64, text: &mut String) -> Result<(), AllocError> {
+    add_word("act", "deliver", text)?;
+    add_number("parcel", number, text)
 }
 
 /// Appends what came of an event.
@@ -66,10 +88,7 @@ fn add_outcome(outcome: &Outcome, text: &mut String) -> Result<(), AllocError> {
         Outcome::Entered(number) => add_with("entered", "number", *number, text),
         Outcome::Value(value) => add_with("value", "value", *value, text),
         Outcome::Written => add_bare("written", text),
-        Outcome::Left(receipt) => {
-            add_with("left", "number", receipt.number, text)?;
-            text.write(Number("writes", receipt.writes.len() as u64))
-        }
+        Outcome::Left(receipt) => add_left(receipt, text),
         Outcome::Cancelled => add_bare("cancelled", text),
         Outcome::Settled => add_bare("settled", text),
         Outcome::Sent(count) => add_with("sent", "count", *count, text),
@@ -80,20 +99,25 @@ fn add_outcome(outcome: &Outcome, text: &mut String) -> Result<(), AllocError> {
 }
 
 fn add_bare(outcome: &str, text: &mut String) -> Result<(), AllocError> {
-    text.write(Word("outcome", outcome))
+    add_word("outcome", outcome, text)
 }
 
 fn add_with(outcome: &str, key: &str, number: u64, text: &mut String) -> Result<(), AllocError> {
     add_bare(outcome, text)?;
-    text.write(Number(key, number))
+    add_number(key, number, text)
+}
+
+fn add_left(receipt: &Receipt, text: &mut String) -> Result<(), AllocError> {
+    add_with("left", "number", receipt.number, text)?;
+    add_number("writes", receipt.writes.len() as u64, text)
 }
 
 /// Appends a refusal and its cause.
 fn add_refusal(cause: &Cause, text: &mut String) -> Result<(), AllocError> {
     add_bare("refused", text)?;
-    text.write(Word("cause", cause_name(cause)))?;
+    add_word("cause", cause_name(cause), text)?;
     match cause {
-        Cause::Gap(number) | Cause::Below(number) => text.write(Number("number", *number)),
+        Cause::Gap(number) | Cause::Below(number) => add_number("number", *number, text),
         _ => Ok(()),
     }
 }

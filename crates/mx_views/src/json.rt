@@ -7,7 +7,7 @@ use std::fmt;
 
 /// A member whose value is a text, after a comma.
 #[derive(Clone, Copy)]
-pub(crate) struct Word<'a>(pub(crate) &'a str, pub(crate) &'a str);
+struct Word<'a>(&'a str, &'a str);
 
 impl fmt::Display for Word<'_> {
     fn fmt<W: fmt::Write>(&self, f: &mut fmt::Formatter<W>) -> fmt::Result {
@@ -17,7 +17,7 @@ impl fmt::Display for Word<'_> {
 
 /// A member whose value is a number, after a comma.
 #[derive(Clone, Copy)]
-pub(crate) struct Number<'a>(pub(crate) &'a str, pub(crate) u64);
+struct Number<'a>(&'a str, u64);
 
 impl fmt::Display for Number<'_> {
     fn fmt<W: fmt::Write>(&self, f: &mut fmt::Formatter<W>) -> fmt::Result {
@@ -35,6 +35,16 @@ impl fmt::Display for Begun<'_> {
     }
 }
 
+/// Appends a member whose value is a text.
+pub(crate) fn add_word(key: &str, word: &str, text: &mut String) -> Result<(), AllocError> {
+    text.write(Word(key, word))
+}
+
+/// Appends a member whose value is a number.
+pub(crate) fn add_number(key: &str, number: u64, text: &mut String) -> Result<(), AllocError> {
+    text.write(Number(key, number))
+}
+
 /// Appends a member whose value is the name of a node.
 pub(crate) fn add_node_name(
     plan: &Plan,
@@ -42,8 +52,7 @@ pub(crate) fn add_node_name(
     node: NodeId,
     text: &mut String,
 ) -> Result<(), AllocError> {
-    let name = plan.node_name(node.get()).unwrap_or("");
-    text.write(Word(key, name))
+    add_word(key, plan.node_name(node.get()).unwrap_or(""), text)
 }
 
 /// Appends a member whose value is the name of a register.
@@ -52,6 +61,5 @@ pub(crate) fn add_register_name(
     register: u8,
     text: &mut String,
 ) -> Result<(), AllocError> {
-    let name = plan.register_name(register).unwrap_or("");
-    text.write(Word("register", name))
+    add_word("register", plan.register_name(register).unwrap_or(""), text)
 }

@@ -1,6 +1,6 @@
 //! Letters as JSON, for each algorithm.
 
-use crate::json::{Number, Word, add_node_name};
+use crate::json::{add_node_name, add_number, add_word};
 use mx_letters::{MaekawaMsg, RaymondMsg, RicartMsg};
 use mx_plan::Plan;
 use mx_stamps::Stamp;
@@ -17,10 +17,7 @@ impl JsonLetter for RicartMsg {
     fn tell_json(&self, plan: &Plan, text: &mut String) -> Result<(), AllocError> {
         match self {
             RicartMsg::Request(stamp) => add_kind(plan, "request", stamp, text),
-            RicartMsg::Reply(stamp, top) => {
-                add_kind(plan, "reply", stamp, text)?;
-                text.write(Number("top", *top))
-            }
+            RicartMsg::Reply(stamp, top) => add_with(plan, "reply", stamp, ("top", *top), text),
         }
     }
 }
@@ -30,22 +27,18 @@ impl JsonLetter for MaekawaMsg {
         match self {
             MaekawaMsg::Request(stamp) => add_kind(plan, "request", stamp, text),
             MaekawaMsg::Locked(stamp, grant, last) => {
-                add_kind(plan, "locked", stamp, text)?;
-                text.write(Number("grant", *grant))?;
-                text.write(Number("last", *last))
+                add_with(plan, "locked", stamp, ("grant", *grant), text)?;
+                add_number("last", *last, text)
             }
             MaekawaMsg::Failed(stamp) => add_kind(plan, "failed", stamp, text),
             MaekawaMsg::Inquire(stamp, grant) => {
-                add_kind(plan, "inquire", stamp, text)?;
-                text.write(Number("grant", *grant))
+                add_with(plan, "inquire", stamp, ("grant", *grant), text)
             }
             MaekawaMsg::Relinquish(stamp, grant) => {
-                add_kind(plan, "relinquish", stamp, text)?;
-                text.write(Number("grant", *grant))
+                add_with(plan, "relinquish", stamp, ("grant", *grant), text)
             }
             MaekawaMsg::Release(stamp, top) => {
-                add_kind(plan, "release", stamp, text)?;
-                text.write(Number("top", *top))
+                add_with(plan, "release", stamp, ("top", *top), text)
             }
         }
     }
@@ -54,26 +47,36 @@ impl JsonLetter for MaekawaMsg {
 impl JsonLetter for RaymondMsg {
     fn tell_json(&self, _plan: &Plan, text: &mut String) -> Result<(), AllocError> {
         match self {
-            RaymondMsg::Request(number) => {
-                text.write(Word("kind", "request"))?;
-                text.write(Number("number", *number))
-            }
+            RaymondMsg::Request(number) => add_bare("request", "number", *number, text),
             RaymondMsg::Privilege(hop, last) => {
-                text.write(Word("kind", "privilege"))?;
-                text.write(Number("hop", *hop))?;
-                text.write(Number("last", *last))
+                add_bare("privilege", "hop", *hop, text)?;
+                add_number("last", *last, text)
             }
-            RaymondMsg::Got(hop) => {
-                text.write(Word("kind", "got"))?;
-                text.write(Number("hop", *hop))
-            }
+            RaymondMsg::Got(hop) => add_bare("got", "hop", *hop, text),
         }
     }
 }
 
+/// Appends the kind of a letter without a stamp, and a number of it.
+fn add_bare(kind: &str, key: &str, number: u64, text: &mut String) -> Result<(), AllocError> {
+    add_word("kind", kind, text)?;
+    add_number(key, number, text)
+}
+
 /// Appends the kind of a letter, and the number and the node of the stamp that it is about.
 fn add_kind(plan: &Plan, kind: &str, stamp: &Stamp, text: &mut String) -> Result<(), AllocError> {
-    text.write(Word("kind", kind))?;
-    text.write(Number("stamp", stamp.number))?;
+    add_bare(kind, "stamp", stamp.number, text)?;
     add_node_name(plan, "of", stamp.node, text)
+}
+
+/// Appends the same, and a number of the letter.
+fn add_with(
+    plan: &Plan,
+    kind: &str,
+    stamp: &Stamp,
+    number: (&str, u64),
+    text: &mut String,
+) -> Result<(), AllocError> {
+    add_kind(plan, kind, stamp, text)?;
+    add_number(number.0, number.1, text)
 }

@@ -1,6 +1,6 @@
 //! Where nodes stand, and the verdict, as JSON.
 
-use crate::json::{Number, Word};
+use crate::json::{add_number, add_word};
 use mx_explorer::{Clause, Verdict};
 use mx_journal::Journal;
 use mx_member::Member;
@@ -18,11 +18,16 @@ pub(crate) fn add_node_json<C: Exclusion>(
     member: &Member<C>,
     text: &mut String,
 ) -> Result<(), AllocError> {
-    text.push_str("{\"node\":\"")?;
-    text.push_str(plan.node_name(node.get()).unwrap_or(""))?;
-    text.push_str("\"")?;
+    add_name(plan, node, text)?;
     add_member(plan, member, text)?;
     text.push_str("}\n")
+}
+
+/// Begins the line of a node with its name.
+fn add_name(plan: &Plan, node: NodeId, text: &mut String) -> Result<(), AllocError> {
+    text.push_str("{\"node\":\"")?;
+    text.push_str(plan.node_name(node.get()).unwrap_or(""))?;
+    text.push('"')
 }
 
 /// Appends where a node stands, without its name.
@@ -32,25 +37,25 @@ fn add_member<C: Exclusion>(
     text: &mut String,
 ) -> Result<(), AllocError> {
     add_phase(member.phase(), text)?;
-    text.write(Number("mine", member.mine()))?;
+    add_number("mine", member.mine(), text)?;
     add_journal(member.journal(), text)?;
     add_registers(plan, member, text)
 }
 
 /// Appends how many records a journal has, and up to where it has no gap.
 fn add_journal(journal: &Journal, text: &mut String) -> Result<(), AllocError> {
-    text.write(Number("records", journal.len() as u64))?;
-    text.write(Number("gapless", journal.gapless_to()))
+    add_number("records", journal.len() as u64, text)?;
+    add_number("gapless", journal.gapless_to(), text)
 }
 
 /// Appends a phase, with the number of the section inside.
 fn add_phase(phase: Phase, text: &mut String) -> Result<(), AllocError> {
     match phase {
-        Phase::Idle => text.write(Word("phase", "idle")),
-        Phase::Waiting => text.write(Word("phase", "waiting")),
+        Phase::Idle => add_word("phase", "idle", text),
+        Phase::Waiting => add_word("phase", "waiting", text),
         Phase::Inside(number) => {
-            text.write(Word("phase", "inside"))?;
-            text.write(Number("number", number))
+            add_word("phase", "inside", text)?;
+            add_number("number", number, text)
         }
     }
 }
@@ -64,15 +69,20 @@ fn add_registers<C: Exclusion>(
     text.push_str(",\"registers\":{")?;
     let shown = view(member.journal(), plan.registers());
     for register in 0..plan.registers() {
-        if register > 0 {
-            text.push_str(",")?;
-        }
-        text.write(ValueJson {
-            name: plan.register_name(register).unwrap_or(""),
-            value: shown.value(register).unwrap_or(0),
-        })?;
+        add_value(plan, register, shown.value(register).unwrap_or(0), text)?;
     }
-    text.push_str("}")
+    text.push('}')
+}
+
+/// Appends the value of a register, behind a comma where it is not the first.
+fn add_value(plan: &Plan, register: u8, value: u64, text: &mut String) -> Result<(), AllocError> {
+    if register > 0 {
+        text.push(',')?;
+    }
+    text.write(ValueJson {
+        name: plan.register_name(register).unwrap_or(""),
+        value,
+    })
 }
 
 /// The name of a register and its value.
@@ -95,14 +105,12 @@ pub(crate) struct VerdictJson(pub(crate) Verdict);
 impl fmt::Display for VerdictJson {
     fn fmt<W: fmt::Write>(&self, f: &mut fmt::Formatter<W>) -> fmt::Result {
         match self.0 {
-            Verdict::Sound => writeln!(f, "{{\"verdict\":\"sound\"}}"),
-            Verdict::Broken(index, clause) => {
-                let clause = clause_name(clause);
-                writeln!(
-                    f,
-                    "{{\"verdict\":\"broken\",\"index\":{index},\"clause\":\"{clause}\"}}"
-                )
-            }
+            Verdict::Sound => f.write_str("{\"verdict\":\"sound\"}\n"),
+            Verdict::Broken(index, clause) => writeln!(
+                f,
+                "{{\"verdict\":\"broken\",\"index\":{index},\"clause\":\"{}\"}}",
+                clause_name(clause)
+            ),
         }
     }
 }

@@ -1,6 +1,6 @@
 //! Parcels as JSON.
 
-use crate::json::{Begun, Number, Word, add_node_name};
+use crate::json::{Begun, add_node_name, add_number, add_word};
 use crate::letter_json::JsonLetter;
 use mx_journal::{Range, Record};
 use mx_member::Parcel;
@@ -31,19 +31,27 @@ pub(crate) fn add_parcel_json<M: JsonLetter>(
     text.write(Begun("parcel", number))?;
     add_node_name(plan, "from", from, text)?;
     add_node_name(plan, "to", to, text)?;
-    match parcel {
-        Parcel::Guard(letter) => letter.tell_json(plan, text)?,
-        Parcel::Want(ranges) => add_ranges(ranges.as_slice(), text)?,
-        Parcel::Base(base) => add_base(base.upto(), text)?,
-        Parcel::Records(records) => add_numbers(records.as_slice(), text)?,
-    }
+    add_content(plan, parcel, text)?;
     text.push_str("}\n")
+}
+
+/// Appends what a parcel has in it.
+fn add_content<M: JsonLetter>(
+    plan: &Plan,
+    parcel: &Parcel<M>,
+    text: &mut String,
+) -> Result<(), AllocError> {
+    match parcel {
+        Parcel::Guard(letter) => letter.tell_json(plan, text),
+        Parcel::Want(ranges) => add_ranges(ranges.as_slice(), text),
+        Parcel::Base(base) => add_base(base.upto(), text),
+        Parcel::Records(records) => add_numbers(records.as_slice(), text),
+    }
 }
 
 /// Appends a want of these ranges.
 fn add_ranges(ranges: &[Range], text: &mut String) -> Result<(), AllocError> {
-    text.write(Word("kind", "want"))?;
-    text.push_str(",\"ranges\":[")?;
+    text.push_str(",\"kind\":\"want\",\"ranges\":[")?;
     for (index, range) in ranges.iter().enumerate() {
         if index > 0 {
             text.push_str(",")?;
@@ -55,14 +63,13 @@ fn add_ranges(ranges: &[Range], text: &mut String) -> Result<(), AllocError> {
 
 /// Appends a base, by the number of its last section alone.
 fn add_base(upto: u64, text: &mut String) -> Result<(), AllocError> {
-    text.write(Word("kind", "base"))?;
-    text.write(Number("upto", upto))
+    add_word("kind", "base", text)?;
+    add_number("upto", upto, text)
 }
 
 /// Appends the numbers of these records.
 fn add_numbers(records: &[Record], text: &mut String) -> Result<(), AllocError> {
-    text.write(Word("kind", "records"))?;
-    text.push_str(",\"numbers\":[")?;
+    text.push_str(",\"kind\":\"records\",\"numbers\":[")?;
     for (index, entry) in records.iter().enumerate() {
         if index > 0 {
             text.push_str(",")?;

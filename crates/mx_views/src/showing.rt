@@ -8,7 +8,7 @@ use crate::letter_json::JsonLetter;
 use crate::parcel_json::add_parcel_json;
 use crate::view::View;
 use mx_commands::{Fault, Output, Stop, verdict_status};
-use mx_network::{Cluster, Event, Outcome, StepFault};
+use mx_network::{Cluster, Entry, Event, StepFault};
 use mx_nodelaws::Exclusion;
 use mx_texts::{EventLine, add_parcel_line};
 use std::alloc::{AllocError, Global};
@@ -25,13 +25,40 @@ where
     C::Msg: JsonLetter,
     ensures zero { IfOk result (λ status. status ≡ 0) }
 {
+    show_events(alloc, view, cluster, events, out)?;
+    show_closing(alloc, view, cluster, out)
+}
+
+/// Each event in turn, and its lines in one piece.
+fn show_events<C: Exclusion, O: Output>(
+    alloc: Global,
+    view: &View<'_>,
+    cluster: &mut Cluster<C>,
+    events: &[Event],
+    out: &mut O,
+) -> Result<(), Stop>
+where
+    C::Msg: JsonLetter,
+{
     let mut text = String::new(alloc);
     for (index, event) in events.iter().enumerate() {
         text.clear();
         show_event(view, index as u64, event, cluster, &mut text)?;
         out.put(text.as_bytes())?;
     }
-    text.clear();
+    Ok(())
+}
+
+/// The closing lines. Answers the status.
+fn show_closing<C: Exclusion, O: Output>(
+    alloc: Global,
+    view: &View<'_>,
+    cluster: &Cluster<C>,
+    out: &mut O,
+) -> Result<u8, Stop>
+    ensures zero { IfOk result (λ status. status ≡ 0) }
+{
+    let mut text = String::new(alloc);
     let verdict = add_closing(view, cluster, &mut text)?;
     out.put(text.as_bytes())?;
     Ok(verdict_status(verdict))
@@ -49,35 +76,50 @@ where
     C::Msg: JsonLetter,
 {
     let before = cluster.sent();
-    match cluster.step(*event) {
-        Ok(_) if view.is_quiet => Ok(()),
-        Ok(outcome) => {
-            if view.shows_event(cluster, event) {
-                add_event(view, index, event, &outcome, text)?;
-            }
-            Ok(add_parcels(view, cluster, before, text)?)
-        }
+    match cluster.advance(*event) {
+        Ok(()) if view.is_quiet => Ok(()),
+        Ok(()) => Ok(add_newest(view, index, before, cluster, text)?),
         Err(StepFault::Memory) => Err(Stop::Memory),
         Err(StepFault::NoParcel | StepFault::NoNode) => Err(Stop::Fault(Fault::NoParcel(index))),
     }
+}
+
+/// Appends the line of the newest event, where it is shown, and those of the parcels from `before` on,
+/// which it sent.
+fn add_newest<C: Exclusion>(
+    view: &View<'_>,
+    index: u64,
+    before: u64,
+    cluster: &Cluster<C>,
+    text: &mut String,
+) -> Result<(), AllocError>
+where
+    C::Msg: JsonLetter,
+{
+    match cluster.trace().last() {
+        Some(entry) if view.shows_event(cluster, &entry.event) => {
+            add_event(view, index, entry, text)?;
+        }
+        _ => {}
+    }
+    add_parcels(view, cluster, before, text)
 }
 
 /// Appends the line of an event.
 fn add_event(
     view: &View<'_>,
     index: u64,
-    event: &Event,
-    outcome: &Outcome,
+    entry: &Entry,
     text: &mut String,
 ) -> Result<(), AllocError> {
     if view.is_json {
-        return add_event_json(view.plan, index, event, outcome, text);
+        return add_event_json(view.plan, index, entry, text);
     }
     text.write(EventLine {
         plan: view.plan,
         index,
-        event,
-        outcome,
+        event: &entry.event,
+        outcome: &entry.outcome,
     })
 }
 

@@ -69,14 +69,26 @@ fn view_run<S: Source, O: Output>(
     ensures zero { IfOk result (λ status. status ≡ 0) }
 {
     let (plan, events) = fetch_run(alloc, source, &wish.names)?;
-    let node = node_in(&plan, wish.node)?;
+    view_events(alloc, wish, &plan, events.as_slice(), out)
+}
+
+/// Shows what is asked for of the replay of these events.
+fn view_events<O: Output>(
+    alloc: Global,
+    wish: &Wish<'_>,
+    plan: &Plan,
+    events: &[Event],
+    out: &mut O,
+) -> Result<u8, Stop>
+    ensures zero { IfOk result (λ status. status ≡ 0) }
+{
     let view = View {
-        plan: &plan,
+        plan,
         is_quiet: wish.is_quiet,
-        node,
+        node: node_in(plan, wish.node)?,
         is_json: wish.is_json,
     };
-    show_by_shape(alloc, &view, events.as_slice(), out)
+    show_by_shape(alloc, &view, events, out)
 }
 
 /// The node of this name, where one is named.
