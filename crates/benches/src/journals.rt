@@ -7,7 +7,7 @@ use mx_merge::merge;
 use mx_stamps::NodeId;
 use rand_core::utils::NextWord;
 use rand_pcg::Pcg32;
-use std::alloc::Global;
+use std::alloc::{AllocError, Global};
 use std::collections::BTreeMap;
 use std::time::Instant;
 
@@ -100,32 +100,44 @@ fn time_merge(rt: &HostRuntime, name: &str, into: &[u64], from: &[u64]) -> Resul
     tell_merge(rt, name, &mut journal, &other)
 }
 
-/// Odd numbers into even ones, and the greater half into the lesser.
-fn time_merges(rt: &HostRuntime, numbers: &[u64]) -> Result<()> {
-    let mut odd = Vec::new(rt.alloc());
-    let mut even = Vec::new(rt.alloc());
+/// Those of the numbers that are odd, or those that are even.
+fn of_parity(alloc: Global, numbers: &[u64], is_odd: bool) -> Result<Vec<u64>, AllocError> {
+    let mut found = Vec::new(alloc);
     for number in numbers {
-        if *number % 2 == 1 {
-            odd.push(*number)?;
-        } else {
-            even.push(*number)?;
+        if (*number % 2 == 1) == is_odd {
+            found.push(*number)?;
         }
     }
-    time_merge(rt, "odd into even numbers", even.as_slice(), odd.as_slice())?;
+    Ok(found)
+}
+
+fn time_parities(rt: &HostRuntime, numbers: &[u64]) -> Result<()> {
+    let even = of_parity(rt.alloc(), numbers, false)?;
+    let odd = of_parity(rt.alloc(), numbers, true)?;
+    time_merge(rt, "odd into even numbers", even.as_slice(), odd.as_slice())
+}
+
+/// Odd numbers into even ones, and the greater half into the lesser.
+fn time_merges(rt: &HostRuntime, numbers: &[u64]) -> Result<()> {
+    time_parities(rt, numbers)?;
     let (lesser, greater) = numbers.split_at(numbers.len() / 2);
     time_merge(rt, "the greater half into the lesser", lesser, greater)
+}
+
+/// Times puts and merges of records of these numbers, which come in order.
+fn time_orders(rt: &HostRuntime, numbers: &mut [u64], seed: u64) -> Result<()> {
+    time_puts(rt, "in order", numbers)?;
+    time_merges(rt, numbers)?;
+    numbers.reverse();
+    time_puts(rt, "in reverse", numbers)?;
+    shuffle(numbers, seed);
+    time_puts(rt, "shuffled", numbers)
 }
 
 /// Times puts and merges of so many records.
 pub(crate) fn time_journals(rt: &HostRuntime, records: u64, seed: u64) -> Result<()> {
     let mut numbers = ascending(rt.alloc(), records)?;
-    time_puts(rt, "in order", &numbers)?;
-    time_merges(rt, &numbers)?;
-    numbers.reverse();
-    time_puts(rt, "in reverse", &numbers)?;
-    shuffle(&mut numbers, seed);
-    time_puts(rt, "shuffled", &numbers)?;
-    Ok(())
+    time_orders(rt, numbers.as_mut_slice(), seed)
 }
 
 /// Whether a journal of records 1 to `number` is to be settled now.

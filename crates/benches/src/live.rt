@@ -5,6 +5,7 @@ use crate::meeting::Meeting;
 use crate::nodes::{AnyStation, sections_of};
 use crate::shapes::stations_of;
 use anyhow::Result;
+use std::alloc::AllocError;
 use std::rt::Clock;
 use std::sync::atomic::{AtomicU64, Ordering};
 use std::thread;
@@ -19,6 +20,22 @@ fn total(numbers: &[u64]) -> u64 {
     sum
 }
 
+/// Runs the nodes, each for so many sections. Answers how many they entered, and how many parcels came.
+fn run_nodes<R: Threads + Sync>(
+    rt: &R,
+    stations: Vec<AnyStation>,
+    sections: u64,
+) -> Result<(u64, u64), AllocError> {
+    let meeting = Meeting::new(stations.len() as u64);
+    let parcels = AtomicU64::new(0);
+    let each = thread::map_vec(
+        rt,
+        stations,
+        &|station: AnyStation| -> u64 { sections_of(station, &meeting, &parcels, sections) },
+    )?;
+    Ok((total(each.as_slice()), parcels.load(Ordering::SeqCst)))
+}
+
 /// Runs the nodes, each for so many sections, and prints how many they entered, how many parcels
 /// came, and the microseconds that they took.
 fn measure<R: Threads + Sync + Clock + Print>(
@@ -26,17 +43,9 @@ fn measure<R: Threads + Sync + Clock + Print>(
     stations: Vec<AnyStation>,
     sections: u64,
 ) -> Result<()> {
-    let meeting = Meeting::new(stations.len() as u64);
-    let parcels = AtomicU64::new(0);
     let begun = Instant::now(rt)?;
-    let each = thread::map_vec(
-        rt,
-        stations,
-        &|station: AnyStation| -> u64 { sections_of(station, &meeting, &parcels, sections) },
-    )?;
+    let (sections, parcels) = run_nodes(rt, stations, sections)?;
     let took = begun.elapsed(rt)?.as_micros();
-    let sections = total(each.as_slice());
-    let parcels = parcels.load(Ordering::SeqCst);
     println!(rt; "{sections} {parcels} {took}")?;
     Ok(())
 }

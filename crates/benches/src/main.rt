@@ -12,6 +12,8 @@ use crate::journals::{time_journals, time_settling};
 use crate::live::time_stations;
 use anyhow::{Result, bail};
 use std::env;
+use std::rt::Clock;
+use std::thread::Threads;
 
 const USAGE: &str =
     "usage: benches journals RECORDS SEED, benches settling RECORDS EVERY, or benches stations ALGORITHM NODES SECTIONS";
@@ -25,17 +27,28 @@ fn time(rt: &HostRuntime, what: &str, first: &str, second: &str) -> Result<()> {
     }
 }
 
+/// Times stations, of so many nodes and sections as these words say.
+fn time_run<R: Threads + Sync + Clock + Print + AllocGlobal>(
+    rt: &R,
+    algorithm: &str,
+    nodes: &str,
+    sections: &str,
+) -> Result<()> {
+    time_stations(rt, algorithm, nodes.parse()?, sections.parse()?)
+}
+
+fn tell_usage(rt: &HostRuntime) -> Result<()> {
+    println!(rt; "{USAGE}")?;
+    Ok(())
+}
+
 fn main(rt: HostRuntime) -> Result<()> {
     let words: Vec<String> = env::args(&rt)?.skip(1).collect(rt.alloc())?;
     match words.as_slice() {
         [what, first, second] => time(&rt, what.as_str(), first.as_str(), second.as_str()),
         [what, algorithm, nodes, sections] if what.as_str() == "stations" => {
-            let (nodes, sections) = (nodes.as_str().parse()?, sections.as_str().parse()?);
-            time_stations(&rt, algorithm.as_str(), nodes, sections)
+            time_run(&rt, algorithm.as_str(), nodes.as_str(), sections.as_str())
         }
-        _ => {
-            println!(rt; "{USAGE}")?;
-            Ok(())
-        }
+        _ => tell_usage(&rt),
     }
 }

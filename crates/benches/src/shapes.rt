@@ -46,10 +46,14 @@ fn binary_edges(alloc: Global, nodes: u8) -> Result<Vec<(u8, u8)>, AllocError> {
     Ok(edges)
 }
 
-fn raymond(alloc: Global, nodes: u8) -> Result<Vec<AnyStation>> {
-    let mut all = Vec::new(alloc);
+fn binary_tree(alloc: Global, nodes: u8) -> Result<Tree> {
     let edges = binary_edges(alloc, nodes)?;
-    let tree = Tree::of(nodes, edges.as_slice(), 0)?;
+    Ok(Tree::of(nodes, edges.as_slice(), 0)?)
+}
+
+fn raymond(alloc: Global, nodes: u8) -> Result<Vec<AnyStation>> {
+    let tree = binary_tree(alloc, nodes)?;
+    let mut all = Vec::new(alloc);
     for station in Field::<Raymond>::stations(alloc, &tree, 0, LIMIT, 1)? {
         all.push(AnyStation::Raymond(station))?;
     }

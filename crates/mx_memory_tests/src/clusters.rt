@@ -1,8 +1,9 @@
 //! A cluster starts, steps and runs.
 
+use crate::members::member_shown;
 use crate::telling::{back, call, expect, refused};
 use anyhow::{Result, bail};
-use mx_network::{Cluster, Event, StepFault};
+use mx_network::{Cluster, Event, RunFault, StepFault};
 use mx_nodelaws::Phase;
 use mx_ricart::{Count, Ricart};
 use mx_stamps::NodeId;
@@ -30,14 +31,19 @@ fn events(zero: NodeId, one: NodeId) -> [Event; 11] {
 type Shown = (usize, u64, [Option<(Phase, u64, usize)>; 2]);
 
 fn node_shown(cluster: &Cluster<Ricart>, node: NodeId) -> Option<(Phase, u64, usize)> {
-    let member = cluster.member(node)?;
-    Some((member.phase(), member.mine(), member.journal().len()))
+    let shown = member_shown(cluster.member(node)?);
+    Some((shown.phase, shown.mine, shown.records))
+}
+
+/// How many events have happened.
+fn happened(cluster: &Cluster<Ricart>) -> usize {
+    cluster.trace().len()
 }
 
 fn shown(cluster: &Cluster<Ricart>, nodes: [NodeId; 2]) -> Shown {
     let [zero, one] = nodes;
     let both = [node_shown(cluster, zero), node_shown(cluster, one)];
-    (cluster.trace().len(), cluster.sent(), both)
+    (happened(cluster), cluster.sent(), both)
 }
 
 fn started(alloc: Global, shape: &Count) -> Result<Cluster<Ricart>, AllocError> {
@@ -57,6 +63,14 @@ fn start(rt: &HostRuntime, shape: &Count) -> Result<Cluster<Ricart>> {
     }
 }
 
+/// Why a step was not taken, where it was not.
+fn step_fault(cluster: &mut Cluster<Ricart>, event: &Event) -> Option<StepFault> {
+    match cluster.step(*event) {
+        Ok(_) => None,
+        Err(fault) => Some(fault),
+    }
+}
+
 fn step(
     rt: &HostRuntime,
     cluster: &mut Cluster<Ricart>,
@@ -65,64 +79,103 @@ fn step(
 ) -> Result<()> {
     let before = shown(cluster, nodes);
     call(rt, "Cluster::step");
-    let mut fault = cluster.step(*event).err();
+    let mut fault = step_fault(cluster, event);
     back(rt);
     if fault == Some(StepFault::Memory) {
         refused(rt, "Cluster::step", shown(cluster, nodes) == before)?;
-        fault = cluster.step(*event).err();
+        fault = step_fault(cluster, event);
     }
-    let has_stepped = cluster.trace().len() == before.0.saturating_add(1);
+    let has_stepped = happened(cluster) == before.0.saturating_add(1);
     expect("Cluster::step", fault.is_none() && has_stepped)
+}
+
+/// Why a list of events was not run to its end, where it was not.
+fn run_fault(cluster: &mut Cluster<Ricart>, list: &[Event]) -> Option<RunFault> {
+    match cluster.run(list) {
+        Ok(()) => None,
+        Err(fault) => Some(fault),
+    }
+}
+
+/// Whether the first steps of a list stand, and no others, where memory was refused to a later one.
+fn stands(cluster: &Cluster<Ricart>, fault: RunFault) -> bool {
+    fault.fault == StepFault::Memory && happened(cluster) as u64 == fault.index
+}
+
+/// Runs the events of a list that have not happened yet. Whether all have happened then.
+fn run_rest(cluster: &mut Cluster<Ricart>, list: &[Event]) -> bool {
+    let done = happened(cluster);
+    done <= list.len() && run_fault(cluster, &list[done..]).is_none()
 }
 
 /// Runs a list of events, whose first steps stand where memory is refused to a later one.
 fn run(rt: &HostRuntime, cluster: &mut Cluster<Ricart>, list: &[Event]) -> Result<()> {
     call(rt, "Cluster::run");
-    let answer = cluster.run(list);
+    let answer = run_fault(cluster, list);
     back(rt);
-    if let Err(fault) = answer {
-        let stands = fault.fault == StepFault::Memory
-            && cluster.trace().len() as u64 == fault.index;
-        refused(rt, "Cluster::run", stands)?;
-        let done = cluster.trace().len();
-        if done > list.len() {
-            bail!("more events than there were");
-        }
-        cluster.run(&list[done..])?;
+    if let Some(fault) = answer {
+        refused(rt, "Cluster::run", stands(cluster, fault))?;
+        expect("Cluster::run", run_rest(cluster, list))?;
     }
-    expect("Cluster::run", cluster.trace().len() == list.len())
+    expect("Cluster::run", happened(cluster) == list.len())
 }
 
-/// Steps through the events one after another. Answers what the cluster shows then.
 fn each_step(
     rt: &HostRuntime,
     cluster: &mut Cluster<Ricart>,
     list: &[Event],
     nodes: [NodeId; 2],
-) -> Result<Shown> {
+) -> Result<()> {
     for event in list {
         step(rt, cluster, event, nodes)?;
     }
-    Ok(shown(cluster, nodes))
+    Ok(())
 }
 
-/// Runs them, and sees that it shows the same then.
-fn run_all(
+/// How the events of a list happen: one after another, or in one run.
+#[derive(Clone, Copy)]
+enum Way {
+    Steps,
+    Run,
+}
+
+/// The events happen. Answers what the cluster shows then.
+fn happen(
     rt: &HostRuntime,
     cluster: &mut Cluster<Ricart>,
     list: &[Event],
     nodes: [NodeId; 2],
-    wanted: Shown,
-) -> Result<()> {
-    run(rt, cluster, list)?;
-    expect("Cluster::run", shown(cluster, nodes) == wanted)
+    way: Way,
+) -> Result<Shown> {
+    match way {
+        Way::Steps => each_step(rt, cluster, list, nodes)?,
+        Way::Run => run(rt, cluster, list)?,
+    }
+    Ok(shown(cluster, nodes))
+}
+
+/// The same in a cluster that ends with it.
+fn shown_after(
+    rt: &HostRuntime,
+    mut cluster: Cluster<Ricart>,
+    list: &[Event],
+    nodes: [NodeId; 2],
+    way: Way,
+) -> Result<Shown> {
+    happen(rt, &mut cluster, list, nodes, way)
+}
+
+/// Two clusters show the same, whichever way the events happen.
+fn both_ways(rt: &HostRuntime, shape: &Count, list: &[Event], nodes: [NodeId; 2]) -> Result<()> {
+    let wanted = shown_after(rt, start(rt, shape)?, list, nodes, Way::Steps)?;
+    let cluster = started(rt.alloc(), shape)?;
+    let found = shown_after(rt, cluster, list, nodes, Way::Run)?;
+    expect("Cluster::run", found == wanted)
 }
 
 pub(crate) fn each(rt: &HostRuntime) -> Result<()> {
     let (Some(zero), Some(one), Some(shape)) = (NodeId::of(0), NodeId::of(1), Count::of(2)) else {
         bail!("no such nodes");
     };
-    let (list, nodes) = (events(zero, one), [zero, one]);
-    let wanted = each_step(rt, &mut start(rt, &shape)?, &list, nodes)?;
-    run_all(rt, &mut started(rt.alloc(), &shape)?, &list, nodes, wanted)
+    both_ways(rt, &shape, &events(zero, one), [zero, one])
 }

@@ -47,107 +47,121 @@ fn journal_of(alloc: Global, numbers: &[u64]) -> Result<Journal> {
     Ok(journal)
 }
 
-/// Whether a journal and its twin have the same records, of numbers below 20.
-fn are_twins(journal: &Journal, twin: &Journal) -> bool {
+/// A journal and its twin.
+#[derive(Drop)]
+struct Twins {
+    journal: Journal,
+    twin: Journal,
+}
+
+fn empty_twins(alloc: Global) -> Twins {
+    Twins {
+        journal: Journal::new(alloc),
+        twin: Journal::new(alloc),
+    }
+}
+
+/// Whether both have the same records, of numbers below 20.
+fn are_alike(twins: &Twins) -> bool {
     for number in 0..20 {
-        if journal.get(number).is_some() != twin.get(number).is_some() {
+        if twins.journal.get(number).is_some() != twins.twin.get(number).is_some() {
             return false;
         }
     }
-    journal.len() == twin.len() && agree(journal, twin)
+    twins.journal.len() == twins.twin.len() && agree(&twins.journal, &twins.twin)
 }
 
-fn put(rt: &HostRuntime, journal: &mut Journal, twin: &mut Journal, number: u64) -> Result<()> {
+fn put(rt: &HostRuntime, twins: &mut Twins, number: u64) -> Result<()> {
     call(rt, "put");
-    let mut answer = journal.put(record(number));
+    let mut answer = twins.journal.put(record(number));
     back(rt);
     if answer == Err(PutFault::Memory) {
-        refused(rt, "put", are_twins(journal, twin))?;
-        answer = journal.put(record(number));
+        refused(rt, "put", are_alike(twins))?;
+        answer = twins.journal.put(record(number));
     }
-    twin.put(record(number))?;
-    expect("put", answer == Ok(Put::New) && are_twins(journal, twin))
+    twins.twin.put(record(number))?;
+    expect("put", answer == Ok(Put::New) && are_alike(twins))
 }
 
-fn put_all(
-    rt: &HostRuntime,
-    journal: &mut Journal,
-    twin: &mut Journal,
-    list: &[Record],
-) -> Result<()> {
+fn put_all(rt: &HostRuntime, twins: &mut Twins, list: &[Record]) -> Result<()> {
     call(rt, "put_all");
-    let mut answer = journal.put_all(list);
+    let mut answer = twins.journal.put_all(list);
     back(rt);
     if answer == Err(PutFault::Memory) {
-        refused(rt, "put_all", are_twins(journal, twin))?;
-        answer = journal.put_all(list);
+        refused(rt, "put_all", are_alike(twins))?;
+        answer = twins.journal.put_all(list);
     }
-    let new = twin.put_all(list)?;
-    expect("put_all", answer == Ok(new) && are_twins(journal, twin))
+    let new = twins.twin.put_all(list)?;
+    expect("put_all", answer == Ok(new) && are_alike(twins))
 }
 
 /// Merges another journal, into the twin too.
-fn merge_other(
-    rt: &HostRuntime,
-    journal: &mut Journal,
-    twin: &mut Journal,
-    other: &Journal,
-) -> Result<()> {
+fn merge_other(rt: &HostRuntime, twins: &mut Twins, other: &Journal) -> Result<()> {
     call(rt, "merge");
-    let mut answer = merge(journal, other);
+    let mut answer = merge(&mut twins.journal, other);
     back(rt);
     if answer == Err(MergeFault::Memory) {
-        refused(rt, "merge", are_twins(journal, twin))?;
-        answer = merge(journal, other);
+        refused(rt, "merge", are_alike(twins))?;
+        answer = merge(&mut twins.journal, other);
     }
-    let new = merge(twin, other)?;
-    expect("merge", answer == Ok(new) && are_twins(journal, twin))
+    let new = merge(&mut twins.twin, other)?;
+    expect("merge", answer == Ok(new) && are_alike(twins))
 }
 
-fn each_put(rt: &HostRuntime, journal: &mut Journal, twin: &mut Journal) -> Result<()> {
+fn each_put(rt: &HostRuntime, twins: &mut Twins) -> Result<()> {
     for number in SINGLE {
-        put(rt, journal, twin, number)?;
+        put(rt, twins, number)?;
     }
     Ok(())
 }
 
 /// Puts the records of these numbers together.
-fn put_list(
-    rt: &HostRuntime,
-    journal: &mut Journal,
-    twin: &mut Journal,
-    numbers: &[u64],
-) -> Result<()> {
-    put_all(rt, journal, twin, records(rt.alloc(), numbers)?.as_slice())
+fn put_list(rt: &HostRuntime, twins: &mut Twins, numbers: &[u64]) -> Result<()> {
+    put_all(rt, twins, records(rt.alloc(), numbers)?.as_slice())
 }
 
-fn each_put_all(rt: &HostRuntime, journal: &mut Journal, twin: &mut Journal) -> Result<()> {
+fn each_put_all(rt: &HostRuntime, twins: &mut Twins) -> Result<()> {
     for numbers in LISTS {
-        put_list(rt, journal, twin, numbers)?;
+        put_list(rt, twins, numbers)?;
     }
     Ok(())
 }
 
 /// Merges a journal of these numbers.
-fn merge_list(
-    rt: &HostRuntime,
-    journal: &mut Journal,
-    twin: &mut Journal,
-    numbers: &[u64],
-) -> Result<()> {
-    merge_other(rt, journal, twin, &journal_of(rt.alloc(), numbers)?)
+fn merge_list(rt: &HostRuntime, twins: &mut Twins, numbers: &[u64]) -> Result<()> {
+    merge_other(rt, twins, &journal_of(rt.alloc(), numbers)?)
 }
 
-fn each_merge(rt: &HostRuntime, journal: &mut Journal, twin: &mut Journal) -> Result<()> {
+fn each_merge(rt: &HostRuntime, twins: &mut Twins) -> Result<()> {
     for numbers in LISTS {
-        merge_list(rt, journal, twin, numbers)?;
+        merge_list(rt, twins, numbers)?;
     }
     Ok(())
 }
 
+/// The call that is made again and again.
+#[derive(Clone, Copy)]
+enum Way {
+    Put,
+    PutAll,
+    Merge,
+}
+
+fn each_way(rt: &HostRuntime, twins: &mut Twins, way: Way) -> Result<()> {
+    match way {
+        Way::Put => each_put(rt, twins),
+        Way::PutAll => each_put_all(rt, twins),
+        Way::Merge => each_merge(rt, twins),
+    }
+}
+
+/// Makes the call over and over, from two empty journals on.
+fn from_empty(rt: &HostRuntime, way: Way) -> Result<()> {
+    each_way(rt, &mut empty_twins(rt.alloc()), way)
+}
+
 pub(crate) fn each(rt: &HostRuntime) -> Result<()> {
-    let alloc = rt.alloc();
-    each_put(rt, &mut Journal::new(alloc), &mut Journal::new(alloc))?;
-    each_put_all(rt, &mut Journal::new(alloc), &mut Journal::new(alloc))?;
-    each_merge(rt, &mut Journal::new(alloc), &mut Journal::new(alloc))
+    from_empty(rt, Way::Put)?;
+    from_empty(rt, Way::PutAll)?;
+    from_empty(rt, Way::Merge)
 }

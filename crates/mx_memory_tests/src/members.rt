@@ -25,18 +25,40 @@ fn started(alloc: Global) -> Result<Member<Ricart>> {
     Ok(Member::start(alloc, &shape, NodeId::default(), 0, 10, 1))
 }
 
-/// Whether the member is inside section 1, and its journal is empty.
-fn is_inside(member: &Member<Ricart>) -> bool {
-    member.phase() == Phase::Inside(1) && member.mine() == 1 && member.journal().is_empty()
+/// What a member shows: its phase, the number of its last section, how many records it has, the
+/// greatest number of these, and its register.
+#[derive(Clone, Copy)]
+pub(crate) struct MemberShown {
+    pub(crate) phase: Phase,
+    pub(crate) mine: u64,
+    pub(crate) records: usize,
+    top: u64,
+    value: Option<u64>,
 }
 
-fn enter(member: &mut Member<Ricart>) -> Result<()> {
-    let mut out = Outbox::new();
-    member.ask(&mut out)?;
-    member.enter()?;
-    member.write(0, 7)?;
-    member.read(0)?;
-    Ok(())
+pub(crate) fn member_shown(member: &Member<Ricart>) -> MemberShown {
+    let journal = member.journal();
+    MemberShown {
+        phase: member.phase(),
+        mine: member.mine(),
+        records: journal.len(),
+        top: journal.top(),
+        value: member.value(0),
+    }
+}
+
+/// Whether the member is inside section 1, and its journal is empty.
+fn is_inside(member: &Member<Ricart>) -> bool {
+    let shown = member_shown(member);
+    shown.phase == Phase::Inside(1) && shown.mine == 1 && shown.records == 0
+}
+
+/// The member enters, writes and reads. What is refused is missing from its receipt.
+fn enter(member: &mut Member<Ricart>) {
+    let _ = member.ask(&mut Outbox::new());
+    let _ = member.enter();
+    let _ = member.write(0, 7);
+    let _ = member.read(0);
 }
 
 /// The member leaves. Whether its receipt is whole, and whether nothing is sent.
@@ -60,10 +82,8 @@ fn leave(rt: &HostRuntime, member: &mut Member<Ricart>) -> Result<()> {
         refused(rt, "Member::leave", is_inside(member) && is_quiet)?;
         answer = left(member).0;
     }
-    expect(
-        "Member::leave",
-        answer == Ok(true) && member.value(0) == Some(7),
-    )
+    let has_written = member_shown(member).value == Some(7);
+    expect("Member::leave", answer == Ok(true) && has_written)
 }
 
 fn parcel_of(numbers: &[u64]) -> Parcel<RicartMsg> {
@@ -83,22 +103,23 @@ fn delivered(member: &mut Member<Ricart>, numbers: &[u64]) -> (Result<(), Delive
     (answer, out.is_empty())
 }
 
-/// How many records a member has, the greatest number, and its register.
-fn shown(member: &Member<Ricart>) -> (usize, u64, Option<u64>) {
-    (
-        member.journal().len(),
-        member.journal().top(),
-        member.value(0),
-    )
+/// Whether the member's journal and its register are as they were.
+fn is_as_before(member: &Member<Ricart>, before: &MemberShown) -> bool {
+    let shown = member_shown(member);
+    shown.records == before.records && shown.top == before.top && shown.value == before.value
 }
 
 fn deliver(rt: &HostRuntime, member: &mut Member<Ricart>, numbers: &[u64]) -> Result<()> {
-    let before = shown(member);
+    let before = member_shown(member);
     call(rt, "Member::deliver");
     let (mut answer, is_quiet) = delivered(member, numbers);
     back(rt);
     if answer == Err(DeliverFault::Memory) {
-        refused(rt, "Member::deliver", shown(member) == before && is_quiet)?;
+        refused(
+            rt,
+            "Member::deliver",
+            is_as_before(member, &before) && is_quiet,
+        )?;
         answer = delivered(member, numbers).0;
     }
     expect(
@@ -116,19 +137,23 @@ fn has_all(member: &Member<Ricart>, numbers: &[u64]) -> bool {
     true
 }
 
-fn each_leaving(rt: &HostRuntime, member: &mut Member<Ricart>) -> Result<()> {
-    enter(member)?;
-    leave(rt, member)
+fn each_leaving(rt: &HostRuntime, mut member: Member<Ricart>) -> Result<()> {
+    enter(&mut member);
+    leave(rt, &mut member)
 }
 
-fn each_delivery(rt: &HostRuntime, member: &mut Member<Ricart>) -> Result<()> {
+fn deliver_each(rt: &HostRuntime, member: &mut Member<Ricart>) -> Result<()> {
     for numbers in PARCELS {
         deliver(rt, member, numbers)?;
     }
     Ok(())
 }
 
+fn each_delivery(rt: &HostRuntime, mut member: Member<Ricart>) -> Result<()> {
+    deliver_each(rt, &mut member)
+}
+
 pub(crate) fn each(rt: &HostRuntime) -> Result<()> {
-    each_leaving(rt, &mut started(rt.alloc())?)?;
-    each_delivery(rt, &mut started(rt.alloc())?)
+    each_leaving(rt, started(rt.alloc())?)?;
+    each_delivery(rt, started(rt.alloc())?)
 }

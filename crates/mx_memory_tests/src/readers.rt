@@ -1,11 +1,10 @@
 //! A plan and events are read, and a schedule is drawn. Where memory is refused there is no value.
 
 use crate::telling::{back, call, expect, refused};
-use anyhow::Result;
+use anyhow::{Result, bail};
 use mx_explorer::schedule;
-use mx_network::Event;
 use mx_plan::{Plan, PlanFault, read_events, read_plan};
-use std::alloc::AllocError;
+use std::alloc::{AllocError, Global};
 
 const PLAN: &str =
     "{\"algorithm\":\"maekawa\",\"nodes\":[\"a\",\"b\",\"c\"],\"registers\":[\"count\"],\"sections\":10,\"quorums\":{\"kind\":\"listed\",\"sets\":[[\"a\",\"b\"],[\"b\",\"c\"],[\"c\",\"a\"]]}}";
@@ -18,47 +17,67 @@ fn plan(rt: &HostRuntime) -> Result<Plan> {
     let answer = read_plan(rt.alloc(), PLAN.as_bytes());
     back(rt);
     match answer {
-        Err(PlanFault::Memory) => {
-            refused(rt, "read_plan", true)?;
-            Ok(read_plan(rt.alloc(), PLAN.as_bytes())?)
-        }
-        other => Ok(other?),
+        Ok(plan) => Ok(plan),
+        Err(fault) => plan_again(rt, fault),
     }
 }
 
-fn events(rt: &HostRuntime, plan: &Plan) -> Result<Vec<Event>> {
+/// Reads the plan again, where memory was refused.
+fn plan_again(rt: &HostRuntime, fault: PlanFault) -> Result<Plan> {
+    expect("read_plan", matches!(fault, PlanFault::Memory))?;
+    refused(rt, "read_plan", true)?;
+    match read_plan(rt.alloc(), PLAN.as_bytes()) {
+        Ok(plan) => Ok(plan),
+        Err(_) => bail!("read_plan is not as it should be"),
+    }
+}
+
+/// How many events are read.
+fn events_read(alloc: Global, plan: &Plan) -> Result<usize, PlanFault> {
+    match read_events(alloc, EVENTS.as_bytes(), plan) {
+        Ok(events) => Ok(events.len()),
+        Err(fault) => Err(fault),
+    }
+}
+
+fn events(rt: &HostRuntime, plan: &Plan) -> Result<()> {
     call(rt, "read_events");
-    let answer = read_events(rt.alloc(), EVENTS.as_bytes(), plan);
+    let mut answer = events_read(rt.alloc(), plan);
     back(rt);
-    match answer {
-        Err(PlanFault::Memory) => {
-            refused(rt, "read_events", true)?;
-            Ok(read_events(rt.alloc(), EVENTS.as_bytes(), plan)?)
-        }
-        other => Ok(other?),
+    if matches!(answer, Err(PlanFault::Memory)) {
+        refused(rt, "read_events", true)?;
+        answer = events_read(rt.alloc(), plan);
+    }
+    expect("read_events", matches!(answer, Ok(5)))
+}
+
+/// How many events are drawn, where memory was not refused.
+fn events_drawn(alloc: Global, plan: &Plan) -> Option<usize> {
+    match schedule(alloc, 1, 100, plan) {
+        Ok(events) => Some(events.len()),
+        Err(AllocError) => None,
     }
 }
 
-fn drawn(rt: &HostRuntime, plan: &Plan) -> Result<Vec<Event>> {
+fn drawn(rt: &HostRuntime, plan: &Plan) -> Result<()> {
     call(rt, "schedule");
-    let answer = schedule(rt.alloc(), 1, 100, plan);
+    let mut answer = events_drawn(rt.alloc(), plan);
     back(rt);
-    match answer {
-        Ok(events) => Ok(events),
-        Err(AllocError) => {
-            refused(rt, "schedule", true)?;
-            Ok(schedule(rt.alloc(), 1, 100, plan)?)
-        }
+    if answer.is_none() {
+        refused(rt, "schedule", true)?;
+        answer = events_drawn(rt.alloc(), plan);
     }
+    expect("schedule", answer == Some(100))
 }
 
 /// Reads the events of a plan, and draws a schedule over it.
 fn each_list(rt: &HostRuntime, plan: &Plan) -> Result<()> {
     expect("read_plan", plan.nodes() == 3)?;
-    expect("read_events", events(rt, plan)?.len() == 5)?;
-    expect("schedule", drawn(rt, plan)?.len() == 100)
+    events(rt, plan)?;
+    drawn(rt, plan)
 }
 
 pub(crate) fn each(rt: &HostRuntime) -> Result<()> {
-    each_list(rt, &plan(rt)?)
+    let plan = plan(rt)?;
+    each_list(rt, &plan)
 }

@@ -1,6 +1,6 @@
 //! Stations are made, leave, take parcels in, take turns and are gathered.
 
-ghost use Rattle.std.specs.Prelude.{◌≡◌, [], ◌∷◌, IfOk};
+ghost use Rattle.std.specs.Prelude.{◌≡◌, length};
 ghost use Rattle.mx_stations.specs.Gathered.{OfOneTable};
 
 use crate::telling::{back, call, expect, refused};
@@ -11,7 +11,7 @@ use mx_nodelaws::Phase;
 use mx_ricart::{Count, Ricart};
 use mx_stamps::NodeId;
 use mx_stations::{
-    Field, GatherFault, Gathered, PutOut, Station, TakeFault, Taken, Ungathered, gather,
+    Field, GatherFault, Gathered, PutOut, Station, TakeFault, Taken, TurnReport, Ungathered, gather,
 };
 use std::alloc::{AllocError, Global};
 
@@ -35,15 +35,6 @@ fn opened(rt: &HostRuntime, nodes: u8) -> Result<Vec<Station<Ricart>>> {
     }
 }
 
-/// The stations of two nodes.
-fn two(rt: &HostRuntime) -> Result<(Station<Ricart>, Station<Ricart>)> {
-    let mut all = opened(rt, 2)?;
-    let (Some(one), Some(zero)) = (all.pop(), all.pop()) else {
-        bail!("not two stations");
-    };
-    Ok((zero, one))
-}
-
 /// Takes a parcel in from a node, where it is one.
 fn take_from(station: &mut Station<Ricart>, from: NodeId) -> Result<Taken, TakeFault> {
     if from.get() >= station.nodes() {
@@ -52,17 +43,52 @@ fn take_from(station: &mut Station<Ricart>, from: NodeId) -> Result<Taken, TakeF
     station.take_in(from)
 }
 
+/// The station sends its first waiting parcel.
+fn send(station: &mut Station<Ricart>) -> Result<()> {
+    expect("put_out", station.put_out() == PutOut::Sent)
+}
+
 /// Hands the first waiting parcel of a station to another one.
 fn hand_on(from: &mut Station<Ricart>, to: &mut Station<Ricart>) -> Result<()> {
-    expect("put_out", from.put_out() == PutOut::Sent)?;
-    expect("take_in", take_from(to, from.node())? == Taken::Got)
+    send(from)?;
+    expect("take_in", take_from(to, from.node()) == Ok(Taken::Got))
+}
+
+fn ask(station: &mut Station<Ricart>) -> Result<()> {
+    expect("Station::ask", station.ask().is_ok())
+}
+
+/// The station enters, and writes a value.
+fn enter(station: &mut Station<Ricart>, value: u64) -> Result<()> {
+    let has_entered = station.enter().is_ok();
+    expect(
+        "Station::enter",
+        has_entered && station.write(0, value).is_ok(),
+    )
+}
+
+/// What a station shows: its phase, its receipts and records, and how many parcels wait in it.
+#[derive(Clone, Copy)]
+struct StationShown {
+    phase: Phase,
+    receipts: usize,
+    records: usize,
+    waits: usize,
+}
+
+fn station_shown(station: &Station<Ricart>) -> StationShown {
+    StationShown {
+        phase: station.phase(),
+        receipts: station.receipts().len(),
+        records: station.journal().len(),
+        waits: station.waits(),
+    }
 }
 
 /// Whether a station is inside a section, with so many receipts and records.
 fn is_inside(station: &Station<Ricart>, number: u64, receipts: usize) -> bool {
-    station.phase() == Phase::Inside(number)
-        && station.receipts().len() == receipts
-        && station.journal().len() == receipts
+    let shown = station_shown(station);
+    shown.phase == Phase::Inside(number) && shown.receipts == receipts && shown.records == receipts
 }
 
 /// The station leaves. Whether the receipt is that of section `number`, with one write.
@@ -73,7 +99,7 @@ fn left(station: &mut Station<Ricart>, number: u64) -> Result<bool, CloseFault> 
 
 /// Leaves section `number`, the station's own next one.
 fn leave(rt: &HostRuntime, station: &mut Station<Ricart>, number: u64) -> Result<()> {
-    let receipts = station.receipts().len();
+    let receipts = station_shown(station).receipts;
     call(rt, "Station::leave");
     let mut answer = left(station, number);
     back(rt);
@@ -81,7 +107,7 @@ fn leave(rt: &HostRuntime, station: &mut Station<Ricart>, number: u64) -> Result
         refused(rt, "Station::leave", is_inside(station, number, receipts))?;
         answer = left(station, number);
     }
-    let has_one_more = station.receipts().len() == receipts.saturating_add(1);
+    let has_one_more = station_shown(station).receipts == receipts.saturating_add(1);
     expect("Station::leave", answer == Ok(true) && has_one_more)
 }
 
@@ -91,12 +117,20 @@ fn have_first(
     zero: &mut Station<Ricart>,
     one: &mut Station<Ricart>,
 ) -> Result<()> {
-    zero.ask()?;
+    ask(zero)?;
     hand_on(zero, one)?;
     hand_on(one, zero)?;
-    zero.enter()?;
-    zero.write(0, 5)?;
+    enter(zero, 5)?;
     leave(rt, zero, 1)
+}
+
+/// The station asks a node for the records that it lacks.
+fn want(station: &mut Station<Ricart>, from: NodeId) -> Result<()> {
+    if from.get() >= station.nodes() {
+        bail!("no such node");
+    }
+    station.want(from);
+    Ok(())
 }
 
 /// Node 0 has a section, whose record it sends to node 1, and a request behind it.
@@ -106,14 +140,24 @@ fn send_record(
     one: &mut Station<Ricart>,
 ) -> Result<()> {
     have_first(rt, zero, one)?;
-    if zero.node().get() >= one.nodes() {
-        bail!("no such node");
-    }
-    one.want(zero.node());
+    want(one, zero.node())?;
     hand_on(one, zero)?;
-    expect("put_out", zero.put_out() == PutOut::Sent)?;
-    zero.ask()?;
-    expect("put_out", zero.put_out() == PutOut::Sent)
+    send(zero)?;
+    ask(zero)?;
+    send(zero)
+}
+
+/// Whether so many records and waiting parcels are in a station.
+fn has(station: &Station<Ricart>, records: usize, waits: usize) -> bool {
+    let shown = station_shown(station);
+    shown.records == records && shown.waits == waits
+}
+
+/// Whether the request comes by the next call, and nothing by the one after.
+fn request_is_last(station: &mut Station<Ricart>, from: NodeId) -> bool {
+    take_from(station, from) == Ok(Taken::Got)
+        && has(station, 1, 1)
+        && take_from(station, from) == Ok(Taken::Empty)
 }
 
 /// The record that was sent is taken in. Where memory was refused it is in hand, and the next call
@@ -123,62 +167,53 @@ fn take_record(rt: &HostRuntime, station: &mut Station<Ricart>, from: NodeId) ->
     let mut answer = take_from(station, from);
     back(rt);
     if answer == Err(TakeFault::Memory) {
-        refused(
-            rt,
-            "take_in",
-            station.journal().is_empty() && station.waits() == 0,
-        )?;
+        refused(rt, "take_in", has(station, 0, 0))?;
         answer = take_from(station, from);
     }
-    let is_taken = answer == Ok(Taken::Got) && station.journal().len() == 1;
-    let is_behind = station.waits() == 0 && take_from(station, from) == Ok(Taken::Got);
-    let is_last = station.waits() == 1 && take_from(station, from) == Ok(Taken::Empty);
-    expect("take_in", is_taken && is_behind && is_last)
+    expect("take_in", answer == Ok(Taken::Got) && has(station, 1, 0))?;
+    expect("take_in", request_is_last(station, from))
 }
 
-/// Node 1 takes in what node 0 has sent.
-fn take_in(rt: &HostRuntime, zero: &mut Station<Ricart>, one: &mut Station<Ricart>) -> Result<()> {
-    send_record(rt, zero, one)?;
-    take_record(rt, one, zero.node())
+fn turn(station: &mut Station<Ricart>) -> Result<TurnReport, TakeFault> {
+    station.turn(&mut Fair)
+}
+
+/// Whether a turn took the record and the request.
+fn has_taken_both(answer: &Result<TurnReport, TakeFault>) -> bool {
+    match answer {
+        Ok(report) => report.taken == 2,
+        Err(_) => false,
+    }
+}
+
+/// Whether a turn found something to do.
+fn has_not_ticked(answer: &Result<TurnReport, TakeFault>) -> bool {
+    match answer {
+        Ok(report) => !report.ticked,
+        Err(_) => false,
+    }
 }
 
 /// A station takes a turn, and where memory was refused another one, which delivers the record first.
 fn take_turn(rt: &HostRuntime, station: &mut Station<Ricart>) -> Result<()> {
     call(rt, "turn");
-    let mut answer = station.turn(&mut Fair);
+    let mut answer = turn(station);
     back(rt);
     if answer == Err(TakeFault::Memory) {
-        refused(rt, "turn", station.journal().is_empty())?;
-        answer = station.turn(&mut Fair);
-        expect("turn", answer.is_ok_and(|report| report.taken == 2))?;
+        refused(rt, "turn", station_shown(station).records == 0)?;
+        answer = turn(station);
+        expect("turn", has_taken_both(&answer))?;
     }
     expect(
         "turn",
-        answer.is_ok_and(|report| !report.ticked) && station.journal().len() == 1,
+        has_not_ticked(&answer) && station_shown(station).records == 1,
     )
-}
-
-/// Node 1 takes a turn once node 0 has sent.
-fn turn(rt: &HostRuntime, zero: &mut Station<Ricart>, one: &mut Station<Ricart>) -> Result<()> {
-    send_record(rt, zero, one)?;
-    take_turn(rt, one)
-}
-
-/// A list of one station.
-fn single(alloc: Global, one: Station<Ricart>) -> Result<Vec<Station<Ricart>>, AllocError>
-    ensures { IfOk result (λ all. all.items ≡ one ∷ []) }
-{
-    let mut all = Vec::new(alloc);
-    all.reserve(1)?;
-    all.push_reserved(one);
-    Ok(all)
 }
 
 /// A section of a station that is alone.
 fn have_section(rt: &HostRuntime, station: &mut Station<Ricart>, number: u64) -> Result<()> {
-    station.ask()?;
-    station.enter()?;
-    station.write(0, number)?;
+    ask(station)?;
+    enter(station, number)?;
     leave(rt, station, number)
 }
 
@@ -193,26 +228,39 @@ fn gather_again(
     call(rt, "gather");
     let answer = gather(rt.alloc(), stations);
     back(rt);
-    let Err(back) = answer else {
-        return gathered(answer);
-    };
-    let has_all = match back.stations.first() {
-        Some(station) => station.receipts().len() == receipts,
-        None => false,
-    };
-    refused(rt, "gather", has_all && back.fault == GatherFault::Memory)?;
-    gathered(gather(rt.alloc(), back.stations))
+    match answer {
+        Ok(all) => Ok(all),
+        Err(back) => {
+            let stands = back.fault == GatherFault::Memory
+                && has_receipts(&back.stations, receipts);
+            refused(rt, "gather", stands)?;
+            gathered(rt.alloc(), back.stations)
+        }
+    }
 }
 
-fn gathered(answer: Result<Gathered, Ungathered<Ricart>>) -> Result<Gathered> {
-    match answer {
+/// Whether the first of these stations has so many receipts.
+fn has_receipts(stations: &[Station<Ricart>], receipts: usize) -> bool {
+    match stations.first() {
+        Some(station) => station_shown(station).receipts == receipts,
+        None => false,
+    }
+}
+
+fn gathered(alloc: Global, stations: Vec<Station<Ricart>>) -> Result<Gathered>
+    requires { OfOneTable stations.items }
+{
+    match gather(alloc, stations) {
         Ok(all) => Ok(all),
         Err(back) => bail!("not gathered: {}", back.fault),
     }
 }
 
-/// It has three.
-fn have_sections(rt: &HostRuntime, station: &mut Station<Ricart>) -> Result<()> {
+/// The first of these stations has three.
+fn have_sections(rt: &HostRuntime, stations: &mut [Station<Ricart>]) -> Result<()> {
+    let Some(station) = stations.first_mut() else {
+        bail!("no station");
+    };
     for number in 1..=3 {
         have_section(rt, station, number)?;
     }
@@ -220,42 +268,60 @@ fn have_sections(rt: &HostRuntime, station: &mut Station<Ricart>) -> Result<()> 
 }
 
 /// What a station that is alone and has had three sections is gathered to.
-fn gathered_one(rt: &HostRuntime, station: Station<Ricart>) -> Result<Gathered> {
-    gather_again(rt, single(rt.alloc(), station)?, 3)
+fn gathered_one(rt: &HostRuntime, stations: Vec<Station<Ricart>>) -> Result<Gathered>
+    requires { length stations.items ≡ 1 }
+{
+    gather_again(rt, stations, 3)
 }
 
-/// A station that is alone has three sections.
-fn with_sections(rt: &HostRuntime) -> Result<Station<Ricart>> {
-    let Some(mut station) = opened(rt, 1)?.pop() else {
-        bail!("no station");
-    };
-    have_sections(rt, &mut station)?;
-    Ok(station)
+/// A station that is alone has three sections, and is gathered.
+fn gathered_alone(rt: &HostRuntime, mut stations: Vec<Station<Ricart>>) -> Result<Gathered> {
+    have_sections(rt, stations.as_mut_slice())?;
+    if stations.len() != 1 {
+        bail!("not one station");
+    }
+    gathered_one(rt, stations)
 }
 
-/// It is gathered.
 fn gather_one(rt: &HostRuntime) -> Result<()> {
-    let all = gathered_one(rt, with_sections(rt)?)?;
+    let all = gathered_alone(rt, opened(rt, 1)?)?;
     expect(
         "gather",
         all.receipts.len() == 3 && all.journal.gapless_to() == 3,
     )
 }
 
-/// Two stations, of which the second takes a parcel in.
-fn each_parcel(rt: &HostRuntime) -> Result<()> {
-    let (mut zero, mut one) = two(rt)?;
-    take_in(rt, &mut zero, &mut one)
+/// How what was sent comes in.
+#[derive(Clone, Copy)]
+enum Way {
+    TakeIn,
+    Turn,
 }
 
-/// Two stations, of which the second takes a turn.
-fn each_turn(rt: &HostRuntime) -> Result<()> {
-    let (mut zero, mut one) = two(rt)?;
-    turn(rt, &mut zero, &mut one)
+/// Node 1 takes in what node 0 has sent.
+fn send_and_take(
+    rt: &HostRuntime,
+    way: Way,
+    zero: &mut Station<Ricart>,
+    one: &mut Station<Ricart>,
+) -> Result<()> {
+    send_record(rt, zero, one)?;
+    match way {
+        Way::TakeIn => take_record(rt, one, zero.node()),
+        Way::Turn => take_turn(rt, one),
+    }
+}
+
+/// Two stations, of which the second takes in what the first has sent.
+fn each_way(rt: &HostRuntime, way: Way) -> Result<()> {
+    match opened(rt, 2)?.as_mut_slice() {
+        [zero, one] => send_and_take(rt, way, zero, one),
+        _ => bail!("not two stations"),
+    }
 }
 
 pub(crate) fn each(rt: &HostRuntime) -> Result<()> {
-    each_parcel(rt)?;
-    each_turn(rt)?;
+    each_way(rt, Way::TakeIn)?;
+    each_way(rt, Way::Turn)?;
     gather_one(rt)
 }

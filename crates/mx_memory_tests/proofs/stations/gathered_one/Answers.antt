@@ -1,7 +1,14 @@
-use Rattle.std.proofs.Common.{subst, sym}
+use Rattle.std.proofs.Common.{◌≡◌, List, [], ◌∷◌, length, arith}
 use Rattle.mx_stations.specs.Gathered.{OfOneTable}
+use Rattle.mx_stations.specs.Posts.{Post}
 use Rattle.mx_stations.proofs.SameTable.{one_alone}
 use Rattle.mx_memory_tests.proofs.stations.gathered_one.Goals as goal
 
+-- a list of one station
+alone : {T P : Type 0} (all : List (Post T P)) → length all ≡ 1 → OfOneTable all
+alone [] is = absurd (omega (arith, is))
+alone (s ∷ []) is = one_alone s
+alone (s ∷ t ∷ more) is = absurd (omega (arith, is))
+
 pub gather_again-requires : goal.gather_again-requires
-gather_again-requires c = subst OfOneTable (sym c.in_ok-single.ensures) (one_alone _)
+gather_again-requires c = alone _ c.requires
