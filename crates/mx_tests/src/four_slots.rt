@@ -1,12 +1,16 @@
 //! Two stations whose links have four slots each: what each call answers, and what is gathered.
 
-ghost use Rattle.std.specs.Prelude.{◌≡◌, [], ◌∷◌, IfOk};
+ghost use Rattle.std.specs.Prelude.{◌<◌, IfSome};
 ghost use Rattle.mx_stations.specs.Gathered.{KeepsTable};
 
 use crate::given::node;
 use crate::stations::two;
+use mx_journal::Receipt;
+use mx_member::CloseFault;
 use mx_nodelaws::Exclusion;
-use mx_stations::{PutOut, Station, Taken, gather};
+use mx_ricart::Ricart;
+use mx_stamps::NodeId;
+use mx_stations::{Gathered, PutOut, Station, Taken, Ungathered, gather};
 use std::alloc::{AllocError, Global};
 use std::process::Abort;
 use std::test::Fail;
@@ -21,6 +25,7 @@ enum Call {
     /// It takes from the other node.
     TakeIn(Taken),
     Enter(u64),
+    Leave(u64),
 }
 
 /// Whether the station answers the call so.
@@ -36,22 +41,46 @@ fn answers<C: Exclusion>(station: &mut Station<C>, call: &Call) -> bool
         }
         Call::TakeIn(answer) => takes_from_other(station, *answer),
         Call::Enter(number) => station.enter() == Ok(*number),
+        Call::Leave(number) => leaves(station, *number),
+    }
+}
+
+/// The other of two nodes.
+pub(crate) fn other_of<C: Exclusion>(station: &Station<C>) -> Option<NodeId>
+    ensures { IfSome result (λ i. i < station.now.nodes) }
+{
+    let other = if station.node().get() == 0 { 1 } else { 0 };
+    if other < station.nodes() {
+        Some(node(other))
+    } else {
+        None
     }
 }
 
 /// Whether taking a parcel in from the other of two nodes is answered so.
-fn takes_from_other<C: Exclusion>(station: &mut Station<C>, answer: Taken) -> bool
+pub(crate) fn takes_from_other<C: Exclusion>(station: &mut Station<C>, answer: Taken) -> bool
     ensures { KeepsTable station.old station.new }
 {
-    let other = if station.node().get() == 0 { 1 } else { 0 };
-    other < station.nodes() && station.take_in(node(other)) == Ok(answer)
+    match other_of(station) {
+        Some(from) => station.take_in(from) == Ok(answer),
+        None => false,
+    }
 }
 
-fn assert_leaves<C: Exclusion>(rt: &impl Abort, station: &mut Station<C>, number: u64)
+/// Whether a section of this number was left.
+fn bears(left: &Result<Receipt, CloseFault>, number: u64) -> bool {
+    match left {
+        Ok(receipt) => receipt.number == number,
+        Err(_) => false,
+    }
+}
+
+/// Whether the station leaves a section of this number.
+fn leaves<C: Exclusion>(station: &mut Station<C>, number: u64) -> bool
     ensures { KeepsTable station.old station.new }
 {
     let left = station.leave();
-    assert_eq!(rt; left.map(|receipt| receipt.number), Ok(number));
+    bears(&left, number)
 }
 
 /// Whether that of the two does so whose node it is.
@@ -85,69 +114,58 @@ fn assert_calls<C: Exclusion>(
     }
 }
 
-/// A list of two stations.
-fn pair<C: Exclusion>(
-    alloc: Global,
-    zero: Station<C>,
-    one: Station<C>,
-) -> Result<Vec<Station<C>>, AllocError>
-    ensures { IfOk result (λ all. all.items ≡ zero ∷ one ∷ []) }
-{
-    let mut all = Vec::new(alloc);
-    all.reserve(2)?;
-    all.push_reserved(zero);
-    all.push_reserved(one);
-    Ok(all)
+/// Whether one section is all that was gathered, of node 0.
+fn is_first(gathered: Result<Gathered, Ungathered<Ricart>>) -> bool {
+    let Ok(all) = gathered else {
+        return false;
+    };
+    match all.receipts.as_slice() {
+        [receipt] => {
+            receipt.number == 1
+                && receipt.node.get() == 0
+                && all.journal.len() == 1
+                && all.journal.gapless_to() == 1
+        }
+        _ => false,
+    }
 }
 
-/// Both are gathered: one section, of node 0.
-fn assert_gathers<C: Exclusion>(
-    rt: &impl Abort,
-    alloc: Global,
-    zero: Station<C>,
-    one: Station<C>,
-) -> Result<(), Fail>
-    requires { KeepsTable zero one }
+/// Whether both are gathered so.
+fn are_gathered(alloc: Global, both: (Station<Ricart>, Station<Ricart>)) -> Result<bool, AllocError>
+    requires { KeepsTable both.0 both.1 }
 {
-    let stations = pair(alloc, zero, one)?;
-    let Ok(gathered) = gather(alloc, stations) else {
-        return Err("refused")?;
-    };
-    let receipts = gathered.receipts.as_slice();
-    assert_eq!(rt; receipts.len(), 1);
-    assert_eq!(rt; receipts[0].number, 1);
-    assert_eq!(rt; receipts[0].node, node(0));
-    assert_eq!(rt; gathered.journal.len(), 1);
-    assert_eq!(rt; gathered.journal.gapless_to(), 1);
-    Ok(())
+    let stations = Vec::from_array(alloc, [both.0, both.1])?;
+    Ok(is_first(gather(alloc, stations)))
 }
+
+/// Calls of both, each with its node.
+const CALLS: [(u8, Call); 20] = [
+    (0, Call::Ask),
+    (0, Call::PutOut(PutOut::Sent)),
+    (0, Call::PutOut(PutOut::Nothing)),
+    (0, Call::PutOutAgain(PutOut::Sent)),
+    (0, Call::PutOutAgain(PutOut::Sent)),
+    (0, Call::PutOutAgain(PutOut::Sent)),
+    (0, Call::PutOutAgain(PutOut::Full)),
+    (1, Call::TakeIn(Taken::Got)),
+    (1, Call::TakeIn(Taken::Got)),
+    (1, Call::TakeIn(Taken::Got)),
+    (1, Call::TakeIn(Taken::Got)),
+    (1, Call::TakeIn(Taken::Empty)),
+    (1, Call::PutOut(PutOut::Sent)),
+    (1, Call::PutOut(PutOut::Sent)),
+    (1, Call::PutOut(PutOut::Sent)),
+    (1, Call::PutOut(PutOut::Sent)),
+    (1, Call::PutOut(PutOut::Nothing)),
+    (0, Call::TakeIn(Taken::Got)),
+    (0, Call::Enter(1)),
+    (0, Call::Leave(1)),
+];
 
 #[test]
 fn stations_four_slots(rt: HostRuntime) -> Result<(), Fail> {
-    let alloc = rt.alloc();
-    let (mut zero, mut one) = two(alloc)?;
-    let calls = [
-        (0, Call::Ask),
-        (0, Call::PutOut(PutOut::Sent)),
-        (0, Call::PutOut(PutOut::Nothing)),
-        (0, Call::PutOutAgain(PutOut::Sent)),
-        (0, Call::PutOutAgain(PutOut::Sent)),
-        (0, Call::PutOutAgain(PutOut::Sent)),
-        (0, Call::PutOutAgain(PutOut::Full)),
-        (1, Call::TakeIn(Taken::Got)),
-        (1, Call::TakeIn(Taken::Got)),
-        (1, Call::TakeIn(Taken::Got)),
-        (1, Call::TakeIn(Taken::Got)),
-        (1, Call::TakeIn(Taken::Empty)),
-        (1, Call::PutOut(PutOut::Sent)),
-        (1, Call::PutOut(PutOut::Sent)),
-        (1, Call::PutOut(PutOut::Sent)),
-        (1, Call::PutOut(PutOut::Sent)),
-        (1, Call::PutOut(PutOut::Nothing)),
-        (0, Call::TakeIn(Taken::Got)),
-        (0, Call::Enter(1)),
-    ];
-    assert_calls(&rt, &mut zero, &mut one, &calls);
-    assert_leaves(&rt, &mut zero, 1);
-    assert_gathers(&rt, alloc, zero, one)
+    let mut both = two(rt.alloc())?;
+    assert_calls(&rt, &mut both.0, &mut both.1, &CALLS);
+    assert!(rt; are_gathered(rt.alloc(), both)?);
+    Ok(())
 }

@@ -1,11 +1,8 @@
-//! Stations whose journals settle: what a section reads then, what the other takes, and what is gathered
-//! of workers that settle.
+//! What is gathered of workers that settle.
 
 ghost use Rattle.std.specs.Prelude.{IfOk};
 ghost use Rattle.mx_stations.specs.Gathered.{KeepsTable, OfOneTable};
 
-use crate::station_calls::{exchange, wants};
-use crate::stations::two;
 use crate::working::Assembly;
 use mx_explorer::Weather;
 use mx_registers::view;
@@ -15,49 +12,6 @@ use std::alloc::{AllocError, Global};
 use std::test::Fail;
 use std::thread;
 use std::thread::Threads;
-
-/// The first of two stations has a section, in which it reads the register and writes this. Answers
-/// what it read.
-fn section(
-    one: &mut Station<Ricart>,
-    other: &mut Station<Ricart>,
-    value: u64,
-) -> Result<u64, Fail> {
-    one.ask()?;
-    exchange(one, other)?;
-    one.enter()?;
-    let before = one.read(0)?;
-    one.write(0, value)?;
-    one.leave()?;
-    Ok(before)
-}
-
-/// Up to which number a station has settled, how many records it has above, and its register.
-fn shown(station: &Station<Ricart>) -> (u64, usize, Option<u64>) {
-    let journal = station.journal();
-    (journal.base().upto(), journal.len(), station.value(0))
-}
-
-/// Whether what node 0 writes and settles is what node 1 reads in the next section, which it settles in turn.
-fn settle_in_turn(zero: &mut Station<Ricart>, one: &mut Station<Ricart>) -> Result<bool, Fail> {
-    let first = section(zero, one, 5)?;
-    zero.settle(1)?;
-    wants(zero, one)?;
-    let second = section(one, zero, 6)?;
-    let has_record = shown(one) == (1, 1, Some(6));
-    one.settle(2)?;
-    wants(one, zero)?;
-    Ok((first, second) == (0, 5) && has_record)
-}
-
-#[test]
-fn a_section_reads_what_was_settled(rt: HostRuntime) -> Result<(), Fail> {
-    let (mut zero, mut one) = two(rt.alloc())?;
-    assert!(rt; settle_in_turn(&mut zero, &mut one)?);
-    let settled = (2, 0, Some(6));
-    assert!(rt; shown(&zero) == settled && shown(&one) == settled);
-    Ok(())
-}
 
 /// Counts 20 sections, and settles after each tenth, over links that lose and repeat.
 fn count_on(station: Station<Ricart>, gate: &Assembly) -> Station<Ricart>

@@ -33,7 +33,8 @@ fn takes_all(journal: &mut Journal, list: &[Record], other: &Journal) -> bool {
         && journal.put_all(list) == Ok(0)
         && agree(other, journal)
         && merge(journal, other) == Ok(0)
-        && (journal.len(), journal.gapless_to()) == (5000, 5000)
+        && journal.len() == 5000
+        && journal.gapless_to() == 5000
 }
 
 #[test]
@@ -46,34 +47,33 @@ fn journals_of_thousands(rt: HostRuntime) -> Result<(), Fail> {
 }
 
 /// All of 21 nodes.
-fn names(alloc: Global) -> Result<Vec<NodeId>, AllocError> {
-    let mut names = Vec::new(alloc);
-    for index in 0..21 {
-        names.push(node(index))?;
+fn names() -> [NodeId; 21] {
+    let mut names = [node(0); 21];
+    for index in 0..21u8 {
+        names[index as usize] = node(index);
     }
-    Ok(names)
+    names
 }
 
-/// A section of a node among 21: it sends 20 requests from number `first` on, all are replied to,
-/// and it enters, writes and leaves. That is 44 events, and 40 parcels.
-fn add_section(events: &mut Vec<Event>, name: NodeId, first: u64) -> Result<(), AllocError> {
-    events.push(Event::Ask(name))?;
-    for parcel in 0..40 {
-        events.push(Event::Deliver(first.saturating_add(parcel)))?;
+/// The event at this index of sections that 21 nodes have in turn. In each a node sends 20 requests,
+/// all are replied to, and it enters, writes and leaves: 44 events, and 40 parcels.
+fn event_at(index: u64) -> Event {
+    let section = index / 44;
+    let name = node((section % 21) as u8);
+    match index % 44 {
+        0 => Event::Ask(name),
+        41 => Event::Enter(name),
+        42 => Event::Write(name, 0, section),
+        43 => Event::Leave(name),
+        place => Event::Deliver(section * 40 + place - 1),
     }
-    events.push(Event::Enter(name))?;
-    events.push(Event::Write(name, 0, first))?;
-    events.push(Event::Leave(name))?;
-    Ok(())
 }
 
-/// So many sections, which the nodes enter in turn.
-fn turns(alloc: Global, sections: u64) -> Result<Vec<Event>, AllocError> {
+/// So many events of such sections.
+fn turns(alloc: Global, count: u64) -> Result<Vec<Event>, AllocError> {
     let mut events = Vec::new(alloc);
-    let mut first: u64 = 0;
-    for section in 0..sections {
-        add_section(&mut events, node((section % 21) as u8), first)?;
-        first = first.saturating_add(40);
+    for index in 0..count {
+        events.push(event_at(index))?;
     }
     Ok(events)
 }
@@ -86,21 +86,29 @@ fn started(alloc: Global) -> Result<Cluster<Ricart>, Fail> {
 
 /// Whether a cluster runs through events, and has so many items and parcels then.
 fn runs(cluster: &mut Cluster<Ricart>, events: &[Event]) -> bool {
-    cluster.run(events).is_ok() && (cluster.trace().len(), cluster.sent()) == (5280, 4800)
+    cluster.run(events).is_ok() && cluster.trace().len() == 5280 && cluster.sent() == 4800
+}
+
+/// Whether it runs through 120 sections.
+fn has_sections(alloc: Global, cluster: &mut Cluster<Ricart>) -> bool {
+    match turns(alloc, 120 * 44) {
+        Ok(events) => runs(cluster, events.as_slice()),
+        Err(_) => false,
+    }
 }
 
 /// Whether the journals of all its nodes merge into one of so many records.
-fn merges(alloc: Global, cluster: &Cluster<Ricart>) -> Result<bool, Fail> {
-    let names = names(alloc)?;
-    let all = cluster.merged(alloc, names.as_slice())?;
-    Ok((all.len(), all.gapless_to()) == (120, 120))
+fn merges(alloc: Global, cluster: &Cluster<Ricart>) -> bool {
+    match cluster.merged(alloc, &names()) {
+        Ok(all) => all.len() == 120 && all.gapless_to() == 120,
+        Err(_) => false,
+    }
 }
 
 #[test]
 fn twenty_one_nodes_in_turn(rt: HostRuntime) -> Result<(), Fail> {
-    let events = turns(rt.alloc(), 120)?;
     let mut cluster = started(rt.alloc())?;
-    let has_run = runs(&mut cluster, events.as_slice());
-    assert!(rt; has_run && merges(rt.alloc(), &cluster)?);
+    let has_run = has_sections(rt.alloc(), &mut cluster) && merges(rt.alloc(), &cluster);
+    assert!(rt; has_run);
     Ok(())
 }

@@ -3,11 +3,10 @@
 ghost use Rattle.std.specs.Prelude.{IfOk};
 ghost use Rattle.mx_stations.specs.Gathered.{KeepsTable};
 
-use crate::station_calls::takes;
+use crate::four_slots::takes_from_other;
 use mx_letters::{Fate, Fates};
 use mx_ricart::{Count, Ricart};
-use mx_stamps::NodeId;
-use mx_stations::{Field, PutOut, Station, TurnReport};
+use mx_stations::{Field, PutOut, Station, Taken, TurnReport};
 use std::alloc::Global;
 use std::test::Fail;
 
@@ -36,58 +35,60 @@ impl Fates for Always {
     }
 }
 
-/// Node 0 asks, and its request has this fate at node 1, which replies to each request that comes.
-fn report_of(alloc: Global, fate: Fate) -> Result<TurnReport, Fail> {
-    let (mut zero, mut one) = two(alloc)?;
-    let _ = zero.ask();
-    let _ = zero.put_out();
-    Ok(one.turn(&mut Always(fate))?)
+/// What a turn of node 1 tells, where node 0 has asked, and the request has this fate.
+fn report_of(
+    zero: &mut Station<Ricart>,
+    one: &mut Station<Ricart>,
+    fate: Fate,
+) -> Option<TurnReport> {
+    if zero.ask().is_err() || zero.put_out() != PutOut::Sent {
+        return None;
+    }
+    one.turn(&mut Always(fate)).ok()
 }
+
+/// Reports of one parcel taken, by its fate: node 1 replies to each request that comes.
+const REPORTS: [(Fate, u32, u32, u32); 3] = [
+    (Fate::Drop, 1, 0, 0),
+    (Fate::Pass, 0, 0, 1),
+    (Fate::Twice, 0, 1, 2),
+];
 
 #[test]
 fn a_fate_decides_how_often_a_parcel_comes(rt: HostRuntime) -> Result<(), Fail> {
-    let one = TurnReport {
-        taken: 1,
-        ..TurnReport::default()
-    };
-    let lost = TurnReport { dropped: 1, ..one };
-    let passed = TurnReport { put: 1, ..one };
-    let twice = TurnReport {
-        twice: 1,
-        put: 2,
-        ..one
-    };
-    for (fate, report) in [
-        (Fate::Drop, lost),
-        (Fate::Pass, passed),
-        (Fate::Twice, twice),
-    ] {
-        assert_eq!(rt; report_of(rt.alloc(), fate)?, report);
+    for (fate, dropped, twice, put) in &REPORTS {
+        let mut both = two(rt.alloc())?;
+        let wanted = TurnReport {
+            taken: 1,
+            dropped: *dropped,
+            twice: *twice,
+            put: *put,
+            ..TurnReport::default()
+        };
+        let reported = report_of(&mut both.0, &mut both.1, *fate);
+        assert!(rt; reported == Some(wanted));
     }
     Ok(())
 }
 
-/// Takes all that lies in the slots from this node.
-fn take_all(station: &mut Station<Ricart>, from: NodeId) -> Result<(), Fail> {
-    for _try in 0..5 {
-        if !takes(station, from)? {
-            return Ok(());
-        }
+/// Takes all that lies in the four slots from the other node.
+fn take_all(station: &mut Station<Ricart>) {
+    for _slot in 0..4 {
+        let _ = takes_from_other(station, Taken::Got);
     }
-    Ok(())
 }
 
 /// How many parcels node 0 puts out until none waits. Where no slot is empty node 1 takes them all.
-fn put_all(zero: &mut Station<Ricart>, one: &mut Station<Ricart>) -> Result<u32, Fail> {
+fn put_all(zero: &mut Station<Ricart>, one: &mut Station<Ricart>) -> u32 {
     let mut sent = 0u32;
     for _try in 0..100 {
         match zero.put_out() {
             PutOut::Sent => sent = sent.saturating_add(1),
-            PutOut::Full => take_all(one, zero.node())?,
-            PutOut::Nothing => return Ok(sent),
+            PutOut::Full => take_all(one),
+            PutOut::Nothing => return sent,
         }
     }
-    Ok(sent)
+    sent
 }
 
 /// Whether 64 parcels wait at node 0, which asks and sends its request again and again.
@@ -101,8 +102,8 @@ fn has_sixty_four(zero: &mut Station<Ricart>) -> bool {
 
 #[test]
 fn sixty_four_parcels_wait(rt: HostRuntime) -> Result<(), Fail> {
-    let (mut zero, mut one) = two(rt.alloc())?;
-    assert!(rt; has_sixty_four(&mut zero));
-    assert!(rt; put_all(&mut zero, &mut one)? == 64 && zero.waits() == 0);
+    let mut both = two(rt.alloc())?;
+    let are_put = has_sixty_four(&mut both.0) && put_all(&mut both.0, &mut both.1) == 64;
+    assert!(rt; are_put);
     Ok(())
 }

@@ -14,3 +14,9 @@ returns-in-PutOutAgain g c = kept_on c.args.station.now c.tick.new.self c.put_ou
 
 pub returns-in-Enter : goal.returns-in-Enter
 returns-in-Enter g c = act_kept g.C.Exclusion.core Enter c.enter.result c.args.station.now c.enter.new.self c.enter.ensures.done c.enter.ensures.refused
+
+pub returns-in-TakeIn : goal.returns-in-TakeIn
+returns-in-TakeIn g c = c.takes_from_other.ensures
+
+pub returns-in-Leave : goal.returns-in-Leave
+returns-in-Leave g c = c.leaves.ensures
