@@ -22,7 +22,7 @@ pub enum Fault {
 }
 
 /// Why a run ends early.
-#[derive(Clone, Copy, Debug, PartialEq, Eq)]
+#[derive(Clone, Copy, Debug)]
 pub enum Stop {
     Fault(Fault),
     /// An output refused a text. Nothing more is printed.

@@ -6,7 +6,7 @@ ghost use Rattle.mx_commands.specs.Told.{Telling, Tells, bytes_of, entries_of};
 use std::alloc::{AllocError, Global};
 
 /// Why a source gives no bytes.
-#[derive(Clone, Copy, Debug, PartialEq, Eq)]
+#[derive(Clone, Copy, Debug)]
 pub enum SourceFault {
     /// There is nothing of this name, or it can't be read.
     Unreadable,

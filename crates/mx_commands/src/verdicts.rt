@@ -16,9 +16,9 @@ impl fmt::Display for ClauseText {
 
     fn fmt<W: fmt::Write>(&self, f: &mut fmt::Formatter<W>) -> fmt::Result {
         match self.0 {
-            Clause::Overlap => write!(f, "overlap"),
-            Clause::Number => write!(f, "number"),
-            Clause::Read => write!(f, "read"),
+            Clause::Overlap => f.write_str("overlap"),
+            Clause::Number => f.write_str("number"),
+            Clause::Read => f.write_str("read"),
         }
     }
 }

@@ -45,9 +45,7 @@ fn add_member<C: Exclusion>(
         ≡ string_bytes text.new
         ++ texts_from (member_line C.core plan.now) (index + 1) (drop (index + 1) cluster.now.members)) }
 {
-    let Some(node) = NodeId::of(index) else {
-        unreachable!()
-    };
+    let node = NodeId::of(index).unwrap();
     match cluster.member(node) {
         Some(member) => add_member_line(plan, node, member, text),
         None => unreachable!(),

@@ -17,9 +17,9 @@ impl fmt::Display for AlgorithmText<'_> {
 
     fn fmt<W: fmt::Write>(&self, f: &mut fmt::Formatter<W>) -> fmt::Result {
         match self.0 {
-            Shape::Ricart(_) => write!(f, "ricart"),
-            Shape::Maekawa(_) => write!(f, "maekawa"),
-            Shape::Raymond(_) => write!(f, "raymond"),
+            Shape::Ricart(_) => f.write_str("ricart"),
+            Shape::Maekawa(_) => f.write_str("maekawa"),
+            Shape::Raymond(_) => f.write_str("raymond"),
         }
     }
 }

@@ -15,8 +15,8 @@ impl fmt::Display for PhaseText {
 
     fn fmt<W: fmt::Write>(&self, f: &mut fmt::Formatter<W>) -> fmt::Result {
         match self.0 {
-            Phase::Idle => write!(f, "idle"),
-            Phase::Waiting => write!(f, "waiting"),
+            Phase::Idle => f.write_str("idle"),
+            Phase::Waiting => f.write_str("waiting"),
             Phase::Inside(number) => write!(f, "inside {number}"),
         }
     }

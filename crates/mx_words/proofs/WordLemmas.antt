@@ -1,5 +1,5 @@
 -- What the matches of a command line say.
-use Rattle.std.proofs.Common.{◌≡◌, ◌∙◌, ◌<◌, ◌^◌, ℕ, Bool, List, [], Option, Some, None, arith, refl, sym, ap, true, false, ◌∷◌, IsSome, IfOk, IfErr, Result, Ok, Err}
+use Rattle.std.proofs.Common.{◌≡◌, ◌∙◌, ◌<◌, ◌^◌, ℕ, Bool, List, [], Option, Some, None, arith, refl, sym, subst, ap, true, false, ◌∷◌, IsSome, IfOk, IfErr, Result, Ok, Err}
 use Rattle.std.specs.Prelude.{option_and_then}
 use Rattle.std.specs.Str.Parse.{IsNumeral, ParsesUnsigned, digits_value, without_leading_plus}
 use Rattle.clap.specs.declared.parser.matches.ArgMatches.{ArgMatches}
@@ -20,7 +20,7 @@ use Rattle.clap.proofs.WalkLemmas.{one_text-rows}
 use Rattle.clap.proofs.ValueTestLemmas.{Accepts-accepts, accepts-Accepts}
 use Rattle.clap.specs.Faults.{fault_of, is_simple_and_free}
 use Rattle.clap.proofs.OnLiterals.{clap_on_literals}
-use Rattle.mx_words.specs.Words.{AddsMade, IsArgument, IsCommand, IsReadable, asked_of, mx_app, needed, number_at, number_of, task_asked, task_in, where_none}
+use Rattle.mx_words.specs.Words.{AddsArgMade, AddsBothMade, AddsMade, IsArgument, IsCommand, IsReadable, asked_of, mx_app, needed, number_at, number_of, task_asked, task_in, where_none}
 
 -- ---- numbers
 
@@ -68,6 +68,15 @@ module _ {before : Command} {app : App} {argument : Arg} {rule : Rule} where
   pub with_last : (r : Result Command AllocError) → IsCommand app before → IsArgument rule argument → IfOk r (AddsArg before argument) → IfOk r (IsCommand (with_rule app rule))
   with_last r h i = IfOk-weaker r _ _ (λ command adds. with_one h i adds)
 
+module _ (app : App) {argument : Arg} {rule : Rule} where
+  made_with_one : (begun : Result Command AllocError) (after : Command) → IfOk begun (IsCommand app) → IsArgument rule argument → AddsArgMade begun argument after → IsCommand (with_rule app rule) after
+  made_with_one (Ok command) after h i adds = with_one h i adds
+  made_with_one (Err e) after h i adds = absurd adds
+
+  -- the same of a command that was made
+  pub with_arg : (begun r : Result Command AllocError) → IfOk begun (IsCommand app) → IsArgument rule argument → IfOk r (AddsArgMade begun argument) → IfOk r (IsCommand (with_rule app rule))
+  with_arg begun r h i = IfOk-weaker r _ _ (λ command adds. made_with_one begun command h i adds)
+
 -- a command line with one more command
 pub with_command : {before after command : Command} {line app : App} → app_of before ≡ line → IsCommand app command → AddsSubcommand before command after → app_of after ≡ with_subcommand line app.top
 with_command e h adds = adds.shape h.local ∙ ap₂ with_subcommand e (ap (λ (a : App). a.top) h.app)
@@ -76,6 +85,16 @@ with_command e h adds = adds.shape h.local ∙ ap₂ with_subcommand e (ap (λ (
 pub with_made : (before after : Command) (made : Result Command AllocError) {line : App} (app : App) → app_of before ≡ line → IfOk made (IsCommand app) → AddsMade before made after → app_of after ≡ with_subcommand line app.top
 with_made before after (Ok command) app e h adds = with_command e h adds
 with_made before after (Err error) app e h adds = absurd adds
+
+with_both : (begun made : Result Command AllocError) (after : Command) (line app : App) → IfOk begun (λ l. app_of l ≡ line) → IfOk made (IsCommand app) → AddsBothMade begun made after
+    → app_of after ≡ with_subcommand line app.top
+with_both (Ok before) made after line app e h adds = with_made before after made app e h adds
+with_both (Err error) made after line app e h adds = absurd adds
+
+-- the same of a command line that was made too
+pub with_command_made : (begun made r : Result Command AllocError) (line app : App) → IfOk begun (λ l. app_of l ≡ line) → IfOk made (IsCommand app) → IfOk r (AddsBothMade begun made)
+    → IfOk r (λ l. app_of l ≡ with_subcommand line app.top)
+with_command_made begun made r line app e h = IfOk-weaker r _ _ (λ command adds. with_both begun made command line app e h adds)
 
 -- ---- a parse
 
@@ -96,6 +115,16 @@ module _ {line app : App} (is : line ≡ app) where
 
   pub same_faults : (words : List Text) → fault_of line words ≡ fault_of app words
   same_faults words = ap (λ a. fault_of a words) is
+
+  -- what its matches say is what the application says
+  pub found_as : (words : List Text) (r : Result ArgMatches Error) → IfOk r (λ m. subcommand_rows_of m ≡ subcommand_of line words) → IfOk r (λ m. subcommand_rows_of m ≡ subcommand_of app words)
+  found_as words r found = subst (λ a. IfOk r (λ m. subcommand_rows_of m ≡ subcommand_of a words)) is found
+
+  pub read_as : (words : List Text) (r : Result ArgMatches Error) → IfOk r (λ m. fault_of line words ≡ []) → IfOk r (λ m. fault_of app words ≡ [])
+  read_as words r read = subst (λ a. IfOk r (λ m. fault_of a words ≡ [])) is read
+
+  pub fails_as : (words : List Text) (r : Result ArgMatches Error) → IfErr r (HasKind (fault_of line words)) → IfErr r (HasKind (fault_of app words))
+  fails_as words r fails = subst (λ a. IfErr r (HasKind (fault_of a words))) is fails
 
   pub answered : {X : Type 0} (read : Option (Text × List Row) → Option X) (words : List Text) {rows : Option (Text × List Row)} {o : Option X} → fault_of line words ≡ [] → rows ≡ subcommand_of line words → o ≡ read rows → o ≡ asked_of app read words
   answered read words none found e =

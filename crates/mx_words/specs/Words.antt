@@ -5,7 +5,7 @@ use Rattle.std.specs.Borrow.{Bor}
 use Rattle.std.specs.Option.{option_map_or}
 use Rattle.std.specs.Str.{bytes_eq}
 use Rattle.std.specs.Str.Parse.{digits_value, without_leading_plus}
-use Rattle.clap.specs.Words.{AddsSubcommand, App, Row, Rule, Text, app_of, first_of, is_simple, one_of, new_app, new_rule, rule_of, subcommand_of, with_rule, with_subcommand}
+use Rattle.clap.specs.Words.{AddsArg, AddsSubcommand, App, Row, Rule, Text, app_of, first_of, is_simple, one_of, new_app, new_rule, rule_of, subcommand_of, with_rule, with_subcommand}
 use Rattle.clap.specs.Faults.{fault_of, is_simple_and_free}
 use Rattle.clap.specs.Kinds.{Kinds, IsAmong}
 use Rattle.clap.specs.ValueTests.{is_unsigned_in}
@@ -92,6 +92,16 @@ line_with app = with_subcommand mx_start app.top
 abbrev pub AddsMade : Command → Result Command AllocError → Command → Type 0
 AddsMade before (Ok command) after = AddsSubcommand before command after
 AddsMade before (Err e) after = ⊥
+
+-- the same of a first command line that was made too
+abbrev pub AddsBothMade : Result Command AllocError → Result Command AllocError → Command → Type 0
+AddsBothMade (Ok before) made after = AddsMade before made after
+AddsBothMade (Err e) made after = ⊥
+
+-- the first command was made, and the second is that with this argument added
+abbrev pub AddsArgMade : Result Command AllocError → Arg → Command → Type 0
+AddsArgMade (Ok before) argument after = AddsArg before argument after
+AddsArgMade (Err e) argument after = ⊥
 
 -- what the words of the command line ask for, and what is wrong with them, follows from the words alone
 pub record IsReadable (line : App) : Type 0 where

@@ -1,11 +1,12 @@
 //! The command line that subcommands are added to, and what is found in its words.
 
 ghost use Rattle.std.specs.Prelude.{◌≡◌, [], IfOk, IfErr};
-ghost use Rattle.clap.specs.Words.{app_of, fault_of, new_app, subcommand_of, subcommand_rows_of, HasKind};
-ghost use Rattle.mx_words.specs.Words.{line_with, mx_start, texts_of, AddsMade, HasNoGlobals, IsCommand, IsReadable};
+ghost use Rattle.clap.specs.Words.{app_of, fault_of, new_app, subcommand_of, subcommand_rows_of, with_rule, HasKind};
+ghost use Rattle.mx_words.specs.Words.{line_with, mx_start, plan_rule, texts_of, AddsArgMade, AddsBothMade, HasNoGlobals, IsCommand, IsReadable};
 
+use crate::arguments::plan_arg;
 use crate::help;
-use clap::{ArgMatches, Command, Error};
+use clap::{Arg, ArgMatches, Command, Error};
 use std::alloc::{AllocError, Global};
 
 /// The command line of `mx`, which has no subcommand yet.
@@ -27,17 +28,39 @@ pub fn line_of<'a>(alloc: Global, command: Command<'a>) -> Result<Command<'a>, A
     requires { HasNoGlobals command }
     ensures { IfOk result (λ line. app_of line ≡ line_with (app_of command.entry)) }
 {
-    command_line(alloc)?.subcommand(command)
+    with_made(command_line(alloc), Ok(command))
 }
 
-/// The command line with one more subcommand, where that was made.
+/// The command line with one more subcommand, where both were made.
 pub(crate) fn with_made<'a>(
-    line: Command<'a>,
+    line: Result<Command<'a>, AllocError>,
     command: Result<Command<'a>, AllocError>,
 ) -> Result<Command<'a>, AllocError>
-    ensures { IfOk result (AddsMade line.entry command.entry) }
+    ensures { IfOk result (AddsBothMade line.entry command.entry) }
 {
-    line.subcommand(command?)
+    line?.subcommand(command?)
+}
+
+/// The command with one more argument, where it was made.
+pub(crate) fn with_arg<'a>(
+    command: Result<Command<'a>, AllocError>,
+    argument: Arg<'a>,
+) -> Result<Command<'a>, AllocError>
+    ensures { IfOk result (AddsArgMade command.entry argument.entry) }
+{
+    command?.arg(argument)
+}
+
+/// A subcommand whose first argument is the name of a plan.
+pub(crate) fn plan_command<'a>(
+    alloc: Global,
+    name: &'a str,
+    about: &'a str,
+    example: &'a str,
+) -> Result<Command<'a>, AllocError>
+    ensures { IfOk result (IsCommand (with_rule (new_app name.now) plan_rule)) }
+{
+    bare_command(alloc, name, about, example).arg(plan_arg(alloc))
 }
 
 /// A subcommand that has no argument yet, with what its help says and the example there.

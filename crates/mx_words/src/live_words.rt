@@ -1,13 +1,13 @@
 //! The words of `live`, which are read apart from those of the other commands.
 
 ghost use Rattle.std.specs.Prelude.{◌≡◌, [], IfOk, IfErr, option_map};
-ghost use Rattle.clap.specs.Words.{fault_of, found_of, rows_of, subcommand_rows_of, HasKind};
+ghost use Rattle.clap.specs.Words.{app_of, fault_of, found_of, rows_of, subcommand_of, subcommand_rows_of, HasKind};
 ghost use Rattle.mx_words.specs.Words.{IsArgument, IsCommand, texts_of};
 ghost use Rattle.mx_words.specs.LiveWords.{live_app, live_in, live_line, order_asked, order_in, order_of, progress_rule, sections_rule, settle_in, settle_rule, turns_rule};
 
-use crate::arguments::{flag_arg, number_arg, plan_arg, seed_arg};
+use crate::arguments::{flag_arg, number_arg, seed_arg};
 use crate::help;
-use crate::line::{bare_command, line_of, matches_in};
+use crate::line::{line_of, matches_in, plan_command, with_arg};
 use crate::words::{number_at, text_at};
 use clap::{Arg, ArgMatches, Command, Error};
 use std::alloc::{AllocError, Global};
@@ -21,7 +21,7 @@ const MOST_SETTLED: u64 = 1_000_000;
 /// What is to be run: the name of a plan, how many sections each node is to have, the seed of the
 /// first node's links, how many turns each node may take, after how many of its sections it
 /// settles its journal (0 for never), and whether progress is to be told.
-#[derive(Clone, Copy, Debug, PartialEq, Eq)]
+#[derive(Clone, Copy)]
 pub struct LiveRun<'a> {
     pub plan: &'a str,
     pub sections: u64,
@@ -63,13 +63,12 @@ fn progress_arg<'a>(alloc: Global) -> Arg<'a>
 fn live_command<'a>(alloc: Global) -> Result<Command<'a>, AllocError>
     ensures { IfOk result (IsCommand live_app) }
 {
-    let begun = bare_command(alloc, "live", help::LIVE, help::LIVE_EXAMPLE);
-    let with_plan = begun.arg(plan_arg(alloc))?;
-    let with_sections = with_plan.arg(sections_arg(alloc))?;
-    let with_seed = with_sections.arg(seed_arg(alloc))?;
-    let with_turns = with_seed.arg(turns_arg(alloc))?;
-    let with_settle = with_turns.arg(settle_arg(alloc))?;
-    with_settle.arg(progress_arg(alloc))
+    let begun = plan_command(alloc, "live", help::LIVE, help::LIVE_EXAMPLE);
+    let with_sections = with_arg(begun, sections_arg(alloc));
+    let with_seed = with_arg(with_sections, seed_arg(alloc));
+    let with_turns = with_arg(with_seed, turns_arg(alloc));
+    let with_settle = with_arg(with_turns, settle_arg(alloc));
+    with_arg(with_settle, progress_arg(alloc))
 }
 
 /// What the words, of which `live` is the first, ask for. Their faults are those of `clap`, and words
@@ -80,9 +79,24 @@ pub fn asked_live<'a>(alloc: Global, words: &'a [&'a str]) -> Result<Option<Live
         option_map order_of run ≡ order_asked (texts_of words.entry.now)) }
     ensures err { IfErr result (HasKind (fault_of live_line (texts_of words.entry.now))) }
 {
-    let line = line_of(alloc, live_command(alloc)?)?;
-    let matches = matches_in(line, words)?;
-    Ok(run_in(&matches))
+    Ok(run_in(&live_matches(alloc, words)?))
+}
+
+/// What is found in the words.
+fn live_matches<'a>(alloc: Global, words: &'a [&'a str]) -> Result<ArgMatches<'a>, Error>
+    ensures read { IfOk result (λ _. fault_of live_line (texts_of words.entry.now) ≡ []) }
+    ensures found { IfOk result (λ matches.
+        subcommand_rows_of matches ≡ subcommand_of live_line (texts_of words.entry.now)) }
+    ensures err { IfErr result (HasKind (fault_of live_line (texts_of words.entry.now))) }
+{
+    matches_in(live_command_line(alloc)?, words)
+}
+
+/// The command line of `mx` with `live` alone.
+fn live_command_line<'a>(alloc: Global) -> Result<Command<'a>, AllocError>
+    ensures { IfOk result (λ line. app_of line ≡ live_line) }
+{
+    line_of(alloc, live_command(alloc)?)
 }
 
 fn run_in<'a>(matches: &ArgMatches<'a>) -> Option<LiveRun<'a>>

@@ -1,14 +1,14 @@
 //! The command line.
 
-ghost use Rattle.std.specs.Prelude.{◌≡◌, [], IfOk, IfErr, option_map};
-ghost use Rattle.clap.specs.Words.{app_of, fault_of, first_of, found_of, rows_of, subcommand_rows_of, HasKind};
-ghost use Rattle.mx_words.specs.Words.{IsCommand, check_app, explore_app, mx_app, replay_app};
+ghost use Rattle.std.specs.Prelude.{◌≡◌, [], Some, IfOk, IfErr, option_map};
+ghost use Rattle.clap.specs.Words.{app_of, fault_of, first_of, found_of, rows_of, subcommand_of, subcommand_rows_of, HasKind};
+ghost use Rattle.mx_words.specs.Words.{IsCommand, check_app, explore_app, mx_app, mx_start, replay_app};
 ghost use Rattle.mx_words.specs.Words.{check_in, exploration_at, explore_in, explored, is_given, names_at, names_of, number_at, replay_in};
 ghost use Rattle.mx_words.specs.Words.{task_asked, task_in, task_of, texts_of};
 
-use crate::arguments::{events_arg, plan_arg, seed_arg, steps_arg};
+use crate::arguments::{events_arg, seed_arg, steps_arg};
 use crate::help;
-use crate::line::{bare_command, command_line, matches_in, with_made};
+use crate::line::{command_line, matches_in, plan_command, with_arg, with_made};
 use clap::{ArgMatches, Command, Error};
 use std::alloc::{AllocError, Global};
 
@@ -28,7 +28,7 @@ pub struct Exploration<'a> {
 }
 
 /// What a command line asks for.
-#[derive(Clone, Copy, Debug, PartialEq, Eq)]
+#[derive(Clone, Copy)]
 pub enum Request<'a> {
     /// What a plan of this name says.
     Check(&'a str),
@@ -39,36 +39,40 @@ pub enum Request<'a> {
 fn check_command<'a>(alloc: Global) -> Result<Command<'a>, AllocError>
     ensures { IfOk result (IsCommand check_app) }
 {
-    bare_command(alloc, "check", help::CHECK, help::CHECK_EXAMPLE).arg(plan_arg(alloc))
+    plan_command(alloc, "check", help::CHECK, help::CHECK_EXAMPLE)
 }
 
 /// `replay PLAN EVENTS`.
 pub fn replay_command<'a>(alloc: Global) -> Result<Command<'a>, AllocError>
     ensures { IfOk result (IsCommand replay_app) }
 {
-    let begun = bare_command(alloc, "replay", help::REPLAY, help::REPLAY_EXAMPLE);
-    let with_plan = begun.arg(plan_arg(alloc))?;
-    with_plan.arg(events_arg(alloc))
+    let begun = plan_command(alloc, "replay", help::REPLAY, help::REPLAY_EXAMPLE);
+    with_arg(begun, events_arg(alloc))
 }
 
 /// `explore PLAN --seed S --steps K`.
 pub fn explore_command<'a>(alloc: Global) -> Result<Command<'a>, AllocError>
     ensures { IfOk result (IsCommand explore_app) }
 {
-    let begun = bare_command(alloc, "explore", help::EXPLORE, help::EXPLORE_EXAMPLE);
-    let with_plan = begun.arg(plan_arg(alloc))?;
-    let with_seed = with_plan.arg(seed_arg(alloc))?;
-    with_seed.arg(steps_arg(alloc))
+    let begun = plan_command(alloc, "explore", help::EXPLORE, help::EXPLORE_EXAMPLE);
+    let with_seed = with_arg(begun, seed_arg(alloc));
+    with_arg(with_seed, steps_arg(alloc))
 }
 
 /// The commands that are read.
 fn mx_command<'a>(alloc: Global) -> Result<Command<'a>, AllocError>
     ensures { IfOk result (λ command. app_of command ≡ mx_app) }
 {
-    let begun = command_line(alloc)?.after_help(help::MX_EXAMPLE);
-    let with_check = with_made(begun, check_command(alloc))?;
-    let with_replay = with_made(with_check, replay_command(alloc))?;
+    let with_check = with_made(mx_line(alloc), check_command(alloc));
+    let with_replay = with_made(with_check, replay_command(alloc));
     with_made(with_replay, explore_command(alloc))
+}
+
+/// The command line of `mx` with its example, before it has a subcommand.
+fn mx_line<'a>(alloc: Global) -> Result<Command<'a>, AllocError>
+    ensures { IfOk result (λ line. app_of line ≡ mx_start) }
+{
+    Ok(command_line(alloc)?.after_help(help::MX_EXAMPLE))
 }
 
 /// What the words ask for. Their faults are those of `clap`, and words that ask for help or for the
@@ -79,17 +83,36 @@ pub fn asked<'a>(alloc: Global, words: &'a [&'a str]) -> Result<Option<Request<'
         option_map task_of request ≡ task_asked (texts_of words.entry.now)) }
     ensures err { IfErr result (HasKind (fault_of mx_app (texts_of words.entry.now))) }
 {
-    let matches = matches_in(mx_command(alloc)?, words)?;
-    Ok(request_in(&matches))
+    Ok(request_in(&mx_matches(alloc, words)?))
+}
+
+/// What is found in the words.
+fn mx_matches<'a>(alloc: Global, words: &'a [&'a str]) -> Result<ArgMatches<'a>, Error>
+    ensures read { IfOk result (λ _. fault_of mx_app (texts_of words.entry.now) ≡ []) }
+    ensures found { IfOk result (λ matches.
+        subcommand_rows_of matches ≡ subcommand_of mx_app (texts_of words.entry.now)) }
+    ensures err { IfErr result (HasKind (fault_of mx_app (texts_of words.entry.now))) }
+{
+    matches_in(mx_command(alloc)?, words)
 }
 
 fn request_in<'a>(matches: &ArgMatches<'a>) -> Option<Request<'a>>
     ensures { option_map task_of result ≡ task_in (subcommand_rows_of matches.now) }
 {
     match matches.subcommand() {
-        Some((name, inner)) if name == "check" => check_in(inner),
-        Some((name, inner)) if name == "replay" => replay_in(inner),
-        Some((name, inner)) if name == "explore" => explore_in(inner),
+        Some((name, inner)) => request_of(name, inner),
+        None => None,
+    }
+}
+
+/// What the command of this name asks for.
+fn request_of<'a>(name: &str, matches: &ArgMatches<'a>) -> Option<Request<'a>>
+    ensures { option_map task_of result ≡ task_in (Some (name.now, rows_of (found_of matches.now))) }
+{
+    match name {
+        "check" => check_in(matches),
+        "replay" => replay_in(matches),
+        "explore" => explore_in(matches),
         _ => None,
     }
 }

@@ -9,21 +9,23 @@ member-requires g c = (search rules, search rules)
 pub add_member_line-requires : goal.add_member_line-requires
 add_member_line-requires g c = search rules
 
-pub unreachable-requires-in-None : goal.unreachable-requires-in-None
-unreachable-requires-in-None g c =
+pub unreachable-requires : goal.unreachable-requires
+unreachable-requires g c =
     let members = c.args.cluster.now.members in
-    let lt : c.in-Some.node < length members = subst (λ (n : ℕ). n < length members) (sym c.in-Some.ensures.value) c.requires.there in
-    is_there members c.in-Some.node c.in-None.ensures.value lt
+    let is : c.unwrap-node.result ≡ c.args.index = rw c.unwrap-node.ensures at c.of.ensures.value in
+    let lt : c.unwrap-node.result < length members = subst (λ (n : ℕ). n < length members) (sym is) c.requires.there in
+    is_there members c.unwrap-node.result c.in-None.ensures.value lt
 
 pub returns : goal.returns
 returns g c =
     let core = g.C.Exclusion.core in
     let p = c.args.plan.now in
     let members = c.args.cluster.now.members in
-    let m = c.in-Some-member.member.now in
+    let m = c.in-Some.member.now in
     let r = c.add_member_line.result in
     let t = string_bytes c.args.text.now in
     let t' = string_bytes c.add_member_line.new.text in
-    let there = subst (λ (n : ℕ). slice_get members n ≡ Some m) c.in-Some.ensures.value c.in-Some-member.ensures.value in
-    let line = subst (λ (n : ℕ). OnOk r (t' ≡ t ++ member_line core p n m)) c.in-Some.ensures.value c.add_member_line.ensures in
+    let is : c.unwrap-node.result ≡ c.args.index = rw c.unwrap-node.ensures at c.of.ensures.value in
+    let there = subst (λ (n : ℕ). slice_get members n ≡ Some m) is c.in-Some.ensures.value in
+    let line = subst (λ (n : ℕ). OnOk r (t' ≡ t ++ member_line core p n m)) is c.add_member_line.ensures in
     place_written (member_line core p) members c.args.index r m t t' there line

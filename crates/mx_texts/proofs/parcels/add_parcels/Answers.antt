@@ -1,7 +1,20 @@
-use Rattle.std.proofs.Common.{◌≡◌, ◌∙◌, ◌≤◌, arith, length, string_bytes, sym}
+use Rattle.std.proofs.Common.{◌≡◌, ◌∙◌, ◌<◌, ◌≤◌, ℕ, arith, length, rules, string_bytes, subst, sym}
 use Rattle.mx_texts.specs.ParcelTexts.{parcel_line}
 use Rattle.mx_texts.proofs.Places.{place_end}
 use Rattle.mx_texts.proofs.parcels.add_parcels.Goals as goal
+
+pub add_numbered-requires : goal.add_numbered-requires
+add_numbered-requires g c =
+    (search rules, subst (λ (n : ℕ). c.loop-number.number < n) c.sent-number-end.ensures c.loop-number-test.true)
+
+pub loop-number-preserved : goal.loop-number-preserved
+loop-number-preserved g c =
+    let sent = c.args.cluster.now.sent in
+    let lt : c.loop-number.number < length sent = subst (λ (n : ℕ). c.loop-number.number < n) c.sent-number-end.ensures c.loop-number-test.true in
+    record {
+      in_range = omega (arith, lt);
+      written = c.loop-number.invariant.written ∙ c.in_ok-add_numbered.ensures;
+    }
 
 pub returns : goal.returns
 returns g c =

@@ -1,9 +1,9 @@
-use Rattle.std.proofs.Common.{ap, ◌∙◌}
-use Rattle.std.proofs.lemmas.Result.{IfOk-weaker}
-use Rattle.clap.specs.Words.{App, app_of, with_subcommand}
+use Rattle.std.proofs.Common.{Ok, refl}
+use Rattle.clap.specs.Words.{app_of}
+use Rattle.mx_words.specs.Words.{mx_start}
+use Rattle.mx_words.proofs.WordLemmas.{with_command_made}
 use Rattle.mx_words.proofs.line.line_of.Goals as goal
 
 pub returns : goal.returns
 returns c =
-    let command = (app_of c.args.command).top in
-    IfOk-weaker c.subcommand.result _ _ (λ line adds. adds.shape c.requires ∙ ap (λ (a : App). with_subcommand a command) c.in_ok-command_line.ensures) c.subcommand.ensures
+    with_command_made c.command_line.result (Ok c.args.command) c.with_made.result mx_start (app_of c.args.command) c.command_line.ensures (record { app = refl; local = c.requires }) c.with_made.ensures

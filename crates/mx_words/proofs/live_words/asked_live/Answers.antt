@@ -1,27 +1,11 @@
-use Rattle.std.proofs.Common.{IfErr, ap, rules, sym, subst, ◌∙◌}
-use Rattle.clap.specs.Kinds.{HasKind}
+use Rattle.std.proofs.Common.{refl}
 use Rattle.mx_words.specs.LiveWords.{live_line, order_asked, order_in}
-use Rattle.mx_words.specs.Words.{line_with, texts_of}
-use Rattle.mx_words.proofs.LiveWordLemmas.{line_is_readable}
-use Rattle.mx_words.proofs.WordLemmas.{answered, readable, same_faults}
+use Rattle.mx_words.specs.Words.{texts_of}
+use Rattle.mx_words.proofs.WordLemmas.{answered}
 use Rattle.mx_words.proofs.live_words.asked_live.Goals as goal
 
-pub matches_in-requires : goal.matches_in-requires
-unfolding live_line
-matches_in-requires c = readable (c.in_ok-line.ensures ∙ ap line_with c.in_ok-live_command.ensures.app) line_is_readable
-
-pub returns-clause-read : goal.returns-clause-read
-unfolding live_line
-returns-clause-read c = sym (same_faults (c.in_ok-line.ensures ∙ ap line_with c.in_ok-live_command.ensures.app) (texts_of c.args.words.now)) ∙ c.in_ok-matches.ensures.read
-
 pub returns-clause-ok : goal.returns-clause-ok
-unfolding live_line order_asked
+unfolding order_asked
 returns-clause-ok c =
-    let found = c.in_ok-matches.ensures in
-    answered (c.in_ok-line.ensures ∙ ap line_with c.in_ok-live_command.ensures.app) order_in (texts_of c.args.words.now) found.read found.found c.run_in.ensures
-
-pub returns-in_err-matches-clause-err : goal.returns-in_err-matches-clause-err
-unfolding live_line
-returns-in_err-matches-clause-err c =
-    let same = same_faults (c.in_ok-line.ensures ∙ ap line_with c.in_ok-live_command.ensures.app) (texts_of c.args.words.now) in
-    subst (λ kinds. IfErr c.from_residual-in_err-matches.result (HasKind kinds)) same (search rules)
+    let found = c.in_ok-live_matches.ensures in
+    answered {app = live_line} refl order_in (texts_of c.args.words.now) found.read found.found c.run_in.ensures

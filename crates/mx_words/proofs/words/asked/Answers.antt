@@ -1,22 +1,10 @@
-use Rattle.std.proofs.Common.{IfErr, rules, sym, subst, ◌∙◌}
-use Rattle.clap.specs.Kinds.{HasKind}
-use Rattle.mx_words.specs.Words.{task_asked, task_in, texts_of}
-use Rattle.mx_words.proofs.WordLemmas.{answered, mx_is_readable, readable, same_faults}
+use Rattle.std.proofs.Common.{refl}
+use Rattle.mx_words.specs.Words.{mx_app, task_asked, task_in, texts_of}
+use Rattle.mx_words.proofs.WordLemmas.{answered}
 use Rattle.mx_words.proofs.words.asked.Goals as goal
-
-pub matches_in-requires : goal.matches_in-requires
-matches_in-requires c = readable c.in_ok-mx_command.ensures mx_is_readable
-
-pub returns-clause-read : goal.returns-clause-read
-returns-clause-read c = sym (same_faults c.in_ok-mx_command.ensures (texts_of c.args.words.now)) ∙ c.in_ok-matches.ensures.read
 
 pub returns-clause-ok : goal.returns-clause-ok
 unfolding task_asked
 returns-clause-ok c =
-    let found = c.in_ok-matches.ensures in
-    answered c.in_ok-mx_command.ensures task_in (texts_of c.args.words.now) found.read found.found c.request_in.ensures
-
-pub returns-in_err-matches-clause-err : goal.returns-in_err-matches-clause-err
-returns-in_err-matches-clause-err c =
-    let same = same_faults c.in_ok-mx_command.ensures (texts_of c.args.words.now) in
-    subst (λ kinds. IfErr c.from_residual-in_err-matches.result (HasKind kinds)) same (search rules)
+    let found = c.in_ok-mx_matches.ensures in
+    answered {app = mx_app} refl task_in (texts_of c.args.words.now) found.read found.found c.request_in.ensures

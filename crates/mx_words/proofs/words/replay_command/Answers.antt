@@ -1,5 +1,5 @@
-use Rattle.mx_words.proofs.WordLemmas.{with_last, with_one}
+use Rattle.mx_words.proofs.WordLemmas.{with_arg}
 use Rattle.mx_words.proofs.words.replay_command.Goals as goal
 
 pub returns : goal.returns
-returns c = with_last c.arg-2.result (with_one c.bare_command-begun.ensures c.plan_arg.ensures c.in_ok-with_plan.ensures) c.events_arg.ensures c.arg-2.ensures
+returns c = with_arg _ c.plan_command-begun.result c.with_arg.result c.plan_command-begun.ensures c.events_arg.ensures c.with_arg.ensures
