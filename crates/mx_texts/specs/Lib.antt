@@ -1,8 +1,10 @@
--- Lines: texts of lists. EventTexts, LetterTexts, ParcelTexts, NodeTexts: each line of a replay. PlanTexts: the lines
+-- Lines: texts of lists. EventTexts, Words, LetterTexts, LetterWords, ParcelTexts, NodeTexts: each line of a replay. PlanTexts: the lines
 -- of a check, and that of an exploration.
 pub mod Lines
 pub mod EventTexts
+pub mod Words
 pub mod LetterTexts
+pub mod LetterWords
 pub mod ParcelTexts
 pub mod NodeTexts
 pub mod PlanTexts

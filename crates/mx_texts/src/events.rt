@@ -1,8 +1,10 @@
 //! The lines of events.
 
-ghost use Rattle.std.specs.Prelude.{◌≡◌, Some};
-ghost use Rattle.mx_texts.specs.EventTexts.{name_of, named, numbered, register_name_of, cause_text, outcome_text, event_text, event_line};
+ghost use Rattle.std.specs.Prelude.{◌≡◌, ◌++◌, Some, codes};
+ghost use Rattle.mx_texts.specs.Words.{words_text};
+ghost use Rattle.mx_texts.specs.EventTexts.{name_of, register_name_of, cause_text, outcome_text, event_text, event_line};
 
+use crate::words::Words;
 use mx_network::{Cause, Event, Outcome};
 use mx_plan::Plan;
 use mx_stamps::NodeId;
@@ -22,91 +24,56 @@ pub(crate) fn register_name_of(plan: &Plan, register: u8) -> &str
     plan.register_name(register).unwrap_or("")
 }
 
-/// A word and a number.
+/// What came of an event.
 #[derive(Clone, Copy)]
-struct WordAndNumber {
-    word: &'static str,
-    number: u64,
-}
+pub struct OutcomeText<'a>(pub &'a Outcome);
 
-impl fmt::Display for WordAndNumber {
-    ghost output = { λ n. Some (numbered n.word.now n.number) };
-
-    fn fmt<W: fmt::Write>(&self, f: &mut fmt::Formatter<W>) -> fmt::Result {
-        write!(f, "{} {}", self.word, self.number)
-    }
-}
-
-fn numbered(word: &'static str, number: u64) -> WordAndNumber
-    ensures word { result.word.now ≡ word.now }
-    ensures number { result.number ≡ number }
-{
-    WordAndNumber { word, number }
-}
-
-/// Why a node refused.
-#[derive(Clone, Copy)]
-pub struct CauseText<'a>(pub &'a Cause);
-
-impl fmt::Display for CauseText<'_> {
-    ghost output = { λ c. Some (cause_text c.0.now) };
-
-    fn fmt<W: fmt::Write>(&self, f: &mut fmt::Formatter<W>) -> fmt::Result {
+impl OutcomeText<'_> {
+    fn words(&self) -> Words<'static>
+        ensures { words_text result ≡ outcome_text self.now.0.now }
+    {
         match self.0 {
-            Cause::NotIdle => f.write_str("not idle"),
-            Cause::StampsSpent => f.write_str("stamps spent"),
-            Cause::NotWaiting => f.write_str("not waiting"),
-            Cause::NotGranted => f.write_str("not granted"),
-            Cause::NumbersSpent => f.write_str("numbers spent"),
-            Cause::NotInside => f.write_str("not inside"),
-            Cause::NoRegister => f.write_str("no register"),
-            Cause::Gap(number) => numbered("gap", *number).fmt(f),
-            Cause::Full => f.write_str("full"),
-            Cause::Below(number) => numbered("below", *number).fmt(f),
+            Outcome::Asked(stamp) => Words::Number("asked", stamp.number),
+            Outcome::Entered(number) => Words::Number("entered", *number),
+            Outcome::Value(value) => Words::Number("value", *value),
+            Outcome::Written => Words::Word("written"),
+            Outcome::Left(receipt) => {
+                let writes = receipt.writes.len() as u64;
+                Words::Numbers("left", receipt.number, "writes", writes)
+            }
+            Outcome::Cancelled => Words::Word("cancelled"),
+            Outcome::Sent(count) => Words::Number("sent", *count),
+            Outcome::Settled => Words::Word("settled"),
+            Outcome::Delivered => Words::Word("delivered"),
+            Outcome::Woken => Words::Word("woken"),
+            Outcome::Refused(cause) => refusal(cause),
         }
     }
 }
 
-/// What came of an event.
-#[derive(Clone, Copy)]
-pub struct OutcomeText<'a>(pub &'a Outcome);
+/// That a node refused, and why.
+fn refusal(cause: &Cause) -> Words<'static>
+    ensures { words_text result ≡ codes "refused " ++ cause_text cause.now }
+{
+    match cause {
+        Cause::NotIdle => Words::Name("refused", "not idle"),
+        Cause::StampsSpent => Words::Name("refused", "stamps spent"),
+        Cause::NotWaiting => Words::Name("refused", "not waiting"),
+        Cause::NotGranted => Words::Name("refused", "not granted"),
+        Cause::NumbersSpent => Words::Name("refused", "numbers spent"),
+        Cause::NotInside => Words::Name("refused", "not inside"),
+        Cause::NoRegister => Words::Name("refused", "no register"),
+        Cause::Gap(number) => Words::NameAndNumber("refused", "gap", *number),
+        Cause::Full => Words::Name("refused", "full"),
+        Cause::Below(number) => Words::NameAndNumber("refused", "below", *number),
+    }
+}
 
 impl fmt::Display for OutcomeText<'_> {
     ghost output = { λ o. Some (outcome_text o.0.now) };
 
     fn fmt<W: fmt::Write>(&self, f: &mut fmt::Formatter<W>) -> fmt::Result {
-        match self.0 {
-            Outcome::Asked(stamp) => numbered("asked", stamp.number).fmt(f),
-            Outcome::Entered(number) => numbered("entered", *number).fmt(f),
-            Outcome::Value(value) => numbered("value", *value).fmt(f),
-            Outcome::Written => f.write_str("written"),
-            Outcome::Left(receipt) => {
-                let left = numbered("left", receipt.number);
-                let writes = receipt.writes.len();
-                write!(f, "{left} writes {writes}")
-            }
-            Outcome::Cancelled => f.write_str("cancelled"),
-            Outcome::Sent(count) => numbered("sent", *count).fmt(f),
-            Outcome::Settled => f.write_str("settled"),
-            Outcome::Delivered => f.write_str("delivered"),
-            Outcome::Woken => f.write_str("woken"),
-            Outcome::Refused(cause) => write!(f, "refused {}", CauseText(cause)),
-        }
-    }
-}
-
-/// A word, and a name behind it.
-#[derive(Clone, Copy)]
-struct WordAndName<'a> {
-    word: &'static str,
-    name: &'a str,
-}
-
-impl fmt::Display for WordAndName<'_> {
-    ghost output = { λ n. Some (named n.word.now n.name.now) };
-
-    fn fmt<W: fmt::Write>(&self, f: &mut fmt::Formatter<W>) -> fmt::Result {
-        write!(f, "{} {}", self.word, self.name)
+        self.words().fmt(f)
     }
 }
 
@@ -118,15 +85,39 @@ pub struct EventText<'a> {
 }
 
 impl<'a> EventText<'a> {
-    /// The word of the event, and the name of its node.
-    fn of(&self, word: &'static str, node: NodeId) -> WordAndName<'a>
-        ensures word { result.word.now ≡ word.now }
-        ensures name { result.name.now ≡ name_of self.now.plan.now node }
+    fn words(&self) -> Words<'a>
+        ensures { words_text result ≡ event_text self.now.plan.now self.now.event.now }
     {
-        WordAndName {
-            word,
-            name: name_of(self.plan, node),
+        match self.event {
+            Event::Ask(node) => Words::Name("ask", self.name(*node)),
+            Event::Enter(node) => Words::Name("enter", self.name(*node)),
+            Event::Read(node, register) => {
+                Words::Names("read", self.name(*node), self.register(*register))
+            }
+            Event::Write(node, register, value) => {
+                let register = self.register(*register);
+                Words::NamesAndNumber("write", self.name(*node), register, *value)
+            }
+            Event::Leave(node) => Words::Name("leave", self.name(*node)),
+            Event::Cancel(node) => Words::Name("cancel", self.name(*node)),
+            Event::Tick(node) => Words::Name("tick", self.name(*node)),
+            Event::Want(node, other) => Words::Names("want", self.name(*node), self.name(*other)),
+            Event::Settle(node, upto) => Words::NameAndNumber("settle", self.name(*node), *upto),
+            Event::Restart(node) => Words::Name("restart", self.name(*node)),
+            Event::Deliver(number) => Words::Number("deliver", *number),
         }
+    }
+
+    fn name(&self, node: NodeId) -> &'a str
+        ensures { result.now ≡ name_of self.now.plan.now node }
+    {
+        name_of(self.plan, node)
+    }
+
+    fn register(&self, register: u8) -> &'a str
+        ensures { result.now ≡ register_name_of self.now.plan.now register }
+    {
+        register_name_of(self.plan, register)
     }
 }
 
@@ -134,28 +125,7 @@ impl fmt::Display for EventText<'_> {
     ghost output = { λ e. Some (event_text e.plan.now e.event.now) };
 
     fn fmt<W: fmt::Write>(&self, f: &mut fmt::Formatter<W>) -> fmt::Result {
-        match self.event {
-            Event::Ask(node) => self.of("ask", *node).fmt(f),
-            Event::Enter(node) => self.of("enter", *node).fmt(f),
-            Event::Read(node, register) => {
-                let register = register_name_of(self.plan, *register);
-                write!(f, "{} {register}", self.of("read", *node))
-            }
-            Event::Write(node, register, value) => {
-                let register = register_name_of(self.plan, *register);
-                write!(f, "{} {register} {value}", self.of("write", *node))
-            }
-            Event::Leave(node) => self.of("leave", *node).fmt(f),
-            Event::Cancel(node) => self.of("cancel", *node).fmt(f),
-            Event::Tick(node) => self.of("tick", *node).fmt(f),
-            Event::Want(node, other) => {
-                let other = name_of(self.plan, *other);
-                write!(f, "{} {other}", self.of("want", *node))
-            }
-            Event::Settle(node, upto) => write!(f, "{} {upto}", self.of("settle", *node)),
-            Event::Restart(node) => self.of("restart", *node).fmt(f),
-            Event::Deliver(number) => numbered("deliver", *number).fmt(f),
-        }
+        self.words().fmt(f)
     }
 }
 

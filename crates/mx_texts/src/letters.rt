@@ -3,7 +3,8 @@
 ghost use Rattle.std.specs.Prelude.{◌≡◌, ◌++◌, OnOk, Some, string_bytes};
 ghost use Rattle.mx_plan.specs.Text.{Text};
 ghost use Rattle.mx_plan.specs.Fields.{Fields};
-ghost use Rattle.mx_texts.specs.LetterTexts.{stamp_text, with_stamp, with_number, ricart_text, maekawa_text, raymond_text};
+ghost use Rattle.mx_texts.specs.LetterWords.{letter_words_text};
+ghost use Rattle.mx_texts.specs.LetterTexts.{stamp_text, ricart_text, maekawa_text, raymond_text};
 
 use crate::events::name_of;
 use mx_letters::{MaekawaMsg, RaymondMsg, RicartMsg};
@@ -39,61 +40,26 @@ impl fmt::Display for StampText<'_> {
     }
 }
 
-/// The word of a letter, and its stamp.
+/// The word of a letter, its stamp, and the numbers behind it by their names.
 #[derive(Clone, Copy)]
-struct WithStamp<'a> {
-    word: &'static str,
-    stamp: StampText<'a>,
+enum LetterWords<'a> {
+    Stamp(&'static str, StampText<'a>),
+    Number(&'static str, StampText<'a>, &'static str, u64),
+    NumberAndLast(&'static str, StampText<'a>, &'static str, u64, u64),
 }
 
-impl fmt::Display for WithStamp<'_> {
-    ghost output = { λ l. Some (with_stamp l.word.now (stamp_text l.stamp.plan.now l.stamp.stamp.now)) };
+impl fmt::Display for LetterWords<'_> {
+    ghost output = { λ l. Some (letter_words_text l) };
 
     fn fmt<W: fmt::Write>(&self, f: &mut fmt::Formatter<W>) -> fmt::Result {
-        write!(f, "{} {}", self.word, self.stamp)
-    }
-}
-
-/// The word of a letter, its stamp, and a number by its name.
-#[derive(Clone, Copy)]
-struct WithNumber<'a> {
-    begun: WithStamp<'a>,
-    name: &'static str,
-    number: u64,
-}
-
-impl fmt::Display for WithNumber<'_> {
-    ghost output = { λ l. Some (with_number
-        (with_stamp l.begun.word.now (stamp_text l.begun.stamp.plan.now l.begun.stamp.stamp.now)) l.name.now l.number) };
-
-    fn fmt<W: fmt::Write>(&self, f: &mut fmt::Formatter<W>) -> fmt::Result {
-        write!(f, "{} {} {}", self.begun, self.name, self.number)
-    }
-}
-
-/// A letter of this word and stamp.
-fn with_stamp<'a>(word: &'static str, plan: &'a Plan, stamp: &'a Stamp) -> WithStamp<'a>
-    ensures word { result.word.now ≡ word.now }
-    ensures plan { result.stamp.plan.now ≡ plan.now }
-    ensures stamp { result.stamp.stamp.now ≡ stamp.now }
-{
-    WithStamp {
-        word,
-        stamp: StampText { plan, stamp },
-    }
-}
-
-impl<'a> WithStamp<'a> {
-    /// And this number.
-    fn and(self, name: &'static str, number: u64) -> WithNumber<'a>
-        ensures begun { result.begun ≡ self.entry }
-        ensures name { result.name.now ≡ name.now }
-        ensures number { result.number ≡ number }
-    {
-        WithNumber {
-            begun: self,
-            name,
-            number,
+        match self {
+            LetterWords::Stamp(word, stamp) => write!(f, "{word} {stamp}"),
+            LetterWords::Number(word, stamp, name, number) => {
+                write!(f, "{word} {stamp} {name} {number}")
+            }
+            LetterWords::NumberAndLast(word, stamp, name, number, last) => {
+                write!(f, "{word} {stamp} {name} {number} last {last}")
+            }
         }
     }
 }
@@ -105,17 +71,25 @@ pub struct RicartText<'a> {
     pub letter: &'a RicartMsg,
 }
 
+impl<'a> RicartText<'a> {
+    fn words(&self) -> LetterWords<'a>
+        ensures { letter_words_text result ≡ ricart_text self.now.plan.now self.now.letter.now }
+    {
+        let plan = self.plan;
+        match self.letter {
+            RicartMsg::Request(stamp) => LetterWords::Stamp("request", StampText { plan, stamp }),
+            RicartMsg::Reply(stamp, top) => {
+                LetterWords::Number("reply", StampText { plan, stamp }, "top", *top)
+            }
+        }
+    }
+}
+
 impl fmt::Display for RicartText<'_> {
     ghost output = { λ l. Some (ricart_text l.plan.now l.letter.now) };
 
     fn fmt<W: fmt::Write>(&self, f: &mut fmt::Formatter<W>) -> fmt::Result {
-        let plan = self.plan;
-        match self.letter {
-            RicartMsg::Request(stamp) => with_stamp("request", plan, stamp).fmt(f),
-            RicartMsg::Reply(stamp, top) => {
-                with_stamp("reply", plan, stamp).and("top", *top).fmt(f)
-            }
-        }
+        self.words().fmt(f)
     }
 }
 
@@ -134,32 +108,36 @@ pub struct MaekawaText<'a> {
     pub letter: &'a MaekawaMsg,
 }
 
+impl<'a> MaekawaText<'a> {
+    fn words(&self) -> LetterWords<'a>
+        ensures { letter_words_text result ≡ maekawa_text self.now.plan.now self.now.letter.now }
+    {
+        let plan = self.plan;
+        match self.letter {
+            MaekawaMsg::Request(stamp) => LetterWords::Stamp("request", StampText { plan, stamp }),
+            MaekawaMsg::Locked(stamp, grant, last) => {
+                let stamp = StampText { plan, stamp };
+                LetterWords::NumberAndLast("locked", stamp, "grant", *grant, *last)
+            }
+            MaekawaMsg::Failed(stamp) => LetterWords::Stamp("failed", StampText { plan, stamp }),
+            MaekawaMsg::Inquire(stamp, grant) => {
+                LetterWords::Number("inquire", StampText { plan, stamp }, "grant", *grant)
+            }
+            MaekawaMsg::Relinquish(stamp, grant) => {
+                LetterWords::Number("relinquish", StampText { plan, stamp }, "grant", *grant)
+            }
+            MaekawaMsg::Release(stamp, top) => {
+                LetterWords::Number("release", StampText { plan, stamp }, "top", *top)
+            }
+        }
+    }
+}
+
 impl fmt::Display for MaekawaText<'_> {
     ghost output = { λ l. Some (maekawa_text l.plan.now l.letter.now) };
 
     fn fmt<W: fmt::Write>(&self, f: &mut fmt::Formatter<W>) -> fmt::Result {
-        let plan = self.plan;
-        match self.letter {
-            MaekawaMsg::Request(stamp) => with_stamp("request", plan, stamp).fmt(f),
-            MaekawaMsg::Locked(stamp, grant, last) => {
-                let locked = with_stamp("locked", plan, stamp).and("grant", *grant);
-                write!(f, "{locked} last {last}")
-            }
-            MaekawaMsg::Failed(stamp) => with_stamp("failed", plan, stamp).fmt(f),
-            MaekawaMsg::Inquire(stamp, grant) => {
-                with_stamp("inquire", plan, stamp)
-                    .and("grant", *grant)
-                    .fmt(f)
-            }
-            MaekawaMsg::Relinquish(stamp, grant) => {
-                with_stamp("relinquish", plan, stamp)
-                    .and("grant", *grant)
-                    .fmt(f)
-            }
-            MaekawaMsg::Release(stamp, top) => {
-                with_stamp("release", plan, stamp).and("top", *top).fmt(f)
-            }
-        }
+        self.words().fmt(f)
     }
 }
 

@@ -8,6 +8,7 @@ mod parcels;
 mod plan_lines;
 mod plans;
 mod standings;
+mod words;
 
 pub use events::{EventLine, EventText, OutcomeText};
 pub use letters::Letter;

@@ -1,0 +1,16 @@
+-- A word, and what stands behind it.
+use Rattle.std.specs.Prelude.{◌++◌, codes, decimal}
+use Rattle.mx_plan.specs.Text.{Text}
+use Rattle.mx_texts.specs.declared.words.Words.{Words}
+use Rattle.mx_texts.specs.declared.words.Words.TheVariants.{Word, Number, Numbers, Name, NameAndNumber, Names, NamesAndNumber}
+use Rattle.mx_texts.specs.EventTexts.{named, numbered}
+
+abbrev pub words_text : Words → Text
+words_text (Word word) = word.now
+words_text (Number word number) = numbered word.now number
+words_text (Numbers word number second other) = numbered word.now number ++ codes " " ++ numbered second.now other
+words_text (Name word name) = named word.now name.now
+words_text (NameAndNumber word name number) = named word.now name.now ++ codes " " ++ decimal number
+words_text (Names word name other) = named word.now name.now ++ codes " " ++ other.now
+words_text (NamesAndNumber word name other number) =
+    named word.now name.now ++ codes " " ++ other.now ++ codes " " ++ decimal number
