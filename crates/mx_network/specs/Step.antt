@@ -11,13 +11,14 @@ use Rattle.mx_member.specs.Acts.{act_of, IsDoable}
 use Rattle.mx_member.specs.Member.{MemberState}
 use Rattle.mx_events.specs.declared.event.Event.{Event}
 use Rattle.mx_events.specs.declared.event.Event.TheVariants as event
+use Rattle.mx_network.specs.declared.outcome.Brief.{Brief}
 use Rattle.mx_network.specs.declared.outcome.Outcome.{Outcome}
 use Rattle.mx_network.specs.declared.outcome.Cause.{Cause}
 use Rattle.mx_network.specs.declared.outcome.Cause.TheVariants as cause
 use Rattle.mx_network.specs.declared.outcome.Entry.{Entry}
 use Rattle.mx_network.specs.declared.faults.StepFault.{StepFault}
 use Rattle.mx_network.specs.declared.faults.StepFault.TheVariants.{NoNode, NoParcel, Memory}
-use Rattle.mx_network.specs.Outcome.{outcome_of}
+use Rattle.mx_network.specs.Outcome.{answer_by, outcome_of}
 
 -- the members, the parcels ever sent, in order, and the trace
 pub record ClusterState (S M : Type 0) : Type 0 where
@@ -99,11 +100,23 @@ at_part core g event (Ok p) = at_member core g event p.0 p.1 (slice_get g.member
 abbrev pub Notes : Event → List Entry → List Entry → Type 0
 Notes event old new = (outcome : Outcome) × (new ≡ old ++ (record { event = event; outcome = outcome }) ∷ [])
 
+-- a member has done its act, what it sends is put out, and its answer is told briefly
+pub record DoesAct {H S M : Type 0} (core : Core H S M) (a : Act M) (old new : MemberState S) (brief : Brief) (out : List (ℕ × Parcel M)) : Type 0 where
+  pub state : new ≡ (act_of core a old).state
+  pub answer : answer_by brief ≡ (act_of core a old).answer
+  pub letters : out ≡ (act_of core a old).letters
+
 -- a member has done its act, what it sends is put out, and the event joins the trace with its outcome
 pub record NotesAct {H S M : Type 0} (core : Core H S M) (event : Event) (a : Act M) (old : MemberState S) (before : List Entry) (new : MemberState S) (out : List (ℕ × Parcel M)) (trace : List Entry) : Type 0 where
   pub state : new ≡ (answer_of core a old).state
   pub letters : out ≡ (answer_of core a old).letters
   pub noted : trace ≡ before ++ (record { event = event; outcome = (answer_of core a old).answer }) ∷ []
+
+-- node i has done its act: its parcels join those sent, and the event the trace
+pub record SendsAct {H S M : Type 0} (core : Core H S M) (i : ℕ) (event : Event) (a : Act M) (old : MemberState S) (parcels : List (ℕ × ℕ × Parcel M)) (trace : List Entry) (new : MemberState S) (parcels' : List (ℕ × ℕ × Parcel M)) (trace' : List Entry) : Type 0 where
+  pub state : new ≡ (answer_of core a old).state
+  pub sent : parcels' ≡ parcels ++ sent_by i (answer_of core a old).letters
+  pub noted : trace' ≡ trace ++ (record { event = event; outcome = (answer_of core a old).answer }) ∷ []
 
 -- the cluster after an event, or why there is no such event
 abbrev pub step_of : {H S M : Type 0} → Core H S M → ClusterState S M → Event → Result (ClusterState S M) StepFault

@@ -3,11 +3,10 @@
 ghost use Rattle.std.specs.Prelude.{◌≡◌, ◌+◌, ◌^◌, ◌≤◌, ◌<◌, false, List, [], ◌∷◌, ◌++◌, Ok, Err, length, slice_get, IfErr, IfOk, IsSome, OnErr, OnOk, vec_len, vec_capacity};
 ghost use Rattle.mx_stamps.specs.Lists.{each_below};
 ghost use Rattle.mx_nodelaws.specs.World.{sent_by};
-ghost use Rattle.mx_member.specs.Acts.{IsDoable, act_of};
+ghost use Rattle.mx_member.specs.Acts.{IsDoable};
 ghost use Rattle.mx_member.specs.declared.acts.Act.TheVariants.{Leave};
 ghost use Rattle.mx_member.specs.Steps.{start_of};
-ghost use Rattle.mx_network.specs.Outcome.{answer_by};
-ghost use Rattle.mx_network.specs.Step.{act_in, act_of_delivery, answer_of, cluster_state_of, delivery_of, is_leaving, part_of, step_of, IsDoableAt, IsFaultOf, IsOfSent, Notes, NotesAct};
+ghost use Rattle.mx_network.specs.Step.{act_in, act_of_delivery, cluster_state_of, delivery_of, is_leaving, part_of, step_of, DoesAct, IsDoableAt, IsFaultOf, IsOfSent, Notes, NotesAct, SendsAct};
 
 use crate::faults::StepFault;
 use crate::outcome::{Brief, Cause, Entry, Outcome, outcome_from};
@@ -129,14 +128,9 @@ fn deliver<C: Exclusion>(
     requires empty { out.old ≡ [] }
     requires there { IsSome (slice_get sent.now number) }
     requires doable { IsDoable (act_of_delivery (slice_get sent.now number)) member.old }
-    ensures state { OnOk result (member.new
-        ≡ (act_of C.core (act_of_delivery (slice_get sent.now number)) member.old).state) }
-    ensures answer { IfOk result (λ brief. answer_by brief
-        ≡ (act_of C.core (act_of_delivery (slice_get sent.now number)) member.old).answer) }
-    ensures letters { OnOk result (out.new
-        ≡ (act_of C.core (act_of_delivery (slice_get sent.now number)) member.old).letters) }
-    ensures err { OnErr result (member.new ≡ member.old) }
-    ensures quiet { OnErr result (out.new ≡ []) }
+    ensures ok { IfOk result (λ brief. DoesAct C.core
+        (act_of_delivery (slice_get sent.now number)) member.old member.new brief out.new) }
+    ensures err { OnErr result ((member.new ≡ member.old) × (out.new ≡ [])) }
 {
     match sent.get(number as usize) {
         Some((from, _, parcel)) => match member.receive(*from, parcel, out) {
@@ -158,14 +152,9 @@ fn act<C: Exclusion>(
     requires stays { is_leaving event.now ≡ false }
     requires there { IsOfSent sent.now event.now }
     requires doable { IsDoable (act_in sent.now event.now) member.old }
-    ensures state { OnOk result (member.new
-        ≡ (act_of C.core (act_in sent.now event.now) member.old).state) }
-    ensures answer { IfOk result (λ brief. answer_by brief
-        ≡ (act_of C.core (act_in sent.now event.now) member.old).answer) }
-    ensures letters { OnOk result (out.new
-        ≡ (act_of C.core (act_in sent.now event.now) member.old).letters) }
-    ensures err { OnErr result (member.new ≡ member.old) }
-    ensures quiet { OnErr result (out.new ≡ []) }
+    ensures ok { IfOk result (λ brief. DoesAct C.core
+        (act_in sent.now event.now) member.old member.new brief out.new) }
+    ensures err { OnErr result ((member.new ≡ member.old) × (out.new ≡ [])) }
 {
     match *event {
         Event::Ask(_) => Ok(Brief::Asked(member.ask(out))),
@@ -287,17 +276,10 @@ fn act_and_send<C: Exclusion>(
     requires doable { IsDoable (act_in sent.old.items event) member.old }
     requires room { vec_len sent.old + 32 ≤ vec_capacity sent.old }
     requires item { vec_len trace.old < vec_capacity trace.old }
-    ensures state { OnOk result (member.new
-        ≡ (answer_of C.core (act_in sent.old.items event) member.old).state) }
-    ensures sent { OnOk result (sent.new.items ≡ sent.old.items
-        ++ sent_by node (answer_of C.core (act_in sent.old.items event) member.old).letters) }
-    ensures noted { OnOk result (trace.new.items ≡ trace.old.items ++ (record {
-      event = event;
-      outcome = (answer_of C.core (act_in sent.old.items event) member.old).answer;
-    }) ∷ []) }
-    ensures same { OnErr result (member.new ≡ member.old) }
-    ensures unsent { OnErr result (sent.new.items ≡ sent.old.items) }
-    ensures unnoted { OnErr result (trace.new.items ≡ trace.old.items) }
+    ensures ok { OnOk result (SendsAct C.core node event (act_in sent.old.items event)
+        member.old sent.old.items trace.old.items member.new sent.new.items trace.new.items) }
+    ensures err { OnErr result ((member.new ≡ member.old)
+        × (sent.new.items ≡ sent.old.items) × (trace.new.items ≡ trace.old.items)) }
     ensures out { out.new ≡ [] }
 {
     do_and_note(member, sent, event, out, trace)?;

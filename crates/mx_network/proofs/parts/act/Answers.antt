@@ -1,116 +1,66 @@
-use Rattle.std.proofs.Common.{rules, ℕ, ◌≡◌, ◌∙◌, true, false, List, IfOk, OnOk, ap, subst, sym}
+use Rattle.std.proofs.Common.{rules, ℕ, ◌≡◌, true, false, List, IfOk, ap, refl, subst, sym}
 use Rattle.mx_nodelaws.specs.Core.{Core}
 use Rattle.mx_member.specs.declared.acts.Answer.TheVariants as answer
 use Rattle.mx_member.specs.declared.parcel.Parcel.{Parcel}
-use Rattle.mx_member.specs.Acts.{act_of, IsDoable}
+use Rattle.mx_member.specs.Acts.{IsDoable}
 use Rattle.mx_member.specs.Member.{MemberState}
 use Rattle.mx_events.specs.declared.event.Event.{Event}
-use Rattle.mx_network.specs.Outcome.{answer_by}
-use Rattle.mx_network.specs.Step.{act_in, is_leaving, IsOfSent}
+use Rattle.mx_network.specs.declared.outcome.Brief.{Brief}
+use Rattle.mx_network.specs.Step.{act_in, is_leaving, DoesAct, IsOfSent}
 use Rattle.mx_network.proofs.parts.act.Goals as goal
 
 never : true ≡ false → ⊥
 never e = cc
 
--- what an event gives, once it is known which event it is
-acted : {H S M : Type 0} (core : Core H S M) (sent : List (ℕ × ℕ × Parcel M)) (m : MemberState S) (e is : Event) → e ≡ is → act_of core (act_in sent is) m ≡ act_of core (act_in sent e) m
-acted core sent m e is same = ap (λ x. act_of core (act_in sent x) m) (sym same)
+-- what an event's act does, once it is known which event it is
+acted : {H S M : Type 0} (core : Core H S M) (sent : List (ℕ × ℕ × Parcel M)) (old new : MemberState S) (e is : Event) (brief : Brief) (out : List (ℕ × Parcel M)) → e ≡ is → DoesAct core (act_in sent is) old new brief out → DoesAct core (act_in sent e) old new brief out
+acted core sent old new e is brief out same done = subst (λ x. DoesAct core (act_in sent x) old new brief out) (sym same) done
 
 pub unreachable-requires : goal.unreachable-requires
 unreachable-requires g c = never (subst (λ (e : Event). is_leaving e ≡ false) c.in-Leave.is c.requires.stays)
 
-pub returns-in-Ask-clause-state : goal.returns-in-Ask-clause-state
-returns-in-Ask-clause-state g c = c.ask.ensures.state ∙ ap (λ d. d.state) (acted g.C.Exclusion.core c.args.sent.now c.args.member.now c.args.event.now _ c.in-Ask.is)
+pub returns-in-Ask-clause-ok : goal.returns-in-Ask-clause-ok
+returns-in-Ask-clause-ok g c =
+    acted g.C.Exclusion.core c.args.sent.now c.args.member.now _ c.args.event.now _ _ _ c.in-Ask.is (record { state = c.ask.ensures.state; answer = ap answer.Asked c.ask.ensures.answer; letters = c.ask.ensures.letters })
 
-pub returns-in-Ask-clause-answer : goal.returns-in-Ask-clause-answer
-returns-in-Ask-clause-answer g c = ap answer.Asked c.ask.ensures.answer ∙ ap (λ d. d.answer) (acted g.C.Exclusion.core c.args.sent.now c.args.member.now c.args.event.now _ c.in-Ask.is)
+pub returns-in-Enter-clause-ok : goal.returns-in-Enter-clause-ok
+returns-in-Enter-clause-ok g c =
+    acted g.C.Exclusion.core c.args.sent.now c.args.member.now _ c.args.event.now _ _ _ c.in-Enter.is (record { state = c.enter.ensures.state; answer = ap answer.Entered c.enter.ensures.answer; letters = c.requires.empty })
 
-pub returns-in-Ask-clause-letters : goal.returns-in-Ask-clause-letters
-returns-in-Ask-clause-letters g c = c.ask.ensures.letters ∙ ap (λ d. d.letters) (acted g.C.Exclusion.core c.args.sent.now c.args.member.now c.args.event.now _ c.in-Ask.is)
+pub returns-in-Read-clause-ok : goal.returns-in-Read-clause-ok
+returns-in-Read-clause-ok g c =
+    acted g.C.Exclusion.core c.args.sent.now c.args.member.now _ c.args.event.now _ _ _ c.in-Read.is (record { state = c.read.ensures.state; answer = ap answer.Read c.read.ensures.answer; letters = c.requires.empty })
 
-pub returns-in-Enter-clause-state : goal.returns-in-Enter-clause-state
-returns-in-Enter-clause-state g c = c.enter.ensures.state ∙ ap (λ d. d.state) (acted g.C.Exclusion.core c.args.sent.now c.args.member.now c.args.event.now _ c.in-Enter.is)
+pub returns-in-Write-clause-ok : goal.returns-in-Write-clause-ok
+returns-in-Write-clause-ok g c =
+    acted g.C.Exclusion.core c.args.sent.now c.args.member.now _ c.args.event.now _ _ _ c.in-Write.is (record { state = c.write.ensures.state; answer = ap answer.Written c.write.ensures.answer; letters = c.requires.empty })
 
-pub returns-in-Enter-clause-answer : goal.returns-in-Enter-clause-answer
-returns-in-Enter-clause-answer g c = ap answer.Entered c.enter.ensures.answer ∙ ap (λ d. d.answer) (acted g.C.Exclusion.core c.args.sent.now c.args.member.now c.args.event.now _ c.in-Enter.is)
+pub returns-in-Cancel-clause-ok : goal.returns-in-Cancel-clause-ok
+returns-in-Cancel-clause-ok g c =
+    acted g.C.Exclusion.core c.args.sent.now c.args.member.now _ c.args.event.now _ _ _ c.in-Cancel.is (record { state = c.cancel.ensures.state; answer = ap answer.Cancelled c.cancel.ensures.answer; letters = c.cancel.ensures.letters })
 
-pub returns-in-Enter-clause-letters : goal.returns-in-Enter-clause-letters
-returns-in-Enter-clause-letters g c = c.requires.empty ∙ ap (λ d. d.letters) (acted g.C.Exclusion.core c.args.sent.now c.args.member.now c.args.event.now _ c.in-Enter.is)
+pub returns-in-Settle-clause-ok : goal.returns-in-Settle-clause-ok
+returns-in-Settle-clause-ok g c =
+    acted g.C.Exclusion.core c.args.sent.now c.args.member.now _ c.args.event.now _ _ _ c.in-Settle.is (record { state = c.settle.ensures.state; answer = ap answer.Settled c.settle.ensures.answer; letters = c.requires.empty })
 
-pub returns-in-Read-clause-state : goal.returns-in-Read-clause-state
-returns-in-Read-clause-state g c = c.read.ensures.state ∙ ap (λ d. d.state) (acted g.C.Exclusion.core c.args.sent.now c.args.member.now c.args.event.now _ c.in-Read.is)
+pub returns-in-Tick-clause-ok : goal.returns-in-Tick-clause-ok
+returns-in-Tick-clause-ok g c =
+    acted g.C.Exclusion.core c.args.sent.now c.args.member.now _ c.args.event.now _ _ _ c.in-Tick.is (record { state = c.tick.ensures.state; answer = refl; letters = c.tick.ensures.letters })
 
-pub returns-in-Read-clause-answer : goal.returns-in-Read-clause-answer
-returns-in-Read-clause-answer g c = ap answer.Read c.read.ensures.answer ∙ ap (λ d. d.answer) (acted g.C.Exclusion.core c.args.sent.now c.args.member.now c.args.event.now _ c.in-Read.is)
+pub returns-in-Want-clause-ok : goal.returns-in-Want-clause-ok
+returns-in-Want-clause-ok g c =
+    acted g.C.Exclusion.core c.args.sent.now c.args.member.now _ c.args.event.now _ _ _ c.in-Want.is (record { state = refl; answer = refl; letters = c.want.ensures.letters })
 
-pub returns-in-Read-clause-letters : goal.returns-in-Read-clause-letters
-returns-in-Read-clause-letters g c = c.requires.empty ∙ ap (λ d. d.letters) (acted g.C.Exclusion.core c.args.sent.now c.args.member.now c.args.event.now _ c.in-Read.is)
+pub returns-in-Restart-clause-ok : goal.returns-in-Restart-clause-ok
+returns-in-Restart-clause-ok g c =
+    acted g.C.Exclusion.core c.args.sent.now c.args.member.now _ c.args.event.now _ _ _ c.in-Restart.is (record { state = c.restart.ensures; answer = refl; letters = c.requires.empty })
 
-pub returns-in-Write-clause-state : goal.returns-in-Write-clause-state
-returns-in-Write-clause-state g c = c.write.ensures.state ∙ ap (λ d. d.state) (acted g.C.Exclusion.core c.args.sent.now c.args.member.now c.args.event.now _ c.in-Write.is)
+pub returns-in-Deliver-clause-ok : goal.returns-in-Deliver-clause-ok
+returns-in-Deliver-clause-ok g c =
+    subst (λ (e : Event). IfOk c.deliver.result (λ brief. DoesAct g.C.Exclusion.core (act_in c.args.sent.now e) c.args.member.now c.deliver.new.member brief c.deliver.new.out)) (sym c.in-Deliver.is) c.deliver.ensures.ok
 
-pub returns-in-Write-clause-answer : goal.returns-in-Write-clause-answer
-returns-in-Write-clause-answer g c = ap answer.Written c.write.ensures.answer ∙ ap (λ d. d.answer) (acted g.C.Exclusion.core c.args.sent.now c.args.member.now c.args.event.now _ c.in-Write.is)
-
-pub returns-in-Write-clause-letters : goal.returns-in-Write-clause-letters
-returns-in-Write-clause-letters g c = c.requires.empty ∙ ap (λ d. d.letters) (acted g.C.Exclusion.core c.args.sent.now c.args.member.now c.args.event.now _ c.in-Write.is)
-
-pub returns-in-Cancel-clause-state : goal.returns-in-Cancel-clause-state
-returns-in-Cancel-clause-state g c = c.cancel.ensures.state ∙ ap (λ d. d.state) (acted g.C.Exclusion.core c.args.sent.now c.args.member.now c.args.event.now _ c.in-Cancel.is)
-
-pub returns-in-Cancel-clause-answer : goal.returns-in-Cancel-clause-answer
-returns-in-Cancel-clause-answer g c = ap answer.Cancelled c.cancel.ensures.answer ∙ ap (λ d. d.answer) (acted g.C.Exclusion.core c.args.sent.now c.args.member.now c.args.event.now _ c.in-Cancel.is)
-
-pub returns-in-Cancel-clause-letters : goal.returns-in-Cancel-clause-letters
-returns-in-Cancel-clause-letters g c = c.cancel.ensures.letters ∙ ap (λ d. d.letters) (acted g.C.Exclusion.core c.args.sent.now c.args.member.now c.args.event.now _ c.in-Cancel.is)
-
-pub returns-in-Settle-clause-state : goal.returns-in-Settle-clause-state
-returns-in-Settle-clause-state g c = c.settle.ensures.state ∙ ap (λ d. d.state) (acted g.C.Exclusion.core c.args.sent.now c.args.member.now c.args.event.now _ c.in-Settle.is)
-
-pub returns-in-Settle-clause-answer : goal.returns-in-Settle-clause-answer
-returns-in-Settle-clause-answer g c = ap answer.Settled c.settle.ensures.answer ∙ ap (λ d. d.answer) (acted g.C.Exclusion.core c.args.sent.now c.args.member.now c.args.event.now _ c.in-Settle.is)
-
-pub returns-in-Settle-clause-letters : goal.returns-in-Settle-clause-letters
-returns-in-Settle-clause-letters g c = c.requires.empty ∙ ap (λ d. d.letters) (acted g.C.Exclusion.core c.args.sent.now c.args.member.now c.args.event.now _ c.in-Settle.is)
-
-pub returns-in-Tick-clause-state : goal.returns-in-Tick-clause-state
-returns-in-Tick-clause-state g c = c.tick.ensures.state ∙ ap (λ d. d.state) (acted g.C.Exclusion.core c.args.sent.now c.args.member.now c.args.event.now _ c.in-Tick.is)
-
-pub returns-in-Tick-clause-answer : goal.returns-in-Tick-clause-answer
-returns-in-Tick-clause-answer g c = ap (λ d. d.answer) (acted g.C.Exclusion.core c.args.sent.now c.args.member.now c.args.event.now _ c.in-Tick.is)
-
-pub returns-in-Tick-clause-letters : goal.returns-in-Tick-clause-letters
-returns-in-Tick-clause-letters g c = c.tick.ensures.letters ∙ ap (λ d. d.letters) (acted g.C.Exclusion.core c.args.sent.now c.args.member.now c.args.event.now _ c.in-Tick.is)
-
-pub returns-in-Want-clause-state : goal.returns-in-Want-clause-state
-returns-in-Want-clause-state g c = ap (λ d. d.state) (acted g.C.Exclusion.core c.args.sent.now c.args.member.now c.args.event.now _ c.in-Want.is)
-
-pub returns-in-Want-clause-answer : goal.returns-in-Want-clause-answer
-returns-in-Want-clause-answer g c = ap (λ d. d.answer) (acted g.C.Exclusion.core c.args.sent.now c.args.member.now c.args.event.now _ c.in-Want.is)
-
-pub returns-in-Want-clause-letters : goal.returns-in-Want-clause-letters
-returns-in-Want-clause-letters g c = c.want.ensures.letters ∙ ap (λ d. d.letters) (acted g.C.Exclusion.core c.args.sent.now c.args.member.now c.args.event.now _ c.in-Want.is)
-
-pub returns-in-Deliver-clause-state : goal.returns-in-Deliver-clause-state
-returns-in-Deliver-clause-state g c =
-    subst (λ (e : Event). OnOk c.deliver.result (c.deliver.new.member ≡ (act_of g.C.Exclusion.core (act_in c.args.sent.now e) c.args.member.now).state)) (sym c.in-Deliver.is) c.deliver.ensures.state
-
-pub returns-in-Deliver-clause-answer : goal.returns-in-Deliver-clause-answer
-returns-in-Deliver-clause-answer g c =
-    subst (λ (e : Event). IfOk c.deliver.result (λ brief. answer_by brief ≡ (act_of g.C.Exclusion.core (act_in c.args.sent.now e) c.args.member.now).answer)) (sym c.in-Deliver.is) c.deliver.ensures.answer
-
-pub returns-in-Deliver-clause-letters : goal.returns-in-Deliver-clause-letters
-returns-in-Deliver-clause-letters g c =
-    subst (λ (e : Event). OnOk c.deliver.result (c.deliver.new.out ≡ (act_of g.C.Exclusion.core (act_in c.args.sent.now e) c.args.member.now).letters)) (sym c.in-Deliver.is) c.deliver.ensures.letters
-
-pub returns-in-Restart-clause-state : goal.returns-in-Restart-clause-state
-returns-in-Restart-clause-state g c = c.restart.ensures ∙ ap (λ d. d.state) (acted g.C.Exclusion.core c.args.sent.now c.args.member.now c.args.event.now _ c.in-Restart.is)
-
-pub returns-in-Restart-clause-answer : goal.returns-in-Restart-clause-answer
-returns-in-Restart-clause-answer g c = ap (λ d. d.answer) (acted g.C.Exclusion.core c.args.sent.now c.args.member.now c.args.event.now _ c.in-Restart.is)
-
-pub returns-in-Restart-clause-letters : goal.returns-in-Restart-clause-letters
-returns-in-Restart-clause-letters g c = c.requires.empty ∙ ap (λ d. d.letters) (acted g.C.Exclusion.core c.args.sent.now c.args.member.now c.args.event.now _ c.in-Restart.is)
+pub returns-in-Deliver-clause-err : goal.returns-in-Deliver-clause-err
+returns-in-Deliver-clause-err g c = c.deliver.ensures.err
 
 pub ask-requires : goal.ask-requires
 ask-requires g c = (search rules, (search rules, c.requires.empty))
@@ -138,9 +88,3 @@ deliver-requires g c = (
     ),
   ),
 )
-
-pub returns-in-Deliver-clause-err : goal.returns-in-Deliver-clause-err
-returns-in-Deliver-clause-err g c = c.deliver.ensures.err
-
-pub returns-in-Deliver-clause-quiet : goal.returns-in-Deliver-clause-quiet
-returns-in-Deliver-clause-quiet g c = c.deliver.ensures.quiet

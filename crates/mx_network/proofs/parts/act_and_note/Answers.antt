@@ -8,7 +8,7 @@ use Rattle.mx_network.proofs.parts.act_and_note.Goals as goal
 
 pub returns-clause-ok : goal.returns-clause-ok
 returns-clause-ok g c =
-    let e = c.in_ok-brief.ensures in
+    let e = c.in_ok-brief.ensures.ok in
     record {
       state = e.state;
       letters = e.letters;

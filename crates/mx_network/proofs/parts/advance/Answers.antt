@@ -1,10 +1,10 @@
-use Rattle.std.proofs.Common.{rules, ℕ, arith, ◌≡◌, List, [], ◌∷◌, ◌++◌, Ok, length, refl, sym, subst, ap, ◌∙◌, slice_get}
+use Rattle.std.proofs.Common.{rules, ℕ, arith, List, ◌++◌, Ok, length, refl, sym, subst, ap, ◌∙◌, slice_get}
 use Rattle.std.proofs.lemmas.Result.{IfOk-from_err}
 use Rattle.mx_nodelaws.specs.World.{sent_by}
 use Rattle.mx_member.specs.declared.parcel.Parcel.{Parcel}
 use Rattle.mx_member.specs.Acts.{IsDoable}
 use Rattle.mx_network.specs.declared.outcome.Entry.{Entry}
-use Rattle.mx_network.specs.Step.{act_in, answer_of, cluster_state_of, IsOfSent}
+use Rattle.mx_network.specs.Step.{act_in, answer_of, cluster_state_of, IsOfSent, SendsAct}
 use Rattle.mx_network.proofs.EventParts.{was_sent}
 use Rattle.mx_network.proofs.Happening.{at_err, at_place, fault_told, gone, grown_parts, memory_alone, memory_told, part_is, same_parts, unchanged, without}
 use Rattle.mx_network.proofs.parts.advance.Given.{Over}
@@ -66,19 +66,19 @@ returns-in_err-act_and_send-clause-fault g c =
 pub returns-in_err-act_and_send-clause-err : goal.returns-in_err-act_and_send-clause-err
 returns-in_err-act_and_send-clause-err g c =
     let at = at_place c.args.members.now.items c.get-index.result c.index_mut.result.now (let t = c.if-index-nodes.false in let l = ap length c.as_slice-nodes.ensures.value in omega arith) c.index_mut.ensures.value in
-    let e = c.in_err-act_and_send.ensures in
+    let e = c.in_err-act_and_send.ensures.err in
     at_err _ _ (unchanged c.args.members.now.items c.args.sent.now.items c.act_and_send.new.sent.items c.args.trace.now.items c.act_and_send.new.trace.items c.get-index.result c.index_mut.result.now c.act_and_send.new.member
-    at e.same (e.unsent ∙ c.in_ok-reserve.ensures.items) (e.unnoted ∙ c.in_ok-reserve-2.ensures.items))
+    at e.0 (e.1 ∙ c.in_ok-reserve.ensures.items) (e.2 ∙ c.in_ok-reserve-2.ensures.items))
 
--- what joins the trace is the act's outcome
-noted : (g : Over) (c : goal.In_ok-act_and_send g) → c.act_and_send.new.trace.items ≡ c.args.trace.now.items ++ record { event = c.args.event; outcome = (answer_of g.C.Exclusion.core (act_in c.args.sent.now.items c.args.event) c.index_mut.result.now).answer } ∷ []
-noted g c =
-    c.in_ok-act_and_send.ensures.noted
-    ∙ ap (λ (l : List Entry). l ++ record { event = c.args.event; outcome = (answer_of g.C.Exclusion.core (act_in c.reserve.new.self.items c.args.event) c.index_mut.result.now).answer } ∷ []) c.in_ok-reserve-2.ensures.items
-    ∙ ap (λ (l : List (ℕ × ℕ × Parcel g.row.C-Msg.Denot)). c.args.trace.now.items ++ record { event = c.args.event; outcome = (answer_of g.C.Exclusion.core (act_in l c.args.event) c.index_mut.result.now).answer } ∷ []) c.in_ok-reserve.ensures.items
+-- what the act has done, to the lists as they were before there was room
+sends : (g : Over) (c : goal.In_ok-act_and_send g) → SendsAct g.C.Exclusion.core c.in_ok-node.node c.args.event (act_in c.args.sent.now.items c.args.event) c.index_mut.result.now c.args.sent.now.items c.args.trace.now.items c.act_and_send.new.member c.act_and_send.new.sent.items c.act_and_send.new.trace.items
+sends g c =
+    subst (λ (l : List (ℕ × ℕ × Parcel g.row.C-Msg.Denot)). SendsAct g.C.Exclusion.core c.in_ok-node.node c.args.event (act_in l c.args.event) c.index_mut.result.now l c.args.trace.now.items c.act_and_send.new.member c.act_and_send.new.sent.items c.act_and_send.new.trace.items) c.in_ok-reserve.ensures.items
+    (subst (λ (t : List Entry). SendsAct g.C.Exclusion.core c.in_ok-node.node c.args.event (act_in c.reserve.new.self.items c.args.event) c.index_mut.result.now c.reserve.new.self.items t c.act_and_send.new.member c.act_and_send.new.sent.items c.act_and_send.new.trace.items) c.in_ok-reserve-2.ensures.items
+    c.in_ok-act_and_send.ensures.ok)
 
 pub returns-clause-noted : goal.returns-clause-noted
-returns-clause-noted g c = ((answer_of g.C.Exclusion.core (act_in c.args.sent.now.items c.args.event) c.index_mut.result.now).answer, noted g c)
+returns-clause-noted g c = (_, (sends g c).noted)
 
 pub returns-clause-ok : goal.returns-clause-ok
 returns-clause-ok g c =
@@ -87,15 +87,13 @@ returns-clause-ok g c =
     let m = c.index_mut.result.now in
     let at = at_place c.args.members.now.items c.get-index.result c.index_mut.result.now (let t = c.if-index-nodes.false in let l = ap length c.as_slice-nodes.ensures.value in omega arith) c.index_mut.ensures.value in
     let part = part_is _ _ _ _ _ _ (ap length c.as_slice-nodes.ensures.value) c.deref.ensures.value c.in_ok-node.ensures.ok in
-    let e = c.in_ok-act_and_send.ensures in
-    let same = c.in_ok-reserve.ensures.items in
+    let e = sends g c in
     grown_parts core (cluster_state_of c.args.members.now c.args.sent.now c.args.trace.now) c.args.event (c.get-index.result, a)
     (part ∙ ap (λ (n : ℕ). Ok (n, a)) (sym c.get-index.ensures.value))
     m c.act_and_send.new.member (answer_of core a m).answer c.act_and_send.new.sent.items c.act_and_send.new.trace.items
-    at (e.state ∙ ap (λ (l : List (ℕ × ℕ × Parcel g.row.C-Msg.Denot)). (answer_of core (act_in l c.args.event) m).state) same) refl
-    (e.sent ∙ ap (λ (l : List (ℕ × ℕ × Parcel g.row.C-Msg.Denot)). l ++ sent_by c.in_ok-node.node (answer_of core (act_in l c.args.event) m).letters) same
-    ∙ ap (λ (n : ℕ). c.args.sent.now.items ++ sent_by n (answer_of core a m).letters) (sym c.get-index.ensures.value))
-    (noted g c)
+    at e.state refl
+    (e.sent ∙ ap (λ (n : ℕ). c.args.sent.now.items ++ sent_by n (answer_of core a m).letters) (sym c.get-index.ensures.value))
+    e.noted
 
 pub returns-in_err-node-clause-out : goal.returns-in_err-node-clause-out
 returns-in_err-node-clause-out g c = c.requires.empty

@@ -1,7 +1,10 @@
 use Rattle.std.proofs.Common.{rules}
 use Rattle.mx_network.proofs.Headline.{exclusive, numbered}
 use Rattle.mx_network.proofs.Keeps.{all_doable, result_kept}
+use Rattle.mx_network.specs.declared.faults.StepFault.TheVariants.{NoNode, NoParcel}
+use Rattle.mx_network.specs.Step.{NamesNoNode, NamesNoParcel}
 use Rattle.mx_network.proofs.Refusals.{no_node, no_parcel}
+use Rattle.mx_network.proofs.Seen.{faulted, kept_same, named, stepped}
 use Rattle.mx_network.proofs.cluster.Cluster.advance.Goals as goal
 
 pub advance-requires : goal.advance-requires
@@ -16,23 +19,25 @@ invariant_of-self g c = (
 )
 
 pub returns-clause-ok : goal.returns-clause-ok
-returns-clause-ok g c = rw (← c.self.view_is) c.advance.ensures.ok
+returns-clause-ok g c = stepped g.C.Exclusion.core _ _ c.self.view_is c.args.event c.advance.result _ c.advance.ensures.ok
 
 pub returns-clause-no_node : goal.returns-clause-no_node
-returns-clause-no_node g c = rw (← c.self.view_is)
+returns-clause-no_node g c =
+    named g.C.Exclusion.core _ _ c.self.view_is c.args.event c.advance.result NoNode NamesNoNode
     (no_node g.C.Exclusion.core g.C.Exclusion.Good
     _ _ c.args.event c.advance.result c.self.invariant.1 c.advance.ensures.ok c.advance.ensures.fault)
 
 pub returns-clause-no_parcel : goal.returns-clause-no_parcel
-returns-clause-no_parcel g c = rw (← c.self.view_is)
+returns-clause-no_parcel g c =
+    named g.C.Exclusion.core _ _ c.self.view_is c.args.event c.advance.result NoParcel NamesNoParcel
     (no_parcel g.C.Exclusion.core g.C.Exclusion.Good
     _ _ c.args.event c.advance.result c.self.invariant.1 c.advance.ensures.ok c.advance.ensures.fault)
 
 pub returns-clause-err : goal.returns-clause-err
-returns-clause-err g c = rw (← c.self.view_is) c.advance.ensures.err
+returns-clause-err g c = kept_same g.C.Exclusion.core _ _ c.self.view_is c.args.event c.advance.result _ c.advance.ensures.err
 
 pub returns-clause-fault : goal.returns-clause-fault
-returns-clause-fault g c = rw (← c.self.view_is) c.advance.ensures.fault
+returns-clause-fault g c = faulted g.C.Exclusion.core _ _ c.self.view_is c.args.event c.advance.result c.advance.ensures.fault
 
 pub returns-clause-exclusive : goal.returns-clause-exclusive
 returns-clause-exclusive g c = exclusive c.advance.new.trace.items (invariant_of-self g c).1.serial

@@ -1,7 +1,10 @@
 use Rattle.std.proofs.Common.{rules}
 use Rattle.mx_network.proofs.Headline.{exclusive, numbered}
 use Rattle.mx_network.proofs.Keeps.{all_doable, result_kept}
+use Rattle.mx_network.specs.declared.faults.StepFault.TheVariants.{NoNode, NoParcel}
+use Rattle.mx_network.specs.Step.{NamesNoNode, NamesNoParcel}
 use Rattle.mx_network.proofs.Refusals.{no_node, no_parcel}
+use Rattle.mx_network.proofs.Seen.{faulted, kept_same, named, stepped}
 use Rattle.mx_network.proofs.Refused.{never_settled, refused_unchanged}
 use Rattle.mx_network.proofs.cluster.Cluster.step.Goals as goal
 
@@ -17,26 +20,28 @@ invariant_of-self g c = (
 )
 
 pub returns-clause-ok : goal.returns-clause-ok
-returns-clause-ok g c = rw (← c.self.view_is) c.happen.ensures.ok
+returns-clause-ok g c = stepped g.C.Exclusion.core _ _ c.self.view_is c.args.event c.happen.result _ c.happen.ensures.ok
 
 pub returns-clause-outcome : goal.returns-clause-outcome
 returns-clause-outcome g c = rw (← c.self.view_is) c.happen.ensures.outcome
 
 pub returns-clause-no_node : goal.returns-clause-no_node
-returns-clause-no_node g c = rw (← c.self.view_is)
+returns-clause-no_node g c =
+    named g.C.Exclusion.core _ _ c.self.view_is c.args.event c.happen.result NoNode NamesNoNode
     (no_node g.C.Exclusion.core g.C.Exclusion.Good
     _ _ c.args.event c.happen.result c.self.invariant.1 c.happen.ensures.ok c.happen.ensures.fault)
 
 pub returns-clause-no_parcel : goal.returns-clause-no_parcel
-returns-clause-no_parcel g c = rw (← c.self.view_is)
+returns-clause-no_parcel g c =
+    named g.C.Exclusion.core _ _ c.self.view_is c.args.event c.happen.result NoParcel NamesNoParcel
     (no_parcel g.C.Exclusion.core g.C.Exclusion.Good
     _ _ c.args.event c.happen.result c.self.invariant.1 c.happen.ensures.ok c.happen.ensures.fault)
 
 pub returns-clause-err : goal.returns-clause-err
-returns-clause-err g c = rw (← c.self.view_is) c.happen.ensures.err
+returns-clause-err g c = kept_same g.C.Exclusion.core _ _ c.self.view_is c.args.event c.happen.result _ c.happen.ensures.err
 
 pub returns-clause-fault : goal.returns-clause-fault
-returns-clause-fault g c = rw (← c.self.view_is) c.happen.ensures.fault
+returns-clause-fault g c = faulted g.C.Exclusion.core _ _ c.self.view_is c.args.event c.happen.result c.happen.ensures.fault
 
 pub returns-clause-refused : goal.returns-clause-refused
 returns-clause-refused g c = rw (← c.self.view_is)
