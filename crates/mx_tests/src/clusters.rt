@@ -23,18 +23,19 @@ fn drawn_after_five() -> Option<u64> {
     Some(clock.next(node(2))?.number)
 }
 
-/// Whether two nodes that have done nothing refuse what can't happen, each for its fault, and note nothing.
-fn refuse_all(cluster: &mut Cluster<Ricart>) -> bool {
-    for (event, fault) in [
-        (Event::Ask(node(2)), StepFault::NoNode),
-        (Event::Want(node(0), node(2)), StepFault::NoNode),
-        (Event::Deliver(0), StepFault::NoParcel),
-    ] {
-        if cluster.step(event).err() != Some(fault) || !cluster.trace().is_empty() {
-            return false;
-        }
+/// Whether a cluster that has done nothing refuses an event for this fault, and notes nothing.
+fn refuses(cluster: &mut Cluster<Ricart>, event: Event, fault: StepFault) -> bool {
+    match cluster.step(event) {
+        Ok(_) => false,
+        Err(told) => told == fault && cluster.trace().is_empty(),
     }
-    true
+}
+
+/// Whether two nodes that have done nothing refuse what can't happen, each for its fault.
+fn refuse_all(cluster: &mut Cluster<Ricart>) -> bool {
+    refuses(cluster, Event::Ask(node(2)), StepFault::NoNode)
+        && refuses(cluster, Event::Want(node(0), node(2)), StepFault::NoNode)
+        && refuses(cluster, Event::Deliver(0), StepFault::NoParcel)
 }
 
 #[test]

@@ -7,7 +7,6 @@ use crate::given::node;
 use crate::stations::two;
 use mx_journal::Receipt;
 use mx_member::CloseFault;
-use mx_nodelaws::Exclusion;
 use mx_ricart::Ricart;
 use mx_stamps::NodeId;
 use mx_stations::{Gathered, PutOut, Station, Taken, Ungathered, gather};
@@ -29,7 +28,7 @@ enum Call {
 }
 
 /// Whether the station answers the call so.
-fn answers<C: Exclusion>(station: &mut Station<C>, call: &Call) -> bool
+fn answers(station: &mut Station<Ricart>, call: &Call) -> bool
     ensures { KeepsTable station.old station.new }
 {
     match call {
@@ -46,7 +45,7 @@ fn answers<C: Exclusion>(station: &mut Station<C>, call: &Call) -> bool
 }
 
 /// The other of two nodes.
-pub(crate) fn other_of<C: Exclusion>(station: &Station<C>) -> Option<NodeId>
+pub(crate) fn other_of(station: &Station<Ricart>) -> Option<NodeId>
     ensures { IfSome result (λ i. i < station.now.nodes) }
 {
     let other = if station.node().get() == 0 { 1 } else { 0 };
@@ -58,7 +57,7 @@ pub(crate) fn other_of<C: Exclusion>(station: &Station<C>) -> Option<NodeId>
 }
 
 /// Whether taking a parcel in from the other of two nodes is answered so.
-pub(crate) fn takes_from_other<C: Exclusion>(station: &mut Station<C>, answer: Taken) -> bool
+pub(crate) fn takes_from_other(station: &mut Station<Ricart>, answer: Taken) -> bool
     ensures { KeepsTable station.old station.new }
 {
     match other_of(station) {
@@ -76,7 +75,7 @@ fn bears(left: &Result<Receipt, CloseFault>, number: u64) -> bool {
 }
 
 /// Whether the station leaves a section of this number.
-fn leaves<C: Exclusion>(station: &mut Station<C>, number: u64) -> bool
+fn leaves(station: &mut Station<Ricart>, number: u64) -> bool
     ensures { KeepsTable station.old station.new }
 {
     let left = station.leave();
@@ -84,12 +83,7 @@ fn leaves<C: Exclusion>(station: &mut Station<C>, number: u64) -> bool
 }
 
 /// Whether that of the two does so whose node it is.
-fn one_answers<C: Exclusion>(
-    zero: &mut Station<C>,
-    one: &mut Station<C>,
-    node: u8,
-    call: &Call,
-) -> bool
+fn one_answers(zero: &mut Station<Ricart>, one: &mut Station<Ricart>, node: u8, call: &Call) -> bool
     ensures { KeepsTable zero.old zero.new × KeepsTable one.old one.new }
 {
     if node == 0 {
@@ -100,10 +94,10 @@ fn one_answers<C: Exclusion>(
 }
 
 /// Both answer all calls so, one after another.
-fn assert_calls<C: Exclusion>(
+fn assert_calls(
     rt: &impl Abort,
-    zero: &mut Station<C>,
-    one: &mut Station<C>,
+    zero: &mut Station<Ricart>,
+    one: &mut Station<Ricart>,
     calls: &[(u8, Call)],
 )
     ensures { KeepsTable zero.old zero.new × KeepsTable one.old one.new }

@@ -44,17 +44,14 @@ fn in_threads<R: Threads + Sync>(
     Ok(back)
 }
 
-/// How many receipts there are, up to which number the journal has no gap and is settled, how many
-/// records it has, and the register.
-fn told(all: &Gathered) -> (usize, u64, u64, usize, Option<u64>) {
+/// Whether one hundred sections are all that was gathered, and all of them are settled.
+fn is_settled(all: &Gathered) -> bool {
     let journal = &all.journal;
-    (
-        all.receipts.len(),
-        journal.gapless_to(),
-        journal.base().upto(),
-        journal.len(),
-        view(journal, 1).value(0),
-    )
+    all.receipts.len() == 100
+        && journal.gapless_to() == 100
+        && journal.base().upto() == 100
+        && journal.len() == 0
+        && view(journal, 1).value(0) == Some(100)
 }
 
 /// What is gathered of stations. Section 100 is the twentieth of its node, which knows of all before it,
@@ -63,7 +60,7 @@ fn is_counted(alloc: Global, stations: Vec<Station<Ricart>>) -> bool
     requires { OfOneTable stations.items }
 {
     match gather(alloc, stations) {
-        Ok(all) => told(&all) == (100, 100, 100, 0, Some(100)),
+        Ok(all) => is_settled(&all),
         Err(_) => false,
     }
 }

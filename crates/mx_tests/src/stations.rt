@@ -1,6 +1,6 @@
 //! Stations of small clusters, parcel by parcel and by turns.
 
-ghost use Rattle.std.specs.Prelude.{IfOk};
+ghost use Rattle.std.specs.Prelude.{IfOk, IfSome, List, [], ◌∷◌, ◌++◌, ◌≡◌};
 ghost use Rattle.mx_stations.specs.Gathered.{KeepsTable};
 
 use crate::four_slots::takes_from_other;
@@ -10,19 +10,26 @@ use mx_stations::{Field, PutOut, Station, Taken, TurnReport};
 use std::alloc::Global;
 use std::test::Fail;
 
+/// The last two of a list.
+fn last_two<T: Drop>(mut all: Vec<T>) -> Option<(T, T)>
+    ensures { IfSome result (λ both. (more : List T) × (left : List T)
+        × (all.items ≡ more ++ both.1 ∷ []) × (more ≡ left ++ both.0 ∷ [])) }
+{
+    let last = all.pop()?;
+    let next = all.pop()?;
+    Some((next, last))
+}
+
 /// The two stations of a cluster of two nodes.
 pub(crate) fn two(alloc: Global) -> Result<(Station<Ricart>, Station<Ricart>), Fail>
     ensures { IfOk result (λ both. KeepsTable both.0 both.1) }
 {
     let shape = Count::of(2).ok_or("count")?;
-    let mut all = Field::<Ricart>::stations(alloc, &shape, 0, 1000, 1)?;
-    let Some(one) = all.pop() else {
-        return Err("one")?;
-    };
-    let Some(zero) = all.pop() else {
-        return Err("zero")?;
-    };
-    Ok((zero, one))
+    let all = Field::<Ricart>::stations(alloc, &shape, 0, 1000, 1)?;
+    match last_two(all) {
+        Some(both) => Ok(both),
+        None => Err("not two stations")?,
+    }
 }
 
 /// A network with one fate for all parcels.
@@ -47,26 +54,47 @@ fn report_of(
     one.turn(&mut Always(fate)).ok()
 }
 
+/// The report of such a turn in a new cluster.
+fn report(alloc: Global, fate: Fate) -> Result<Option<TurnReport>, Fail> {
+    let mut both = two(alloc)?;
+    Ok(report_of(&mut both.0, &mut both.1, fate))
+}
+
+/// The report of a turn that takes one parcel, with which nothing comes to pass.
+const TAKEN: TurnReport = TurnReport {
+    taken: 1,
+    dropped: 0,
+    twice: 0,
+    put: 0,
+    full: 0,
+    ticked: false,
+};
+
 /// Reports of one parcel taken, by its fate: node 1 replies to each request that comes.
-const REPORTS: [(Fate, u32, u32, u32); 3] = [
-    (Fate::Drop, 1, 0, 0),
-    (Fate::Pass, 0, 0, 1),
-    (Fate::Twice, 0, 1, 2),
+const REPORTS: [(Fate, TurnReport); 3] = [
+    (
+        Fate::Drop,
+        TurnReport {
+            dropped: 1,
+            ..TAKEN
+        },
+    ),
+    (Fate::Pass, TurnReport { put: 1, ..TAKEN }),
+    (
+        Fate::Twice,
+        TurnReport {
+            twice: 1,
+            put: 2,
+            ..TAKEN
+        },
+    ),
 ];
 
 #[test]
 fn a_fate_decides_how_often_a_parcel_comes(rt: HostRuntime) -> Result<(), Fail> {
-    for (fate, dropped, twice, put) in &REPORTS {
-        let mut both = two(rt.alloc())?;
-        let wanted = TurnReport {
-            taken: 1,
-            dropped: *dropped,
-            twice: *twice,
-            put: *put,
-            ..TurnReport::default()
-        };
-        let reported = report_of(&mut both.0, &mut both.1, *fate);
-        assert!(rt; reported == Some(wanted));
+    for (fate, wanted) in &REPORTS {
+        let told = report(rt.alloc(), *fate)?;
+        assert!(rt; told == Some(*wanted));
     }
     Ok(())
 }

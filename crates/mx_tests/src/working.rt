@@ -4,11 +4,11 @@ use mx_letters::{Fair, Fate, Fates};
 use mx_ricart::{Count, Ricart};
 use mx_stamps::NodeId;
 use mx_stations::{Field, Gate, Script, Station, Worked, work};
-use std::alloc::Global;
+use std::alloc::{AllocError, Global};
 use std::sync::atomic::{AtomicU64, Ordering};
 use std::test::Fail;
 use std::thread;
-use std::thread::yield_now;
+use std::thread::{Threads, yield_now};
 
 /// A gate that opens once so many nodes have arrived, and stays shut once one of them has looked
 /// too often. Nobody may stop before all have their sections.
@@ -104,25 +104,43 @@ fn counted(ended: &[(Worked, u64)]) -> Option<u64> {
     Some(most)
 }
 
-#[test]
-fn gate_holds_until_all_arrive(rt: HostRuntime) -> Result<(), Fail> {
+/// The greatest value that workers know who have a thread each, and how many parcels came before all of
+/// them had arrived.
+fn counted_in_threads<R: Threads + Sync>(
+    rt: &R,
+    stations: Vec<Station<Ricart>>,
+) -> Result<(Option<u64>, u64), AllocError> {
     let gate = Assembly::new(5, 100_000_000);
     let ended = thread::map_vec(
-        &rt,
-        stations_of(rt.alloc(), 5)?,
+        rt,
+        stations,
         &|station: Station<Ricart>| -> (Worked, u64) { count_on(station, &gate) },
     )?;
-    assert_eq!(rt; counted(&ended), Some(100));
-    assert_eq!(rt; gate.early.load(Ordering::SeqCst), 0);
+    Ok((counted(&ended), gate.early.load(Ordering::SeqCst)))
+}
+
+#[test]
+fn gate_holds_until_all_arrive(rt: HostRuntime) -> Result<(), Fail> {
+    let counted = counted_in_threads(&rt, stations_of(rt.alloc(), 5)?)?;
+    assert!(rt; counted == (Some(100), 0));
     Ok(())
+}
+
+/// Whether the gate of five workers stays shut for each of them, who run one after another.
+fn is_shut_for_all(stations: Vec<Station<Ricart>>) -> bool {
+    let gate = Assembly::new(5, 1000);
+    for station in stations {
+        if count_on(station, &gate) != (Worked::GateShut, 0) {
+            return false;
+        }
+    }
+    true
 }
 
 #[test]
 fn workers_run_in_turn(rt: HostRuntime) -> Result<(), Fail> {
-    let gate = Assembly::new(5, 1000);
-    for station in stations_of(rt.alloc(), 5)? {
-        assert_eq!(rt; count_on(station, &gate), (Worked::GateShut, 0));
-    }
+    let is_shut = is_shut_for_all(stations_of(rt.alloc(), 5)?);
+    assert!(rt; is_shut);
     Ok(())
 }
 
@@ -144,24 +162,30 @@ impl Gate for Open {
 
 /// How the worker of the last of these nodes ends, which is to enter once. At the others nobody
 /// works.
-fn ending(alloc: Global, nodes: u8, may_stop: bool, turns: u64) -> Result<Worked, Fail> {
+fn ending(alloc: Global, nodes: u8, may_stop: bool, turns: u64) -> Result<Option<Worked>, Fail> {
     let script = Script {
         register: 0,
         sections: 1,
     };
-    let station = stations_of(alloc, nodes)?.pop().ok_or("station")?;
-    Ok(work(station, script, &Open { may_stop }, Fair, turns).1)
+    match stations_of(alloc, nodes)?.pop() {
+        Some(station) => Ok(Some(work(station, script, &Open { may_stop }, Fair, turns).1)),
+        None => Ok(None),
+    }
 }
+
+/// How many nodes there are, whether the worker may stop, how many turns it has, and how it ends.
+const ENDINGS: [(u8, bool, u64, Worked); 4] = [
+    (1, true, 10, Worked::Done),
+    (1, false, 10, Worked::NotYet(10)),
+    (1, true, 0, Worked::NotYet(0)),
+    (3, true, 10_000, Worked::NotYet(10_000)),
+];
 
 #[test]
 fn turns_run_out(rt: HostRuntime) -> Result<(), Fail> {
-    for (nodes, may_stop, turns, wanted) in [
-        (1, true, 10, Worked::Done),
-        (1, false, 10, Worked::NotYet(10)),
-        (1, true, 0, Worked::NotYet(0)),
-        (3, true, 10_000, Worked::NotYet(10_000)),
-    ] {
-        assert_eq!(rt; ending(rt.alloc(), nodes, may_stop, turns)?, wanted);
+    for (nodes, may_stop, turns, wanted) in &ENDINGS {
+        let ended = ending(rt.alloc(), *nodes, *may_stop, *turns)?;
+        assert_eq!(rt; ended, Some(*wanted));
     }
     Ok(())
 }
