@@ -29,11 +29,16 @@ const PUTS: [Puts; 5] = [
     (&[(3, 3), (3, 3), (1, 1)], Ok(1), 3),
 ];
 
+/// Whether a journal answers such a list so.
+fn answers(alloc: Global, journal: &mut Journal, puts: &Puts) -> Result<bool, AllocError> {
+    let list = entries(alloc, puts.0)?;
+    Ok(journal.put_all(list.as_slice()) == puts.1 && journal.len() == puts.2)
+}
+
 /// Whether a journal takes each of these lists whole, or nothing of it.
 fn takes_whole(alloc: Global, journal: &mut Journal) -> Result<bool, AllocError> {
-    for (pairs, answer, len) in &PUTS {
-        let list = entries(alloc, *pairs)?;
-        if journal.put_all(list.as_slice()) != *answer || journal.len() != *len {
+    for puts in &PUTS {
+        if !answers(alloc, journal, puts)? {
             return Ok(false);
         }
     }
@@ -85,11 +90,16 @@ fn is_whole(journal: &Journal) -> bool {
         )
 }
 
+/// Whether a journal merges one of 2 and 3, and tells that then.
+fn is_whole_after(alloc: Global, journal: &mut Journal) -> Result<bool, Fail> {
+    let other = journal_of(alloc, &[2, 3])?;
+    Ok(merges(journal, &other) && is_whole(journal))
+}
+
 #[test]
 fn merge_and_missing(rt: HostRuntime) -> Result<(), Fail> {
-    let mut journal = journal_of(rt.alloc(), &[1, 2, 5])?;
-    let has_merged = merges(&mut journal, &journal_of(rt.alloc(), &[2, 3])?);
-    assert!(rt; has_merged && is_whole(&journal));
+    let is_so = is_whole_after(rt.alloc(), &mut journal_of(rt.alloc(), &[1, 2, 5])?)?;
+    assert!(rt; is_so);
     Ok(())
 }
 
@@ -150,18 +160,16 @@ fn keeps_base(journal: &mut Journal) -> bool {
         && journal.base().upto() == 3
 }
 
-/// Whether a journal of 2 and 3 does both.
-fn is_settled_by(alloc: Global, settled: &Journal) -> Result<bool, Fail> {
+/// Whether a journal settles, and one of 2 and 3 does both then.
+fn settles_both(alloc: Global, settled: &mut Journal) -> Result<bool, Fail> {
     let mut journal = journal_of(alloc, &[2, 3])?;
-    Ok(takes_base(&mut journal, settled) && keeps_base(&mut journal))
+    Ok(settles(settled) && takes_base(&mut journal, settled) && keeps_base(&mut journal))
 }
 
 #[test]
 fn settle_and_take_base(rt: HostRuntime) -> Result<(), Fail> {
-    let mut journal = journal_of(rt.alloc(), &[1, 2, 3, 5])?;
-    let has_settled = settles(&mut journal);
-    let is_taken = is_settled_by(rt.alloc(), &journal)?;
-    assert!(rt; has_settled && is_taken);
+    let are_settled = settles_both(rt.alloc(), &mut journal_of(rt.alloc(), &[1, 2, 3, 5])?)?;
+    assert!(rt; are_settled);
     Ok(())
 }
 

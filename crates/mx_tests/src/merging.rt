@@ -58,8 +58,18 @@ fn left_after(outcome: &Outcome, left: u64) -> u64 {
     }
 }
 
-/// Whether the journals of these nodes merge after each event, into one that has the records of
-/// just the sections left so far.
+/// Whether the journals of these nodes merge into one that has the records of just so many sections.
+fn merge(
+    alloc: Global,
+    cluster: &Cluster<Ricart>,
+    names: &[NodeId],
+    left: u64,
+) -> Result<bool, Fail> {
+    let all = cluster.merged(alloc, names)?;
+    Ok(all.len() as u64 == left && all.gapless_to() == left)
+}
+
+/// Whether they do so after each event, with the sections left so far.
 fn merge_all_along(
     alloc: Global,
     cluster: &mut Cluster<Ricart>,
@@ -69,8 +79,7 @@ fn merge_all_along(
     let mut left = 0;
     for event in events {
         left = left_after(&cluster.step(*event)?, left);
-        let all = cluster.merged(alloc, names)?;
-        if (all.len() as u64, all.gapless_to()) != (left, left) {
+        if !merge(alloc, cluster, names, left)? {
             return Ok(false);
         }
     }

@@ -51,6 +51,26 @@ fn is_refused(alloc: Global, sets: &[&[u8]], fault: QuorumFault) -> Result<bool,
     Ok(Quorums::listed(&sets).err() == Some(fault))
 }
 
+/// Whether these lists are refused, each for its fault.
+fn lists_are_refused(alloc: Global) -> Result<bool, AllocError> {
+    for (sets, fault) in &LISTED {
+        if !is_refused(alloc, *sets, *fault)? {
+            return Ok(false);
+        }
+    }
+    Ok(true)
+}
+
+/// Whether these are no trees, each for its fault.
+fn are_no_trees() -> bool {
+    for (nodes, edges, holder, fault) in &NO_TREES {
+        if Tree::of(*nodes, *edges, *holder).err() != Some(*fault) {
+            return false;
+        }
+    }
+    true
+}
+
 /// Whether planes and grids are refused that there are not.
 fn are_refused() -> bool {
     for n in [0, 8, 22] {
@@ -64,13 +84,8 @@ fn are_refused() -> bool {
 
 #[test]
 fn shapes_checked(rt: HostRuntime) -> Result<(), Fail> {
-    for (sets, fault) in &LISTED {
-        assert!(rt; is_refused(rt.alloc(), *sets, *fault)?);
-    }
-    for (nodes, edges, holder, fault) in &NO_TREES {
-        assert_eq!(rt; Tree::of(*nodes, *edges, *holder).err(), Some(*fault));
-    }
-    assert!(rt; are_refused());
+    assert!(rt; lists_are_refused(rt.alloc())?);
+    assert!(rt; are_no_trees() && are_refused());
     Ok(())
 }
 
