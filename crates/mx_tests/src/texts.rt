@@ -123,48 +123,26 @@ const BASE: [(BaseFault, &str); 1] = [(BaseFault::Conflict(3), "two bases differ
 
 const FULL: [(Full, &str); 1] = [(Full, "the draft is full")];
 
-/// Whether the faults of nodes and members are told.
-fn node_faults_are_told(alloc: Global) -> bool {
-    are_told(alloc, &ASK)
-        && are_told(alloc, &ENTER)
-        && are_told(alloc, &LEAVE)
-        && are_told(alloc, &CANCEL)
-        && are_told(alloc, &READ)
-        && are_told(alloc, &WRITE)
-        && are_told(alloc, &CLOSE)
-        && are_told(alloc, &DELIVER)
-        && are_told(alloc, &QUORUMS)
-        && are_told(alloc, &TREES)
+#[test]
+fn faults_of_nodes_and_members_are_told(rt: HostRuntime) {
+    let alloc = rt.alloc();
+    assert!(rt; are_told(alloc, &ASK) && are_told(alloc, &ENTER));
+    assert!(rt; are_told(alloc, &LEAVE) && are_told(alloc, &CANCEL));
+    assert!(rt; are_told(alloc, &READ) && are_told(alloc, &WRITE));
+    assert!(rt; are_told(alloc, &CLOSE) && are_told(alloc, &DELIVER));
+    assert!(rt; are_told(alloc, &QUORUMS) && are_told(alloc, &TREES));
 }
 
 #[test]
-fn faults_of_nodes_and_members_are_told(rt: HostRuntime) {
-    assert!(rt; node_faults_are_told(rt.alloc()));
-}
-
-/// Whether those of what is gathered are told.
-fn gather_faults_are_told(alloc: Global) -> bool {
+fn faults_of_journals_and_clusters_are_told(rt: HostRuntime) {
+    let alloc = rt.alloc();
     let gather = [
         (GatherFault::NotAll(node(0)), "not all 0"),
         (GatherFault::StillInside(node(20)), "still inside 20"),
         (GatherFault::Memory, "out of memory"),
     ];
-    are_told(alloc, &gather)
-}
-
-/// Whether the faults of journals, clusters and what is gathered are told.
-fn journal_faults_are_told(alloc: Global) -> bool {
-    are_told(alloc, &PUT)
-        && are_told(alloc, &MERGE)
-        && are_told(alloc, &SETTLE)
-        && are_told(alloc, &BASE)
-        && are_told(alloc, &FULL)
-        && are_told(alloc, &STEP)
-        && are_told(alloc, &RUN)
-        && gather_faults_are_told(alloc)
-}
-
-#[test]
-fn faults_of_journals_and_clusters_are_told(rt: HostRuntime) {
-    assert!(rt; journal_faults_are_told(rt.alloc()));
+    assert!(rt; are_told(alloc, &PUT) && are_told(alloc, &MERGE));
+    assert!(rt; are_told(alloc, &SETTLE) && are_told(alloc, &BASE));
+    assert!(rt; are_told(alloc, &FULL) && are_told(alloc, &gather));
+    assert!(rt; are_told(alloc, &STEP) && are_told(alloc, &RUN));
 }
