@@ -10,17 +10,18 @@ use Rattle.mx_plan.specs.Text.{Text}
 use Rattle.mx_plan.specs.Fields.{Fields}
 use Rattle.mx_plan.specs.declared.faults.PlanFault.{PlanFault}
 use Rattle.mx_plan.specs.declared.faults.PlanFault.TheVariants as plan_fault
-use Rattle.mx_commands.specs.declared.faults.Fault.{Fault}
-use Rattle.mx_commands.specs.declared.faults.Fault.TheVariants.{CannotRead}
-use Rattle.mx_commands.specs.declared.faults.Named.TheVariants as named
-use Rattle.mx_commands.specs.declared.faults.Stop.{Stop}
-use Rattle.mx_commands.specs.declared.faults.Stop.TheVariants as stop
-use Rattle.mx_commands.specs.Told.{Telling}
+use Rattle.mx_stops.specs.declared.faults.Fault.{Fault}
+use Rattle.mx_stops.specs.declared.faults.Fault.TheVariants.{CannotRead}
+use Rattle.mx_stops.specs.declared.faults.Named.TheVariants as named
+use Rattle.mx_stops.specs.declared.faults.Stop.{Stop}
+use Rattle.mx_stops.specs.declared.faults.Stop.TheVariants as stop
+use Rattle.mx_io.specs.Told.{Telling}
 use Rattle.mx_commands.specs.Runs.{Report, ends_with, whole}
-use Rattle.mx_commands.specs.Jobs.{HoldsOfPlan, HoldsOfReport, Job, Reads, fault_of, is_dash, on_events, on_plan, refusal_of, replay_one, replay_two, report_of, report_of_events, where_read}
-use Rattle.mx_commands.specs.Outputs.{Held}
-use Rattle.mx_commands.specs.Ran.{EndsEarly, Fetches, Ran, RanOn, RanOf}
-use Rattle.mx_commands.proofs.RunLemmas.{Appends-nil, none_some, Keeps-refl}
+use Rattle.mx_commands.specs.Jobs.{HoldsOfPlan, HoldsOfReport, Job, is_dash, on_events, on_plan, replay_one, replay_two, report_of, report_of_events, where_read}
+use Rattle.mx_stops.specs.Reading.{Reads, fault_of, refusal_of, Fetches}
+use Rattle.mx_io.specs.Outputs.{Held}
+use Rattle.mx_commands.specs.Ran.{EndsEarly, Ran, RanOn, RanOf}
+use Rattle.mx_stops.proofs.OutputLemmas.{Appends-nil, none_some, Keeps-refl}
 
 -- a run that ends before any event
 pub ran_at_once : (t : Bool) (a : Held) (f : Fault) → Ran t a a (ends_with (Some f)) (Err (stop.Fault f))

@@ -2,5 +2,4 @@ pub mod RunLemmas
 pub mod EventLemmas
 pub mod ExploreLemmas
 pub mod JobLemmas
-pub mod RefusedLemmas
 pub mod CommandLemmas

@@ -1,11 +1,10 @@
 -- The texts of events, one after another.
-use Rattle.std.proofs.Common.{◌≡◌, ◌∙◌, ℕ, zero, suc, ◌+◌, ◌<◌, ◌≤◌, Bool, true, false, List, [], ◌∷◌, ◌++◌, length, take, drop, get_or, slice_get, ap, ap₂, sym, refl, append_assoc, append-nil, Result, Ok, Err, Option, Some, None, subst, inl, inr, arith}
+use Rattle.std.proofs.Common.{◌≡◌, ◌∙◌, ℕ, zero, suc, ◌+◌, ◌<◌, ◌≤◌, Bool, true, false, List, [], ◌∷◌, ◌++◌, length, take, drop, get_or, slice_get, ap, ap₂, sym, refl, append_assoc, Result, Ok, Err, Option, Some, None, subst, inl, inr, arith}
 use Rattle.std.specs.Prelude.{IsErrAnd}
 use Rattle.std.specs.Bool.{⊤}
 use Rattle.std.specs.Io.KnownBytes.{Appends, Keeps}
 use Rattle.std.specs.List.{concat}
-use Rattle.std.proofs.lemmas.List.{at_drop_all, at_drop_more, drop_at, take_at, take_all, length-append}
-use Rattle.std.proofs.lemmas.List.Folds.{concat-append}
+use Rattle.std.proofs.lemmas.List.{at_drop_all, at_drop_more, drop_at, take_at, length-append}
 use Rattle.mx_stamps.proofs.Lists.{append_nil, length_set, length_each_below}
 use Rattle.mx_nodelaws.specs.World.{sent_by}
 use Rattle.mx_nodelaws.specs.Core.{Core}
@@ -15,59 +14,24 @@ use Rattle.mx_member.specs.Steps.{start_of}
 use Rattle.mx_network.specs.Step.{ClusterState, step_of, at_part, at_member, part_of, grown, answer_of, IsFaultOf, NamesNoNode}
 use Rattle.mx_events.specs.declared.event.Event.{Event}
 use Rattle.mx_events.specs.declared.event.Event.TheVariants as event
-use Rattle.mx_network.specs.declared.outcome.Outcome.{Outcome}
+use Rattle.mx_traces.specs.declared.outcome.Outcome.{Outcome}
 use Rattle.mx_network.specs.declared.faults.StepFault.{StepFault}
 use Rattle.mx_network.specs.declared.faults.StepFault.TheVariants as step_fault
 use Rattle.mx_plan.specs.Text.{Text}
 use Rattle.mx_plan.specs.Fields.{Fields}
-use Rattle.mx_commands.specs.declared.faults.Stop.{Stop}
-use Rattle.mx_commands.specs.declared.faults.Stop.TheVariants as stop
-use Rattle.mx_commands.specs.declared.faults.Fault.{Fault}
-use Rattle.mx_commands.specs.declared.faults.Fault.TheVariants.{NoParcel}
-use Rattle.mx_commands.specs.declared.output.PutFault.{PutFault}
-use Rattle.mx_commands.specs.declared.output.PutFault.TheVariants as put_fault
+use Rattle.mx_stops.specs.declared.faults.Stop.{Stop}
+use Rattle.mx_stops.specs.declared.faults.Stop.TheVariants as stop
+use Rattle.mx_stops.specs.declared.faults.Fault.{Fault}
+use Rattle.mx_stops.specs.declared.faults.Fault.TheVariants.{NoParcel}
+use Rattle.mx_io.specs.declared.output.PutFault.{PutFault}
+use Rattle.mx_io.specs.declared.output.PutFault.TheVariants as put_fault
 use Rattle.mx_texts.specs.EventTexts.{event_line}
 use Rattle.mx_texts.specs.ParcelTexts.{parcel_lines}
+use Rattle.mx_stops.proofs.OutputLemmas.{some_keeps}
 use Rattle.mx_commands.specs.Runs.{Report, at_rest, after_texts, closing_text, whole, ends_with, event_lines, text_of, stepped, run_from, NamesNodes, AllNameNodes}
-use Rattle.mx_commands.specs.Outputs.{Held, AppendsSome, refused_after, refused_by, stop_of}
+use Rattle.mx_io.specs.Outputs.{Held, refused_by}
+use Rattle.mx_stops.specs.Outputs.{AppendsSome, refused_after, stop_of}
 use Rattle.mx_commands.specs.Ran.{Ran, StopsAt}
-
--- ---- bytes that are appended in turn
-
-pub Appends-nil : (a : Held) → Appends a a []
-Appends-nil None = tt
-Appends-nil (Some x) = sym (append-nil x)
-
-pub Appends-trans : (a b c : Held) (bs cs : List ℕ) → Appends a b bs → Appends b c cs → Appends a c (bs ++ cs)
-Appends-trans None b c bs cs p q = tt
-Appends-trans (Some x) None c bs cs p q = absurd p
-Appends-trans (Some x) (Some y) None bs cs p q = absurd q
-Appends-trans (Some x) (Some y) (Some z) bs cs p q = q ∙ ap (λ l. l ++ cs) p ∙ append_assoc x bs cs
-
-pub Appends-keeps : (a b c : Held) (bs : List ℕ) → Appends a b bs → Keeps b c → Appends a c bs
-Appends-keeps None b c bs p q = tt
-Appends-keeps (Some x) None c bs p q = absurd p
-Appends-keeps (Some x) (Some y) None bs p q = absurd q
-Appends-keeps (Some x) (Some y) (Some z) bs p q = q ∙ p
-
-pub Keeps-refl : (a : Held) → Keeps a a
-Keeps-refl None = tt
-Keeps-refl (Some x) = refl
-
--- one more text
-pub appends_more : (a b c : Held) (done : List Text) (t : Text) → Appends a b (concat done) → Appends b c t → Appends a c (concat (done ++ t ∷ []))
-appends_more a b c done t p q =
-    subst (λ (l : List ℕ). Appends a c l) (ap (λ l. concat done ++ l) (sym (append_nil t)) ∙ sym (concat-append done (t ∷ []))) (Appends-trans a b c (concat done) t p q)
-
-pub some_keeps : (a b c : Held) (texts : List Text) → AppendsSome a b texts → Keeps b c → AppendsSome a c texts
-some_keeps a b c texts p q = (p.0, Appends-keeps a b c (concat (take p.0 texts)) p.1 q)
-
--- all of them are some of them
-pub all_some : (a b : Held) (texts : List Text) → Appends a b (concat texts) → AppendsSome a b texts
-all_some a b texts p = (length texts, subst (λ (l : List Text). Appends a b (concat l)) (sym (take_all (length texts) texts (omega arith))) p)
-
-pub none_some : (a b : Held) (texts : List Text) → Keeps a b → AppendsSome a b texts
-none_some a b texts p = (0, Appends-keeps a a b [] (Appends-nil a) p)
 
 -- ---- one event
 

@@ -1,7 +1,6 @@
 -- What the words ask for, over what a source tells: the plan, and the report of a plan.
-use Rattle.std.specs.Prelude.{◌≡◌, ◌⊎◌, Bool, ℕ, List, Option, Some, None, Result, Ok, Err, codes, if◌then◌else◌, ◌==◌, ◌&&◌, IfOk, IfSome, option_map}
+use Rattle.std.specs.Prelude.{Bool, ℕ, List, Option, Some, None, Result, Ok, Err, codes, if◌then◌else◌, ◌==◌, ◌&&◌, IfSome, option_map}
 use Rattle.std.specs.List.{before_first, after_first}
-use Rattle.std.specs.Option.{option_map_or}
 use Rattle.std.specs.Str.{bytes_eq}
 use Rattle.mx_words.specs.Words.{Task, check, replay, explore}
 use Rattle.mx_ricart.specs.Step.{ricart_core}
@@ -9,23 +8,19 @@ use Rattle.mx_maekawa.specs.Step.{maekawa_core}
 use Rattle.mx_raymond.specs.Step.{raymond_core}
 use Rattle.mx_events.specs.declared.event.Event.{Event}
 use Rattle.mx_plan.specs.Text.{Text}
-use Rattle.mx_plan.specs.Fields.{Fields, IsPlan}
-use Rattle.mx_plan.specs.Plans.{IsOutcome, draft_at}
+use Rattle.mx_plan.specs.Fields.{Fields}
 use Rattle.mx_plan.specs.Events.{events_at}
 use Rattle.mx_plan.specs.declared.faults.PlanFault.{PlanFault}
-use Rattle.mx_plan.specs.declared.faults.PlanFault.TheVariants as plan_fault
 use Rattle.mx_plan.specs.declared.shape.Shape.{Shape}
 use Rattle.mx_plan.specs.declared.shape.Shape.TheVariants.{Ricart, Maekawa, Raymond}
 use Rattle.mx_texts.specs.LetterTexts.{ricart_text, maekawa_text, raymond_text}
 use Rattle.mx_texts.specs.PlanTexts.{plan_text}
-use Rattle.mx_commands.specs.declared.faults.Fault.{Fault}
-use Rattle.mx_commands.specs.declared.faults.Fault.TheVariants.{CannotRead, BadText}
-use Rattle.mx_commands.specs.declared.faults.Named.TheVariants.{Plan, Events}
-use Rattle.mx_commands.specs.declared.faults.Stop.{Stop}
-use Rattle.mx_commands.specs.declared.faults.Stop.TheVariants as stop
+use Rattle.mx_stops.specs.declared.faults.Fault.TheVariants.{CannotRead}
+use Rattle.mx_stops.specs.declared.faults.Named.TheVariants.{Plan, Events}
+use Rattle.mx_stops.specs.Reading.{fault_of, IsRead}
 use Rattle.mx_commands.specs.Explored.{explored_text}
 use Rattle.mx_commands.specs.Runs.{Report, at_rest, ends_with, run_from, whole}
-use Rattle.mx_commands.specs.Told.{Telling}
+use Rattle.mx_io.specs.Told.{Telling}
 
 -- ---- a replay
 
@@ -34,11 +29,6 @@ abbrev pub run_by : Fields → Shape → List Event → Report
 run_by p (Ricart count) = run_from ricart_core ricart_text p 0 (at_rest ricart_core p count)
 run_by p (Maekawa family) = run_from maekawa_core maekawa_text p 0 (at_rest maekawa_core p family)
 run_by p (Raymond tree) = run_from raymond_core (λ _. raymond_text) p 0 (at_rest raymond_core p tree)
-
--- why a text is refused. That memory ran out is no reason: nothing is refused for it
-abbrev pub fault_of : PlanFault → Option Fault
-fault_of plan_fault.Memory = None
-fault_of fault = Some (BadText fault)
 
 -- go on with what was read
 abbrev pub where_read : {T : Type 0} → Result T PlanFault → (T → Report) → Report
@@ -94,11 +84,6 @@ names_in (explore name seed steps) = (name, name)
 
 -- ---- what comes of a plan
 
--- an outcome of the bytes of a plan by the rules of plans; where it is a plan, that keeps what every plan keeps
-pub record IsRead (bytes : List ℕ) (planned : Result Fields PlanFault) : Type 0 where
-  pub outcome : IsOutcome (draft_at bytes) planned
-  pub valid : IfOk planned IsPlan
-
 -- a plan that is refused decides
 abbrev pub report_of : (Fields → Option Report) → Result Fields PlanFault → Option Report
 report_of report (Ok p) = report p
@@ -113,15 +98,3 @@ HoldsOfPlan report (Some bytes) P =
 
 abbrev pub HoldsOfReport : Job → (Report → Type 0) → Type 0
 HoldsOfReport job = HoldsOfPlan job.report job.plan
-
--- why a run stops at a text that is refused
-abbrev pub refusal_of : PlanFault → Stop
-refusal_of fault = option_map_or stop.Fault (fault_of fault) stop.Memory
-
--- a plan was read, or why it was not
-abbrev pub Reads : Telling → Result Fields Stop → Type 0
-Reads None (Ok p) = ⊥
-Reads None (Err end) = (end ≡ stop.Fault (CannotRead Plan)) ⊎ (end ≡ stop.Memory)
-Reads (Some bytes) (Ok p) = IsRead bytes (Ok p)
-Reads (Some bytes) (Err end) =
-    (end ≡ stop.Memory) ⊎ ((fault : PlanFault) × IsRead bytes (Err fault) × (end ≡ refusal_of fault))

@@ -1,39 +1,24 @@
 -- What a command leaves in the two outputs, and with which status.
-use Rattle.std.specs.Prelude.{◌≡◌, ◌⊎◌, ℕ, [], Bool, false, Option, Some, None, ⊤, Result, Ok, Err, Vec, IfSome}
+use Rattle.std.specs.Prelude.{◌≡◌, ◌⊎◌, ℕ, [], Bool, false, Option, Some, None, ⊤, Result, Ok, Err, IfSome}
 use Rattle.std.specs.Io.KnownBytes.{Appends, Keeps}
 use Rattle.std.specs.List.{concat}
-use Rattle.std.specs.declared.alloc.Global.{Global}
 use Rattle.mx_words.specs.Words.{Task}
 use Rattle.mx_network.specs.declared.faults.StepFault.{StepFault}
 use Rattle.mx_network.specs.declared.faults.StepFault.TheVariants as step_fault
 use Rattle.mx_plan.specs.Text.{Text}
 use Rattle.mx_explorer.specs.declared.verdict.Verdict.{Verdict}
 use Rattle.mx_explorer.specs.declared.verdict.Verdict.TheVariants.{Sound, Broken}
-use Rattle.mx_commands.specs.declared.faults.Fault.{Fault}
-use Rattle.mx_commands.specs.declared.faults.Fault.TheVariants.{CannotRead, NoParcel}
-use Rattle.mx_commands.specs.declared.faults.Named.{Named}
-use Rattle.mx_commands.specs.declared.faults.Stop.{Stop}
-use Rattle.mx_commands.specs.declared.faults.Stop.TheVariants as stop
-use Rattle.mx_commands.specs.Told.{Telling}
-use Rattle.mx_commands.specs.Outputs.{Held, AppendsSome}
-use Rattle.mx_commands.specs.FaultLines.{fault_line, memory_line}
+use Rattle.mx_stops.specs.declared.faults.Fault.{Fault}
+use Rattle.mx_stops.specs.declared.faults.Fault.TheVariants.{NoParcel}
+use Rattle.mx_stops.specs.declared.faults.Stop.{Stop}
+use Rattle.mx_stops.specs.declared.faults.Stop.TheVariants as stop
+use Rattle.mx_io.specs.Told.{Telling}
+use Rattle.mx_io.specs.Outputs.{Held}
+use Rattle.mx_stops.specs.Outputs.{AppendsSome}
+use Rattle.mx_stops.specs.FaultLines.{fault_line}
+use Rattle.mx_stops.specs.Told.{Seen, MayTell}
 use Rattle.mx_commands.specs.Runs.{Report}
 use Rattle.mx_commands.specs.Jobs.{Job, HoldsOfReport, job_of, names_in}
-
--- what is seen of the outputs: what each holds; whether standard output has refused something, and whether it
--- keeps something back
-pub record Seen : Type 0 where
-  pub out : Held
-  pub err : Held
-  pub refused : Bool
-  pub kept_back : Bool
-
-abbrev pub seen : Held → Held → Bool → Bool → Seen
-seen out err refused kept_back = record { out = out; err = err; refused = refused; kept_back = kept_back }
-
--- memory ran out: standard error got that line, or nothing
-abbrev pub MayTell : Held → Held → Type 0
-MayTell old new = Keeps old new ⊎ Appends old new memory_line
 
 -- ---- a command on a plan
 
@@ -92,27 +77,7 @@ verdict_status (Broken k clause) = 4
 abbrev pub IsRunStatus : ℕ → Type 0
 IsRunStatus status = (status ≡ 0) ⊎ (status ≡ 1) ⊎ (status ≡ 5)
 
--- ---- help, and words that are no command
-
--- what is shown goes to standard output, and is passed on; to standard error goes nothing, or that memory ran out
-abbrev pub Helps : Bool → Seen → Seen → ℕ → Type 0
-Helps takes_all old new status =
-    ((status ≡ 0) × Keeps old.err new.err × (new.kept_back ≡ false))
-    ⊎ ((status ≡ 1) × (takes_all ≡ false) × Keeps old.err new.err)
-    ⊎ ((status ≡ 5) × MayTell old.err new.err × (new.refused ≡ old.refused))
-
--- a fault of the command line goes to standard error, and nothing to standard output
-abbrev pub Scolds : Seen → Seen → ℕ → Type 0
-Scolds old new status =
-    Keeps old.out new.out × ((status ≡ 2) ⊎ ((status ≡ 5) × MayTell old.err new.err))
-
 -- ---- on the way
-
--- the line of a fault was written, or memory ran out, or the output refused
-abbrev pub TellsFault : Bool → Text → Held → Held → ℕ → Type 0
-TellsFault takes_all line err err' status =
-    ((status ≡ 1) × Appends err err' line) ⊎ ((status ≡ 5) × MayTell err err')
-    ⊎ ((status ≡ 1) × (takes_all ≡ false) × Keeps err err')
 
 -- the texts of a report were written, and the run ended as the report does, or earlier
 abbrev pub Ran : Bool → Held → Held → Report → Result ℕ Stop → Type 0
@@ -139,10 +104,3 @@ RanOf takes_all old new told task result = IfSome (job_of told task) (λ job. Ra
 -- an event did not happen: there is no such parcel, or memory ran out
 abbrev pub StopsAt : {G : Type 0} → ℕ → Result G StepFault → Stop → Type 0
 StopsAt k wanted end = (end ≡ stop.Memory) ⊎ ((end ≡ stop.Fault (NoParcel k)) × (wanted ≡ Err step_fault.NoParcel))
-
--- the bytes that a source tells of a name
-abbrev pub Fetches : Named → Telling → Result (Vec ℕ Global) Stop → Type 0
-Fetches named (Some bytes) (Ok v) = v.items ≡ bytes
-Fetches named None (Ok v) = ⊥
-Fetches named (Some bytes) (Err fault) = fault ≡ stop.Memory
-Fetches named None (Err fault) = (fault ≡ stop.Fault (CannotRead named)) ⊎ (fault ≡ stop.Memory)

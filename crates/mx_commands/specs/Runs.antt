@@ -7,11 +7,11 @@ use Rattle.mx_network.specs.Step.{ClusterState, step_of}
 use Rattle.mx_events.specs.declared.event.Event.{Event}
 use Rattle.mx_events.specs.declared.event.Event.TheVariants.{Ask, Enter, Read, Write, Leave, Cancel, Tick, Want, Settle, Restart, Deliver}
 use Rattle.mx_network.specs.declared.faults.StepFault.{StepFault}
-use Rattle.mx_network.specs.declared.outcome.Entry.{Entry}
+use Rattle.mx_traces.specs.declared.outcome.Entry.{Entry}
 use Rattle.mx_plan.specs.Text.{Text}
 use Rattle.mx_plan.specs.Fields.{Fields}
-use Rattle.mx_commands.specs.declared.faults.Fault.{Fault}
-use Rattle.mx_commands.specs.declared.faults.Fault.TheVariants.{NoParcel}
+use Rattle.mx_stops.specs.declared.faults.Fault.{Fault}
+use Rattle.mx_stops.specs.declared.faults.Fault.TheVariants.{NoParcel}
 use Rattle.mx_texts.specs.EventTexts.{event_line}
 use Rattle.mx_texts.specs.Lines.{texts_from}
 use Rattle.mx_texts.specs.ParcelTexts.{parcel_lines}
@@ -79,7 +79,7 @@ module _ {H S M : Type 0} (core : Core H S M) (letter_text : Fields → M → Te
 
   -- a line for each node, and the verdict, which is sound: no cluster's trace is anything else
   abbrev pub closing_text : ClusterState S M → Text
-  closing_text g = node_lines core p g ++ verdict_line Sound
+  closing_text g = node_lines core p g.members ++ verdict_line Sound
 
   -- the events from the k-th on, from a state, and then the closing lines
   unfoldable pub run_from : ℕ → ClusterState S M → List Event → Report

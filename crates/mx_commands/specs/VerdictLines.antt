@@ -4,8 +4,7 @@ use Rattle.mx_explorer.specs.declared.verdict.Clause.{Clause}
 use Rattle.mx_explorer.specs.declared.verdict.Clause.TheVariants.{Overlap, Number, Read}
 use Rattle.mx_explorer.specs.declared.verdict.Verdict.{Verdict}
 use Rattle.mx_explorer.specs.declared.verdict.Verdict.TheVariants.{Sound, Broken}
-use Rattle.mx_plan.specs.Text.{Text}
-use Rattle.mx_texts.specs.Lines.{line_feed}
+use Rattle.mx_plan.specs.Text.{Text, line_feed}
 
 abbrev pub clause_text : Clause → Text
 clause_text Overlap = codes "overlap"

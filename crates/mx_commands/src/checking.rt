@@ -3,15 +3,13 @@
 ghost use Rattle.std.specs.Prelude.{◌≡◌, IfOk};
 ghost use Rattle.mx_words.specs.Words as task;
 ghost use Rattle.mx_texts.specs.PlanTexts.{plan_text};
-ghost use Rattle.mx_commands.specs.Outputs.{refused_after};
+ghost use Rattle.mx_stops.specs.Outputs.{refused_after};
 ghost use Rattle.mx_commands.specs.Runs.{whole};
 ghost use Rattle.mx_commands.specs.Ran.{Ran, RanOf};
 
-use crate::faults::Stop;
-use crate::output::Output;
-use crate::planning::fetch_plan;
-use crate::source::Source;
+use mx_io::{Output, Source};
 use mx_plan::Plan;
+use mx_stops::{Stop, fetch_plan};
 use mx_texts::add_plan;
 use std::alloc::Global;
 

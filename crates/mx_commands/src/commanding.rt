@@ -1,18 +1,17 @@
 //! The command: from words, named bytes and two outputs to a status.
 
-ghost use Rattle.std.specs.Prelude.{◌≡◌, ◌↔◌, ◌&&◌, Err, IsSome, IsTrue, IfSome, IfOk};
+ghost use Rattle.std.specs.Prelude.{◌≡◌, ◌&&◌, Err, IsSome, IfSome, IfOk};
 ghost use Rattle.mx_words.specs.Words.{texts_of, names_of, task_asked, task_of, AreWrong, AskHelp, mx_app};
-ghost use Rattle.mx_commands.specs.Outputs.{IsPassedOn, refused_after};
+ghost use Rattle.mx_stops.specs.Outputs.{IsPassedOn, refused_after};
 ghost use Rattle.mx_commands.specs.Jobs.{names_in};
-ghost use Rattle.mx_commands.specs.Ran.{RanOf, Runs, IsRunStatus, Helps, Scolds, seen};
+ghost use Rattle.mx_commands.specs.Ran.{RanOf, Runs, IsRunStatus};
+ghost use Rattle.mx_stops.specs.Told.{Helps, Scolds, seen};
 
 use crate::checking::check;
 use crate::exploring::explore;
-use crate::faults::Stop;
-use crate::output::Output;
 use crate::replaying::replay;
-use crate::source::Source;
-use crate::telling::{refuse, tell, tell_memory};
+use mx_io::{Output, Source};
+use mx_stops::{Stop, is_refused, refuse, tell, tell_memory};
 use mx_words::{Names, Request, asked};
 use std::alloc::Global;
 
@@ -105,13 +104,6 @@ fn carry_out_and_flush<S: Source, O: Output>(
     }
     out.flush()?;
     ended
-}
-
-/// Whether an output has refused.
-pub(crate) fn is_refused(ended: &Result<u8, Stop>) -> bool
-    ensures { IsTrue result ↔ (ended.now ≡ Err Stop.Writer) }
-{
-    matches!(ended, Err(Stop::Writer))
 }
 
 /// Carries out what was asked for, and answers the status. What the output keeps back is not passed on.

@@ -1,14 +1,13 @@
 //! Reading a plan and its events, for commands that do more with them than a replay.
 
 ghost use Rattle.std.specs.Prelude.{◌≡◌, Bool};
-ghost use Rattle.mx_commands.specs.Outputs.{refused_after};
+ghost use Rattle.mx_stops.specs.Outputs.{refused_after};
 
-use crate::faults::{Named, Stop};
-use crate::planning::{fetch, fetch_plan, plan_in};
 use crate::replaying::{are_dashes, split_line};
-use crate::source::Source;
+use mx_io::Source;
 use mx_network::Event;
 use mx_plan::{Plan, read_events};
+use mx_stops::{Named, Stop, fetch, fetch_plan, plan_in};
 use mx_words::Names;
 use std::alloc::Global;
 

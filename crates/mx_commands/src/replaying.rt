@@ -4,22 +4,20 @@ ghost use Rattle.std.specs.Prelude.{◌≡◌, ◌+◌, ◌<◌, ◌≤◌, ◌=
 ghost use Rattle.std.specs.List.{before_first, after_first, position_or_len};
 ghost use Rattle.mx_words.specs.Words.{names_of};
 ghost use Rattle.mx_words.specs.Words as task;
-ghost use Rattle.mx_commands.specs.Outputs.{refused_after};
+ghost use Rattle.mx_stops.specs.Outputs.{refused_after};
 ghost use Rattle.mx_commands.specs.Jobs.{on_events, report_of_events, is_dash};
 ghost use Rattle.mx_commands.specs.Jobs as job;
 ghost use Rattle.mx_commands.specs.Ran.{Ran, RanOf, RanOn};
 ghost use Rattle.mx_commands.specs.Runs.{AllNameNodes};
 
-use crate::faults::{Named, Stop};
-use crate::output::Output;
-use crate::planning::{fetch, fetch_plan, plan_in};
 use crate::running::{run, start};
-use crate::source::Source;
+use mx_io::{Output, Source};
 use mx_maekawa::Maekawa;
 use mx_network::Event;
 use mx_plan::{Plan, Shape, read_events};
 use mx_raymond::Raymond;
 use mx_ricart::Ricart;
+use mx_stops::{Named, Stop, fetch, fetch_plan, plan_in};
 use mx_words::Names;
 use std::alloc::Global;
 

@@ -7,13 +7,13 @@ use Rattle.mx_events.specs.declared.event.Event.{Event}
 use Rattle.mx_plan.specs.Text.{Text}
 use Rattle.mx_plan.specs.Fields.{Fields}
 use Rattle.mx_plan.specs.Events.{events_at}
-use Rattle.mx_commands.specs.declared.faults.Named.TheVariants.{Plan}
+use Rattle.mx_stops.specs.declared.faults.Named.TheVariants.{Plan}
 use Rattle.mx_commands.specs.Explored.{schedule_of}
-use Rattle.mx_commands.specs.Jobs.{Reads, is_dash}
-use Rattle.mx_commands.specs.Outputs.{Held}
-use Rattle.mx_commands.specs.Ran.{Fetches}
-use Rattle.mx_commands.specs.Told.{Telling}
-use Rattle.mx_commands.proofs.RunLemmas.{Appends-keeps}
+use Rattle.mx_stops.specs.Reading.{Reads, Fetches}
+use Rattle.mx_commands.specs.Jobs.{is_dash}
+use Rattle.mx_io.specs.Outputs.{Held}
+use Rattle.mx_io.specs.Told.{Telling}
+use Rattle.mx_stops.proofs.OutputLemmas.{Appends-keeps}
 use Rattle.mx_tallies.specs.Listed.{AreEventsOf, PrintsCountsOf, PrintsListed, PrintsSplit, PrintsTold}
 use Rattle.mx_tallies.specs.declared.running.Course.{Course}
 use Rattle.mx_tallies.specs.declared.running.Course.TheVariants.{Drawn}

@@ -2,7 +2,8 @@
 
 ghost use Rattle.std.specs.Prelude.{◌≡◌, IsSome, IfSome, IfOk};
 ghost use Rattle.mx_words.specs.Words.{names_of, texts_of, AreWrong, AskHelp};
-ghost use Rattle.mx_commands.specs.Ran.{Helps, IsRunStatus, Scolds, seen};
+ghost use Rattle.mx_stops.specs.Told.{Helps, Scolds, seen};
+ghost use Rattle.mx_commands.specs.Ran.{IsRunStatus};
 ghost use Rattle.mx_count.specs.CountWords.{order_asked, order_of, count_line};
 ghost use Rattle.mx_count.specs.CountWords as wanted;
 ghost use Rattle.mx_count.specs.Printed.{PrintsCounts};

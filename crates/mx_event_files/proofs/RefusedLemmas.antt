@@ -6,11 +6,12 @@ use Rattle.clap.specs.Faults.{fault_of}
 use Rattle.clap.specs.Kinds.{HasKind}
 use Rattle.clap.specs.declared.error.Error.{Error}
 use Rattle.clap.specs.declared.error.kind.ErrorKind.TheVariants.{OutOfMemory}
-use Rattle.mx_commands.specs.declared.faults.Stop.TheVariants as stop
+use Rattle.mx_stops.specs.declared.faults.Stop.TheVariants as stop
 use Rattle.mx_commands.specs.Jobs.{Job}
-use Rattle.mx_commands.specs.Outputs.{Held}
-use Rattle.mx_commands.specs.Ran.{IsRunStatus, MayTell, RanOn, Seen}
-use Rattle.mx_commands.specs.Told.{Telling}
+use Rattle.mx_io.specs.Outputs.{Held}
+use Rattle.mx_commands.specs.Ran.{IsRunStatus, RanOn}
+use Rattle.mx_stops.specs.Told.{MayTell, Seen}
+use Rattle.mx_io.specs.Told.{Telling}
 use Rattle.mx_scripts.specs.Errands.{Draws, HasDone, draw_job}
 use Rattle.mx_scripts.specs.Tasks.{Task, draw, walk, script}
 use Rattle.mx_event_files.specs.Words.{errand_asked, file_line}

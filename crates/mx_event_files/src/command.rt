@@ -2,7 +2,8 @@
 
 ghost use Rattle.std.specs.Prelude.{◌≡◌, false, IsSome, IfSome};
 ghost use Rattle.mx_words.specs.Words.{texts_of, AreWrong, AskHelp};
-ghost use Rattle.mx_commands.specs.Ran.{Helps, IsRunStatus, Scolds, seen};
+ghost use Rattle.mx_stops.specs.Told.{Helps, Scolds, seen};
+ghost use Rattle.mx_commands.specs.Ran.{IsRunStatus};
 ghost use Rattle.mx_scripts.specs.Errands.{Draws, HasDone};
 ghost use Rattle.mx_event_files.specs.Words.{errand_asked, errand_of, file_line};
 

@@ -9,19 +9,21 @@ use Rattle.clap.specs.declared.error.Error.{Error}
 use Rattle.clap.specs.declared.error.kind.ErrorKind.TheVariants.{OutOfMemory}
 use Rattle.mx_words.specs.Words.{Task}
 use Rattle.mx_plan.specs.Text.{Text}
-use Rattle.mx_commands.specs.declared.faults.Fault.{Fault}
-use Rattle.mx_commands.specs.declared.faults.Stop.{Stop}
-use Rattle.mx_commands.specs.declared.faults.Stop.TheVariants as stop
-use Rattle.mx_commands.specs.Told.{Telling}
-use Rattle.mx_commands.specs.declared.output.PutFault.{PutFault}
-use Rattle.mx_commands.specs.declared.output.PutFault.TheVariants as put_fault
-use Rattle.mx_commands.specs.Outputs.{Held, stop_of}
+use Rattle.mx_stops.specs.declared.faults.Fault.{Fault}
+use Rattle.mx_stops.specs.declared.faults.Stop.{Stop}
+use Rattle.mx_stops.specs.declared.faults.Stop.TheVariants as stop
+use Rattle.mx_io.specs.Told.{Telling}
+use Rattle.mx_io.specs.declared.output.PutFault.{PutFault}
+use Rattle.mx_io.specs.declared.output.PutFault.TheVariants as put_fault
+use Rattle.mx_io.specs.Outputs.{Held}
+use Rattle.mx_stops.specs.Outputs.{stop_of}
 use Rattle.mx_commands.specs.Runs.{Report}
 use Rattle.mx_commands.specs.Jobs.{HoldsOfReport, Job, job_of, names_in}
-use Rattle.mx_commands.specs.Ran.{EndsEarly, IsRunStatus, MayTell, Ran, RanOf, Seen, end_text, status_of}
-use Rattle.mx_commands.specs.Closed.{Closes, FallsShort}
+use Rattle.mx_commands.specs.Ran.{EndsEarly, IsRunStatus, Ran, RanOf, end_text, status_of}
+use Rattle.mx_stops.specs.Told.{MayTell, Seen}
+use Rattle.mx_stops.specs.Closed.{Closes, FallsShort}
 use Rattle.mx_commands.proofs.JobLemmas.{of_jobs}
-use Rattle.mx_commands.proofs.RunLemmas.{Appends-keeps, Appends-nil}
+use Rattle.mx_stops.proofs.OutputLemmas.{Appends-keeps, Appends-nil}
 use Rattle.mx_explain.specs.Asked.{explain_line, task_asked}
 use Rattle.mx_explain.specs.Explained.{EndsAs, Explains, FailsToPrint}
 use Rattle.mx_explain.proofs.AskedLemmas.{no_task_among}

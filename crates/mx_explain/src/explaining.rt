@@ -2,7 +2,8 @@
 
 ghost use Rattle.std.specs.Prelude.{◌≡◌, ◌&&◌, IsSome, IfSome, IfOk, IfErr, None, true, false};
 ghost use Rattle.mx_words.specs.Words.{AreWrong, AskHelp, task_of, texts_of};
-ghost use Rattle.mx_commands.specs.Ran.{Helps, IsRunStatus, RanOf, Scolds, seen};
+ghost use Rattle.mx_stops.specs.Told.{Helps, Scolds, seen};
+ghost use Rattle.mx_commands.specs.Ran.{IsRunStatus, RanOf};
 ghost use Rattle.mx_explain.specs.Asked.{explain_line, task_asked};
 ghost use Rattle.mx_explain.specs.Explained.{Explains, FailsToPrint};
 

@@ -3,8 +3,8 @@ use Rattle.std.specs.Prelude.{ℕ, suc, ◌≡◌, List, [], ◌∷◌, take}
 use Rattle.mx_registers.specs.Registers.{applied}
 use Rattle.mx_member.specs.Sections.{Mark, Came, Got, Wrote, Went, Woke, Section, after_mark, writes_in}
 use Rattle.mx_member.specs.Serial.{IsInNewest}
-use Rattle.mx_network.specs.declared.outcome.Entry.{Entry}
-use Rattle.mx_network.specs.Trace.{IsExclusive, IsNumbered, marks}
+use Rattle.mx_traces.specs.declared.outcome.Entry.{Entry}
+use Rattle.mx_traces.specs.Trace.{IsExclusive, IsNumbered, marks}
 use Rattle.mx_explorer.specs.declared.verdict.Clause.{Clause}
 use Rattle.mx_explorer.specs.declared.verdict.Clause.TheVariants.{Overlap, Number, Read}
 

@@ -5,9 +5,9 @@ ghost use Rattle.mx_stamps.specs.Lists.{IsIn};
 ghost use Rattle.mx_explorer.specs.Drawn.{IsDrawn, after_drawn, after_words, arguments, drawn, drawn_list, event_by, word};
 ghost use Rattle.mx_explorer.specs.Weather.{generator_of};
 
-use mx_network::Event;
 use mx_plan::Plan;
 use mx_stamps::NodeId;
+use mx_traces::Event;
 use rand_core::SeedableRng;
 use rand_core::utils::NextWord;
 use rand_pcg::Pcg32;

@@ -2,13 +2,13 @@
 
 ghost use Rattle.std.specs.Prelude.{◌≡◌, ◌∷◌, [], None, Option};
 ghost use Rattle.mx_member.specs.Sections.{Came, Got, Wrote, Went, Woke};
-ghost use Rattle.mx_network.specs.Trace.{mark_of};
+ghost use Rattle.mx_traces.specs.Trace.{mark_of};
 ghost use Rattle.mx_explorer.specs.Ledger.{IsLedgerOf, Takes, is_node};
 
 use crate::verdict::Clause;
 use mx_journal::Receipt;
-use mx_network::{Entry, Event, Outcome};
 use mx_stamps::NodeId;
+use mx_traces::{Entry, Event, Outcome};
 
 /// How many registers an event can name.
 const REGISTERS: usize = 256;

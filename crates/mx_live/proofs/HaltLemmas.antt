@@ -6,11 +6,12 @@ use Rattle.mx_journal.specs.declared.receipts.Receipt.{Receipt}
 use Rattle.mx_journal.specs.Settled.{JournalState}
 use Rattle.mx_plan.specs.Fields.{Fields}
 use Rattle.mx_words.specs.LiveWords.{Order}
-use Rattle.mx_commands.specs.declared.faults.Stop.{Stop}
-use Rattle.mx_commands.specs.declared.faults.Stop.TheVariants as stop
-use Rattle.mx_commands.specs.Jobs.{Reads}
-use Rattle.mx_commands.specs.Outputs.{Held, refused_after}
-use Rattle.mx_commands.specs.Told.{Telling}
+use Rattle.mx_stops.specs.declared.faults.Stop.{Stop}
+use Rattle.mx_stops.specs.declared.faults.Stop.TheVariants as stop
+use Rattle.mx_stops.specs.Reading.{Reads}
+use Rattle.mx_io.specs.Outputs.{Held}
+use Rattle.mx_stops.specs.Outputs.{refused_after}
+use Rattle.mx_io.specs.Told.{Telling}
 use Rattle.mx_threads.specs.declared.halts.Halt.{Halt}
 use Rattle.mx_threads.specs.Halts.{Fails, RanInVain, halt_of_stop}
 use Rattle.mx_threads.specs.Shown.{live_text}

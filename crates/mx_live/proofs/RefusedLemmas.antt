@@ -8,8 +8,8 @@ use Rattle.clap.specs.declared.error.Error.{Error}
 use Rattle.clap.specs.declared.error.kind.ErrorKind.TheVariants.{OutOfMemory}
 use Rattle.mx_words.specs.LiveWords.{Order, live_line, order_asked}
 use Rattle.mx_words.proofs.LiveWordLemmas.{no_order_among}
-use Rattle.mx_commands.specs.Ran.{MayTell, Seen}
-use Rattle.mx_commands.specs.Told.{Telling}
+use Rattle.mx_stops.specs.Told.{MayTell, Seen}
+use Rattle.mx_io.specs.Told.{Telling}
 use Rattle.mx_live.specs.Lives.{Lives}
 
 module _ (t : Bool) (old new : Seen) (status : ℕ) (e : Error) (words : List Text) (kinds : HasKind (fault_of live_line words) e)

@@ -5,10 +5,10 @@ use Rattle.mx_journal.specs.declared.receipts.Receipt.{Receipt}
 use Rattle.mx_journal.specs.Settled.{JournalState}
 use Rattle.mx_plan.specs.Fields.{Fields}
 use Rattle.mx_words.specs.LiveWords.{Order}
-use Rattle.mx_commands.specs.declared.faults.Stop.TheVariants as stop
-use Rattle.mx_commands.specs.Told.{Telling}
-use Rattle.mx_commands.specs.Outputs.{Held}
-use Rattle.mx_commands.specs.Jobs.{Reads}
+use Rattle.mx_stops.specs.declared.faults.Stop.TheVariants as stop
+use Rattle.mx_io.specs.Told.{Telling}
+use Rattle.mx_io.specs.Outputs.{Held}
+use Rattle.mx_stops.specs.Reading.{Reads}
 use Rattle.mx_threads.specs.declared.halts.Halt.{Halt}
 use Rattle.mx_threads.specs.declared.halts.Halt.TheVariants.{Plan, TooFewSections, TurnsSpent, GateShut, Writer, Memory}
 use Rattle.mx_threads.specs.Halts.{halt_status}

@@ -14,11 +14,11 @@ use Rattle.mx_member.proofs.CorePart.{get_map}
 use Rattle.mx_member.proofs.Histories.{alternate_if_fit, numbered_if_fit}
 use Rattle.mx_member.proofs.Inside.{in_section, nobody_in, section_in}
 use Rattle.mx_member.proofs.SectionLists.{journal_ascends}
-use Rattle.mx_network.specs.declared.outcome.Entry.{Entry}
+use Rattle.mx_traces.specs.declared.outcome.Entry.{Entry}
 use Rattle.mx_network.specs.Kept.{IsKept}
-use Rattle.mx_network.specs.Sections.{IsSerial, ShowsInOrder, journal_of, sections}
+use Rattle.mx_traces.specs.Sections.{IsSerial, ShowsInOrder, journal_of, sections}
 use Rattle.mx_network.specs.Step.{ClusterState, IsInsideAt, IsInsideWith}
-use Rattle.mx_network.specs.Trace.{IsExclusive, IsNumbered, marks}
+use Rattle.mx_traces.specs.Trace.{IsExclusive, IsNumbered, marks}
 use Rattle.mx_network.proofs.KeptSound.{kept_sound}
 
 pub exclusive : (trace : List Entry) → IsSerial trace → IsExclusive trace

@@ -16,13 +16,13 @@ use Rattle.mx_member.proofs.ActsKept.{doable}
 use Rattle.mx_member.proofs.Histories.{AllFit-append, after_marks-append}
 use Rattle.mx_member.proofs.Owners.{owners_at_start, owners_kept}
 use Rattle.mx_events.specs.declared.event.Event.{Event}
-use Rattle.mx_network.specs.declared.outcome.Entry.{Entry}
+use Rattle.mx_traces.specs.declared.outcome.Entry.{Entry}
 use Rattle.mx_network.specs.declared.faults.StepFault.{StepFault}
 use Rattle.mx_network.specs.declared.faults.StepFault.TheVariants.{NoNode}
 use Rattle.mx_network.specs.Kept.{IsKept}
-use Rattle.mx_network.specs.Sections.{sections}
+use Rattle.mx_traces.specs.Sections.{sections}
 use Rattle.mx_network.specs.Step.{ClusterState, answer_of, part_of, grown, at_member, at_part, step_of, IsDoableAt, RunsTo}
-use Rattle.mx_network.specs.Trace.{marks}
+use Rattle.mx_traces.specs.Trace.{marks}
 use Rattle.mx_network.proofs.Marks.{marks-snoc}
 use Rattle.mx_network.proofs.KeptSound.{kept_sound}
 use Rattle.mx_network.proofs.EventParts.{arrives, err_no_ok, same_Ok, tells}

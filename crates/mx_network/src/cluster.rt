@@ -12,12 +12,11 @@ ghost use Rattle.mx_member.specs.Steps.{start_of};
 ghost use Rattle.mx_member.specs.World.{IsMember};
 ghost use Rattle.mx_member.specs.Serial.{AllClosed, IsInSection, ReadSerially};
 ghost use Rattle.mx_network.specs.Merged.{IsAboveAll, IsBelowEach, IsOfAll};
-ghost use Rattle.mx_network.specs.Sections.{IsSerial, ShowsInOrder, journal_of, sections};
+ghost use Rattle.mx_traces.specs.Sections.{IsSerial, ShowsInOrder, journal_of, sections};
 ghost use Rattle.mx_network.specs.Step.{step_of, IsInsideAt, IsInsideWith, IsFaultOf, IsSettledRead, IsUnchanged, NamesNoNode, NamesNoParcel, RunsTo};
-ghost use Rattle.mx_network.specs.Trace.{IsExclusive, IsNumbered};
+ghost use Rattle.mx_traces.specs.Trace.{IsExclusive, IsNumbered};
 
 use crate::faults::{RunFault, StepFault};
-use crate::outcome::{Cause, Entry, Outcome};
 use crate::parts::{advance, happen, start_members};
 use mx_events::Event;
 use mx_journal::Journal;
@@ -26,6 +25,7 @@ use mx_member::{Member, Parcel};
 use mx_merge::{MergeFault, merge};
 use mx_nodelaws::Exclusion;
 use mx_stamps::NodeId;
+use mx_traces::{Cause, Entry, Outcome};
 use std::alloc::{AllocError, Global};
 use std::marker::Model;
 

@@ -9,12 +9,13 @@ ghost use Rattle.mx_member.specs.Steps.{start_of};
 ghost use Rattle.mx_network.specs.Step.{act_in, act_of_delivery, cluster_state_of, delivery_of, is_leaving, part_of, step_of, DoesAct, IsDoableAt, IsFaultOf, IsOfSent, Notes, NotesAct, SendsAct};
 
 use crate::faults::StepFault;
-use crate::outcome::{Brief, Cause, Entry, Outcome, outcome_from};
+use crate::outcome::{Brief, outcome_from};
 use mx_events::Event;
 use mx_letters::{OUTBOX_ROOM, Outbox};
 use mx_member::{CloseFault, Member, Parcel};
 use mx_nodelaws::Exclusion;
 use mx_stamps::NodeId;
+use mx_traces::{Cause, Entry, Outcome};
 use std::alloc::{AllocError, Global};
 
 /// The members at rest, in order.

@@ -2,10 +2,11 @@
 use Rattle.std.specs.Prelude.{◌≡◌, ◌&&◌, ℕ, Bool, false, Option, None, Result}
 use Rattle.mx_words.specs.Words as task
 use Rattle.mx_plan.specs.Text.{Text}
-use Rattle.mx_commands.specs.declared.faults.Stop.{Stop}
-use Rattle.mx_commands.specs.Closed.{Closes}
-use Rattle.mx_commands.specs.Ran.{RanOf, Seen}
-use Rattle.mx_commands.specs.Told.{Telling}
+use Rattle.mx_stops.specs.declared.faults.Stop.{Stop}
+use Rattle.mx_stops.specs.Closed.{Closes}
+use Rattle.mx_commands.specs.Ran.{RanOf}
+use Rattle.mx_stops.specs.Told.{Seen}
+use Rattle.mx_io.specs.Told.{Telling}
 use Rattle.mx_sheets.specs.Drawn.{Draws}
 
 -- a run ends as a replay of these names does, whatever it prints

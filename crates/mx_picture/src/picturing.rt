@@ -1,8 +1,8 @@
 //! The command: from words, named bytes and two outputs to a status.
 
-ghost use Rattle.std.specs.Prelude.{◌≡◌, ◌&&◌, IfSome, false};
+ghost use Rattle.std.specs.Prelude.{IfSome};
 ghost use Rattle.mx_words.specs.Words.{names_of, texts_of, AreWrong, AskHelp};
-ghost use Rattle.mx_commands.specs.Ran.{Helps, Scolds, seen};
+ghost use Rattle.mx_stops.specs.Told.{Helps, Scolds, seen};
 ghost use Rattle.mx_picture.specs.PictureWords.{names_asked, picture_line};
 ghost use Rattle.mx_picture.specs.Pictures.{Pictures};
 

@@ -7,6 +7,9 @@ use Rattle.std.specs.Str.{bytes_eq}
 abbrev pub Text : Type 0
 Text = List ℕ
 
+abbrev pub line_feed : Text
+line_feed = 10 ∷ []
+
 -- a letter, a digit, `_` or `-`
 unfoldable pub is_name_byte : ℕ → Bool
 is_name_byte b = (nat_le 48 b && nat_le b 57) || ((nat_le 65 b && nat_le b 90)

@@ -2,10 +2,10 @@
 use Rattle.std.specs.Prelude.{List, [], ◌∷◌, ◌++◌, codes, decimal}
 use Rattle.mx_events.specs.declared.event.Event.{Event}
 use Rattle.mx_events.specs.declared.event.Event.TheVariants.{Ask, Enter, Read, Write, Leave, Cancel, Tick, Want, Settle, Restart, Deliver}
-use Rattle.mx_plan.specs.Text.{Text}
+use Rattle.mx_plan.specs.Text.{Text, line_feed}
 use Rattle.mx_plan.specs.Fields.{Fields}
 use Rattle.mx_texts.specs.EventTexts.{name_of, register_name_of}
-use Rattle.mx_texts.specs.Lines.{each_text, line_feed}
+use Rattle.mx_texts.specs.Lines.{each_text}
 
 abbrev pub quoted : Text → Text
 quoted word = codes "\"" ++ word ++ codes "\""

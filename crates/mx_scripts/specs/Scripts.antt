@@ -2,8 +2,7 @@
 use Rattle.std.specs.Prelude.{ℕ, ◌++◌, codes, decimal, ⊤}
 use Rattle.mx_network.specs.declared.faults.StepFault.{StepFault}
 use Rattle.mx_network.specs.declared.faults.StepFault.TheVariants as step_fault
-use Rattle.mx_plan.specs.Text.{Text}
-use Rattle.mx_texts.specs.Lines.{line_feed}
+use Rattle.mx_plan.specs.Text.{Text, line_feed}
 use Rattle.mx_explorer.specs.Drawn.{IsDrawn}
 use Rattle.mx_scripts.specs.declared.lines.Order.{Order}
 use Rattle.mx_scripts.specs.declared.lines.Order.TheVariants.{Happens, Arrives, AllArrive, IsLost, ArrivesAgain}

@@ -4,7 +4,7 @@ ghost use Rattle.std.specs.Prelude.{◌≡◌, ◌≤◌, ◌^◌, ◌++◌, Ok,
 ghost use Rattle.mx_plan.specs.Events.{events_at};
 ghost use Rattle.mx_plan.specs.Fields.{IsPlan};
 ghost use Rattle.mx_commands.specs.Explored.{after_drawn, schedule_of};
-ghost use Rattle.mx_commands.specs.Outputs.{refused_after};
+ghost use Rattle.mx_stops.specs.Outputs.{refused_after};
 ghost use Rattle.mx_commands.specs.Ran.{Ran};
 ghost use Rattle.mx_commands.specs.Runs.{whole};
 ghost use Rattle.mx_scripts.specs.Drawn.{LeadsAs, drawn_file, parcels_in, placed_in, placed_schedule};

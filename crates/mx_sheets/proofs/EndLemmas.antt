@@ -1,5 +1,5 @@
 -- How a run that is drawn ends: as its report does.
-use Rattle.std.proofs.Common.{◌≡◌, ◌∙◌, ◌<◌, ◌++◌, ℕ, Bool, true, false, List, Some, None, Result, Ok, Err, OnOk, ap, get_or, inl, inr, length, refl, subst, sym}
+use Rattle.std.proofs.Common.{◌≡◌, ◌∙◌, ◌<◌, ◌++◌, ℕ, Bool, true, false, List, None, Result, Ok, Err, OnOk, ap, get_or, inl, inr, length, refl, subst, sym}
 use Rattle.std.specs.Prelude.{IfErr, codes, is_ok, if◌then◌else◌}
 use Rattle.std.specs.Bool.{⊤}
 use Rattle.std.specs.declared.alloc.AllocError.{AllocError}
@@ -8,19 +8,18 @@ use Rattle.mx_network.specs.Step.{ClusterState, step_of, IsFaultOf}
 use Rattle.mx_events.specs.declared.event.Event.{Event}
 use Rattle.mx_network.specs.declared.faults.StepFault.{StepFault}
 use Rattle.mx_network.specs.declared.faults.StepFault.TheVariants as step_fault
-use Rattle.mx_plan.specs.Text.{Text}
+use Rattle.mx_plan.specs.Text.{Text, line_feed}
 use Rattle.mx_plan.specs.Fields.{Fields}
 use Rattle.mx_plan.specs.declared.faults.PlanFault.{PlanFault}
-use Rattle.mx_commands.specs.declared.output.PutFault.{PutFault}
-use Rattle.mx_commands.specs.declared.output.PutFault.TheVariants as put_fault
-use Rattle.mx_commands.specs.declared.faults.Stop.{Stop}
-use Rattle.mx_commands.specs.declared.faults.Stop.TheVariants as stop
+use Rattle.mx_io.specs.declared.output.PutFault.{PutFault}
+use Rattle.mx_io.specs.declared.output.PutFault.TheVariants as put_fault
+use Rattle.mx_stops.specs.declared.faults.Stop.{Stop}
+use Rattle.mx_stops.specs.declared.faults.Stop.TheVariants as stop
 use Rattle.mx_commands.specs.Jobs.{run_by, where_read}
-use Rattle.mx_commands.specs.Outputs.{stop_of}
+use Rattle.mx_stops.specs.Outputs.{stop_of}
 use Rattle.mx_commands.specs.Ran.{Ran, StopsAt}
 use Rattle.mx_commands.specs.Runs.{Report}
 use Rattle.mx_commands.proofs.RunLemmas.{rest, rest_err}
-use Rattle.mx_texts.specs.Lines.{line_feed}
 use Rattle.mx_sheets.specs.Drawn.{IsWhole, StopsAs}
 
 -- where a step answers that there is no parcel, there is none

@@ -1,11 +1,10 @@
 -- What is printed of a picture, and why none is.
 use Rattle.std.specs.Prelude.{◌≡◌, ◌++◌, ℕ, Some, Result, Ok, Err, codes}
 use Rattle.std.specs.Io.KnownBytes.{Appends, Keeps}
-use Rattle.mx_plan.specs.Text.{Text}
-use Rattle.mx_texts.specs.Lines.{line_feed}
-use Rattle.mx_commands.specs.declared.faults.Stop.{Stop}
-use Rattle.mx_commands.specs.declared.faults.Stop.TheVariants as stop
-use Rattle.mx_commands.specs.Outputs.{Held}
+use Rattle.mx_plan.specs.Text.{Text, line_feed}
+use Rattle.mx_stops.specs.declared.faults.Stop.{Stop}
+use Rattle.mx_stops.specs.declared.faults.Stop.TheVariants as stop
+use Rattle.mx_io.specs.Outputs.{Held}
 use Rattle.mx_commands.specs.Runs.{Report}
 
 -- why a run of this report stops: by the report's fault, or since memory ran out

@@ -3,7 +3,7 @@ use Rattle.std.proofs.Common.{◌≡◌, List, Ok, refl, arith}
 use Rattle.mx_nodelaws.specs.Core.{Core}
 use Rattle.mx_quorums.specs.Family.{IsMeeting}
 use Rattle.mx_trees.specs.Tree.{IsRooted}
-use Rattle.mx_network.specs.declared.outcome.Entry.{Entry}
+use Rattle.mx_traces.specs.declared.outcome.Entry.{Entry}
 use Rattle.mx_network.specs.Step.{ClusterState}
 use Rattle.mx_ricart.specs.Step.{IsCount, ricart_core}
 use Rattle.mx_maekawa.specs.Step.{maekawa_core}

@@ -10,10 +10,10 @@ use Rattle.mx_trees.specs.Tree.{Rooted}
 use Rattle.mx_member.specs.Steps.{start_of}
 use Rattle.mx_events.specs.declared.event.Event.{Event}
 use Rattle.mx_events.specs.declared.event.Event.TheVariants.{Ask, Enter, Write, Leave, Deliver}
-use Rattle.mx_network.specs.declared.outcome.Cause.TheVariants.{NotGranted}
-use Rattle.mx_network.specs.declared.outcome.Entry.{Entry}
-use Rattle.mx_network.specs.declared.outcome.Outcome.{Outcome}
-use Rattle.mx_network.specs.declared.outcome.Outcome.TheVariants.{Asked, Entered, Written, Left, Delivered, Refused}
+use Rattle.mx_traces.specs.declared.outcome.Cause.TheVariants.{NotGranted}
+use Rattle.mx_traces.specs.declared.outcome.Entry.{Entry}
+use Rattle.mx_traces.specs.declared.outcome.Outcome.{Outcome}
+use Rattle.mx_traces.specs.declared.outcome.Outcome.TheVariants.{Asked, Entered, Written, Left, Delivered, Refused}
 use Rattle.mx_network.specs.Step.{ClusterState, RunsTo}
 
 -- a cluster at rest with origin 0, limit 10 and one register

@@ -1,7 +1,7 @@
 //! The words of the process, and the status with which it ends.
 
 use crate::stream::Stream;
-use mx_commands::Output;
+use mx_io::Output;
 use std::alloc::{AllocError, AllocGlobal, Global};
 use std::io::{ErrorKind, Write};
 use std::rt::Env;

@@ -1,6 +1,6 @@
 //! The writers of the process.
 
-use mx_commands::{Output, PutFault};
+use mx_io::{Output, PutFault};
 use std::io;
 use std::io::{ErrorKind, Write};
 

@@ -1,7 +1,7 @@
 //! The files and the streams of the process.
 
 use crate::counted::Counted;
-use mx_commands::{Source, SourceFault};
+use mx_io::{Source, SourceFault};
 use std::alloc::Global;
 use std::io::{ErrorKind, Read};
 use std::rt::Files;

@@ -5,14 +5,14 @@ use Rattle.std.specs.List.{count_by}
 use Rattle.mx_nodelaws.specs.Core.{Core}
 use Rattle.mx_events.specs.declared.event.Event.{Event}
 use Rattle.mx_network.specs.Step.{ClusterState}
-use Rattle.mx_network.specs.declared.outcome.Entry.{Entry}
+use Rattle.mx_traces.specs.declared.outcome.Entry.{Entry}
 use Rattle.mx_explorer.specs.declared.verdict.Verdict.{Verdict}
 use Rattle.mx_explorer.specs.declared.verdict.Verdict.TheVariants.{Sound}
 use Rattle.mx_plan.specs.Text.{Text}
 use Rattle.mx_plan.specs.Fields.{Fields}
 use Rattle.mx_plan.specs.declared.shape.Shape.{Shape}
 use Rattle.mx_texts.specs.Lines.{each_text}
-use Rattle.mx_commands.specs.declared.faults.Stop.{Stop}
+use Rattle.mx_stops.specs.declared.faults.Stop.{Stop}
 use Rattle.mx_commands.specs.Explored.{is_entry}
 use Rattle.mx_commands.specs.VerdictLines.{verdict_line}
 use Rattle.mx_commands.proofs.ExploreLemmas.{with_verdict}

@@ -8,13 +8,13 @@ use Rattle.mx_events.specs.declared.event.Event.{Event}
 use Rattle.mx_plan.specs.Text.{Text}
 use Rattle.mx_plan.specs.Fields.{Fields}
 use Rattle.mx_plan.specs.Events.{events_at}
-use Rattle.mx_commands.specs.declared.faults.Named.TheVariants.{Events}
-use Rattle.mx_commands.specs.declared.faults.Stop.{Stop}
-use Rattle.mx_commands.specs.Jobs.{Reads}
-use Rattle.mx_commands.specs.Outputs.{Held}
-use Rattle.mx_commands.specs.Ran.{Fetches, Ran}
+use Rattle.mx_stops.specs.declared.faults.Named.TheVariants.{Events}
+use Rattle.mx_stops.specs.declared.faults.Stop.{Stop}
+use Rattle.mx_stops.specs.Reading.{Reads, Fetches}
+use Rattle.mx_io.specs.Outputs.{Held}
+use Rattle.mx_commands.specs.Ran.{Ran}
 use Rattle.mx_commands.specs.Runs.{whole}
-use Rattle.mx_commands.specs.Told.{Telling}
+use Rattle.mx_io.specs.Told.{Telling}
 use Rattle.mx_tallies.specs.Counted.{AddsCountsBy}
 use Rattle.mx_tallies.specs.Listed.{AreEventsOf, PrintsCountsOf, PrintsListed, PrintsSplit, PrintsTold}
 use Rattle.mx_tallies.specs.declared.running.Course.{Course}

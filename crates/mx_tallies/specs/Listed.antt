@@ -6,9 +6,9 @@ use Rattle.mx_events.specs.declared.event.Event.{Event}
 use Rattle.mx_plan.specs.Text.{Text}
 use Rattle.mx_plan.specs.Fields.{Fields}
 use Rattle.mx_plan.specs.Events.{events_at}
-use Rattle.mx_commands.specs.Jobs.{Reads}
-use Rattle.mx_commands.specs.Outputs.{Held}
-use Rattle.mx_commands.specs.Told.{Telling}
+use Rattle.mx_stops.specs.Reading.{Reads}
+use Rattle.mx_io.specs.Outputs.{Held}
+use Rattle.mx_io.specs.Told.{Telling}
 use Rattle.mx_tallies.specs.Counted.{AddsCountsBy}
 use Rattle.mx_tallies.specs.declared.running.Course.{Course}
 use Rattle.mx_tallies.specs.declared.running.Course.TheVariants.{Given}

@@ -2,13 +2,12 @@
 use Rattle.std.specs.Prelude.{ℕ, [], ◌++◌, codes, decimal, length, slice_get, unwrap_or}
 use Rattle.mx_events.specs.declared.event.Event.{Event}
 use Rattle.mx_events.specs.declared.event.Event.TheVariants.{Ask, Enter, Read, Write, Leave, Cancel, Tick, Want, Settle, Restart, Deliver}
-use Rattle.mx_network.specs.declared.outcome.Cause.{Cause}
-use Rattle.mx_network.specs.declared.outcome.Cause.TheVariants.{NotIdle, StampsSpent, NotWaiting, NotGranted, NumbersSpent, NotInside, NoRegister, Gap, Full, Below}
-use Rattle.mx_network.specs.declared.outcome.Outcome.{Outcome}
-use Rattle.mx_network.specs.declared.outcome.Outcome.TheVariants.{Asked, Entered, Value, Written, Left, Cancelled, Sent, Settled, Delivered, Woken, Refused}
-use Rattle.mx_plan.specs.Text.{Text}
+use Rattle.mx_traces.specs.declared.outcome.Cause.{Cause}
+use Rattle.mx_traces.specs.declared.outcome.Cause.TheVariants.{NotIdle, StampsSpent, NotWaiting, NotGranted, NumbersSpent, NotInside, NoRegister, Gap, Full, Below}
+use Rattle.mx_traces.specs.declared.outcome.Outcome.{Outcome}
+use Rattle.mx_traces.specs.declared.outcome.Outcome.TheVariants.{Asked, Entered, Value, Written, Left, Cancelled, Sent, Settled, Delivered, Woken, Refused}
+use Rattle.mx_plan.specs.Text.{Text, line_feed}
 use Rattle.mx_plan.specs.Fields.{Fields}
-use Rattle.mx_texts.specs.Lines.{line_feed}
 
 -- the name that the plan gives a node
 abbrev pub name_of : Fields → ℕ → Text

@@ -2,9 +2,6 @@
 use Rattle.std.specs.Prelude.{ℕ, ◌+◌, List, [], ◌∷◌, ◌++◌}
 use Rattle.mx_plan.specs.Text.{Text}
 
-abbrev pub line_feed : Text
-line_feed = 10 ∷ []
-
 -- the texts of all of a list
 abbrev pub each_text : {X : Type 0} → (X → Text) → List X → Text
 each_text f [] = []

@@ -1,5 +1,5 @@
 -- The lines of nodes: where each stands, and what its journal has.
-use Rattle.std.specs.Prelude.{ℕ, ◌-◌, ◌++◌, codes, decimal, length}
+use Rattle.std.specs.Prelude.{ℕ, ◌-◌, List, ◌++◌, codes, decimal, length}
 use Rattle.mx_journal.specs.Settled.{JournalState}
 use Rattle.mx_registers.specs.declared.cells.Cell.{Cell}
 use Rattle.mx_registers.specs.Based.{cell_in}
@@ -8,11 +8,10 @@ use Rattle.mx_nodelaws.specs.declared.phase.Phase.{Phase}
 use Rattle.mx_nodelaws.specs.declared.phase.Phase.TheVariants.{Idle, Waiting, Inside}
 use Rattle.mx_nodelaws.specs.Core.{Core}
 use Rattle.mx_member.specs.Member.{MemberState, first_gap}
-use Rattle.mx_network.specs.Step.{ClusterState}
-use Rattle.mx_plan.specs.Text.{Text}
+use Rattle.mx_plan.specs.Text.{Text, line_feed}
 use Rattle.mx_plan.specs.Fields.{Fields}
 use Rattle.mx_texts.specs.EventTexts.{name_of}
-use Rattle.mx_texts.specs.Lines.{line_feed, texts_from}
+use Rattle.mx_texts.specs.Lines.{texts_from}
 
 abbrev pub phase_text : Phase → Text
 phase_text Idle = codes "idle"
@@ -46,5 +45,5 @@ abbrev pub member_line : {H S M : Type 0} → Core H S M → Fields → ℕ → 
 member_line core p i m = standing_text (name_of p i) (core.phase m.core) (core.mine m.core) ++ journal_text p m.journal ++ line_feed
 
 -- the line of each node
-abbrev pub node_lines : {H S M : Type 0} → Core H S M → Fields → ClusterState S M → Text
-node_lines core p g = texts_from (member_line core p) 0 g.members
+abbrev pub node_lines : {H S M : Type 0} → Core H S M → Fields → List (MemberState S) → Text
+node_lines core p members = texts_from (member_line core p) 0 members

@@ -5,10 +5,10 @@ use Rattle.mx_journal.specs.declared.records.Record.{Record}
 use Rattle.mx_journal.specs.Bases.{BaseState}
 use Rattle.mx_member.specs.declared.parcel.Parcel.{Parcel}
 use Rattle.mx_member.specs.declared.parcel.Parcel.TheVariants.{Guard, Want, Base, Records}
-use Rattle.mx_plan.specs.Text.{Text}
+use Rattle.mx_plan.specs.Text.{Text, line_feed}
 use Rattle.mx_plan.specs.Fields.{Fields}
 use Rattle.mx_texts.specs.EventTexts.{name_of}
-use Rattle.mx_texts.specs.Lines.{each_text, line_feed, texts_from}
+use Rattle.mx_texts.specs.Lines.{each_text, texts_from}
 
 abbrev pub range_text : Range → Text
 range_text range = codes " " ++ decimal range.first ++ codes ".." ++ decimal range.last

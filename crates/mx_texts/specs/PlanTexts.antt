@@ -4,12 +4,12 @@ use Rattle.std.specs.List.{position_or_len}
 use Rattle.mx_stamps.specs.Lists.{each_below}
 use Rattle.mx_quorums.specs.Family.{Family, has_of}
 use Rattle.mx_trees.specs.Tree.{Rooted, toward_of}
-use Rattle.mx_plan.specs.Text.{Text}
+use Rattle.mx_plan.specs.Text.{Text, line_feed}
 use Rattle.mx_plan.specs.Fields.{Fields}
 use Rattle.mx_plan.specs.declared.shape.Shape.{Shape}
 use Rattle.mx_plan.specs.declared.shape.Shape.TheVariants.{Ricart, Maekawa, Raymond}
 use Rattle.mx_texts.specs.EventTexts.{name_of}
-use Rattle.mx_texts.specs.Lines.{line_feed, texts_from}
+use Rattle.mx_texts.specs.Lines.{texts_from}
 
 -- the word of an algorithm
 abbrev pub algorithm_text : Shape → Text

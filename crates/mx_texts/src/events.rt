@@ -5,9 +5,9 @@ ghost use Rattle.mx_texts.specs.Words.{words_text};
 ghost use Rattle.mx_texts.specs.EventTexts.{name_of, register_name_of, cause_text, outcome_text, event_text, event_line};
 
 use crate::words::Words;
-use mx_network::{Cause, Event, Outcome};
 use mx_plan::Plan;
 use mx_stamps::NodeId;
+use mx_traces::{Cause, Event, Outcome};
 use std::fmt;
 
 /// The name that the plan gives a node.

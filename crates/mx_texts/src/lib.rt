@@ -12,7 +12,7 @@ mod words;
 
 pub use events::{EventLine, EventText, OutcomeText};
 pub use letters::Letter;
-pub use nodes::{add_member_line, add_nodes};
-pub use parcels::{add_parcel, add_parcel_line, add_parcels};
+pub use nodes::add_member_line;
+pub use parcels::{add_parcel, add_parcel_line};
 pub use plan_lines::ExploredLine;
 pub use plans::add_plan;

@@ -1,56 +1,17 @@
-//! The line of each node: where it stands, and what its journal has.
+//! The line of a node: where it stands, and what its journal has.
 
-ghost use Rattle.std.specs.Prelude.{◌≡◌, ◌+◌, ◌<◌, ◌++◌, length, drop, string_bytes, OnOk};
-ghost use Rattle.mx_texts.specs.NodeTexts.{journal_text, member_line, node_lines, values_text};
-ghost use Rattle.mx_texts.specs.Lines.{texts_from};
+ghost use Rattle.std.specs.Prelude.{◌≡◌, ◌++◌, string_bytes, OnOk};
+ghost use Rattle.mx_texts.specs.NodeTexts.{journal_text, member_line, values_text};
 
 use crate::events::{name_of, register_name_of};
 use crate::standings::{Known, Standing, ValueText};
 use mx_journal::Journal;
 use mx_member::Member;
-use mx_network::Cluster;
 use mx_nodelaws::Exclusion;
 use mx_plan::Plan;
 use mx_registers::view;
 use mx_stamps::NodeId;
 use std::alloc::AllocError;
-
-/// Appends the line of each node.
-pub fn add_nodes<C: Exclusion>(
-    plan: &Plan,
-    cluster: &Cluster<C>,
-    text: &mut String,
-) -> Result<(), AllocError>
-    requires { length cluster.now.members ≡ length plan.now.nodes }
-    ensures { OnOk result (string_bytes text.new
-        ≡ string_bytes text.old ++ node_lines C.core plan.now cluster.now) }
-{
-    for index in 0..plan.nodes() {
-        add_member(plan, cluster, index, text)?;
-    }
-    Ok(())
-}
-
-/// Appends the line of the node of this index.
-fn add_member<C: Exclusion>(
-    plan: &Plan,
-    cluster: &Cluster<C>,
-    index: u8,
-    text: &mut String,
-) -> Result<(), AllocError>
-    requires few { index < 21 }
-    requires there { index < length cluster.now.members }
-    ensures { OnOk result (string_bytes text.old
-        ++ texts_from (member_line C.core plan.now) index (drop index cluster.now.members)
-        ≡ string_bytes text.new
-        ++ texts_from (member_line C.core plan.now) (index + 1) (drop (index + 1) cluster.now.members)) }
-{
-    let node = NodeId::of(index).unwrap();
-    match cluster.member(node) {
-        Some(member) => add_member_line(plan, node, member, text),
-        None => unreachable!(),
-    }
-}
 
 /// Appends where a node stands, what it knows, and the values of the registers after it.
 pub fn add_member_line<C: Exclusion>(

@@ -1,14 +1,12 @@
 //! The lines of parcels.
 
-ghost use Rattle.std.specs.Prelude.{◌≡◌, ◌+◌, ◌<◌, ◌≤◌, ◌++◌, OnOk, Some, codes, drop, length, string_bytes};
-ghost use Rattle.mx_texts.specs.ParcelTexts.{base_text, range_text, record_text, want_text, records_text, route_text, parcel_text, parcel_line, parcel_lines};
+ghost use Rattle.std.specs.Prelude.{◌≡◌, ◌++◌, OnOk, Some, string_bytes};
+ghost use Rattle.mx_texts.specs.ParcelTexts.{base_text, range_text, record_text, want_text, records_text, route_text, parcel_text, parcel_line};
 
 use crate::events::name_of;
 use crate::letters::Letter;
 use mx_journal::{Base, Range, Record};
 use mx_member::Parcel;
-use mx_network::Cluster;
-use mx_nodelaws::Exclusion;
 use mx_plan::Plan;
 use mx_stamps::NodeId;
 use std::alloc::AllocError;
@@ -68,46 +66,6 @@ impl fmt::Display for BaseText<'_> {
     fn fmt<W: fmt::Write>(&self, f: &mut fmt::Formatter<W>) -> fmt::Result {
         let upto = self.0.upto();
         write!(f, "base {upto}")
-    }
-}
-
-/// Appends the lines of the parcels from `before` on.
-pub fn add_parcels<C: Exclusion>(
-    plan: &Plan,
-    cluster: &Cluster<C>,
-    before: u64,
-    text: &mut String,
-) -> Result<(), AllocError>
-where
-    C::Msg: Letter,
-    requires { before ≤ length cluster.now.sent }
-    ensures { OnOk result (string_bytes text.new ≡ string_bytes text.old
-        ++ parcel_lines C.Msg.letter_text plan.now before (drop before cluster.now.sent)) }
-{
-    for number in before..cluster.sent() {
-        add_numbered(plan, cluster, number, text)?;
-    }
-    Ok(())
-}
-
-/// Appends the line of the parcel of this number.
-fn add_numbered<C: Exclusion>(
-    plan: &Plan,
-    cluster: &Cluster<C>,
-    number: u64,
-    text: &mut String,
-) -> Result<(), AllocError>
-where
-    C::Msg: Letter,
-    requires { number < length cluster.now.sent }
-    ensures { OnOk result (string_bytes text.old
-        ++ parcel_lines C.Msg.letter_text plan.now number (drop number cluster.now.sent)
-        ≡ string_bytes text.new
-        ++ parcel_lines C.Msg.letter_text plan.now (number + 1) (drop (number + 1) cluster.now.sent)) }
-{
-    match cluster.parcel(number) {
-        Some(parcel) => add_parcel_line(plan, number, parcel.0, parcel.1, parcel.2, text),
-        None => unreachable!(),
     }
 }
 

@@ -1,12 +1,11 @@
 -- Why a live run ends without a journal, with the line and the status of that.
 use Rattle.std.specs.Prelude.{◌≡◌, ◌≢◌, ◌⊎◌, Bool, true, ℕ, [], ◌++◌, codes}
-use Rattle.mx_plan.specs.Text.{Text}
-use Rattle.mx_texts.specs.Lines.{line_feed}
-use Rattle.mx_commands.specs.declared.faults.Stop.{Stop}
-use Rattle.mx_commands.specs.declared.faults.Stop.TheVariants as stop
-use Rattle.mx_commands.specs.declared.output.PutFault.{PutFault}
-use Rattle.mx_commands.specs.declared.output.PutFault.TheVariants as put_fault
-use Rattle.mx_commands.specs.FaultLines.{fault_line, memory_line}
+use Rattle.mx_plan.specs.Text.{Text, line_feed}
+use Rattle.mx_stops.specs.declared.faults.Stop.{Stop}
+use Rattle.mx_stops.specs.declared.faults.Stop.TheVariants as stop
+use Rattle.mx_io.specs.declared.output.PutFault.{PutFault}
+use Rattle.mx_io.specs.declared.output.PutFault.TheVariants as put_fault
+use Rattle.mx_stops.specs.FaultLines.{fault_line, memory_line}
 use Rattle.mx_threads.specs.declared.halts.Halt.{Halt}
 use Rattle.mx_threads.specs.declared.halts.Halt.TheVariants.{Plan, TooFewSections, TurnsSpent, GateShut, Writer, Memory}
 

@@ -2,9 +2,9 @@
 use Rattle.std.specs.Prelude.{ℕ, suc, ◌-◌, ◌++◌, codes, decimal}
 use Rattle.mx_journal.specs.Gapless.{first_missing}
 use Rattle.mx_journal.specs.Settled.{JournalState}
-use Rattle.mx_plan.specs.Text.{Text}
+use Rattle.mx_plan.specs.Text.{Text, line_feed}
 use Rattle.mx_plan.specs.Fields.{Fields}
-use Rattle.mx_texts.specs.Lines.{line_feed, texts_from}
+use Rattle.mx_texts.specs.Lines.{texts_from}
 use Rattle.mx_texts.specs.NodeTexts.{register_in}
 
 abbrev pub count_line : Text → ℕ → Text

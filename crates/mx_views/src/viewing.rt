@@ -2,7 +2,8 @@
 
 ghost use Rattle.std.specs.Prelude.{◌≡◌, IsSome, IfOk};
 ghost use Rattle.mx_words.specs.Words.{texts_of, AreWrong, AskHelp};
-ghost use Rattle.mx_commands.specs.Ran.{Helps, IsRunStatus, Scolds, seen};
+ghost use Rattle.mx_stops.specs.Told.{Helps, Scolds, seen};
+ghost use Rattle.mx_commands.specs.Ran.{IsRunStatus};
 ghost use Rattle.mx_views.specs.ViewWords.{views_asked, view_line};
 
 use crate::showing::show;

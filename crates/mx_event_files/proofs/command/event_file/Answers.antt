@@ -1,5 +1,5 @@
 use Rattle.mx_words.specs.Words.{texts_of}
-use Rattle.mx_commands.specs.Ran.{seen}
+use Rattle.mx_stops.specs.Told.{seen}
 use Rattle.mx_event_files.proofs.RefusedLemmas.{draw_refused, errand_refused, passed_refused, status_refused}
 use Rattle.mx_event_files.specs.Words.{file_line}
 use Rattle.mx_event_files.proofs.command.event_file.Goals as goal

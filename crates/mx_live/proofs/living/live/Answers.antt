@@ -1,5 +1,5 @@
 use Rattle.mx_words.specs.Words.{texts_of}
-use Rattle.mx_commands.specs.Ran.{seen}
+use Rattle.mx_stops.specs.Told.{seen}
 use Rattle.mx_live.proofs.RefusedLemmas.{order_refused}
 use Rattle.mx_words.specs.LiveWords.{live_line}
 use Rattle.mx_live.proofs.living.live.Goals as goal

@@ -2,7 +2,7 @@ use Rattle.std.proofs.Common.{◌≡◌, Err, List, None, length, subst, sym}
 use Rattle.mx_events.specs.declared.event.Event.{Event}
 use Rattle.mx_plan.specs.Events.{events_at}
 use Rattle.mx_commands.specs.Jobs.{report_of_events, run_by}
-use Rattle.mx_commands.specs.Outputs.{stop_of}
+use Rattle.mx_stops.specs.Outputs.{stop_of}
 use Rattle.mx_commands.specs.Runs.{AllNameNodes}
 use Rattle.mx_commands.proofs.EventLemmas.{events_named}
 use Rattle.mx_commands.proofs.RunLemmas.{err_is}

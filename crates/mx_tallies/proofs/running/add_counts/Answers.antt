@@ -1,6 +1,6 @@
 use Rattle.std.proofs.Common.{◌∙◌, List, ap, string_bytes}
 use Rattle.std.specs.List.{count_by}
-use Rattle.mx_network.specs.declared.outcome.Entry.{Entry}
+use Rattle.mx_traces.specs.declared.outcome.Entry.{Entry}
 use Rattle.mx_commands.specs.Explored.{is_entry}
 use Rattle.mx_commands.specs.Ran.{verdict_status}
 use Rattle.mx_tallies.proofs.CountedLemmas.{counted_is}

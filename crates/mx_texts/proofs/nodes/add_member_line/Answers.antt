@@ -1,8 +1,7 @@
 use Rattle.std.proofs.Common.{◌≡◌, ◌∙◌, ◌++◌, ap, string_bytes}
 use Rattle.mx_journal.specs.Settled.{JournalState}
-use Rattle.mx_plan.specs.Text.{Text}
+use Rattle.mx_plan.specs.Text.{Text, line_feed}
 use Rattle.mx_texts.specs.EventTexts.{name_of}
-use Rattle.mx_texts.specs.Lines.{line_feed}
 use Rattle.mx_texts.specs.NodeTexts.{journal_text, standing_text}
 use Rattle.mx_texts.proofs.NodeLemmas.{standing_is, three}
 use Rattle.mx_texts.proofs.nodes.add_member_line.Goals as goal

@@ -1,0 +1,90 @@
+//! The lines of a cluster: those of its nodes, and those of the parcels that it sent.
+
+ghost use Rattle.std.specs.Prelude.{◌≡◌, ◌+◌, ◌<◌, ◌≤◌, ◌++◌, length, drop, string_bytes, OnOk};
+ghost use Rattle.mx_texts.specs.NodeTexts.{member_line, node_lines};
+ghost use Rattle.mx_texts.specs.ParcelTexts.{parcel_lines};
+ghost use Rattle.mx_texts.specs.Lines.{texts_from};
+
+use mx_network::Cluster;
+use mx_nodelaws::Exclusion;
+use mx_plan::Plan;
+use mx_stamps::NodeId;
+use mx_texts::{Letter, add_member_line, add_parcel_line};
+use std::alloc::AllocError;
+
+/// Appends the line of each node.
+pub(crate) fn add_nodes<C: Exclusion>(
+    plan: &Plan,
+    cluster: &Cluster<C>,
+    text: &mut String,
+) -> Result<(), AllocError>
+    requires { length cluster.now.members ≡ length plan.now.nodes }
+    ensures { OnOk result (string_bytes text.new
+        ≡ string_bytes text.old ++ node_lines C.core plan.now cluster.now.members) }
+{
+    for index in 0..plan.nodes() {
+        add_member(plan, cluster, index, text)?;
+    }
+    Ok(())
+}
+
+/// Appends the line of the node of this index.
+fn add_member<C: Exclusion>(
+    plan: &Plan,
+    cluster: &Cluster<C>,
+    index: u8,
+    text: &mut String,
+) -> Result<(), AllocError>
+    requires few { index < 21 }
+    requires there { index < length cluster.now.members }
+    ensures { OnOk result (string_bytes text.old
+        ++ texts_from (member_line C.core plan.now) index (drop index cluster.now.members)
+        ≡ string_bytes text.new
+        ++ texts_from (member_line C.core plan.now) (index + 1) (drop (index + 1) cluster.now.members)) }
+{
+    let node = NodeId::of(index).unwrap();
+    match cluster.member(node) {
+        Some(member) => add_member_line(plan, node, member, text),
+        None => unreachable!(),
+    }
+}
+
+/// Appends the lines of the parcels from `before` on.
+pub(crate) fn add_parcels<C: Exclusion>(
+    plan: &Plan,
+    cluster: &Cluster<C>,
+    before: u64,
+    text: &mut String,
+) -> Result<(), AllocError>
+where
+    C::Msg: Letter,
+    requires { before ≤ length cluster.now.sent }
+    ensures { OnOk result (string_bytes text.new ≡ string_bytes text.old
+        ++ parcel_lines C.Msg.letter_text plan.now before (drop before cluster.now.sent)) }
+{
+    for number in before..cluster.sent() {
+        add_numbered(plan, cluster, number, text)?;
+    }
+    Ok(())
+}
+
+/// Appends the line of the parcel of this number.
+fn add_numbered<C: Exclusion>(
+    plan: &Plan,
+    cluster: &Cluster<C>,
+    number: u64,
+    text: &mut String,
+) -> Result<(), AllocError>
+where
+    C::Msg: Letter,
+    requires { number < length cluster.now.sent }
+    ensures { OnOk result (string_bytes text.old
+        ++ parcel_lines C.Msg.letter_text plan.now number (drop number cluster.now.sent)
+        ≡ string_bytes text.new
+        ++ parcel_lines C.Msg.letter_text plan.now (number + 1) (drop (number + 1) cluster.now.sent)) }
+{
+    match cluster.parcel(number) {
+        Some(parcel) => add_parcel_line(plan, number, parcel.0, parcel.1, parcel.2, text),
+        None => unreachable!(),
+    }
+}

@@ -1,0 +1,27 @@
+-- What a source tells of a name.
+use Rattle.std.specs.Prelude.{◌≡◌, ℕ, List, [], ◌∷◌, Option, Some, None, ⊤, Result, Ok, Err, Vec, map, if◌then◌else◌}
+use Rattle.std.specs.Borrow.{Bor}
+use Rattle.std.specs.Str.{bytes_eq}
+use Rattle.std.specs.declared.alloc.Global.{Global}
+use Rattle.mx_io.specs.declared.source.SourceFault.{SourceFault}
+use Rattle.mx_io.specs.declared.source.SourceFault.TheVariants.{Memory}
+
+-- that it can't be read, or the bytes that it holds
+abbrev pub Telling : Type 0
+Telling = Option (List ℕ)
+
+-- the answer is what the source tells, or that memory ran out
+abbrev pub Tells : Telling → Result (Vec ℕ Global) SourceFault → Type 0
+Tells (Some bytes) (Ok v) = v.items ≡ bytes
+Tells (Some bytes) (Err fault) = fault ≡ Memory
+Tells None (Ok v) = ⊥
+Tells None (Err fault) = ⊤
+
+-- the bytes of a name in a table
+abbrev pub bytes_of : List (List ℕ × List ℕ) → List ℕ → Telling
+bytes_of [] name = None
+bytes_of (e ∷ es) name = if bytes_eq e.0 name then Some e.1 else bytes_of es name
+
+-- the entries behind the references
+abbrev pub entries_of : List (Bor (List ℕ) × Bor (List ℕ)) → List (List ℕ × List ℕ)
+entries_of = map (λ e. (e.0.now, e.1.now))

@@ -1,0 +1,73 @@
+//! Where texts go.
+
+ghost use Rattle.std.specs.Prelude.{◌≡◌, ℕ, List, Bool, Option, Some, None, true, false, IfErr, OnOk, OnErr};
+ghost use Rattle.std.specs.Io.KnownBytes.{Appends, Keeps};
+ghost use Rattle.mx_io.specs.Outputs.{refused_by};
+
+use std::alloc::{AllocError, Global};
+
+/// Why an output did not take a text.
+#[derive(Clone, Copy, Debug, PartialEq, Eq)]
+pub enum PutFault {
+    Refused,
+    /// Memory ran out.
+    Memory,
+}
+
+impl From<AllocError> for PutFault {
+    ghost use Rattle.std.specs.Prelude.{◌≡◌};
+    ghost use Rattle.mx_io.specs.declared.output.PutFault.TheVariants.{Memory};
+
+    ghost from_gives = { λ _ fault. fault ≡ Memory };
+
+    fn from(_e: AllocError) -> PutFault {
+        PutFault::Memory
+    }
+}
+
+/// Where texts go.
+pub trait Output {
+    // The bytes that it holds, where they are known.
+    ghost written: { Self → Option (List ℕ) } = { λ _. None };
+
+    // It takes all bytes, memory apart.
+    ghost takes_all: { Self → Bool } = { λ _. false };
+
+    // It has refused something, or nothing is known of that.
+    ghost has_refused: { Self → Bool } = { λ _. true };
+
+    // It keeps bytes back that it has taken.
+    ghost keeps_back: { Self → Bool } = { λ _. false };
+
+    /// Takes a text whole, or nothing of it.
+    fn put(&mut self, text: &[u8]) -> Result<(), PutFault>
+        ensures ok { OnOk result (Appends (written self.old) (written self.new) text.now) }
+        ensures err { OnErr result (Keeps (written self.old) (written self.new)) }
+        ensures refused { has_refused self.new ≡ refused_by result (has_refused self.old) }
+        ensures takes { IfErr result (λ fault. takes_all self.old ≡ true → fault ≡ PutFault.Memory) }
+        ensures stays { takes_all self.new ≡ takes_all self.old };
+
+    /// Passes on what it still keeps back.
+    fn flush(&mut self) -> Result<(), PutFault>
+        ensures same { Keeps (written self.old) (written self.new) }
+        ensures passed { OnOk result (keeps_back self.new ≡ false) }
+        ensures refused { has_refused self.new ≡ refused_by result (has_refused self.old) }
+        ensures takes { IfErr result (λ fault. takes_all self.old ≡ true → fault ≡ PutFault.Memory) }
+        ensures stays { takes_all self.new ≡ takes_all self.old };
+}
+
+impl Output for Vec<u8> {
+    ghost written = { λ v. Some v.items };
+
+    ghost takes_all = { λ _. true };
+
+    ghost has_refused = { λ _. false };
+
+    fn put(&mut self, text: &[u8]) -> Result<(), PutFault> {
+        Ok(self.extend_from_slice(text)?)
+    }
+
+    fn flush(&mut self) -> Result<(), PutFault> {
+        Ok(())
+    }
+}
