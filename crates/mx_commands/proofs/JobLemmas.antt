@@ -17,8 +17,8 @@ use Rattle.mx_stops.specs.declared.faults.Stop.{Stop}
 use Rattle.mx_stops.specs.declared.faults.Stop.TheVariants as stop
 use Rattle.mx_io.specs.Told.{Telling}
 use Rattle.mx_commands.specs.Runs.{Report, ends_with, whole}
-use Rattle.mx_commands.specs.Jobs.{HoldsOfPlan, HoldsOfReport, Job, is_dash, on_events, on_plan, replay_one, replay_two, report_of, report_of_events, where_read}
-use Rattle.mx_stops.specs.Reading.{Reads, fault_of, refusal_of, Fetches}
+use Rattle.mx_commands.specs.Jobs.{HoldsOfPlan, HoldsOfReport, Job, on_events, on_plan, replay_one, replay_two, report_of, report_of_events, where_read}
+use Rattle.mx_stops.specs.Reading.{fault_of, Fetches, is_dash, Reads, refusal_of}
 use Rattle.mx_io.specs.Outputs.{Held}
 use Rattle.mx_commands.specs.Ran.{EndsEarly, Ran, RanOn, RanOf}
 use Rattle.mx_stops.proofs.OutputLemmas.{Appends-nil, none_some, Keeps-refl}

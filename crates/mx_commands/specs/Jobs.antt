@@ -1,7 +1,6 @@
 -- What the words ask for, over what a source tells: the plan, and the report of a plan.
-use Rattle.std.specs.Prelude.{Bool, ℕ, List, Option, Some, None, Result, Ok, Err, codes, if◌then◌else◌, ◌==◌, ◌&&◌, IfSome, option_map}
+use Rattle.std.specs.Prelude.{ℕ, List, Option, Some, None, Result, Ok, Err, if◌then◌else◌, ◌==◌, ◌&&◌, IfSome, option_map}
 use Rattle.std.specs.List.{before_first, after_first}
-use Rattle.std.specs.Str.{bytes_eq}
 use Rattle.mx_words.specs.Words.{Task, check, replay, explore}
 use Rattle.mx_ricart.specs.Step.{ricart_core}
 use Rattle.mx_maekawa.specs.Step.{maekawa_core}
@@ -17,7 +16,7 @@ use Rattle.mx_texts.specs.LetterTexts.{ricart_text, maekawa_text, raymond_text}
 use Rattle.mx_texts.specs.PlanTexts.{plan_text}
 use Rattle.mx_stops.specs.declared.faults.Fault.TheVariants.{CannotRead}
 use Rattle.mx_stops.specs.declared.faults.Named.TheVariants.{Plan, Events}
-use Rattle.mx_stops.specs.Reading.{fault_of, IsRead}
+use Rattle.mx_stops.specs.Reading.{fault_of, is_dash, IsRead}
 use Rattle.mx_commands.specs.Explored.{explored_text}
 use Rattle.mx_commands.specs.Runs.{Report, at_rest, ends_with, run_from, whole}
 use Rattle.mx_io.specs.Told.{Telling}
@@ -64,9 +63,6 @@ replay_one one = record {
 -- a replay of two sources
 abbrev pub replay_two : Option Telling → Telling → Job
 replay_two events plan = record { plan = plan; report = λ p. option_map (on_events p) events }
-
-abbrev pub is_dash : Text → Bool
-is_dash name = bytes_eq name (codes "-")
 
 -- the job of what the words ask for, where the source tells enough
 abbrev pub job_of : (Text → Option Telling) → Task → Option Job

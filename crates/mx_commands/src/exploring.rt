@@ -78,33 +78,36 @@ fn add_summary_of(
     ensures sound { IfOk result (λ verdict. verdict ≡ Verdict.Sound) }
 {
     match plan.shape() {
-        Shape::Ricart(count) => {
-            let mut cluster = start::<Ricart>(alloc, plan, count)?;
-            add_summary_after(&mut cluster, events, text)
-        }
-        Shape::Maekawa(sets) => {
-            let mut cluster = start::<Maekawa>(alloc, plan, sets)?;
-            add_summary_after(&mut cluster, events, text)
-        }
-        Shape::Raymond(tree) => {
-            let mut cluster = start::<Raymond>(alloc, plan, tree)?;
-            add_summary_after(&mut cluster, events, text)
-        }
+        Shape::Ricart(count) => add_summary_after(
+            start::<Ricart>(alloc, plan, count)?,
+            events,
+            text,
+        ),
+        Shape::Maekawa(sets) => add_summary_after(
+            start::<Maekawa>(alloc, plan, sets)?,
+            events,
+            text,
+        ),
+        Shape::Raymond(tree) => add_summary_after(
+            start::<Raymond>(alloc, plan, tree)?,
+            events,
+            text,
+        ),
     }
 }
 
 /// The events happen; then the summary.
 fn add_summary_after<C: Exclusion>(
-    cluster: &mut Cluster<C>,
+    mut cluster: Cluster<C>,
     events: &[Event],
     text: &mut String,
 ) -> Result<Verdict, AllocError>
     ensures text { OnOk result (string_bytes text.new ≡ string_bytes text.old
-        ++ summary_text (length events.now) (after_drawn C.core cluster.old events.now)) }
+        ++ summary_text (length events.now) (after_drawn C.core cluster events.now)) }
     ensures sound { IfOk result (λ verdict. verdict ≡ Verdict.Sound) }
 {
-    happen(cluster, events)?;
-    add_summary(cluster, events, text)
+    happen(&mut cluster, events)?;
+    add_summary(&cluster, events, text)
 }
 
 /// Each event in turn.

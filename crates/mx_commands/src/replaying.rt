@@ -1,11 +1,10 @@
 //! `replay`: the plan is read, then the events, and they happen one after another.
 
-ghost use Rattle.std.specs.Prelude.{◌≡◌, ◌+◌, ◌<◌, ◌≤◌, ◌==◌, ◌&&◌, length, Some, IfOk, IfSome};
-ghost use Rattle.std.specs.List.{before_first, after_first, position_or_len};
+ghost use Rattle.std.specs.Prelude.{◌≡◌, length, Some, IfOk, IfSome};
 ghost use Rattle.mx_words.specs.Words.{names_of};
 ghost use Rattle.mx_words.specs.Words as task;
 ghost use Rattle.mx_stops.specs.Outputs.{refused_after};
-ghost use Rattle.mx_commands.specs.Jobs.{on_events, report_of_events, is_dash};
+ghost use Rattle.mx_commands.specs.Jobs.{on_events, report_of_events};
 ghost use Rattle.mx_commands.specs.Jobs as job;
 ghost use Rattle.mx_commands.specs.Ran.{Ran, RanOf, RanOn};
 ghost use Rattle.mx_commands.specs.Runs.{AllNameNodes};
@@ -17,7 +16,7 @@ use mx_network::Event;
 use mx_plan::{Plan, Shape, read_events};
 use mx_raymond::Raymond;
 use mx_ricart::Ricart;
-use mx_stops::{Named, Stop, fetch, fetch_plan, plan_in};
+use mx_stops::{Named, Stop, are_dashes, fetch, fetch_plan, plan_in, split_line};
 use mx_words::Names;
 use std::alloc::Global;
 
@@ -60,13 +59,6 @@ fn replay_named<S: Source, O: Output>(
     replay_events(alloc, plan, events.as_slice(), out)
 }
 
-/// Whether both names are standard input.
-pub fn are_dashes(names: &Names<'_>) -> bool
-    ensures { result ≡ (is_dash names.now.plan.now && is_dash names.now.events.now) }
-{
-    names.plan == "-" && names.events == "-"
-}
-
 /// A replay of one text: its first line is the plan, and what follows is the events.
 fn replay_one<O: Output>(alloc: Global, bytes: &[u8], out: &mut O) -> Result<u8, Stop>
     ensures ran { RanOn (O.takes_all out.old) (O.written out.old) (O.written out.new)
@@ -78,32 +70,6 @@ fn replay_one<O: Output>(alloc: Global, bytes: &[u8], out: &mut O) -> Result<u8,
     let (line, rest) = split_line(bytes);
     let plan = plan_in(alloc, line)?;
     replay_events(alloc, &plan, rest, out)
-}
-
-/// The bytes before the first line feed, and those behind it.
-pub fn split_line(bytes: &[u8]) -> (&[u8], &[u8])
-    ensures line { result.0.now ≡ before_first (λ b. b == 10) bytes.now }
-    ensures rest { result.1.now ≡ after_first (λ b. b == 10) bytes.now }
-{
-    let at = first_feed(bytes);
-    if at < bytes.len() {
-        (&bytes[..at], &bytes[at + 1..])
-    } else {
-        (bytes, &bytes[bytes.len()..])
-    }
-}
-
-/// The place of the first line feed, or the length where there is none.
-fn first_feed(bytes: &[u8]) -> usize
-    ensures value { result ≡ position_or_len (λ b. b == 10) bytes.now }
-    ensures within { result ≤ length bytes.now }
-{
-    for (i, b) in bytes.iter().enumerate() {
-        if *b == b'\n' {
-            return i;
-        }
-    }
-    bytes.len()
 }
 
 /// Reads the events and replays them, by the plan's algorithm.
@@ -133,17 +99,26 @@ fn run_by<O: Output>(alloc: Global, plan: &Plan, events: &[Event], out: &mut O) 
     ensures stays { O.takes_all out.new ≡ O.takes_all out.old }
 {
     match plan.shape() {
-        Shape::Ricart(count) => {
-            let mut cluster = start::<Ricart>(alloc, plan, count)?;
-            run(alloc, plan, &mut cluster, events, out)
-        }
-        Shape::Maekawa(sets) => {
-            let mut cluster = start::<Maekawa>(alloc, plan, sets)?;
-            run(alloc, plan, &mut cluster, events, out)
-        }
-        Shape::Raymond(tree) => {
-            let mut cluster = start::<Raymond>(alloc, plan, tree)?;
-            run(alloc, plan, &mut cluster, events, out)
-        }
+        Shape::Ricart(count) => run(
+            alloc,
+            plan,
+            start::<Ricart>(alloc, plan, count)?,
+            events,
+            out,
+        ),
+        Shape::Maekawa(sets) => run(
+            alloc,
+            plan,
+            start::<Maekawa>(alloc, plan, sets)?,
+            events,
+            out,
+        ),
+        Shape::Raymond(tree) => run(
+            alloc,
+            plan,
+            start::<Raymond>(alloc, plan, tree)?,
+            events,
+            out,
+        ),
     }
 }

@@ -34,8 +34,29 @@ pub fn start<C: Exclusion>(
     )
 }
 
-/// Each event in turn, and its text in one piece; then the closing lines. Answers the status.
+/// Runs events from a cluster on. Answers the status.
 pub(crate) fn run<C: Exclusion, O: Output>(
+    alloc: Global,
+    plan: &Plan,
+    mut cluster: Cluster<C>,
+    events: &[Event],
+    out: &mut O,
+) -> Result<u8, Stop>
+where
+    C::Msg: Letter,
+    requires members { length cluster.members ≡ length plan.now.nodes }
+    requires named { AllNameNodes (length plan.now.nodes) events.now }
+    ensures ran { Ran (O.takes_all out.old) (O.written out.old) (O.written out.new)
+        (run_from C.core C.Msg.letter_text plan.now 0 cluster events.now) result }
+    ensures refused { O.has_refused out.new ≡ refused_after result (O.has_refused out.old) }
+    ensures zero { IfOk result (λ status. status ≡ 0) }
+    ensures stays { O.takes_all out.new ≡ O.takes_all out.old }
+{
+    run_events(alloc, plan, &mut cluster, events, out)
+}
+
+/// Each event in turn, and its text in one piece; then the closing lines. Answers the status.
+fn run_events<C: Exclusion, O: Output>(
     alloc: Global,
     plan: &Plan,
     cluster: &mut Cluster<C>,

@@ -9,8 +9,7 @@ use Rattle.mx_plan.specs.Fields.{Fields}
 use Rattle.mx_plan.specs.Events.{events_at}
 use Rattle.mx_stops.specs.declared.faults.Named.TheVariants.{Plan}
 use Rattle.mx_commands.specs.Explored.{schedule_of}
-use Rattle.mx_stops.specs.Reading.{Reads, Fetches}
-use Rattle.mx_commands.specs.Jobs.{is_dash}
+use Rattle.mx_stops.specs.Reading.{Fetches, is_dash, Reads}
 use Rattle.mx_io.specs.Outputs.{Held}
 use Rattle.mx_io.specs.Told.{Telling}
 use Rattle.mx_stops.proofs.OutputLemmas.{Appends-keeps}

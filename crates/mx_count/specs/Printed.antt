@@ -5,8 +5,7 @@ use Rattle.mx_events.specs.declared.event.Event.{Event}
 use Rattle.mx_plan.specs.Text.{Text}
 use Rattle.mx_plan.specs.Fields.{Fields}
 use Rattle.mx_commands.specs.Explored.{schedule_of}
-use Rattle.mx_stops.specs.Reading.{Reads}
-use Rattle.mx_commands.specs.Jobs.{is_dash}
+use Rattle.mx_stops.specs.Reading.{is_dash, Reads}
 use Rattle.mx_io.specs.Outputs.{Held}
 use Rattle.mx_io.specs.Told.{Telling}
 use Rattle.mx_tallies.specs.Listed.{AreEventsOf, PrintsCountsOf}

@@ -40,23 +40,14 @@ pub(crate) fn explain_parcel(
 /// How many parcels the events send, up to the first that can't happen.
 fn parcels_sent(alloc: Global, plan: &Plan, events: &[Event]) -> Result<u64, AllocError> {
     match plan.shape() {
-        Shape::Ricart(count) => {
-            let mut cluster = start::<Ricart>(alloc, plan, count)?;
-            sent_after(&mut cluster, events)
-        }
-        Shape::Maekawa(sets) => {
-            let mut cluster = start::<Maekawa>(alloc, plan, sets)?;
-            sent_after(&mut cluster, events)
-        }
-        Shape::Raymond(tree) => {
-            let mut cluster = start::<Raymond>(alloc, plan, tree)?;
-            sent_after(&mut cluster, events)
-        }
+        Shape::Ricart(count) => sent_after(start::<Ricart>(alloc, plan, count)?, events),
+        Shape::Maekawa(sets) => sent_after(start::<Maekawa>(alloc, plan, sets)?, events),
+        Shape::Raymond(tree) => sent_after(start::<Raymond>(alloc, plan, tree)?, events),
     }
 }
 
 /// How many parcels are sent once these events happened, up to the first that can't.
-fn sent_after<C: Exclusion>(cluster: &mut Cluster<C>, events: &[Event]) -> Result<u64, AllocError> {
+fn sent_after<C: Exclusion>(mut cluster: Cluster<C>, events: &[Event]) -> Result<u64, AllocError> {
     match cluster.run(events) {
         Err(
             RunFault {

@@ -2,11 +2,10 @@
 use Rattle.std.proofs.Common.{ℕ, suc, ◌≡◌, ◌↔◌, ◌&&◌, Bool, true, false, cond, not, List, [], ◌∷◌, ◌++◌, Option, Some, None, length, nat_eq, refl, sym, ◌∙◌, ap, subst}
 use Rattle.mx_stamps.proofs.Lists.{and_true}
 use Rattle.mx_journal.proofs.Choices.{eq_true}
-use Rattle.mx_journal.specs.Drafted.{Drafted, with_read, with_write}
+use Rattle.mx_journal.specs.Drafted.{Drafted, with_read, with_write, fresh}
 use Rattle.mx_registers.specs.Registers.{applied}
-use Rattle.mx_member.specs.Member.{fresh}
-use Rattle.mx_member.specs.Sections.{Mark, Came, Got, Wrote, Went, Woke, Section, after_marks, at_open, closing, redrafted, writes_in}
-use Rattle.mx_member.specs.Serial.{AllClosed, Alternate, IsInNewest, NumberedFrom}
+use Rattle.mx_traces.specs.Sections.{Mark, Came, Got, Wrote, Went, Woke, Section, after_marks, at_open, closing, redrafted, writes_in}
+use Rattle.mx_traces.specs.Serial.{AllClosed, Alternate, IsInNewest, NumberedFrom}
 use Rattle.mx_explorer.specs.declared.verdict.Clause.{Clause}
 use Rattle.mx_explorer.specs.declared.verdict.Clause.TheVariants.{Overlap, Number, Read}
 use Rattle.mx_explorer.specs.Verdict.{ReadsFit}

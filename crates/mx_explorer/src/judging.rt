@@ -1,7 +1,7 @@
 //! The verdict of a trace, in one pass.
 
 ghost use Rattle.std.specs.Prelude.{◌≡◌, ◌↔◌, ℕ};
-ghost use Rattle.mx_traces.specs.Sections.{IsSerial};
+ghost use Rattle.mx_traces.specs.Trace.{IsSerial};
 ghost use Rattle.mx_explorer.specs.Verdict.{IsSoundTrace, IsFirstBroken};
 
 use crate::ledger::Ledger;

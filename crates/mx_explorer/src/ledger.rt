@@ -1,7 +1,7 @@
 //! What the judge remembers of the items before.
 
 ghost use Rattle.std.specs.Prelude.{◌≡◌, ◌∷◌, [], None, Option};
-ghost use Rattle.mx_member.specs.Sections.{Came, Got, Wrote, Went, Woke};
+ghost use Rattle.mx_traces.specs.Sections.{Came, Got, Wrote, Went, Woke};
 ghost use Rattle.mx_traces.specs.Trace.{mark_of};
 ghost use Rattle.mx_explorer.specs.Ledger.{IsLedgerOf, Takes, is_node};
 

@@ -11,6 +11,10 @@ pub record Drafted : Type 0 where
   pub reads : List Read
   pub writes : List Write
 
+-- a draft in which nothing was read or written yet
+abbrev pub fresh : Drafted
+fresh = record { reads = []; writes = [] }
+
 -- the value of the last of these writes to the register
 abbrev pub last_value : ℕ → List Write → Option ℕ
 last_value register writes = last_or None (map (λ w. w.value) (filter (λ w. w.register == register) writes))

@@ -8,14 +8,14 @@ use Rattle.mx_nodelaws.specs.Core.{Core, KeepsPhases, IsInside}
 use Rattle.mx_nodelaws.specs.Laws.{KeepsGood}
 use Rattle.mx_nodelaws.specs.declared.phase.Phase.TheVariants.{Inside}
 use Rattle.mx_journal.specs.declared.receipts.Read.{Read}
-use Rattle.mx_journal.specs.Drafted.{Drafted, with_read, with_write}
+use Rattle.mx_journal.specs.Drafted.{Drafted, with_read, with_write, fresh}
 use Rattle.mx_registers.specs.Registers.{applied}
 use Rattle.mx_member.specs.declared.parcel.Parcel.{Parcel}
 use Rattle.mx_member.specs.Journals.{IsJournalOf}
-use Rattle.mx_member.specs.Member.{MemberState, first_gap, fresh, with_draft}
+use Rattle.mx_member.specs.Member.{MemberState, first_gap, with_draft}
 use Rattle.mx_member.specs.Steps.{shown_inside}
-use Rattle.mx_member.specs.Sections.{Section, Got, Wrote, at_open, redrafted, section_journal, writes_in}
-use Rattle.mx_member.specs.Serial.{Fits, IsInNewest, IsSerialRead, ReadSerially}
+use Rattle.mx_traces.specs.Sections.{Section, Got, Wrote, at_open, redrafted, section_journal, writes_in}
+use Rattle.mx_traces.specs.Serial.{Fits, IsInNewest, IsSerialRead, ReadSerially}
 use Rattle.mx_member.specs.World.{IsMember, IsSound, draft_of}
 use Rattle.mx_member.proofs.Consequences.{never_settled}
 use Rattle.mx_member.proofs.CoreSteps.{alone, core_still, counted_same}

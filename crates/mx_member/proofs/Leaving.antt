@@ -7,14 +7,14 @@ use Rattle.mx_nodelaws.specs.declared.phase.Phase.TheVariants.{Idle, Waiting, In
 use Rattle.mx_nodelaws.specs.declared.faults.LeaveFault.TheVariants.{NotInside}
 use Rattle.mx_journal.specs.declared.receipts.Receipt.{Receipt}
 use Rattle.mx_journal.specs.declared.records.Record.{Record}
-use Rattle.mx_journal.specs.Drafted.{Drafted, receipt_of, record_of}
+use Rattle.mx_journal.specs.Drafted.{Drafted, receipt_of, record_of, fresh}
 use Rattle.mx_journal.specs.Settled.{Covers, JournalState, with_list}
 use Rattle.mx_member.specs.declared.acts.Act.{Act}
 use Rattle.mx_member.specs.declared.acts.Act.TheVariants as act
 use Rattle.mx_member.specs.declared.acts.Answer.{Answer}
 use Rattle.mx_member.specs.declared.acts.Answer.TheVariants as answer
 use Rattle.mx_member.specs.declared.parcel.Parcel.{Parcel}
-use Rattle.mx_member.specs.Member.{MemberState, fresh, guarded, with_journal}
+use Rattle.mx_member.specs.Member.{MemberState, guarded, with_journal}
 use Rattle.mx_member.specs.Steps.{LacksItsRecord, leave_at, leave_of, left}
 use Rattle.mx_member.specs.Acts.{NeedsMemory, act_of}
 

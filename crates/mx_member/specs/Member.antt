@@ -31,10 +31,6 @@ IsViewOf count journal cells = cells ≡ registers_in count journal
 abbrev pub first_gap : JournalState → ℕ
 first_gap journal = first_missing (suc journal.base.upto) journal.records
 
--- a draft in which nothing was read or written yet
-abbrev pub fresh : Drafted
-fresh = record { reads = []; writes = [] }
-
 abbrev pub with_core : {S : Type 0} → S → MemberState S → MemberState S
 with_core s m = record { setting = m.setting; core = s; journal = m.journal; draft = m.draft }
 

@@ -18,7 +18,7 @@ use Rattle.mx_journal.specs.declared.settling.SettleFault.{SettleFault}
 use Rattle.mx_journal.specs.declared.settling.SettleFault.TheVariants as settle
 use Rattle.mx_journal.specs.Agreement.{IsConsistent, IsFirstConflict}
 use Rattle.mx_journal.specs.Bases.{AreOpposed}
-use Rattle.mx_journal.specs.Drafted.{last_value, with_read, with_write, receipt_of, record_of}
+use Rattle.mx_journal.specs.Drafted.{last_value, with_read, with_write, receipt_of, record_of, fresh}
 use Rattle.mx_journal.specs.Records.{IsNumbered, IsThere, below}
 use Rattle.mx_journal.specs.Settled.{Covers, JournalState, beyond, settled, unsettled, with_base, with_list}
 use Rattle.mx_merge.specs.Missing.{gaps_in, in_ranges}
@@ -31,7 +31,7 @@ use Rattle.mx_member.specs.declared.faults.ReadFault.{ReadFault}
 use Rattle.mx_member.specs.declared.faults.ReadFault.TheVariants as read
 use Rattle.mx_member.specs.declared.faults.WriteFault.{WriteFault}
 use Rattle.mx_member.specs.declared.faults.WriteFault.TheVariants as write
-use Rattle.mx_member.specs.Member.{MemberState, first_gap, fresh, with_core, with_draft, with_journal, guarded}
+use Rattle.mx_member.specs.Member.{MemberState, first_gap, with_core, with_draft, with_journal, guarded}
 
 -- a step of the core: draft and journal stay
 abbrev pub core_step : {S A M : Type 0} → MemberState S → Done S A M → Done (MemberState S) A (Parcel M)

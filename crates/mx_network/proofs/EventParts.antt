@@ -8,7 +8,7 @@ use Rattle.mx_member.specs.declared.acts.Act.TheVariants as act
 use Rattle.mx_member.specs.declared.parcel.Parcel.{Parcel}
 use Rattle.mx_member.specs.Acts.{act_of, Arrives}
 use Rattle.mx_member.specs.Member.{MemberState}
-use Rattle.mx_member.specs.Sections.{told}
+use Rattle.mx_member.specs.Told.{told}
 use Rattle.mx_member.specs.Steps.{enter_of, read_of, write_of, leave_of}
 use Rattle.mx_events.specs.declared.event.Event.{Event}
 use Rattle.mx_events.specs.declared.event.Event.TheVariants as event

@@ -12,7 +12,7 @@ use Rattle.mx_member.specs.declared.faults.ReadFault.{ReadFault}
 use Rattle.mx_member.specs.declared.faults.ReadFault.TheVariants as read
 use Rattle.mx_member.specs.declared.faults.WriteFault.{WriteFault}
 use Rattle.mx_member.specs.declared.faults.WriteFault.TheVariants as write
-use Rattle.mx_member.specs.Sections.{told}
+use Rattle.mx_member.specs.Told.{told}
 use Rattle.mx_events.specs.declared.event.Event.{Event}
 use Rattle.mx_events.specs.declared.event.Event.TheVariants as event
 use Rattle.mx_traces.specs.declared.outcome.Outcome.{Outcome}

@@ -25,7 +25,7 @@ use Rattle.mx_network.specs.declared.faults.StepFault.{StepFault}
 use Rattle.mx_network.specs.declared.faults.StepFault.TheVariants.{NoNode}
 use Rattle.mx_network.specs.Kept.{IsKept}
 use Rattle.mx_network.specs.Outcome.{outcome_of}
-use Rattle.mx_traces.specs.Sections.{sections}
+use Rattle.mx_traces.specs.Trace.{sections}
 use Rattle.mx_network.specs.Step.{ClusterState, IsSettledRead, IsUnchanged, answer_of, at_member, at_part, grown, part_of, step_of}
 use Rattle.mx_network.proofs.EventParts.{err_no_ok, same_Ok}
 use Rattle.mx_network.proofs.KeptSound.{kept_sound}

@@ -10,11 +10,10 @@ ghost use Rattle.mx_member.specs.Journals.{IsJournalOf};
 ghost use Rattle.mx_member.specs.Member.{MemberState};
 ghost use Rattle.mx_member.specs.Steps.{start_of};
 ghost use Rattle.mx_member.specs.World.{IsMember};
-ghost use Rattle.mx_member.specs.Serial.{AllClosed, IsInSection, ReadSerially};
+ghost use Rattle.mx_traces.specs.Serial.{AllClosed, IsInSection, ReadSerially};
 ghost use Rattle.mx_network.specs.Merged.{IsAboveAll, IsBelowEach, IsOfAll};
-ghost use Rattle.mx_traces.specs.Sections.{IsSerial, ShowsInOrder, journal_of, sections};
+ghost use Rattle.mx_traces.specs.Trace.{IsSerial, ShowsInOrder, journal_of, sections, IsExclusive, IsNumbered};
 ghost use Rattle.mx_network.specs.Step.{step_of, IsInsideAt, IsInsideWith, IsFaultOf, IsSettledRead, IsUnchanged, NamesNoNode, NamesNoParcel, RunsTo};
-ghost use Rattle.mx_traces.specs.Trace.{IsExclusive, IsNumbered};
 
 use crate::faults::{RunFault, StepFault};
 use crate::parts::{advance, happen, start_members};

@@ -10,8 +10,8 @@ use Rattle.mx_stops.specs.declared.faults.Stop.{Stop}
 use Rattle.mx_stops.specs.declared.faults.Stop.TheVariants as stop
 use Rattle.mx_stops.specs.Closed.{Closes, FallsShort}
 use Rattle.mx_stops.specs.declared.faults.Named.TheVariants.{Plan}
-use Rattle.mx_commands.specs.Jobs.{Job, is_dash}
-use Rattle.mx_stops.specs.Reading.{Reads, Fetches}
+use Rattle.mx_commands.specs.Jobs.{Job}
+use Rattle.mx_stops.specs.Reading.{Fetches, is_dash, Reads}
 use Rattle.mx_io.specs.Outputs.{Held}
 use Rattle.mx_commands.specs.Ran.{EndsEarly, IsRunStatus, Ran, RanOn}
 use Rattle.mx_commands.specs.Runs.{Report, whole}

@@ -8,8 +8,8 @@ use Rattle.mx_stops.specs.declared.faults.Stop.{Stop}
 use Rattle.mx_io.specs.Told.{Telling}
 use Rattle.mx_stops.specs.Closed.{Closes}
 use Rattle.mx_io.specs.Outputs.{Held}
-use Rattle.mx_commands.specs.Jobs.{Job, is_dash, on_plan}
-use Rattle.mx_stops.specs.Reading.{Reads}
+use Rattle.mx_commands.specs.Jobs.{Job, on_plan}
+use Rattle.mx_stops.specs.Reading.{is_dash, Reads}
 use Rattle.mx_commands.specs.Ran.{RanOn}
 use Rattle.mx_scripts.specs.Drawn.{drawn_file}
 use Rattle.mx_scripts.specs.Played.{IsEventFile}

@@ -66,31 +66,37 @@ fn add_placed(
         ≡ string_bytes text.old ++ file_text plan.now (placed_in plan.now events.now plan.now.shape)) }
 {
     match plan.shape() {
-        Shape::Ricart(count) => {
-            let mut cluster = start::<Ricart>(alloc, plan, count)?;
-            add_happened(plan, &mut cluster, events, text)
-        }
-        Shape::Maekawa(sets) => {
-            let mut cluster = start::<Maekawa>(alloc, plan, sets)?;
-            add_happened(plan, &mut cluster, events, text)
-        }
-        Shape::Raymond(tree) => {
-            let mut cluster = start::<Raymond>(alloc, plan, tree)?;
-            add_happened(plan, &mut cluster, events, text)
-        }
+        Shape::Ricart(count) => add_happened(
+            plan,
+            start::<Ricart>(alloc, plan, count)?,
+            events,
+            text,
+        ),
+        Shape::Maekawa(sets) => add_happened(
+            plan,
+            start::<Maekawa>(alloc, plan, sets)?,
+            events,
+            text,
+        ),
+        Shape::Raymond(tree) => add_happened(
+            plan,
+            start::<Raymond>(alloc, plan, tree)?,
+            events,
+            text,
+        ),
     }
 }
 
 /// The drawn events happen in a cluster; then the file of what happened.
 fn add_happened<C: Exclusion>(
     plan: &Plan,
-    cluster: &mut Cluster<C>,
+    mut cluster: Cluster<C>,
     events: &[Event],
     text: &mut String,
 ) -> Result<(), AllocError>
     ensures { OnOk result (string_bytes text.new ≡ string_bytes text.old
-        ++ file_text plan.now (events_of (after_drawn C.core cluster.old events.now).trace)) }
+        ++ file_text plan.now (events_of (after_drawn C.core cluster events.now).trace)) }
 {
-    happen(cluster, events)?;
+    happen(&mut cluster, events)?;
     add_file(plan, cluster.trace(), text)
 }

@@ -3,8 +3,7 @@
 ghost use Rattle.std.specs.Prelude.{◌≡◌, ◌⊎◌, ◌==◌, ◌&&◌, true, false, IfSome, IfOk, Some, Ok};
 ghost use Rattle.mx_words.specs.Words.{names_of};
 ghost use Rattle.std.specs.List.{before_first};
-ghost use Rattle.mx_commands.specs.Jobs.{is_dash};
-ghost use Rattle.mx_stops.specs.Reading.{Reads};
+ghost use Rattle.mx_stops.specs.Reading.{is_dash, Reads};
 ghost use Rattle.mx_commands.specs.Ran.{IsRunStatus, RanOn};
 ghost use Rattle.mx_plan.specs.Fields.{Fields};
 ghost use Rattle.mx_scripts.specs.Errands.{DrawsPlan, HasDone, PrintsEvents, draw_job};

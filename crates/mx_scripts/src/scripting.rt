@@ -28,18 +28,24 @@ pub(crate) fn script_file(alloc: Global, plan: &Plan, script: &str) -> Result<St
     ensures { IfOk result (λ text. IsEventFile plan.now (string_bytes text) plan.now.shape) }
 {
     match plan.shape() {
-        Shape::Ricart(count) => {
-            let mut cluster = start::<Ricart>(alloc, plan, count)?;
-            file_of_script(alloc, plan, &mut cluster, script)
-        }
-        Shape::Maekawa(sets) => {
-            let mut cluster = start::<Maekawa>(alloc, plan, sets)?;
-            file_of_script(alloc, plan, &mut cluster, script)
-        }
-        Shape::Raymond(tree) => {
-            let mut cluster = start::<Raymond>(alloc, plan, tree)?;
-            file_of_script(alloc, plan, &mut cluster, script)
-        }
+        Shape::Ricart(count) => file_of_script(
+            alloc,
+            plan,
+            start::<Ricart>(alloc, plan, count)?,
+            script,
+        ),
+        Shape::Maekawa(sets) => file_of_script(
+            alloc,
+            plan,
+            start::<Maekawa>(alloc, plan, sets)?,
+            script,
+        ),
+        Shape::Raymond(tree) => file_of_script(
+            alloc,
+            plan,
+            start::<Raymond>(alloc, plan, tree)?,
+            script,
+        ),
     }
 }
 
@@ -47,13 +53,13 @@ pub(crate) fn script_file(alloc: Global, plan: &Plan, script: &str) -> Result<St
 fn file_of_script<C: Exclusion>(
     alloc: Global,
     plan: &Plan,
-    cluster: &mut Cluster<C>,
+    mut cluster: Cluster<C>,
     script: &str,
 ) -> Result<String, Halt>
-    requires { cluster.old.trace ≡ [] }
-    ensures { IfOk result (λ text. IsFileOf C.core plan.now cluster.old (string_bytes text)) }
+    requires { cluster.trace ≡ [] }
+    ensures { IfOk result (λ text. IsFileOf C.core plan.now cluster (string_bytes text)) }
 {
-    all_lines(alloc, plan, cluster, script)?;
+    all_lines(alloc, plan, &mut cluster, script)?;
     let text = file_of(alloc, plan, cluster.trace())?;
     Ok(text)
 }

@@ -25,18 +25,27 @@ pub(crate) fn walk_file(
     ensures { IfOk result (λ text. IsEventFile plan.now (string_bytes text) plan.now.shape) }
 {
     match plan.shape() {
-        Shape::Ricart(count) => {
-            let mut cluster = start::<Ricart>(alloc, plan, count)?;
-            file_of_walk(alloc, plan, &mut cluster, seed, steps)
-        }
-        Shape::Maekawa(sets) => {
-            let mut cluster = start::<Maekawa>(alloc, plan, sets)?;
-            file_of_walk(alloc, plan, &mut cluster, seed, steps)
-        }
-        Shape::Raymond(tree) => {
-            let mut cluster = start::<Raymond>(alloc, plan, tree)?;
-            file_of_walk(alloc, plan, &mut cluster, seed, steps)
-        }
+        Shape::Ricart(count) => file_of_walk(
+            alloc,
+            plan,
+            start::<Ricart>(alloc, plan, count)?,
+            seed,
+            steps,
+        ),
+        Shape::Maekawa(sets) => file_of_walk(
+            alloc,
+            plan,
+            start::<Maekawa>(alloc, plan, sets)?,
+            seed,
+            steps,
+        ),
+        Shape::Raymond(tree) => file_of_walk(
+            alloc,
+            plan,
+            start::<Raymond>(alloc, plan, tree)?,
+            seed,
+            steps,
+        ),
     }
 }
 
@@ -44,14 +53,14 @@ pub(crate) fn walk_file(
 fn file_of_walk<C: Exclusion>(
     alloc: Global,
     plan: &Plan,
-    cluster: &mut Cluster<C>,
+    mut cluster: Cluster<C>,
     seed: u64,
     steps: u64,
 ) -> Result<String, AllocError>
-    requires { cluster.old.trace ≡ [] }
-    ensures { IfOk result (λ text. IsFileOf C.core plan.now cluster.old (string_bytes text)) }
+    requires { cluster.trace ≡ [] }
+    ensures { IfOk result (λ text. IsFileOf C.core plan.now cluster (string_bytes text)) }
 {
-    walk(alloc, plan, cluster, seed, steps)?;
+    walk(alloc, plan, &mut cluster, seed, steps)?;
     file_of(alloc, plan, cluster.trace())
 }
 

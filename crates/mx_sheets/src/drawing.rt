@@ -45,8 +45,25 @@ impl Drawing {
     }
 }
 
+/// Draws the events from a cluster on.
+pub(crate) fn draw_run<C: Exclusion>(
+    plan: &Plan,
+    mut cluster: Cluster<C>,
+    events: &[Event],
+    drawing: &mut Drawing,
+) -> Result<(), Stop>
+where
+    C::Msg: Letter + Inked,
+    requires members { length cluster.members ≡ length plan.now.nodes }
+    requires named { AllNameNodes (length plan.now.nodes) events.now }
+    ensures ok { OnOk result ((run_from C.core C.Msg.letter_text plan.now 0 cluster events.now).end ≡ None) }
+    ensures err { IfErr result (StopsAs (run_from C.core C.Msg.letter_text plan.now 0 cluster events.now)) }
+{
+    draw_events(plan, &mut cluster, events, drawing)
+}
+
 /// Each event in turn.
-pub(crate) fn draw_events<C: Exclusion>(
+fn draw_events<C: Exclusion>(
     plan: &Plan,
     cluster: &mut Cluster<C>,
     events: &[Event],

@@ -8,7 +8,7 @@ ghost use Rattle.mx_commands.specs.Runs.{AllNameNodes};
 ghost use Rattle.mx_commands.specs.Ran.{Ran, RanOf, RanOn};
 ghost use Rattle.mx_sheets.specs.Drawn.{Draws, IsWhole, StopsAs};
 
-use crate::drawing::{Drawing, draw_events};
+use crate::drawing::{Drawing, draw_run};
 use crate::page::add_page;
 use crate::sheet::Sheet;
 use mx_commands::{
@@ -122,17 +122,23 @@ fn draw_by_shape(
     ensures err { IfErr result (StopsAs (run_by plan.now plan.now.shape events.now)) }
 {
     match plan.shape() {
-        Shape::Ricart(count) => {
-            let mut cluster = start::<Ricart>(alloc, plan, count)?;
-            draw_events(plan, &mut cluster, events, drawing)
-        }
-        Shape::Maekawa(sets) => {
-            let mut cluster = start::<Maekawa>(alloc, plan, sets)?;
-            draw_events(plan, &mut cluster, events, drawing)
-        }
-        Shape::Raymond(tree) => {
-            let mut cluster = start::<Raymond>(alloc, plan, tree)?;
-            draw_events(plan, &mut cluster, events, drawing)
-        }
+        Shape::Ricart(count) => draw_run(
+            plan,
+            start::<Ricart>(alloc, plan, count)?,
+            events,
+            drawing,
+        ),
+        Shape::Maekawa(sets) => draw_run(
+            plan,
+            start::<Maekawa>(alloc, plan, sets)?,
+            events,
+            drawing,
+        ),
+        Shape::Raymond(tree) => draw_run(
+            plan,
+            start::<Raymond>(alloc, plan, tree)?,
+            events,
+            drawing,
+        ),
     }
 }

@@ -1,7 +1,9 @@
 -- What is read of a source, and why it is refused.
-use Rattle.std.specs.Prelude.{◌≡◌, ◌⊎◌, ℕ, List, Option, Some, None, Result, Ok, Err, Vec, IfOk}
+use Rattle.std.specs.Prelude.{◌≡◌, ◌⊎◌, ℕ, Bool, List, Option, Some, None, Result, Ok, Err, Vec, IfOk, codes}
 use Rattle.std.specs.Option.{option_map_or}
+use Rattle.std.specs.Str.{bytes_eq}
 use Rattle.std.specs.declared.alloc.Global.{Global}
+use Rattle.mx_plan.specs.Text.{Text}
 use Rattle.mx_plan.specs.Fields.{Fields, IsPlan}
 use Rattle.mx_plan.specs.Plans.{IsOutcome, draft_at}
 use Rattle.mx_plan.specs.declared.faults.PlanFault.{PlanFault}
@@ -13,6 +15,10 @@ use Rattle.mx_stops.specs.declared.faults.Named.TheVariants.{Plan}
 use Rattle.mx_stops.specs.declared.faults.Stop.{Stop}
 use Rattle.mx_stops.specs.declared.faults.Stop.TheVariants as stop
 use Rattle.mx_io.specs.Told.{Telling}
+
+-- the name of standard input
+abbrev pub is_dash : Text → Bool
+is_dash name = bytes_eq name (codes "-")
 
 -- the bytes that a source tells of a name
 abbrev pub Fetches : Named → Telling → Result (Vec ℕ Global) Stop → Type 0

@@ -9,8 +9,7 @@ use Rattle.mx_letters.specs.declared.raymond.RaymondMsg.{RaymondMsg}
 use Rattle.mx_letters.specs.declared.raymond.RaymondMsg.TheVariants as raymond
 use Rattle.mx_member.specs.declared.parcel.Parcel.{Parcel}
 use Rattle.mx_member.specs.declared.parcel.Parcel.TheVariants as parcel
-use Rattle.mx_traces.specs.declared.outcome.Cause.{Cause}
-use Rattle.mx_traces.specs.declared.outcome.Cause.TheVariants.{NotIdle, StampsSpent, NotWaiting, NotGranted, NumbersSpent, NotInside, NoRegister, Gap, Full, Below}
+use Rattle.mx_traces.specs.Causes.{cause_words}
 use Rattle.mx_traces.specs.declared.outcome.Outcome.{Outcome}
 use Rattle.mx_traces.specs.declared.outcome.Outcome.TheVariants.{Refused}
 use Rattle.mx_plan.specs.Text.{Text}
@@ -46,22 +45,9 @@ module _ {M : Type 0} (kind_text : M → Text) (name : Text) where
   abbrev pub is_under : ℕ × ℕ × Parcel M → Bool
   is_under x = is_kind x.0 x.1 x.2
 
--- a cause, without the number that a gap or a base has
-abbrev pub cause_kind : Cause → Text
-cause_kind NotIdle = codes "not idle"
-cause_kind StampsSpent = codes "stamps spent"
-cause_kind NotWaiting = codes "not waiting"
-cause_kind NotGranted = codes "not granted"
-cause_kind NumbersSpent = codes "numbers spent"
-cause_kind NotInside = codes "not inside"
-cause_kind NoRegister = codes "no register"
-cause_kind (Gap n) = codes "gap"
-cause_kind Full = codes "full"
-cause_kind (Below n) = codes "below"
-
 -- a refusal counts under `refused` and under its cause
 abbrev pub is_refused_under : Text → Outcome → Bool
-is_refused_under name (Refused cause) = bytes_eq name (codes "refused") || bytes_eq name (cause_kind cause)
+is_refused_under name (Refused cause) = bytes_eq name (codes "refused") || bytes_eq name (cause_words cause)
 is_refused_under name _ = false
 
 -- the names under which the parcels of each algorithm are counted, in the order of their lines

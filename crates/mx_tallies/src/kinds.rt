@@ -3,11 +3,11 @@
 ghost use Rattle.std.specs.Prelude.{◌≡◌, ◌||◌, List, map};
 ghost use Rattle.std.specs.Str.{bytes_eq};
 ghost use Rattle.mx_plan.specs.Text.{Text};
-ghost use Rattle.mx_tallies.specs.Kinds.{cause_kind, is_refused_under, is_under, maekawa_kind, maekawa_names, raymond_kind, raymond_names, refusal_names, ricart_kind, ricart_names};
+ghost use Rattle.mx_tallies.specs.Kinds.{is_refused_under, is_under, maekawa_kind, maekawa_names, raymond_kind, raymond_names, refusal_names, ricart_kind, ricart_names};
 
 use mx_letters::{MaekawaMsg, RaymondMsg, RicartMsg};
 use mx_member::Parcel;
-use mx_network::{Cause, Outcome};
+use mx_network::Outcome;
 use mx_stamps::NodeId;
 use mx_texts::Letter;
 
@@ -154,25 +154,7 @@ pub(crate) fn is_refused_under(name: &str, outcome: &Outcome) -> bool
     ensures { result ≡ is_refused_under name.now outcome.now }
 {
     match outcome {
-        Outcome::Refused(cause) => is_either(name, "refused", cause_kind(cause)),
+        Outcome::Refused(cause) => is_either(name, "refused", cause.words()),
         _ => false,
-    }
-}
-
-/// A cause, without the number that a gap or a base has.
-fn cause_kind(cause: &Cause) -> &'static str
-    ensures { result.now ≡ cause_kind cause.now }
-{
-    match cause {
-        Cause::NotIdle => "not idle",
-        Cause::StampsSpent => "stamps spent",
-        Cause::NotWaiting => "not waiting",
-        Cause::NotGranted => "not granted",
-        Cause::NumbersSpent => "numbers spent",
-        Cause::NotInside => "not inside",
-        Cause::NoRegister => "no register",
-        Cause::Gap(_) => "gap",
-        Cause::Full => "full",
-        Cause::Below(_) => "below",
     }
 }

@@ -44,24 +44,30 @@ pub(crate) fn add_counts_of(
     ensures zero { IfOk result (λ status. status ≡ 0) }
 {
     match plan.shape() {
-        Shape::Ricart(count) => {
-            let mut cluster = start::<Ricart>(alloc, plan, count)?;
-            add_counts_after(&mut cluster, events, course, text)
-        }
-        Shape::Maekawa(sets) => {
-            let mut cluster = start::<Maekawa>(alloc, plan, sets)?;
-            add_counts_after(&mut cluster, events, course, text)
-        }
-        Shape::Raymond(tree) => {
-            let mut cluster = start::<Raymond>(alloc, plan, tree)?;
-            add_counts_after(&mut cluster, events, course, text)
-        }
+        Shape::Ricart(count) => add_counts_after(
+            start::<Ricart>(alloc, plan, count)?,
+            events,
+            course,
+            text,
+        ),
+        Shape::Maekawa(sets) => add_counts_after(
+            start::<Maekawa>(alloc, plan, sets)?,
+            events,
+            course,
+            text,
+        ),
+        Shape::Raymond(tree) => add_counts_after(
+            start::<Raymond>(alloc, plan, tree)?,
+            events,
+            course,
+            text,
+        ),
     }
 }
 
 /// The events happen; then what is counted of them, and the verdict. Answers the status.
 fn add_counts_after<C: Exclusion>(
-    cluster: &mut Cluster<C>,
+    mut cluster: Cluster<C>,
     events: &[Event],
     course: Course,
     text: &mut String,
@@ -69,11 +75,11 @@ fn add_counts_after<C: Exclusion>(
 where
     C::Msg: Kinded,
     ensures text { OnOk result (AddsCounts C.core C.Msg.kind_text C.Msg.names course events.now
-        cluster.old (string_bytes text.old) (string_bytes text.new)) }
+        cluster (string_bytes text.old) (string_bytes text.new)) }
     ensures zero { IfOk result (λ status. status ≡ 0) }
 {
-    bring_about(cluster, events, course)?;
-    add_counts(cluster, events.len() as u64, course, text)
+    bring_about(&mut cluster, events, course)?;
+    add_counts(&cluster, events.len() as u64, course, text)
 }
 
 /// Each event in turn.

@@ -1,9 +1,9 @@
 -- The lines of events.
-use Rattle.std.specs.Prelude.{ℕ, [], ◌++◌, codes, decimal, length, slice_get, unwrap_or}
+use Rattle.std.specs.Prelude.{ℕ, [], ◌++◌, Option, Some, None, codes, decimal, length, slice_get, unwrap_or}
 use Rattle.mx_events.specs.declared.event.Event.{Event}
 use Rattle.mx_events.specs.declared.event.Event.TheVariants.{Ask, Enter, Read, Write, Leave, Cancel, Tick, Want, Settle, Restart, Deliver}
 use Rattle.mx_traces.specs.declared.outcome.Cause.{Cause}
-use Rattle.mx_traces.specs.declared.outcome.Cause.TheVariants.{NotIdle, StampsSpent, NotWaiting, NotGranted, NumbersSpent, NotInside, NoRegister, Gap, Full, Below}
+use Rattle.mx_traces.specs.Causes.{cause_number, cause_words}
 use Rattle.mx_traces.specs.declared.outcome.Outcome.{Outcome}
 use Rattle.mx_traces.specs.declared.outcome.Outcome.TheVariants.{Asked, Entered, Value, Written, Left, Cancelled, Sent, Settled, Delivered, Woken, Refused}
 use Rattle.mx_plan.specs.Text.{Text, line_feed}
@@ -25,17 +25,13 @@ named word name = word ++ codes " " ++ name
 abbrev pub numbered : Text → ℕ → Text
 numbered word number = word ++ codes " " ++ decimal number
 
+-- a word, and a number behind it where there is one
+abbrev pub with_number : Text → Option ℕ → Text
+with_number word None = word
+with_number word (Some number) = numbered word number
+
 abbrev pub cause_text : Cause → Text
-cause_text NotIdle = codes "not idle"
-cause_text StampsSpent = codes "stamps spent"
-cause_text NotWaiting = codes "not waiting"
-cause_text NotGranted = codes "not granted"
-cause_text NumbersSpent = codes "numbers spent"
-cause_text NotInside = codes "not inside"
-cause_text NoRegister = codes "no register"
-cause_text (Gap n) = numbered (codes "gap") n
-cause_text Full = codes "full"
-cause_text (Below k) = numbered (codes "below") k
+cause_text cause = with_number (cause_words cause) (cause_number cause)
 
 abbrev pub outcome_text : Outcome → Text
 outcome_text (Asked stamp) = numbered (codes "asked") stamp.number

@@ -55,17 +55,9 @@ impl OutcomeText<'_> {
 fn refusal(cause: &Cause) -> Words<'static>
     ensures { words_text result ≡ codes "refused " ++ cause_text cause.now }
 {
-    match cause {
-        Cause::NotIdle => Words::Name("refused", "not idle"),
-        Cause::StampsSpent => Words::Name("refused", "stamps spent"),
-        Cause::NotWaiting => Words::Name("refused", "not waiting"),
-        Cause::NotGranted => Words::Name("refused", "not granted"),
-        Cause::NumbersSpent => Words::Name("refused", "numbers spent"),
-        Cause::NotInside => Words::Name("refused", "not inside"),
-        Cause::NoRegister => Words::Name("refused", "no register"),
-        Cause::Gap(number) => Words::NameAndNumber("refused", "gap", *number),
-        Cause::Full => Words::Name("refused", "full"),
-        Cause::Below(number) => Words::NameAndNumber("refused", "below", *number),
+    match cause.number() {
+        Some(number) => Words::NameAndNumber("refused", cause.words(), number),
+        None => Words::Name("refused", cause.words()),
     }
 }
 

@@ -8,7 +8,7 @@ use Rattle.mx_journal.specs.Drafted.{record_of}
 use Rattle.mx_journal.specs.Settled.{Covers, JournalState, settled, unsettled}
 use Rattle.mx_registers.specs.Based.{registers_in}
 use Rattle.mx_registers.specs.Registers.{AreApplied, writes_to}
-use Rattle.mx_member.specs.Serial.{IsSerialRead}
+use Rattle.mx_traces.specs.Serial.{IsSerialRead}
 
 -- Receipts and journal are one serial order of sections.
 pub record AreSerial (receipts : List Receipt) (journal : JournalState) : Type 0 where

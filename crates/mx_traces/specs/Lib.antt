@@ -1,4 +1,6 @@
--- Trace: exclusion and numbering, said of a trace alone. Sections: the sections of a trace, their
--- journal and their order.
-pub mod Trace
+-- Sections: the sections of a history. Serial: what a history must be to be serial.
+-- Trace: what is said of a trace alone. Causes: what the cause of a refusal is called.
 pub mod Sections
+pub mod Serial
+pub mod Trace
+pub mod Causes

@@ -1,29 +1,69 @@
--- The sections of a trace, their journal, and the order in which they stand.
-use Rattle.std.specs.Prelude.{ℕ, ◌≤◌, List, []}
+-- The sections that a history tells of, in order of entry, and their journal.
+use Rattle.std.specs.Prelude.{ℕ, suc, ◌&&◌, ◌++◌, Bool, true, false, not, List, [], ◌∷◌, length, nat_eq, nat_lt, if◌then◌else◌}
+use Rattle.mx_journal.specs.declared.records.Write.{Write}
 use Rattle.mx_journal.specs.declared.records.Record.{Record}
-use Rattle.mx_journal.specs.Settled.{IsCovered, JournalState, top_covered}
-use Rattle.mx_registers.specs.Based.{registers_in}
-use Rattle.mx_registers.specs.Registers.{AreApplied}
-use Rattle.mx_member.specs.Sections.{Section, after_marks, oldest, section_journal, writes_in}
-use Rattle.mx_member.specs.Serial.{AllFit}
-use Rattle.mx_traces.specs.declared.outcome.Entry.{Entry}
-use Rattle.mx_traces.specs.Trace.{marks}
+use Rattle.mx_journal.specs.declared.receipts.Receipt.{Receipt}
+use Rattle.mx_journal.specs.Drafted.{Drafted, fresh, with_read, with_write, receipt_of, record_of}
 
--- the sections, the newest first
-abbrev pub sections : List Entry → List Section
-sections trace = after_marks [] (marks trace)
+-- what an event tells of sections: a node enters, reads a value from a register, writes one, leaves, or wakes up again
+pub data Mark : Type 0 where
+  Came : (node number : ℕ) → Mark
+  Got : (node register value : ℕ) → Mark
+  Wrote : (node register value : ℕ) → Mark
+  Went : (node : ℕ) (receipt : Receipt) → Mark
+  Woke : (node : ℕ) → Mark
 
--- the journal of the sections: the record of each section that was left
-abbrev pub journal_of : List Entry → List Record
-journal_of trace = section_journal (sections trace)
+-- a section: the node that entered it, what the node read and wrote in it since it entered or last woke up, and whether it was left
+pub record Section : Type 0 where
+  pub node : ℕ
+  pub draft : Drafted
+  pub closed : Bool
 
--- the sections stand one behind another: each value read is what the writes before it, in order of
--- entry, leave in the register, and each receipt is that of its section
-abbrev pub IsSerial : List Entry → Type 0
-IsSerial trace = AllFit [] (marks trace)
+abbrev pub opened : ℕ → Section
+opened i = record { node = i; draft = fresh; closed = false }
 
--- where the journal covers the first k sections and no others, its registers, of which a base keeps 32, are
--- what the writes of these sections leave, applied in order of entry
-abbrev pub ShowsInOrder : List Entry → JournalState → Type 0
-ShowsInOrder trace journal =
-    (k count : ℕ) → count ≤ 32 → IsCovered k journal → top_covered journal ≤ k → AreApplied (writes_in (oldest k (sections trace))) (registers_in count journal)
+abbrev pub redrafted : (Drafted → Drafted) → Section → Section
+redrafted f s = record { node = s.node; draft = f s.draft; closed = s.closed }
+
+abbrev pub closing : Section → Section
+closing s = record { node = s.node; draft = s.draft; closed = true }
+
+-- the newest section that node i has entered and not left is changed by f
+abbrev pub at_open : ℕ → (Section → Section) → List Section → List Section
+at_open i f [] = []
+at_open i f (s ∷ ss) = if nat_eq s.node i && not s.closed then f s ∷ ss else s ∷ at_open i f ss
+
+-- the sections after a mark. They are listed with the newest first, so that n - 1 others stand behind the n-th
+abbrev pub after_mark : List Section → Mark → List Section
+after_mark ss (Came i n) = opened i ∷ ss
+after_mark ss (Got i register value) = at_open i (redrafted (with_read register value)) ss
+after_mark ss (Wrote i register value) = at_open i (redrafted (with_write register value)) ss
+after_mark ss (Went i receipt) = at_open i closing ss
+after_mark ss (Woke i) = at_open i (redrafted (λ _. fresh)) ss
+
+abbrev pub after_marks : List Section → List Mark → List Section
+after_marks ss [] = ss
+after_marks ss (m ∷ ms) = after_marks (after_mark ss m) ms
+
+-- the writes of the sections, in order of entry, each section's in order
+abbrev pub writes_in : List Section → List Write
+writes_in [] = []
+writes_in (s ∷ ss) = writes_in ss ++ s.draft.writes
+
+-- the first k sections
+abbrev pub oldest : ℕ → List Section → List Section
+oldest k [] = []
+oldest k (s ∷ ss) = if nat_lt (length ss) k then s ∷ ss else oldest k ss
+
+-- the receipt of the section that was entered n-th
+abbrev pub section_receipt : ℕ → Section → Receipt
+section_receipt n s = receipt_of n s.node s.draft
+
+-- the record of the n-th section, where it is closed
+abbrev pub closed_record : ℕ → Section → List Record
+closed_record n s = if s.closed then record_of (section_receipt n s) ∷ [] else []
+
+-- the journal of the sections: the records of those that are closed
+abbrev pub section_journal : List Section → List Record
+section_journal [] = []
+section_journal (s ∷ ss) = section_journal ss ++ closed_record (suc (length ss)) s

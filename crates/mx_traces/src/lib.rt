@@ -1,5 +1,5 @@
-//! What comes of events, and the items of a trace: what a cluster leaves of a run, for those who print it, who
-//! judge it and who prove what holds of it. None of them has to wait for the cluster.
+//! What comes of events, the items of a trace, and what sections are: for members and clusters, of which it is
+//! proved, and for those who print and judge traces. None of them has to wait for the cluster.
 #![tactic(auto)]
 
 mod outcome;

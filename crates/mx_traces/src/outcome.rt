@@ -1,6 +1,7 @@
 //! What comes of an event, and the items of a trace.
 
 ghost use Rattle.std.specs.Prelude.{◌≡◌};
+ghost use Rattle.mx_traces.specs.Causes.{cause_number, cause_words};
 
 use mx_events::Event;
 use mx_journal::Receipt;
@@ -23,6 +24,36 @@ pub enum Cause {
     Full,
     /// The journal's base stands for more sections already, for those up to this one.
     Below(u64),
+}
+
+impl Cause {
+    /// What it is called, without the number that a gap or a base has.
+    pub fn words(&self) -> &'static str
+        ensures { result.now ≡ cause_words self.now }
+    {
+        match self {
+            Cause::NotIdle => "not idle",
+            Cause::StampsSpent => "stamps spent",
+            Cause::NotWaiting => "not waiting",
+            Cause::NotGranted => "not granted",
+            Cause::NumbersSpent => "numbers spent",
+            Cause::NotInside => "not inside",
+            Cause::NoRegister => "no register",
+            Cause::Gap(_) => "gap",
+            Cause::Full => "full",
+            Cause::Below(_) => "below",
+        }
+    }
+
+    /// The number that a gap or a base has.
+    pub fn number(&self) -> Option<u64>
+        ensures { result ≡ cause_number self.now }
+    {
+        match self {
+            Cause::Gap(number) | Cause::Below(number) => Some(*number),
+            _ => None,
+        }
+    }
 }
 
 /// What came of an event.

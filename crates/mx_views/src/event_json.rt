@@ -115,25 +115,9 @@ fn add_left(receipt: &Receipt, text: &mut String) -> Result<(), AllocError> {
 /// Appends a refusal and its cause.
 fn add_refusal(cause: &Cause, text: &mut String) -> Result<(), AllocError> {
     add_bare("refused", text)?;
-    add_word("cause", cause_name(cause), text)?;
-    match cause {
-        Cause::Gap(number) | Cause::Below(number) => add_number("number", *number, text),
-        _ => Ok(()),
-    }
-}
-
-/// A cause, without the number that a gap or a base has.
-fn cause_name(cause: &Cause) -> &'static str {
-    match cause {
-        Cause::NotIdle => "not idle",
-        Cause::StampsSpent => "stamps spent",
-        Cause::NotWaiting => "not waiting",
-        Cause::NotGranted => "not granted",
-        Cause::NumbersSpent => "numbers spent",
-        Cause::NotInside => "not inside",
-        Cause::NoRegister => "no register",
-        Cause::Gap(_) => "gap",
-        Cause::Full => "full",
-        Cause::Below(_) => "below",
+    add_word("cause", cause.words(), text)?;
+    match cause.number() {
+        Some(number) => add_number("number", number, text),
+        None => Ok(()),
     }
 }

@@ -17,7 +17,7 @@ use std::alloc::{AllocError, Global};
 pub(crate) fn show<C: Exclusion, O: Output>(
     alloc: Global,
     view: &View<'_>,
-    cluster: &mut Cluster<C>,
+    mut cluster: Cluster<C>,
     events: &[Event],
     out: &mut O,
 ) -> Result<u8, Stop>
@@ -25,8 +25,8 @@ where
     C::Msg: JsonLetter,
     ensures zero { IfOk result (λ status. status ≡ 0) }
 {
-    show_events(alloc, view, cluster, events, out)?;
-    show_closing(alloc, view, cluster, out)
+    show_events(alloc, view, &mut cluster, events, out)?;
+    show_closing(alloc, view, &cluster, out)
 }
 
 /// Each event in turn, and its lines in one piece.

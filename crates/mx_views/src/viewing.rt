@@ -113,17 +113,26 @@ fn show_by_shape<O: Output>(
     ensures zero { IfOk result (λ status. status ≡ 0) }
 {
     match view.plan.shape() {
-        Shape::Ricart(count) => {
-            let mut cluster = start::<Ricart>(alloc, view.plan, count)?;
-            show(alloc, view, &mut cluster, events, out)
-        }
-        Shape::Maekawa(sets) => {
-            let mut cluster = start::<Maekawa>(alloc, view.plan, sets)?;
-            show(alloc, view, &mut cluster, events, out)
-        }
-        Shape::Raymond(tree) => {
-            let mut cluster = start::<Raymond>(alloc, view.plan, tree)?;
-            show(alloc, view, &mut cluster, events, out)
-        }
+        Shape::Ricart(count) => show(
+            alloc,
+            view,
+            start::<Ricart>(alloc, view.plan, count)?,
+            events,
+            out,
+        ),
+        Shape::Maekawa(sets) => show(
+            alloc,
+            view,
+            start::<Maekawa>(alloc, view.plan, sets)?,
+            events,
+            out,
+        ),
+        Shape::Raymond(tree) => show(
+            alloc,
+            view,
+            start::<Raymond>(alloc, view.plan, tree)?,
+            events,
+            out,
+        ),
     }
 }

@@ -8,32 +8,32 @@ use Rattle.mx_tallies.specs.Kinds.{maekawa_kind, maekawa_names, raymond_kind, ra
 use Rattle.mx_tallies.proofs.CountedLemmas.{counted_by, counted_from}
 use Rattle.mx_tallies.proofs.running.add_counts_of.Goals as goal
 
-pub returns-in_ok-cluster-in-Ricart-clause-text : goal.returns-in_ok-cluster-in-Ricart-clause-text
-returns-in_ok-cluster-in-Ricart-clause-text c =
+pub returns-in_ok-start-in-Ricart-clause-text : goal.returns-in_ok-start-in-Ricart-clause-text
+returns-in_ok-start-in-Ricart-clause-text c =
     let p = c.args.plan.now in
     let old = string_bytes c.args.text.now in
     let new = string_bytes c.add_counts_after.new.text in
     let shape = c.in-Ricart.count in
-    let counted = counted_from ricart_core ricart_kind ricart_names c.args.course c.args.events.now (at_rest ricart_core p shape) c.in_ok-cluster-in-Ricart.cluster old new c.add_counts_after.result
-    c.in_ok-cluster-in-Ricart.ensures c.add_counts_after.ensures.text in
+    let counted = counted_from ricart_core ricart_kind ricart_names c.args.course c.args.events.now (at_rest ricart_core p shape) _ old new c.add_counts_after.result
+    c.in_ok-start-in-Ricart.ensures c.add_counts_after.ensures.text in
     counted_by c.args.course p c.args.events.now old new c.add_counts_after.result (Ricart shape) (sym c.in-Ricart.is ∙ c.shape.ensures.value) counted
 
-pub returns-in_ok-cluster-in-Maekawa-clause-text : goal.returns-in_ok-cluster-in-Maekawa-clause-text
-returns-in_ok-cluster-in-Maekawa-clause-text c =
+pub returns-in_ok-start-in-Maekawa-clause-text : goal.returns-in_ok-start-in-Maekawa-clause-text
+returns-in_ok-start-in-Maekawa-clause-text c =
     let p = c.args.plan.now in
     let old = string_bytes c.args.text.now in
     let new = string_bytes c.add_counts_after-in-Maekawa.new.text in
     let shape = c.in-Maekawa.sets in
-    let counted = counted_from maekawa_core maekawa_kind maekawa_names c.args.course c.args.events.now (at_rest maekawa_core p shape) c.in_ok-cluster-in-Maekawa.cluster old new c.add_counts_after-in-Maekawa.result
-    c.in_ok-cluster-in-Maekawa.ensures c.add_counts_after-in-Maekawa.ensures.text in
+    let counted = counted_from maekawa_core maekawa_kind maekawa_names c.args.course c.args.events.now (at_rest maekawa_core p shape) _ old new c.add_counts_after-in-Maekawa.result
+    c.in_ok-start-in-Maekawa.ensures c.add_counts_after-in-Maekawa.ensures.text in
     counted_by c.args.course p c.args.events.now old new c.add_counts_after-in-Maekawa.result (Maekawa shape) (sym c.in-Maekawa.is ∙ c.shape.ensures.value) counted
 
-pub returns-in_ok-cluster-in-Raymond-clause-text : goal.returns-in_ok-cluster-in-Raymond-clause-text
-returns-in_ok-cluster-in-Raymond-clause-text c =
+pub returns-in_ok-start-in-Raymond-clause-text : goal.returns-in_ok-start-in-Raymond-clause-text
+returns-in_ok-start-in-Raymond-clause-text c =
     let p = c.args.plan.now in
     let old = string_bytes c.args.text.now in
     let new = string_bytes c.add_counts_after-in-Raymond.new.text in
     let shape = c.in-Raymond.tree in
-    let counted = counted_from raymond_core raymond_kind raymond_names c.args.course c.args.events.now (at_rest raymond_core p shape) c.in_ok-cluster-in-Raymond.cluster old new c.add_counts_after-in-Raymond.result
-    c.in_ok-cluster-in-Raymond.ensures c.add_counts_after-in-Raymond.ensures.text in
+    let counted = counted_from raymond_core raymond_kind raymond_names c.args.course c.args.events.now (at_rest raymond_core p shape) _ old new c.add_counts_after-in-Raymond.result
+    c.in_ok-start-in-Raymond.ensures c.add_counts_after-in-Raymond.ensures.text in
     counted_by c.args.course p c.args.events.now old new c.add_counts_after-in-Raymond.result (Raymond shape) (sym c.in-Raymond.is ∙ c.shape.ensures.value) counted

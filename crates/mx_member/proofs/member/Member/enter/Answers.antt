@@ -1,7 +1,7 @@
 use Rattle.std.proofs.Common.{ℕ, ◌≡◌, ◌∙◌, Ok, ap, rules}
 use Rattle.mx_nodelaws.specs.Core.{Core}
-use Rattle.mx_journal.specs.Drafted.{Drafted}
-use Rattle.mx_member.specs.Member.{MemberState, fresh, with_core, with_draft}
+use Rattle.mx_journal.specs.Drafted.{Drafted, fresh}
+use Rattle.mx_member.specs.Member.{MemberState, with_core, with_draft}
 use Rattle.mx_member.specs.Steps.{enter_of, entered}
 use Rattle.mx_member.proofs.member.Member.enter.Goals as goal
 

@@ -1,10 +1,10 @@
 use Rattle.std.proofs.Common.{ℕ, ◌≡◌, ◌∙◌, [], length, ap, sym, arith}
 use Rattle.mx_nodelaws.specs.Core.{Core}
-use Rattle.mx_journal.specs.Drafted.{Drafted}
+use Rattle.mx_journal.specs.Drafted.{Drafted, fresh}
 use Rattle.mx_journal.specs.Settled.{JournalState, unsettled}
 use Rattle.mx_registers.specs.Based.{registers_in}
 use Rattle.mx_registers.proofs.Based.{registers_unsettled}
-use Rattle.mx_member.specs.Member.{IsViewOf, MemberState, Setting, fresh}
+use Rattle.mx_member.specs.Member.{IsViewOf, MemberState, Setting}
 use Rattle.mx_member.specs.Steps.{start_of}
 use Rattle.mx_member.proofs.member.Member.start.Goals as goal
 

@@ -1,7 +1,6 @@
 use Rattle.std.proofs.Common.{take}
-use Rattle.mx_traces.specs.Sections.{IsSerial}
+use Rattle.mx_traces.specs.Trace.{IsSerial, IsExclusive, IsNumbered}
 use Rattle.mx_network.specs.Step.{RunsTo}
-use Rattle.mx_traces.specs.Trace.{IsExclusive, IsNumbered}
 use Rattle.mx_network.proofs.cluster.Cluster.run.Given as goal
 
 abbrev pub invariant-loop-index : goal.invariant-loop-index

@@ -11,7 +11,7 @@ use Rattle.mx_stops.specs.Outputs.{stop_of}
 use Rattle.mx_commands.specs.Ran.{StopsAt}
 use Rattle.mx_stops.proofs.OutputLemmas.{Appends-nil, appends_more}
 use Rattle.mx_commands.proofs.RunLemmas.{after_after, done_some, err_is, grows, named_at, ran_to, refused_on, rest, rest_end, rest_ok, stopped_at, stopped_by, stops_taken}
-use Rattle.mx_commands.proofs.running.run.Goals as goal
+use Rattle.mx_commands.proofs.running.run_events.Goals as goal
 
 pub loop-index-init : goal.loop-index-init
 loop-index-init g c = record {

@@ -4,7 +4,7 @@ use Rattle.mx_stamps.specs.Lists.{IsIn}
 use Rattle.mx_journal.specs.declared.records.Write.{Write}
 use Rattle.mx_journal.specs.declared.receipts.Read.{Read}
 use Rattle.mx_registers.specs.Registers.{applied}
-use Rattle.mx_member.specs.Sections.{Mark, Came, Got, Wrote, Went, Woke, Section, after_mark, writes_in, section_receipt}
+use Rattle.mx_traces.specs.Sections.{Mark, Came, Got, Wrote, Went, Woke, Section, after_mark, writes_in, section_receipt}
 
 abbrev pub AllClosed : List Section → Type 0
 AllClosed [] = Unit {0}

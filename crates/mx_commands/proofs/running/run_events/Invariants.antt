@@ -4,7 +4,7 @@ use Rattle.std.specs.List.{concat}
 use Rattle.mx_plan.specs.Text.{Text}
 use Rattle.mx_commands.specs.Runs.{after_texts, run_from}
 use Rattle.mx_commands.proofs.RunLemmas.{rest}
-use Rattle.mx_commands.proofs.running.run.Given as goal
+use Rattle.mx_commands.proofs.running.run_events.Given as goal
 
 abbrev pub invariant-loop-index : goal.invariant-loop-index
 invariant-loop-index g l = record {

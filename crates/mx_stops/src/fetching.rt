@@ -3,11 +3,12 @@
 ghost use Rattle.std.specs.Prelude.{◌≡◌, Bool};
 ghost use Rattle.mx_stops.specs.Outputs.{refused_after};
 
-use crate::replaying::{are_dashes, split_line};
+use crate::faults::{Named, Stop};
+use crate::planning::{fetch, fetch_plan, plan_in};
+use crate::splitting::{are_dashes, split_line};
+use mx_events::Event;
 use mx_io::Source;
-use mx_network::Event;
 use mx_plan::{Plan, read_events};
-use mx_stops::{Named, Stop, fetch, fetch_plan, plan_in};
 use mx_words::Names;
 use std::alloc::Global;
 
