@@ -6,10 +6,11 @@ ghost use Rattle.mx_stops.specs.Told.{Helps, Scolds, seen};
 ghost use Rattle.mx_commands.specs.Ran.{IsRunStatus};
 ghost use Rattle.mx_views.specs.ViewWords.{views_asked, view_line};
 
+use crate::fetching::fetch_run;
 use crate::showing::show;
 use crate::view::View;
 use crate::words::{Wish, asked_wish};
-use mx_commands::{Fault, Output, Source, Stop, close, fetch_run, refuse, start};
+use mx_commands::{Fault, Output, Source, Stop, close, refuse, start};
 use mx_maekawa::Maekawa;
 use mx_network::Event;
 use mx_plan::{Place, Plan, PlanFault, Shape};

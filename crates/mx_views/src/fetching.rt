@@ -1,20 +1,17 @@
-//! Reading a plan and its events, for commands that do more with them than a replay.
+//! Reading a plan and its events.
 
 ghost use Rattle.std.specs.Prelude.{◌≡◌, Bool};
 ghost use Rattle.mx_stops.specs.Outputs.{refused_after};
 
-use crate::faults::{Named, Stop};
-use crate::planning::{fetch, fetch_plan, plan_in};
-use crate::splitting::{are_dashes, split_line};
-use mx_events::Event;
-use mx_io::Source;
+use mx_commands::{Named, Source, Stop, are_dashes, fetch, fetch_plan, plan_in, split_line};
+use mx_network::Event;
 use mx_plan::{Plan, read_events};
 use mx_words::Names;
 use std::alloc::Global;
 
 /// The plan and the events of two names, as `replay` reads them: in its order, with its faults, and from
 /// one text where both are standard input. An output has no part in it.
-pub fn fetch_run<S: Source>(
+pub(crate) fn fetch_run<S: Source>(
     alloc: Global,
     source: &mut S,
     names: &Names<'_>,
