@@ -92,10 +92,12 @@ fail_least (Some u) = (u.node, Failed u) ∷ []
 -- Rank: the request s, which has to wait, is compared with the lock, and with the least of the other
 -- requests that wait.
 -- Published: where the lock's request or one that waits precedes s, FAILED to the node of s; else
--- INQUIRE to the lock's node.
--- Added: where the lock is for an older stamp of the node of s, INQUIRE to that node, as the release of
--- the older stamp may have been lost; and FAILED to the least of the others that wait, which s has
--- overtaken, as it may have been told nothing so far.
+-- INQUIRE to the lock's node, which need not be sent again while one is unanswered.
+-- Added: INQUIRE is sent each time, as the one before may have been lost. An answer that comes twice does
+-- no harm: the lock ends only for a RELINQUISH of its own stamp and grant. Where the lock is for an older
+-- stamp of the node of s, INQUIRE to that node, as the release of the older stamp may have been lost; and
+-- FAILED to the least of the others that wait, which s has overtaken, as it may have been told nothing so
+-- far.
 abbrev pub overtaking : Lock → Option Stamp → List (ℕ × MaekawaMsg)
 overtaking lock other = (lock.stamp.node, Inquire lock.stamp lock.grant) ∷ fail_least other
 

@@ -9,7 +9,8 @@
 //! published and which is added):
 //! each letter repeats the stamp that it is about, and grants are numbered, so that a grant that was
 //! given back does not count again; a letter about an ended stamp is answered by a release; a waiting
-//! node sends its request again, and an arbiter its grant; a waiting request that is overtaken is sent
+//! node sends its request again, and an arbiter its grant, and also INQUIRE, which in the publication it
+//! need not send while one is unanswered; a waiting request that is overtaken is sent
 //! FAILED, and a node that asks with a new stamp while the arbiter is locked for its older one is sent
 //! INQUIRE; releases and grants carry the highest section number known, so that the node that enters
 //! draws the next one.

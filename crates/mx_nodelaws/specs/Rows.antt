@@ -24,7 +24,7 @@ pub record Rows (H S M : Type 0) : Type 0 where
   pub mine : S → ℕ
   pub top : S → ℕ
   pub limit : S → ℕ
-  -- the number of its last request
+  -- the number that its next stamp counts on from: the highest that it has drawn or seen, or how often it asked
   pub last : S → ℕ
   -- every permission for its request is there
   pub is_granted : S → Bool

@@ -8,7 +8,9 @@ pub enum AskFault {
     /// The node waits already, or is inside.
     #[error("not idle")]
     NotIdle,
-    /// The last stamp had the greatest u64 number, so that there is no next one.
+    /// The number that the node's next stamp counts on from is the greatest u64 value, so that there
+    /// is no next one. It is the highest stamp number that the node has drawn or seen, or, in
+    /// algorithms whose stamps count a node's own asks, how many of these were accepted.
     #[error("stamps spent")]
     StampsSpent,
 }

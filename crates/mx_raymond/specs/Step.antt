@@ -144,9 +144,10 @@ take_request from number s = if nat_eq from s.holder then take_holders_request s
 
 -- a privilege: its arrival is always acknowledged, and it counts only where its hop is a new one; then
 -- Assign and Make.
--- Published: the node receives the PRIVILEGE.
--- Added: the acknowledgement, and the test of the hop, since a privilege may come late or twice; `top`
--- takes in the section number that the privilege tells.
+-- Published: the node receives the PRIVILEGE. There ASKED is cleared where it is used or passed on.
+-- Added: ASKED is cleared at once. Nothing else changes by it: no row reads ASKED while the node has the
+-- privilege, and passing it on clears ASKED as there. The acknowledgement, and the test of the hop, since
+-- a privilege may come late or twice; `top` takes in the section number that the privilege tells.
 abbrev pub holding : Node → ℕ → ℕ → Node
 holding s hop last = record s { holder = s.me; has_asked = false; hop = hop; unacked = None; top = max s.top last }
 

@@ -29,7 +29,7 @@ pub struct Raymond {
     /// each once, the oldest first (REQUEST_Q).
     pub(crate) queue: Queue,
     /// Whether the node has sent a request to the holder, and has not had the privilege since
-    /// (ASKED).
+    /// (ASKED, which the publication clears where the privilege is used or passed on).
     pub(crate) has_asked: bool,
     /// The highest hop of a privilege that the node has sent or taken; the origin at the start. Added
     /// to the publication: a privilege whose hop is not above it is an old one.

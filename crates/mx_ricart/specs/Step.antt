@@ -58,8 +58,11 @@ abbrev pub has_all_replies : Node → Bool
 has_all_replies s = all_below (is_replied s) s.count
 
 -- ask: the clock's next stamp, no reply yet, and a request to every other node.
--- Published: the process that invokes mutual exclusion, up to its wait for the replies.
--- Added: where no number is left the call is refused.
+-- Published: the process that invokes mutual exclusion, up to its wait for the replies. There the request
+-- takes the highest number + 1, and leaves the highest number as it was.
+-- Added: the request's number becomes the highest, so that no two requests of a node bear one stamp, and a
+-- reply to an older one is known by it. A request is above all that its node has seen, as there. Where no
+-- number is left the call is refused.
 abbrev pub asking : Node → Node
 asking s = record s { highest = s.highest + 1; ours = record { number = s.highest + 1; node = s.me }; got = replicate 21 false; phase = Waiting }
 

@@ -5,6 +5,8 @@
 //! Added to the publication, since letters may be lost, repeated and reordered, and sections bear numbers
 //! (each row of `specs/Step.antt` says which part of it is published and which is added):
 //! a reply repeats the stamp that it answers, so that a late one for an older request does not count;
+//! a node's own request raises its highest number, which in the publication only a request that comes does,
+//! so that no two requests of a node bear the same stamp;
 //! a waiting node sends its request again, and a request that comes again is answered again; a reply
 //! carries the highest section number that its sender knows, so that the node that enters draws the
 //! next one.

@@ -23,7 +23,7 @@ pub struct Ricart {
     /// last two.
     pub(crate) phase: Phase,
     /// The highest stamp number that the node has drawn or has seen in a request; the origin at the
-    /// start (Highest_Sequence_Number).
+    /// start (Highest_Sequence_Number, which in the publication the own requests do not raise).
     pub(crate) highest: Clock,
     /// The stamp of the node's latest request (Our_Sequence_Number, with ME). It is current while
     /// the node waits or is inside; while the node is idle no rule reads it.
