@@ -1,4 +1,7 @@
--- Running: a run that was computed. Shapes: the shapes are valid. Traces: the three runs.
+-- Running: a run that was computed. Shapes: the shapes are valid. Traces: the three runs. Stages: the run
+-- with events of every kind, part by part. Merged: the join of its journals.
 pub mod Running
 pub mod Shapes
 pub mod Traces
+pub mod Stages
+pub mod Merged

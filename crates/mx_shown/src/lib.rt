@@ -1,8 +1,11 @@
-//! Runs of the three algorithms that their step tables prove: small clusters, from rest, in which one
-//! node enters the first section while the other waits, and then that one enters the second. So the
-//! definitions that the promise rests on are met by clusters that do something.
+//! Runs that the step tables prove: small clusters, from rest. For each of the three algorithms one in
+//! which a node enters the first section while the other waits, and then that one enters the second;
+//! and one with events of every kind, whose journals are merged. So the definitions that the promise
+//! rests on are met by clusters that do something.
 #![tactic(auto)]
 
+mod journals;
 mod runs;
 
+pub use journals::journals_merge;
 pub use runs::{maekawa_runs, raymond_runs, ricart_runs};
