@@ -1,8 +1,10 @@
-//! A cluster starts, steps and runs.
+//! A cluster starts, makes room, steps, advances and runs, and its journals are merged.
 
 use crate::members::member_shown;
 use crate::telling::{back, call, expect, refused};
 use anyhow::{Result, bail};
+use mx_journal::Journal;
+use mx_merge::MergeFault;
 use mx_network::{Cluster, Event, RunFault, StepFault};
 use mx_nodelaws::Phase;
 use mx_ricart::{Count, Ricart};
@@ -63,6 +65,27 @@ fn start(rt: &HostRuntime, shape: &Count) -> Result<Cluster<Ricart>> {
     }
 }
 
+/// Makes room for so many events more.
+fn make_room(
+    rt: &HostRuntime,
+    cluster: &mut Cluster<Ricart>,
+    events: usize,
+    nodes: [NodeId; 2],
+) -> Result<()> {
+    let before = shown(cluster, nodes);
+    call(rt, "Cluster::make_room");
+    let mut answer = cluster.make_room(events);
+    back(rt);
+    if answer.is_err() {
+        refused(rt, "Cluster::make_room", shown(cluster, nodes) == before)?;
+        answer = cluster.make_room(events);
+    }
+    expect(
+        "Cluster::make_room",
+        answer.is_ok() && shown(cluster, nodes) == before,
+    )
+}
+
 /// Why a step was not taken, where it was not.
 fn step_fault(cluster: &mut Cluster<Ricart>, event: &Event) -> Option<StepFault> {
     match cluster.step(*event) {
@@ -71,22 +94,48 @@ fn step_fault(cluster: &mut Cluster<Ricart>, event: &Event) -> Option<StepFault>
     }
 }
 
+/// Why a cluster did not advance, where it did not.
+fn advance_fault(cluster: &mut Cluster<Ricart>, event: &Event) -> Option<StepFault> {
+    match cluster.advance(*event) {
+        Ok(()) => None,
+        Err(fault) => Some(fault),
+    }
+}
+
+/// How the events of a list happen: one after another, by `step` or by `advance`, or in one run.
+#[derive(Clone, Copy)]
+enum Way {
+    Steps,
+    Advances,
+    Run,
+}
+
+/// Why an event does not happen, where it does not.
+fn event_fault(cluster: &mut Cluster<Ricart>, event: &Event, way: Way) -> Option<StepFault> {
+    match way {
+        Way::Advances => advance_fault(cluster, event),
+        _ => step_fault(cluster, event),
+    }
+}
+
 fn step(
     rt: &HostRuntime,
     cluster: &mut Cluster<Ricart>,
     event: &Event,
     nodes: [NodeId; 2],
+    name: &str,
+    way: Way,
 ) -> Result<()> {
     let before = shown(cluster, nodes);
-    call(rt, "Cluster::step");
-    let mut fault = step_fault(cluster, event);
+    call(rt, name);
+    let mut fault = event_fault(cluster, event, way);
     back(rt);
     if fault == Some(StepFault::Memory) {
-        refused(rt, "Cluster::step", shown(cluster, nodes) == before)?;
-        fault = step_fault(cluster, event);
+        refused(rt, name, shown(cluster, nodes) == before)?;
+        fault = event_fault(cluster, event, way);
     }
     let has_stepped = happened(cluster) == before.0.saturating_add(1);
-    expect("Cluster::step", fault.is_none() && has_stepped)
+    expect(name, fault.is_none() && has_stepped)
 }
 
 /// Why a list of events was not run to its end, where it was not.
@@ -125,18 +174,13 @@ fn each_step(
     cluster: &mut Cluster<Ricart>,
     list: &[Event],
     nodes: [NodeId; 2],
+    name: &str,
+    way: Way,
 ) -> Result<()> {
     for event in list {
-        step(rt, cluster, event, nodes)?;
+        step(rt, cluster, event, nodes, name, way)?;
     }
     Ok(())
-}
-
-/// How the events of a list happen: one after another, or in one run.
-#[derive(Clone, Copy)]
-enum Way {
-    Steps,
-    Run,
 }
 
 /// The events happen. Answers what the cluster shows then.
@@ -148,7 +192,8 @@ fn happen(
     way: Way,
 ) -> Result<Shown> {
     match way {
-        Way::Steps => each_step(rt, cluster, list, nodes)?,
+        Way::Steps => each_step(rt, cluster, list, nodes, "Cluster::step", way)?,
+        Way::Advances => each_step(rt, cluster, list, nodes, "Cluster::advance", way)?,
         Way::Run => run(rt, cluster, list)?,
     }
     Ok(shown(cluster, nodes))
@@ -165,17 +210,59 @@ fn shown_after(
     happen(rt, &mut cluster, list, nodes, way)
 }
 
-/// Two clusters show the same, whichever way the events happen.
-fn both_ways(rt: &HostRuntime, shape: &Count, list: &[Event], nodes: [NodeId; 2]) -> Result<()> {
+/// The same by `advance`, in a cluster that makes room for more at the end, and whose journals are
+/// merged then.
+fn shown_merged(
+    rt: &HostRuntime,
+    mut cluster: Cluster<Ricart>,
+    list: &[Event],
+    nodes: [NodeId; 2],
+) -> Result<Shown> {
+    let found = happen(rt, &mut cluster, list, nodes, Way::Advances)?;
+    make_room(rt, &mut cluster, 100, nodes)?;
+    merged(rt, &cluster, nodes)?;
+    Ok(found)
+}
+
+/// What the journals of these nodes know together: its records, and what the first of them writes.
+fn known(
+    alloc: Global,
+    cluster: &Cluster<Ricart>,
+    nodes: [NodeId; 2],
+) -> Result<(usize, Option<u64>), MergeFault> {
+    let journal = cluster.merged(alloc, &nodes)?;
+    Ok((journal.len(), written(&journal)))
+}
+
+/// The value that section 1 wrote first.
+fn written(journal: &Journal) -> Option<u64> {
+    Some(journal.get(1)?.writes.first()?.value)
+}
+
+fn merged(rt: &HostRuntime, cluster: &Cluster<Ricart>, nodes: [NodeId; 2]) -> Result<()> {
+    let before = shown(cluster, nodes);
+    call(rt, "Cluster::merged");
+    let mut answer = known(rt.alloc(), cluster, nodes);
+    back(rt);
+    if answer == Err(MergeFault::Memory) {
+        refused(rt, "Cluster::merged", shown(cluster, nodes) == before)?;
+        answer = known(rt.alloc(), cluster, nodes);
+    }
+    expect("Cluster::merged", answer == Ok((1, Some(5))))
+}
+
+/// Clusters show the same, whichever way the events happen.
+fn each_way(rt: &HostRuntime, shape: &Count, list: &[Event], nodes: [NodeId; 2]) -> Result<()> {
     let wanted = shown_after(rt, start(rt, shape)?, list, nodes, Way::Steps)?;
-    let cluster = started(rt.alloc(), shape)?;
-    let found = shown_after(rt, cluster, list, nodes, Way::Run)?;
-    expect("Cluster::run", found == wanted)
+    let found = shown_after(rt, started(rt.alloc(), shape)?, list, nodes, Way::Run)?;
+    expect("Cluster::run", found == wanted)?;
+    let found = shown_merged(rt, started(rt.alloc(), shape)?, list, nodes)?;
+    expect("Cluster::advance", found == wanted)
 }
 
 pub(crate) fn each(rt: &HostRuntime) -> Result<()> {
     let (Some(zero), Some(one), Some(shape)) = (NodeId::of(0), NodeId::of(1), Count::of(2)) else {
         bail!("no such nodes");
     };
-    both_ways(rt, &shape, &events(zero, one), [zero, one])
+    each_way(rt, &shape, &events(zero, one), [zero, one])
 }

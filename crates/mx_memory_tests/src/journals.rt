@@ -1,5 +1,5 @@
-//! Puts and merges. Beside each journal stands its twin, of the same records, which is refused
-//! nothing.
+//! Puts, merges and joins. Beside each journal stands its twin, of the same records, which is
+//! refused nothing.
 
 use crate::telling::{back, call, expect, refused};
 use anyhow::Result;
@@ -8,15 +8,45 @@ use mx_merge::{MergeFault, agree, merge};
 use mx_stamps::NodeId;
 use std::alloc::{AllocError, Global};
 
-/// Numbers that begin runs of a journal, lengthen them and join them.
-const SINGLE: [u64; 9] = [5, 1, 9, 2, 4, 3, 8, 7, 6];
+/// Numbers that come one by one into an empty journal. They begin runs and lengthen them at either
+/// end, and they join a run to one that is as long (3) or shorter (6), and to a longer one (2), which
+/// takes no memory where it has room.
+const SINGLES: [&[u64]; 3] = [
+    &[5, 1, 9, 2, 4, 3, 8, 7, 6],
+    &[3, 4, 1, 2],
+    &[3, 4, 5, 6, 1, 2],
+];
 
-/// Lists of numbers, of which some are known, and which go into several gaps.
-const LISTS: [&[u64]; 4] = [
-    &[2, 4, 8],
-    &[1, 3, 5, 12, 14],
-    &[12, 10],
-    &[6, 7, 9, 11, 13],
+/// Numbers that come list by list into an empty journal.
+const LISTS: [&[&[u64]]; 9] = [
+    // some are known, and the others go into several gaps
+    &[
+        &[2, 4, 8],
+        &[1, 3, 5, 12, 14],
+        &[12, 10],
+        &[6, 7, 9, 11, 13],
+    ],
+    // several go on behind a run that is shorter than they are, and then behind a longer one
+    &[&[1], &[2, 3, 4, 5], &[6, 7, 8, 9]],
+    // they go on behind a run that is as long, without the first of them and with it
+    &[&[1, 2], &[3, 4, 5], &[6, 7, 8, 9, 10]],
+    // they go on behind a run, and a number is missing before the next one
+    &[&[1, 9], &[2, 3, 4, 5], &[6, 7]],
+    // a run stands behind them that is shorter, as long, and longer
+    &[
+        &[17],
+        &[13, 14, 15, 16],
+        &[8, 9, 10, 11, 12],
+        &[1, 2, 3, 4, 5, 6, 7],
+    ],
+    // they fill the gap between two runs, where both times the run before is longer
+    &[&[1, 2, 3, 4, 7, 8, 9], &[5, 6]],
+    // where it is shorter at first, and longer then
+    &[&[1, 2, 6, 7, 8, 9], &[3, 4, 5]],
+    // where it is shorter both times
+    &[&[1, 6, 7, 8, 9, 10, 11, 12, 13], &[2, 3, 4, 5]],
+    // they stand in no order
+    &[&[3, 4, 1, 2], &[9, 7, 5, 6, 8]],
 ];
 
 /// A record by node 0 that writes its number to register 0.
@@ -72,45 +102,77 @@ fn are_alike(twins: &Twins) -> bool {
 }
 
 fn put(rt: &HostRuntime, twins: &mut Twins, number: u64) -> Result<()> {
-    call(rt, "put");
+    call(rt, "Journal::put");
     let mut answer = twins.journal.put(record(number));
     back(rt);
     if answer == Err(PutFault::Memory) {
-        refused(rt, "put", are_alike(twins))?;
+        refused(rt, "Journal::put", are_alike(twins))?;
         answer = twins.journal.put(record(number));
     }
     twins.twin.put(record(number))?;
-    expect("put", answer == Ok(Put::New) && are_alike(twins))
+    expect("Journal::put", answer == Ok(Put::New) && are_alike(twins))
 }
 
 fn put_all(rt: &HostRuntime, twins: &mut Twins, list: &[Record]) -> Result<()> {
-    call(rt, "put_all");
+    call(rt, "Journal::put_all");
     let mut answer = twins.journal.put_all(list);
     back(rt);
     if answer == Err(PutFault::Memory) {
-        refused(rt, "put_all", are_alike(twins))?;
+        refused(rt, "Journal::put_all", are_alike(twins))?;
         answer = twins.journal.put_all(list);
     }
     let new = twins.twin.put_all(list)?;
-    expect("put_all", answer == Ok(new) && are_alike(twins))
+    expect("Journal::put_all", answer == Ok(new) && are_alike(twins))
 }
 
-/// Merges another journal, into the twin too.
-fn merge_other(rt: &HostRuntime, twins: &mut Twins, other: &Journal) -> Result<()> {
-    call(rt, "merge");
-    let mut answer = merge(&mut twins.journal, other);
+/// Joins a journal that agrees to another one.
+fn join(journal: &mut Journal, other: &Journal) -> Result<u64, MergeFault> {
+    if !agree(journal, other) {
+        return Err(MergeFault::Conflict(0));
+    }
+    Ok(journal.join(other)?)
+}
+
+/// The call that is made again and again.
+#[derive(Clone, Copy)]
+enum Way {
+    Put,
+    PutAll,
+    Merge,
+    Join,
+}
+
+/// Takes another journal in.
+fn take_in(journal: &mut Journal, other: &Journal, way: Way) -> Result<u64, MergeFault> {
+    match way {
+        Way::Join => join(journal, other),
+        _ => merge(journal, other),
+    }
+}
+
+/// Takes another journal in, into the twin too.
+fn take_other(
+    rt: &HostRuntime,
+    twins: &mut Twins,
+    other: &Journal,
+    name: &str,
+    way: Way,
+) -> Result<()> {
+    call(rt, name);
+    let mut answer = take_in(&mut twins.journal, other, way);
     back(rt);
     if answer == Err(MergeFault::Memory) {
-        refused(rt, "merge", are_alike(twins))?;
-        answer = merge(&mut twins.journal, other);
+        refused(rt, name, are_alike(twins))?;
+        answer = take_in(&mut twins.journal, other, way);
     }
-    let new = merge(&mut twins.twin, other)?;
-    expect("merge", answer == Ok(new) && are_alike(twins))
+    let new = take_in(&mut twins.twin, other, way)?;
+    expect(name, answer == Ok(new) && are_alike(twins))
 }
 
-fn each_put(rt: &HostRuntime, twins: &mut Twins) -> Result<()> {
-    for number in SINGLE {
-        put(rt, twins, number)?;
+/// Puts the records of these numbers one by one.
+fn put_each(rt: &HostRuntime, twins: &mut Twins, numbers: &[u64]) -> Result<()> {
+    for number in numbers {
+        put(rt, twins, *number)?;
     }
     Ok(())
 }
@@ -120,48 +182,56 @@ fn put_list(rt: &HostRuntime, twins: &mut Twins, numbers: &[u64]) -> Result<()> 
     put_all(rt, twins, records(rt.alloc(), numbers)?.as_slice())
 }
 
-fn each_put_all(rt: &HostRuntime, twins: &mut Twins) -> Result<()> {
-    for numbers in LISTS {
-        put_list(rt, twins, numbers)?;
-    }
-    Ok(())
+/// Takes a journal of these numbers in.
+fn take_list(
+    rt: &HostRuntime,
+    twins: &mut Twins,
+    numbers: &[u64],
+    name: &str,
+    way: Way,
+) -> Result<()> {
+    take_other(rt, twins, &journal_of(rt.alloc(), numbers)?, name, way)
 }
 
-/// Merges a journal of these numbers.
-fn merge_list(rt: &HostRuntime, twins: &mut Twins, numbers: &[u64]) -> Result<()> {
-    merge_other(rt, twins, &journal_of(rt.alloc(), numbers)?)
-}
-
-fn each_merge(rt: &HostRuntime, twins: &mut Twins) -> Result<()> {
-    for numbers in LISTS {
-        merge_list(rt, twins, numbers)?;
-    }
-    Ok(())
-}
-
-/// The call that is made again and again.
-#[derive(Clone, Copy)]
-enum Way {
-    Put,
-    PutAll,
-    Merge,
-}
-
-fn each_way(rt: &HostRuntime, twins: &mut Twins, way: Way) -> Result<()> {
+/// Makes the call with these numbers.
+fn take(rt: &HostRuntime, twins: &mut Twins, numbers: &[u64], way: Way) -> Result<()> {
     match way {
-        Way::Put => each_put(rt, twins),
-        Way::PutAll => each_put_all(rt, twins),
-        Way::Merge => each_merge(rt, twins),
+        Way::Put => put_each(rt, twins, numbers),
+        Way::PutAll => put_list(rt, twins, numbers),
+        Way::Merge => take_list(rt, twins, numbers, "merge", way),
+        Way::Join => take_list(rt, twins, numbers, "Journal::join", way),
     }
+}
+
+fn take_each(rt: &HostRuntime, twins: &mut Twins, lists: &[&[u64]], way: Way) -> Result<()> {
+    for numbers in lists {
+        take(rt, twins, numbers, way)?;
+    }
+    Ok(())
 }
 
 /// Makes the call over and over, from two empty journals on.
-fn from_empty(rt: &HostRuntime, way: Way) -> Result<()> {
-    each_way(rt, &mut empty_twins(rt.alloc()), way)
+fn from_empty(rt: &HostRuntime, lists: &[&[u64]], way: Way) -> Result<()> {
+    take_each(rt, &mut empty_twins(rt.alloc()), lists, way)
+}
+
+fn each_single(rt: &HostRuntime) -> Result<()> {
+    for numbers in SINGLES {
+        from_empty(rt, &[numbers], Way::Put)?;
+    }
+    Ok(())
+}
+
+fn each_list(rt: &HostRuntime, way: Way) -> Result<()> {
+    for lists in LISTS {
+        from_empty(rt, lists, way)?;
+    }
+    Ok(())
 }
 
 pub(crate) fn each(rt: &HostRuntime) -> Result<()> {
-    from_empty(rt, Way::Put)?;
-    from_empty(rt, Way::PutAll)?;
-    from_empty(rt, Way::Merge)
+    each_single(rt)?;
+    each_list(rt, Way::PutAll)?;
+    each_list(rt, Way::Merge)?;
+    each_list(rt, Way::Join)
 }

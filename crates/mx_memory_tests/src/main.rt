@@ -10,6 +10,7 @@ mod members;
 mod readers;
 mod stations;
 mod telling;
+mod texts;
 
 use anyhow::Result;
 

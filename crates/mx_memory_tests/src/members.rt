@@ -1,21 +1,24 @@
-//! A member leaves, and takes records.
+//! A member leaves, and takes records, each by two calls.
+
+ghost use Rattle.std.specs.Prelude.{◌≡◌, []};
 
 use crate::journals::record;
 use crate::telling::{back, call, expect, refused};
 use anyhow::{Result, bail};
 use arrayvec::ArrayVec;
+use mx_journal::Receipt;
 use mx_letters::{Outbox, RicartMsg};
-use mx_member::{CloseFault, DeliverFault, Member, Parcel};
+use mx_member::{Act, Answer, CloseFault, DeliverFault, Member, Parcel, perform};
 use mx_nodelaws::{Exclusion, Phase};
 use mx_ricart::{Count, Ricart};
 use mx_stamps::NodeId;
-use std::alloc::Global;
+use std::alloc::{AllocError, Global};
 
 /// Numbers of records that come in one parcel.
 const PARCELS: [&[u64]; 3] = [&[2, 4, 7], &[9, 3, 4], &[1, 5, 6, 8]];
 
 /// Node 0 of one node, with one register.
-fn started(alloc: Global) -> Result<Member<Ricart>> {
+pub(crate) fn started(alloc: Global) -> Result<Member<Ricart>> {
     let Some(shape) = Count::of(1) else {
         bail!("no such cluster");
     };
@@ -61,32 +64,64 @@ fn enter(member: &mut Member<Ricart>) {
     let _ = member.read(0);
 }
 
+/// The call by which a member leaves.
+#[derive(Clone, Copy)]
+enum Leaving {
+    Leave,
+    Perform,
+}
+
+/// Whether the receipt is that of section 1, whole.
+fn is_whole(receipt: &Receipt) -> bool {
+    receipt.number == 1 && receipt.reads.len() == 1 && receipt.writes.len() == 1
+}
+
+/// The member leaves. Whether its receipt is whole.
+fn close(
+    member: &mut Member<Ricart>,
+    out: &mut Outbox<Parcel<RicartMsg>>,
+) -> Result<bool, CloseFault>
+    requires { out.old ≡ [] }
+{
+    let receipt = member.leave(out)?;
+    Ok(is_whole(&receipt))
+}
+
+/// The same as an act.
+fn act(member: &mut Member<Ricart>, out: &mut Outbox<Parcel<RicartMsg>>) -> Result<bool, CloseFault>
+    requires { out.old ≡ [] }
+{
+    match perform(member, Act::Leave, out) {
+        Ok(Answer::Left(Ok(receipt))) => Ok(is_whole(&receipt)),
+        Ok(_) => Err(CloseFault::NotInside),
+        Err(AllocError) => Err(CloseFault::Memory),
+    }
+}
+
 /// The member leaves. Whether its receipt is whole, and whether nothing is sent.
-fn left(member: &mut Member<Ricart>) -> (Result<bool, CloseFault>, bool) {
+fn left(member: &mut Member<Ricart>, by: Leaving) -> (Result<bool, CloseFault>, bool) {
     let mut out = Outbox::new();
-    let answer = match member.leave(&mut out) {
-        Ok(receipt) => Ok(
-            receipt.number == 1 && receipt.reads.len() == 1 && receipt.writes.len() == 1,
-        ),
-        Err(fault) => Err(fault),
+    let answer = match by {
+        Leaving::Leave => close(member, &mut out),
+        Leaving::Perform => act(member, &mut out),
     };
     (answer, out.is_empty())
 }
 
 /// Leaves section 1.
-fn leave(rt: &HostRuntime, member: &mut Member<Ricart>) -> Result<()> {
-    call(rt, "Member::leave");
-    let (mut answer, is_quiet) = left(member);
+fn leave(rt: &HostRuntime, member: &mut Member<Ricart>, name: &str, by: Leaving) -> Result<()> {
+    call(rt, name);
+    let (mut answer, is_quiet) = left(member, by);
     back(rt);
     if answer == Err(CloseFault::Memory) {
-        refused(rt, "Member::leave", is_inside(member) && is_quiet)?;
-        answer = left(member).0;
+        refused(rt, name, is_inside(member) && is_quiet)?;
+        answer = left(member, by).0;
     }
     let has_written = member_shown(member).value == Some(7);
-    expect("Member::leave", answer == Ok(true) && has_written)
+    expect(name, answer == Ok(true) && has_written)
 }
 
-fn parcel_of(numbers: &[u64]) -> Parcel<RicartMsg> {
+pub(crate) fn parcel_of(numbers: &[u64]) -> Parcel<RicartMsg> {
     let mut records = ArrayVec::new();
     for number in numbers {
         if !records.is_full() {
@@ -96,10 +131,25 @@ fn parcel_of(numbers: &[u64]) -> Parcel<RicartMsg> {
     Parcel::Records(records)
 }
 
+/// The call by which a member takes a parcel.
+#[derive(Clone, Copy)]
+enum Taking {
+    Deliver,
+    Receive,
+}
+
 /// The member takes the records of these numbers. What it answers, and whether nothing is sent.
-fn delivered(member: &mut Member<Ricart>, numbers: &[u64]) -> (Result<(), DeliverFault>, bool) {
+fn delivered(
+    member: &mut Member<Ricart>,
+    numbers: &[u64],
+    by: Taking,
+) -> (Result<(), DeliverFault>, bool) {
     let mut out = Outbox::new();
-    let answer = member.deliver(NodeId::default(), parcel_of(numbers), &mut out);
+    let node = NodeId::default();
+    let answer = match by {
+        Taking::Deliver => member.deliver(node, parcel_of(numbers), &mut out),
+        Taking::Receive => member.receive(node, &parcel_of(numbers), &mut out),
+    };
     (answer, out.is_empty())
 }
 
@@ -109,23 +159,22 @@ fn is_as_before(member: &Member<Ricart>, before: &MemberShown) -> bool {
     shown.records == before.records && shown.top == before.top && shown.value == before.value
 }
 
-fn deliver(rt: &HostRuntime, member: &mut Member<Ricart>, numbers: &[u64]) -> Result<()> {
+fn deliver(
+    rt: &HostRuntime,
+    member: &mut Member<Ricart>,
+    numbers: &[u64],
+    name: &str,
+    by: Taking,
+) -> Result<()> {
     let before = member_shown(member);
-    call(rt, "Member::deliver");
-    let (mut answer, is_quiet) = delivered(member, numbers);
+    call(rt, name);
+    let (mut answer, is_quiet) = delivered(member, numbers, by);
     back(rt);
     if answer == Err(DeliverFault::Memory) {
-        refused(
-            rt,
-            "Member::deliver",
-            is_as_before(member, &before) && is_quiet,
-        )?;
-        answer = delivered(member, numbers).0;
+        refused(rt, name, is_as_before(member, &before) && is_quiet)?;
+        answer = delivered(member, numbers, by).0;
     }
-    expect(
-        "Member::deliver",
-        answer == Ok(()) && has_all(member, numbers),
-    )
+    expect(name, answer == Ok(()) && has_all(member, numbers))
 }
 
 fn has_all(member: &Member<Ricart>, numbers: &[u64]) -> bool {
@@ -137,23 +186,40 @@ fn has_all(member: &Member<Ricart>, numbers: &[u64]) -> bool {
     true
 }
 
-fn each_leaving(rt: &HostRuntime, mut member: Member<Ricart>) -> Result<()> {
+fn each_leaving(
+    rt: &HostRuntime,
+    mut member: Member<Ricart>,
+    name: &str,
+    by: Leaving,
+) -> Result<()> {
     enter(&mut member);
-    leave(rt, &mut member)
+    leave(rt, &mut member, name, by)
 }
 
-fn deliver_each(rt: &HostRuntime, member: &mut Member<Ricart>) -> Result<()> {
+fn deliver_each(
+    rt: &HostRuntime,
+    member: &mut Member<Ricart>,
+    name: &str,
+    by: Taking,
+) -> Result<()> {
     for numbers in PARCELS {
-        deliver(rt, member, numbers)?;
+        deliver(rt, member, numbers, name, by)?;
     }
     Ok(())
 }
 
-fn each_delivery(rt: &HostRuntime, mut member: Member<Ricart>) -> Result<()> {
-    deliver_each(rt, &mut member)
+fn each_delivery(
+    rt: &HostRuntime,
+    mut member: Member<Ricart>,
+    name: &str,
+    by: Taking,
+) -> Result<()> {
+    deliver_each(rt, &mut member, name, by)
 }
 
 pub(crate) fn each(rt: &HostRuntime) -> Result<()> {
-    each_leaving(rt, started(rt.alloc())?)?;
-    each_delivery(rt, started(rt.alloc())?)
+    each_leaving(rt, started(rt.alloc())?, "Member::leave", Leaving::Leave)?;
+    each_leaving(rt, started(rt.alloc())?, "perform", Leaving::Perform)?;
+    each_delivery(rt, started(rt.alloc())?, "Member::deliver", Taking::Deliver)?;
+    each_delivery(rt, started(rt.alloc())?, "Member::receive", Taking::Receive)
 }

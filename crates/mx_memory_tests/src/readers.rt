@@ -1,6 +1,7 @@
 //! A plan and events are read, and a schedule is drawn. Where memory is refused there is no value.
 
 use crate::telling::{back, call, expect, refused};
+use crate::texts;
 use anyhow::{Result, bail};
 use mx_explorer::schedule;
 use mx_plan::{Plan, PlanFault, read_events, read_plan};
@@ -70,11 +71,12 @@ fn drawn(rt: &HostRuntime, plan: &Plan) -> Result<()> {
     expect("schedule", answer == Some(100))
 }
 
-/// Reads the events of a plan, and draws a schedule over it.
+/// Reads the events of a plan, draws a schedule over it, and makes the texts of it.
 fn each_list(rt: &HostRuntime, plan: &Plan) -> Result<()> {
     expect("read_plan", plan.nodes() == 3)?;
     events(rt, plan)?;
-    drawn(rt, plan)
+    drawn(rt, plan)?;
+    texts::each(rt, plan)
 }
 
 pub(crate) fn each(rt: &HostRuntime) -> Result<()> {

@@ -1,4 +1,4 @@
-//! Stations are made, leave, take parcels in, take turns and are gathered.
+//! Stations are made, watched, leave, take parcels in, take turns and are gathered.
 
 ghost use Rattle.std.specs.Prelude.{◌≡◌, length};
 ghost use Rattle.mx_stations.specs.Gathered.{OfOneTable};
@@ -11,7 +11,8 @@ use mx_nodelaws::Phase;
 use mx_ricart::{Count, Ricart};
 use mx_stamps::NodeId;
 use mx_stations::{
-    Field, GatherFault, Gathered, PutOut, Station, TakeFault, Taken, TurnReport, Ungathered, gather,
+    Field, GatherFault, Gathered, PutOut, Station, TakeFault, Taken, TurnReport, Ungathered, Watch,
+    gather,
 };
 use std::alloc::{AllocError, Global};
 
@@ -51,7 +52,10 @@ fn send(station: &mut Station<Ricart>) -> Result<()> {
 /// Hands the first waiting parcel of a station to another one.
 fn hand_on(from: &mut Station<Ricart>, to: &mut Station<Ricart>) -> Result<()> {
     send(from)?;
-    expect("take_in", take_from(to, from.node()) == Ok(Taken::Got))
+    expect(
+        "Station::take_in",
+        take_from(to, from.node()) == Ok(Taken::Got),
+    )
 }
 
 fn ask(station: &mut Station<Ricart>) -> Result<()> {
@@ -163,15 +167,18 @@ fn request_is_last(station: &mut Station<Ricart>, from: NodeId) -> bool {
 /// The record that was sent is taken in. Where memory was refused it is in hand, and the next call
 /// delivers it and takes no other, so that the request comes by the one after.
 fn take_record(rt: &HostRuntime, station: &mut Station<Ricart>, from: NodeId) -> Result<()> {
-    call(rt, "take_in");
+    call(rt, "Station::take_in");
     let mut answer = take_from(station, from);
     back(rt);
     if answer == Err(TakeFault::Memory) {
-        refused(rt, "take_in", has(station, 0, 0))?;
+        refused(rt, "Station::take_in", has(station, 0, 0))?;
         answer = take_from(station, from);
     }
-    expect("take_in", answer == Ok(Taken::Got) && has(station, 1, 0))?;
-    expect("take_in", request_is_last(station, from))
+    expect(
+        "Station::take_in",
+        answer == Ok(Taken::Got) && has(station, 1, 0),
+    )?;
+    expect("Station::take_in", request_is_last(station, from))
 }
 
 fn turn(station: &mut Station<Ricart>) -> Result<TurnReport, TakeFault> {
@@ -196,16 +203,16 @@ fn has_not_ticked(answer: &Result<TurnReport, TakeFault>) -> bool {
 
 /// A station takes a turn, and where memory was refused another one, which delivers the record first.
 fn take_turn(rt: &HostRuntime, station: &mut Station<Ricart>) -> Result<()> {
-    call(rt, "turn");
+    call(rt, "Station::turn");
     let mut answer = turn(station);
     back(rt);
     if answer == Err(TakeFault::Memory) {
-        refused(rt, "turn", station_shown(station).records == 0)?;
+        refused(rt, "Station::turn", station_shown(station).records == 0)?;
         answer = turn(station);
-        expect("turn", has_taken_both(&answer))?;
+        expect("Station::turn", has_taken_both(&answer))?;
     }
     expect(
-        "turn",
+        "Station::turn",
         has_not_ticked(&answer) && station_shown(station).records == 1,
     )
 }
@@ -256,15 +263,39 @@ fn gathered(alloc: Global, stations: Vec<Station<Ricart>>) -> Result<Gathered>
     }
 }
 
-/// The first of these stations has three.
-fn have_sections(rt: &HostRuntime, stations: &mut [Station<Ricart>]) -> Result<()> {
-    let Some(station) = stations.first_mut() else {
-        bail!("no station");
-    };
+/// A watch over the nodes of a station. It takes no memory.
+fn watch(rt: &HostRuntime, station: &Station<Ricart>) -> Result<Watch<Ricart>> {
+    call(rt, "Station::watch");
+    let answer = station.watch();
+    back(rt);
+    match answer {
+        Ok(watch) => Ok(watch),
+        Err(AllocError) => bail!("Station::watch is not as it should be"),
+    }
+}
+
+/// A station has three sections.
+fn have_three(rt: &HostRuntime, station: &mut Station<Ricart>) -> Result<()> {
     for number in 1..=3 {
         have_section(rt, station, number)?;
     }
     Ok(())
+}
+
+/// A station has three sections, of which a watch that was made before shows that they were left.
+fn have_watched(rt: &HostRuntime, station: &mut Station<Ricart>) -> Result<()> {
+    let watch = watch(rt, station)?;
+    expect("Station::watch", watch.sections() == 0)?;
+    have_three(rt, station)?;
+    expect("Station::watch", watch.sections() == 3)
+}
+
+/// The first of these stations has three sections.
+fn have_sections(rt: &HostRuntime, stations: &mut [Station<Ricart>]) -> Result<()> {
+    match stations.first_mut() {
+        Some(station) => have_watched(rt, station),
+        None => bail!("no station"),
+    }
 }
 
 /// What a station that is alone and has had three sections is gathered to.
