@@ -2,7 +2,8 @@
 
 use crate::page::Page;
 use crate::places::{Place, offset_of, place_of};
-use crate::scan::{Scan, scanned};
+use crate::scan::{Scan, is_of_word, scanned};
+use crate::shown::write_shown;
 use serde_json::{Error, Value};
 use std::alloc::{AllocError, Global};
 use std::fmt;
@@ -11,7 +12,11 @@ use std::fmt;
 const SHOWN: usize = 24;
 
 /// Brackets that nest deeper are refused.
-const DEEPEST: usize = 128;
+const DEEPEST: usize = 127;
+
+/// What is expected where a text stands that is none of JSON.
+const TEXT: &str =
+    "a text in one line without control characters, each \\ of which begins an escape of a whole character";
 
 /// The bytes of a byte order mark, with which some editors begin a file.
 const MARK: [u8; 3] = [0xEF, 0xBB, 0xBF];
@@ -53,79 +58,98 @@ pub(crate) fn value_in(page: &mut Page<'_>, part: Part<'_>) -> Result<Option<Val
 /// Says why a text is not JSON. The reader's place may lie behind the token that does not fit.
 fn say_no_json(page: &mut Page<'_>, part: &Part<'_>, e: &Error) -> Result<(), AllocError> {
     let offset = offset_of(part.text, e.line(), e.column().max(1));
-    match reason(page.alloc, part, offset, e)? {
-        Some(said) => page.say(NoJson {
-            place: part.place(offset),
-            said,
-        }),
-        None => say_expected(page, part, offset, e.is_eof()),
+    if part.text.starts_with(&MARK) {
+        return say_at(page, part, 0, "a byte order mark stands here");
     }
+    if str::from_utf8(part.text).is_err() {
+        return say_at(page, part, offset, "bytes that are not UTF-8 stand here");
+    }
+    if is_out_of_range(page.alloc, e)? {
+        let number = last_word(page.alloc, part, offset)?;
+        return say_at(page, part, number, "too large a number stands here");
+    }
+    say_refused(page, part, offset, e.is_eof())
 }
 
-/// Says what is expected in place of the first token that does not fit, which may stand before the
-/// reader's place, or that the text is cut off.
-fn say_expected(
+/// Whether a number is too large for the reader.
+fn is_out_of_range(alloc: Global, e: &Error) -> Result<bool, AllocError> {
+    let told = e.to_string(alloc)?;
+    Ok(told.starts_with("number out of range"))
+}
+
+/// Where the last number, word or text before a place begins.
+fn last_word(alloc: Global, part: &Part<'_>, offset: usize) -> Result<usize, AllocError> {
+    let (before, _) = part.split_at(offset);
+    let scan = scanned(alloc, before)?;
+    Ok(scan.began())
+}
+
+/// Says which bracket opens within as many as there may be, or what else is refused.
+fn say_refused(
     page: &mut Page<'_>,
     part: &Part<'_>,
     offset: usize,
     is_cut: bool,
 ) -> Result<(), AllocError> {
     let scan = scanned(page.alloc, part.text)?;
+    match scan.first_within(DEEPEST) {
+        Some(bracket) if bracket <= offset => page.say(TooDeep(part.place(bracket))),
+        _ => say_expected(page, part, &scan, offset, is_cut),
+    }
+}
+
+/// Says what is expected in place of the first token that does not fit, or that the text is cut off. The
+/// token may stand before the reader's place.
+fn say_expected(
+    page: &mut Page<'_>,
+    part: &Part<'_>,
+    scan: &Scan,
+    offset: usize,
+    is_cut: bool,
+) -> Result<(), AllocError> {
     match scan.misfit() {
         Some(misfit) if misfit <= offset => say_misfit(page, part, misfit, scan.expected()),
-        None if is_cut => say_cut(page, part, &scan),
-        _ => say_misfit(page, part, offset, expected_at(page.alloc, part, offset)?),
+        None if is_cut => say_cut(page, part, scan),
+        Some(misfit) => say_before(page, part, scan, offset, misfit),
+        None => say_unread(page, part, offset),
     }
 }
 
-/// Why a text is not JSON, where it is not that something else is expected at the place.
-fn reason(
-    alloc: Global,
+/// Says what is wrong where the reader stops before the first token that does not fit: that token, where
+/// what stands before it is a value, as in `1"a"`, of which the reader makes one word.
+fn say_before(
+    page: &mut Page<'_>,
     part: &Part<'_>,
+    scan: &Scan,
     offset: usize,
-    e: &Error,
-) -> Result<Option<&'static str>, AllocError> {
-    if part.text.starts_with(&MARK) {
-        return Ok(Some("a byte order mark stands here"));
+    misfit: usize,
+) -> Result<(), AllocError> {
+    if is_value(page.alloc, part.text.get(offset..misfit).unwrap_or(&[]))? {
+        return say_misfit(page, part, misfit, scan.expected());
     }
-    if str::from_utf8(part.text).is_err() {
-        return Ok(Some("bytes that are not UTF-8 stand here"));
-    }
-    excess(alloc, part, offset, e)
+    say_unread(page, part, offset)
 }
 
-/// What is too much at the place, where something is.
-fn excess(
-    alloc: Global,
-    part: &Part<'_>,
-    offset: usize,
-    e: &Error,
-) -> Result<Option<&'static str>, AllocError> {
-    if nests_too_deep(alloc, part, offset)? {
-        return Ok(Some("brackets nest deeper than 128 here"));
+/// Whether a text is a value of JSON.
+fn is_value(alloc: Global, text: &[u8]) -> Result<bool, AllocError> {
+    match Value::from_slice(alloc, text) {
+        Ok(_) => Ok(true),
+        Err(e) if e.is_memory() => Err(AllocError),
+        Err(_) => Ok(false),
     }
-    let told = e.to_string(alloc)?;
-    if told.starts_with("number out of range") {
-        return Ok(Some("the number before this place is too large"));
-    }
-    Ok(None)
 }
 
-/// Whether a bracket stands at a place that is open within as many as there may be.
-fn nests_too_deep(alloc: Global, part: &Part<'_>, offset: usize) -> Result<bool, AllocError> {
+/// Says what is wrong with the token at a place, up to which all tokens fit: it is a text, a number or a
+/// word that is none of JSON.
+fn say_unread(page: &mut Page<'_>, part: &Part<'_>, offset: usize) -> Result<(), AllocError> {
     let (before, rest) = part.split_at(offset);
     match rest {
-        [b'[' | b'{', ..] => Ok(scanned(alloc, before)?.depth() >= DEEPEST),
-        _ => Ok(false),
-    }
-}
-
-/// What is expected at a place, up to which all tokens fit.
-fn expected_at(alloc: Global, part: &Part<'_>, offset: usize) -> Result<&'static str, AllocError> {
-    let (before, rest) = part.split_at(offset);
-    match rest {
-        [b'"', ..] => Ok("a text in one line, with \\\" for \" and \\\\ for \\"),
-        _ => Ok(scanned(alloc, before)?.expected()),
+        [b'"', ..] => say_misfit(page, part, offset, TEXT),
+        [byte, ..] if is_of_word(*byte) => {
+            let scan = scanned(page.alloc, before)?;
+            say_misfit(page, part, offset, scan.expected())
+        }
+        _ => say_at(page, part, offset, "the reader of JSON stops here"),
     }
 }
 
@@ -174,6 +198,19 @@ fn rest_of_line<'a>(part: &Part<'a>, offset: usize) -> &'a str {
     }
 }
 
+/// Says why a text is not JSON, by what stands at a place.
+fn say_at(
+    page: &mut Page<'_>,
+    part: &Part<'_>,
+    offset: usize,
+    said: &'static str,
+) -> Result<(), AllocError> {
+    page.say(NoJson {
+        place: part.place(offset),
+        said,
+    })
+}
+
 /// A text is not JSON.
 #[derive(Clone, Copy)]
 struct NoJson {
@@ -187,6 +224,20 @@ impl fmt::Display for NoJson {
     }
 }
 
+/// A text is not JSON, since brackets nest too deep at a place.
+#[derive(Clone, Copy)]
+struct TooDeep(Place);
+
+impl fmt::Display for TooDeep {
+    fn fmt<W: fmt::Write>(&self, f: &mut fmt::Formatter<W>) -> fmt::Result {
+        write!(
+            f,
+            "{}: not JSON: brackets nest deeper than {DEEPEST} here",
+            self.0
+        )
+    }
+}
+
 /// What stands in a line from a place on, as far as it is shown.
 #[derive(Clone, Copy)]
 struct Rest<'a>(&'a str);
@@ -196,8 +247,8 @@ impl fmt::Display for Rest<'_> {
         if self.0.is_empty() {
             return f.write_str("the end of the line");
         }
-        for c in self.0.chars().take(SHOWN) {
-            f.write_char(c)?;
+        for character in self.0.chars().take(SHOWN) {
+            write_shown(character, f)?;
         }
         Ok(())
     }

@@ -15,6 +15,7 @@ mod repeated;
 mod scan;
 mod shape_faults;
 mod shape_members;
+mod shown;
 mod texts;
 mod values;
 

@@ -38,6 +38,7 @@ impl Display for Found<'_> {
             Some(Value::String(text)) if text.len() > MOST_BYTES => {
                 write!(f, "a text of {} bytes", text.len())
             }
+            Some(Value::String(text)) => write!(f, "{text:?}"),
             Some(value) => write!(f, "{value}"),
         }
     }
@@ -50,7 +51,7 @@ struct Nearest<'a>(Option<&'a str>);
 impl Display for Nearest<'_> {
     fn fmt<W: fmt::Write>(&self, f: &mut fmt::Formatter<W>) -> fmt::Result {
         match self.0 {
-            Some(name) => write!(f, "; the nearest is \"{name}\""),
+            Some(name) => write!(f, "; the nearest is {name:?}"),
             None => Ok(()),
         }
     }

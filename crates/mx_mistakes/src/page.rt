@@ -1,5 +1,6 @@
 //! What is said of files, a line for each fault and each warning.
 
+use crate::shown::Shown;
 use std::alloc::{AllocError, Global};
 use std::fmt;
 use std::fmt::Display;
@@ -86,7 +87,7 @@ struct FileLine<'a, D: Display + Drop> {
 
 impl<D: Display + Drop> Display for FileLine<'_, D> {
     fn fmt<W: fmt::Write>(&self, f: &mut fmt::Formatter<W>) -> fmt::Result {
-        let file = self.file;
+        let file = Shown(self.file);
         let line = &self.line;
         writeln!(f, "{file}:{line}")
     }
@@ -101,7 +102,7 @@ struct MoreLine<'a> {
 
 impl Display for MoreLine<'_> {
     fn fmt<W: fmt::Write>(&self, f: &mut fmt::Formatter<W>) -> fmt::Result {
-        let file = self.file;
+        let file = Shown(self.file);
         let more = self.more;
         writeln!(f, "{file}: and {more} more")
     }

@@ -4,7 +4,9 @@ use crate::lines::Key;
 use crate::page::Page;
 use crate::places::{Place, place_of};
 use crate::scan::{Member, scanned};
-use std::alloc::AllocError;
+use crate::values::text_in;
+use serde_json::Value;
+use std::alloc::{AllocError, Global};
 use std::collections::BTreeSet;
 use std::fmt;
 
@@ -15,7 +17,7 @@ pub(crate) fn warn_of_repeated(page: &mut Page<'_>, text: &[u8]) -> Result<(), A
     for member in scan.members() {
         let key = key_of(text, member);
         if !seen.insert((member.object, key))? {
-            say_repeated(page, text, member.from, key)?;
+            say_repeated(page, text, member)?;
         }
     }
     Ok(())
@@ -29,18 +31,29 @@ fn key_of<'a>(text: &'a [u8], member: &Member) -> &'a [u8] {
     }
 }
 
-/// Where the page is full the place doesn't matter.
-fn say_repeated(
-    page: &mut Page<'_>,
-    text: &[u8],
-    from: usize,
-    key: &[u8],
-) -> Result<(), AllocError> {
-    let offset = if page.is_full() { 0 } else { from };
+/// Where the page is full neither the place nor the key matters.
+fn say_repeated(page: &mut Page<'_>, text: &[u8], member: &Member) -> Result<(), AllocError> {
+    if page.is_full() {
+        return page.say(Repeated {
+            place: place_of(text, 0),
+            key: "",
+        });
+    }
+    let key = read_key(page.alloc, text, member)?;
     page.say(Repeated {
-        place: place_of(text, offset),
-        key: str::from_utf8(key).unwrap_or("?"),
+        place: place_of(text, member.from),
+        key: text_in(Some(&key)),
     })
+}
+
+/// The key that a text between quotes is.
+fn read_key(alloc: Global, text: &[u8], member: &Member) -> Result<Value, AllocError> {
+    let quoted = text.get(member.from..member.to.saturating_add(1));
+    match Value::from_slice(alloc, quoted.unwrap_or(&[])) {
+        Ok(key) => Ok(key),
+        Err(e) if e.is_memory() => Err(AllocError),
+        Err(_) => Ok(Value::Null),
+    }
 }
 
 /// A warning of a member that stands twice.

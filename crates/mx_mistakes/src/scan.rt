@@ -51,6 +51,7 @@ pub(crate) struct Scan {
     next: Next,
     within: Within,
     misfit: Option<usize>,
+    /// Where the last text, number or word begins.
     from: usize,
 }
 
@@ -68,9 +69,9 @@ impl Scan {
         Some(bracket.offset)
     }
 
-    /// How many brackets are open.
-    pub(crate) fn depth(&self) -> usize {
-        self.brackets.len()
+    /// Where the last text, number or word begins.
+    pub(crate) fn began(&self) -> usize {
+        self.from
     }
 
     /// Where a bracket first opens within as many.
@@ -144,6 +145,7 @@ impl Scan {
             (b',', Next::CommaOrSquare) => self.next = Next::Value,
             (_, Next::Value | Next::ValueOrSquare) if is_of_word(byte) => {
                 self.within = Within::Word;
+                self.from = offset;
                 self.next = self.after_value();
             }
             _ => self.misfit = Some(offset),
@@ -199,7 +201,7 @@ impl Scan {
 }
 
 /// Whether a byte may stand in a number, or in a word as `true`. No text, bracket or mark begins with it.
-fn is_of_word(byte: u8) -> bool {
+pub(crate) fn is_of_word(byte: u8) -> bool {
     !matches!(
         byte,
         b' ' | b'\t' | b'\r' | b'\n' | b'"' | b'{' | b'}' | b'[' | b']' | b':' | b','

@@ -21,7 +21,7 @@ pub enum ShapeFault {
 /// Why a text is refused.
 #[derive(Clone, Copy, Debug, PartialEq, Eq)]
 pub enum PlanFault {
-    /// It is not JSON, or not in UTF-8, or it nests deeper than 128.
+    /// It is not JSON, or not in UTF-8, or it nests deeper than 127.
     NotJson,
     /// What stands at this place is missing or of another form.
     NotPlan(Place),
