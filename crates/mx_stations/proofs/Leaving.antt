@@ -1,5 +1,5 @@
 -- A worker's turn: acts by which no section is left, and then one by which one may be.
-use Rattle.std.proofs.Common.{◌≡◌, inl, inr, ℕ, List, [], ◌++◌, length, Result, Ok, Err, OnOk, OnErr, ap, ◌∙◌}
+use Rattle.std.proofs.Common.{◌≡◌, ◌≢◌, inl, inr, ℕ, List, [], ◌++◌, length, Result, Ok, Err, IfOk, OnOk, OnErr, None, ap, ◌∙◌}
 use Rattle.std.proofs.lemmas.List.{append-nil}
 use Rattle.mx_journal.specs.declared.receipts.Receipt.{Receipt}
 use Rattle.mx_nodelaws.specs.Core.{Core}
@@ -7,9 +7,10 @@ use Rattle.mx_member.specs.declared.acts.Act.{Act}
 use Rattle.mx_member.specs.declared.acts.Act.TheVariants.{Leave}
 use Rattle.mx_member.specs.Acts.{act_of}
 use Rattle.mx_member.specs.Receipts.{closed_by}
+use Rattle.mx_stations.specs.declared.answers.TurnReport.{TurnReport}
 use Rattle.mx_stations.specs.Posts.{does}
-use Rattle.mx_stations.specs.Turns.{Station}
-use Rattle.mx_stations.specs.Works.{IsWorkers, LeavesNone, MayLeave, TakesTurn, Works}
+use Rattle.mx_stations.specs.Turns.{Goes, Station, Turns}
+use Rattle.mx_stations.specs.Works.{HasTurned, IsWorkers, LeavesNone, MayLeave, TakesTurn, Works}
 use Rattle.mx_stations.proofs.Toils.{rests, works_acting, works_on, works_turning}
 
 module _ {H S M : Type 0} (core : Core H S M) (register : ℕ) where
@@ -41,9 +42,14 @@ module _ {H S M : Type 0} (core : Core H S M) (register : ℕ) where
   pub turn_works : (s t : Station core) → TakesTurn core register s t → Works core register s t
   turn_works s t did =
       works_on core register s did.0 t did.2.0
-      (works_on core register did.0 did.1 t (left_works did.0 did.1 did.3) (works_turning core register did.1 t did.4))
+      (works_on core register did.0 did.1 t (left_works did.0 did.1 did.3) (works_turning core register did.1 t did.4.0))
 
 module _ {H S M : Type 0} (core : Core H S M) where
   pub leave_trying : {A F : Type 0} (r : Result A F) (s t : Station core) → OnOk r (t ≡ does core Leave s) → OnErr r (t ≡ s) → MayLeave core s t
   leave_trying (Ok x) s t did same = inr did
   leave_trying (Err e) s t did same = inl same
+
+  -- a turn that tells of itself, or in which memory was refused
+  pub has_turned : {F : Type 0} (r : Result TurnReport F) (s t : Station core) → IfOk r (λ report. Turns core s report t) → Goes core s t → OnErr r (t.me.hand ≢ None) → HasTurned core s t
+  has_turned (Ok report) s t told goes kept = (goes, inl (report, told))
+  has_turned (Err e) s t told goes kept = (goes, inr kept)

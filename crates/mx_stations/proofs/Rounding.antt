@@ -1,5 +1,5 @@
 -- Rounds of a worker, behind each of which its station settles if that is due.
-use Rattle.std.proofs.Common.{◌≡◌, inl, inr, ℕ, suc, ◌+◌, ◌-◌, List, [], ◌∷◌, ◌++◌, length, Result, Ok, Err, OnOk, nat_le, nat_lt, refl, sym, ap, ◌∙◌, subst, arith}
+use Rattle.std.proofs.Common.{◌≡◌, inl, inr, ℕ, suc, ◌+◌, ◌-◌, List, [], ◌∷◌, ◌++◌, length, length-append, Result, Ok, Err, OnOk, nat_le, nat_lt, refl, sym, ap, ◌∙◌, subst, arith}
 use Rattle.std.proofs.lemmas.Bool.Decides.{nat_tests}
 use Rattle.mx_stamps.proofs.Choices.{cond_false, lt_not}
 use Rattle.atomic_table.specs.Seated.{TableId}
@@ -14,7 +14,7 @@ use Rattle.mx_member.specs.Steps.{settle_of}
 use Rattle.mx_stations.specs.Gathered.{KeepsTable}
 use Rattle.mx_stations.specs.Posts.{does}
 use Rattle.mx_stations.specs.Turns.{Station}
-use Rattle.mx_stations.specs.Works.{IsDue, Rounds, SettlesIfDue, TakesTurn, Works, WorksSettling}
+use Rattle.mx_stations.specs.Works.{IsDue, Rounds, SettlesIfDue, TakesTurn, Works, WorksAtMost, WorksFor, WorksSettling}
 use Rattle.mx_stations.proofs.Leaving.{turn_works}
 use Rattle.mx_stations.proofs.Toils.{home_of, rests, works_home, works_on}
 
@@ -43,8 +43,9 @@ module _ {H S M : Type 0} (core : Core H S M) (every : ℕ) where
   settled_home before s t (inr did) = ap home_of did.1
 
 module _ {H S M : Type 0} (core : Core H S M) (register every : ℕ) where
-  pub rounds_rest : (s t : Station core) → t ≡ s → WorksSettling core register every s t
-  rounds_rest s t same = ([], same)
+  -- before the first round
+  pub rounds_rest : (s t : Station core) → t ≡ s → WorksFor core register every 0 s t
+  rounds_rest s t same = ([], refl, same)
 
   longer : (ms : List (Station core)) (s t n u : Station core) → Rounds core register every ms s t → TakesTurn core register t n → SettlesIfDue core every (length t.me.receipts) n u → Rounds core register every (ms ++ u ∷ []) s u
   longer [] s t n u same did due =
@@ -52,9 +53,17 @@ module _ {H S M : Type 0} (core : Core H S M) (register every : ℕ) where
   longer (m ∷ ms) s t n u rest did due = (rest.0, longer ms m t n u rest.1 did due)
 
   -- one round more, where these receipts were there before it
-  pub rounds_on : (had : List Receipt) (s t n u : Station core) → WorksSettling core register every s t → had ≡ t.me.receipts → TakesTurn core register t n → SettlesIfDue core every (length had) n u → WorksSettling core register every s u
-  rounds_on had s t n u done same did due =
-      (done.0 ++ u ∷ [], longer done.0 s t n u done.1 did (subst (λ (rs : List Receipt). SettlesIfDue core every (length rs) n u) same due))
+  pub rounds_on : (made : ℕ) (had : List Receipt) (s t n u : Station core) → WorksFor core register every made s t → had ≡ t.me.receipts → TakesTurn core register t n → SettlesIfDue core every (length had) n u → WorksFor core register every (made + 1) s u
+  rounds_on made had s t n u done same did due =
+      (done.0 ++ u ∷ [], length-append done.0 (u ∷ []) ∙ ap (λ (k : ℕ). k + 1) done.1, longer done.0 s t n u done.2 did (subst (λ (rs : List Receipt). SettlesIfDue core every (length rs) n u) same due))
+
+  -- what was counted is what was asked for
+  pub rounds_made : (made turns : ℕ) (s t : Station core) → made ≡ turns → WorksFor core register every made s t → WorksFor core register every turns s t
+  rounds_made made turns s t same done = subst (λ (k : ℕ). WorksFor core register every k s t) same done
+
+  -- so many rounds are rounds
+  pub rounds_some : (turns : ℕ) (s t : Station core) → WorksAtMost core register every turns s t → WorksSettling core register every s t
+  rounds_some turns s t did = (did.2.0, did.2.2)
 
   rounds_home : (ms : List (Station core)) (s t : Station core) → Rounds core register every ms s t → home_of t ≡ home_of s
   rounds_home [] s t same = ap home_of same
@@ -79,3 +88,12 @@ module _ {H S M : Type 0} (core : Core H S M) (register every : ℕ) where
   -- where it never settles
   pub rounds_never : (s t : Station core) → WorksSettling core register every s t → every ≡ 0 → Works core register s t
   rounds_never s t did zero = never_settled zero did.0 s t did.1
+
+module _ {H S M : Type 0} (core : Core H S M) (register : ℕ) where
+  -- one round more of a worker that never settles
+  pub turns_on : (made : ℕ) (s t u : Station core) → WorksFor core register 0 made s t → TakesTurn core register t u → WorksFor core register 0 (made + 1) s u
+  turns_on made s t u done did = rounds_on core register 0 made t.me.receipts s t u u done refl did (inr ((λ due. due.0 refl), refl))
+
+  -- and what it does is work
+  pub turns_work : (turns : ℕ) (s t : Station core) → WorksAtMost core register 0 turns s t → Works core register s t
+  turns_work turns s t did = rounds_never core register 0 s t (rounds_some core register 0 turns s t did) refl

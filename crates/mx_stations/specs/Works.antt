@@ -1,11 +1,12 @@
 -- The acts and moves of a station at which a worker works, and of one that settles besides.
-use Rattle.std.specs.Prelude.{◌≡◌, ◌≢◌, ◌⊎◌, ℕ, ◌-◌, ◌%◌, ◌<◌, List, [], ◌∷◌, length}
+use Rattle.std.specs.Prelude.{◌≡◌, ◌≢◌, ◌⊎◌, ℕ, ◌-◌, ◌%◌, ◌<◌, ◌≤◌, List, [], ◌∷◌, length, None}
 use Rattle.mx_nodelaws.specs.Core.{Core}
 use Rattle.mx_member.specs.Member.{first_gap}
 use Rattle.mx_member.specs.declared.acts.Act.{Act}
 use Rattle.mx_member.specs.declared.acts.Act.TheVariants as act
+use Rattle.mx_stations.specs.declared.answers.TurnReport.{TurnReport}
 use Rattle.mx_stations.specs.Posts.{does}
-use Rattle.mx_stations.specs.Turns.{Goes, Moves, Station}
+use Rattle.mx_stations.specs.Turns.{Goes, Moves, Station, Turns}
 
 -- an act of a worker of n nodes: it asks, enters, leaves, reads or writes its register, or asks a node for records
 abbrev pub IsWorkers : {M : Type 0} → ℕ → ℕ → Act M → Type 0
@@ -43,13 +44,19 @@ module _ {H S M : Type 0} (core : Core H S M) where
   abbrev pub MayLeave : Station core → Station core → Type 0
   MayLeave s t = (t ≡ s) ⊎ (t ≡ does core act.Leave s)
 
+  -- a turn of the station, of which a report tells; or memory was refused in it, and it is some of
+  -- these acts and moves, which leave a parcel in hand
+  abbrev pub HasTurned : Station core → Station core → Type 0
+  HasTurned s t =
+      Goes core s t × (((report : TurnReport) × Turns core s report t) ⊎ (t.me.hand ≢ None))
+
 module _ {H S M : Type 0} (core : Core H S M) (register : ℕ) where
   -- a worker's turn: acts by which it leaves no section, then it may leave one, and then its
   -- station takes a turn
   abbrev pub TakesTurn : Station core → Station core → Type 0
   TakesTurn s t =
       (m : Station core) × (n : Station core) × LeavesNone core register s m × MayLeave core m n
-      × Goes core n t
+      × HasTurned core n t
 
 -- a section was left, since there were so many before and are so many now, and `every`, which is
 -- not 0, divides how many there are now
@@ -80,3 +87,11 @@ module _ {H S M : Type 0} (core : Core H S M) (register every : ℕ) where
   -- of its sections comes to a multiple of `every`, once, and at no other time; with 0 never
   abbrev pub WorksSettling : Station core → Station core → Type 0
   WorksSettling s t = (ms : List (Station core)) × Rounds ms s t
+
+  -- exactly so many of these, one after another: so many turns were made
+  abbrev pub WorksFor : ℕ → Station core → Station core → Type 0
+  WorksFor turns s t = (ms : List (Station core)) × (length ms ≡ turns) × Rounds ms s t
+
+  -- at most so many
+  abbrev pub WorksAtMost : ℕ → Station core → Station core → Type 0
+  WorksAtMost turns s t = (made : ℕ) × (made ≤ turns) × WorksFor made s t

@@ -4,7 +4,7 @@
 ghost use Rattle.std.specs.Prelude.{◌≡◌, ◌≤◌, ◌↔◌, ℕ, length, IsTrue};
 ghost use Rattle.mx_nodelaws.specs.Core.{IsInside};
 ghost use Rattle.mx_stations.specs.Gathered.{KeepsTable};
-ghost use Rattle.mx_stations.specs.Works.{IsDue, SettlesIfDue, Works, WorksSettling};
+ghost use Rattle.mx_stations.specs.Works.{IsDue, SettlesIfDue, Works, WorksAtMost, WorksFor, WorksSettling};
 
 use crate::station::Station;
 use crate::working::{Gate, Script, Stance, Worked, is_finished, take_turn};
@@ -24,11 +24,13 @@ pub fn work_settling<C: Exclusion, G: Gate, F: Fates + Drop>(
 ) -> (Station<C>, Worked)
     ensures works { WorksSettling C.core script.register every station result.0 }
     ensures never { every ≡ 0 → Works C.core script.register station result.0 }
+    ensures most { WorksAtMost C.core script.register every turns station result.0 }
     ensures same { KeepsTable station result.0 }
     ensures node { result.0.me.node ≡ station.me.node }
     ensures done { result.1 ≡ Worked.Done → script.sections ≤ length result.0.me.receipts }
     ensures outside { result.1 ≡ Worked.Done → IsInside C.core result.0.me.member.core → ⊥ }
-    ensures not_yet { (n : ℕ) → result.1 ≡ Worked.NotYet n → n ≡ turns }
+    ensures not_yet { (n : ℕ) → result.1 ≡ Worked.NotYet n
+        → (n ≡ turns) × WorksFor C.core script.register every n station result.0 }
     ensures shut { result.1 ≡ Worked.GateShut → result.0 ≡ station }
 {
     let worked = settle_on(&mut station, &script, every, gate, &mut fates, turns);
@@ -43,10 +45,11 @@ fn settle_on<C: Exclusion, G: Gate, F: Fates>(
     fates: &mut F,
     turns: u64,
 ) -> Worked
-    ensures works { WorksSettling C.core script.now.register every station.old station.new }
+    ensures most { WorksAtMost C.core script.now.register every turns station.old station.new }
     ensures done { result ≡ Worked.Done → script.now.sections ≤ length station.new.me.receipts }
     ensures outside { result ≡ Worked.Done → IsInside C.core station.new.me.member.core → ⊥ }
-    ensures not_yet { (n : ℕ) → result ≡ Worked.NotYet n → n ≡ turns }
+    ensures not_yet { (n : ℕ) → result ≡ Worked.NotYet n
+        → (n ≡ turns) × WorksFor C.core script.now.register every n station.old station.new }
     ensures shut { result ≡ Worked.GateShut → station.new ≡ station.old }
 {
     let node = station.node();

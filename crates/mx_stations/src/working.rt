@@ -4,7 +4,7 @@
 ghost use Rattle.std.specs.Prelude.{◌≡◌, ◌<◌, ◌≤◌, ◌↔◌, ℕ, length, IsTrue};
 ghost use Rattle.mx_nodelaws.specs.Core.{IsInside};
 ghost use Rattle.mx_stations.specs.Gathered.{KeepsTable};
-ghost use Rattle.mx_stations.specs.Works.{LeavesNone, MayLeave, TakesTurn, Works};
+ghost use Rattle.mx_stations.specs.Works.{LeavesNone, MayLeave, TakesTurn, Works, WorksAtMost, WorksFor};
 
 use crate::answers::{TakeFault, TurnReport};
 use crate::gathering::is_inside;
@@ -64,11 +64,13 @@ pub fn work<C: Exclusion, G: Gate, F: Fates + Drop>(
     turns: u64,
 ) -> (Station<C>, Worked)
     ensures works { Works C.core script.register station result.0 }
+    ensures most { WorksAtMost C.core script.register 0 turns station result.0 }
     ensures same { KeepsTable station result.0 }
     ensures node { result.0.me.node ≡ station.me.node }
     ensures done { result.1 ≡ Worked.Done → script.sections ≤ length result.0.me.receipts }
     ensures outside { result.1 ≡ Worked.Done → IsInside C.core result.0.me.member.core → ⊥ }
-    ensures not_yet { (n : ℕ) → result.1 ≡ Worked.NotYet n → n ≡ turns }
+    ensures not_yet { (n : ℕ) → result.1 ≡ Worked.NotYet n
+        → (n ≡ turns) × WorksFor C.core script.register 0 n station result.0 }
     ensures shut { result.1 ≡ Worked.GateShut → result.0 ≡ station }
 {
     let worked = work_at(&mut station, &script, gate, &mut fates, turns);
@@ -82,10 +84,11 @@ fn work_at<C: Exclusion, G: Gate, F: Fates>(
     fates: &mut F,
     turns: u64,
 ) -> Worked
-    ensures works { Works C.core script.now.register station.old station.new }
+    ensures most { WorksAtMost C.core script.now.register 0 turns station.old station.new }
     ensures done { result ≡ Worked.Done → script.now.sections ≤ length station.new.me.receipts }
     ensures outside { result ≡ Worked.Done → IsInside C.core station.new.me.member.core → ⊥ }
-    ensures not_yet { (n : ℕ) → result ≡ Worked.NotYet n → n ≡ turns }
+    ensures not_yet { (n : ℕ) → result ≡ Worked.NotYet n
+        → (n ≡ turns) × WorksFor C.core script.now.register 0 n station.old station.new }
     ensures shut { result ≡ Worked.GateShut → station.new ≡ station.old }
 {
     let node = station.node();

@@ -1,10 +1,10 @@
-use Rattle.std.proofs.Common.{refl, rules, sym}
+use Rattle.std.proofs.Common.{◌≡◌, ◌+◌, ℕ, arith, refl, rules, sym}
 use Rattle.mx_stations.proofs.Endings.{done_not_yet, done_shut, not_yet_shut, same_turns, shut_done, shut_not_yet}
-use Rattle.mx_stations.proofs.Rounding.{rounds_on, rounds_rest}
+use Rattle.mx_stations.proofs.Rounding.{rounds_made, rounds_on, rounds_rest}
 use Rattle.mx_stations.proofs.settling.settle_on.Goals as goal
 
-pub returns-then-not-arrive-clause-works : goal.returns-then-not-arrive-clause-works
-returns-then-not-arrive-clause-works g c = rounds_rest g.C.Exclusion.core c.args.script.now.register c.args.every _ _ refl
+pub returns-then-not-arrive-clause-most : goal.returns-then-not-arrive-clause-most
+returns-then-not-arrive-clause-most g c = (0, omega arith, rounds_rest g.C.Exclusion.core c.args.script.now.register c.args.every _ _ refl)
 
 pub returns-then-not-arrive-clause-done : goal.returns-then-not-arrive-clause-done
 returns-then-not-arrive-clause-done g c = λ ended. absurd (shut_done ended)
@@ -22,10 +22,15 @@ pub loop-turn-init : goal.loop-turn-init
 loop-turn-init g c = rounds_rest g.C.Exclusion.core c.args.script.now.register c.args.every _ _ refl
 
 pub loop-turn-preserved : goal.loop-turn-preserved
-loop-turn-preserved g c = rounds_on g.C.Exclusion.core c.args.script.now.register c.args.every c.receipts-before.result.now _ _ _ _ c.loop-turn.invariant c.receipts-before.ensures c.take_turn.ensures c.settle_if_due.ensures
+loop-turn-preserved g c = rounds_on g.C.Exclusion.core c.args.script.now.register c.args.every c.loop-turn._turn c.receipts-before.result.now _ _ _ _ c.loop-turn.invariant c.receipts-before.ensures c.take_turn.ensures c.settle_if_due.ensures
 
-pub returns-then-done-clause-works : goal.returns-then-done-clause-works
-returns-then-done-clause-works g c = rounds_on g.C.Exclusion.core c.args.script.now.register c.args.every c.receipts-before.result.now _ _ _ _ c.loop-turn.invariant c.receipts-before.ensures c.take_turn.ensures c.settle_if_due.ensures
+pub returns-then-done-clause-most : goal.returns-then-done-clause-most
+returns-then-done-clause-most g c =
+    let low = c.loop-turn-test.true in (
+      c.loop-turn._turn + 1,
+      omega arith,
+      rounds_on g.C.Exclusion.core c.args.script.now.register c.args.every c.loop-turn._turn c.receipts-before.result.now _ _ _ _ c.loop-turn.invariant c.receipts-before.ensures c.take_turn.ensures c.settle_if_due.ensures,
+    )
 
 pub returns-then-done-clause-done : goal.returns-then-done-clause-done
 returns-then-done-clause-done g c = λ ended. c.if-is_finished.ensures.enough refl
@@ -39,8 +44,8 @@ returns-then-done-clause-not_yet g c = λ n ended. absurd (done_not_yet n ended)
 pub returns-then-done-clause-shut : goal.returns-then-done-clause-shut
 returns-then-done-clause-shut g c = λ shut. absurd (done_shut shut)
 
-pub returns-clause-works : goal.returns-clause-works
-returns-clause-works g c = c.loop-turn.invariant
+pub returns-clause-most : goal.returns-clause-most
+returns-clause-most g c = (c.loop-turn._turn, c.loop-turn.auto._turn-end, c.loop-turn.invariant)
 
 pub returns-clause-done : goal.returns-clause-done
 returns-clause-done g c = λ ended. absurd (done_not_yet c.args.turns (sym ended))
@@ -49,7 +54,10 @@ pub returns-clause-outside : goal.returns-clause-outside
 returns-clause-outside g c = λ ended. absurd (done_not_yet c.args.turns (sym ended))
 
 pub returns-clause-not_yet : goal.returns-clause-not_yet
-returns-clause-not_yet g c = λ n ended. same_turns c.args.turns n ended
+returns-clause-not_yet g c = λ n ended.
+    let same : n ≡ c.args.turns = same_turns c.args.turns n ended in
+    let all : c.loop-turn._turn ≡ n = (let t = c.loop-turn-test.false in let a = c.loop-turn.auto._turn-end in omega arith) in
+    (same, rounds_made g.C.Exclusion.core c.args.script.now.register c.args.every c.loop-turn._turn n _ _ all c.loop-turn.invariant)
 
 pub returns-clause-shut : goal.returns-clause-shut
 returns-clause-shut g c = λ shut. absurd (not_yet_shut c.args.turns shut)

@@ -1,6 +1,6 @@
 use Rattle.std.proofs.Common.{rules, refl}
 use Rattle.mx_member.specs.declared.acts.Act.TheVariants.{Enter}
-use Rattle.mx_stations.proofs.Leaving.{none_on, none_trying}
+use Rattle.mx_stations.proofs.Leaving.{has_turned, none_on, none_trying}
 use Rattle.mx_stations.proofs.working.take_turn.Goals as goal
 
 pub returns : goal.returns
@@ -12,7 +12,7 @@ returns g c =
       _,
       none_on core register _ _ _ (c.ask_if_due.ensures register) (none_on core register _ _ _ entered c.add_if_due.ensures),
       c.leave_if_due.ensures,
-      c.turn-report.ensures.goes,
+      has_turned core c.turn-report.result _ _ c.turn-report.ensures.turns c.turn-report.ensures.goes c.turn-report.ensures.kept,
     )
 
 pub ask_if_due-requires : goal.ask_if_due-requires
