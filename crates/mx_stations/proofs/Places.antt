@@ -54,6 +54,15 @@ module _ {T P : Type 0} where
       subst (λ (z : Entry T P). IsIn (z.node, x.0, x.1) (sent_by f.node f.sent ++ sent_of world)) is (in_left (f.node, x.0, x.1) (sent_by f.node f.sent) (sent_of world) (in_sent f.node f.sent x.0 x.1 (subst (λ (z : Entry T P). IsIn x z.sent) (sym is) h)))
   sent_in_world (f ∷ world) (suc k) e x at h = in_right (e.node, x.0, x.1) (sent_by f.node f.sent) (sent_of world) (sent_in_world world k e x at h)
 
+  -- and what the world sent one of its nodes sent
+  pub sender_of : (world : List (Entry T P)) (l : ℕ × ℕ × P) → IsIn l (sent_of world) → (k : ℕ) × (f : Entry T P) × (get_elem? world k ≡ some f) × (l.0 ≡ f.node) × IsIn (l.1, l.2) f.sent
+  sender_of [] l h = absurd h
+  sender_of (f ∷ world) l h =
+      ⊎_elim
+      (λ a. let r = sent_out f.node l f.sent a in (0, f, refl, r.0, r.1))
+      (λ b. let r = sender_of world l b in (suc r.0, r.1, r.2, r.3, r.4))
+      (in_append l (sent_by f.node f.sent) (sent_of world) h)
+
   -- what a node may change, and the parcels after that
   abbrev Sends : Entry T P → List (ℕ × P) → Entry T P → Type 0
   Sends e out e' = (e'.node ≡ e.node) × (e'.sent ≡ e.sent ++ out)

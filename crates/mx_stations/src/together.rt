@@ -6,24 +6,36 @@ ghost use Rattle.mx_journal.specs.Settled.{DoAgree};
 ghost use Rattle.mx_nodelaws.specs.Core.{IsInside};
 ghost use Rattle.mx_stations.specs.Entries.{Node};
 ghost use Rattle.mx_stations.specs.Running.{word_of};
-ghost use Rattle.mx_stations.specs.Together.{RunTogether, ShowsNode};
+ghost use Rattle.mx_stations.specs.Together.{HoldsSent, RunTogether, ShowsNode};
 
 use crate::field::{Field, Place};
+use crate::next::OfCount;
 use crate::rule::{HandOn, Slot, TakeIn, View};
 use crate::station::Station;
 use atomic_table::Play;
 use mx_nodelaws::Exclusion;
 use mx_stamps::NodeId;
-use std::marker::PhantomData;
+use std::marker::{Brand, PhantomData};
 
 /// A look at the word of a node.
-pub struct Sees<C> {
-    of: PhantomData<C>,
+pub struct Sees<C, N> {
+    of: PhantomData<(C, N)>,
 }
 
-impl<C: Exclusion> Play<Slot<C>, View<C>> for Sees<C> {
+impl<C: Exclusion, N: OfCount> Play<Slot<C>, View<C>> for Sees<C, N> {
     ghost then = { λ step before found now. (now ≡ before)
-        × ShowsNode C.core C.Good step.word found now.0 };
+        × ShowsNode C.core C.Good N.count step.word found now.0 };
+}
+
+/// A look at the word of a node, where the call picks how many nodes there are.
+fn see_as<C: Exclusion, N: OfCount>(field: &Field<C>, seat: &mut Place<C>, node: u8) -> u64
+    requires table { seat.old.table_id ≡ field.now.board.shared.table_id }
+    requires within { node < field.now.nodes }
+    requires count { N.count ≡ field.now.nodes }
+    ensures same { (seat.new.table_id ≡ seat.old.table_id) × (seat.new.me ≡ seat.old.me) }
+    ensures seen { ShowsNode C.core C.Good field.now.nodes node result seat.old.me.0 }
+{
+    field.board.shared.load::<Sees<C, N>>(seat, node as usize)
 }
 
 /// A look at the word of a node, which tells of the nodes in view.
@@ -31,9 +43,9 @@ fn see<C: Exclusion>(field: &Field<C>, seat: &mut Place<C>, node: u8) -> u64
     requires table { seat.old.table_id ≡ field.now.board.shared.table_id }
     requires within { node < field.now.nodes }
     ensures same { (seat.new.table_id ≡ seat.old.table_id) × (seat.new.me ≡ seat.old.me) }
-    ensures seen { ShowsNode C.core C.Good node result seat.old.me.0 }
+    ensures seen { ShowsNode C.core C.Good field.now.nodes node result seat.old.me.0 }
 {
-    field.board.shared.load::<Sees<C>>(seat, node as usize)
+    see_as::<C, Brand>(field, seat, node)
 }
 
 /// A look with two seats of one node each as one.
@@ -44,7 +56,7 @@ fn see_both<C: Exclusion>(field: &Field<C>, one: &mut Place<C>, other: &mut Plac
     requires other { (e : Node C C.Msg) × (other.old.me ≡ (e ∷ [], [])) }
     ensures one { (one.new.table_id ≡ one.old.table_id) × (one.new.me ≡ one.old.me) }
     ensures other { (other.new.table_id ≡ other.old.table_id) × (other.new.me ≡ other.old.me) }
-    ensures seen { RunTogether C.core C.Good (one.old.me.0 ++ other.old.me.0) }
+    ensures seen { RunTogether C.core C.Good field.now.nodes (one.old.me.0 ++ other.old.me.0) }
 {
     let shared = &field.board.shared;
     let mine = shared.split_seat::<HandOn>(one);
@@ -60,7 +72,7 @@ impl<C: Exclusion> Station<C> {
     pub fn status(&mut self, node: NodeId) -> u64
         requires { node < self.old.nodes }
         ensures same { self.new ≡ self.old }
-        ensures shows { ShowsNode C.core C.Good node result (self.old.me ∷ []) }
+        ensures shows { ShowsNode C.core C.Good self.old.nodes node result (self.old.me ∷ []) }
         ensures own { node ≡ self.old.me.node → result ≡ word_of C.core self.old.me.member }
         ensures alone { IsInside C.core self.old.me.member.core → node ≢ self.old.me.node
             → result % 2 ≡ 0 }
@@ -72,13 +84,15 @@ impl<C: Exclusion> Station<C> {
     pub fn apart(&mut self, other: &mut Station<C>)
         requires { self.old.table ≡ other.old.table }
         ensures same { (self.new ≡ self.old) × (other.new ≡ other.old) }
-        ensures runs { RunTogether C.core C.Good (self.old.me ∷ other.old.me ∷ []) }
+        ensures runs { RunTogether C.core C.Good self.old.nodes
+            (self.old.me ∷ other.old.me ∷ []) }
         ensures differ { self.old.me.node ≢ other.old.me.node }
         ensures alone { IsInside C.core self.old.me.member.core
             → IsInside C.core other.old.me.member.core → ⊥ }
         ensures words { word_of C.core self.old.me.member % 2 ≡ 1
             → word_of C.core other.old.me.member % 2 ≡ 1 → ⊥ }
         ensures agreed { DoAgree self.old.me.member.journal other.old.me.member.journal }
+        ensures held { HoldsSent self.old.me other.old.me × HoldsSent other.old.me self.old.me }
     {
         see_both(&self.field, &mut self.seat, &mut other.seat);
     }

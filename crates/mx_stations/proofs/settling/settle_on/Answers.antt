@@ -1,4 +1,4 @@
-use Rattle.std.proofs.Common.{◌≡◌, ◌+◌, ℕ, arith, refl, rules, sym}
+use Rattle.std.proofs.Common.{◌≡◌, ◌+◌, arith, refl, rules, sym}
 use Rattle.mx_stations.proofs.Endings.{done_not_yet, done_shut, not_yet_shut, same_turns, shut_done, shut_not_yet}
 use Rattle.mx_stations.proofs.Rounding.{rounds_made, rounds_on, rounds_rest}
 use Rattle.mx_stations.proofs.settling.settle_on.Goals as goal

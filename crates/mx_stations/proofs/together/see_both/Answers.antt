@@ -38,4 +38,4 @@ pub returns-clause-seen : goal.returns-clause-seen
 returns-clause-seen g c =
     let X = g.C.Exclusion in
     let r = c.requires in let s = c.split_seat-mine.ensures in let j = c.join_seat.ensures in let l = c.see.ensures in let t = c.split_seat-mine-2.ensures in let k = c.join_seat-2.ensures in
-    subst (λ v. RunTogether X.core X.Good v) (parted _ _ _ _ _ _ _ _ _ _ _ r.one.1 r.other.1 s.2 s.4 j.2 l.same.1 t.2 t.4 k.2).0 l.seen.together
+    subst (λ v. RunTogether X.core X.Good c.args.field.now.nodes v) (parted _ _ _ _ _ _ _ _ _ _ _ r.one.1 r.other.1 s.2 s.4 j.2 l.same.1 t.2 t.4 k.2).0 l.seen.together

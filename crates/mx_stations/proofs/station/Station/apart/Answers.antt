@@ -2,7 +2,7 @@ use Rattle.std.proofs.Common.{sym, ap, ◌∙◌, subst}
 use Rattle.std.specs.Arc.{arc_value}
 use Rattle.mx_stations.specs.Posts.{Waits, sent_in}
 use Rattle.mx_stations.proofs.Posts.{same_seat}
-use Rattle.mx_stations.proofs.Tells.{agree, apart, one_inside, one_odd, seen_both}
+use Rattle.mx_stations.proofs.Tells.{agree, apart, both_hold, one_inside, one_odd, seen_both}
 use Rattle.mx_stations.proofs.station.Station.apart.Goals as goal
 
 pub see_both-requires : goal.see_both-requires
@@ -26,19 +26,29 @@ invariant_of-other g c =
 pub returns-clause-differ : goal.returns-clause-differ
 returns-clause-differ g c =
     let X = g.C.Exclusion in
-    apart X.core X.Good _ _ (seen_both X.core X.Good _ _ _ _ _ _ (ap (λ m. m.0) c.self.invariant.1) (ap (λ m. m.0) c.other.invariant.1) (ap (λ s. s.me) c.self.view_is) (ap (λ s. s.me) c.other.view_is) c.see_both.ensures.seen)
+    apart X.core X.Good _ _ _ (seen_both X.core X.Good _ _ _ _ _ _ _ _ (ap (λ f. f.nodes) c.deref.ensures ∙ ap (λ s. s.nodes) c.self.view_is) (ap (λ m. m.0) c.self.invariant.1) (ap (λ m. m.0) c.other.invariant.1) (ap (λ s. s.me) c.self.view_is) (ap (λ s. s.me) c.other.view_is) c.see_both.ensures.seen)
 
 pub returns-clause-alone : goal.returns-clause-alone
 returns-clause-alone g c =
     let X = g.C.Exclusion in let laws = g.met.C.Exclusion in
-    one_inside X.core X.IsShape X.Good laws.laws _ _ (seen_both X.core X.Good _ _ _ _ _ _ (ap (λ m. m.0) c.self.invariant.1) (ap (λ m. m.0) c.other.invariant.1) (ap (λ s. s.me) c.self.view_is) (ap (λ s. s.me) c.other.view_is) c.see_both.ensures.seen)
+    one_inside X.core X.IsShape X.Good laws.laws _ _ _ (seen_both X.core X.Good _ _ _ _ _ _ _ _ (ap (λ f. f.nodes) c.deref.ensures ∙ ap (λ s. s.nodes) c.self.view_is) (ap (λ m. m.0) c.self.invariant.1) (ap (λ m. m.0) c.other.invariant.1) (ap (λ s. s.me) c.self.view_is) (ap (λ s. s.me) c.other.view_is) c.see_both.ensures.seen)
 
 pub returns-clause-words : goal.returns-clause-words
 returns-clause-words g c =
     let X = g.C.Exclusion in let laws = g.met.C.Exclusion in
-    one_odd X.core X.IsShape X.Good laws.laws _ _ (seen_both X.core X.Good _ _ _ _ _ _ (ap (λ m. m.0) c.self.invariant.1) (ap (λ m. m.0) c.other.invariant.1) (ap (λ s. s.me) c.self.view_is) (ap (λ s. s.me) c.other.view_is) c.see_both.ensures.seen)
+    one_odd X.core X.IsShape X.Good laws.laws _ _ _ (seen_both X.core X.Good _ _ _ _ _ _ _ _ (ap (λ f. f.nodes) c.deref.ensures ∙ ap (λ s. s.nodes) c.self.view_is) (ap (λ m. m.0) c.self.invariant.1) (ap (λ m. m.0) c.other.invariant.1) (ap (λ s. s.me) c.self.view_is) (ap (λ s. s.me) c.other.view_is) c.see_both.ensures.seen)
 
 pub returns-clause-agreed : goal.returns-clause-agreed
 returns-clause-agreed g c =
     let X = g.C.Exclusion in
-    agree X.core X.Good _ _ (seen_both X.core X.Good _ _ _ _ _ _ (ap (λ m. m.0) c.self.invariant.1) (ap (λ m. m.0) c.other.invariant.1) (ap (λ s. s.me) c.self.view_is) (ap (λ s. s.me) c.other.view_is) c.see_both.ensures.seen)
+    agree X.core X.Good _ _ _ (seen_both X.core X.Good _ _ _ _ _ _ _ _ (ap (λ f. f.nodes) c.deref.ensures ∙ ap (λ s. s.nodes) c.self.view_is) (ap (λ m. m.0) c.self.invariant.1) (ap (λ m. m.0) c.other.invariant.1) (ap (λ s. s.me) c.self.view_is) (ap (λ s. s.me) c.other.view_is) c.see_both.ensures.seen)
+
+pub returns-clause-runs : goal.returns-clause-runs
+returns-clause-runs g c =
+    let X = g.C.Exclusion in
+    seen_both X.core X.Good _ _ _ _ _ _ _ _ (ap (λ f. f.nodes) c.deref.ensures ∙ ap (λ s. s.nodes) c.self.view_is) (ap (λ m. m.0) c.self.invariant.1) (ap (λ m. m.0) c.other.invariant.1) (ap (λ s. s.me) c.self.view_is) (ap (λ s. s.me) c.other.view_is) c.see_both.ensures.seen
+
+pub returns-clause-held : goal.returns-clause-held
+returns-clause-held g c =
+    let X = g.C.Exclusion in
+    both_hold X.core X.Good _ _ _ (seen_both X.core X.Good _ _ _ _ _ _ _ _ (ap (λ f. f.nodes) c.deref.ensures ∙ ap (λ s. s.nodes) c.self.view_is) (ap (λ m. m.0) c.self.invariant.1) (ap (λ m. m.0) c.other.invariant.1) (ap (λ s. s.me) c.self.view_is) (ap (λ s. s.me) c.other.view_is) c.see_both.ensures.seen)

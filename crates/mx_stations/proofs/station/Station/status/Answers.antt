@@ -19,12 +19,12 @@ invariant_of-self g c =
 pub returns-clause-own : goal.returns-clause-own
 returns-clause-own g c =
     let X = g.C.Exclusion in let laws = g.met.C.Exclusion in
-    own_word X.core X.IsShape X.Good laws.laws _ _ _ (seen_by X.core X.Good _ _ _ _ _ _ c.get.ensures.value (ap (λ m. m.0) c.self.invariant.1) (ap (λ s. s.me) c.self.view_is) c.see.ensures.seen)
+    own_word X.core X.IsShape X.Good laws.laws _ _ _ _ (seen_by X.core X.Good _ _ _ _ _ _ _ _ (ap (λ f. f.nodes) c.deref.ensures ∙ ap (λ s. s.nodes) c.self.view_is) c.get.ensures.value (ap (λ m. m.0) c.self.invariant.1) (ap (λ s. s.me) c.self.view_is) c.see.ensures.seen)
 
 pub returns-clause-alone : goal.returns-clause-alone
 returns-clause-alone g c =
     let X = g.C.Exclusion in let laws = g.met.C.Exclusion in
-    even_beside X.core X.IsShape X.Good laws.laws _ _ _ (seen_by X.core X.Good _ _ _ _ _ _ c.get.ensures.value (ap (λ m. m.0) c.self.invariant.1) (ap (λ s. s.me) c.self.view_is) c.see.ensures.seen)
+    even_beside X.core X.IsShape X.Good laws.laws _ _ _ _ (seen_by X.core X.Good _ _ _ _ _ _ _ _ (ap (λ f. f.nodes) c.deref.ensures ∙ ap (λ s. s.nodes) c.self.view_is) c.get.ensures.value (ap (λ m. m.0) c.self.invariant.1) (ap (λ s. s.me) c.self.view_is) c.see.ensures.seen)
 
 pub returns-clause-same : goal.returns-clause-same
 returns-clause-same g c =
@@ -34,4 +34,4 @@ returns-clause-same g c =
 pub returns-clause-shows : goal.returns-clause-shows
 returns-clause-shows g c =
     let X = g.C.Exclusion in
-    seen_by X.core X.Good _ _ _ _ _ _ c.get.ensures.value (ap (λ m. m.0) c.self.invariant.1) (ap (λ s. s.me) c.self.view_is) c.see.ensures.seen
+    seen_by X.core X.Good _ _ _ _ _ _ _ _ (ap (λ f. f.nodes) c.deref.ensures ∙ ap (λ s. s.nodes) c.self.view_is) c.get.ensures.value (ap (λ m. m.0) c.self.invariant.1) (ap (λ s. s.me) c.self.view_is) c.see.ensures.seen
