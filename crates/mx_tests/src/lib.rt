@@ -8,6 +8,8 @@ mod clusters;
 #[cfg(test)]
 mod exploring;
 #[cfg(test)]
+mod fates_asked;
+#[cfg(test)]
 mod four_slots;
 #[cfg(test)]
 mod given;

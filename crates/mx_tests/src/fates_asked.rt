@@ -1,0 +1,103 @@
+//! How often a turn asks for a fate: once for each parcel that it takes.
+
+use mx_letters::{Fate, Fates};
+use mx_ricart::{Count, Ricart};
+use mx_stations::{Field, PutOut, Station};
+use std::alloc::Global;
+use std::test::Fail;
+
+/// A network with one fate for all parcels, which counts how often it is asked.
+#[derive(Drop)]
+struct Asked {
+    fate: Fate,
+    times: u32,
+}
+
+impl Fates for Asked {
+    fn fate(&mut self) -> Fate {
+        self.times = self.times.saturating_add(1);
+        self.fate
+    }
+}
+
+/// Whether a station of three sends its request to both others, so often: it asks, and later sends
+/// again what is outstanding.
+fn sends(station: &mut Station<Ricart>, times: u32) -> bool {
+    for _time in 0..times {
+        if station.ask().is_err() {
+            station.tick();
+        }
+        if station.put_out() != PutOut::Sent || station.put_out() != PutOut::Sent {
+            return false;
+        }
+    }
+    true
+}
+
+/// How often fates were asked for once the station has taken a turn more.
+fn times_after_a_turn(station: &mut Station<Ricart>, fates: &mut Asked) -> Option<u32> {
+    if station.turn(fates).is_err() {
+        return None;
+    }
+    Some(fates.times)
+}
+
+/// The same after each of three turns.
+fn times_in_three_turns(station: &mut Station<Ricart>, fate: Fate) -> Option<(u32, u32, u32)> {
+    let mut fates = Asked { fate, times: 0 };
+    let first = times_after_a_turn(station, &mut fates)?;
+    let second = times_after_a_turn(station, &mut fates)?;
+    let third = times_after_a_turn(station, &mut fates)?;
+    Some((first, second, third))
+}
+
+/// The same at node 0, to which nodes 1 and 2 have sent so many parcels.
+fn times_asked(
+    stations: &mut [Station<Ricart>],
+    sent: (u32, u32),
+    fate: Fate,
+) -> Option<(u32, u32, u32)> {
+    let [zero, one, two] = stations else {
+        return None;
+    };
+    if !sends(one, sent.0) || !sends(two, sent.1) {
+        return None;
+    }
+    times_in_three_turns(zero, fate)
+}
+
+/// The same in a new cluster.
+fn times(alloc: Global, sent: (u32, u32), fate: Fate) -> Result<Option<(u32, u32, u32)>, Fail> {
+    let shape = Count::of(3).ok_or("count")?;
+    let mut all = Field::<Ricart>::stations(alloc, &shape, 0, 1000, 1)?;
+    Ok(times_asked(all.as_mut_slice(), sent, fate))
+}
+
+/// Whether so many fates are asked for, whatever they are.
+fn are_asked(alloc: Global, sent: (u32, u32), wanted: (u32, u32, u32)) -> Result<bool, Fail> {
+    for fate in [Fate::Pass, Fate::Drop, Fate::Twice] {
+        if times(alloc, sent, fate)? != Some(wanted) {
+            return Ok(false);
+        }
+    }
+    Ok(true)
+}
+
+/// How many parcels nodes 1 and 2 have sent to node 0, and how many fates it has asked for after each of
+/// three turns, in which it takes one from each node that has one.
+const TIMES: [((u32, u32), (u32, u32, u32)); 5] = [
+    ((0, 0), (0, 0, 0)),
+    ((1, 0), (1, 1, 1)),
+    ((1, 1), (2, 2, 2)),
+    ((2, 1), (2, 3, 3)),
+    ((3, 2), (2, 4, 5)),
+];
+
+#[test]
+fn each_parcel_has_one_fate(rt: HostRuntime) -> Result<(), Fail> {
+    for (i, (sent, wanted)) in TIMES.iter().enumerate() {
+        let are_asked = are_asked(rt.alloc(), *sent, *wanted)?;
+        assert!(rt; are_asked, "row {i}");
+    }
+    Ok(())
+}
