@@ -5,7 +5,7 @@ ghost use Rattle.mx_stations.specs.Gathered.{OfOneTable};
 
 use crate::telling::{back, call, expect, refused};
 use anyhow::{Result, bail};
-use mx_letters::Fair;
+use mx_letters::{Fate, Fates};
 use mx_member::CloseFault;
 use mx_nodelaws::Phase;
 use mx_ricart::{Count, Ricart};
@@ -181,8 +181,19 @@ fn take_record(rt: &HostRuntime, station: &mut Station<Ricart>, from: NodeId) ->
     expect("Station::take_in", request_is_last(station, from))
 }
 
-fn turn(station: &mut Station<Ricart>) -> Result<TurnReport, TakeFault> {
-    station.turn(&mut Fair)
+/// A network that loses nothing, and counts how often it is asked for a fate.
+#[derive(Drop)]
+struct Asked(u32);
+
+impl Fates for Asked {
+    fn fate(&mut self) -> Fate {
+        self.0 = self.0.saturating_add(1);
+        Fate::Pass
+    }
+}
+
+fn turn(station: &mut Station<Ricart>, fates: &mut Asked) -> Result<TurnReport, TakeFault> {
+    station.turn(fates)
 }
 
 /// Whether a turn took the record and the request.
@@ -202,14 +213,17 @@ fn has_not_ticked(answer: &Result<TurnReport, TakeFault>) -> bool {
 }
 
 /// A station takes a turn, and where memory was refused another one, which delivers the record first.
+/// The record is in hand then, and no second fate of it is asked for.
 fn take_turn(rt: &HostRuntime, station: &mut Station<Ricart>) -> Result<()> {
+    let mut fates = Asked(0);
     call(rt, "Station::turn");
-    let mut answer = turn(station);
+    let mut answer = turn(station, &mut fates);
     back(rt);
+    expect("Station::turn", fates.0 == 1)?;
     if answer == Err(TakeFault::Memory) {
         refused(rt, "Station::turn", station_shown(station).records == 0)?;
-        answer = turn(station);
-        expect("Station::turn", has_taken_both(&answer))?;
+        answer = turn(station, &mut fates);
+        expect("Station::turn", has_taken_both(&answer) && fates.0 == 2)?;
     }
     expect(
         "Station::turn",
