@@ -51,3 +51,41 @@ fn live_counts_to_one_hundred(rt: HostRuntime) {
         assert!(rt; ran.out.as_slice() == "receipts 100\ngapless 100\ncount=100\n".as_bytes());
     }
 }
+
+const ALONE: &str =
+    "{\"algorithm\":\"maekawa\",\"nodes\":[\"a\"],\"registers\":[\"count\"],\"sections\":1000,\"quorums\":{\"kind\":\"listed\",\"sets\":[[\"a\"]]}}";
+
+/// What a run of 100 sections of one node alone leaves.
+fn run_alone<R: Threads + Clock>(rt: &R, alloc: Global, seed: &str, turns: &str) -> Ran {
+    let words = [
+        "live",
+        "p",
+        "--sections",
+        "100",
+        "--seed",
+        seed,
+        "--turns",
+        turns,
+    ];
+    run_words(rt, alloc, &words, ALONE)
+}
+
+/// One node alone sends letters to itself, and no other thread has a part in that: what its links
+/// lose and repeat, by their seed, decides how many turns it takes. They are those that
+/// `examples/alone.py` takes, a model of one station.
+#[test]
+fn one_node_alone_takes_the_turns_of_its_seed(rt: HostRuntime) {
+    for (seed, fewer, turns) in [
+        ("0", "569", "570"),
+        ("7", "588", "589"),
+        ("11", "545", "546"),
+        ("18446744073709551615", "586", "587"),
+    ] {
+        let spent = run_alone(&rt, rt.alloc(), seed, fewer);
+        assert_eq!(rt; spent.status, 3);
+        assert!(rt; spent.err.as_slice() == "mx: turns spent\n".as_bytes());
+        let ran = run_alone(&rt, rt.alloc(), seed, turns);
+        assert_eq!(rt; ran.status, 0);
+        assert!(rt; ran.out.as_slice() == "receipts 100\ngapless 100\ncount=100\n".as_bytes());
+    }
+}

@@ -14,8 +14,9 @@ use Rattle.mx_stops.specs.Outputs.{refused_after}
 use Rattle.mx_io.specs.Told.{Telling}
 use Rattle.mx_threads.specs.declared.halts.Halt.{Halt}
 use Rattle.mx_threads.specs.Halts.{Fails, RanInVain, halt_of_stop}
+use Rattle.mx_threads.specs.Workers.{orders_in}
 use Rattle.mx_threads.specs.Shown.{live_text}
-use Rattle.mx_threads.specs.Together.{AreSerial, HaveSections}
+use Rattle.mx_threads.specs.Together.{AreSerial, ComeOf, HaveSections}
 use Rattle.mx_live.specs.Lives.{Ends, Fits, Halts, IsPlanOf, IsSilent}
 
 same_held : (held : Held) → Keeps held held
@@ -31,8 +32,8 @@ module _ (takes : Bool) (told : Option Telling) (order : Order) where
   plan_halts stop.Memory held read taken = (tt, tt)
 
   -- threads that ran in vain
-  pub vain_halts : (p : Fields) (halt : Halt) (held : Held) → IsPlanOf told p → Fits order p → RanInVain halt → Halts takes told order halt × IsSilent halt held held
-  vain_halts p halt held read fits (inl is) = subst (λ h. Halts takes told order h × IsSilent h held held) (sym is) ((p, read, fits), same_held held)
+  pub vain_halts : (p : Fields) (halt : Halt) (held : Held) → IsPlanOf told p → Fits order p → RanInVain p (orders_in order) halt → Halts takes told order halt × IsSilent halt held held
+  vain_halts p halt held read fits (inl spent) = subst (λ h. Halts takes told order h × IsSilent h held held) (sym spent.0) ((p, read, fits, spent.1), same_held held)
   vain_halts p halt held read fits (inr (inl is)) = subst (λ h. Halts takes told order h × IsSilent h held held) (sym is) ((p, read, fits), same_held held)
   vain_halts p halt held read fits (inr (inr is)) = subst (λ h. Halts takes told order h × IsSilent h held held) (sym is) (tt, tt)
 
@@ -42,14 +43,14 @@ module _ (takes : Bool) (told : Option Telling) (order : Order) where
   output_halts halt old new (inr is) = subst (λ h. Halts takes told order h × IsSilent h old new) (sym is) (tt, tt)
 
   -- the end of a run whose plan was not read
-  pub plan_ends : (r : Result (Unit {0}) Halt) (halt : Halt) (stopped : Stop) (held : Held) → r ≡ Err halt → halt ≡ halt_of_stop stopped → IfSome told (λ telling. Reads telling (Err stopped))
-      → ((before : Bool) → refused_after {T = Fields} (Err stopped) before ≡ before) → Ends takes told order held held r
-  plan_ends r halt stopped held is from read taken =
-      subst (λ (x : Result (Unit {0}) Halt). Ends takes told order held held x) (sym is)
+  pub plan_ends : (r : Result (Unit {0}) Halt) (halt : Halt) (stopped : Stop) (held : Held) (kept_back : Bool) → r ≡ Err halt → halt ≡ halt_of_stop stopped → IfSome told (λ telling. Reads telling (Err stopped))
+      → ((before : Bool) → refused_after {T = Fields} (Err stopped) before ≡ before) → Ends takes told order held held kept_back r
+  plan_ends r halt stopped held kept_back is from read taken =
+      subst (λ (x : Result (Unit {0}) Halt). Ends takes told order held held kept_back x) (sym is)
       (subst (λ h. Halts takes told order h × IsSilent h held held) (sym from) (plan_halts stopped held read taken))
 
   -- the end of a run that came to a journal, which was printed, or not
-  pub shown_ends : (p : Fields) (receipts : List Receipt) (journal : JournalState) (r : Result (Unit {0}) Halt) (old new : Held) → IsPlanOf told p → Fits order p → AreSerial receipts journal
-      → HaveSections (length p.nodes) order.sections receipts → OnOk r (Appends old new (live_text p (length receipts) journal)) → IfErr r (Fails takes) → Ends takes told order old new r
-  shown_ends p receipts journal (Ok done) old new plan fits serial have ok err = (p, receipts, journal, plan, fits, serial, have, ok)
-  shown_ends p receipts journal (Err halt) old new plan fits serial have ok err = output_halts halt old new err
+  pub shown_ends : (p : Fields) (receipts : List Receipt) (journal : JournalState) (r : Result (Unit {0}) Halt) (old new : Held) (kept_back : Bool) → IsPlanOf told p → Fits order p → ComeOf p (orders_in order) receipts journal → AreSerial receipts journal
+      → HaveSections (length p.nodes) order.sections receipts → OnOk r (Appends old new (live_text p (length receipts) journal)) → OnOk r (kept_back ≡ false) → IfErr r (Fails takes) → Ends takes told order old new kept_back r
+  shown_ends p receipts journal (Ok done) old new kept_back plan fits come serial have ok passed err = ((p, receipts, journal, plan, fits, come, serial, have, ok), passed)
+  shown_ends p receipts journal (Err halt) old new kept_back plan fits come serial have ok passed err = output_halts halt old new err

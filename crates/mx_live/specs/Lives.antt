@@ -1,19 +1,23 @@
 -- What comes of the words of a live run.
-use Rattle.std.specs.Prelude.{◌≡◌, ◌≢◌, ◌⊎◌, Bool, true, ℕ, ◌*◌, ◌≤◌, ◌<◌, List, Option, Result, Ok, Err, length, IfSome}
+use Rattle.std.specs.Prelude.{◌≡◌, ◌≢◌, ◌⊎◌, Bool, true, false, ℕ, ◌*◌, ◌≤◌, ◌<◌, List, [], Option, None, Result, Ok, Err, length, IfSome}
 use Rattle.std.specs.Io.KnownBytes.{Appends, Keeps}
 use Rattle.mx_journal.specs.declared.receipts.Receipt.{Receipt}
 use Rattle.mx_journal.specs.Settled.{JournalState}
 use Rattle.mx_plan.specs.Fields.{Fields}
-use Rattle.mx_words.specs.LiveWords.{Order}
+use Rattle.clap.specs.Words.{Text}
+use Rattle.clap.specs.Faults.{fault_of}
+use Rattle.mx_words.specs.LiveWords.{Order, live_line, order_asked}
 use Rattle.mx_stops.specs.declared.faults.Stop.TheVariants as stop
 use Rattle.mx_io.specs.Told.{Telling}
 use Rattle.mx_io.specs.Outputs.{Held}
 use Rattle.mx_stops.specs.Reading.{Reads}
+use Rattle.mx_stops.specs.Told.{MayTell, Seen}
 use Rattle.mx_threads.specs.declared.halts.Halt.{Halt}
 use Rattle.mx_threads.specs.declared.halts.Halt.TheVariants.{Plan, TooFewSections, TurnsSpent, GateShut, Writer, Memory}
 use Rattle.mx_threads.specs.Halts.{halt_status}
 use Rattle.mx_threads.specs.Shown.{live_text}
-use Rattle.mx_threads.specs.Together.{AreSerial, HaveSections}
+use Rattle.mx_threads.specs.Together.{AreSerial, ComeOf, HaveSections}
+use Rattle.mx_threads.specs.Workers.{SpendsTurns, orders_in}
 
 -- the plan was read, where the source tells of it
 abbrev pub IsPlanOf : Option Telling → Fields → Type 0
@@ -23,18 +27,21 @@ IsPlanOf told p = IfSome told (λ telling. Reads telling (Ok p))
 abbrev pub Fits : Order → Fields → Type 0
 Fits order p = length p.nodes * order.sections ≤ p.sections
 
--- what was printed is what some receipts, with each node's sections, and their journal show
+-- what was printed is what some receipts and their journal show: they were gathered from the stations of the plan, which
+-- began at its origin and were worked at as ordered, and each node has its sections
 abbrev pub Shows : Option Telling → Order → Held → Held → Type 0
 Shows told order old new =
     (p : Fields) × (receipts : List Receipt) × (journal : JournalState)
-    × IsPlanOf told p × Fits order p × AreSerial receipts journal × HaveSections (length p.nodes) order.sections receipts × Appends old new (live_text p (length receipts) journal)
+    × IsPlanOf told p × Fits order p × ComeOf p (orders_in order) receipts journal
+    × AreSerial receipts journal × HaveSections (length p.nodes) order.sections receipts × Appends old new (live_text p (length receipts) journal)
 
--- why the run has no journal: the plan can't be read or is refused; else it has too few sections; else threads ran in vain.
--- An output that takes all is no reason, and want of memory may always be one
+-- why the run has no journal: the plan can't be read or is refused; else it has too few sections; else threads ran in vain:
+-- a worker made all its turns, or the gate was shut. An output that takes all is no reason, and want of memory may always be
+-- one
 abbrev pub Halts : Bool → Option Telling → Order → Halt → Type 0
 Halts takes told order (Plan fault) = IfSome told (λ telling. Reads telling (Err (stop.Fault fault)))
 Halts takes told order TooFewSections = (p : Fields) × IsPlanOf told p × (p.sections < length p.nodes * order.sections)
-Halts takes told order TurnsSpent = (p : Fields) × IsPlanOf told p × Fits order p
+Halts takes told order TurnsSpent = (p : Fields) × IsPlanOf told p × Fits order p × SpendsTurns p (orders_in order)
 Halts takes told order GateShut = (p : Fields) × IsPlanOf told p × Fits order p
 Halts takes told order Writer = takes ≢ true
 Halts takes told order Memory = Unit {0}
@@ -48,13 +55,23 @@ IsSilent GateShut old new = Keeps old new
 IsSilent Writer old new = Unit {0}
 IsSilent Memory old new = Unit {0}
 
-abbrev pub Ends : Bool → Option Telling → Order → Held → Held → Result (Unit {0}) Halt → Type 0
-Ends takes told order old new (Ok done) = Shows told order old new
-Ends takes told order old new (Err halt) = Halts takes told order halt × IsSilent halt old new
+-- where a journal was printed it was passed on: the output keeps nothing back
+abbrev pub Ends : Bool → Option Telling → Order → Held → Held → Bool → Result (Unit {0}) Halt → Type 0
+Ends takes told order old new kept_back (Ok done) = Shows told order old new × (kept_back ≡ false)
+Ends takes told order old new kept_back (Err halt) = Halts takes told order halt × IsSilent halt old new
 
--- the run printed a journal, status 0; or it has none, with the status of why; or memory ran out, status 5
-abbrev pub Lives : Bool → Option Telling → Order → Held → Held → ℕ → Type 0
-Lives takes told order old new status =
-    ((status ≡ 0) × Shows told order old new)
+-- the run printed a journal and passed it on, status 0; or it has none, with the status of why; or memory ran out, status 5
+abbrev pub Lives : Bool → Option Telling → Order → Held → Held → Bool → ℕ → Type 0
+Lives takes told order old new kept_back status =
+    ((status ≡ 0) × Shows told order old new × (kept_back ≡ false))
     ⊎ ((halt : Halt) × (status ≡ halt_status halt) × Halts takes told order halt × IsSilent halt old new)
     ⊎ (status ≡ 5)
+
+-- the words have no fault, and ask for no run
+abbrev pub AskNothing : List Text → Type 0
+AskNothing words = (fault_of live_line words ≡ []) × (order_asked words ≡ None)
+
+-- nothing is written, status 2; or memory ran out, status 5
+abbrev pub Declines : Seen → Seen → ℕ → Type 0
+Declines old new status =
+    Keeps old.out new.out × (((status ≡ 2) × Keeps old.err new.err) ⊎ ((status ≡ 5) × MayTell old.err new.err))

@@ -1,6 +1,6 @@
 //! `live`: from words, named bytes and two outputs to a status, by threads.
 
-ghost use Rattle.std.specs.Prelude.{Option, length, IfErr, IfSome, OnOk};
+ghost use Rattle.std.specs.Prelude.{◌≡◌, Option, false, length, IfErr, IfSome, OnOk};
 ghost use Rattle.std.specs.Io.KnownBytes.{Appends};
 ghost use Rattle.mx_words.specs.Words.{texts_of, AreWrong, AskHelp};
 ghost use Rattle.mx_words.specs.LiveWords.{order_asked, order_of, live_line};
@@ -8,7 +8,7 @@ ghost use Rattle.mx_stops.specs.Told.{Helps, Scolds, seen};
 ghost use Rattle.mx_io.specs.Told.{Telling};
 ghost use Rattle.mx_threads.specs.Halts.{Fails};
 ghost use Rattle.mx_threads.specs.Shown.{live_text};
-ghost use Rattle.mx_live.specs.Lives.{Ends, IsPlanOf, Lives};
+ghost use Rattle.mx_live.specs.Lives.{AskNothing, Declines, Ends, IsPlanOf, Lives};
 
 use mx_commands::{Output, Source, fetch_plan, refuse};
 use mx_plan::Plan;
@@ -34,7 +34,7 @@ pub fn live<R: Threads + Clock, S: Source, O: Output, E: Output>(
 ) -> u8
     ensures lives { IfSome (order_asked (texts_of words.entry.now)) (λ order.
         Lives (O.takes_all out.old) (S.told source.old order.plan) order
-        (O.written out.old) (O.written out.new) result) }
+        (O.written out.old) (O.written out.new) (O.keeps_back out.new) result) }
     ensures help { AskHelp live_line (texts_of words.entry.now) → Helps (O.takes_all out.old)
         (seen (O.written out.old) (E.written err.old)
         (O.has_refused out.old) (O.keeps_back out.old))
@@ -42,6 +42,12 @@ pub fn live<R: Threads + Clock, S: Source, O: Output, E: Output>(
         (O.has_refused out.new) (O.keeps_back out.new))
         result }
     ensures wrong { AreWrong live_line (texts_of words.entry.now) → Scolds
+        (seen (O.written out.old) (E.written err.old)
+        (O.has_refused out.old) (O.keeps_back out.old))
+        (seen (O.written out.new) (E.written err.new)
+        (O.has_refused out.new) (O.keeps_back out.new))
+        result }
+    ensures other { AskNothing (texts_of words.entry.now) → Declines
         (seen (O.written out.old) (E.written err.old)
         (O.has_refused out.old) (O.keeps_back out.old))
         (seen (O.written out.new) (E.written err.new)
@@ -66,7 +72,7 @@ fn run_live<R: Threads + Clock, S: Source, O: Output, E: Output>(
     err: &mut E,
 ) -> u8
     ensures { Lives (O.takes_all out.old) (S.told source.old run.now.plan.now) (order_of run.now)
-        (O.written out.old) (O.written out.new) result }
+        (O.written out.old) (O.written out.new) (O.keeps_back out.new) result }
 {
     match live_and_show(rt, alloc, run, source, out, err) {
         Ok(()) => 0,
@@ -84,7 +90,7 @@ fn live_and_show<R: Threads + Clock, S: Source, O: Output, E: Output>(
     err: &mut E,
 ) -> Result<(), Halt>
     ensures { Ends (O.takes_all out.old) (S.told source.old run.now.plan.now) (order_of run.now)
-        (O.written out.old) (O.written out.new) result }
+        (O.written out.old) (O.written out.new) (O.keeps_back out.new) result }
 {
     let plan = fetch_plan(alloc, source, run.plan)?;
     live_plan(rt, alloc, &plan, run, out, err)
@@ -102,7 +108,7 @@ fn live_plan<R: Threads + Clock, O: Output, E: Output>(
 ) -> Result<(), Halt>
     ensures { (told : Option Telling) → IsPlanOf told plan.now
         → Ends (O.takes_all out.old) told (order_of run.now)
-        (O.written out.old) (O.written out.new) result }
+        (O.written out.old) (O.written out.new) (O.keeps_back out.new) result }
 {
     if u64::from(plan.nodes()).saturating_mul(run.sections) > plan.sections() {
         return Err(Halt::TooFewSections);
@@ -115,6 +121,7 @@ fn live_plan<R: Threads + Clock, O: Output, E: Output>(
 fn show<O: Output>(alloc: Global, plan: &Plan, gathered: &Gathered, out: &mut O) -> Result<(), Halt>
     ensures ok { OnOk result (Appends (O.written out.old) (O.written out.new)
         (live_text plan.now (length gathered.now.receipts.items) gathered.now.journal)) }
+    ensures passed { OnOk result (O.keeps_back out.new ≡ false) }
     ensures err { IfErr result (Fails (O.takes_all out.old)) }
 {
     let mut text = String::new(alloc);

@@ -1,7 +1,8 @@
 -- Lists of stations of which each is so.
-use Rattle.std.proofs.Common.{◌≡◌, ◌<◌, ◌++◌, ℕ, zero, suc, List, [], ◌∷◌, length, get_or, sym, arith, subst}
+use Rattle.std.proofs.Common.{◌≡◌, ◌<◌, ◌++◌, ℕ, zero, suc, List, [], ◌∷◌, length, get_or, slice_get, Some, sym, arith, subst}
 use mathlib.Core.Option.{some, some-injective, some-ne-none}
 use lib.ListN.{get_elem?}
+use Rattle.std.proofs.lemmas.Option.{get_or_from_slice_get, slice_get_within}
 use Rattle.std.proofs.lemmas.List.Elements.{All-nil, All-head, All-push, All-rest, All-same, All-weaker}
 use Rattle.mx_threads.specs.Stations.{AreAll}
 
@@ -31,6 +32,9 @@ module _ {X : Type 0} {Is : X → Type 0} where
   -- what is at a place is so
   pub so_at : (xs : List X) (k : ℕ) (x : X) → get_elem? xs k ≡ some x → AreAll Is xs → Is x
   so_at xs k x is all = let t = there xs k x is in subst Is t.1 (all.each k x t.0)
+
+  pub so_there : (xs : List X) (k : ℕ) (x : X) → slice_get xs k ≡ Some x → AreAll Is xs → Is x
+  so_there xs k x is all = subst Is (get_or_from_slice_get xs k x x is) (all.each k x (slice_get_within xs k x is))
 
 pub weaker_so : {X : Type 0} {Is Q : X → Type 0} (xs : List X) → ((x : X) → Is x → Q x) → AreAll Is xs → AreAll Q xs
 weaker_so {X} {Is} {Q} xs weaker all = record { each = All-weaker Is Q weaker xs all.each }

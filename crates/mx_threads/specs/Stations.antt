@@ -1,9 +1,18 @@
--- What stations show, whichever algorithm their nodes run.
-use Rattle.std.specs.Prelude.{◌≡◌, ℕ, List}
+-- The stations of a plan, whichever algorithm their nodes run.
+use Rattle.std.specs.Prelude.{◌≡◌, List, [], length}
 use Rattle.std.specs.List.{All}
 use Rattle.atomic_table.specs.Seated.{TableId}
 use Rattle.mx_journal.specs.declared.receipts.Receipt.{Receipt}
-use Rattle.mx_stations.specs.Posts.{Post}
+use Rattle.mx_nodelaws.specs.Core.{Core}
+use Rattle.mx_member.specs.Steps.{start_of}
+use Rattle.mx_plan.specs.Fields.{Fields}
+use Rattle.mx_plan.specs.declared.shape.Shape.{Shape}
+use Rattle.mx_plan.specs.declared.shape.Shape.TheVariants as planned
+use Rattle.mx_ricart.specs.Step.{ricart_core}
+use Rattle.mx_maekawa.specs.Step.{maekawa_core}
+use Rattle.mx_raymond.specs.Step.{raymond_core}
+use Rattle.mx_stations.specs.Running.{fresh}
+use Rattle.mx_stations.specs.Turns.{Station}
 use Rattle.mx_threads.specs.declared.any_station.AnyStation.{AnyStation}
 use Rattle.mx_threads.specs.declared.any_station.AnyStation.TheVariants as any
 
@@ -13,36 +22,45 @@ pub data Algorithm : Type 0 where
   maekawa : Algorithm
   raymond : Algorithm
 
--- an algorithm, a table, and how many nodes that has
-pub record Home : Type 0 where
-  pub algorithm : Algorithm
-  pub table : TableId
-  pub nodes : ℕ
+abbrev pub algorithm_of : AnyStation → Algorithm
+algorithm_of (any.Ricart s) = ricart
+algorithm_of (any.Maekawa s) = maekawa
+algorithm_of (any.Raymond s) = raymond
 
--- where a station stands, and the receipts that it has
-pub record Sight : Type 0 where
-  pub home : Home
-  pub receipts : List Receipt
-
-abbrev pub sight : {T P : Type 0} → Algorithm → Post T P → Sight
-sight algorithm s =
-    record {
-      home = record { algorithm = algorithm; table = s.table; nodes = s.nodes };
-      receipts = s.me.receipts;
-    }
-
-abbrev pub sight_of : AnyStation → Sight
-sight_of (any.Ricart s) = sight ricart s
-sight_of (any.Maekawa s) = sight maekawa s
-sight_of (any.Raymond s) = sight raymond s
+-- the receipts that a station has
+abbrev pub receipts_in : AnyStation → List Receipt
+receipts_in (any.Ricart s) = s.me.receipts
+receipts_in (any.Maekawa s) = s.me.receipts
+receipts_in (any.Raymond s) = s.me.receipts
 
 -- each of these is so
 pub record AreAll {X : Type 0} (IsSo : X → Type 0) (xs : List X) : Type 0 where
   pub each : All IsSo xs
 
-abbrev pub home_at : Algorithm → TableId → ℕ → Home
-home_at algorithm table nodes = record { algorithm = algorithm; table = table; nodes = nodes }
+module _ {H S M : Type 0} (core : Core H S M) (shape : H) (p : Fields) (table : TableId) where
+  -- A station of this table at rest: its node did nothing yet, no parcel waits in it, and its member was started with the
+  -- plan's origin, last section number and registers.
+  pub record IsAtRest (s : Station core) : Type 0 where
+    pub here : s.table ≡ table
+    pub nodes : s.nodes ≡ length p.nodes
+    pub me : s.me ≡ fresh s.me.node (start_of core shape s.me.node p.origin p.sections (length p.registers))
+    pub empty : s.waiting ≡ []
 
--- these stations are of one table, of so many nodes
-abbrev pub AreAtHome : {T P : Type 0} → Algorithm → ℕ → List (Post T P) → Type 0
-AreAtHome algorithm nodes posts = (table : TableId) × AreAll (λ s. (sight algorithm s).home ≡ home_at algorithm table nodes) posts
+-- the stations of a new table
+abbrev pub AreAtRest : {H S M : Type 0} (core : Core H S M) → H → Fields → List (Station core) → Type 0
+AreAtRest core shape p stations = (table : TableId) × AreAll (IsAtRest core shape p table) stations
+
+-- a station at rest, by the algorithm of this shape
+abbrev pub RestsBy : Shape → Fields → TableId → AnyStation → Type 0
+RestsBy (planned.Ricart count) p table (any.Ricart s) = IsAtRest ricart_core count p table s
+RestsBy (planned.Maekawa family) p table (any.Maekawa s) = IsAtRest maekawa_core family p table s
+RestsBy (planned.Raymond tree) p table (any.Raymond s) = IsAtRest raymond_core tree p table s
+RestsBy _ p table _ = ⊥
+
+-- by the plan's own
+abbrev pub Rests : Fields → TableId → AnyStation → Type 0
+Rests p table station = RestsBy p.shape p table station
+
+-- the stations of a new table of the plan
+abbrev pub AreReady : Fields → List AnyStation → Type 0
+AreReady p stations = (table : TableId) × AreAll (Rests p table) stations

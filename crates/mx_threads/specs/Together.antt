@@ -9,6 +9,19 @@ use Rattle.mx_journal.specs.Settled.{Covers, JournalState, settled, unsettled}
 use Rattle.mx_registers.specs.Based.{registers_in}
 use Rattle.mx_registers.specs.Registers.{AreApplied, writes_to}
 use Rattle.mx_traces.specs.Serial.{IsSerialRead}
+use Rattle.atomic_table.specs.Seated.{TableId}
+use Rattle.mx_nodelaws.specs.Core.{Core}
+use Rattle.mx_plan.specs.Fields.{Fields}
+use Rattle.mx_plan.specs.declared.shape.Shape.{Shape}
+use Rattle.mx_plan.specs.declared.shape.Shape.TheVariants as planned
+use Rattle.mx_ricart.specs.Step.{ricart_core}
+use Rattle.mx_maekawa.specs.Step.{maekawa_core}
+use Rattle.mx_raymond.specs.Step.{raymond_core}
+use Rattle.mx_stations.specs.Gathered.{Has, IsGathered}
+use Rattle.mx_stations.specs.Turns.{Station}
+use Rattle.mx_stations.specs.Works.{WorksAtMost}
+use Rattle.mx_threads.specs.declared.threads.Orders.{Orders}
+use Rattle.mx_threads.specs.Stations.{AreAll, IsAtRest}
 
 -- Receipts and journal are one serial order of sections.
 pub record AreSerial (receipts : List Receipt) (journal : JournalState) : Type 0 where
@@ -27,3 +40,30 @@ pub record AreSerial (receipts : List Receipt) (journal : JournalState) : Type 0
 -- each of so many nodes has so many sections among the receipts
 abbrev pub HaveSections : ℕ → ℕ → List Receipt → Type 0
 HaveSections nodes sections receipts = (i : ℕ) → i < nodes → sections ≤ count_by (λ (r : Receipt). r.node == i) receipts
+
+module _ {H S M : Type 0} (core : Core H S M) (shape : H) (p : Fields) (orders : Orders) where
+  -- From a station of the plan at rest, a worker has led to this one: in at most so many turns, with so many sections, and it
+  -- settled after each so many of them.
+  pub record HasWorked (table : TableId) (t : Station core) : Type 0 where
+    pub from : Station core
+    pub rest : IsAtRest core shape p table from
+    pub works : WorksAtMost core 0 orders.settle orders.turns from t
+    pub done : orders.sections ≤ length t.me.receipts
+
+  -- Receipts and journal were gathered from the stations of one table, one of each node, at each of which a worker has worked.
+  pub record AreGathered (receipts : List Receipt) (journal : JournalState) : Type 0 where
+    pub table : TableId
+    pub stations : List (Station core)
+    pub worked : AreAll (HasWorked table) stations
+    pub whole : (i : ℕ) → i < length p.nodes → Has stations i
+    pub gathered : IsGathered stations journal receipts
+
+-- the same, by the algorithm of this shape
+abbrev pub GatheredBy : Shape → Fields → Orders → List Receipt → JournalState → Type 0
+GatheredBy (planned.Ricart count) p orders receipts journal = AreGathered ricart_core count p orders receipts journal
+GatheredBy (planned.Maekawa family) p orders receipts journal = AreGathered maekawa_core family p orders receipts journal
+GatheredBy (planned.Raymond tree) p orders receipts journal = AreGathered raymond_core tree p orders receipts journal
+
+-- by the plan's own
+abbrev pub ComeOf : Fields → Orders → List Receipt → JournalState → Type 0
+ComeOf p orders receipts journal = GatheredBy p.shape p orders receipts journal

@@ -1,7 +1,10 @@
 //! The stations of each algorithm among those of any, there and back.
 
-ghost use Rattle.std.specs.Prelude.{◌≡◌, ℕ, IfOk, IfSome, IsSome};
-ghost use Rattle.mx_threads.specs.Stations.{AreAll, Home, maekawa, raymond, ricart, sight, sight_of};
+ghost use Rattle.std.specs.Prelude.{◌≡◌, IfOk, IfSome, IsSome};
+ghost use Rattle.atomic_table.specs.Seated.{TableId};
+ghost use Rattle.mx_plan.specs.Fields.{Fields};
+ghost use Rattle.mx_threads.specs.declared.threads.Orders.{Orders as TheOrders};
+ghost use Rattle.mx_threads.specs.Stations.{AreAll, Rests, algorithm_of, maekawa, raymond, ricart};
 ghost use Rattle.mx_threads.specs.Workers.{IsDone};
 
 use crate::any_station::AnyStation;
@@ -17,8 +20,9 @@ pub(crate) fn any_ricart(
     alloc: Global,
     stations: Vec<Station<Ricart>>,
 ) -> Result<Vec<AnyStation>, AllocError>
-    ensures { (here : Home) → AreAll (λ s. (sight ricart s).home ≡ here) stations.items
-        → IfOk result (λ all. AreAll (λ one. (sight_of one).home ≡ here) all.items) }
+    ensures { (p : Fields) (table : TableId)
+        → AreAll (λ s. Rests p table (AnyStation.Ricart s)) stations.items
+        → IfOk result (λ all. AreAll (Rests p table) all.items) }
 {
     let mut all = Vec::new(alloc);
     for station in stations {
@@ -28,11 +32,11 @@ pub(crate) fn any_ricart(
 }
 
 /// A station by the algorithm of Ricart and Agrawala, where it is one.
-fn ricart_in(any: AnyStation) -> Option<Station<Ricart>>
-    ensures seen { IfSome result (λ station. sight ricart station ≡ sight_of any) }
-    ensures there { (sight_of any).home.algorithm ≡ ricart → IsSome result }
+fn ricart_in(one: AnyStation) -> Option<Station<Ricart>>
+    ensures same { IfSome result (λ station. one ≡ AnyStation.Ricart station) }
+    ensures there { algorithm_of one ≡ ricart → IsSome result }
 {
-    match any {
+    match one {
         AnyStation::Ricart(station) => Some(station),
         _ => None,
     }
@@ -43,10 +47,10 @@ pub(crate) fn all_ricart(
     alloc: Global,
     left: Vec<Ended>,
 ) -> Result<Vec<Station<Ricart>>, AllocError>
-    requires { AreAll (λ one. (sight_of one.0).home.algorithm ≡ ricart) left.items }
-    ensures { (here : Home) (sections : ℕ)
-        → AreAll (λ one. IsDone here sections (sight_of one.0)) left.items
-        → IfOk result (λ all. AreAll (λ s. IsDone here sections (sight ricart s)) all.items) }
+    requires { AreAll (λ one. algorithm_of one.0 ≡ ricart) left.items }
+    ensures { (p : Fields) (table : TableId) (orders : TheOrders)
+        → AreAll (λ one. IsDone p table orders one.0) left.items
+        → IfOk result (λ all. AreAll (λ s. IsDone p table orders (AnyStation.Ricart s)) all.items) }
 {
     let mut stations = Vec::new(alloc);
     for one in left {
@@ -63,8 +67,9 @@ pub(crate) fn any_maekawa(
     alloc: Global,
     stations: Vec<Station<Maekawa>>,
 ) -> Result<Vec<AnyStation>, AllocError>
-    ensures { (here : Home) → AreAll (λ s. (sight maekawa s).home ≡ here) stations.items
-        → IfOk result (λ all. AreAll (λ one. (sight_of one).home ≡ here) all.items) }
+    ensures { (p : Fields) (table : TableId)
+        → AreAll (λ s. Rests p table (AnyStation.Maekawa s)) stations.items
+        → IfOk result (λ all. AreAll (Rests p table) all.items) }
 {
     let mut all = Vec::new(alloc);
     for station in stations {
@@ -74,11 +79,11 @@ pub(crate) fn any_maekawa(
 }
 
 /// A station by the algorithm of Maekawa, where it is one.
-fn maekawa_in(any: AnyStation) -> Option<Station<Maekawa>>
-    ensures seen { IfSome result (λ station. sight maekawa station ≡ sight_of any) }
-    ensures there { (sight_of any).home.algorithm ≡ maekawa → IsSome result }
+fn maekawa_in(one: AnyStation) -> Option<Station<Maekawa>>
+    ensures same { IfSome result (λ station. one ≡ AnyStation.Maekawa station) }
+    ensures there { algorithm_of one ≡ maekawa → IsSome result }
 {
-    match any {
+    match one {
         AnyStation::Maekawa(station) => Some(station),
         _ => None,
     }
@@ -89,10 +94,10 @@ pub(crate) fn all_maekawa(
     alloc: Global,
     left: Vec<Ended>,
 ) -> Result<Vec<Station<Maekawa>>, AllocError>
-    requires { AreAll (λ one. (sight_of one.0).home.algorithm ≡ maekawa) left.items }
-    ensures { (here : Home) (sections : ℕ)
-        → AreAll (λ one. IsDone here sections (sight_of one.0)) left.items
-        → IfOk result (λ all. AreAll (λ s. IsDone here sections (sight maekawa s)) all.items) }
+    requires { AreAll (λ one. algorithm_of one.0 ≡ maekawa) left.items }
+    ensures { (p : Fields) (table : TableId) (orders : TheOrders)
+        → AreAll (λ one. IsDone p table orders one.0) left.items
+        → IfOk result (λ all. AreAll (λ s. IsDone p table orders (AnyStation.Maekawa s)) all.items) }
 {
     let mut stations = Vec::new(alloc);
     for one in left {
@@ -109,8 +114,9 @@ pub(crate) fn any_raymond(
     alloc: Global,
     stations: Vec<Station<Raymond>>,
 ) -> Result<Vec<AnyStation>, AllocError>
-    ensures { (here : Home) → AreAll (λ s. (sight raymond s).home ≡ here) stations.items
-        → IfOk result (λ all. AreAll (λ one. (sight_of one).home ≡ here) all.items) }
+    ensures { (p : Fields) (table : TableId)
+        → AreAll (λ s. Rests p table (AnyStation.Raymond s)) stations.items
+        → IfOk result (λ all. AreAll (Rests p table) all.items) }
 {
     let mut all = Vec::new(alloc);
     for station in stations {
@@ -120,11 +126,11 @@ pub(crate) fn any_raymond(
 }
 
 /// A station by the algorithm of Raymond, where it is one.
-fn raymond_in(any: AnyStation) -> Option<Station<Raymond>>
-    ensures seen { IfSome result (λ station. sight raymond station ≡ sight_of any) }
-    ensures there { (sight_of any).home.algorithm ≡ raymond → IsSome result }
+fn raymond_in(one: AnyStation) -> Option<Station<Raymond>>
+    ensures same { IfSome result (λ station. one ≡ AnyStation.Raymond station) }
+    ensures there { algorithm_of one ≡ raymond → IsSome result }
 {
-    match any {
+    match one {
         AnyStation::Raymond(station) => Some(station),
         _ => None,
     }
@@ -135,10 +141,10 @@ pub(crate) fn all_raymond(
     alloc: Global,
     left: Vec<Ended>,
 ) -> Result<Vec<Station<Raymond>>, AllocError>
-    requires { AreAll (λ one. (sight_of one.0).home.algorithm ≡ raymond) left.items }
-    ensures { (here : Home) (sections : ℕ)
-        → AreAll (λ one. IsDone here sections (sight_of one.0)) left.items
-        → IfOk result (λ all. AreAll (λ s. IsDone here sections (sight raymond s)) all.items) }
+    requires { AreAll (λ one. algorithm_of one.0 ≡ raymond) left.items }
+    ensures { (p : Fields) (table : TableId) (orders : TheOrders)
+        → AreAll (λ one. IsDone p table orders one.0) left.items
+        → IfOk result (λ all. AreAll (λ s. IsDone p table orders (AnyStation.Raymond s)) all.items) }
 {
     let mut stations = Vec::new(alloc);
     for one in left {

@@ -1,11 +1,15 @@
 //! The nodes of a plan, each run in a thread of its own, and what they have together.
 
-ghost use Rattle.std.specs.Prelude.{All, ◌≡◌, ◌≤◌, ℕ, length, IfErr, IfNone, IfOk, IfSome};
-ghost use Rattle.mx_stations.specs.Gathered.{OfOneTable};
-ghost use Rattle.mx_threads.specs.Halts.{RanInVain};
-ghost use Rattle.mx_threads.specs.Stations.{Algorithm, AreAll, AreAtHome, Home, sight, sight_of};
-ghost use Rattle.mx_threads.specs.Together.{AreSerial, HaveSections};
-ghost use Rattle.mx_threads.specs.Workers.{IsDone, IsLeft};
+ghost use Rattle.std.specs.Prelude.{All, ◌≡◌, ◌≤◌, length, IfErr, IfNone, IfOk, IfSome};
+ghost use Rattle.atomic_table.specs.Seated.{TableId};
+ghost use Rattle.mx_plan.specs.Fields.{Fields};
+ghost use Rattle.mx_stations.specs.Gathered.{IsGathered, IsWhole, OfOneTable};
+ghost use Rattle.mx_threads.specs.declared.threads.Orders.{Orders as TheOrders};
+ghost use Rattle.mx_threads.specs.Halts.{HaltsIn, RanInVain};
+ghost use Rattle.mx_threads.specs.Stations.{AreAll, AreAtRest, AreReady};
+ghost use Rattle.mx_threads.specs.Together.{AreSerial, ComeOf, HaveSections};
+ghost use Rattle.mx_threads.specs.Workers.{AreDone, IsDone, WasLeft, orders_in};
+ghost use Rattle.mx_words.specs.LiveWords.{order_of};
 
 use crate::any_station::AnyStation;
 use crate::assembly::{Assembly, MOST_LOOKS};
@@ -40,7 +44,9 @@ pub fn live_by_shape<R: Threads + Clock, E: Output>(
     ensures serial { IfOk result (λ all. AreSerial all.receipts.items all.journal) }
     ensures sections { IfOk result (λ all.
         HaveSections (length plan.now.nodes) run.now.sections all.receipts.items) }
-    ensures err { IfErr result RanInVain }
+    ensures come { IfOk result (λ all.
+        ComeOf plan.now (orders_in (order_of run.now)) all.receipts.items all.journal) }
+    ensures err { IfErr result (RanInVain plan.now (orders_in (order_of run.now))) }
 {
     match plan.shape() {
         Shape::Ricart(shape) => live_ricart(rt, alloc, plan, shape, run, err),
@@ -58,11 +64,14 @@ fn live_ricart<R: Threads + Clock, E: Output>(
     run: &LiveRun<'_>,
     err: &mut E,
 ) -> Result<Gathered, Halt>
-    requires { ⟦<Ricart as Exclusion>⟧.core.count shape.now ≡ length plan.now.nodes }
+    requires count { ⟦<Ricart as Exclusion>⟧.core.count shape.now ≡ length plan.now.nodes }
+    requires shape { plan.now.shape ≡ Shape.Ricart shape.now }
     ensures serial { IfOk result (λ all. AreSerial all.receipts.items all.journal) }
     ensures sections { IfOk result (λ all.
         HaveSections (length plan.now.nodes) run.now.sections all.receipts.items) }
-    ensures err { IfErr result RanInVain }
+    ensures come { IfOk result (λ all.
+        ComeOf plan.now (orders_in (order_of run.now)) all.receipts.items all.journal) }
+    ensures err { IfErr result (RanInVain plan.now (orders_in (order_of run.now))) }
 {
     let stations = stations_in::<Ricart>(alloc, plan, shape)?;
     let watch = watch_over(stations.as_slice())?;
@@ -81,11 +90,14 @@ fn live_maekawa<R: Threads + Clock, E: Output>(
     run: &LiveRun<'_>,
     err: &mut E,
 ) -> Result<Gathered, Halt>
-    requires { ⟦<Maekawa as Exclusion>⟧.core.count shape.now ≡ length plan.now.nodes }
+    requires count { ⟦<Maekawa as Exclusion>⟧.core.count shape.now ≡ length plan.now.nodes }
+    requires shape { plan.now.shape ≡ Shape.Maekawa shape.now }
     ensures serial { IfOk result (λ all. AreSerial all.receipts.items all.journal) }
     ensures sections { IfOk result (λ all.
         HaveSections (length plan.now.nodes) run.now.sections all.receipts.items) }
-    ensures err { IfErr result RanInVain }
+    ensures come { IfOk result (λ all.
+        ComeOf plan.now (orders_in (order_of run.now)) all.receipts.items all.journal) }
+    ensures err { IfErr result (RanInVain plan.now (orders_in (order_of run.now))) }
 {
     let stations = stations_in::<Maekawa>(alloc, plan, shape)?;
     let watch = watch_over(stations.as_slice())?;
@@ -104,11 +116,14 @@ fn live_raymond<R: Threads + Clock, E: Output>(
     run: &LiveRun<'_>,
     err: &mut E,
 ) -> Result<Gathered, Halt>
-    requires { ⟦<Raymond as Exclusion>⟧.core.count shape.now ≡ length plan.now.nodes }
+    requires count { ⟦<Raymond as Exclusion>⟧.core.count shape.now ≡ length plan.now.nodes }
+    requires shape { plan.now.shape ≡ Shape.Raymond shape.now }
     ensures serial { IfOk result (λ all. AreSerial all.receipts.items all.journal) }
     ensures sections { IfOk result (λ all.
         HaveSections (length plan.now.nodes) run.now.sections all.receipts.items) }
-    ensures err { IfErr result RanInVain }
+    ensures come { IfOk result (λ all.
+        ComeOf plan.now (orders_in (order_of run.now)) all.receipts.items all.journal) }
+    ensures err { IfErr result (RanInVain plan.now (orders_in (order_of run.now))) }
 {
     let stations = stations_in::<Raymond>(alloc, plan, shape)?;
     let watch = watch_over(stations.as_slice())?;
@@ -125,8 +140,7 @@ fn stations_in<C: Exclusion>(
     shape: &C::Shape,
 ) -> Result<Vec<Station<C>>, AllocError>
     requires { C.core.count shape.now ≡ length plan.now.nodes }
-    ensures { (algorithm : Algorithm) → IfOk result (λ all.
-        AreAtHome algorithm (length plan.now.nodes) all.items) }
+    ensures { IfOk result (λ all. AreAtRest C.core shape.now plan.now all.items) }
 {
     Field::<C>::stations(
         alloc,
@@ -147,19 +161,13 @@ fn run_all<C: Exclusion, R: Threads + Clock, E: Output>(
     run: &LiveRun<'_>,
     err: &mut E,
 ) -> Result<Vec<Ended>, Halt>
-    ensures done { (here : Home) → AreAll (λ one. (sight_of one).home ≡ here) stations.items
-        → IfOk result (λ left.
-        AreAll (λ one. IsDone here run.now.sections (sight_of one.0)) left.items) }
-    ensures err { IfErr result RanInVain }
+    requires { AreReady plan.now stations.items }
+    ensures done { IfOk result (λ left.
+        AreDone plan.now (orders_in (order_of run.now)) left.items) }
+    ensures err { IfErr result (RanInVain plan.now (orders_in (order_of run.now))) }
 {
     let gate = shared_gate(alloc, plan.nodes())?;
-    let orders = Orders {
-        sections: run.sections,
-        seed: run.seed,
-        turns: run.turns,
-        settle: run.settle,
-    };
-    let workers = start_all(rt, alloc, stations, &gate, orders)?;
+    let workers = start_all(rt, alloc, stations, &gate, orders_of(run))?;
     if let Some(watch) = watch
         && run.progress
     {
@@ -169,11 +177,25 @@ fn run_all<C: Exclusion, R: Threads + Clock, E: Output>(
     finished(left)
 }
 
+/// What is ordered of each worker.
+fn orders_of(run: &LiveRun<'_>) -> Orders
+    ensures { result ≡ orders_in (order_of run.now) }
+{
+    Orders {
+        sections: run.sections,
+        seed: run.seed,
+        turns: run.turns,
+        settle: run.settle,
+    }
+}
+
 /// What was left, where each worker is done. Else why not.
 fn finished(left: Vec<Ended>) -> Result<Vec<Ended>, Halt>
-    ensures done { (here : Home) (sections : ℕ) → AreAll (IsLeft here sections) left.items
-        → IfOk result (λ all. AreAll (λ one. IsDone here sections (sight_of one.0)) all.items) }
-    ensures err { IfErr result RanInVain }
+    ensures done { (p : Fields) (table : TableId) (orders : TheOrders)
+        → AreAll (WasLeft p table orders) left.items
+        → IfOk result (λ all. AreAll (λ one. IsDone p table orders one.0) all.items) }
+    ensures err { (p : Fields) (table : TableId) (orders : TheOrders)
+        → AreAll (WasLeft p table orders) left.items → IfErr result (RanInVain p orders) }
 {
     match first_halt(left.as_slice()) {
         Some(halt) => Err(halt),
@@ -199,7 +221,7 @@ fn shared_gate(alloc: Global, nodes: u8) -> Result<Arc<Assembly, Global>, AllocE
 
 /// Why the least node that is not done is not.
 fn first_halt(left: &[Ended]) -> Option<Halt>
-    ensures some { IfSome result RanInVain }
+    ensures some { IfSome result (HaltsIn left.now) }
     ensures none { IfNone result (All (λ one. one.1 ≡ Worked.Done) left.now) }
 {
     for one in left {
@@ -216,10 +238,9 @@ fn first_halt(left: &[Ended]) -> Option<Halt>
 fn gather_all<C: Exclusion>(alloc: Global, stations: Vec<Station<C>>) -> Result<Gathered, Halt>
     requires { OfOneTable stations.items }
     ensures serial { IfOk result (λ all. AreSerial all.receipts.items all.journal) }
-    ensures sections { (algorithm : Algorithm) (here : Home) (sections : ℕ)
-        → AreAll (λ s. IsDone here sections (sight algorithm s)) stations.items
-        → IfOk result (λ all. HaveSections here.nodes sections all.receipts.items) }
-    ensures err { IfErr result RanInVain }
+    ensures gathered { IfOk result (λ all. IsWhole stations.items
+        × IsGathered stations.items all.journal all.receipts.items) }
+    ensures err { IfErr result (λ halt. halt ≡ Halt.Memory) }
 {
     match gather(alloc, stations) {
         Ok(gathered) => Ok(gathered),

@@ -1,15 +1,19 @@
 //! The threads of a live run, one for each station.
 
 ghost use Rattle.std.specs.Prelude.{◌≡◌, ◌≤◌, ℕ, length, IfOk, OnOk};
+ghost use Rattle.atomic_table.specs.Seated.{TableId};
+ghost use Rattle.mx_plan.specs.Fields.{Fields};
 ghost use Rattle.mx_stations.specs.Gathered.{KeepsTable};
-ghost use Rattle.mx_stations.specs.Works.{Works, WorksSettling};
-ghost use Rattle.mx_threads.specs.Stations.{AreAll, Home, sight_of};
-ghost use Rattle.mx_threads.specs.Workers.{IsLeft, Promises};
+ghost use Rattle.mx_stations.specs.Works.{Works, WorksAtMost, WorksFor, WorksSettling};
+ghost use Rattle.mx_threads.specs.declared.threads.Orders.{Orders as TheOrders};
+ghost use Rattle.mx_threads.specs.Stations.{AreAll, Rests};
+ghost use Rattle.mx_threads.specs.Workers.{IsLeft, Promises, WasLeft, weather_of};
 
 use crate::any_station::AnyStation;
 use crate::assembly::Assembly;
 use mx_explorer::Weather;
 use mx_nodelaws::Exclusion;
+use mx_stamps::NodeId;
 use mx_stations::{Script, Station, Worked, work_settling};
 use std::alloc::{AllocError, Global};
 use std::snapshot::Snapshot;
@@ -35,19 +39,18 @@ pub(crate) struct Orders {
 /// What a worker leaves.
 pub(crate) type Ended = (AnyStation, Worked);
 
-/// The promise of a worker: the station that it leaves stands where this one stood, and where it
-/// is done it has so many sections.
+/// The promise of a worker: it leads from this station to the one that it leaves, as it was
+/// ordered.
 #[derive(Drop)]
 pub(crate) struct WorkAt {
     at: Snapshot<AnyStation>,
-    sections: u64,
+    orders: Orders,
 }
 
 impl Promise<Ended> for WorkAt {
-    ghost use Rattle.mx_threads.specs.Stations.{sight_of};
     ghost use Rattle.mx_threads.specs.Workers.{IsLeft};
 
-    ghost kept_by = { λ p left. IsLeft (sight_of p.at.value).home p.sections left };
+    ghost kept_by = { λ p ended. IsLeft p.orders p.at.value ended };
 }
 
 /// A thread that works at a station.
@@ -55,7 +58,7 @@ pub(crate) type Worker = PromisedHandle<Ended, WorkAt>;
 
 /// Does the work at a station, and notes its end at the gate.
 fn do_work(station: AnyStation, gate: &Assembly, orders: Orders) -> Ended
-    ensures { IsLeft (sight_of station).home orders.sections result }
+    ensures { IsLeft orders station result }
 {
     let ended = work_any(station, gate, orders);
     gate.note_end();
@@ -64,7 +67,7 @@ fn do_work(station: AnyStation, gate: &Assembly, orders: Orders) -> Ended
 
 /// Does the work at a station, whichever algorithm its node runs.
 fn work_any(station: AnyStation, gate: &Assembly, orders: Orders) -> Ended
-    ensures { IsLeft (sight_of station).home orders.sections result }
+    ensures { IsLeft orders station result }
 {
     match station {
         AnyStation::Ricart(station) => {
@@ -91,17 +94,26 @@ fn work_at<C: Exclusion>(
 ) -> (Station<C>, Worked)
     ensures works { WorksSettling C.core 0 orders.settle station result.0 }
     ensures never { orders.settle ≡ 0 → Works C.core 0 station result.0 }
+    ensures most { WorksAtMost C.core 0 orders.settle orders.turns station result.0 }
     ensures same { KeepsTable station result.0 }
     ensures done { result.1 ≡ Worked.Done → orders.sections ≤ length result.0.me.receipts }
+    ensures spent { (n : ℕ) → result.1 ≡ Worked.NotYet n
+        → WorksFor C.core 0 orders.settle orders.turns station result.0 }
 {
-    let node = station.node();
     let script = Script {
         register: 0,
         sections: orders.sections,
     };
-    let seed = orders.seed.wrapping_add(u64::from(node.get()));
-    let weather = Weather::of(seed, LOST, DOUBLED);
+    let weather = weather_at(orders.seed, station.node());
     work_settling(station, script, orders.settle, gate, weather, orders.turns)
+}
+
+/// The weather of the links to a node.
+fn weather_at(seed: u64, node: NodeId) -> Weather
+    ensures { result ≡ weather_of seed node }
+{
+    let own = seed.wrapping_add(u64::from(node.get()));
+    Weather::of(own, LOST, DOUBLED)
 }
 
 /// Starts a thread for a station, with a share of the gate.
@@ -111,8 +123,8 @@ fn start<R: Threads>(
     shared: &Arc<Assembly, Global>,
     orders: Orders,
 ) -> Result<Worker, AllocError>
-    ensures { IfOk result (λ worker. Promises (sight_of station).home orders.sections
-        (sight_of worker.promise.at.value) worker.promise.sections) }
+    ensures at { IfOk result (λ worker. worker.promise.at.value ≡ station) }
+    ensures told { IfOk result (λ worker. worker.promise.orders ≡ orders) }
 {
     spawn(rt, station, Arc::try_clone(shared)?, orders)
 }
@@ -124,18 +136,18 @@ fn spawn<R: Threads>(
     gate: Arc<Assembly, Global>,
     orders: Orders,
 ) -> Result<Worker, AllocError>
-    ensures { IfOk result (λ worker. Promises (sight_of station).home orders.sections
-        (sight_of worker.promise.at.value) worker.promise.sections) }
+    ensures at { IfOk result (λ worker. worker.promise.at.value ≡ station) }
+    ensures told { IfOk result (λ worker. worker.promise.orders ≡ orders) }
 {
     let promise = WorkAt {
         at: Snapshot::of(&station),
-        sections: orders.sections,
+        orders,
     };
     let started = thread::spawn_with(
         rt,
         promise,
         move || -> Ended
-            ensures { IsLeft (sight_of station).home orders.sections result }
+            ensures { IsLeft orders station result }
         { do_work(station, &*gate, orders) },
     );
     match started {
@@ -152,11 +164,11 @@ fn start_one<R: Threads>(
     gate: &Arc<Assembly, Global>,
     orders: Orders,
 ) -> Result<(), AllocError>
-    ensures { (here : Home) → (sight_of station).home ≡ here
-        → AreAll (λ worker. Promises here orders.sections
-        (sight_of worker.promise.at.value) worker.promise.sections) workers.old.items
-        → OnOk result (AreAll (λ worker. Promises here orders.sections
-        (sight_of worker.promise.at.value) worker.promise.sections) workers.new.items) }
+    ensures { (p : Fields) (table : TableId) → Rests p table station
+        → AreAll (λ worker. Promises p table orders
+        worker.promise.at.value worker.promise.orders) workers.old.items
+        → OnOk result (AreAll (λ worker. Promises p table orders
+        worker.promise.at.value worker.promise.orders) workers.new.items) }
 {
     workers.reserve(1)?;
     let worker = start(rt, station, gate, orders)?;
@@ -172,11 +184,11 @@ fn start_each<R: Threads>(
     gate: &Arc<Assembly, Global>,
     orders: Orders,
 ) -> Result<(), AllocError>
-    ensures { (here : Home) → AreAll (λ station. (sight_of station).home ≡ here) stations.items
-        → AreAll (λ worker. Promises here orders.sections
-        (sight_of worker.promise.at.value) worker.promise.sections) workers.old.items
-        → OnOk result (AreAll (λ worker. Promises here orders.sections
-        (sight_of worker.promise.at.value) worker.promise.sections) workers.new.items) }
+    ensures { (p : Fields) (table : TableId) → AreAll (Rests p table) stations.items
+        → AreAll (λ worker. Promises p table orders
+        worker.promise.at.value worker.promise.orders) workers.old.items
+        → OnOk result (AreAll (λ worker. Promises p table orders
+        worker.promise.at.value worker.promise.orders) workers.new.items) }
 {
     for station in stations {
         start_one(rt, workers, station, gate, orders)?;
@@ -193,9 +205,9 @@ pub(crate) fn start_all<R: Threads>(
     gate: &Arc<Assembly, Global>,
     orders: Orders,
 ) -> Result<Vec<Worker>, AllocError>
-    ensures { (here : Home) → AreAll (λ station. (sight_of station).home ≡ here) stations.items
-        → IfOk result (λ all. AreAll (λ worker. Promises here orders.sections
-        (sight_of worker.promise.at.value) worker.promise.sections) all.items) }
+    ensures { (p : Fields) (table : TableId) → AreAll (Rests p table) stations.items
+        → IfOk result (λ all. AreAll (λ worker. Promises p table orders
+        worker.promise.at.value worker.promise.orders) all.items) }
 {
     let mut workers = Vec::new(alloc);
     match start_each(rt, &mut workers, stations, gate, orders) {
@@ -217,9 +229,10 @@ fn join_each<R: Threads>(rt: &R, workers: Vec<Worker>) {
 
 /// Joins all threads. Where memory runs out what they leave is dropped.
 pub(crate) fn join_all<R: Threads>(rt: &R, workers: Vec<Worker>) -> Result<Vec<Ended>, AllocError>
-    ensures { (here : Home) (sections : ℕ) → AreAll (λ worker. Promises here sections
-        (sight_of worker.promise.at.value) worker.promise.sections) workers.items
-        → IfOk result (λ all. AreAll (IsLeft here sections) all.items) }
+    ensures { (p : Fields) (table : TableId) (orders : TheOrders)
+        → AreAll (λ worker. Promises p table orders
+        worker.promise.at.value worker.promise.orders) workers.items
+        → IfOk result (λ all. AreAll (WasLeft p table orders) all.items) }
 {
     match thread::join_promised(rt, workers) {
         Ok(ended) => Ok(ended),

@@ -8,7 +8,7 @@ ghost use Rattle.mx_words.specs.LiveWords.{live_app, live_in, live_line, order_a
 use crate::arguments::{flag_arg, number_arg, seed_arg};
 use crate::help;
 use crate::line::{line_of, matches_in, plan_command, with_arg};
-use crate::words::{number_at, text_at};
+use crate::words::{is_given, number_at, text_at};
 use clap::{Arg, ArgMatches, Command, Error};
 use std::alloc::{AllocError, Global};
 
@@ -129,7 +129,7 @@ fn live_in<'a>(matches: &ArgMatches<'a>) -> Option<LiveRun<'a>>
         seed,
         turns,
         settle: settle_at(matches),
-        progress: matches.get_flag("progress"),
+        progress: is_given(matches, "progress"),
     })
 }
 

@@ -1,6 +1,6 @@
 use Rattle.mx_words.specs.Words.{texts_of}
 use Rattle.mx_stops.specs.Told.{seen}
-use Rattle.mx_live.proofs.RefusedLemmas.{order_refused}
+use Rattle.mx_live.proofs.RefusedLemmas.{nothing_refused, order_refused}
 use Rattle.mx_words.specs.LiveWords.{live_line}
 use Rattle.mx_live.proofs.living.live.Goals as goal
 
@@ -15,3 +15,9 @@ returns-in-Err-clause-help g c = c.refuse.ensures.help live_line (texts_of c.arg
 
 pub returns-in-Err-clause-wrong : goal.returns-in-Err-clause-wrong
 returns-in-Err-clause-wrong g c = c.refuse.ensures.wrong live_line (texts_of c.args.words.now) c.in-Err.ensures.err
+
+pub returns-in-Err-clause-other : goal.returns-in-Err-clause-other
+returns-in-Err-clause-other g c = nothing_refused (g.O.Output.takes_all c.args.out.now)
+    (seen (g.O.Output.written c.args.out.now) (g.E.Output.written c.args.err.now) (g.O.Output.has_refused c.args.out.now) (g.O.Output.keeps_back c.args.out.now))
+    (seen (g.O.Output.written c.refuse.new.out) (g.E.Output.written c.refuse.new.err) (g.O.Output.has_refused c.refuse.new.out) (g.O.Output.keeps_back c.refuse.new.out))
+    c.refuse.result c.in-Err.e (texts_of c.args.words.now) c.in-Err.ensures.err c.refuse.ensures.memory

@@ -10,5 +10,5 @@ returns g c = λ told read.
     let fits : c.from.result * c.args.run.now.sections ≤ p.sections =
     omega (arith, c.saturating_mul.ensures, c.if-saturating_mul-sections.false, c.sections.ensures.value, c.sections.ensures.high) in
     shown_ends (g.O.Output.takes_all c.args.out.now) told (order_of c.args.run.now)
-    p all.gathered.receipts.items all.gathered.journal c.show.result (g.O.Output.written c.args.out.now) (g.O.Output.written c.show.new.out)
-    read (subst (λ (n : ℕ). n * c.args.run.now.sections ≤ p.sections) (c.from.ensures ∙ c.nodes.ensures.value) fits) all.ensures.serial all.ensures.sections c.show.ensures.ok c.show.ensures.err
+    p all.gathered.receipts.items all.gathered.journal c.show.result (g.O.Output.written c.args.out.now) (g.O.Output.written c.show.new.out) (g.O.Output.keeps_back c.show.new.out)
+    read (subst (λ (n : ℕ). n * c.args.run.now.sections ≤ p.sections) (c.from.ensures ∙ c.nodes.ensures.value) fits) all.ensures.come all.ensures.serial all.ensures.sections c.show.ensures.ok c.show.ensures.passed c.show.ensures.err

@@ -1,8 +1,10 @@
-use Rattle.std.proofs.Common.{◌≡◌}
-use Rattle.mx_threads.specs.Stations.{AreAll, Home, ricart, sight, sight_of}
+use Rattle.atomic_table.specs.Seated.{TableId}
+use Rattle.mx_plan.specs.Fields.{Fields}
+use Rattle.mx_threads.specs.declared.any_station.AnyStation.TheVariants as any
+use Rattle.mx_threads.specs.Stations.{AreAll, Rests}
 use Rattle.mx_threads.proofs.by_algorithm.any_ricart.Given as goal
 
 abbrev pub invariant-loop-station : goal.invariant-loop-station
 invariant-loop-station l =
-    (here : Home) → AreAll (λ s. (sight ricart s).home ≡ here) l.fn.stations.items
-    → AreAll (λ one. (sight_of one).home ≡ here) l.all.items × AreAll (λ s. (sight ricart s).home ≡ here) l.station-iterator.rest.items
+    (p : Fields) (table : TableId) → AreAll (λ s. Rests p table (any.Ricart s)) l.fn.stations.items
+    → AreAll (Rests p table) l.all.items × AreAll (λ s. Rests p table (any.Ricart s)) l.station-iterator.rest.items

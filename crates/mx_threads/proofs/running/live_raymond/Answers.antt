@@ -1,20 +1,39 @@
-use Rattle.std.proofs.Common.{ap, arith}
-use Rattle.mx_threads.specs.Stations.{Home, raymond}
-use Rattle.mx_threads.proofs.SectionLemmas.{of_one_table}
-use Rattle.mx_threads.proofs.StationLemmas.{weaker_so}
+use Rattle.std.proofs.Common.{arith, inr}
+use Rattle.std.proofs.lemmas.Result.{IfErr-weaker, IfOk-weaker}
+use Rattle.mx_words.specs.LiveWords.{order_of}
+use Rattle.mx_threads.specs.Workers.{orders_in}
+use Rattle.mx_threads.proofs.AlgorithmLemmas.{raymond_come, raymond_only, raymond_rests, raymond_worked}
+use Rattle.mx_threads.proofs.SectionLemmas.{come_gathered, of_one_table, sections_gathered}
 use Rattle.mx_threads.proofs.running.live_raymond.Goals as goal
+
+pub run_all-requires : goal.run_all-requires
+run_all-requires g c =
+    let at = c.in_ok-stations.ensures in
+    (at.0, c.in_ok-any.ensures c.args.plan.now at.0 (raymond_rests c.args.plan.now at.0 c.args.shape.now c.requires.shape _ at.1))
 
 pub all_raymond-requires : goal.all_raymond-requires
 all_raymond-requires g c =
-    let at = c.in_ok-stations.ensures raymond in
-    weaker_so _ (λ x done. ap (λ (h : Home). h.algorithm) done.home) (c.in_ok-left.ensures.done _ (c.in_ok-any.ensures _ at.1))
+    let done = c.in_ok-left.ensures.done in
+    raymond_only c.args.plan.now done.0 c.args.shape.now c.requires.shape _ _ done.1
 
 pub gather_all-requires : goal.gather_all-requires
 gather_all-requires g c =
-    let at = c.in_ok-stations.ensures raymond in
-    (omega arith, of_one_table raymond _ _ _ (c.in_ok-own.ensures _ _ (c.in_ok-left.ensures.done _ (c.in_ok-any.ensures _ at.1))))
+    let done = c.in_ok-left.ensures.done in
+    let worked = raymond_worked c.args.plan.now done.0 c.args.shape.now c.requires.shape _ _ (c.in_ok-own.ensures _ done.0 _ done.1) in
+    (omega arith, of_one_table _ c.args.shape.now c.args.plan.now _ done.0 _ worked)
 
 pub returns-clause-sections : goal.returns-clause-sections
 returns-clause-sections g c =
-    let at = c.in_ok-stations.ensures raymond in
-    c.gather_all.ensures.sections raymond _ _ (c.in_ok-own.ensures _ _ (c.in_ok-left.ensures.done _ (c.in_ok-any.ensures _ at.1)))
+    let done = c.in_ok-left.ensures.done in
+    let worked = raymond_worked c.args.plan.now done.0 c.args.shape.now c.requires.shape _ _ (c.in_ok-own.ensures _ done.0 _ done.1) in
+    IfOk-weaker c.gather_all.result _ _ (λ all is. sections_gathered _ c.args.shape.now c.args.plan.now _ done.0 _ _ _ is.1 is.0 worked) c.gather_all.ensures.gathered
+
+pub returns-clause-come : goal.returns-clause-come
+returns-clause-come g c =
+    let done = c.in_ok-left.ensures.done in
+    let worked = raymond_worked c.args.plan.now done.0 c.args.shape.now c.requires.shape _ _ (c.in_ok-own.ensures _ done.0 _ done.1) in
+    IfOk-weaker c.gather_all.result _ _
+    (λ all is. raymond_come c.args.plan.now done.0 c.args.shape.now c.requires.shape _ _ _ (come_gathered _ c.args.shape.now c.args.plan.now _ done.0 _ _ _ is.1 is.0 worked)) c.gather_all.ensures.gathered
+
+pub returns-clause-err : goal.returns-clause-err
+returns-clause-err g c = IfErr-weaker c.gather_all.result _ _ (λ halt is. inr (inr is)) c.gather_all.ensures.err

@@ -3,4 +3,4 @@ use Rattle.mx_threads.proofs.StationLemmas.{none_so}
 use Rattle.mx_threads.proofs.threads.start_all.Goals as goal
 
 pub returns-in-Ok : goal.returns-in-Ok
-returns-in-Ok g c = λ here all. c.in-Ok.ensures here all (none_so _ (search rules))
+returns-in-Ok g c = λ p table all. c.in-Ok.ensures p table all (none_so _ (search rules))

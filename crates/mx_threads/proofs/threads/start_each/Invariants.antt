@@ -1,11 +1,12 @@
-use Rattle.std.proofs.Common.{◌≡◌}
-use Rattle.mx_threads.specs.Stations.{AreAll, Home, sight_of}
+use Rattle.atomic_table.specs.Seated.{TableId}
+use Rattle.mx_plan.specs.Fields.{Fields}
+use Rattle.mx_threads.specs.Stations.{AreAll, Rests}
 use Rattle.mx_threads.specs.Workers.{Promises}
 use Rattle.mx_threads.proofs.threads.start_each.Given as goal
 
 abbrev pub invariant-loop-station : goal.invariant-loop-station
 invariant-loop-station g l =
-    (here : Home) → AreAll (λ station. (sight_of station).home ≡ here) l.fn.stations.items
-    → AreAll (λ worker. Promises here l.orders.sections (sight_of worker.promise.at.value) worker.promise.sections) l.fn.workers.items
-    → AreAll (λ worker. Promises here l.orders.sections (sight_of worker.promise.at.value) worker.promise.sections) l.workers.items
-    × AreAll (λ station. (sight_of station).home ≡ here) l.station-iterator.rest.items
+    (p : Fields) (table : TableId) → AreAll (Rests p table) l.fn.stations.items
+    → AreAll (λ worker. Promises p table l.orders worker.promise.at.value worker.promise.orders) l.fn.workers.items
+    → AreAll (λ worker. Promises p table l.orders worker.promise.at.value worker.promise.orders) l.workers.items
+    × AreAll (Rests p table) l.station-iterator.rest.items
