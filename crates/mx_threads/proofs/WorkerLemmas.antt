@@ -1,7 +1,7 @@
 -- What workers leave, by what they promised.
-use Rattle.std.proofs.Common.{◌≡◌, ◌∙◌, ◌<◌, ℕ, zero, suc, length, get_or, inl, inr, refl, sym, subst, ap, arith, List, [], ◌∷◌, Option, Some, Result, Ok, Err, IfOk, slice_get}
+use Rattle.std.proofs.Common.{◌≡◌, ◌∙◌, ◌<◌, ℕ, zero, suc, length, get_or, inl, inr, refl, sym, subst, ap, arith, List, [], ◌∷◌, Result, Ok, Err, IfOk}
 use Rattle.mx_stations.specs.declared.working.Worked.{Worked}
-use Rattle.mx_stations.specs.declared.working.Worked.TheVariants.{Done, NotYet}
+use Rattle.mx_stations.specs.declared.working.Worked.TheVariants.{Done}
 use Rattle.std.specs.List.{All}
 use Rattle.std.specs.Prelude.{Vec}
 use Rattle.std.specs.declared.alloc.Global.{Global}
@@ -20,7 +20,7 @@ use Rattle.mx_threads.specs.declared.any_station.AnyStation.{AnyStation}
 use Rattle.mx_threads.specs.declared.halts.Halt.{Halt}
 use Rattle.mx_threads.specs.declared.threads.Orders.{Orders}
 use Rattle.mx_threads.specs.Halts.{HaltsIn, RanInVain}
-use Rattle.mx_threads.specs.Stations.{AreAll, AreAtRest, IsAtRest}
+use Rattle.mx_threads.specs.Stations.{AreAll, AreAtRest}
 use Rattle.mx_threads.specs.Workers.{IsDone, IsLeft, IsNotYet, Promises, SpendsTurns, WasLeft}
 use Rattle.mx_threads.proofs.StationLemmas.{so_there}
 

@@ -1,7 +1,5 @@
 use Rattle.std.proofs.Common.{arith, inr}
 use Rattle.std.proofs.lemmas.Result.{IfErr-weaker, IfOk-weaker}
-use Rattle.mx_words.specs.LiveWords.{order_of}
-use Rattle.mx_threads.specs.Workers.{orders_in}
 use Rattle.mx_threads.proofs.AlgorithmLemmas.{ricart_come, ricart_only, ricart_rests, ricart_worked}
 use Rattle.mx_threads.proofs.SectionLemmas.{come_gathered, of_one_table, sections_gathered}
 use Rattle.mx_threads.proofs.running.live_ricart.Goals as goal
