@@ -16,11 +16,12 @@ fn two_nodes(alloc: Global) -> Result<Cluster<Ricart>, Fail> {
     Ok(Cluster::start(alloc, &shape, 0, 1000, 1)?)
 }
 
-/// The number that a clock at 5 draws once it has seen 3.
-fn drawn_after_five() -> Option<u64> {
+/// The stamp that node 2 draws of a clock at 5 that has seen 3: its number and its node.
+fn drawn_after_five() -> Option<(u64, u8)> {
     let mut clock = Clock::at(5);
     clock.see(3);
-    Some(clock.next(node(2))?.number)
+    let stamp = clock.next(node(2))?;
+    Some((stamp.number, stamp.node.get()))
 }
 
 /// Whether a cluster that has done nothing refuses an event for this fault, and notes nothing.
@@ -42,7 +43,7 @@ fn refuse_all(cluster: &mut Cluster<Ricart>) -> bool {
 fn step_faults_and_clock(rt: HostRuntime) -> Result<(), Fail> {
     let all_refused = refuse_all(&mut two_nodes(rt.alloc())?);
     assert!(rt; all_refused);
-    assert_eq!(rt; drawn_after_five(), Some(6));
+    assert_eq!(rt; drawn_after_five(), Some((6, 2)));
     Ok(())
 }
 

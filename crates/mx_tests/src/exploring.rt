@@ -1,9 +1,17 @@
-//! Weather beside what the test makes of words that it draws itself.
+//! Weather and schedules beside what the tests make of words that they draw themselves.
 
-use mx_explorer::Weather;
+ghost use Rattle.std.specs.Prelude.{◌<◌};
+
+use crate::given::node;
+use mx_explorer::{Weather, schedule};
 use mx_letters::{Fate, Fates};
+use mx_network::Event;
+use mx_plan::{Plan, read_plan};
+use mx_stamps::NodeId;
 use rand_core::{Rng, SeedableRng};
 use rand_pcg::Pcg32;
+use std::alloc::{AllocError, Global};
+use std::test::Fail;
 
 /// Whether the fates of this seed are those of its words.
 fn is_of_its_seed(seed: u64) -> bool {
@@ -27,4 +35,111 @@ fn weather_is_that_of_its_seed(rt: HostRuntime) {
     for seed in 0..10 {
         assert!(rt; is_of_its_seed(seed), "seed {seed}");
     }
+}
+
+/// Whether a weather has this fate for each parcel.
+fn is_always(weather: &mut Weather, fate: Fate) -> bool {
+    for _ in 0..1000 {
+        if weather.fate() != fate {
+            return false;
+        }
+    }
+    true
+}
+
+#[test]
+fn weather_of_one_kind(rt: HostRuntime) {
+    assert!(rt; is_always(&mut Weather::of(1, 0, 0), Fate::Pass));
+    assert!(rt; is_always(&mut Weather::of(1, 256, 0), Fate::Drop));
+    assert!(rt; is_always(&mut Weather::of(1, 0, 256), Fate::Twice));
+}
+
+/// A plan of five nodes and three registers.
+const PLAN: &str =
+    "{\"algorithm\":\"ricart\",\"nodes\":[\"a\",\"b\",\"c\",\"d\",\"e\"],\"registers\":[\"x\",\"y\",\"z\"],\"sections\":100}";
+
+/// The next word, modulo this.
+fn below(words: &mut Pcg32, count: u32) -> u32
+    requires { 0 < count }
+    ensures { result < count }
+{
+    words.next_u32() % count
+}
+
+/// One of the five nodes.
+fn drawn_node(words: &mut Pcg32) -> NodeId {
+    node(below(words, 5) as u8)
+}
+
+/// One of the three registers.
+fn drawn_register(words: &mut Pcg32) -> u8 {
+    below(words, 3) as u8
+}
+
+/// An event of two arguments, of which the first is a node.
+fn drawn_pair(words: &mut Pcg32, kind: u32) -> Event {
+    let first = drawn_node(words);
+    match kind {
+        4 => Event::Read(first, drawn_register(words)),
+        9 => Event::Want(first, drawn_node(words)),
+        _ => Event::Settle(first, u64::from(below(words, 17))),
+    }
+}
+
+/// A node that writes a word to a register.
+fn drawn_write(words: &mut Pcg32) -> Event {
+    let first = drawn_node(words);
+    let register = drawn_register(words);
+    Event::Write(first, register, u64::from(words.next_u32()))
+}
+
+/// The event that the next words stand for.
+fn drawn_event(words: &mut Pcg32) -> Event {
+    match below(words, 16) {
+        0 | 1 => Event::Ask(drawn_node(words)),
+        2 | 3 => Event::Enter(drawn_node(words)),
+        5 => drawn_write(words),
+        6 | 7 => Event::Leave(drawn_node(words)),
+        8 => Event::Tick(drawn_node(words)),
+        10 => Event::Restart(drawn_node(words)),
+        11 | 12 | 13 => Event::Deliver(u64::from(words.next_u32())),
+        15 => Event::Cancel(drawn_node(words)),
+        kind => drawn_pair(words, kind),
+    }
+}
+
+/// Whether these are the events of the words of a seed.
+fn are_of_seed(events: &[Event], seed: u64) -> bool {
+    let mut words = Pcg32::seed_from_u64(seed);
+    for event in events {
+        if *event != drawn_event(&mut words) {
+            return false;
+        }
+    }
+    events.len() == 1000
+}
+
+/// Whether a schedule of this seed has the events of its words.
+fn is_drawn(alloc: Global, seed: u64, plan: &Plan) -> Result<bool, AllocError> {
+    let events = schedule(alloc, seed, 1000, plan)?;
+    Ok(are_of_seed(events.as_slice(), seed))
+}
+
+/// Whether the schedules of ten seeds do.
+fn are_drawn(alloc: Global, plan: &Plan) -> Result<bool, AllocError> {
+    for seed in 0..10 {
+        if !is_drawn(alloc, seed, plan)? {
+            return Ok(false);
+        }
+    }
+    Ok(true)
+}
+
+#[test]
+fn schedule_is_that_of_its_seed(rt: HostRuntime) -> Result<(), Fail> {
+    match read_plan(rt.alloc(), PLAN.as_bytes()) {
+        Ok(plan) => assert!(rt; are_drawn(rt.alloc(), &plan)?),
+        Err(_) => Err("no plan")?,
+    }
+    Ok(())
 }

@@ -1,15 +1,16 @@
 //! Two stations whose links have four slots each: what each call answers, and what is gathered.
 
-ghost use Rattle.std.specs.Prelude.{◌<◌, IfSome};
-ghost use Rattle.mx_stations.specs.Gathered.{KeepsTable};
+ghost use Rattle.std.specs.Prelude.{◌≡◌, ◌<◌, IfOk, IfSome};
+ghost use Rattle.mx_stations.specs.Gathered.{KeepsTable, OfOneTable};
 
 use crate::given::node;
-use crate::stations::two;
+use crate::stations::{last, last_two, two};
 use mx_journal::Receipt;
 use mx_member::CloseFault;
+use mx_nodelaws::Phase;
 use mx_ricart::Ricart;
 use mx_stamps::NodeId;
-use mx_stations::{Gathered, PutOut, Station, Taken, Ungathered, gather};
+use mx_stations::{GatherFault, Gathered, PutOut, Station, Taken, Ungathered, gather};
 use std::alloc::{AllocError, Global};
 use std::process::Abort;
 use std::test::Fail;
@@ -24,7 +25,6 @@ enum Call {
     /// It takes from the other node.
     TakeIn(Taken),
     Enter(u64),
-    Leave(u64),
 }
 
 /// Whether the station answers the call so.
@@ -40,7 +40,6 @@ fn answers(station: &mut Station<Ricart>, call: &Call) -> bool
         }
         Call::TakeIn(answer) => takes_from_other(station, *answer),
         Call::Enter(number) => station.enter() == Ok(*number),
-        Call::Leave(number) => leaves(station, *number),
     }
 }
 
@@ -132,8 +131,113 @@ fn are_gathered(alloc: Global, both: (Station<Ricart>, Station<Ricart>)) -> Resu
     Ok(is_first(gather(alloc, stations)))
 }
 
-/// Calls of both, each with its node.
-const CALLS: [(u8, Call); 20] = [
+/// The stations that are handed back, where it is for this fault.
+fn given_back(back: Ungathered<Ricart>, fault: GatherFault) -> Option<Vec<Station<Ricart>>>
+    ensures { IfSome result (λ all. all.items ≡ back.stations.items) }
+{
+    if back.fault == fault {
+        Some(back.stations)
+    } else {
+        None
+    }
+}
+
+/// The stations, as they come back where they are not gathered for this fault.
+fn refused(
+    alloc: Global,
+    stations: Vec<Station<Ricart>>,
+    fault: GatherFault,
+) -> Option<Vec<Station<Ricart>>>
+    requires { OfOneTable stations.items }
+    ensures { IfSome result (λ back. back.items ≡ stations.items) }
+{
+    match gather(alloc, stations) {
+        Ok(_) => None,
+        Err(back) => given_back(back, fault),
+    }
+}
+
+/// Whether no station at all comes back where none is gathered, for want of that of node 0.
+fn none_comes_back(alloc: Global) -> bool {
+    match refused(alloc, Vec::new(alloc), GatherFault::NotAll(node(0))) {
+        Some(back) => back.is_empty(),
+        None => false,
+    }
+}
+
+/// The station, where it comes back alone for want of that of node 0.
+fn one_comes_back(
+    alloc: Global,
+    one: Station<Ricart>,
+) -> Result<Option<Station<Ricart>>, AllocError>
+    ensures { IfOk result (λ back. IfSome back (λ station. KeepsTable one station)) }
+{
+    let stations = Vec::from_array(alloc, [one])?;
+    let Some(back) = refused(alloc, stations, GatherFault::NotAll(node(0))) else {
+        return Ok(None);
+    };
+    match last(back) {
+        Some(station) => Ok(Some(station)),
+        None => Ok(None),
+    }
+}
+
+/// Both stations, where they come back since node 0 is inside.
+fn both_come_back(
+    alloc: Global,
+    both: (Station<Ricart>, Station<Ricart>),
+) -> Result<Option<(Station<Ricart>, Station<Ricart>)>, AllocError>
+    requires { KeepsTable both.0 both.1 }
+    ensures { IfOk result (λ back. IfSome back (λ pair. KeepsTable pair.0 pair.1)) }
+{
+    let stations = Vec::from_array(alloc, [both.0, both.1])?;
+    let Some(back) = refused(alloc, stations, GatherFault::StillInside(node(0))) else {
+        return Ok(None);
+    };
+    match last_two(back) {
+        Some(pair) => Ok(Some(pair)),
+        None => Ok(None),
+    }
+}
+
+/// Both stations, where none of these is gathered: none, that of node 1 alone, and both.
+fn all_come_back(
+    alloc: Global,
+    both: (Station<Ricart>, Station<Ricart>),
+) -> Result<Option<(Station<Ricart>, Station<Ricart>)>, AllocError>
+    requires { KeepsTable both.0 both.1 }
+    ensures { IfOk result (λ back. IfSome back (λ pair. KeepsTable pair.0 pair.1)) }
+{
+    if !none_comes_back(alloc) {
+        return Ok(None);
+    }
+    match one_comes_back(alloc, both.1)? {
+        Some(one) => both_come_back(alloc, (both.0, one)),
+        None => Ok(None),
+    }
+}
+
+/// Whether these are the stations of nodes 0 and 1, of which the first is inside section 1.
+fn are_as_they_were(zero: &Station<Ricart>, one: &Station<Ricart>) -> bool {
+    zero.node().get() == 0
+        && zero.phase() == Phase::Inside(1)
+        && one.node().get() == 1
+        && one.phase() == Phase::Idle
+}
+
+/// Whether both, as they come back, are gathered once node 0 has left its section.
+fn are_gathered_later(
+    alloc: Global,
+    mut both: (Station<Ricart>, Station<Ricart>),
+) -> Result<bool, AllocError>
+    requires { KeepsTable both.0 both.1 }
+{
+    let is_left = are_as_they_were(&both.0, &both.1) && leaves(&mut both.0, 1);
+    Ok(is_left && are_gathered(alloc, both)?)
+}
+
+/// Calls of both, each with its node, up to the section of node 0.
+const CALLS: [(u8, Call); 19] = [
     (0, Call::Ask),
     (0, Call::PutOut(PutOut::Sent)),
     (0, Call::PutOut(PutOut::Nothing)),
@@ -153,13 +257,15 @@ const CALLS: [(u8, Call); 20] = [
     (1, Call::PutOut(PutOut::Nothing)),
     (0, Call::TakeIn(Taken::Got)),
     (0, Call::Enter(1)),
-    (0, Call::Leave(1)),
 ];
 
 #[test]
 fn stations_four_slots(rt: HostRuntime) -> Result<(), Fail> {
     let mut both = two(rt.alloc())?;
     assert_calls(&rt, &mut both.0, &mut both.1, &CALLS);
-    assert!(rt; are_gathered(rt.alloc(), both)?);
+    match all_come_back(rt.alloc(), both)? {
+        Some(back) => assert!(rt; are_gathered_later(rt.alloc(), back)?),
+        None => Err("not refused as it should be")?,
+    }
     Ok(())
 }

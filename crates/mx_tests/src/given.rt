@@ -52,3 +52,12 @@ pub(crate) fn journal_of(alloc: Global, numbers: &[u64]) -> Result<Journal, Fail
     }
     Ok(journal)
 }
+
+/// Vectors of these lists.
+pub(crate) fn lists(alloc: Global, sets: &[&[u8]]) -> Result<Vec<Vec<u8>>, AllocError> {
+    let mut lists = Vec::new(alloc);
+    for set in sets {
+        lists.push(set.to_vec(alloc)?)?;
+    }
+    Ok(lists)
+}

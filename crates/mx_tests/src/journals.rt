@@ -1,20 +1,45 @@
 //! Journals: what they take, what they refuse, what they lack, and how they merge.
 
 use crate::given::{entries, entry, journal_of};
-use mx_journal::{Base, BaseFault, Cell, Journal, Put, PutFault, Range, Record, SettleFault};
-use mx_merge::{agree, answer, merge, missing};
+use mx_journal::{
+    Base, BaseFault, Cell, Draft, Full, Journal, Put, PutFault, Range, Record, SettleFault,
+};
+use mx_merge::{MergeFault, agree, answer, merge, missing};
 use mx_registers::view;
 use std::alloc::{AllocError, Global};
 use std::test::Fail;
 
-/// Whether these are the records of these numbers.
+/// Whether this is the record of this number, which writes the number to register 0.
+fn is_own(record: &Record, number: u64) -> bool {
+    record.is(&entry(number, &[(0, number)]))
+}
+
+/// Whether these are the records of these numbers, of which each writes its number.
 fn bear(records: &[Record], numbers: &[u64]) -> bool {
     for (record, number) in records.iter().zip(numbers) {
-        if record.number != *number {
+        if !is_own(record, *number) {
             return false;
         }
     }
     records.len() == numbers.len()
+}
+
+/// Whether a journal has the record of this number, which writes the number.
+fn has_own(journal: &Journal, number: u64) -> bool {
+    match journal.get(number) {
+        Some(record) => is_own(record, number),
+        None => false,
+    }
+}
+
+/// Whether above its base a journal has just the records of these numbers.
+fn is_of(journal: &Journal, numbers: &[u64]) -> bool {
+    for number in numbers {
+        if !has_own(journal, *number) {
+            return false;
+        }
+    }
+    journal.len() == numbers.len()
 }
 
 /// Numbers and values of records that are put together, the answer, and how many the journal has
@@ -96,10 +121,30 @@ fn is_whole_after(alloc: Global, journal: &mut Journal) -> Result<bool, Fail> {
     Ok(merges(journal, &other) && is_whole(journal))
 }
 
+/// Whether a journal of those numbers refuses another with another record of 2, and stays as it is.
+fn refuses(journal: &mut Journal, other: &Journal) -> bool {
+    merge(journal, other) == Err(MergeFault::Conflict(2)) && is_of(journal, &[1, 2, 3, 5])
+}
+
+/// Whether it knows its own record of 2 again, refuses one without a number, and stays as it is.
+fn knows_its_own(journal: &mut Journal) -> bool {
+    journal.put(entry(2, &[(0, 2)])) == Ok(Put::Same)
+        && journal.put(entry(0, &[(0, 2)])) == Err(PutFault::ZeroNumber)
+        && is_of(journal, &[1, 2, 3, 5])
+}
+
+/// Whether it stays as it is beside records that it can't take, or has.
+fn stays_whole(alloc: Global, journal: &mut Journal) -> Result<bool, Fail> {
+    let mut other = Journal::new(alloc);
+    other.put(entry(2, &[(0, 9)]))?;
+    Ok(refuses(journal, &other) && knows_its_own(journal))
+}
+
 #[test]
 fn merge_and_missing(rt: HostRuntime) -> Result<(), Fail> {
-    let is_so = is_whole_after(rt.alloc(), &mut journal_of(rt.alloc(), &[1, 2, 5])?)?;
-    assert!(rt; is_so);
+    let mut journal = journal_of(rt.alloc(), &[1, 2, 5])?;
+    assert!(rt; is_whole_after(rt.alloc(), &mut journal)?);
+    assert!(rt; stays_whole(rt.alloc(), &mut journal)?);
     Ok(())
 }
 
@@ -122,22 +167,24 @@ fn taken(journal: &mut Journal, upto: u64, value: u64) -> Option<Result<u64, Bas
     Some(journal.take_base(&base))
 }
 
-/// What a journal of 1, 2, 3 and 5 is to settle, and what it answers.
-const SETTLED: [(u64, Result<(), SettleFault>); 4] = [
-    (2, Ok(())),
-    (1, Err(SettleFault::Below(2))),
-    (4, Err(SettleFault::Gap(4))),
-    (3, Ok(())),
-];
+/// Whether a journal of 1, 2, 3 and 5 settles up to a number, has so many records then, and lacks
+/// what it lacked before.
+fn settles_to(journal: &mut Journal, upto: u64, left: usize) -> bool {
+    journal.settle(upto) == Ok(()) && extent(journal) == (left, 5, 3) && lacks(journal, 6, &KEPT)
+}
 
-/// Whether it does, and lacks then what it lacked before.
+/// Whether a journal that has settled 1 and 2 refuses to settle less, or what it lacks, and takes any
+/// record of 2 for its own.
+fn stays_settled(journal: &mut Journal) -> bool {
+    journal.settle(1) == Err(SettleFault::Below(2))
+        && journal.settle(4) == Err(SettleFault::Gap(4))
+        && journal.put(entry(2, &[(0, 9)])) == Ok(Put::Same)
+        && is_of(journal, &[3, 5])
+}
+
+/// Whether a journal does both, and settles 3 as well.
 fn settles(journal: &mut Journal) -> bool {
-    for (upto, answer) in &SETTLED {
-        if journal.settle(*upto) != *answer {
-            return false;
-        }
-    }
-    extent(journal) == (1, 5, 3) && lacks(journal, 6, &KEPT)
+    settles_to(journal, 2, 2) && stays_settled(journal) && settles_to(journal, 3, 1)
 }
 
 /// Register 0 of a journal: its value, and the section that wrote it.
@@ -146,18 +193,27 @@ fn first_register(journal: &Journal) -> (Option<u64>, Option<u64>) {
     (shown.value(0), shown.written_by(0))
 }
 
+/// Whether a journal has settled 1 to 3, of which the last wrote 3, and has the record of 5 besides.
+fn has_base(journal: &Journal) -> bool {
+    match base_of(3, 3) {
+        Some(base) => journal.base().is(&base) && is_of(journal, &[5]),
+        None => false,
+    }
+}
+
 /// Whether a journal that settled nothing takes the base of one that has, by a merge.
 fn takes_base(journal: &mut Journal, settled: &Journal) -> bool {
     merge(journal, settled) == Ok(2)
-        && journal.base().upto() == 3
+        && has_base(journal)
         && first_register(journal) == (Some(5), Some(5))
 }
 
-/// Whether it keeps its base beside others of the same sections, and of fewer.
+/// Whether it stays as it is beside other bases, of the same sections and of fewer.
 fn keeps_base(journal: &mut Journal) -> bool {
     taken(journal, 3, 9) == Some(Err(BaseFault::Conflict(3)))
+        && has_base(journal)
         && taken(journal, 2, 2) == Some(Ok(0))
-        && journal.base().upto() == 3
+        && has_base(journal)
 }
 
 /// Whether a journal settles, and one of 2 and 3 does both then.
@@ -220,4 +276,19 @@ fn fills(journal: &mut Journal) -> bool {
 #[test]
 fn odd_then_even_numbers(rt: HostRuntime) {
     assert!(rt; fills(&mut Journal::new(rt.alloc())));
+}
+
+/// Whether a draft takes eight writes, and no ninth.
+fn takes_eight(draft: &mut Draft) -> bool {
+    for value in 0..8 {
+        if draft.write(0, value) != Ok(()) {
+            return false;
+        }
+    }
+    draft.write(0, 8) == Err(Full) && draft.last(0) == Some(7)
+}
+
+#[test]
+fn draft_takes_eight_writes(rt: HostRuntime) {
+    assert!(rt; takes_eight(&mut Draft::new()));
 }

@@ -16,13 +16,15 @@ mod given;
 #[cfg(test)]
 mod journals;
 #[cfg(test)]
-mod members;
+mod losing;
 #[cfg(test)]
-mod merging;
+mod members;
 #[cfg(test)]
 mod plans;
 #[cfg(test)]
 mod registers;
+#[cfg(test)]
+mod runs;
 #[cfg(test)]
 mod settled_stations;
 #[cfg(test)]

@@ -2,7 +2,7 @@
 
 use crate::given::{entry, node};
 use arrayvec::ArrayVec;
-use mx_journal::Record;
+use mx_journal::{Range, Record};
 use mx_letters::{Outbox, RicartMsg};
 use mx_member::{DeliverFault, Member, Parcel};
 use mx_nodelaws::Exclusion;
@@ -17,7 +17,7 @@ fn started(alloc: Global) -> Result<Member<Ricart>, Fail> {
     if Ricart::nodes(&shape) == 0 {
         return Err("no such node")?;
     }
-    Ok(Member::start(alloc, &shape, me, 0, 10, 1))
+    Ok(Member::start(alloc, &shape, me, 0, 1000, 1))
 }
 
 /// A record by node 1.
@@ -30,8 +30,18 @@ fn theirs(number: u64, writes: &[(u8, u64)]) -> Record {
 /// Numbers of records by node 1, with their writes.
 type Theirs = &'static [(u64, &'static [(u8, u64)])];
 
+/// What another node sends.
+#[derive(Clone, Copy)]
+enum Sent {
+    Records(Theirs),
+    /// It asks for the sections 1 to 9.
+    Want,
+}
+
+use Sent::{Records, Want};
+
 /// A parcel of at most four such records.
-fn parcel_of(list: Theirs) -> Parcel<RicartMsg> {
+fn records_of(list: Theirs) -> Parcel<RicartMsg> {
     let mut records = ArrayVec::new();
     for (number, writes) in list {
         if !records.is_full() {
@@ -41,28 +51,47 @@ fn parcel_of(list: Theirs) -> Parcel<RicartMsg> {
     Parcel::Records(records)
 }
 
+/// The parcel that is sent.
+fn parcel_of(sent: Sent) -> Parcel<RicartMsg> {
+    match sent {
+        Records(list) => records_of(list),
+        Want => {
+            let mut ranges = ArrayVec::new();
+            ranges.push(Range { first: 1, last: 9 });
+            Parcel::Want(ranges)
+        }
+    }
+}
+
 /// Who sends, what, and what comes of it.
-const SENT: [(u8, Theirs, Result<(), DeliverFault>); 4] = [
-    (1, &[(1, &[(0, 5)])], Ok(())),
+const SENT: [(u8, Sent, Result<(), DeliverFault>); 5] = [
+    (1, Records(&[(1, &[(0, 5)])]), Ok(())),
     (
         1,
-        &[(2, &[]), (1, &[(0, 6)])],
+        Records(&[(2, &[]), (1, &[(0, 6)])]),
         Err(DeliverFault::Conflict(1)),
     ),
-    (1, &[(0, &[])], Err(DeliverFault::Conflict(0))),
-    (2, &[], Err(DeliverFault::Stranger)),
+    (1, Records(&[(0, &[])]), Err(DeliverFault::Conflict(0))),
+    (2, Records(&[]), Err(DeliverFault::Stranger)),
+    (2, Want, Err(DeliverFault::Stranger)),
 ];
 
-/// What a member answers to such a parcel.
-fn answer_to(member: &mut Member<Ricart>, from: u8, list: Theirs) -> Result<(), DeliverFault> {
+/// Whether a member answers such a parcel so, and sends nothing.
+fn answers(
+    member: &mut Member<Ricart>,
+    from: u8,
+    sent: Sent,
+    answer: &Result<(), DeliverFault>,
+) -> bool {
     let mut out = Outbox::new();
-    member.deliver(node(from % 21), parcel_of(list), &mut out)
+    let told = member.deliver(node(from % 21), parcel_of(sent), &mut out);
+    told == *answer && out.is_empty()
 }
 
 /// Whether a member answers each of these parcels so, and keeps what the first brought.
 fn refuses_forged(member: &mut Member<Ricart>) -> bool {
-    for (from, list, answer) in &SENT {
-        if answer_to(member, *from, *list) != *answer
+    for (from, sent, answer) in &SENT {
+        if !answers(member, *from, *sent, answer)
             || member.journal().len() != 1
             || member.value(0) != Some(5)
         {

@@ -1,34 +1,175 @@
-//! What is gathered of workers that settle.
+//! Five threads that count to one hundred by each algorithm, and settle after each tenth of their
+//! sections what their journals have without gaps: as workers, and by calls of their own.
 
 ghost use Rattle.std.specs.Prelude.{IfOk};
 ghost use Rattle.mx_stations.specs.Gathered.{KeepsTable, OfOneTable};
 
+use crate::given::{lists, node};
 use crate::working::Assembly;
 use mx_explorer::Weather;
+use mx_letters::Fates;
+use mx_maekawa::Maekawa;
+use mx_member::ReadFault;
+use mx_nodelaws::Exclusion;
+use mx_quorums::Quorums;
+use mx_raymond::Raymond;
 use mx_registers::view;
 use mx_ricart::{Count, Ricart};
-use mx_stations::{Field, Gathered, Script, Station, gather, work_settling};
+use mx_stations::{
+    Field, Gate, Gathered, Script, Station, TakeFault, TurnReport, gather, work_settling,
+};
+use mx_trees::Tree;
 use std::alloc::{AllocError, Global};
 use std::test::Fail;
 use std::thread;
-use std::thread::Threads;
+use std::thread::{Threads, yield_now};
 
-/// Counts 20 sections, and settles after each tenth, over links that lose and repeat.
-fn count_on(station: Station<Ricart>, gate: &Assembly) -> Station<Ricart>
+/// How many sections each node has.
+const SECTIONS: usize = 20;
+
+/// Whether a station has all its sections.
+fn has_all<C: Exclusion>(station: &Station<C>) -> bool {
+    station.receipts().len() == SECTIONS
+}
+
+/// Asks where sections are lacking.
+fn ask_if_due<C: Exclusion>(station: &mut Station<C>)
+    ensures { KeepsTable station.old station.new }
+{
+    if !has_all(station) {
+        let _ = station.ask();
+    }
+}
+
+/// Asks the next node in the circle for the records that are missing.
+fn want_next<C: Exclusion>(station: &mut Station<C>, wanted: &mut u8)
+    ensures { KeepsTable station.old station.new }
+{
+    let next = (*wanted % 21 + 1) % 5;
+    *wanted = next;
+    if next < station.nodes() {
+        station.want(node(next));
+    }
+}
+
+/// Writes a value and leaves. Whether it has left.
+fn leave<C: Exclusion>(station: &mut Station<C>, value: u64) -> bool
+    ensures { KeepsTable station.old station.new }
+{
+    let _ = station.write(0, value);
+    station.leave().is_ok()
+}
+
+/// Whether a section was left, and was a tenth of the station's.
+fn is_due<C: Exclusion>(station: &Station<C>, has_left: bool) -> bool {
+    has_left && station.receipts().len() % 10 == 0
+}
+
+/// Settles all that the journal has without gaps.
+fn settle<C: Exclusion>(station: &mut Station<C>)
+    ensures { KeepsTable station.old station.new }
+{
+    let upto = station.journal().gapless_to();
+    let _ = station.settle(upto);
+}
+
+/// Writes a value and leaves, and settles where it is time.
+fn end<C: Exclusion>(station: &mut Station<C>, value: u64)
+    ensures { KeepsTable station.old station.new }
+{
+    let has_left = leave(station, value);
+    if is_due(station, has_left) {
+        settle(station);
+    }
+}
+
+/// Adds 1 to the register where the station is inside and lacks no record, and leaves.
+fn count<C: Exclusion>(station: &mut Station<C>, wanted: &mut u8)
+    ensures { KeepsTable station.old station.new }
+{
+    match station.read(0) {
+        Ok(value) => end(station, value.wrapping_add(1)),
+        Err(ReadFault::Gap(_)) => want_next(station, wanted),
+        Err(_) => {}
+    }
+}
+
+/// Lets other threads run where nothing came.
+fn give_way(report: &Result<TurnReport, TakeFault>) {
+    if let Ok(TurnReport { taken: 0, .. }) = report {
+        yield_now();
+    }
+}
+
+/// What is due, and a turn of the station. An act that is not due is refused.
+fn take_turn<C: Exclusion, F: Fates>(station: &mut Station<C>, wanted: &mut u8, fates: &mut F)
+    ensures { KeepsTable station.old station.new }
+{
+    ask_if_due(station);
+    let _ = station.enter();
+    count(station, wanted);
+    let report = station.turn(fates);
+    give_way(&report);
+}
+
+/// Whether a station has all its sections, and all others have theirs too.
+fn may_stop<C: Exclusion>(station: &Station<C>, gate: &Assembly) -> bool {
+    has_all(station) && gate.done(station.node())
+}
+
+/// Links that lose and repeat.
+fn weather_of<C: Exclusion>(station: &Station<C>) -> Weather {
+    Weather::of(7 + u64::from(station.node().get()), 16, 16)
+}
+
+/// Counts at a station by calls of its own, until all nodes have counted.
+fn count_by_calls<C: Exclusion>(mut station: Station<C>, gate: &Assembly) -> Station<C>
+    ensures { KeepsTable station result }
+{
+    let me = station.node();
+    if !gate.arrive(me) {
+        return station;
+    }
+    let mut weather = weather_of(&station);
+    let mut wanted = me.get();
+    for _turn in 0..100_000_000 {
+        take_turn(&mut station, &mut wanted, &mut weather);
+        if may_stop(&station, gate) {
+            return station;
+        }
+    }
+    station
+}
+
+/// Counts at a station as a worker.
+fn count_as_worker<C: Exclusion>(station: Station<C>, gate: &Assembly) -> Station<C>
     ensures { KeepsTable station result }
 {
     let script = Script {
         register: 0,
-        sections: 20,
+        sections: SECTIONS as u64,
     };
-    let weather = Weather::of(7 + u64::from(station.node().get()), 16, 16);
+    let weather = weather_of(&station);
     work_settling(station, script, 10, gate, weather, 100_000_000).0
 }
 
-/// Gives each station to a thread of its own, and has them back when all threads have ended.
-fn in_threads<R: Threads + Sync>(
+/// Counts at a station in one of the two ways.
+fn count_on<C: Exclusion>(station: Station<C>, gate: &Assembly, by_calls: bool) -> Station<C>
+    ensures { KeepsTable station result }
+{
+    if by_calls {
+        count_by_calls(station, gate)
+    } else {
+        count_as_worker(station, gate)
+    }
+}
+
+/// Gives each station to a thread of its own, and has them back when all threads have ended. A type
+/// parameter would have to be one that threads may own.
+fn ricart_in_threads<R: Threads + Sync>(
     rt: &R,
     stations: Vec<Station<Ricart>>,
+    by_calls: bool,
 ) -> Result<Vec<Station<Ricart>>, AllocError>
     requires { OfOneTable stations.items }
     ensures { IfOk result (λ all. OfOneTable all.items) }
@@ -39,7 +180,47 @@ fn in_threads<R: Threads + Sync>(
         stations,
         &|station: Station<Ricart>| -> Station<Ricart>
             ensures { KeepsTable station result }
-        { count_on(station, &gate) },
+        { count_on(station, &gate, by_calls) },
+    )?;
+    Ok(back)
+}
+
+/// The same for stations by Maekawa's algorithm.
+fn maekawa_in_threads<R: Threads + Sync>(
+    rt: &R,
+    stations: Vec<Station<Maekawa>>,
+    by_calls: bool,
+) -> Result<Vec<Station<Maekawa>>, AllocError>
+    requires { OfOneTable stations.items }
+    ensures { IfOk result (λ all. OfOneTable all.items) }
+{
+    let gate = Assembly::new(5, 100_000_000);
+    let back = thread::map_vec(
+        rt,
+        stations,
+        &|station: Station<Maekawa>| -> Station<Maekawa>
+            ensures { KeepsTable station result }
+        { count_on(station, &gate, by_calls) },
+    )?;
+    Ok(back)
+}
+
+/// The same for stations by Raymond's algorithm.
+fn raymond_in_threads<R: Threads + Sync>(
+    rt: &R,
+    stations: Vec<Station<Raymond>>,
+    by_calls: bool,
+) -> Result<Vec<Station<Raymond>>, AllocError>
+    requires { OfOneTable stations.items }
+    ensures { IfOk result (λ all. OfOneTable all.items) }
+{
+    let gate = Assembly::new(5, 100_000_000);
+    let back = thread::map_vec(
+        rt,
+        stations,
+        &|station: Station<Raymond>| -> Station<Raymond>
+            ensures { KeepsTable station result }
+        { count_on(station, &gate, by_calls) },
     )?;
     Ok(back)
 }
@@ -56,7 +237,7 @@ fn is_settled(all: &Gathered) -> bool {
 
 /// What is gathered of stations. Section 100 is the twentieth of its node, which knows of all before it,
 /// since it read inside. So it has settled them all.
-fn is_counted(alloc: Global, stations: Vec<Station<Ricart>>) -> bool
+fn is_counted<C: Exclusion>(alloc: Global, stations: Vec<Station<C>>) -> bool
     requires { OfOneTable stations.items }
 {
     match gather(alloc, stations) {
@@ -65,11 +246,59 @@ fn is_counted(alloc: Global, stations: Vec<Station<Ricart>>) -> bool
     }
 }
 
-#[test]
-fn settling_workers_count_to_one_hundred(rt: HostRuntime) -> Result<(), Fail> {
+/// Whether five nodes count to one hundred by the algorithm of Ricart and Agrawala.
+fn is_counted_by_ricart<R: Threads + Sync>(
+    rt: &R,
+    alloc: Global,
+    by_calls: bool,
+) -> Result<bool, Fail> {
     let shape = Count::of(5).ok_or("count")?;
-    let stations = Field::<Ricart>::stations(rt.alloc(), &shape, 0, 1000, 1)?;
-    let back = in_threads(&rt, stations)?;
-    assert!(rt; is_counted(rt.alloc(), back));
+    let stations = Field::<Ricart>::stations(alloc, &shape, 0, 1000, 1)?;
+    Ok(is_counted(alloc, ricart_in_threads(rt, stations, by_calls)?))
+}
+
+#[test]
+fn settling_nodes_count_by_ricart(rt: HostRuntime) -> Result<(), Fail> {
+    for by_calls in [false, true] {
+        assert!(rt; is_counted_by_ricart(&rt, rt.alloc(), by_calls)?);
+    }
+    Ok(())
+}
+
+/// Whether they do by Maekawa's algorithm, each with all nodes as arbiters.
+fn is_counted_by_maekawa<R: Threads + Sync>(
+    rt: &R,
+    alloc: Global,
+    by_calls: bool,
+) -> Result<bool, Fail> {
+    let shape = Quorums::grid(1, 5)?;
+    let stations = Field::<Maekawa>::stations(alloc, &shape, 0, 1000, 1)?;
+    Ok(is_counted(alloc, maekawa_in_threads(rt, stations, by_calls)?))
+}
+
+#[test]
+fn settling_nodes_count_by_maekawa(rt: HostRuntime) -> Result<(), Fail> {
+    for by_calls in [false, true] {
+        assert!(rt; is_counted_by_maekawa(&rt, rt.alloc(), by_calls)?);
+    }
+    Ok(())
+}
+
+/// Whether they do by Raymond's algorithm, in a line.
+fn is_counted_by_raymond<R: Threads + Sync>(
+    rt: &R,
+    alloc: Global,
+    by_calls: bool,
+) -> Result<bool, Fail> {
+    let shape = Tree::of(5, &[(0, 1), (1, 2), (2, 3), (3, 4)], 0)?;
+    let stations = Field::<Raymond>::stations(alloc, &shape, 0, 1000, 1)?;
+    Ok(is_counted(alloc, raymond_in_threads(rt, stations, by_calls)?))
+}
+
+#[test]
+fn settling_nodes_count_by_raymond(rt: HostRuntime) -> Result<(), Fail> {
+    for by_calls in [false, true] {
+        assert!(rt; is_counted_by_raymond(&rt, rt.alloc(), by_calls)?);
+    }
     Ok(())
 }

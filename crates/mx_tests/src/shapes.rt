@@ -2,20 +2,11 @@
 
 ghost use Rattle.std.specs.Prelude.{◌<◌};
 
-use crate::given::node;
+use crate::given::{lists, node};
 use mx_quorums::{QuorumFault, Quorums};
 use mx_trees::{Tree, TreeFault};
 use std::alloc::{AllocError, Global};
 use std::test::Fail;
-
-/// Vectors of these lists.
-fn lists(alloc: Global, sets: &[&[u8]]) -> Result<Vec<Vec<u8>>, AllocError> {
-    let mut lists = Vec::new(alloc);
-    for set in sets {
-        lists.push(set.to_vec(alloc)?)?;
-    }
-    Ok(lists)
-}
 
 /// Node 0.
 const ALONE: &[u8] = &[0];
@@ -101,11 +92,27 @@ fn has_set(quorums: &Quorums, i: u8, members: &[u8]) -> bool
     true
 }
 
+/// Whether the sets of node 0 and of each of these nodes meet in the least node beside it.
+fn meets(quorums: &Quorums, pairs: &[(u8, u8)]) -> bool {
+    for (other, least) in pairs {
+        if !meets_in(quorums, *other, *least) {
+            return false;
+        }
+    }
+    true
+}
+
+/// Whether the sets of node 0 and of another node meet in this node.
+fn meets_in(quorums: &Quorums, other: u8, least: u8) -> bool {
+    other < quorums.nodes() && quorums.meeting(node(0), node(other)) == node(least % 21)
+}
+
 #[test]
 fn planes_and_grids_have_their_sets(rt: HostRuntime) -> Result<(), Fail> {
     let plane = Quorums::plane(13)?;
     assert!(rt; has_set(&plane, 0, &[0, 1, 3, 9]));
     assert!(rt; has_set(&plane, 1, &[1, 2, 4, 10]));
+    assert!(rt; meets(&plane, &[(1, 1), (2, 3), (4, 0)]));
     assert!(rt; has_set(&Quorums::grid(2, 2)?, 0, &[0, 1, 2]));
     Ok(())
 }

@@ -4,14 +4,22 @@ ghost use Rattle.std.specs.Prelude.{IfOk, IfSome, List, [], ◌∷◌, ◌++◌,
 ghost use Rattle.mx_stations.specs.Gathered.{KeepsTable};
 
 use crate::four_slots::takes_from_other;
-use mx_letters::{Fate, Fates};
+use mx_letters::{Fair, Fate, Fates};
 use mx_ricart::{Count, Ricart};
 use mx_stations::{Field, PutOut, Station, Taken, TurnReport};
 use std::alloc::Global;
 use std::test::Fail;
 
+/// The last of a list.
+pub(crate) fn last<T: Drop>(mut all: Vec<T>) -> Option<T>
+    ensures { IfSome result (λ one. (left : List T) × (all.items ≡ left ++ one ∷ [])) }
+{
+    let one = all.pop()?;
+    Some(one)
+}
+
 /// The last two of a list.
-fn last_two<T: Drop>(mut all: Vec<T>) -> Option<(T, T)>
+pub(crate) fn last_two<T: Drop>(mut all: Vec<T>) -> Option<(T, T)>
     ensures { IfSome result (λ both. (more : List T) × (left : List T)
         × (all.items ≡ more ++ both.1 ∷ []) × (more ≡ left ++ both.0 ∷ [])) }
 {
@@ -133,5 +141,59 @@ fn sixty_four_parcels_wait(rt: HostRuntime) -> Result<(), Fail> {
     let mut both = two(rt.alloc())?;
     let are_put = has_sixty_four(&mut both.0) && put_all(&mut both.0, &mut both.1) == 64;
     assert!(rt; are_put);
+    Ok(())
+}
+
+/// A report with which nothing comes to pass.
+const NONE: TurnReport = TurnReport { taken: 0, ..TAKEN };
+
+/// Turns of two nodes, of which node 0 has asked: it puts its request out, and ticks; node 1 takes it
+/// and puts out the reply; node 0 takes that and puts the request out again.
+const TURNS: [(u8, TurnReport); 3] = [
+    (
+        0,
+        TurnReport {
+            put: 1,
+            ticked: true,
+            ..NONE
+        },
+    ),
+    (1, TurnReport { put: 1, ..TAKEN }),
+    (0, TurnReport { put: 1, ..TAKEN }),
+];
+
+/// Whether a turn is told so.
+fn is_told(station: &mut Station<Ricart>, wanted: &TurnReport) -> bool {
+    match station.turn(&mut Fair) {
+        Ok(told) => told == *wanted,
+        Err(_) => false,
+    }
+}
+
+/// Whether these turns of two stations are told so.
+fn are_told(zero: &mut Station<Ricart>, one: &mut Station<Ricart>) -> bool {
+    for (node, wanted) in &TURNS {
+        let is_so = if *node == 0 {
+            is_told(zero, wanted)
+        } else {
+            is_told(one, wanted)
+        };
+        if !is_so {
+            return false;
+        }
+    }
+    true
+}
+
+/// Whether three turns are all that it takes until a node that asks may enter.
+fn enters_by_turns(zero: &mut Station<Ricart>, one: &mut Station<Ricart>) -> bool {
+    zero.ask().is_ok() && are_told(zero, one) && zero.enter() == Ok(1)
+}
+
+#[test]
+fn turns_tell_what_they_did(rt: HostRuntime) -> Result<(), Fail> {
+    let mut both = two(rt.alloc())?;
+    let has_entered = enters_by_turns(&mut both.0, &mut both.1);
+    assert!(rt; has_entered);
     Ok(())
 }

@@ -1,9 +1,11 @@
 //! Verdicts of short traces.
 
 use crate::given::node;
+use crate::runs::{READ_WAITS, event_of, started};
 use mx_explorer::{Clause, Verdict, judge};
 use mx_journal::Draft;
-use mx_network::{Cause, Entry, Event, Outcome};
+use mx_network::{Cause, Cluster, Entry, Event, Outcome};
+use mx_ricart::{Count, Ricart};
 use std::alloc::{AllocError, Global};
 use std::test::Fail;
 
@@ -19,11 +21,9 @@ enum Did {
     Refused(u8),
     /// An outcome that is not its event's.
     Mispaired(u8),
-    /// What is neither of a section nor of a register.
-    Ticked,
 }
 
-use Did::{Entered, Left, Mispaired, Refused, Ticked, Value, Woken, Written};
+use Did::{Entered, Left, Mispaired, Refused, Value, Woken, Written};
 
 /// The event, and what came of it.
 fn item(did: Did) -> Entry {
@@ -53,7 +53,6 @@ fn item(did: Did) -> Entry {
             )
         }
         Mispaired(index) => (Event::Tick(node(index % 21)), Outcome::Entered(9)),
-        Ticked => (Event::Tick(node(0)), Outcome::Sent(1)),
     };
     Entry { event, outcome }
 }
@@ -214,41 +213,6 @@ fn verdicts_on_short_traces(rt: HostRuntime) -> Result<(), Fail> {
     Ok(())
 }
 
-/// A trace of two nodes in which node 0 enters sections 1, 3 and 4, node 1 enters section 2, and the
-/// last section reads what the second wrote, before and after a write of its own.
-const FOUR_SECTIONS: [Did; 30] = [
-    Ticked,
-    Ticked,
-    Ticked,
-    Entered(0, 1),
-    Written(0, 0, 10),
-    Left(0, 1),
-    Ticked,
-    Ticked,
-    Ticked,
-    Entered(1, 2),
-    Written(1, 0, 20),
-    Left(1, 2),
-    Ticked,
-    Ticked,
-    Ticked,
-    Entered(0, 3),
-    Written(0, 1, 5),
-    Left(0, 3),
-    Ticked,
-    Ticked,
-    Ticked,
-    Entered(0, 4),
-    Refused(0),
-    Ticked,
-    Ticked,
-    Ticked,
-    Value(0, 0, 20),
-    Written(0, 0, 21),
-    Value(0, 0, 21),
-    Left(0, 4),
-];
-
 /// What is done to one item of a trace.
 #[derive(Clone, Copy)]
 enum Edit {
@@ -278,24 +242,57 @@ const EDITS: [(usize, Edit, Verdict); 7] = [
     ),
 ];
 
-/// The trace of the four sections with one item edited.
-fn edited(alloc: Global, place: usize, edit: Edit) -> Result<Vec<Entry>, AllocError> {
-    let mut trace = Vec::new(alloc);
-    for (index, did) in FOUR_SECTIONS.iter().enumerate() {
+/// A trace with one item edited.
+fn edited(
+    alloc: Global,
+    trace: &[Entry],
+    place: usize,
+    edit: Edit,
+) -> Result<Vec<Entry>, AllocError> {
+    let mut list = Vec::new(alloc);
+    for (index, entry) in trace.iter().enumerate() {
         match edit {
             Remove if index == place => {}
-            Become(other) if index == place => trace.push(item(other))?,
-            _ => trace.push(item(*did))?,
+            Become(other) if index == place => list.push(item(other))?,
+            _ => list.push(copied(entry))?,
         }
     }
-    Ok(trace)
+    Ok(list)
+}
+
+/// The same item.
+fn copied(entry: &Entry) -> Entry {
+    Entry {
+        event: entry.event,
+        outcome: entry.outcome.copy(),
+    }
+}
+
+/// Whether each edit of a trace gives its verdict.
+fn are_found(alloc: Global, trace: &[Entry]) -> Result<bool, AllocError> {
+    for (place, edit, verdict) in &EDITS {
+        if judge(edited(alloc, trace, *place, *edit)?.as_slice()) != *verdict {
+            return Ok(false);
+        }
+    }
+    Ok(true)
+}
+
+/// What two nodes do in four sections, of which the last reads what the second wrote, before and after
+/// a write of its own: 30 items.
+fn four_sections(alloc: Global) -> Result<Cluster<Ricart>, Fail> {
+    let shape = Count::of(2).ok_or("count")?;
+    let mut cluster = started(alloc, &shape, &READ_WAITS)?;
+    for step in READ_WAITS.steps {
+        cluster.advance(event_of(step))?;
+    }
+    Ok(cluster)
 }
 
 #[test]
 fn edited_trace_is_broken(rt: HostRuntime) -> Result<(), Fail> {
-    for (place, edit, verdict) in &EDITS {
-        let judged = judge(edited(rt.alloc(), *place, *edit)?.as_slice());
-        assert_eq!(rt; judged, *verdict, "{place}");
-    }
+    let cluster = four_sections(rt.alloc())?;
+    assert_eq!(rt; judge(cluster.trace()), Verdict::Sound);
+    assert!(rt; are_found(rt.alloc(), cluster.trace())?);
     Ok(())
 }

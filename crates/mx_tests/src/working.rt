@@ -146,8 +146,8 @@ fn workers_run_in_turn(rt: HostRuntime) -> Result<(), Fail> {
 
 /// A gate that is open.
 #[derive(Drop)]
-struct Open {
-    may_stop: bool,
+pub(crate) struct Open {
+    pub(crate) may_stop: bool,
 }
 
 impl Gate for Open {
@@ -160,32 +160,78 @@ impl Gate for Open {
     }
 }
 
-/// How the worker of the last of these nodes ends, which is to enter once. At the others nobody
-/// works.
-fn ending(alloc: Global, nodes: u8, may_stop: bool, turns: u64) -> Result<Option<Worked>, Fail> {
+/// Nodes, of which the first ones do nothing; whether the workers of the others may stop, how many turns
+/// they have, and how each of them ends.
+#[derive(Clone, Copy)]
+struct Ending {
+    nodes: u8,
+    unworked: u8,
+    may_stop: bool,
+    turns: u64,
+    worked: Worked,
+}
+
+const ENDINGS: [Ending; 4] = [
+    Ending {
+        nodes: 1,
+        unworked: 0,
+        may_stop: true,
+        turns: 10,
+        worked: Worked::Done,
+    },
+    Ending {
+        nodes: 1,
+        unworked: 0,
+        may_stop: false,
+        turns: 10,
+        worked: Worked::NotYet(10),
+    },
+    Ending {
+        nodes: 1,
+        unworked: 0,
+        may_stop: true,
+        turns: 0,
+        worked: Worked::NotYet(0),
+    },
+    Ending {
+        nodes: 3,
+        unworked: 1,
+        may_stop: true,
+        turns: 10_000,
+        worked: Worked::NotYet(10_000),
+    },
+];
+
+/// Whether the worker of a station, which is to enter once, ends so. Some do not begin.
+fn ends_so(station: Station<Ricart>, ending: &Ending) -> bool {
+    if station.node().get() < ending.unworked {
+        return true;
+    }
     let script = Script {
         register: 0,
         sections: 1,
     };
-    match stations_of(alloc, nodes)?.pop() {
-        Some(station) => Ok(Some(work(station, script, &Open { may_stop }, Fair, turns).1)),
-        None => Ok(None),
-    }
+    let gate = Open {
+        may_stop: ending.may_stop,
+    };
+    work(station, script, &gate, Fair, ending.turns).1 == ending.worked
 }
 
-/// How many nodes there are, whether the worker may stop, how many turns it has, and how it ends.
-const ENDINGS: [(u8, bool, u64, Worked); 4] = [
-    (1, true, 10, Worked::Done),
-    (1, false, 10, Worked::NotYet(10)),
-    (1, true, 0, Worked::NotYet(0)),
-    (3, true, 10_000, Worked::NotYet(10_000)),
-];
+/// Whether all workers end so, one after another.
+fn end_so(stations: Vec<Station<Ricart>>, ending: &Ending) -> bool {
+    for station in stations {
+        if !ends_so(station, ending) {
+            return false;
+        }
+    }
+    true
+}
 
 #[test]
 fn turns_run_out(rt: HostRuntime) -> Result<(), Fail> {
-    for (nodes, may_stop, turns, wanted) in &ENDINGS {
-        let ended = ending(rt.alloc(), *nodes, *may_stop, *turns)?;
-        assert_eq!(rt; ended, Some(*wanted));
+    for (k, ending) in ENDINGS.iter().enumerate() {
+        let stations = stations_of(rt.alloc(), ending.nodes)?;
+        assert!(rt; end_so(stations, ending), "ending {k}");
     }
     Ok(())
 }

@@ -18,6 +18,3 @@ returns-in-Enter c = act_kept ricart_core Enter c.enter.result c.args.station.no
 
 pub returns-in-TakeIn : goal.returns-in-TakeIn
 returns-in-TakeIn c = c.takes_from_other.ensures
-
-pub returns-in-Leave : goal.returns-in-Leave
-returns-in-Leave c = c.leaves.ensures
