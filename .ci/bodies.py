@@ -1,4 +1,4 @@
-"""The wrong bodies that a crate's page lists, and the copy of the crate in which they are tried."""
+"""The bodies that a crate's page lists, and the copy of the crate in which they are tried."""
 import os
 import re
 import shutil
@@ -13,32 +13,28 @@ class Body:
     name: str
     function: str = ""
     pairs: list = field(default_factory=list)
-
-
-def bodies_of(crate):
-    """The wrong bodies that the crate's page lists."""
-    found, file, old = [], None, None
-    with open(f"{crate.folder}/{PAGE}", encoding="utf-8") as page:
-        for line in page.read().split("\n"):
-            word, _, text = line.removeprefix("    ").partition(": ")
-            if line.startswith("## "):
-                found.append(Body(line[3:].strip()))
-            elif not line.startswith("    "):
-                continue
-            elif word == "function":
-                found[-1].function = text.strip()
-            elif word == "file":
-                file = text.strip()
-            elif word == "old":
-                old = text
-            elif word == "new":
-                found[-1].pairs.append((file, old, text))
-    return found
+    # The goals whose answers don't fit the body.
+    given_up: list = field(default_factory=list)
 
 
 def text_of(room, file):
     with open(f"{room}/{file}", encoding="utf-8") as it:
         return it.read()
+
+
+def bodies_of(crate):
+    """The bodies that the crate's page lists, none where it has no page."""
+    page = text_of(crate.folder, PAGE) if os.path.isfile(f"{crate.folder}/{PAGE}") else ""
+    found = []
+    for section in page.split("\n## ")[1:]:
+        found.append(Body(section.partition("\n")[0].strip()))
+        said = {}
+        for word, text in re.findall(r"^    (\w+): (.*)", section, re.MULTILINE):
+            said[word] = text
+            if word == "new":
+                found[-1].pairs.append((said["file"], said["old"], text))
+        found[-1].function = said.get("function", "")
+    return found
 
 
 def place_of(text, function, old):
@@ -60,10 +56,14 @@ def put_in(room, body):
         if place is None:
             return f"an old text stands in {file} {text.count(old)} times, and not once"
         texts[file] = text[:place] + new + text[place + len(old) :]
+    answers = f"proofs/{body.function.replace('::', '/')}/Answers.antt"
+    for goal in body.given_up if os.path.isfile(f"{room}/{answers}") else ():
+        own = rf"^pub {re.escape(goal)} :.*\n(?:(?:{re.escape(goal)}\b| +).*\n)*"
+        texts[answers] = re.sub(own, "", texts.get(answers) or text_of(room, answers), flags=re.MULTILINE)
     for file, text in texts.items():
         with open(f"{room}/{file}", "w", encoding="utf-8") as it:
             it.write(text)
-    return None if texts else "it has no pair of old and new"
+    return None if body.pairs else "it has no pair of old and new"
 
 
 def copy_sources(crate, room):
@@ -90,12 +90,6 @@ def types_in(room):
     return found
 
 
-def owner_of(header, types):
-    """The path of the type that an `impl` block is about, or None where it is one of a trait."""
-    found = re.match(r"impl(?:<.*?>)? (\w+)", header)
-    return types.get(found[1]) if found and " for " not in header else None
-
-
 def bodies_in(lines, module, types):
     """Each function of a formatted file that is no trait's: its path, and the lines at which its body opens and closes."""
     owner = module
@@ -109,8 +103,10 @@ def bodies_in(lines, module, types):
             if lines[opens].endswith("{"):
                 yield "::".join((*owner, found[2])), opens, lines.index(f"{edge}}}", opens)
         elif line.startswith("impl"):
-            header = next(it for it in range(at, len(lines)) if lines[it].endswith(("{", "}")))
-            owner = owner_of(" ".join(lines[at : header + 1]), types)
+            # (the type that the block is about, or none where it is one of a trait)
+            opens = next(it for it in range(at, len(lines)) if lines[it].endswith(("{", "}")))
+            header = " ".join(lines[at : opens + 1])
+            owner = None if " for " in header else types.get(re.match(r"impl(?:<.*?>)? (\w+)|", header)[1])
         elif line.endswith("{") and not line.startswith(" "):
             owner = None
 

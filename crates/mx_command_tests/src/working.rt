@@ -38,6 +38,7 @@ fn gate_of_a_live_run_holds(rt: HostRuntime) -> Result<(), Fail> {
     for worked in &ended {
         assert_eq!(rt; *worked, Worked::Done);
     }
+    // workers in one thread: this refuses the wrong body `workers_run_in_turn`, by a gate that stays shut
     let shut = Assembly::new(5, 1000);
     for station in stations_of(rt.alloc(), 5)? {
         assert_eq!(rt; work_at(station, &shut), Worked::GateShut);

@@ -2,6 +2,7 @@
 //! A line `call NAME` comes before such a call, and `back` after it. Where it answered that memory
 //! ran out, what has to stand is looked at, `refused NAME` is told, and the call is made again,
 //! which has to succeed. Whatever else comes ends the program with status 1.
+//! The file `stdout`, in which no call is refused, refuses the wrong body `always_out_of_memory`.
 #![tactic(auto)]
 
 mod clusters;

@@ -126,7 +126,7 @@ fn gate_holds_until_all_arrive(rt: HostRuntime) -> Result<(), Fail> {
     Ok(())
 }
 
-/// Whether the gate of five workers stays shut for each of them, who run one after another.
+/// Whether the gate stays shut for each of five workers in turn, which refuses the wrong body `workers_run_in_turn`.
 fn is_shut_for_all(stations: Vec<Station<Ricart>>) -> bool {
     let gate = Assembly::new(5, 1000);
     for station in stations {
