@@ -58,7 +58,7 @@ def put_in(room, body):
         texts[file] = text[:place] + new + text[place + len(old) :]
     answers = f"proofs/{body.function.replace('::', '/')}/Answers.antt"
     for goal in body.given_up if os.path.isfile(f"{room}/{answers}") else ():
-        own = rf"^pub {re.escape(goal)} :.*\n(?:(?:{re.escape(goal)}\b| +).*\n)*"
+        own = rf"^pub {re.escape(goal)} :.*\n(?:.+\n)*"
         texts[answers] = re.sub(own, "", texts.get(answers) or text_of(room, answers), flags=re.MULTILINE)
     for file, text in texts.items():
         with open(f"{room}/{file}", "w", encoding="utf-8") as it:
