@@ -38,6 +38,8 @@ mod station_calls;
 #[cfg(test)]
 mod stations;
 #[cfg(test)]
+mod steps;
+#[cfg(test)]
 mod texts;
 #[cfg(test)]
 mod verdicts;

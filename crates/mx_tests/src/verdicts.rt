@@ -1,7 +1,8 @@
 //! Verdicts of short traces.
 
 use crate::given::node;
-use crate::runs::{READ_WAITS, event_of, started};
+use crate::runs::{event_of, started};
+use crate::steps::READ_WAITS;
 use mx_explorer::{Clause, Verdict, judge};
 use mx_journal::Draft;
 use mx_network::{Cause, Cluster, Entry, Event, Outcome};
