@@ -1,6 +1,6 @@
 //! `live`, from words to what it prints.
 
-use mx_commands::Table;
+use mx_io::Table;
 use mx_live::live;
 use std::alloc::Global;
 use std::rt::Clock;

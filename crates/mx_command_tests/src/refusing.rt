@@ -1,6 +1,7 @@
 //! Outputs that refuse.
 
-use mx_commands::{Output, PutFault, Table, command};
+use mx_commands::command;
+use mx_io::{Output, PutFault, Table};
 use mx_live::live;
 use std::alloc::Global;
 use std::rt::Clock;

@@ -8,24 +8,24 @@ use Rattle.clap.specs.Faults.{fault_of}
 use Rattle.clap.specs.Kinds.{HasKind}
 use Rattle.clap.specs.declared.error.Error.{Error}
 use Rattle.clap.specs.declared.error.kind.ErrorKind.TheVariants.{OutOfMemory}
-use Rattle.mx_words.specs.Words.{Task, mx_app, task_asked}
-use Rattle.mx_words.proofs.WordLemmas.{no_task_among}
+use Rattle.mx_cli.specs.Words.{Task, mx_app, task_asked}
+use Rattle.mx_cli.proofs.WordLemmas.{no_task_among}
 use Rattle.mx_plan.specs.Text.{Text}
-use Rattle.mx_stops.specs.declared.faults.Fault.{Fault}
-use Rattle.mx_stops.specs.declared.faults.Stop.{Stop}
-use Rattle.mx_stops.specs.declared.faults.Stop.TheVariants as stop
+use Rattle.mx_cli.specs.declared.faults.Fault.{Fault}
+use Rattle.mx_cli.specs.declared.faults.Stop.{Stop}
+use Rattle.mx_cli.specs.declared.faults.Stop.TheVariants as stop
 use Rattle.mx_io.specs.declared.output.PutFault.{PutFault}
 use Rattle.mx_io.specs.declared.output.PutFault.TheVariants as put_fault
-use Rattle.mx_stops.specs.FaultLines.{fault_line}
+use Rattle.mx_cli.specs.FaultLines.{fault_line}
 use Rattle.mx_io.specs.Told.{Telling}
 use Rattle.mx_io.specs.Outputs.{Held}
-use Rattle.mx_stops.specs.Outputs.{AppendsSome, IsPassedOn, refused_after, stop_of}
+use Rattle.mx_cli.specs.Outputs.{AppendsSome, IsPassedOn, refused_after, stop_of}
 use Rattle.mx_commands.specs.Runs.{Report}
 use Rattle.mx_commands.specs.Jobs.{HoldsOfReport, Job, job_of, names_in}
 use Rattle.mx_commands.specs.Ran.{EndsEarly, FailsAtOnce, IsRunStatus, Prints, Ran, RanOf, Runs, end_text, status_of}
-use Rattle.mx_stops.specs.Told.{MayTell, Seen, TellsFault}
+use Rattle.mx_cli.specs.Told.{MayTell, Seen, TellsFault}
 use Rattle.mx_commands.proofs.JobLemmas.{of_jobs}
-use Rattle.mx_stops.proofs.OutputLemmas.{Appends-keeps, Appends-nil, Keeps-refl, all_some, some_keeps}
+use Rattle.mx_cli.proofs.OutputLemmas.{Appends-keeps, Appends-nil, Keeps-refl, all_some, some_keeps}
 use Rattle.mx_commands.proofs.RunLemmas.{is_false, refused_not_memory}
 
 -- ---- the flush

@@ -5,23 +5,23 @@ use Rattle.std.specs.List.{after_first, before_first}
 use Rattle.std.specs.Option.{option_map_or}
 use Rattle.std.specs.Io.KnownBytes.{Keeps}
 use Rattle.std.specs.declared.alloc.Global.{Global}
-use Rattle.mx_words.specs.Words as task
+use Rattle.mx_cli.specs.Words as task
 use Rattle.mx_plan.specs.Text.{Text}
 use Rattle.mx_plan.specs.Fields.{Fields}
 use Rattle.mx_plan.specs.declared.faults.PlanFault.{PlanFault}
 use Rattle.mx_plan.specs.declared.faults.PlanFault.TheVariants as plan_fault
-use Rattle.mx_stops.specs.declared.faults.Fault.{Fault}
-use Rattle.mx_stops.specs.declared.faults.Fault.TheVariants.{CannotRead}
-use Rattle.mx_stops.specs.declared.faults.Named.TheVariants as named
-use Rattle.mx_stops.specs.declared.faults.Stop.{Stop}
-use Rattle.mx_stops.specs.declared.faults.Stop.TheVariants as stop
+use Rattle.mx_cli.specs.declared.faults.Fault.{Fault}
+use Rattle.mx_cli.specs.declared.faults.Fault.TheVariants.{CannotRead}
+use Rattle.mx_cli.specs.declared.faults.Named.TheVariants as named
+use Rattle.mx_cli.specs.declared.faults.Stop.{Stop}
+use Rattle.mx_cli.specs.declared.faults.Stop.TheVariants as stop
 use Rattle.mx_io.specs.Told.{Telling}
 use Rattle.mx_commands.specs.Runs.{Report, ends_with, whole}
 use Rattle.mx_commands.specs.Jobs.{HoldsOfPlan, HoldsOfReport, Job, on_events, on_plan, replay_one, replay_two, report_of, report_of_events, where_read}
-use Rattle.mx_stops.specs.Reading.{fault_of, Fetches, is_dash, Reads, refusal_of}
+use Rattle.mx_cli.specs.Reading.{fault_of, Fetches, is_dash, Reads, refusal_of}
 use Rattle.mx_io.specs.Outputs.{Held}
 use Rattle.mx_commands.specs.Ran.{EndsEarly, Ran, RanOn, RanOf}
-use Rattle.mx_stops.proofs.OutputLemmas.{Appends-nil, none_some, Keeps-refl}
+use Rattle.mx_cli.proofs.OutputLemmas.{Appends-nil, none_some, Keeps-refl}
 
 -- a run that ends before any event
 pub ran_at_once : (t : Bool) (a : Held) (f : Fault) → Ran t a a (ends_with (Some f)) (Err (stop.Fault f))

@@ -14,23 +14,23 @@ use Rattle.mx_member.specs.Steps.{start_of}
 use Rattle.mx_network.specs.Step.{ClusterState, step_of, at_part, at_member, part_of, grown, answer_of, IsFaultOf, NamesNoNode}
 use Rattle.mx_events.specs.declared.event.Event.{Event}
 use Rattle.mx_events.specs.declared.event.Event.TheVariants as event
-use Rattle.mx_traces.specs.declared.outcome.Outcome.{Outcome}
+use Rattle.mx_sections.specs.declared.outcome.Outcome.{Outcome}
 use Rattle.mx_network.specs.declared.faults.StepFault.{StepFault}
 use Rattle.mx_network.specs.declared.faults.StepFault.TheVariants as step_fault
 use Rattle.mx_plan.specs.Text.{Text}
 use Rattle.mx_plan.specs.Fields.{Fields}
-use Rattle.mx_stops.specs.declared.faults.Stop.{Stop}
-use Rattle.mx_stops.specs.declared.faults.Stop.TheVariants as stop
-use Rattle.mx_stops.specs.declared.faults.Fault.{Fault}
-use Rattle.mx_stops.specs.declared.faults.Fault.TheVariants.{NoParcel}
+use Rattle.mx_cli.specs.declared.faults.Stop.{Stop}
+use Rattle.mx_cli.specs.declared.faults.Stop.TheVariants as stop
+use Rattle.mx_cli.specs.declared.faults.Fault.{Fault}
+use Rattle.mx_cli.specs.declared.faults.Fault.TheVariants.{NoParcel}
 use Rattle.mx_io.specs.declared.output.PutFault.{PutFault}
 use Rattle.mx_io.specs.declared.output.PutFault.TheVariants as put_fault
 use Rattle.mx_texts.specs.EventTexts.{event_line}
 use Rattle.mx_texts.specs.ParcelTexts.{parcel_lines}
-use Rattle.mx_stops.proofs.OutputLemmas.{some_keeps}
+use Rattle.mx_cli.proofs.OutputLemmas.{some_keeps}
 use Rattle.mx_commands.specs.Runs.{Report, at_rest, after_texts, closing_text, whole, ends_with, event_lines, text_of, stepped, run_from, NamesNodes, AllNameNodes}
 use Rattle.mx_io.specs.Outputs.{Held, refused_by}
-use Rattle.mx_stops.specs.Outputs.{AppendsSome, refused_after, stop_of}
+use Rattle.mx_cli.specs.Outputs.{AppendsSome, refused_after, stop_of}
 use Rattle.mx_commands.specs.Ran.{Ran, StopsAt}
 
 -- ---- one event

@@ -8,9 +8,9 @@ use Rattle.mx_raymond.specs.Step.{raymond_core}
 use Rattle.mx_network.specs.Step.{ClusterState, step_of}
 use Rattle.mx_events.specs.declared.event.Event.{Event}
 use Rattle.mx_network.specs.declared.faults.StepFault.{StepFault}
-use Rattle.mx_traces.specs.declared.outcome.Entry.{Entry}
-use Rattle.mx_traces.specs.declared.outcome.Outcome.{Outcome}
-use Rattle.mx_traces.specs.declared.outcome.Outcome.TheVariants.{Entered}
+use Rattle.mx_sections.specs.declared.outcome.Entry.{Entry}
+use Rattle.mx_sections.specs.declared.outcome.Outcome.{Outcome}
+use Rattle.mx_sections.specs.declared.outcome.Outcome.TheVariants.{Entered}
 use Rattle.mx_explorer.specs.Drawn.{drawn_list}
 use Rattle.mx_explorer.specs.Place.{place_of}
 use Rattle.mx_explorer.specs.Weather.{generator_of}

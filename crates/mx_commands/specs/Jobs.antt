@@ -1,7 +1,7 @@
 -- What the words ask for, over what a source tells: the plan, and the report of a plan.
 use Rattle.std.specs.Prelude.{ℕ, List, Option, Some, None, Result, Ok, Err, if◌then◌else◌, ◌==◌, ◌&&◌, IfSome, option_map}
 use Rattle.std.specs.List.{before_first, after_first}
-use Rattle.mx_words.specs.Words.{Task, check, replay, explore}
+use Rattle.mx_cli.specs.Words.{Task, check, replay, explore}
 use Rattle.mx_ricart.specs.Step.{ricart_core}
 use Rattle.mx_maekawa.specs.Step.{maekawa_core}
 use Rattle.mx_raymond.specs.Step.{raymond_core}
@@ -14,9 +14,9 @@ use Rattle.mx_plan.specs.declared.shape.Shape.{Shape}
 use Rattle.mx_plan.specs.declared.shape.Shape.TheVariants.{Ricart, Maekawa, Raymond}
 use Rattle.mx_texts.specs.LetterTexts.{ricart_text, maekawa_text, raymond_text}
 use Rattle.mx_texts.specs.PlanTexts.{plan_text}
-use Rattle.mx_stops.specs.declared.faults.Fault.TheVariants.{CannotRead}
-use Rattle.mx_stops.specs.declared.faults.Named.TheVariants.{Plan, Events}
-use Rattle.mx_stops.specs.Reading.{fault_of, is_dash, IsRead}
+use Rattle.mx_cli.specs.declared.faults.Fault.TheVariants.{CannotRead}
+use Rattle.mx_cli.specs.declared.faults.Named.TheVariants.{Plan, Events}
+use Rattle.mx_cli.specs.Reading.{fault_of, is_dash, IsRead}
 use Rattle.mx_commands.specs.Explored.{explored_text}
 use Rattle.mx_commands.specs.Runs.{Report, at_rest, ends_with, run_from, whole}
 use Rattle.mx_io.specs.Told.{Telling}

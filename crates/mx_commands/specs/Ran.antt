@@ -2,21 +2,21 @@
 use Rattle.std.specs.Prelude.{◌≡◌, ◌⊎◌, ℕ, [], Bool, false, Option, Some, None, ⊤, Result, Ok, Err, IfSome}
 use Rattle.std.specs.Io.KnownBytes.{Appends, Keeps}
 use Rattle.std.specs.List.{concat}
-use Rattle.mx_words.specs.Words.{Task}
+use Rattle.mx_cli.specs.Words.{Task}
 use Rattle.mx_network.specs.declared.faults.StepFault.{StepFault}
 use Rattle.mx_network.specs.declared.faults.StepFault.TheVariants as step_fault
 use Rattle.mx_plan.specs.Text.{Text}
 use Rattle.mx_explorer.specs.declared.verdict.Verdict.{Verdict}
 use Rattle.mx_explorer.specs.declared.verdict.Verdict.TheVariants.{Sound, Broken}
-use Rattle.mx_stops.specs.declared.faults.Fault.{Fault}
-use Rattle.mx_stops.specs.declared.faults.Fault.TheVariants.{NoParcel}
-use Rattle.mx_stops.specs.declared.faults.Stop.{Stop}
-use Rattle.mx_stops.specs.declared.faults.Stop.TheVariants as stop
+use Rattle.mx_cli.specs.declared.faults.Fault.{Fault}
+use Rattle.mx_cli.specs.declared.faults.Fault.TheVariants.{NoParcel}
+use Rattle.mx_cli.specs.declared.faults.Stop.{Stop}
+use Rattle.mx_cli.specs.declared.faults.Stop.TheVariants as stop
 use Rattle.mx_io.specs.Told.{Telling}
 use Rattle.mx_io.specs.Outputs.{Held}
-use Rattle.mx_stops.specs.Outputs.{AppendsSome}
-use Rattle.mx_stops.specs.FaultLines.{fault_line}
-use Rattle.mx_stops.specs.Told.{Seen, MayTell}
+use Rattle.mx_cli.specs.Outputs.{AppendsSome}
+use Rattle.mx_cli.specs.FaultLines.{fault_line}
+use Rattle.mx_cli.specs.Told.{Seen, MayTell}
 use Rattle.mx_commands.specs.Runs.{Report}
 use Rattle.mx_commands.specs.Jobs.{Job, HoldsOfReport, job_of, names_in}
 

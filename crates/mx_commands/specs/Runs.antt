@@ -7,11 +7,11 @@ use Rattle.mx_network.specs.Step.{ClusterState, step_of}
 use Rattle.mx_events.specs.declared.event.Event.{Event}
 use Rattle.mx_events.specs.declared.event.Event.TheVariants.{Ask, Enter, Read, Write, Leave, Cancel, Tick, Want, Settle, Restart, Deliver}
 use Rattle.mx_network.specs.declared.faults.StepFault.{StepFault}
-use Rattle.mx_traces.specs.declared.outcome.Entry.{Entry}
+use Rattle.mx_sections.specs.declared.outcome.Entry.{Entry}
 use Rattle.mx_plan.specs.Text.{Text}
 use Rattle.mx_plan.specs.Fields.{Fields}
-use Rattle.mx_stops.specs.declared.faults.Fault.{Fault}
-use Rattle.mx_stops.specs.declared.faults.Fault.TheVariants.{NoParcel}
+use Rattle.mx_cli.specs.declared.faults.Fault.{Fault}
+use Rattle.mx_cli.specs.declared.faults.Fault.TheVariants.{NoParcel}
 use Rattle.mx_texts.specs.EventTexts.{event_line}
 use Rattle.mx_texts.specs.Lines.{texts_from}
 use Rattle.mx_texts.specs.ParcelTexts.{parcel_lines}

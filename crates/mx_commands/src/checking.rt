@@ -1,15 +1,15 @@
 //! `check`: what a plan says of its cluster.
 
 ghost use Rattle.std.specs.Prelude.{◌≡◌, IfOk};
-ghost use Rattle.mx_words.specs.Words as task;
+ghost use Rattle.mx_cli.specs.Words as task;
 ghost use Rattle.mx_texts.specs.PlanTexts.{plan_text};
-ghost use Rattle.mx_stops.specs.Outputs.{refused_after};
+ghost use Rattle.mx_cli.specs.Outputs.{refused_after};
 ghost use Rattle.mx_commands.specs.Runs.{whole};
 ghost use Rattle.mx_commands.specs.Ran.{Ran, RanOf};
 
+use mx_cli::{Stop, fetch_plan};
 use mx_io::{Output, Source};
 use mx_plan::Plan;
-use mx_stops::{Stop, fetch_plan};
 use mx_texts::add_plan;
 use std::alloc::Global;
 

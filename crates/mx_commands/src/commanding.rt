@@ -1,18 +1,17 @@
 //! The command: from words, named bytes and two outputs to a status.
 
 ghost use Rattle.std.specs.Prelude.{◌≡◌, ◌&&◌, Err, IsSome, IfSome, IfOk};
-ghost use Rattle.mx_words.specs.Words.{texts_of, names_of, task_asked, task_of, AreWrong, AskHelp, mx_app};
-ghost use Rattle.mx_stops.specs.Outputs.{IsPassedOn, refused_after};
+ghost use Rattle.mx_cli.specs.Words.{texts_of, names_of, task_asked, task_of, AreWrong, AskHelp, mx_app};
+ghost use Rattle.mx_cli.specs.Outputs.{IsPassedOn, refused_after};
 ghost use Rattle.mx_commands.specs.Jobs.{names_in};
 ghost use Rattle.mx_commands.specs.Ran.{RanOf, Runs, IsRunStatus};
-ghost use Rattle.mx_stops.specs.Told.{Helps, Scolds, seen};
+ghost use Rattle.mx_cli.specs.Told.{Helps, Scolds, seen};
 
 use crate::checking::check;
 use crate::exploring::explore;
 use crate::replaying::replay;
+use mx_cli::{Names, Request, Stop, asked, is_refused, refuse, tell, tell_memory};
 use mx_io::{Output, Source};
-use mx_stops::{Stop, is_refused, refuse, tell, tell_memory};
-use mx_words::{Names, Request, asked};
 use std::alloc::Global;
 
 /// Runs the words of a command line, without the program's name, and answers the status: 0 where

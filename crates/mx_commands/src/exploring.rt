@@ -2,8 +2,8 @@
 
 ghost use Rattle.std.specs.Prelude.{◌≡◌, ◌+◌, ◌<◌, ◌++◌, length, string_bytes, IfOk, OnOk};
 ghost use Rattle.std.specs.List.{count_by};
-ghost use Rattle.mx_words.specs.Words as task;
-ghost use Rattle.mx_stops.specs.Outputs.{refused_after};
+ghost use Rattle.mx_cli.specs.Words as task;
+ghost use Rattle.mx_cli.specs.Outputs.{refused_after};
 ghost use Rattle.mx_commands.specs.Runs.{whole};
 ghost use Rattle.mx_commands.specs.Explored.{after_drawn, after_placed, explored_text, is_entry, or_stay, summary_by, summary_text};
 ghost use Rattle.mx_explorer.specs.Place.{place_of};
@@ -13,6 +13,7 @@ ghost use Rattle.mx_commands.specs.Ran.{Ran, RanOf, verdict_status};
 use crate::checking::print;
 use crate::running::start;
 use crate::verdicts::{VerdictLine, verdict_status};
+use mx_cli::{Exploration, Stop, fetch_plan};
 use mx_explorer::{Verdict, judge, place, schedule};
 use mx_io::{Output, Source};
 use mx_maekawa::Maekawa;
@@ -21,9 +22,7 @@ use mx_nodelaws::Exclusion;
 use mx_plan::{Plan, Shape};
 use mx_raymond::Raymond;
 use mx_ricart::Ricart;
-use mx_stops::{Stop, fetch_plan};
 use mx_texts::ExploredLine;
-use mx_words::Exploration;
 use std::alloc::{AllocError, Global};
 
 /// Reads a plan, draws a schedule of this many steps, does its events, and prints the counts

@@ -12,10 +12,5 @@ mod verdicts;
 pub use checking::print;
 pub use commanding::{carry_out, command, names_in};
 pub use exploring::{entries_in, happen};
-pub use mx_io::{Output, PutFault, Source, SourceFault, Table};
-pub use mx_stops::{
-    Fault, FaultLine, Named, Stop, are_dashes, close, fetch, fetch_plan, plan_in, put_line, refuse,
-    split_line, tell_memory,
-};
 pub use running::start;
 pub use verdicts::{VerdictLine, verdict_status};

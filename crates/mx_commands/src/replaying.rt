@@ -1,23 +1,22 @@
 //! `replay`: the plan is read, then the events, and they happen one after another.
 
 ghost use Rattle.std.specs.Prelude.{◌≡◌, length, Some, IfOk, IfSome};
-ghost use Rattle.mx_words.specs.Words.{names_of};
-ghost use Rattle.mx_words.specs.Words as task;
-ghost use Rattle.mx_stops.specs.Outputs.{refused_after};
+ghost use Rattle.mx_cli.specs.Words.{names_of};
+ghost use Rattle.mx_cli.specs.Words as task;
+ghost use Rattle.mx_cli.specs.Outputs.{refused_after};
 ghost use Rattle.mx_commands.specs.Jobs.{on_events, report_of_events};
 ghost use Rattle.mx_commands.specs.Jobs as job;
 ghost use Rattle.mx_commands.specs.Ran.{Ran, RanOf, RanOn};
 ghost use Rattle.mx_commands.specs.Runs.{AllNameNodes};
 
 use crate::running::{run, start};
+use mx_cli::{Named, Names, Stop, are_dashes, fetch, fetch_plan, plan_in, split_line};
 use mx_io::{Output, Source};
 use mx_maekawa::Maekawa;
 use mx_network::Event;
 use mx_plan::{Plan, Shape, read_events};
 use mx_raymond::Raymond;
 use mx_ricart::Ricart;
-use mx_stops::{Named, Stop, are_dashes, fetch, fetch_plan, plan_in, split_line};
-use mx_words::Names;
 use std::alloc::Global;
 
 /// Reads the plan, then the events, and replays them. Answers the status.

@@ -2,18 +2,18 @@
 
 ghost use Rattle.std.specs.Prelude.{◌≡◌, [], ◌++◌, length, string_bytes, OnOk, IfOk, IfErr};
 ghost use Rattle.mx_network.specs.Step.{step_of};
-ghost use Rattle.mx_stops.specs.Outputs.{refused_after};
+ghost use Rattle.mx_cli.specs.Outputs.{refused_after};
 ghost use Rattle.mx_commands.specs.Runs.{NamesNodes, AllNameNodes, at_rest, closing_text, run_from, text_of};
 ghost use Rattle.mx_commands.specs.Ran.{Ran, StopsAt};
 
 use crate::cluster_lines::{add_nodes, add_parcels};
 use crate::verdicts::{VerdictLine, verdict_status};
+use mx_cli::{Fault, Stop};
 use mx_explorer::{Verdict, judge};
 use mx_io::Output;
 use mx_network::{Cluster, Event, StepFault};
 use mx_nodelaws::Exclusion;
 use mx_plan::Plan;
-use mx_stops::{Fault, Stop};
 use mx_texts::{EventLine, Letter};
 use std::alloc::{AllocError, Global};
 

@@ -9,12 +9,12 @@ use Rattle.clap.specs.declared.error.kind.ErrorKind.TheVariants.{OutOfMemory}
 use Rattle.mx_count.specs.CountWords.{Wanted, count_line, order_asked}
 use Rattle.mx_count.specs.Printed.{PrintsCounts}
 use Rattle.mx_count.proofs.CountWordLemmas.{no_order_among}
-use Rattle.mx_stops.specs.declared.faults.Stop.{Stop}
-use Rattle.mx_stops.specs.declared.faults.Stop.TheVariants as stop
-use Rattle.mx_stops.specs.Closed.{Closes, FallsShort}
+use Rattle.mx_cli.specs.declared.faults.Stop.{Stop}
+use Rattle.mx_cli.specs.declared.faults.Stop.TheVariants as stop
+use Rattle.mx_cli.specs.Closed.{Closes, FallsShort}
 use Rattle.mx_io.specs.Outputs.{Held}
 use Rattle.mx_commands.specs.Ran.{IsRunStatus}
-use Rattle.mx_stops.specs.Told.{MayTell, Seen}
+use Rattle.mx_cli.specs.Told.{MayTell, Seen}
 use Rattle.mx_io.specs.Told.{Telling}
 
 not_five : (status : ℕ) → status ≡ 5 → status ≡ 0 → ⊥

@@ -7,15 +7,15 @@ use Rattle.mx_events.specs.declared.event.Event.{Event}
 use Rattle.mx_plan.specs.Text.{Text}
 use Rattle.mx_plan.specs.Fields.{Fields}
 use Rattle.mx_plan.specs.Events.{events_at}
-use Rattle.mx_stops.specs.declared.faults.Named.TheVariants.{Plan}
+use Rattle.mx_cli.specs.declared.faults.Named.TheVariants.{Plan}
 use Rattle.mx_commands.specs.Explored.{schedule_of}
-use Rattle.mx_stops.specs.Reading.{Fetches, is_dash, Reads}
+use Rattle.mx_cli.specs.Reading.{Fetches, is_dash, Reads}
 use Rattle.mx_io.specs.Outputs.{Held}
 use Rattle.mx_io.specs.Told.{Telling}
-use Rattle.mx_stops.proofs.OutputLemmas.{Appends-keeps}
-use Rattle.mx_tallies.specs.Listed.{AreEventsOf, PrintsCountsOf, PrintsListed, PrintsSplit, PrintsTold}
-use Rattle.mx_tallies.specs.declared.running.Course.{Course}
-use Rattle.mx_tallies.specs.declared.running.Course.TheVariants.{Drawn}
+use Rattle.mx_cli.proofs.OutputLemmas.{Appends-keeps}
+use Rattle.mx_count.specs.Listed.{AreEventsOf, PrintsCountsOf, PrintsListed, PrintsSplit, PrintsTold}
+use Rattle.mx_count.specs.declared.running.Course.{Course}
+use Rattle.mx_count.specs.declared.running.Course.TheVariants.{Drawn}
 use Rattle.mx_count.specs.CountWords.{Wanted, given, drawn}
 use Rattle.mx_count.specs.Printed.{IsPlanOf, PrintsCounts, course_of, events_told, plan_told}
 

@@ -2,7 +2,7 @@
 use Rattle.std.specs.Prelude.{ℕ, List, Option, Some, None, codes, if◌then◌else◌, option_map}
 use Rattle.std.specs.Str.{bytes_eq}
 use Rattle.clap.specs.Words.{App, Row, Rule, Text, new_app, with_rule, with_subcommand}
-use Rattle.mx_words.specs.Words.{asked_of, events_rule, exploration_at, explore_app, flag_rule, line_with, names_at, names_of, plan_rule}
+use Rattle.mx_cli.specs.Words.{asked_of, events_rule, exploration_at, explore_app, flag_rule, line_with, names_at, names_of, plan_rule}
 use Rattle.mx_count.specs.declared.words.Order.{Order}
 use Rattle.mx_count.specs.declared.words.Order.TheVariants.{Given, Drawn}
 

@@ -5,12 +5,12 @@ use Rattle.mx_events.specs.declared.event.Event.{Event}
 use Rattle.mx_plan.specs.Text.{Text}
 use Rattle.mx_plan.specs.Fields.{Fields}
 use Rattle.mx_commands.specs.Explored.{schedule_of}
-use Rattle.mx_stops.specs.Reading.{is_dash, Reads}
+use Rattle.mx_cli.specs.Reading.{is_dash, Reads}
 use Rattle.mx_io.specs.Outputs.{Held}
 use Rattle.mx_io.specs.Told.{Telling}
-use Rattle.mx_tallies.specs.Listed.{AreEventsOf, PrintsCountsOf}
-use Rattle.mx_tallies.specs.declared.running.Course.{Course}
-use Rattle.mx_tallies.specs.declared.running.Course.TheVariants.{Given, Drawn}
+use Rattle.mx_count.specs.Listed.{AreEventsOf, PrintsCountsOf}
+use Rattle.mx_count.specs.declared.running.Course.{Course}
+use Rattle.mx_count.specs.declared.running.Course.TheVariants.{Given, Drawn}
 use Rattle.mx_count.specs.CountWords.{Wanted, given, drawn}
 
 -- what is told of the plan of two names: where both are one text, what stands before its first line feed

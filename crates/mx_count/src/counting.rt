@@ -1,17 +1,17 @@
 //! `count`: from words, named bytes and two outputs to a status.
 
 ghost use Rattle.std.specs.Prelude.{◌≡◌, IsSome, IfSome, IfOk};
-ghost use Rattle.mx_words.specs.Words.{names_of, texts_of, AreWrong, AskHelp};
-ghost use Rattle.mx_stops.specs.Told.{Helps, Scolds, seen};
+ghost use Rattle.mx_cli.specs.Words.{names_of, texts_of, AreWrong, AskHelp};
+ghost use Rattle.mx_cli.specs.Told.{Helps, Scolds, seen};
 ghost use Rattle.mx_commands.specs.Ran.{IsRunStatus};
 ghost use Rattle.mx_count.specs.CountWords.{order_asked, order_of, count_line};
 ghost use Rattle.mx_count.specs.CountWords as wanted;
 ghost use Rattle.mx_count.specs.Printed.{PrintsCounts};
 
+use crate::printing::{count_named, count_schedule, count_split};
 use crate::words::{Order, asked_order};
-use mx_commands::{Named, Output, Source, Stop, are_dashes, close, fetch, fetch_plan, refuse};
-use mx_tallies::{count_named, count_schedule, count_split};
-use mx_words::{Exploration, Names};
+use mx_cli::{Exploration, Named, Names, Stop, are_dashes, close, fetch, fetch_plan, refuse};
+use mx_io::{Output, Source};
 use std::alloc::Global;
 
 /// Runs the words of a command line of which the first is `count`, or `explore` with `--count`, without

@@ -2,8 +2,17 @@
 //! they refused, and how long they waited.
 #![tactic(auto)]
 
+mod count_lines;
 mod counting;
 mod help;
+mod kinds;
+mod parcel_counts;
+mod printing;
+mod refusal_counts;
+mod running;
+mod waits;
 mod words;
 
 pub use counting::count;
+pub use printing::{count_named, count_schedule, count_split};
+pub use running::Course;

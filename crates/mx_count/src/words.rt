@@ -2,12 +2,12 @@
 
 ghost use Rattle.std.specs.Prelude.{◌≡◌, [], IfOk, IfErr, option_map};
 ghost use Rattle.clap.specs.Words.{app_of, fault_of, found_of, rows_of, subcommand_of, subcommand_rows_of, HasKind};
-ghost use Rattle.mx_words.specs.Words.{IsCommand, line_with, texts_of};
+ghost use Rattle.mx_cli.specs.Words.{IsCommand, line_with, texts_of};
 ghost use Rattle.mx_count.specs.CountWords.{count_app, count_line, drawn_app, drawn_in, given_in, order_asked, order_in, order_of};
 
 use crate::help;
 use clap::{ArgMatches, Command, Error};
-use mx_words::{
+use mx_cli::{
     Exploration, Names, bare_command, events_arg, exploration_at, explore_command, flag_arg,
     line_of, matches_in, names_at, plan_arg,
 };

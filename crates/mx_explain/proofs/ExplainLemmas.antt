@@ -7,23 +7,23 @@ use Rattle.clap.specs.Faults.{fault_of}
 use Rattle.clap.specs.Kinds.{HasKind}
 use Rattle.clap.specs.declared.error.Error.{Error}
 use Rattle.clap.specs.declared.error.kind.ErrorKind.TheVariants.{OutOfMemory}
-use Rattle.mx_words.specs.Words.{Task}
+use Rattle.mx_cli.specs.Words.{Task}
 use Rattle.mx_plan.specs.Text.{Text}
-use Rattle.mx_stops.specs.declared.faults.Fault.{Fault}
-use Rattle.mx_stops.specs.declared.faults.Stop.{Stop}
-use Rattle.mx_stops.specs.declared.faults.Stop.TheVariants as stop
+use Rattle.mx_cli.specs.declared.faults.Fault.{Fault}
+use Rattle.mx_cli.specs.declared.faults.Stop.{Stop}
+use Rattle.mx_cli.specs.declared.faults.Stop.TheVariants as stop
 use Rattle.mx_io.specs.Told.{Telling}
 use Rattle.mx_io.specs.declared.output.PutFault.{PutFault}
 use Rattle.mx_io.specs.declared.output.PutFault.TheVariants as put_fault
 use Rattle.mx_io.specs.Outputs.{Held}
-use Rattle.mx_stops.specs.Outputs.{stop_of}
+use Rattle.mx_cli.specs.Outputs.{stop_of}
 use Rattle.mx_commands.specs.Runs.{Report}
 use Rattle.mx_commands.specs.Jobs.{HoldsOfReport, Job, job_of, names_in}
 use Rattle.mx_commands.specs.Ran.{EndsEarly, IsRunStatus, Ran, RanOf, end_text, status_of}
-use Rattle.mx_stops.specs.Told.{MayTell, Seen}
-use Rattle.mx_stops.specs.Closed.{Closes, FallsShort}
+use Rattle.mx_cli.specs.Told.{MayTell, Seen}
+use Rattle.mx_cli.specs.Closed.{Closes, FallsShort}
 use Rattle.mx_commands.proofs.JobLemmas.{of_jobs}
-use Rattle.mx_stops.proofs.OutputLemmas.{Appends-keeps, Appends-nil}
+use Rattle.mx_cli.proofs.OutputLemmas.{Appends-keeps, Appends-nil}
 use Rattle.mx_explain.specs.Asked.{explain_line, task_asked}
 use Rattle.mx_explain.specs.Explained.{EndsAs, Explains, FailsToPrint}
 use Rattle.mx_explain.proofs.AskedLemmas.{no_task_among}

@@ -2,7 +2,7 @@
 use Rattle.std.specs.Prelude.{List, Option, Some, None, codes, if◌then◌else◌, option_map}
 use Rattle.std.specs.Str.{bytes_eq}
 use Rattle.clap.specs.Words.{App, Row, Rule, Text, first_of, new_app, new_rule, with_rule}
-use Rattle.mx_words.specs.Words.{Task, asked_of, check, line_with, plan_rule, replay}
+use Rattle.mx_cli.specs.Words.{Task, asked_of, check, line_with, plan_rule, replay}
 
 -- `[EVENTS]`
 abbrev pub events_rule : Rule

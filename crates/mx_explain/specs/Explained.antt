@@ -1,16 +1,16 @@
 -- With which status an explanation ends, and what standard error gets: those of the check or of the replay.
 use Rattle.std.specs.Prelude.{◌≡◌, ◌⊎◌, ℕ, Bool, false, Option, IfSome}
 use Rattle.std.specs.Io.KnownBytes.{Appends}
-use Rattle.mx_words.specs.Words.{Task}
+use Rattle.mx_cli.specs.Words.{Task}
 use Rattle.mx_plan.specs.Text.{Text}
-use Rattle.mx_stops.specs.declared.faults.Stop.{Stop}
-use Rattle.mx_stops.specs.declared.faults.Stop.TheVariants.{Memory, Writer}
+use Rattle.mx_cli.specs.declared.faults.Stop.{Stop}
+use Rattle.mx_cli.specs.declared.faults.Stop.TheVariants.{Memory, Writer}
 use Rattle.mx_io.specs.Told.{Telling}
 use Rattle.mx_io.specs.Outputs.{Held}
 use Rattle.mx_commands.specs.Runs.{Report}
 use Rattle.mx_commands.specs.Jobs.{HoldsOfReport, job_of, names_in}
 use Rattle.mx_commands.specs.Ran.{end_text, status_of}
-use Rattle.mx_stops.specs.Closed.{FallsShort}
+use Rattle.mx_cli.specs.Closed.{FallsShort}
 
 -- the status of this report, and the line of its fault
 pub record EndsAs (names : Text × Text) (r : Report) (old new : Held) (status : ℕ) : Type 0 where

@@ -2,12 +2,12 @@
 
 ghost use Rattle.std.specs.Prelude.{◌≡◌, [], IfOk, IfErr, option_map};
 ghost use Rattle.clap.specs.Words.{app_of, fault_of, found_of, rows_of, subcommand_rows_of, HasKind};
-ghost use Rattle.mx_words.specs.Words.{IsArgument, IsCommand, task_of, texts_of};
+ghost use Rattle.mx_cli.specs.Words.{IsArgument, IsCommand, task_of, texts_of};
 ghost use Rattle.mx_explain.specs.Asked.{events_rule, explain_app, explain_in, explain_line, task_asked, task_in};
 
 use crate::help;
 use clap::{Arg, ArgMatches, Command, Error};
-use mx_words::{Names, Request, bare_command, line_of, matches_in, plan_arg, text_at};
+use mx_cli::{Names, Request, bare_command, line_of, matches_in, plan_arg, text_at};
 use std::alloc::{AllocError, Global};
 
 fn events_arg<'a>(alloc: Global) -> Arg<'a>

@@ -1,8 +1,8 @@
 //! `explain`: from words, named bytes and two outputs to a status.
 
 ghost use Rattle.std.specs.Prelude.{◌≡◌, ◌&&◌, IsSome, IfSome, IfOk, IfErr, None, true, false};
-ghost use Rattle.mx_words.specs.Words.{AreWrong, AskHelp, task_of, texts_of};
-ghost use Rattle.mx_stops.specs.Told.{Helps, Scolds, seen};
+ghost use Rattle.mx_cli.specs.Words.{AreWrong, AskHelp, task_of, texts_of};
+ghost use Rattle.mx_cli.specs.Told.{Helps, Scolds, seen};
 ghost use Rattle.mx_commands.specs.Ran.{IsRunStatus, RanOf};
 ghost use Rattle.mx_explain.specs.Asked.{explain_line, task_asked};
 ghost use Rattle.mx_explain.specs.Explained.{Explains, FailsToPrint};
@@ -10,9 +10,10 @@ ghost use Rattle.mx_explain.specs.Explained.{Explains, FailsToPrint};
 use crate::asking::asked_explain;
 use crate::files::explain_files;
 use crate::reasons::Reasons;
-use mx_commands::{Fault, Output, PutFault, Source, Stop, carry_out, close, names_in, refuse};
-use mx_mistakes::Page;
-use mx_words::Request;
+use mx_cli::{Fault, Request, Stop, close, refuse};
+use mx_commands::{carry_out, names_in};
+use mx_diagnosis::Page;
+use mx_io::{Output, PutFault, Source};
 use std::alloc::{AllocError, Global};
 
 /// An output that takes all, and keeps nothing.

@@ -2,10 +2,10 @@
 
 use crate::parcels::explain_parcel;
 use crate::reasons::Reasons;
-use mx_commands::{Fault, Source, SourceFault, split_line};
-use mx_mistakes::{Page, Unreadable, explain_event_text, explain_plan_text};
+use mx_cli::{Fault, Names, Request, split_line};
+use mx_diagnosis::{Page, Unreadable, explain_event_text, explain_plan_text};
+use mx_io::{Source, SourceFault};
 use mx_plan::{PlanFault, ShapeFault};
-use mx_words::{Names, Request};
 use std::alloc::AllocError;
 
 /// Says what is wrong in the files of a check or of a replay that ended with this fault.

@@ -1,9 +1,9 @@
 //! Why an event delivers nothing.
 
 use mx_commands::start;
+use mx_diagnosis::Page;
 use mx_events::Event;
 use mx_maekawa::Maekawa;
-use mx_mistakes::Page;
 use mx_network::{Cluster, RunFault, StepFault};
 use mx_nodelaws::Exclusion;
 use mx_plan::{Plan, Shape, read_events, read_plan};

@@ -1,6 +1,6 @@
 //! Why a source gives no bytes.
 
-use mx_commands::{Source, Table};
+use mx_io::{Source, Table};
 
 /// Named bytes that say why they can't be read. They can be read again.
 pub trait Reasons: Source {

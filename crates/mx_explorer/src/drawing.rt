@@ -6,8 +6,8 @@ ghost use Rattle.mx_explorer.specs.Drawn.{IsDrawn, after_drawn, after_words, arg
 ghost use Rattle.mx_explorer.specs.Weather.{generator_of};
 
 use mx_plan::Plan;
+use mx_sections::Event;
 use mx_stamps::NodeId;
-use mx_traces::Event;
 use rand_core::SeedableRng;
 use rand_core::utils::NextWord;
 use rand_pcg::Pcg32;

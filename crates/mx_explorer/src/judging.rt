@@ -1,12 +1,12 @@
 //! The verdict of a trace, in one pass.
 
 ghost use Rattle.std.specs.Prelude.{◌≡◌, ◌↔◌, ℕ};
-ghost use Rattle.mx_traces.specs.Trace.{IsSerial};
+ghost use Rattle.mx_sections.specs.Trace.{IsSerial};
 ghost use Rattle.mx_explorer.specs.Verdict.{IsSoundTrace, IsFirstBroken};
 
 use crate::ledger::Ledger;
 use crate::verdict::{Clause, Verdict};
-use mx_traces::Entry;
+use mx_sections::Entry;
 
 /// Judges a trace, whoever made it. Entries and leavings have to alternate, each leaving by the
 /// node and with the number of the entry before it. The n-th section entered has to bear n. A value

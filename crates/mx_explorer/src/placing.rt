@@ -3,7 +3,7 @@
 ghost use Rattle.std.specs.Prelude.{◌≡◌, ◌<◌, ℕ, Some};
 ghost use Rattle.mx_explorer.specs.Place.{place_of};
 
-use mx_traces::Event;
+use mx_sections::Event;
 
 /// How many of the newest parcels a drawn delivery chooses from.
 const WINDOW: u64 = 64;

@@ -1,8 +1,15 @@
-//! Where the commands of `mx` take named bytes from, and where their texts go.
+//! The words, the files and the streams of the process, as the commands take them.
 #![tactic(auto)]
 
+mod counted;
+mod given;
 mod output;
 mod source;
+mod stream;
+mod streams;
 
+pub use given::{as_slices, given_words, status_of};
 pub use output::{Output, PutFault};
 pub use source::{Source, SourceFault, Table};
+pub use stream::Stream;
+pub use streams::{Refusal, Streams, read_name};

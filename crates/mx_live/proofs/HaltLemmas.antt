@@ -5,18 +5,18 @@ use Rattle.std.specs.Io.KnownBytes.{Appends, Keeps}
 use Rattle.mx_journal.specs.declared.receipts.Receipt.{Receipt}
 use Rattle.mx_journal.specs.Settled.{JournalState}
 use Rattle.mx_plan.specs.Fields.{Fields}
-use Rattle.mx_words.specs.LiveWords.{Order}
-use Rattle.mx_stops.specs.declared.faults.Stop.{Stop}
-use Rattle.mx_stops.specs.declared.faults.Stop.TheVariants as stop
-use Rattle.mx_stops.specs.Reading.{Reads}
+use Rattle.mx_cli.specs.LiveWords.{Order}
+use Rattle.mx_cli.specs.declared.faults.Stop.{Stop}
+use Rattle.mx_cli.specs.declared.faults.Stop.TheVariants as stop
+use Rattle.mx_cli.specs.Reading.{Reads}
 use Rattle.mx_io.specs.Outputs.{Held}
-use Rattle.mx_stops.specs.Outputs.{refused_after}
+use Rattle.mx_cli.specs.Outputs.{refused_after}
 use Rattle.mx_io.specs.Told.{Telling}
-use Rattle.mx_threads.specs.declared.halts.Halt.{Halt}
-use Rattle.mx_threads.specs.Halts.{Fails, RanInVain, halt_of_stop}
-use Rattle.mx_threads.specs.Workers.{orders_in}
-use Rattle.mx_threads.specs.Shown.{live_text}
-use Rattle.mx_threads.specs.Together.{AreSerial, ComeOf, HaveSections}
+use Rattle.mx_live.specs.declared.halts.Halt.{Halt}
+use Rattle.mx_live.specs.Halts.{Fails, RanInVain, halt_of_stop}
+use Rattle.mx_live.specs.Workers.{orders_in}
+use Rattle.mx_live.specs.Shown.{live_text}
+use Rattle.mx_live.specs.Together.{AreSerial, ComeOf, HaveSections}
 use Rattle.mx_live.specs.Lives.{Ends, Fits, Halts, IsPlanOf, IsSilent}
 
 same_held : (held : Held) → Keeps held held

@@ -1,2 +1,7 @@
+pub mod ShownLemmas
+pub mod StationLemmas
+pub mod WorkerLemmas
+pub mod SectionLemmas
+pub mod AlgorithmLemmas
 pub mod RefusedLemmas
 pub mod HaltLemmas

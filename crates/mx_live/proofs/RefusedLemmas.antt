@@ -6,9 +6,9 @@ use Rattle.clap.specs.Faults.{fault_of}
 use Rattle.clap.specs.Kinds.{HasKind, IsAmong, Kinds}
 use Rattle.clap.specs.declared.error.Error.{Error}
 use Rattle.clap.specs.declared.error.kind.ErrorKind.TheVariants.{OutOfMemory}
-use Rattle.mx_words.specs.LiveWords.{Order, live_line, order_asked}
-use Rattle.mx_words.proofs.LiveWordLemmas.{no_order_among}
-use Rattle.mx_stops.specs.Told.{MayTell, Seen}
+use Rattle.mx_cli.specs.LiveWords.{Order, live_line, order_asked}
+use Rattle.mx_cli.proofs.LiveWordLemmas.{no_order_among}
+use Rattle.mx_cli.specs.Told.{MayTell, Seen}
 use Rattle.mx_io.specs.Told.{Telling}
 use Rattle.mx_live.specs.Lives.{AskNothing, Declines, Lives}
 

@@ -6,18 +6,18 @@ use Rattle.mx_journal.specs.Settled.{JournalState}
 use Rattle.mx_plan.specs.Fields.{Fields}
 use Rattle.clap.specs.Words.{Text}
 use Rattle.clap.specs.Faults.{fault_of}
-use Rattle.mx_words.specs.LiveWords.{Order, live_line, order_asked}
-use Rattle.mx_stops.specs.declared.faults.Stop.TheVariants as stop
+use Rattle.mx_cli.specs.LiveWords.{Order, live_line, order_asked}
+use Rattle.mx_cli.specs.declared.faults.Stop.TheVariants as stop
 use Rattle.mx_io.specs.Told.{Telling}
 use Rattle.mx_io.specs.Outputs.{Held}
-use Rattle.mx_stops.specs.Reading.{Reads}
-use Rattle.mx_stops.specs.Told.{MayTell, Seen}
-use Rattle.mx_threads.specs.declared.halts.Halt.{Halt}
-use Rattle.mx_threads.specs.declared.halts.Halt.TheVariants.{Plan, TooFewSections, TurnsSpent, GateShut, Writer, Memory}
-use Rattle.mx_threads.specs.Halts.{halt_status}
-use Rattle.mx_threads.specs.Shown.{live_text}
-use Rattle.mx_threads.specs.Together.{AreSerial, ComeOf, HaveSections}
-use Rattle.mx_threads.specs.Workers.{SpendsTurns, orders_in}
+use Rattle.mx_cli.specs.Reading.{Reads}
+use Rattle.mx_cli.specs.Told.{MayTell, Seen}
+use Rattle.mx_live.specs.declared.halts.Halt.{Halt}
+use Rattle.mx_live.specs.declared.halts.Halt.TheVariants.{Plan, TooFewSections, TurnsSpent, GateShut, Writer, Memory}
+use Rattle.mx_live.specs.Halts.{halt_status}
+use Rattle.mx_live.specs.Shown.{live_text}
+use Rattle.mx_live.specs.Together.{AreSerial, ComeOf, HaveSections}
+use Rattle.mx_live.specs.Workers.{SpendsTurns, orders_in}
 
 -- the plan was read, where the source tells of it
 abbrev pub IsPlanOf : Option Telling → Fields → Type 0

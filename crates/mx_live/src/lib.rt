@@ -2,7 +2,18 @@
 //! sections of its own; then their journals are gathered.
 #![tactic(auto)]
 
+mod any_station;
+mod assembly;
+mod by_algorithm;
+mod halts;
 mod living;
+mod progress;
+mod running;
+mod shown;
+mod threads;
 
+pub use assembly::Assembly;
+pub use halts::{Halt, tell};
 pub use living::live;
-pub use mx_threads::Assembly;
+pub use running::live_by_shape;
+pub use shown::add_journal;

@@ -2,19 +2,21 @@
 
 ghost use Rattle.std.specs.Prelude.{◌≡◌, Option, false, length, IfErr, IfSome, OnOk};
 ghost use Rattle.std.specs.Io.KnownBytes.{Appends};
-ghost use Rattle.mx_words.specs.Words.{texts_of, AreWrong, AskHelp};
-ghost use Rattle.mx_words.specs.LiveWords.{order_asked, order_of, live_line};
-ghost use Rattle.mx_stops.specs.Told.{Helps, Scolds, seen};
+ghost use Rattle.mx_cli.specs.Words.{texts_of, AreWrong, AskHelp};
+ghost use Rattle.mx_cli.specs.LiveWords.{order_asked, order_of, live_line};
+ghost use Rattle.mx_cli.specs.Told.{Helps, Scolds, seen};
 ghost use Rattle.mx_io.specs.Told.{Telling};
-ghost use Rattle.mx_threads.specs.Halts.{Fails};
-ghost use Rattle.mx_threads.specs.Shown.{live_text};
+ghost use Rattle.mx_live.specs.Halts.{Fails};
+ghost use Rattle.mx_live.specs.Shown.{live_text};
 ghost use Rattle.mx_live.specs.Lives.{AskNothing, Declines, Ends, IsPlanOf, Lives};
 
-use mx_commands::{Output, Source, fetch_plan, refuse};
+use crate::halts::{Halt, tell};
+use crate::running::live_by_shape;
+use crate::shown::add_journal;
+use mx_cli::{LiveRun, asked_live, fetch_plan, refuse};
+use mx_io::{Output, Source};
 use mx_plan::Plan;
 use mx_stations::Gathered;
-use mx_threads::{Halt, add_journal, live_by_shape, tell};
-use mx_words::{LiveRun, asked_live};
 use std::alloc::Global;
 use std::rt::Clock;
 use std::thread::Threads;

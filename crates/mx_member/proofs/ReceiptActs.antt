@@ -27,7 +27,7 @@ use Rattle.mx_member.specs.declared.faults.WriteFault.TheVariants as write
 use Rattle.mx_member.specs.Acts.{act_of}
 use Rattle.mx_member.specs.Member.{MemberState, first_gap, with_core, with_draft, with_journal}
 use Rattle.mx_member.specs.Receipts.{closed_by}
-use Rattle.mx_traces.specs.Sections.{Section}
+use Rattle.mx_sections.specs.Sections.{Section}
 use Rattle.mx_member.specs.Told.{told}
 use Rattle.mx_member.specs.Steps.{entered, leave_at, read_at, refusing, settle_of, shown_inside, take_of, write_at}
 use Rattle.mx_member.specs.World.{IsMember, IsSound}

@@ -17,8 +17,8 @@ use Rattle.mx_member.specs.declared.parcel.Parcel.{Parcel}
 use Rattle.mx_member.specs.Acts.{act_of}
 use Rattle.mx_member.specs.Member.{MemberState}
 use Rattle.mx_member.specs.Receipts.{StandInOrder, closed_by, own_in, receipts_in}
-use Rattle.mx_traces.specs.Sections.{Section}
-use Rattle.mx_traces.specs.Serial.{IsSerialRead}
+use Rattle.mx_sections.specs.Sections.{Section}
+use Rattle.mx_sections.specs.Serial.{IsSerialRead}
 use Rattle.mx_member.specs.Steps.{start_of}
 use Rattle.mx_member.specs.World.{IsSound}
 

@@ -9,8 +9,8 @@ use Rattle.mx_nodelaws.specs.declared.phase.Phase.TheVariants.{Inside}
 use Rattle.mx_member.specs.declared.parcel.Parcel.{Parcel}
 use Rattle.mx_member.specs.Journals.{IsJournalOf, IsParcelOf}
 use Rattle.mx_member.specs.Member.{MemberState, letter_in}
-use Rattle.mx_traces.specs.Sections.{Section, section_journal}
-use Rattle.mx_traces.specs.Serial.{AllClosed, ReadSerially}
+use Rattle.mx_sections.specs.Sections.{Section, section_journal}
+use Rattle.mx_sections.specs.Serial.{AllClosed, ReadSerially}
 
 -- the letters of the cores among the parcels
 abbrev pub letters_in : {M : Type 0} → List (ℕ × ℕ × Parcel M) → List (ℕ × ℕ × M)

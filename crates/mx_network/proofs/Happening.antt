@@ -9,8 +9,8 @@ use Rattle.mx_member.specs.declared.acts.Act.{Act}
 use Rattle.mx_member.specs.declared.parcel.Parcel.{Parcel}
 use Rattle.mx_member.specs.Member.{MemberState}
 use Rattle.mx_events.specs.declared.event.Event.{Event}
-use Rattle.mx_traces.specs.declared.outcome.Outcome.{Outcome}
-use Rattle.mx_traces.specs.declared.outcome.Entry.{Entry}
+use Rattle.mx_sections.specs.declared.outcome.Outcome.{Outcome}
+use Rattle.mx_sections.specs.declared.outcome.Entry.{Entry}
 use Rattle.mx_network.specs.declared.faults.StepFault.{StepFault}
 use Rattle.mx_network.specs.declared.faults.StepFault.TheVariants.{NoNode, Memory}
 use Rattle.mx_network.specs.Step.{ClusterState, act_in, answer_of, at_member, at_part, grown, part_of, step_of, IsFaultOf}

@@ -7,16 +7,16 @@ use Rattle.mx_nodelaws.specs.Core.{Core}
 use Rattle.mx_nodelaws.specs.Laws.{KeepsGood}
 use Rattle.mx_member.specs.Journals.{IsJournalOf}
 use Rattle.mx_member.specs.Member.{MemberState}
-use Rattle.mx_traces.specs.Serial.{AllClosed, IsInSection}
+use Rattle.mx_sections.specs.Serial.{AllClosed, IsInSection}
 use Rattle.mx_member.specs.World.{IsMember, core_part}
 use Rattle.mx_member.proofs.Consequences.{journals_agree, member_shows}
 use Rattle.mx_member.proofs.CorePart.{get_map}
 use Rattle.mx_member.proofs.Histories.{alternate_if_fit, numbered_if_fit}
 use Rattle.mx_member.proofs.Inside.{in_section, nobody_in, section_in}
 use Rattle.mx_member.proofs.SectionLists.{journal_ascends}
-use Rattle.mx_traces.specs.declared.outcome.Entry.{Entry}
+use Rattle.mx_sections.specs.declared.outcome.Entry.{Entry}
 use Rattle.mx_network.specs.Kept.{IsKept}
-use Rattle.mx_traces.specs.Trace.{IsSerial, ShowsInOrder, journal_of, sections, IsExclusive, IsNumbered, marks}
+use Rattle.mx_sections.specs.Trace.{IsSerial, ShowsInOrder, journal_of, sections, IsExclusive, IsNumbered, marks}
 use Rattle.mx_network.specs.Step.{ClusterState, IsInsideAt, IsInsideWith}
 use Rattle.mx_network.proofs.KeptSound.{kept_sound}
 

@@ -29,7 +29,7 @@ use Rattle.mx_member.proofs.Running.{members_count}
 use Rattle.mx_member.proofs.SectionLists.{journal_ascends}
 use Rattle.mx_network.specs.Kept.{IsKept}
 use Rattle.mx_network.specs.Merged.{IsAboveAll, IsBelowEach, IsOfAll}
-use Rattle.mx_traces.specs.Trace.{journal_of, sections}
+use Rattle.mx_sections.specs.Trace.{journal_of, sections}
 use Rattle.mx_network.specs.Step.{ClusterState}
 use Rattle.mx_network.proofs.Happening.{held}
 use Rattle.mx_network.proofs.KeptSound.{kept_sound}

@@ -2,7 +2,7 @@
 use Rattle.mx_nodelaws.specs.World.{World}
 use Rattle.mx_nodelaws.specs.Core.{Core}
 use Rattle.mx_member.specs.Running.{IsRun, owners}
-use Rattle.mx_traces.specs.Trace.{sections, IsSerial}
+use Rattle.mx_sections.specs.Trace.{sections, IsSerial}
 use Rattle.mx_network.specs.Step.{ClusterState}
 
 -- the world runs with the sections of the trace, and these stand one behind another

@@ -9,9 +9,9 @@ use Rattle.mx_member.specs.declared.acts.Answer.{Answer}
 use Rattle.mx_member.specs.declared.acts.Answer.TheVariants as answer
 use Rattle.mx_member.specs.declared.faults.ReadFault.TheVariants as read
 use Rattle.mx_member.specs.declared.faults.WriteFault.TheVariants as write
-use Rattle.mx_traces.specs.declared.outcome.Outcome.{Outcome}
-use Rattle.mx_traces.specs.declared.outcome.Outcome.TheVariants.{Asked, Entered, Value, Written, Left, Cancelled, Settled, Sent, Delivered, Woken, Refused}
-use Rattle.mx_traces.specs.declared.outcome.Cause.TheVariants as cause
+use Rattle.mx_sections.specs.declared.outcome.Outcome.{Outcome}
+use Rattle.mx_sections.specs.declared.outcome.Outcome.TheVariants.{Asked, Entered, Value, Written, Left, Cancelled, Settled, Sent, Delivered, Woken, Refused}
+use Rattle.mx_sections.specs.declared.outcome.Cause.TheVariants as cause
 use Rattle.mx_network.specs.declared.outcome.Brief.{Brief}
 use Rattle.mx_network.specs.declared.outcome.Brief.TheVariants as brief
 

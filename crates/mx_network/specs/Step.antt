@@ -12,10 +12,10 @@ use Rattle.mx_member.specs.Member.{MemberState}
 use Rattle.mx_events.specs.declared.event.Event.{Event}
 use Rattle.mx_events.specs.declared.event.Event.TheVariants as event
 use Rattle.mx_network.specs.declared.outcome.Brief.{Brief}
-use Rattle.mx_traces.specs.declared.outcome.Outcome.{Outcome}
-use Rattle.mx_traces.specs.declared.outcome.Cause.{Cause}
-use Rattle.mx_traces.specs.declared.outcome.Cause.TheVariants as cause
-use Rattle.mx_traces.specs.declared.outcome.Entry.{Entry}
+use Rattle.mx_sections.specs.declared.outcome.Outcome.{Outcome}
+use Rattle.mx_sections.specs.declared.outcome.Cause.{Cause}
+use Rattle.mx_sections.specs.declared.outcome.Cause.TheVariants as cause
+use Rattle.mx_sections.specs.declared.outcome.Entry.{Entry}
 use Rattle.mx_network.specs.declared.faults.StepFault.{StepFault}
 use Rattle.mx_network.specs.declared.faults.StepFault.TheVariants.{NoNode, NoParcel, Memory}
 use Rattle.mx_network.specs.Outcome.{answer_by, outcome_of}

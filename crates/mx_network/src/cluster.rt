@@ -10,9 +10,9 @@ ghost use Rattle.mx_member.specs.Journals.{IsJournalOf};
 ghost use Rattle.mx_member.specs.Member.{MemberState};
 ghost use Rattle.mx_member.specs.Steps.{start_of};
 ghost use Rattle.mx_member.specs.World.{IsMember};
-ghost use Rattle.mx_traces.specs.Serial.{AllClosed, IsInSection, ReadSerially};
+ghost use Rattle.mx_sections.specs.Serial.{AllClosed, IsInSection, ReadSerially};
 ghost use Rattle.mx_network.specs.Merged.{IsAboveAll, IsBelowEach, IsOfAll};
-ghost use Rattle.mx_traces.specs.Trace.{IsSerial, ShowsInOrder, journal_of, sections, IsExclusive, IsNumbered};
+ghost use Rattle.mx_sections.specs.Trace.{IsSerial, ShowsInOrder, journal_of, sections, IsExclusive, IsNumbered};
 ghost use Rattle.mx_network.specs.Step.{step_of, IsInsideAt, IsInsideWith, IsFaultOf, IsSettledRead, IsUnchanged, NamesNoNode, NamesNoParcel, RunsTo};
 
 use crate::faults::{RunFault, StepFault};
@@ -23,8 +23,8 @@ use mx_letters::Outbox;
 use mx_member::{Member, Parcel};
 use mx_merge::{MergeFault, merge};
 use mx_nodelaws::Exclusion;
+use mx_sections::{Cause, Entry, Outcome};
 use mx_stamps::NodeId;
-use mx_traces::{Cause, Entry, Outcome};
 use std::alloc::{AllocError, Global};
 use std::marker::Model;
 

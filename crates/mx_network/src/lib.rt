@@ -12,4 +12,4 @@ mod parts;
 pub use cluster::Cluster;
 pub use faults::{RunFault, StepFault};
 pub use mx_events::Event;
-pub use mx_traces::{Cause, Entry, Outcome};
+pub use mx_sections::{Cause, Entry, Outcome};

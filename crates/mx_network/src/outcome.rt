@@ -6,8 +6,8 @@ ghost use Rattle.mx_network.specs.Outcome.{answer_by, outcome_of};
 use mx_journal::SettleFault;
 use mx_member::{ReadFault, WriteFault};
 use mx_nodelaws::{AskFault, CancelFault, EnterFault};
+use mx_sections::{Cause, Outcome};
 use mx_stamps::Stamp;
-use mx_traces::{Cause, Outcome};
 
 /// What a member answers to an event other than to leave, whose receipt takes much room.
 pub(crate) enum Brief {

@@ -14,8 +14,8 @@ use mx_events::Event;
 use mx_letters::{OUTBOX_ROOM, Outbox};
 use mx_member::{CloseFault, Member, Parcel};
 use mx_nodelaws::Exclusion;
+use mx_sections::{Cause, Entry, Outcome};
 use mx_stamps::NodeId;
-use mx_traces::{Cause, Entry, Outcome};
 use std::alloc::{AllocError, Global};
 
 /// The members at rest, in order.

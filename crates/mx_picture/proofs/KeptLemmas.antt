@@ -1,10 +1,10 @@
 -- What was drawn and is not added to.
 use Rattle.std.proofs.Common.{◌∙◌, ℕ, Some, None, Result, Ok, Err}
 use Rattle.std.specs.Io.KnownBytes.{Keeps}
-use Rattle.mx_stops.specs.declared.faults.Stop.{Stop}
+use Rattle.mx_cli.specs.declared.faults.Stop.{Stop}
 use Rattle.mx_io.specs.Outputs.{Held}
-use Rattle.mx_stops.proofs.OutputLemmas.{Appends-keeps}
-use Rattle.mx_sheets.specs.Drawn.{Draws}
+use Rattle.mx_cli.proofs.OutputLemmas.{Appends-keeps}
+use Rattle.mx_picture.specs.Drawn.{Draws}
 
 keeps_on : (a b d : Held) → Keeps a b → Keeps b d → Keeps a d
 keeps_on None b d p q = tt

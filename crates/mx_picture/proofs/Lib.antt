@@ -1,3 +1,5 @@
+mod EndLemmas
+mod SheetLemmas
 mod PictureWordLemmas
 mod RefusedLemmas
 mod KeptLemmas

@@ -7,10 +7,10 @@ use Rattle.clap.specs.Kinds.{HasKind}
 use Rattle.clap.specs.declared.error.Error.{Error}
 use Rattle.clap.specs.declared.error.kind.ErrorKind.TheVariants.{OutOfMemory}
 use Rattle.mx_plan.specs.Text.{Text}
-use Rattle.mx_words.specs.Words as task
-use Rattle.mx_stops.specs.declared.faults.Stop.TheVariants as stop
+use Rattle.mx_cli.specs.Words as task
+use Rattle.mx_cli.specs.declared.faults.Stop.TheVariants as stop
 use Rattle.mx_commands.specs.Jobs.{Job, job_of}
-use Rattle.mx_stops.specs.Told.{MayTell, Seen}
+use Rattle.mx_cli.specs.Told.{MayTell, Seen}
 use Rattle.mx_commands.specs.Ran.{RanOf, RanOn}
 use Rattle.mx_io.specs.Told.{Telling}
 use Rattle.mx_picture.specs.PictureWords.{names_asked, picture_line}

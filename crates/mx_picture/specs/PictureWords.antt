@@ -2,7 +2,7 @@
 use Rattle.std.specs.Prelude.{List, Option, Some, None, codes, if◌then◌else◌}
 use Rattle.std.specs.Str.{bytes_eq}
 use Rattle.clap.specs.Words.{App, Row, Text, new_app, with_rule}
-use Rattle.mx_words.specs.Words.{asked_of, events_rule, line_with, names_at, plan_rule}
+use Rattle.mx_cli.specs.Words.{asked_of, events_rule, line_with, names_at, plan_rule}
 
 -- `picture PLAN EVENTS`
 abbrev pub picture_app : App

@@ -1,13 +1,13 @@
 -- What comes of the words of a picture.
 use Rattle.std.specs.Prelude.{◌≡◌, ◌&&◌, ℕ, Bool, false, Option, None, Result}
-use Rattle.mx_words.specs.Words as task
+use Rattle.mx_cli.specs.Words as task
 use Rattle.mx_plan.specs.Text.{Text}
-use Rattle.mx_stops.specs.declared.faults.Stop.{Stop}
-use Rattle.mx_stops.specs.Closed.{Closes}
+use Rattle.mx_cli.specs.declared.faults.Stop.{Stop}
+use Rattle.mx_cli.specs.Closed.{Closes}
 use Rattle.mx_commands.specs.Ran.{RanOf}
-use Rattle.mx_stops.specs.Told.{Seen}
+use Rattle.mx_cli.specs.Told.{Seen}
 use Rattle.mx_io.specs.Told.{Telling}
-use Rattle.mx_sheets.specs.Drawn.{Draws}
+use Rattle.mx_picture.specs.Drawn.{Draws}
 
 -- a run ends as a replay of these names does, whatever it prints
 abbrev pub EndsAsReplay : Bool → (Text → Option Telling) → Text × Text → Result ℕ Stop → Type 0

@@ -1,8 +1,18 @@
 //! `mx picture`: what comes of events as a picture, a static SVG in which time goes down.
 #![tactic(auto)]
 
+mod drawing;
+mod escaping;
 mod help;
+mod inks;
+mod looks;
+mod page;
 mod picturing;
+mod places;
+mod reading;
+mod sheet;
+mod widths;
 mod words;
 
 pub use picturing::picture;
+pub use reading::draw;

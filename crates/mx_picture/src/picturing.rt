@@ -1,15 +1,15 @@
 //! The command: from words, named bytes and two outputs to a status.
 
 ghost use Rattle.std.specs.Prelude.{IfSome};
-ghost use Rattle.mx_words.specs.Words.{names_of, texts_of, AreWrong, AskHelp};
-ghost use Rattle.mx_stops.specs.Told.{Helps, Scolds, seen};
+ghost use Rattle.mx_cli.specs.Words.{names_of, texts_of, AreWrong, AskHelp};
+ghost use Rattle.mx_cli.specs.Told.{Helps, Scolds, seen};
 ghost use Rattle.mx_picture.specs.PictureWords.{names_asked, picture_line};
 ghost use Rattle.mx_picture.specs.Pictures.{Pictures};
 
+use crate::reading::draw;
 use crate::words::asked_names;
-use mx_commands::{Output, Source, close, refuse};
-use mx_sheets::draw;
-use mx_words::Names;
+use mx_cli::{Names, close, refuse};
+use mx_io::{Output, Source};
 use std::alloc::Global;
 
 /// Runs the words of a command line of which `picture` is the first, without the program's name: reads a

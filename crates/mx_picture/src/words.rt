@@ -2,12 +2,12 @@
 
 ghost use Rattle.std.specs.Prelude.{◌≡◌, [], IfOk, IfErr, option_map};
 ghost use Rattle.clap.specs.Words.{app_of, fault_of, subcommand_of, subcommand_rows_of, HasKind};
-ghost use Rattle.mx_words.specs.Words.{IsCommand, names_of, texts_of};
+ghost use Rattle.mx_cli.specs.Words.{IsCommand, names_of, texts_of};
 ghost use Rattle.mx_picture.specs.PictureWords.{names_asked, names_in, picture_app, picture_line};
 
 use crate::help;
 use clap::{ArgMatches, Command, Error};
-use mx_words::{Names, bare_command, events_arg, line_of, matches_in, names_at, plan_arg};
+use mx_cli::{Names, bare_command, events_arg, line_of, matches_in, names_at, plan_arg};
 use std::alloc::{AllocError, Global};
 
 fn picture_command<'a>(alloc: Global) -> Result<Command<'a>, AllocError>

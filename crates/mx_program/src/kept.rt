@@ -1,8 +1,7 @@
 //! Files and standard input, each of which is read once.
 
-use mx_commands::{Source, SourceFault};
 use mx_explain::Reasons;
-use mx_streams::{Refusal, Streams, read_name};
+use mx_io::{Refusal, Source, SourceFault, Streams, read_name};
 use std::alloc::Global;
 use std::rt::Files;
 

@@ -5,13 +5,13 @@
 mod kept;
 
 use crate::kept::Kept;
-use mx_commands::{Output, command};
+use mx_commands::command;
 use mx_count::count;
-use mx_event_files::event_file;
 use mx_explain::explain;
+use mx_io::{Output, Stream, Streams, as_slices, given_words, status_of};
 use mx_live::live;
 use mx_picture::picture;
-use mx_streams::{Stream, Streams, as_slices, given_words, status_of};
+use mx_scripts::event_file;
 use mx_views::replay_view;
 use std::io;
 use std::io::{BufWriter, Write};

@@ -2,8 +2,8 @@
 //! program: it hands the words, the files and the streams of the process to `command`.
 #![tactic(auto)]
 
-use mx_commands::{Output, command};
-use mx_streams::{Stream, Streams, as_slices, given_words, status_of};
+use mx_commands::command;
+use mx_io::{Output, Stream, Streams, as_slices, given_words, status_of};
 use std::io;
 use std::io::{BufWriter, Write};
 use std::process::ExitCode;

@@ -6,18 +6,18 @@ use Rattle.std.specs.declared.alloc.Global.{Global}
 use Rattle.mx_stamps.proofs.Lists.{append_nil}
 use Rattle.mx_plan.specs.Text.{Text}
 use Rattle.mx_plan.specs.Fields.{Fields}
-use Rattle.mx_stops.specs.declared.faults.Stop.{Stop}
-use Rattle.mx_stops.specs.declared.faults.Stop.TheVariants as stop
-use Rattle.mx_stops.specs.Closed.{Closes, FallsShort}
-use Rattle.mx_stops.specs.declared.faults.Named.TheVariants.{Plan}
+use Rattle.mx_cli.specs.declared.faults.Stop.{Stop}
+use Rattle.mx_cli.specs.declared.faults.Stop.TheVariants as stop
+use Rattle.mx_cli.specs.Closed.{Closes, FallsShort}
+use Rattle.mx_cli.specs.declared.faults.Named.TheVariants.{Plan}
 use Rattle.mx_commands.specs.Jobs.{Job}
-use Rattle.mx_stops.specs.Reading.{Fetches, is_dash, Reads}
+use Rattle.mx_cli.specs.Reading.{Fetches, is_dash, Reads}
 use Rattle.mx_io.specs.Outputs.{Held}
 use Rattle.mx_commands.specs.Ran.{EndsEarly, IsRunStatus, Ran, RanOn}
 use Rattle.mx_commands.specs.Runs.{Report, whole}
 use Rattle.mx_io.specs.Told.{Telling}
 use Rattle.mx_commands.proofs.JobLemmas.{of_jobs}
-use Rattle.mx_stops.proofs.OutputLemmas.{Appends-keeps, some_keeps}
+use Rattle.mx_cli.proofs.OutputLemmas.{Appends-keeps, some_keeps}
 use Rattle.mx_scripts.specs.Errands.{HasDone, IsPlanOf, Prints, PrintsEvents, files_of, plan_told}
 use Rattle.mx_scripts.specs.Played.{IsEventFile}
 use Rattle.mx_scripts.specs.Tasks.{Task, draw, walk, script}

@@ -4,3 +4,5 @@ pub mod ItemLemmas
 pub mod ReadLemmas
 pub mod DrawnLemmas
 pub mod ErrandLemmas
+pub mod WordLemmas
+pub mod RefusedLemmas

@@ -4,12 +4,12 @@ use Rattle.std.specs.Io.KnownBytes.{Appends}
 use Rattle.std.specs.List.{before_first}
 use Rattle.mx_plan.specs.Text.{Text}
 use Rattle.mx_plan.specs.Fields.{Fields}
-use Rattle.mx_stops.specs.declared.faults.Stop.{Stop}
+use Rattle.mx_cli.specs.declared.faults.Stop.{Stop}
 use Rattle.mx_io.specs.Told.{Telling}
-use Rattle.mx_stops.specs.Closed.{Closes}
+use Rattle.mx_cli.specs.Closed.{Closes}
 use Rattle.mx_io.specs.Outputs.{Held}
 use Rattle.mx_commands.specs.Jobs.{Job, on_plan}
-use Rattle.mx_stops.specs.Reading.{is_dash, Reads}
+use Rattle.mx_cli.specs.Reading.{is_dash, Reads}
 use Rattle.mx_commands.specs.Ran.{RanOn}
 use Rattle.mx_scripts.specs.Drawn.{drawn_file}
 use Rattle.mx_scripts.specs.Played.{IsEventFile}

@@ -1,6 +1,7 @@
 -- Files: the files of lists of events. Played: events that happened in a cluster, one after another. Readable: events that
 -- are read back from their file. Drawn: what is drawn of a plan and a seed. Scripts: the lines of a script, and their faults.
 -- Tasks: what `draw` and `script` have to do. Errands: what comes of it.
+-- Words: what the words ask for.
 pub mod Files
 pub mod Played
 pub mod Readable
@@ -8,3 +9,4 @@ pub mod Drawn
 pub mod Scripts
 pub mod Tasks
 pub mod Errands
+pub mod Words

@@ -4,7 +4,7 @@ ghost use Rattle.std.specs.Prelude.{◌≡◌, ◌≤◌, ◌^◌, ◌++◌, Ok,
 ghost use Rattle.mx_plan.specs.Events.{events_at};
 ghost use Rattle.mx_plan.specs.Fields.{IsPlan};
 ghost use Rattle.mx_commands.specs.Explored.{after_drawn, schedule_of};
-ghost use Rattle.mx_stops.specs.Outputs.{refused_after};
+ghost use Rattle.mx_cli.specs.Outputs.{refused_after};
 ghost use Rattle.mx_commands.specs.Ran.{Ran};
 ghost use Rattle.mx_commands.specs.Runs.{whole};
 ghost use Rattle.mx_scripts.specs.Drawn.{LeadsAs, drawn_file, parcels_in, placed_in, placed_schedule};
@@ -12,8 +12,10 @@ ghost use Rattle.mx_scripts.specs.Files.{file_text};
 ghost use Rattle.mx_scripts.specs.Played.{events_of};
 
 use crate::files::add_file;
-use mx_commands::{Output, Stop, happen, print, start};
+use mx_cli::Stop;
+use mx_commands::{happen, print, start};
 use mx_explorer::schedule;
+use mx_io::Output;
 use mx_maekawa::Maekawa;
 use mx_network::{Cluster, Event};
 use mx_nodelaws::Exclusion;

@@ -1,9 +1,9 @@
 //! `draw` and `script`: from names, named bytes and two outputs to a status.
 
 ghost use Rattle.std.specs.Prelude.{◌≡◌, ◌⊎◌, ◌==◌, ◌&&◌, true, false, IfSome, IfOk, Some, Ok};
-ghost use Rattle.mx_words.specs.Words.{names_of};
+ghost use Rattle.mx_cli.specs.Words.{names_of};
 ghost use Rattle.std.specs.List.{before_first};
-ghost use Rattle.mx_stops.specs.Reading.{is_dash, Reads};
+ghost use Rattle.mx_cli.specs.Reading.{is_dash, Reads};
 ghost use Rattle.mx_commands.specs.Ran.{IsRunStatus, RanOn};
 ghost use Rattle.mx_plan.specs.Fields.{Fields};
 ghost use Rattle.mx_scripts.specs.Errands.{DrawsPlan, HasDone, PrintsEvents, draw_job};
@@ -15,12 +15,13 @@ use crate::line_faults::{LineFault, ScriptLine};
 use crate::scripting::script_file;
 use crate::texts::text_in;
 use crate::walking::walk_file;
-use mx_commands::{
-    Named, Output, PutFault, Source, Stop, are_dashes, close, fetch, fetch_plan, plan_in, print,
-    put_line, split_line, tell_memory,
+use mx_cli::{
+    Exploration, Named, Names, Stop, are_dashes, close, fetch, fetch_plan, plan_in, put_line,
+    split_line, tell_memory,
 };
+use mx_commands::print;
+use mx_io::{Output, PutFault, Source};
 use mx_plan::Plan;
-use mx_words::{Exploration, Names};
 use std::alloc::Global;
 
 /// Prints what `explore` does, or tells why not. Answers the status.

@@ -1,7 +1,7 @@
 //! Why there is no file.
 
 use crate::line_faults::LineFault;
-use mx_commands::Stop;
+use mx_cli::Stop;
 use std::alloc::AllocError;
 
 /// Why there is no file.

@@ -1,10 +1,12 @@
-//! The lines of a script, the walk, and what they make happen, as files of events.
+//! `mx draw` and `mx script`: files of events, drawn from a seed or written as a script.
 #![tactic(auto)]
 
+mod command;
 mod drawing;
 mod errands;
 mod files;
 mod halts;
+mod help;
 mod line_faults;
 mod lines;
 mod mail;
@@ -13,7 +15,10 @@ mod scripting;
 mod texts;
 mod walk;
 mod walking;
+mod words;
 
+pub use command::event_file;
 pub use drawing::replays_as_explored;
 pub use errands::{run_draw, run_script, run_walk};
 pub use files::reads_back;
+pub use words::Errand;

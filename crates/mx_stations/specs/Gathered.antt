@@ -17,7 +17,7 @@ use Rattle.mx_nodelaws.specs.Core.{Core, IsInside}
 use Rattle.mx_member.specs.declared.parcel.Parcel.{Parcel}
 use Rattle.mx_member.specs.Member.{MemberState}
 use Rattle.mx_member.specs.Running.{IsJoinOfNodes, IsNode, IsRunning, Owned}
-use Rattle.mx_traces.specs.Serial.{IsSerialRead}
+use Rattle.mx_sections.specs.Serial.{IsSerialRead}
 use Rattle.mx_stations.specs.declared.gathering.GatherFault.{GatherFault}
 use Rattle.mx_stations.specs.declared.gathering.GatherFault.TheVariants.{NotAll, StillInside, Memory}
 use Rattle.mx_stations.specs.Entries.{Entry, Node, owned_of}

@@ -6,8 +6,8 @@ ghost use Rattle.mx_texts.specs.EventTexts.{name_of, register_name_of, cause_tex
 
 use crate::words::Words;
 use mx_plan::Plan;
+use mx_sections::{Cause, Event, Outcome};
 use mx_stamps::NodeId;
-use mx_traces::{Cause, Event, Outcome};
 use std::fmt;
 
 /// The name that the plan gives a node.

@@ -8,12 +8,12 @@ use Rattle.clap.specs.declared.error.Error.{Error}
 use Rattle.clap.specs.declared.error.kind.ErrorKind.TheVariants.{OutOfMemory}
 use Rattle.mx_views.specs.ViewWords.{view_line, views_asked}
 use Rattle.mx_views.proofs.ViewWordLemmas.{no_view_among}
-use Rattle.mx_stops.specs.declared.faults.Stop.{Stop}
-use Rattle.mx_stops.specs.declared.faults.Stop.TheVariants as stop
-use Rattle.mx_stops.specs.Closed.{Closes, FallsShort}
+use Rattle.mx_cli.specs.declared.faults.Stop.{Stop}
+use Rattle.mx_cli.specs.declared.faults.Stop.TheVariants as stop
+use Rattle.mx_cli.specs.Closed.{Closes, FallsShort}
 use Rattle.mx_io.specs.Outputs.{Held}
 use Rattle.mx_commands.specs.Ran.{IsRunStatus}
-use Rattle.mx_stops.specs.Told.{MayTell, Seen}
+use Rattle.mx_cli.specs.Told.{MayTell, Seen}
 
 module _ (t : Bool) (old new : Seen) (status : ℕ) (e : Error) (words : List Text) (kinds : HasKind (fault_of view_line words) e)
     (memory : kind_of e ≡ OutOfMemory → (status ≡ 5) × Keeps old.out new.out × MayTell old.err new.err × (new.refused ≡ old.refused)) where

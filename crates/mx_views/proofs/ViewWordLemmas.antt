@@ -4,10 +4,10 @@ use Rattle.clap.specs.Words.{Text}
 use Rattle.clap.specs.Kinds.{IsAmong}
 use Rattle.clap.specs.declared.error.kind.ErrorKind.{ErrorKind}
 use Rattle.clap.specs.Faults.{fault_of}
-use Rattle.mx_words.specs.Words.{IsReadable}
+use Rattle.mx_cli.specs.Words.{IsReadable}
 use Rattle.clap.proofs.OnLiterals.{clap_on_literals}
 use Rattle.mx_views.specs.ViewWords.{view_line, views_asked, views_in}
-use Rattle.mx_words.proofs.WordLemmas.{none_asked}
+use Rattle.mx_cli.proofs.WordLemmas.{none_asked}
 
 pub line_is_readable : IsReadable view_line
 unfolding clap_on_literals view_line

@@ -2,7 +2,7 @@
 use Rattle.std.specs.Prelude.{Bool, List, Option, Some, None, codes, if◌then◌else◌, option_map}
 use Rattle.std.specs.Str.{bytes_eq}
 use Rattle.clap.specs.Words.{App, Row, Rule, Text, first_of, with_rule}
-use Rattle.mx_words.specs.Words.{asked_of, flag_rule, is_given, line_with, names_at, names_of, replay_app, text_rule}
+use Rattle.mx_cli.specs.Words.{asked_of, flag_rule, is_given, line_with, names_at, names_of, replay_app, text_rule}
 use Rattle.mx_views.specs.declared.words.Wish.{Wish}
 
 -- `--quiet`

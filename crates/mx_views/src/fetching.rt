@@ -1,12 +1,12 @@
 //! Reading a plan and its events.
 
 ghost use Rattle.std.specs.Prelude.{◌≡◌, Bool};
-ghost use Rattle.mx_stops.specs.Outputs.{refused_after};
+ghost use Rattle.mx_cli.specs.Outputs.{refused_after};
 
-use mx_commands::{Named, Source, Stop, are_dashes, fetch, fetch_plan, plan_in, split_line};
+use mx_cli::{Named, Names, Stop, are_dashes, fetch, fetch_plan, plan_in, split_line};
+use mx_io::Source;
 use mx_network::Event;
 use mx_plan::{Plan, read_events};
-use mx_words::Names;
 use std::alloc::Global;
 
 /// The plan and the events of two names, as `replay` reads them: in its order, with its faults, and from

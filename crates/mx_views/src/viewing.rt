@@ -1,8 +1,8 @@
 //! `replay` with `--quiet`, `--node` or `--json`: from words, named bytes and two outputs to a status.
 
 ghost use Rattle.std.specs.Prelude.{◌≡◌, IsSome, IfOk};
-ghost use Rattle.mx_words.specs.Words.{texts_of, AreWrong, AskHelp};
-ghost use Rattle.mx_stops.specs.Told.{Helps, Scolds, seen};
+ghost use Rattle.mx_cli.specs.Words.{texts_of, AreWrong, AskHelp};
+ghost use Rattle.mx_cli.specs.Told.{Helps, Scolds, seen};
 ghost use Rattle.mx_commands.specs.Ran.{IsRunStatus};
 ghost use Rattle.mx_views.specs.ViewWords.{views_asked, view_line};
 
@@ -10,7 +10,9 @@ use crate::fetching::fetch_run;
 use crate::showing::show;
 use crate::view::View;
 use crate::words::{Wish, asked_wish};
-use mx_commands::{Fault, Output, Source, Stop, close, refuse, start};
+use mx_cli::{Fault, Stop, close, refuse};
+use mx_commands::start;
+use mx_io::{Output, Source};
 use mx_maekawa::Maekawa;
 use mx_network::Event;
 use mx_plan::{Place, Plan, PlanFault, Shape};

@@ -2,11 +2,11 @@
 
 ghost use Rattle.std.specs.Prelude.{◌≡◌, [], IfOk, IfErr, option_map};
 ghost use Rattle.clap.specs.Words.{app_of, fault_of, found_of, rows_of, subcommand_rows_of, HasKind};
-ghost use Rattle.mx_words.specs.Words.{IsCommand, texts_of};
+ghost use Rattle.mx_cli.specs.Words.{IsCommand, texts_of};
 ghost use Rattle.mx_views.specs.ViewWords.{shown_by, view_app, view_in, view_line, views_asked, views_in};
 
 use clap::{ArgMatches, Command, Error};
-use mx_words::{
+use mx_cli::{
     Names, flag_arg, is_given, line_of, matches_in, names_at, replay_command, text_arg, text_at,
 };
 use std::alloc::{AllocError, Global};

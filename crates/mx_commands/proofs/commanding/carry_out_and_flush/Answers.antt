@@ -1,8 +1,8 @@
 use Rattle.std.proofs.Common.{◌≡◌, ◌∙◌, Bool, Err, ap}
 use Rattle.std.specs.Bool.{⊤}
-use Rattle.mx_words.specs.Words.{task_of}
+use Rattle.mx_cli.specs.Words.{task_of}
 use Rattle.mx_io.specs.Outputs.{refused_by}
-use Rattle.mx_stops.specs.Outputs.{stop_of}
+use Rattle.mx_cli.specs.Outputs.{stop_of}
 use Rattle.mx_commands.proofs.CommandLemmas.{flushed, not_refused, passed_on, true_not_false, unflushed}
 use Rattle.mx_commands.proofs.RunLemmas.{err_is, refused_on}
 use Rattle.mx_commands.proofs.commanding.carry_out_and_flush.Goals as goal

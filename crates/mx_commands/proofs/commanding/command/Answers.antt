@@ -1,5 +1,5 @@
-use Rattle.mx_words.specs.Words.{texts_of, mx_app}
-use Rattle.mx_stops.specs.Told.{seen}
+use Rattle.mx_cli.specs.Words.{texts_of, mx_app}
+use Rattle.mx_cli.specs.Told.{seen}
 use Rattle.mx_commands.proofs.CommandLemmas.{status_refused, task_refused}
 use Rattle.mx_commands.proofs.commanding.command.Goals as goal
 

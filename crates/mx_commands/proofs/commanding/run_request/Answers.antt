@@ -1,8 +1,8 @@
 use Rattle.std.proofs.Common.{refl, subst}
-use Rattle.mx_words.specs.Words.{task_of}
+use Rattle.mx_cli.specs.Words.{task_of}
 use Rattle.mx_plan.specs.Text.{Text}
-use Rattle.mx_stops.specs.FaultLines.{fault_line}
-use Rattle.mx_stops.specs.Told.{TellsFault, seen}
+use Rattle.mx_cli.specs.FaultLines.{fault_line}
+use Rattle.mx_cli.specs.Told.{TellsFault, seen}
 use Rattle.mx_commands.proofs.CommandLemmas.{runs_fault, runs_refused, runs_short}
 use Rattle.mx_commands.proofs.commanding.run_request.Goals as goal
 

@@ -1,5 +1,5 @@
 use Rattle.std.proofs.Common.{◌∙◌, ◌++◌, List, ap, length, refl, string_bytes}
-use Rattle.mx_traces.specs.declared.outcome.Entry.{Entry}
+use Rattle.mx_sections.specs.declared.outcome.Entry.{Entry}
 use Rattle.mx_plan.specs.Text.{Text}
 use Rattle.std.specs.List.{count_by}
 use Rattle.mx_texts.specs.PlanTexts.{explored_line}

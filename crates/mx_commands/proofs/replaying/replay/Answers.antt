@@ -1,8 +1,8 @@
 use Rattle.std.proofs.Common.{◌∙◌, List, Ok, Option, subst, sym, ℕ}
 use Rattle.std.specs.Prelude.{IfSome}
-use Rattle.mx_words.specs.Words.{names_of}
+use Rattle.mx_cli.specs.Words.{names_of}
 use Rattle.mx_io.specs.Told.{Telling}
-use Rattle.mx_stops.specs.Reading.{Reads}
+use Rattle.mx_cli.specs.Reading.{Reads}
 use Rattle.mx_commands.specs.Jobs.{on_events, replay_two}
 use Rattle.mx_commands.specs.Ran.{Ran, RanOn}
 use Rattle.mx_commands.proofs.JobLemmas.{by_two, in_some, two_read}

@@ -2,7 +2,7 @@ use Rattle.std.proofs.Common.{◌≡◌, Err, List, Result, length, subst, sym}
 use Rattle.mx_events.specs.declared.event.Event.{Event}
 use Rattle.mx_plan.specs.Events.{events_at}
 use Rattle.mx_plan.specs.declared.faults.PlanFault.{PlanFault}
-use Rattle.mx_stops.specs.Reading.{refusal_of}
+use Rattle.mx_cli.specs.Reading.{refusal_of}
 use Rattle.mx_commands.specs.Jobs.{run_by, where_read}
 use Rattle.mx_commands.specs.Ran.{Ran}
 use Rattle.mx_commands.specs.Runs.{AllNameNodes}

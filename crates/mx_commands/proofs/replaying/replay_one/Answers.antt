@@ -1,5 +1,5 @@
 use Rattle.std.proofs.Common.{◌≡◌, Err, List, Ok, Some, subst, ℕ}
-use Rattle.mx_stops.specs.Reading.{Reads}
+use Rattle.mx_cli.specs.Reading.{Reads}
 use Rattle.mx_commands.specs.Jobs.{report_of_events}
 use Rattle.mx_commands.specs.Ran.{Ran}
 use Rattle.mx_commands.proofs.JobLemmas.{line_read, line_unread}

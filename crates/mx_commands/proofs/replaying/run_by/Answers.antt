@@ -5,7 +5,7 @@ use Rattle.mx_raymond.specs.Step.{raymond_core}
 use Rattle.mx_plan.specs.Fields.{IsShape}
 use Rattle.mx_plan.specs.declared.shape.Shape.{Shape}
 use Rattle.mx_commands.specs.Jobs.{run_by}
-use Rattle.mx_stops.specs.declared.faults.Stop.TheVariants as stop
+use Rattle.mx_cli.specs.declared.faults.Stop.TheVariants as stop
 use Rattle.mx_commands.proofs.JobLemmas.{ran_out}
 use Rattle.mx_commands.proofs.RunLemmas.{err_is, members_at_rest}
 use Rattle.mx_commands.proofs.replaying.run_by.Goals as goal

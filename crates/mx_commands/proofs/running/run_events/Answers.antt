@@ -5,11 +5,11 @@ use Rattle.mx_network.specs.Step.{step_of}
 use Rattle.mx_events.specs.declared.event.Event.{Event}
 use Rattle.mx_plan.specs.Text.{Text}
 use Rattle.mx_commands.specs.Runs.{NamesNodes, after_texts, closing_text, ends_with, run_from, text_of}
-use Rattle.mx_stops.specs.declared.faults.Stop.TheVariants as stop
+use Rattle.mx_cli.specs.declared.faults.Stop.TheVariants as stop
 use Rattle.mx_io.specs.Outputs.{refused_by}
-use Rattle.mx_stops.specs.Outputs.{stop_of}
+use Rattle.mx_cli.specs.Outputs.{stop_of}
 use Rattle.mx_commands.specs.Ran.{StopsAt}
-use Rattle.mx_stops.proofs.OutputLemmas.{Appends-nil, appends_more}
+use Rattle.mx_cli.proofs.OutputLemmas.{Appends-nil, appends_more}
 use Rattle.mx_commands.proofs.RunLemmas.{after_after, done_some, err_is, grows, named_at, ran_to, refused_on, rest, rest_end, rest_ok, stopped_at, stopped_by, stops_taken}
 use Rattle.mx_commands.proofs.running.run_events.Goals as goal
 

@@ -1,5 +1,5 @@
-use Rattle.mx_words.specs.Words.{texts_of}
-use Rattle.mx_stops.specs.Told.{seen}
+use Rattle.mx_cli.specs.Words.{texts_of}
+use Rattle.mx_cli.specs.Told.{seen}
 use Rattle.mx_count.proofs.ClosedLemmas.{printed_refused, status_refused}
 use Rattle.mx_count.specs.CountWords.{count_line}
 use Rattle.mx_count.proofs.counting.count.Goals as goal

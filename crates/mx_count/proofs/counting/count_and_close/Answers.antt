@@ -1,5 +1,5 @@
 use Rattle.std.specs.Prelude.{◌&&◌}
-use Rattle.mx_words.specs.Words.{names_of}
+use Rattle.mx_cli.specs.Words.{names_of}
 use Rattle.mx_count.specs.CountWords.{order_of}
 use Rattle.mx_count.proofs.ClosedLemmas.{closed_done, closed_status}
 use Rattle.mx_count.proofs.PrintedLemmas.{printed_keeps}

@@ -1,4 +1,4 @@
-use Rattle.mx_tallies.proofs.ListedLemmas.{on_ok}
+use Rattle.mx_count.proofs.ListedLemmas.{on_ok}
 use Rattle.mx_count.proofs.PrintedLemmas.{drawn_printed}
 use Rattle.mx_count.proofs.counting.count_drawn.Goals as goal
 

@@ -1,9 +1,9 @@
 use Rattle.std.proofs.Common.{◌∙◌, Option, IfOk, subst, sym}
-use Rattle.mx_words.specs.Words.{names_of}
+use Rattle.mx_cli.specs.Words.{names_of}
 use Rattle.mx_plan.specs.Text.{Text}
 use Rattle.mx_io.specs.Told.{Telling}
-use Rattle.mx_tallies.specs.Listed.{PrintsTold}
-use Rattle.mx_tallies.proofs.ListedLemmas.{on_ok}
+use Rattle.mx_count.specs.Listed.{PrintsTold}
+use Rattle.mx_count.proofs.ListedLemmas.{on_ok}
 use Rattle.mx_count.proofs.PrintedLemmas.{one_printed, two_printed}
 use Rattle.mx_count.proofs.counting.count_given.Goals as goal
 

@@ -1,6 +1,6 @@
 use Rattle.std.proofs.Common.{refl}
-use Rattle.mx_words.specs.Words.{texts_of}
-use Rattle.mx_words.proofs.WordLemmas.{answered}
+use Rattle.mx_cli.specs.Words.{texts_of}
+use Rattle.mx_cli.proofs.WordLemmas.{answered}
 use Rattle.mx_count.specs.CountWords.{count_line, order_asked, order_in}
 use Rattle.mx_count.proofs.words.asked_order.Goals as goal
 

@@ -1,5 +1,5 @@
 use Rattle.std.proofs.lemmas.Result.{IfOk-weaker}
-use Rattle.mx_words.proofs.WordLemmas.{with_command}
+use Rattle.mx_cli.proofs.WordLemmas.{with_command}
 use Rattle.mx_count.specs.CountWords.{count_line}
 use Rattle.mx_count.proofs.words.count_line.Goals as goal
 

@@ -1,7 +1,7 @@
 use Rattle.std.proofs.Common.{ap}
 use Rattle.std.proofs.lemmas.Result.{IfOk-weaker}
 use Rattle.std.proofs.Common.{◌∙◌}
-use Rattle.mx_words.specs.Words.{line_with}
+use Rattle.mx_cli.specs.Words.{line_with}
 use Rattle.mx_count.proofs.words.counted_line.Goals as goal
 
 pub returns : goal.returns

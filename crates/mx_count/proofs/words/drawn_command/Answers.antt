@@ -1,4 +1,4 @@
-use Rattle.mx_words.proofs.WordLemmas.{with_last}
+use Rattle.mx_cli.proofs.WordLemmas.{with_last}
 use Rattle.mx_count.proofs.words.drawn_command.Goals as goal
 
 pub returns : goal.returns

@@ -1,7 +1,7 @@
 use Rattle.std.proofs.Common.{IfErr, ap, rules, sym, subst, ◌∙◌}
 use Rattle.clap.specs.Kinds.{HasKind}
-use Rattle.mx_words.specs.Words.{line_with, texts_of}
-use Rattle.mx_words.proofs.WordLemmas.{answered, readable, same_faults}
+use Rattle.mx_cli.specs.Words.{line_with, texts_of}
+use Rattle.mx_cli.proofs.WordLemmas.{answered, readable, same_faults}
 use Rattle.mx_explain.specs.Asked.{explain_line, task_asked, task_in}
 use Rattle.mx_explain.proofs.AskedLemmas.{line_is_readable}
 use Rattle.mx_explain.proofs.asking.asked_explain.Goals as goal

@@ -1,5 +1,5 @@
 use Rattle.std.proofs.Common.{◌≡◌, Err}
-use Rattle.mx_words.specs.Words.{task_of}
+use Rattle.mx_cli.specs.Words.{task_of}
 use Rattle.mx_commands.proofs.RunLemmas.{err_is}
 use Rattle.mx_explain.proofs.ExplainLemmas.{ran_of_for, ran_unprinted}
 use Rattle.mx_explain.proofs.explaining.carry_out_and_explain.Goals as goal

@@ -1,5 +1,5 @@
-use Rattle.mx_words.specs.Words.{texts_of}
-use Rattle.mx_stops.specs.Told.{seen}
+use Rattle.mx_cli.specs.Words.{texts_of}
+use Rattle.mx_cli.specs.Told.{seen}
 use Rattle.mx_explain.proofs.ExplainLemmas.{status_refused, task_refused}
 use Rattle.mx_explain.specs.Asked.{explain_line}
 use Rattle.mx_explain.proofs.explaining.explain.Goals as goal

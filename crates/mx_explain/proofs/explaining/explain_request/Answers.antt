@@ -1,7 +1,7 @@
 use Rattle.std.proofs.Common.{subst, Bool}
-use Rattle.mx_words.specs.Words.{task_of}
+use Rattle.mx_cli.specs.Words.{task_of}
 use Rattle.mx_plan.specs.Text.{Text}
-use Rattle.mx_stops.specs.Closed.{Closes}
+use Rattle.mx_cli.specs.Closed.{Closes}
 use Rattle.mx_commands.specs.Jobs.{names_in}
 use Rattle.std.specs.Prelude.{◌&&◌}
 use Rattle.mx_explain.proofs.ExplainLemmas.{closed_status, explained}

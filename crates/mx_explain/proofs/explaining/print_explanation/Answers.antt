@@ -1,6 +1,6 @@
 use Rattle.std.proofs.Common.{◌≡◌, Err}
-use Rattle.mx_stops.specs.declared.faults.Stop.TheVariants as stop
-use Rattle.mx_stops.specs.Outputs.{stop_of}
+use Rattle.mx_cli.specs.declared.faults.Stop.TheVariants as stop
+use Rattle.mx_cli.specs.Outputs.{stop_of}
 use Rattle.mx_commands.proofs.RunLemmas.{err_is}
 use Rattle.mx_explain.proofs.ExplainLemmas.{put_fails, runs_out}
 use Rattle.mx_explain.proofs.explaining.print_explanation.Goals as goal

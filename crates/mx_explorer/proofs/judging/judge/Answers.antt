@@ -1,6 +1,6 @@
 use Rattle.std.proofs.Common.{◌≡◌, [], sym, ◌∙◌}
-use Rattle.mx_traces.specs.Sections.{after_marks}
-use Rattle.mx_traces.specs.Trace.{mark_of}
+use Rattle.mx_sections.specs.Sections.{after_marks}
+use Rattle.mx_sections.specs.Trace.{mark_of}
 use Rattle.mx_explorer.specs.declared.verdict.Verdict.TheVariants.{Sound, Broken}
 use Rattle.mx_explorer.proofs.Judged.{found_here, judged, nothing_here, nothing_left, whole}
 use Rattle.mx_explorer.proofs.judging.judge.Goals as goal

@@ -1,5 +1,5 @@
 use Rattle.std.proofs.Common.{◌≡◌, List, [], drop}
-use Rattle.mx_traces.specs.Sections.{Section}
+use Rattle.mx_sections.specs.Sections.{Section}
 use Rattle.mx_explorer.specs.Ledger.{IsLedgerOf}
 use Rattle.mx_explorer.proofs.Judged.{judged, shifted}
 use Rattle.mx_explorer.proofs.judging.judge.Given as goal

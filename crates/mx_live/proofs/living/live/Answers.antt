@@ -1,7 +1,7 @@
-use Rattle.mx_words.specs.Words.{texts_of}
-use Rattle.mx_stops.specs.Told.{seen}
+use Rattle.mx_cli.specs.Words.{texts_of}
+use Rattle.mx_cli.specs.Told.{seen}
 use Rattle.mx_live.proofs.RefusedLemmas.{nothing_refused, order_refused}
-use Rattle.mx_words.specs.LiveWords.{live_line}
+use Rattle.mx_cli.specs.LiveWords.{live_line}
 use Rattle.mx_live.proofs.living.live.Goals as goal
 
 pub returns-in-Err-clause-lives : goal.returns-in-Err-clause-lives

@@ -1,5 +1,5 @@
 use Rattle.std.proofs.lemmas.Result.{err_from_is_err_and}
-use Rattle.mx_words.specs.LiveWords.{order_of}
+use Rattle.mx_cli.specs.LiveWords.{order_of}
 use Rattle.mx_live.proofs.HaltLemmas.{plan_ends}
 use Rattle.mx_live.proofs.living.live_and_show.Goals as goal
 

@@ -1,5 +1,5 @@
 use Rattle.std.proofs.Common.{ℕ, ◌*◌, ◌≤◌, ◌∙◌, arith, subst}
-use Rattle.mx_words.specs.LiveWords.{order_of}
+use Rattle.mx_cli.specs.LiveWords.{order_of}
 use Rattle.mx_live.proofs.HaltLemmas.{shown_ends}
 use Rattle.mx_live.proofs.living.live_plan.Goals as goal
 

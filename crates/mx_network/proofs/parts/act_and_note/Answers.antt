@@ -1,7 +1,7 @@
 use Rattle.std.proofs.Common.{ℕ, ◌∙◌, [], ◌∷◌, ◌++◌, ap, length}
 use Rattle.mx_member.specs.declared.acts.Answer.{Answer}
 use Rattle.mx_member.specs.Acts.{act_of}
-use Rattle.mx_traces.specs.declared.outcome.Outcome.{Outcome}
+use Rattle.mx_sections.specs.declared.outcome.Outcome.{Outcome}
 use Rattle.mx_network.specs.Outcome.{outcome_of}
 use Rattle.mx_network.specs.Step.{act_in}
 use Rattle.mx_network.proofs.parts.act_and_note.Goals as goal

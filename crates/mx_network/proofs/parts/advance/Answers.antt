@@ -3,7 +3,7 @@ use Rattle.std.proofs.lemmas.Result.{IfOk-from_err}
 use Rattle.mx_nodelaws.specs.World.{sent_by}
 use Rattle.mx_member.specs.declared.parcel.Parcel.{Parcel}
 use Rattle.mx_member.specs.Acts.{IsDoable}
-use Rattle.mx_traces.specs.declared.outcome.Entry.{Entry}
+use Rattle.mx_sections.specs.declared.outcome.Entry.{Entry}
 use Rattle.mx_network.specs.Step.{act_in, answer_of, cluster_state_of, IsOfSent, SendsAct}
 use Rattle.mx_network.proofs.EventParts.{was_sent}
 use Rattle.mx_network.proofs.Happening.{at_err, at_place, fault_told, gone, grown_parts, memory_alone, memory_told, part_is, same_parts, unchanged, without}

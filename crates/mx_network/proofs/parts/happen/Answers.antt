@@ -1,8 +1,8 @@
 use Rattle.std.proofs.Common.{◌≡◌, ◌<◌, ◌∙◌, List, [], ◌∷◌, ◌++◌, ap, arith, length, rules, sym}
 use Rattle.std.proofs.Math.ListN.{length-append}
 use Rattle.std.proofs.lemmas.Result.{IfOk-from_err}
-use Rattle.mx_traces.specs.declared.outcome.Entry.{Entry}
-use Rattle.mx_traces.specs.declared.outcome.Outcome.{Outcome}
+use Rattle.mx_sections.specs.declared.outcome.Entry.{Entry}
+use Rattle.mx_sections.specs.declared.outcome.Outcome.{Outcome}
 use Rattle.mx_network.proofs.Happening.{at_err, fault_told}
 use Rattle.mx_network.proofs.parts.happen.Goals as goal
 

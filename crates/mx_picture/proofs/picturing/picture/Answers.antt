@@ -1,5 +1,5 @@
-use Rattle.mx_words.specs.Words.{texts_of}
-use Rattle.mx_stops.specs.Told.{seen}
+use Rattle.mx_cli.specs.Words.{texts_of}
+use Rattle.mx_cli.specs.Told.{seen}
 use Rattle.mx_picture.proofs.RefusedLemmas.{names_refused}
 use Rattle.mx_picture.specs.PictureWords.{picture_line}
 use Rattle.mx_picture.proofs.picturing.picture.Goals as goal

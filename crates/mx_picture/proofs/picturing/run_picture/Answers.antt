@@ -1,7 +1,7 @@
 use Rattle.std.proofs.Common.{Bool, subst}
 use Rattle.std.specs.Prelude.{◌&&◌}
-use Rattle.mx_words.specs.Words.{names_of}
-use Rattle.mx_stops.specs.Closed.{Closes}
+use Rattle.mx_cli.specs.Words.{names_of}
+use Rattle.mx_cli.specs.Closed.{Closes}
 use Rattle.mx_picture.proofs.KeptLemmas.{drawn_kept}
 use Rattle.mx_picture.proofs.picturing.run_picture.Goals as goal
 

@@ -1,6 +1,6 @@
 use Rattle.std.proofs.Common.{refl}
-use Rattle.mx_words.specs.Words.{texts_of}
-use Rattle.mx_words.proofs.WordLemmas.{answered}
+use Rattle.mx_cli.specs.Words.{texts_of}
+use Rattle.mx_cli.proofs.WordLemmas.{answered}
 use Rattle.mx_picture.specs.PictureWords.{names_asked, names_in, picture_line}
 use Rattle.mx_picture.proofs.words.asked_names.Goals as goal
 

@@ -2,8 +2,8 @@ use Rattle.std.proofs.Common.{IfErr, IfOk, [], subst, ◌≡◌}
 use Rattle.clap.specs.Faults.{fault_of}
 use Rattle.clap.specs.Kinds.{HasKind}
 use Rattle.clap.specs.Words.{App, subcommand_of, subcommand_rows_of}
-use Rattle.mx_words.specs.Words.{texts_of}
-use Rattle.mx_words.proofs.WordLemmas.{readable}
+use Rattle.mx_cli.specs.Words.{texts_of}
+use Rattle.mx_cli.proofs.WordLemmas.{readable}
 use Rattle.mx_picture.proofs.PictureWordLemmas.{line_is_readable}
 use Rattle.mx_picture.proofs.words.matches_of.Goals as goal
 

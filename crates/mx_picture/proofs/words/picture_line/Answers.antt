@@ -1,6 +1,6 @@
 use Rattle.std.proofs.Common.{ap, ◌∙◌}
 use Rattle.std.proofs.lemmas.Result.{IfOk-weaker}
-use Rattle.mx_words.specs.Words.{line_with}
+use Rattle.mx_cli.specs.Words.{line_with}
 use Rattle.mx_picture.specs.PictureWords.{picture_line}
 use Rattle.mx_picture.proofs.words.picture_line.Goals as goal
 

@@ -1,4 +1,4 @@
-use Rattle.mx_words.specs.Words.{names_of}
+use Rattle.mx_cli.specs.Words.{names_of}
 use Rattle.mx_scripts.proofs.ErrandLemmas.{script_done, text_planned}
 use Rattle.mx_scripts.proofs.errands.print_two.Goals as goal
 

@@ -1,7 +1,7 @@
 use Rattle.std.proofs.Common.{Bool, ◌&&◌, subst}
-use Rattle.mx_words.specs.Words.{names_of}
+use Rattle.mx_cli.specs.Words.{names_of}
 use Rattle.mx_plan.specs.Text.{Text}
-use Rattle.mx_stops.specs.Closed.{Closes}
+use Rattle.mx_cli.specs.Closed.{Closes}
 use Rattle.mx_scripts.specs.Errands.{draw_job}
 use Rattle.mx_scripts.specs.Tasks.{draw}
 use Rattle.mx_scripts.proofs.ErrandLemmas.{closed_done, closed_status, done_keeps, job_kept}

@@ -1,5 +1,5 @@
 use Rattle.std.proofs.Common.{◌&&◌}
-use Rattle.mx_words.specs.Words.{names_of}
+use Rattle.mx_cli.specs.Words.{names_of}
 use Rattle.mx_scripts.specs.Tasks.{walk}
 use Rattle.mx_scripts.proofs.ErrandLemmas.{closed_done, closed_status, done_keeps}
 use Rattle.mx_scripts.proofs.errands.run_walk.Goals as goal

@@ -1,5 +1,5 @@
-use Rattle.mx_words.specs.Words.{texts_of}
-use Rattle.mx_stops.specs.Told.{seen}
+use Rattle.mx_cli.specs.Words.{texts_of}
+use Rattle.mx_cli.specs.Told.{seen}
 use Rattle.mx_views.proofs.ClosedLemmas.{status_refused}
 use Rattle.mx_views.specs.ViewWords.{view_line}
 use Rattle.mx_views.proofs.viewing.replay_view.Goals as goal

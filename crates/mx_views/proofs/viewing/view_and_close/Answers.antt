@@ -1,5 +1,5 @@
 use Rattle.std.specs.Prelude.{◌&&◌}
-use Rattle.mx_words.specs.Words.{names_of}
+use Rattle.mx_cli.specs.Words.{names_of}
 use Rattle.mx_views.proofs.ClosedLemmas.{closed_status}
 use Rattle.mx_views.proofs.viewing.view_and_close.Goals as goal
 

@@ -1,7 +1,7 @@
 use Rattle.std.proofs.Common.{IfErr, ap, rules, sym, subst, ◌∙◌}
 use Rattle.clap.specs.Kinds.{HasKind}
-use Rattle.mx_words.specs.Words.{line_with, texts_of}
-use Rattle.mx_words.proofs.WordLemmas.{answered, readable, same_faults}
+use Rattle.mx_cli.specs.Words.{line_with, texts_of}
+use Rattle.mx_cli.proofs.WordLemmas.{answered, readable, same_faults}
 use Rattle.mx_views.specs.ViewWords.{view_line, views_asked, views_in}
 use Rattle.mx_views.proofs.ViewWordLemmas.{line_is_readable}
 use Rattle.mx_views.proofs.words.asked_wish.Goals as goal

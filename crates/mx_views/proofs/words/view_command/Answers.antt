@@ -1,4 +1,4 @@
-use Rattle.mx_words.proofs.WordLemmas.{with_last, with_one}
+use Rattle.mx_cli.proofs.WordLemmas.{with_last, with_one}
 use Rattle.mx_views.proofs.words.view_command.Goals as goal
 
 pub returns : goal.returns

@@ -1,0 +1,145 @@
+-- What the matches of a command line say.
+use Rattle.std.proofs.Common.{◌≡◌, ◌∙◌, ◌<◌, ◌^◌, ℕ, Bool, List, [], Option, Some, None, arith, refl, sym, subst, ap, true, false, ◌∷◌, IsSome, IfOk, IfErr, Result, Ok, Err}
+use Rattle.std.specs.Prelude.{option_and_then}
+use Rattle.std.specs.Str.Parse.{IsNumeral, ParsesUnsigned, digits_value, without_leading_plus}
+use Rattle.clap.specs.declared.parser.matches.ArgMatches.{ArgMatches}
+use Rattle.std.proofs.Common.{ap₂, ◌||◌}
+use Rattle.std.proofs.lemmas.Result.{IfOk-weaker}
+use Rattle.std.specs.declared.alloc.AllocError.{AllocError}
+use Rattle.clap.specs.declared.builder.arg.Arg.{Arg}
+use Rattle.clap.specs.declared.builder.command.Command.{Command}
+use Rattle.clap.specs.Words.{AddsArg, AddsSubcommand, App, ReadsOne, Row, Rule, Text, app_of, is_simple, one_text, rule_of, subcommand_of, subcommand_rows_of, with_rule, with_subcommand}
+use Rattle.clap.specs.ValueTests.{is_unsigned_in}
+use Rattle.clap.specs.declared.builder.value_parser.ValueParser.TheVariants.{Unsigned}
+use Rattle.clap.specs.Walk.{rows_of}
+use Rattle.clap.specs.Kinds.{FailsBy, HasKind, IsAmong, Kinds}
+use Rattle.clap.specs.declared.error.Error.{Error}
+use Rattle.clap.specs.declared.error.kind.ErrorKind.{ErrorKind}
+use Rattle.clap.specs.declared.parser.matches.Found.{Found}
+use Rattle.clap.proofs.WalkLemmas.{one_text-rows}
+use Rattle.clap.proofs.ValueTestLemmas.{Accepts-accepts, accepts-Accepts}
+use Rattle.clap.specs.Faults.{fault_of, is_simple_and_free}
+use Rattle.clap.proofs.OnLiterals.{clap_on_literals}
+use Rattle.mx_cli.specs.Words.{AddsArgMade, AddsBothMade, AddsMade, IsArgument, IsCommand, IsReadable, asked_of, mx_app, needed, number_at, number_of, task_asked, task_in, where_none}
+
+-- ---- numbers
+
+number_is : (t : Text) → IsNumeral 10 (without_leading_plus t) → digits_value 10 (without_leading_plus t) < 2 ^ 64 → is_unsigned_in 0 18446744073709551615 t ≡ true
+number_is t numeral fits = Accepts-accepts false (Unsigned 0 18446744073709551615) t (numeral, fits, omega arith, omega arith)
+
+is_number : (t : Text) → is_unsigned_in 0 18446744073709551615 t ≡ true → IsNumeral 10 (without_leading_plus t) × (digits_value 10 (without_leading_plus t) < 2 ^ 64)
+is_number t h = let a = accepts-Accepts false (Unsigned 0 18446744073709551615) t h in (a.0, a.1)
+
+is_false : (b : Bool) → (b ≡ true → ⊥) → b ≡ false
+is_false true h = absurd (h refl)
+is_false false h = refl
+
+-- what a text reads as is the number that it writes
+module _ {E : Type 0} (G : List ℕ → Result ℕ E → Type 0) (only : (t : List ℕ) (r : Result ℕ E) → G t r → ParsesUnsigned 64 10 t r) where
+  text_read : (t : Text) (r : Option ℕ) → ReadsOne G t r → r ≡ number_of t
+  text_read t (Some n) h =
+      let parsed = only t (Ok n) h in
+      rw (number_is t parsed.0.0 parsed.0.1) (ap Some parsed.1)
+  text_read t None h = rw (is_false (is_unsigned_in 0 18446744073709551615 t) (λ yes. only t (Err h.0) h.1 (is_number t yes))) refl
+
+  found_read : (o : Option Text) (r : Option ℕ) → (o ≡ None → r ≡ None) → ((t : List ℕ) → o ≡ Some t → ReadsOne G t r) → r ≡ option_and_then number_of o
+  found_read None r none some = none refl
+  found_read (Some t) r none some = text_read t r (some t refl)
+
+  pub number_read : (f : Found) (id : Text) (r : Option ℕ) → (one_text f id ≡ None → r ≡ None) → ((t : List ℕ) → one_text f id ≡ Some t → ReadsOne G t r) → r ≡ number_at id (rows_of f)
+  number_read f id r none some = found_read (one_text f id) r none some ∙ ap (option_and_then number_of) (one_text-rows f id)
+
+-- ---- arguments and commands
+
+module _ {before : Arg} {rule : Rule} where
+  pub is_needed : {after : Arg} → IsArgument rule before → after ≡ (let a : Arg = record before { required = true } in a) → IsArgument (needed rule) after
+  is_needed h e = record {
+    rule = ap rule_of e ∙ ap needed h.rule;
+    local = ap (λ (a : Arg). a.global) e ∙ h.local;
+  }
+
+module _ {before : Command} {app : App} {argument : Arg} {rule : Rule} where
+  pub with_one : {after : Command} → IsCommand app before → IsArgument rule argument → AddsArg before argument after → IsCommand (with_rule app rule) after
+  with_one h i adds = record {
+    app = adds.shape i.local ∙ ap₂ with_rule h.app i.rule;
+    local = adds.globals ∙ ap₂ ◌||◌ h.local i.local;
+  }
+
+  pub with_last : (r : Result Command AllocError) → IsCommand app before → IsArgument rule argument → IfOk r (AddsArg before argument) → IfOk r (IsCommand (with_rule app rule))
+  with_last r h i = IfOk-weaker r _ _ (λ command adds. with_one h i adds)
+
+module _ (app : App) {argument : Arg} {rule : Rule} where
+  made_with_one : (begun : Result Command AllocError) (after : Command) → IfOk begun (IsCommand app) → IsArgument rule argument → AddsArgMade begun argument after → IsCommand (with_rule app rule) after
+  made_with_one (Ok command) after h i adds = with_one h i adds
+  made_with_one (Err e) after h i adds = absurd adds
+
+  -- the same of a command that was made
+  pub with_arg : (begun r : Result Command AllocError) → IfOk begun (IsCommand app) → IsArgument rule argument → IfOk r (AddsArgMade begun argument) → IfOk r (IsCommand (with_rule app rule))
+  with_arg begun r h i = IfOk-weaker r _ _ (λ command adds. made_with_one begun command h i adds)
+
+-- a command line with one more command
+pub with_command : {before after command : Command} {line app : App} → app_of before ≡ line → IsCommand app command → AddsSubcommand before command after → app_of after ≡ with_subcommand line app.top
+with_command e h adds = adds.shape h.local ∙ ap₂ with_subcommand e (ap (λ (a : App). a.top) h.app)
+
+-- the same of a command that was made
+pub with_made : (before after : Command) (made : Result Command AllocError) {line : App} (app : App) → app_of before ≡ line → IfOk made (IsCommand app) → AddsMade before made after → app_of after ≡ with_subcommand line app.top
+with_made before after (Ok command) app e h adds = with_command e h adds
+with_made before after (Err error) app e h adds = absurd adds
+
+with_both : (begun made : Result Command AllocError) (after : Command) (line app : App) → IfOk begun (λ l. app_of l ≡ line) → IfOk made (IsCommand app) → AddsBothMade begun made after
+    → app_of after ≡ with_subcommand line app.top
+with_both (Ok before) made after line app e h adds = with_made before after made app e h adds
+with_both (Err error) made after line app e h adds = absurd adds
+
+-- the same of a command line that was made too
+pub with_command_made : (begun made r : Result Command AllocError) (line app : App) → IfOk begun (λ l. app_of l ≡ line) → IfOk made (IsCommand app) → IfOk r (AddsBothMade begun made)
+    → IfOk r (λ l. app_of l ≡ with_subcommand line app.top)
+with_command_made begun made r line app e h = IfOk-weaker r _ _ (λ command adds. with_both begun made command line app e h adds)
+
+-- ---- a parse
+
+pub mx_is_readable : IsReadable mx_app
+unfolding clap_on_literals mx_app
+mx_is_readable = record { plain = refl; free = refl }
+
+-- what the parse of a command line answers
+pub parsed : (line : App) (words : List Text) (r : Result ArgMatches Error) → FailsBy (fault_of line words) r → IfOk r (λ m. subcommand_rows_of m ≡ subcommand_of line words)
+    → IfOk r (λ m. fault_of line words ≡ []) × IfOk r (λ m. subcommand_rows_of m ≡ subcommand_of line words) × IfErr r (HasKind (fault_of line words))
+parsed line words (Ok m) none found = (none, found, tt)
+parsed line words (Err e) kinds found = (tt, tt, kinds)
+
+-- what a line that is read as this application answers, and what is read of its matches
+module _ {line app : App} (is : line ≡ app) where
+  pub readable : IsReadable app → IsReadable line
+  readable h = record { plain = ap is_simple is ∙ h.plain; free = ap is_simple_and_free is ∙ h.free }
+
+  pub same_faults : (words : List Text) → fault_of line words ≡ fault_of app words
+  same_faults words = ap (λ a. fault_of a words) is
+
+  -- what its matches say is what the application says
+  pub found_as : (words : List Text) (r : Result ArgMatches Error) → IfOk r (λ m. subcommand_rows_of m ≡ subcommand_of line words) → IfOk r (λ m. subcommand_rows_of m ≡ subcommand_of app words)
+  found_as words r found = subst (λ a. IfOk r (λ m. subcommand_rows_of m ≡ subcommand_of a words)) is found
+
+  pub read_as : (words : List Text) (r : Result ArgMatches Error) → IfOk r (λ m. fault_of line words ≡ []) → IfOk r (λ m. fault_of app words ≡ [])
+  read_as words r read = subst (λ a. IfOk r (λ m. fault_of a words ≡ [])) is read
+
+  pub fails_as : (words : List Text) (r : Result ArgMatches Error) → IfErr r (HasKind (fault_of line words)) → IfErr r (HasKind (fault_of app words))
+  fails_as words r fails = subst (λ a. IfErr r (HasKind (fault_of a words))) is fails
+
+  pub answered : {X : Type 0} (read : Option (Text × List Row) → Option X) (words : List Text) {rows : Option (Text × List Row)} {o : Option X} → fault_of line words ≡ [] → rows ≡ subcommand_of line words → o ≡ read rows → o ≡ asked_of app read words
+  answered read words none found e =
+      e ∙ ap read (found ∙ ap (λ a. subcommand_of a words) is) ∙ sym (ap (λ kinds. where_none kinds (read (subcommand_of app words))) (sym (same_faults words) ∙ none))
+
+-- ---- what an error's kind says of the words
+
+none_among : {X : Type 0} (kinds : Kinds) (k : ErrorKind) (o : Option X) → IsAmong k kinds → IsSome (where_none kinds o) → ⊥
+none_among [] k o among s = absurd among
+none_among (x ∷ xs) k o among s = let bad : false ≡ true = s in cc
+
+-- words that ask for something are refused only where memory runs out
+pub none_asked : {X : Type 0} (line : App) (read : Option (Text × List Row) → Option X) (words : List Text) (k : ErrorKind) → IsAmong k (fault_of line words) → IsSome (asked_of line read words) → ⊥
+none_asked line read words k among s = none_among (fault_of line words) k (read (subcommand_of line words)) among s
+
+pub no_task_among : (words : List Text) (k : ErrorKind) → IsAmong k (fault_of mx_app words) → IsSome (task_asked words) → ⊥
+unfolding task_asked
+no_task_among words k among s = none_asked mx_app task_in words k among s

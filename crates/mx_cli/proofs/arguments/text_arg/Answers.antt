@@ -1,0 +1,10 @@
+use Rattle.std.proofs.Common.{ap, ◌∙◌, Some}
+use Rattle.clap.specs.Words.{Rule, rule_of}
+use Rattle.clap.specs.declared.builder.arg.Arg.{Arg}
+use Rattle.mx_cli.proofs.arguments.text_arg.Goals as goal
+
+pub returns : goal.returns
+returns c = record {
+  rule = ap rule_of c.help.ensures ∙ (ap rule_of c.long.ensures ∙ ap (λ (r : Rule). let q : Rule = record r { long = Some c.args.id.now } in q) c.new.ensures.rule);
+  local = ap (λ (a : Arg). a.global) c.help.ensures ∙ ap (λ (a : Arg). a.global) c.long.ensures ∙ c.new.ensures.optional.1;
+}

@@ -1,0 +1,22 @@
+-- How a run is closed: by its status, and by what standard error gets.
+use Rattle.std.specs.Prelude.{◌≡◌, ◌⊎◌, ℕ, Bool, false, Result, Ok, Err}
+use Rattle.std.specs.Io.KnownBytes.{Appends, Keeps}
+use Rattle.mx_plan.specs.Text.{Text}
+use Rattle.mx_cli.specs.declared.faults.Stop.{Stop}
+use Rattle.mx_cli.specs.declared.faults.Stop.TheVariants as stop
+use Rattle.mx_io.specs.Outputs.{Held}
+use Rattle.mx_cli.specs.FaultLines.{fault_line}
+use Rattle.mx_cli.specs.Told.{MayTell}
+
+-- memory ran out, or an output refused, which one that takes all bytes never does
+abbrev pub FallsShort : Bool → Held → Held → ℕ → Type 0
+FallsShort takes_all old new status =
+    ((status ≡ 5) × MayTell old new) ⊎ ((status ≡ 1) × (takes_all ≡ false) × Keeps old new)
+
+-- a run that ended so is closed: by its own end, unless it falls short
+abbrev pub Closes : Bool → Text × Text → Result ℕ Stop → Held → Held → ℕ → Type 0
+Closes takes_all names (Ok own) old new status = ((status ≡ own) × Keeps old new) ⊎ FallsShort takes_all old new status
+Closes takes_all names (Err (stop.Fault fault)) old new status =
+    ((status ≡ 1) × Appends old new (fault_line names fault)) ⊎ FallsShort takes_all old new status
+Closes takes_all names (Err stop.Writer) old new status = (status ≡ 1) × Keeps old new
+Closes takes_all names (Err stop.Memory) old new status = FallsShort takes_all old new status

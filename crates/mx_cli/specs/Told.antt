@@ -1,0 +1,43 @@
+-- What the two outputs get of help, of refused words, of a fault, and where memory ran out.
+use Rattle.std.specs.Prelude.{◌≡◌, ◌⊎◌, ℕ, Bool, false}
+use Rattle.std.specs.Io.KnownBytes.{Appends, Keeps}
+use Rattle.mx_plan.specs.Text.{Text}
+use Rattle.mx_io.specs.Outputs.{Held}
+use Rattle.mx_cli.specs.FaultLines.{memory_line}
+
+-- what is seen of the outputs: what each holds; whether standard output has refused something, and whether it
+-- keeps something back
+pub record Seen : Type 0 where
+  pub out : Held
+  pub err : Held
+  pub refused : Bool
+  pub kept_back : Bool
+
+abbrev pub seen : Held → Held → Bool → Bool → Seen
+seen out err refused kept_back = record { out = out; err = err; refused = refused; kept_back = kept_back }
+
+-- memory ran out: standard error got that line, or nothing
+abbrev pub MayTell : Held → Held → Type 0
+MayTell old new = Keeps old new ⊎ Appends old new memory_line
+
+-- ---- help, and words that are no command
+
+-- what is shown goes to standard output, and is passed on; to standard error goes nothing, or that memory ran out
+abbrev pub Helps : Bool → Seen → Seen → ℕ → Type 0
+Helps takes_all old new status =
+    ((status ≡ 0) × Keeps old.err new.err × (new.kept_back ≡ false))
+    ⊎ ((status ≡ 1) × (takes_all ≡ false) × Keeps old.err new.err)
+    ⊎ ((status ≡ 5) × MayTell old.err new.err × (new.refused ≡ old.refused))
+
+-- a fault of the command line goes to standard error, and nothing to standard output
+abbrev pub Scolds : Seen → Seen → ℕ → Type 0
+Scolds old new status =
+    Keeps old.out new.out × ((status ≡ 2) ⊎ ((status ≡ 5) × MayTell old.err new.err))
+
+-- ---- faults
+
+-- the line of a fault was written, or memory ran out, or the output refused
+abbrev pub TellsFault : Bool → Text → Held → Held → ℕ → Type 0
+TellsFault takes_all line err err' status =
+    ((status ≡ 1) × Appends err err' line) ⊎ ((status ≡ 5) × MayTell err err')
+    ⊎ ((status ≡ 1) × (takes_all ≡ false) × Keeps err err')

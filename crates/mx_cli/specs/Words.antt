@@ -1,0 +1,205 @@
+-- What the words of a command line ask for, as `clap` reads them.
+use Rattle.std.specs.Prelude.{◌≡◌, ◌≢◌, ◌⊎◌, ℕ, Bool, List, [], ◌∷◌, Option, Some, None, true, false, codes, map, if◌then◌else◌, option_map, option_and_then, Result, Ok, Err}
+use Rattle.std.specs.declared.alloc.AllocError.{AllocError}
+use Rattle.std.specs.Borrow.{Bor}
+use Rattle.std.specs.Option.{option_map_or}
+use Rattle.std.specs.Str.{bytes_eq}
+use Rattle.std.specs.Str.Parse.{digits_value, without_leading_plus}
+use Rattle.clap.specs.Words.{AddsArg, AddsSubcommand, App, Row, Rule, Text, app_of, first_of, is_simple, one_of, new_app, new_rule, rule_of, subcommand_of, with_rule, with_subcommand}
+use Rattle.clap.specs.Faults.{fault_of, is_simple_and_free}
+use Rattle.clap.specs.Kinds.{Kinds, IsAmong}
+use Rattle.clap.specs.ValueTests.{is_unsigned_in}
+use Rattle.clap.specs.declared.builder.arg.Arg.{Arg}
+use Rattle.clap.specs.declared.builder.command.Command.{Command}
+use Rattle.clap.specs.declared.builder.command.Command.TheViews.{out-Command}
+use Rattle.clap.specs.declared.builder.action.ArgAction.TheVariants.{SetTrue}
+use Rattle.clap.specs.declared.builder.value_parser.ValueParser.TheVariants.{Unsigned}
+use Rattle.mx_cli.specs.declared.words.Exploration.{Exploration}
+use Rattle.mx_cli.specs.declared.words.Names.{Names}
+use Rattle.mx_cli.specs.declared.words.Request.{Request}
+use Rattle.mx_cli.specs.declared.words.Request.TheVariants.{Check, Replay, Explore}
+use Rattle.clap.specs.declared.error.kind.ErrorKind.{ErrorKind}
+use Rattle.clap.specs.declared.error.kind.ErrorKind.TheVariants.{DisplayHelp, DisplayVersion}
+
+-- an argument that has to be given
+abbrev pub needed : Rule → Rule
+needed rule = record rule { required = true }
+
+-- a file that has to be named
+abbrev pub file_rule : Text → Rule
+file_rule id = needed (new_rule id)
+
+-- `--ID`
+abbrev pub flag_rule : Text → Rule
+flag_rule id = record (new_rule id) { long = Some id; action = Some SetTrue }
+
+-- `--ID TEXT`
+abbrev pub text_rule : Text → Rule
+text_rule id = record (new_rule id) { long = Some id }
+
+-- `--ID N`, a number up to the most
+abbrev pub number_rule : Text → ℕ → Rule
+number_rule id most = record (new_rule id) { long = Some id; parser = Some (Unsigned 0 most) }
+
+abbrev pub plan_rule : Rule
+plan_rule = file_rule (codes "PLAN")
+
+abbrev pub events_rule : Rule
+events_rule = file_rule (codes "EVENTS")
+
+-- the argument is read by this rule, and is not one of subcommands too
+pub record IsArgument (read_by : Rule) (argument : Arg) : Type 0 where
+  pub rule : rule_of argument ≡ read_by
+  pub local : argument.global ≡ false
+
+-- no argument of the command is one of its subcommands too
+abbrev pub HasNoGlobals : Command → Type 0
+HasNoGlobals command = (out-Command command).has_globals ≡ false
+
+-- the command is read as this application, and none of its arguments is one of its subcommands too
+pub record IsCommand (read_as : App) (command : Command) : Type 0 where
+  pub app : app_of command ≡ read_as
+  pub local : HasNoGlobals command
+
+-- `--seed S`, a number of 64 bits
+abbrev pub seed_rule : Rule
+seed_rule = needed (number_rule (codes "seed") 18446744073709551615)
+
+-- `--steps K`, a number to 1000000
+abbrev pub steps_rule : Rule
+steps_rule = needed (number_rule (codes "steps") 1000000)
+
+-- `check PLAN`
+abbrev pub check_app : App
+check_app = with_rule (new_app (codes "check")) plan_rule
+
+-- `replay PLAN EVENTS`
+abbrev pub replay_app : App
+replay_app = with_rule (with_rule (new_app (codes "replay")) plan_rule) events_rule
+
+-- `explore PLAN --seed S --steps K`
+abbrev pub explore_app : App
+explore_app = with_rule (with_rule (with_rule (new_app (codes "explore")) plan_rule) seed_rule) steps_rule
+
+abbrev pub mx_start : App
+mx_start = let a = new_app (codes "mx") in record a { top = record a.top { no_binary_name = true; subcommand_required = true; disable_help_subcommand = true; has_version = true } }
+
+-- the command line with this subcommand alone
+abbrev pub line_with : App → App
+line_with app = with_subcommand mx_start app.top
+
+-- the subcommand was made, and the second command line is the first with it added
+abbrev pub AddsMade : Command → Result Command AllocError → Command → Type 0
+AddsMade before (Ok command) after = AddsSubcommand before command after
+AddsMade before (Err e) after = ⊥
+
+-- the same of a first command line that was made too
+abbrev pub AddsBothMade : Result Command AllocError → Result Command AllocError → Command → Type 0
+AddsBothMade (Ok before) made after = AddsMade before made after
+AddsBothMade (Err e) made after = ⊥
+
+-- the first command was made, and the second is that with this argument added
+abbrev pub AddsArgMade : Result Command AllocError → Arg → Command → Type 0
+AddsArgMade (Ok before) argument after = AddsArg before argument after
+AddsArgMade (Err e) argument after = ⊥
+
+-- what the words of the command line ask for, and what is wrong with them, follows from the words alone
+pub record IsReadable (line : App) : Type 0 where
+  pub plain : is_simple line ≡ true
+  pub free : is_simple_and_free line ≡ true
+
+-- the whole command line
+unfoldable pub mx_app : App
+mx_app = with_subcommand (with_subcommand (with_subcommand mx_start check_app.top) replay_app.top) explore_app.top
+
+abbrev pub texts_of : List (Bor Text) → List Text
+texts_of = map (λ word. word.now)
+
+-- ---- what is asked for
+
+-- `check PLAN`; `replay PLAN EVENTS`; `explore PLAN`, with a seed and a number of steps
+pub data Task : Type 0 where
+  check : Text → Task
+  replay : Text × Text → Task
+  explore : Text → ℕ → ℕ → Task
+
+-- the names of the plan and of the events
+abbrev pub names_of : Names → Text × Text
+names_of names = (names.plan.now, names.events.now)
+
+-- the name of the plan, the seed and the number of steps
+abbrev pub explored : Exploration → Text × (ℕ × ℕ)
+explored exploration = (exploration.plan.now, (exploration.seed, exploration.steps))
+
+abbrev pub task_of : Request → Task
+task_of (Check plan) = check plan.now
+task_of (Replay names) = replay (names_of names)
+task_of (Explore exploration) = explore exploration.plan.now exploration.seed exploration.steps
+
+-- the number that a text writes, where it is one of 64 bits
+abbrev pub number_of : Text → Option ℕ
+number_of text =
+    if is_unsigned_in 0 18446744073709551615 text then Some (digits_value 10 (without_leading_plus text)) else None
+
+abbrev pub number_at : Text → List Row → Option ℕ
+number_at id rows = option_and_then number_of (one_of id rows)
+
+-- a flag was given
+abbrev pub is_given : Text → List Row → Bool
+is_given id rows = option_map_or (λ text. bytes_eq text (codes "true")) (first_of id rows) false
+
+-- the names that were given for a plan and its events
+abbrev pub names_at : List Row → Option (Text × Text)
+names_at rows = option_and_then (λ plan. option_map (λ events. (plan, events)) (first_of (codes "EVENTS") rows)) (first_of (codes "PLAN") rows)
+
+-- the plan, the seed and the number of steps that were given
+abbrev pub exploration_at : List Row → Option (Text × (ℕ × ℕ))
+exploration_at rows = option_and_then (λ plan. option_and_then (λ seed. option_map (λ steps. (plan, (seed, steps)))
+    (number_at (codes "steps") rows)) (number_at (codes "seed") rows)) (first_of (codes "PLAN") rows)
+
+-- what was given for the arguments of each command
+abbrev pub check_in : List Row → Option Task
+check_in rows = option_map check (first_of (codes "PLAN") rows)
+
+abbrev pub replay_in : List Row → Option Task
+replay_in rows = option_map replay (names_at rows)
+
+abbrev pub explore_in : List Row → Option Task
+explore_in rows = option_map (λ e. explore e.0 e.1.0 e.1.1) (exploration_at rows)
+
+-- the command that was met, and what was given for it
+abbrev pub task_in : Option (Text × List Row) → Option Task
+task_in None = None
+task_in (Some p) =
+    if bytes_eq p.0 (codes "check") then check_in p.1
+    else if bytes_eq p.0 (codes "replay") then replay_in p.1
+    else if bytes_eq p.0 (codes "explore") then explore_in p.1
+    else None
+
+abbrev pub where_none : {X : Type 0} → Kinds → Option X → Option X
+where_none [] o = o
+where_none (k ∷ ks) o = None
+
+-- what the words ask of a command line, by the subcommand that they name, where nothing is wrong with them
+abbrev pub asked_of : {X : Type 0} → App → (Option (Text × List Row) → Option X) → List Text → Option X
+asked_of line read words = where_none (fault_of line words) (read (subcommand_of line words))
+
+-- what the words ask for, where they are a command
+unfoldable pub task_asked : List Text → Option Task
+task_asked words = asked_of mx_app task_in words
+
+-- ---- words that are no command
+
+-- a text is shown: help, or the version
+abbrev pub IsShown : ErrorKind → Type 0
+IsShown k = (k ≡ DisplayHelp) ⊎ (k ≡ DisplayVersion)
+
+-- the words ask a command line for help, or for the version
+pub record AskHelp (line : App) (words : List Text) : Type 0 where
+  pub some : fault_of line words ≢ []
+  pub each : (k : ErrorKind) → IsAmong k (fault_of line words) → IsShown k
+
+-- the words are not those of a command line
+pub record AreWrong (line : App) (words : List Text) : Type 0 where
+  pub some : fault_of line words ≢ []
+  pub each : (k : ErrorKind) → IsAmong k (fault_of line words) → ¬ (IsShown k)

@@ -1,0 +1,57 @@
+//! The end of a command: what the output kept back is passed on, and a fault is told.
+
+ghost use Rattle.std.specs.Prelude.{◌≡◌, ◌↔◌, ◌&&◌, Err, IsTrue, false};
+ghost use Rattle.std.specs.Io.KnownBytes.{Keeps};
+ghost use Rattle.mx_cli.specs.Words.{names_of};
+ghost use Rattle.mx_cli.specs.Closed.{Closes};
+
+use crate::faults::Stop;
+use crate::telling::{tell, tell_memory};
+use crate::words::Names;
+use mx_io::{Output, PutFault};
+use std::alloc::Global;
+
+/// Passes on what the output kept back, tells why the run ended early where it did, and answers the
+/// status: that of the run, 1 after a fault or where an output refused, 5 where memory ran out. An
+/// output that has refused is asked for nothing more.
+pub fn close<O: Output, E: Output>(
+    alloc: Global,
+    ended: Result<u8, Stop>,
+    names: &Names<'_>,
+    out: &mut O,
+    err: &mut E,
+) -> u8
+    ensures closes { Closes (O.takes_all out.old && E.takes_all err.old) (names_of names.now) ended
+        (E.written err.old) (E.written err.new) result }
+    ensures held { Keeps (O.written out.old) (O.written out.new) }
+    ensures passed { result ≡ 0 → O.keeps_back out.new ≡ false }
+{
+    if is_refused(&ended) {
+        return 1;
+    }
+    match out.flush() {
+        Ok(()) => tell_end(alloc, ended, names, err),
+        Err(PutFault::Refused) => 1,
+        Err(PutFault::Memory) => tell_memory(err),
+    }
+}
+
+/// Tells why a run ended early, where it did, and answers the status.
+fn tell_end<E: Output>(alloc: Global, ended: Result<u8, Stop>, names: &Names<'_>, err: &mut E) -> u8
+    ensures { Closes (E.takes_all err.old) (names_of names.now) ended
+        (E.written err.old) (E.written err.new) result }
+{
+    match ended {
+        Ok(status) => status,
+        Err(Stop::Fault(fault)) => tell(alloc, fault, names, err),
+        Err(Stop::Writer) => 1,
+        Err(Stop::Memory) => tell_memory(err),
+    }
+}
+
+/// Whether an output has refused.
+pub fn is_refused(ended: &Result<u8, Stop>) -> bool
+    ensures { IsTrue result ↔ (ended.now ≡ Err Stop.Writer) }
+{
+    matches!(ended, Err(Stop::Writer))
+}

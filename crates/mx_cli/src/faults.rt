@@ -1,0 +1,70 @@
+//! Why a run ends.
+
+use mx_io::PutFault;
+use mx_plan::PlanFault;
+use std::alloc::AllocError;
+
+/// One of the two names on the command line.
+#[derive(Clone, Copy, Debug, PartialEq, Eq)]
+pub enum Named {
+    Plan,
+    Events,
+}
+
+/// What is wrong with a plan, with events or with their files. Each has a line of its own.
+#[derive(Clone, Copy, Debug, PartialEq, Eq)]
+pub enum Fault {
+    CannotRead(Named),
+    /// The plan, or the events, are refused.
+    BadText(PlanFault),
+    /// The event of this index delivers a parcel that was not sent.
+    NoParcel(u64),
+}
+
+/// Why a run ends early.
+#[derive(Clone, Copy, Debug)]
+pub enum Stop {
+    Fault(Fault),
+    /// An output refused a text. Nothing more is printed.
+    Writer,
+    Memory,
+}
+
+impl From<AllocError> for Stop {
+    ghost use Rattle.std.specs.Prelude.{◌≡◌};
+    ghost use Rattle.mx_cli.specs.declared.faults.Stop.TheVariants.{Memory};
+
+    ghost from_gives = { λ _ s. s ≡ Memory };
+
+    fn from(_e: AllocError) -> Stop {
+        Stop::Memory
+    }
+}
+
+impl From<PutFault> for Stop {
+    ghost use Rattle.std.specs.Prelude.{◌≡◌};
+    ghost use Rattle.mx_cli.specs.Outputs.{stop_of};
+
+    ghost from_gives = { λ fault s. s ≡ stop_of fault };
+
+    fn from(fault: PutFault) -> Stop {
+        match fault {
+            PutFault::Refused => Stop::Writer,
+            PutFault::Memory => Stop::Memory,
+        }
+    }
+}
+
+impl From<PlanFault> for Stop {
+    ghost use Rattle.std.specs.Prelude.{◌≡◌};
+    ghost use Rattle.mx_cli.specs.Reading.{refusal_of};
+
+    ghost from_gives = { λ fault s. s ≡ refusal_of fault };
+
+    fn from(fault: PlanFault) -> Stop {
+        match fault {
+            PlanFault::Memory => Stop::Memory,
+            _ => Stop::Fault(Fault::BadText(fault)),
+        }
+    }
+}

@@ -1,0 +1,29 @@
+//! What every command does before and after its own work: it reads its plan from a source, and tells what was
+//! asked for wrongly, what is at fault, or that memory ran out.
+#![tactic(auto)]
+
+mod arguments;
+mod closing;
+mod fault_lines;
+mod faults;
+mod help;
+mod line;
+mod live_words;
+mod planning;
+mod splitting;
+mod telling;
+mod words;
+
+pub use arguments::{events_arg, file_arg, flag_arg, plan_arg, seed_arg, steps_arg, text_arg};
+pub use closing::{close, is_refused};
+pub use fault_lines::FaultLine;
+pub use faults::{Fault, Named, Stop};
+pub use line::{bare_command, command_line, line_of, matches_in};
+pub use live_words::{LiveRun, asked_live};
+pub use planning::{fetch, fetch_plan, plan_in};
+pub use splitting::{are_dashes, split_line};
+pub use telling::{put_line, refuse, tell, tell_memory};
+pub use words::{
+    Exploration, Names, Request, asked, exploration_at, explore_command, is_given, names_at,
+    replay_command, text_at,
+};

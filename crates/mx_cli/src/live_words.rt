@@ -1,0 +1,141 @@
+//! The words of `live`, which are read apart from those of the other commands.
+
+ghost use Rattle.std.specs.Prelude.{◌≡◌, [], IfOk, IfErr, option_map};
+ghost use Rattle.clap.specs.Words.{app_of, fault_of, found_of, rows_of, subcommand_of, subcommand_rows_of, HasKind};
+ghost use Rattle.mx_cli.specs.Words.{IsArgument, IsCommand, texts_of};
+ghost use Rattle.mx_cli.specs.LiveWords.{live_app, live_in, live_line, order_asked, order_in, order_of, progress_rule, sections_rule, settle_in, settle_rule, turns_rule};
+
+use crate::arguments::{flag_arg, number_arg, seed_arg};
+use crate::help;
+use crate::line::{line_of, matches_in, plan_command, with_arg};
+use crate::words::{is_given, number_at, text_at};
+use clap::{Arg, ArgMatches, Command, Error};
+use std::alloc::{AllocError, Global};
+
+/// The greatest number of sections of a node.
+const MOST_SECTIONS: u64 = 1_000_000;
+
+/// The greatest number of sections between two of which a node settles its journal.
+const MOST_SETTLED: u64 = 1_000_000;
+
+/// What is to be run: the name of a plan, how many sections each node is to have, the seed of the
+/// first node's links, how many turns each node may take, after how many of its sections it
+/// settles its journal (0 for never), and whether progress is to be told.
+#[derive(Clone, Copy)]
+pub struct LiveRun<'a> {
+    pub plan: &'a str,
+    pub sections: u64,
+    pub seed: u64,
+    pub turns: u64,
+    pub settle: u64,
+    pub progress: bool,
+}
+
+fn sections_arg<'a>(alloc: Global) -> Arg<'a>
+    ensures { IsArgument sections_rule result }
+{
+    let help = "How many sections each node is to have, 0 to 1000000";
+    number_arg(alloc, "sections", help, MOST_SECTIONS).required(true)
+}
+
+fn turns_arg<'a>(alloc: Global) -> Arg<'a>
+    ensures { IsArgument turns_rule result }
+{
+    let help = "How many turns each node may take, a whole number of 64 bits";
+    number_arg(alloc, "turns", help, u64::MAX).required(true)
+}
+
+fn settle_arg<'a>(alloc: Global) -> Arg<'a>
+    ensures { IsArgument settle_rule result }
+{
+    let help =
+        "After how many of its sections each node settles its journal, 0 to 1000000; 0 for never";
+    number_arg(alloc, "settle", help, MOST_SETTLED)
+}
+
+fn progress_arg<'a>(alloc: Global) -> Arg<'a>
+    ensures { IsArgument progress_rule result }
+{
+    let help = "Tells on standard error, about once a second, how many sections stand so far";
+    flag_arg(alloc, "progress", help)
+}
+
+fn live_command<'a>(alloc: Global) -> Result<Command<'a>, AllocError>
+    ensures { IfOk result (IsCommand live_app) }
+{
+    let begun = plan_command(alloc, "live", help::LIVE, help::LIVE_EXAMPLE);
+    let with_sections = with_arg(begun, sections_arg(alloc));
+    let with_seed = with_arg(with_sections, seed_arg(alloc));
+    let with_turns = with_arg(with_seed, turns_arg(alloc));
+    let with_settle = with_arg(with_turns, settle_arg(alloc));
+    with_arg(with_settle, progress_arg(alloc))
+}
+
+/// What the words, of which `live` is the first, ask for. Their faults are those of `clap`, and words
+/// that ask for help come as such a fault too, with the text to show.
+pub fn asked_live<'a>(alloc: Global, words: &'a [&'a str]) -> Result<Option<LiveRun<'a>>, Error>
+    ensures read { IfOk result (λ _. fault_of live_line (texts_of words.entry.now) ≡ []) }
+    ensures ok { IfOk result (λ run.
+        option_map order_of run ≡ order_asked (texts_of words.entry.now)) }
+    ensures err { IfErr result (HasKind (fault_of live_line (texts_of words.entry.now))) }
+{
+    Ok(run_in(&live_matches(alloc, words)?))
+}
+
+/// What is found in the words.
+fn live_matches<'a>(alloc: Global, words: &'a [&'a str]) -> Result<ArgMatches<'a>, Error>
+    ensures read { IfOk result (λ _. fault_of live_line (texts_of words.entry.now) ≡ []) }
+    ensures found { IfOk result (λ matches.
+        subcommand_rows_of matches ≡ subcommand_of live_line (texts_of words.entry.now)) }
+    ensures err { IfErr result (HasKind (fault_of live_line (texts_of words.entry.now))) }
+{
+    matches_in(live_command_line(alloc)?, words)
+}
+
+/// The command line of `mx` with `live` alone.
+fn live_command_line<'a>(alloc: Global) -> Result<Command<'a>, AllocError>
+    ensures { IfOk result (λ line. app_of line ≡ live_line) }
+{
+    line_of(alloc, live_command(alloc)?)
+}
+
+fn run_in<'a>(matches: &ArgMatches<'a>) -> Option<LiveRun<'a>>
+    ensures { option_map order_of result ≡ order_in (subcommand_rows_of matches.now) }
+{
+    match matches.subcommand() {
+        Some((name, inner)) if name == "live" => live_in(inner),
+        _ => None,
+    }
+}
+
+fn live_in<'a>(matches: &ArgMatches<'a>) -> Option<LiveRun<'a>>
+    ensures { option_map order_of result ≡ live_in (rows_of (found_of matches.now)) }
+{
+    let Some(plan) = text_at(matches, "PLAN") else {
+        return None;
+    };
+    let Some(sections) = number_at(matches, "sections") else {
+        return None;
+    };
+    let Some(seed) = number_at(matches, "seed") else {
+        return None;
+    };
+    let Some(turns) = number_at(matches, "turns") else {
+        return None;
+    };
+    Some(LiveRun {
+        plan,
+        sections,
+        seed,
+        turns,
+        settle: settle_at(matches),
+        progress: is_given(matches, "progress"),
+    })
+}
+
+/// The number that was given for `--settle`, or 0.
+fn settle_at(matches: &ArgMatches<'_>) -> u64
+    ensures { result ≡ settle_in (rows_of (found_of matches.now)) }
+{
+    number_at(matches, "settle").unwrap_or(0)
+}

@@ -1,0 +1,119 @@
+//! What is told to whom asked: help, faults, and that memory ran out.
+
+ghost use Rattle.std.specs.Prelude.{◌≡◌, ◌⊎◌, List, true, false, IfSome, IfErr, OnOk, OnErr};
+ghost use Rattle.std.specs.Io.KnownBytes.{Appends, Keeps};
+ghost use Rattle.clap.specs.Words.{App, HasKind, Text, fault_of, kind_of};
+ghost use Rattle.mx_cli.specs.Words.{AreWrong, AskHelp, names_of};
+ghost use Rattle.mx_io.specs.Outputs.{refused_by};
+ghost use Rattle.mx_cli.specs.FaultLines.{fault_line};
+ghost use Rattle.mx_cli.specs.Told.{MayTell, Helps, Scolds, TellsFault, seen};
+
+use crate::fault_lines::FaultLine;
+use crate::faults::Fault;
+use crate::words::Names;
+use clap::error::ErrorKind;
+use mx_io::{Output, PutFault};
+use std::alloc::Global;
+use std::fmt::Display;
+
+/// Writes the help that the words of a command line ask for, or why they are refused, and answers the
+/// status.
+pub fn refuse<O: Output, E: Output>(alloc: Global, e: &clap::Error, out: &mut O, err: &mut E) -> u8
+    ensures memory { kind_of e.now ≡ ErrorKind.OutOfMemory → (result ≡ 5)
+        × Keeps (O.written out.old) (O.written out.new) × MayTell (E.written err.old) (E.written err.new)
+        × (O.has_refused out.new ≡ O.has_refused out.old) }
+    ensures help { (line : App) (words : List Text) → HasKind (fault_of line words) e.now
+        → AskHelp line words → Helps (O.takes_all out.old)
+        (seen (O.written out.old) (E.written err.old) (O.has_refused out.old) (O.keeps_back out.old))
+        (seen (O.written out.new) (E.written err.new) (O.has_refused out.new) (O.keeps_back out.new))
+        result }
+    ensures wrong { (line : App) (words : List Text) → HasKind (fault_of line words) e.now
+        → AreWrong line words → Scolds
+        (seen (O.written out.old) (E.written err.old) (O.has_refused out.old) (O.keeps_back out.old))
+        (seen (O.written out.new) (E.written err.new) (O.has_refused out.new) (O.keeps_back out.new))
+        result }
+{
+    match e.kind() {
+        ErrorKind::OutOfMemory => tell_memory(err),
+        ErrorKind::DisplayHelp | ErrorKind::DisplayVersion => show(alloc, e, out, err),
+        _ => scold(alloc, e, err),
+    }
+}
+
+/// Writes the line of a fault, and answers the status.
+pub fn tell<E: Output>(alloc: Global, fault: Fault, names: &Names<'_>, err: &mut E) -> u8
+    ensures { TellsFault (E.takes_all err.old) (fault_line (names_of names.now) fault)
+        (E.written err.old) (E.written err.new) result }
+{
+    let line = FaultLine {
+        fault,
+        names: *names,
+    };
+    match put_line(alloc, err, line) {
+        Ok(()) => 1,
+        Err(PutFault::Refused) => 1,
+        Err(PutFault::Memory) => tell_memory(err),
+    }
+}
+
+/// Writes that memory ran out, where that can be written, and answers the status of that.
+pub fn tell_memory<E: Output>(err: &mut E) -> u8
+    ensures status { result ≡ 5 }
+    ensures told { MayTell (E.written err.old) (E.written err.new) }
+{
+    let _ = err.put("mx: out of memory\n".as_bytes());
+    5
+}
+
+/// Writes the help, or the version, that was asked for.
+fn show<O: Output, E: Output>(alloc: Global, e: &clap::Error, out: &mut O, err: &mut E) -> u8
+    ensures { Helps (O.takes_all out.old)
+        (seen (O.written out.old) (E.written err.old) (O.has_refused out.old) (O.keeps_back out.old))
+        (seen (O.written out.new) (E.written err.new) (O.has_refused out.new) (O.keeps_back out.new))
+        result }
+{
+    match put_and_flush(alloc, out, e) {
+        Ok(()) => 0,
+        Err(PutFault::Refused) => 1,
+        Err(PutFault::Memory) => tell_memory(err),
+    }
+}
+
+/// Writes what is wrong with the words.
+fn scold<E: Output>(alloc: Global, e: &clap::Error, err: &mut E) -> u8
+    ensures { (result ≡ 2) ⊎ ((result ≡ 5) × MayTell (E.written err.old) (E.written err.new)) }
+{
+    match put_line(alloc, err, e) {
+        Ok(()) | Err(PutFault::Refused) => 2,
+        Err(PutFault::Memory) => tell_memory(err),
+    }
+}
+
+fn put_and_flush<O: Output, D: Display + Drop>(
+    alloc: Global,
+    out: &mut O,
+    line: D,
+) -> Result<(), PutFault>
+    ensures takes { IfErr result (λ fault. O.takes_all out.old ≡ true → fault ≡ PutFault.Memory) }
+    ensures refused { O.has_refused out.new ≡ refused_by result (O.has_refused out.old) }
+    ensures passed { OnOk result (O.keeps_back out.new ≡ false) }
+{
+    put_line(alloc, out, line)?;
+    out.flush()
+}
+
+/// Writes a text whole, or nothing of it.
+pub fn put_line<O: Output, D: Display + Drop>(
+    alloc: Global,
+    out: &mut O,
+    line: D,
+) -> Result<(), PutFault>
+    ensures ok { OnOk result (IfSome (D.output line) (Appends (O.written out.old) (O.written out.new))) }
+    ensures err { OnErr result (Keeps (O.written out.old) (O.written out.new)) }
+    ensures takes { IfErr result (λ fault. O.takes_all out.old ≡ true → fault ≡ PutFault.Memory) }
+    ensures refused { O.has_refused out.new ≡ refused_by result (O.has_refused out.old) }
+    ensures stays { O.takes_all out.new ≡ O.takes_all out.old }
+{
+    let text = line.to_string(alloc)?;
+    out.put(text.as_bytes())
+}

@@ -1,0 +1,41 @@
+-- Counts, one item after another.
+use Rattle.std.proofs.Common.{◌≡◌, ◌∙◌, ◌<◌, ◌≤◌, ◌+◌, ℕ, Bool, true, false, List, ◌∷◌, Some, ap, arith, cond, drop, get_or, length, max, slice_get, sym, take, ◌-◌}
+use Rattle.std.specs.Int.{from_bool}
+use Rattle.std.specs.List.{count_by}
+use Rattle.std.proofs.lemmas.List.{at_drop_all, at_drop_more, length-drop, take_all}
+use Rattle.std.proofs.lemmas.List.Sums.{sum_by-cons}
+use Rattle.std.proofs.lemmas.Option.{get_or_from_slice_get, slice_get_within}
+use Rattle.mx_sections.specs.declared.outcome.Entry.{Entry}
+use Rattle.mx_count.specs.Counts.{longest_wait, wait_from}
+
+-- one item counts or not
+counts_one : {X : Type 0} (p : X → Bool) (x : X) (xs : List X) (b : Bool) → b ≡ p x → from_bool b + count_by p xs ≡ count_by p (x ∷ xs)
+counts_one p x xs true is = sym (sum_by-cons (λ y. cond (p y) 1 0) x xs ∙ ap (λ (c : Bool). cond c 1 0 + count_by p xs) (sym is))
+counts_one p x xs false is = sym (sum_by-cons (λ y. cond (p y) 1 0) x xs ∙ ap (λ (c : Bool). cond c 1 0 + count_by p xs) (sym is))
+
+pub count_more : {X : Type 0} (p : X → Bool) (xs : List X) (k : ℕ) (x : X) (b : Bool) (n : ℕ) → slice_get xs k ≡ Some x → b ≡ p x → n ≡ from_bool b
+    → n + count_by p (drop (k + 1) xs) ≡ count_by p (drop k xs)
+count_more p xs k x b n there is one =
+    ap (λ m. m + count_by p (drop (k + 1) xs)) one ∙ counts_one p x (drop (k + 1) xs) b is
+    ∙ ap (λ y. count_by p (y ∷ drop (k + 1) xs)) (sym (get_or_from_slice_get xs k x x there))
+    ∙ sym (at_drop_more (count_by p) xs k x (slice_get_within xs k x there))
+
+pub count_end : {X : Type 0} (p : X → Bool) (xs : List X) (k n total : ℕ) → length xs ≤ k → n + count_by p (drop k xs) ≡ total → n ≡ total
+count_end p xs k n total le is = let none : count_by p (drop k xs) ≡ 0 = at_drop_all (count_by p) xs k le in omega arith
+
+-- one more item of the trace, and the wait that begins there
+pub wait_more : (xs : List Entry) (k l total w m : ℕ) (e : Entry) → k < length xs → max l (longest_wait (drop k xs)) ≡ total
+    → w ≡ wait_from e.outcome (take (length xs - (k + 1)) (drop (k + 1) xs)) → m ≡ max l w → e ≡ get_or xs k e → max m (longest_wait (drop (k + 1) xs)) ≡ total
+unfolding longest_wait
+wait_more xs k l total w m e lt is waits longer there =
+    let rest = drop (k + 1) xs in
+    let few : length rest ≤ length xs - (k + 1) =
+    let left : length rest ≡ length xs - (k + 1) = length-drop (k + 1) xs in omega (arith, left) in
+    let whole : w ≡ wait_from e.outcome rest = waits ∙ ap (wait_from e.outcome) (take_all (length xs - (k + 1)) rest few) in
+    let step : longest_wait (drop k xs) ≡ max (wait_from (get_or xs k e).outcome rest) (longest_wait rest) = at_drop_more longest_wait xs k e lt in
+    let same : wait_from e.outcome rest ≡ wait_from (get_or xs k e).outcome rest = ap (λ (x : Entry). wait_from x.outcome rest) there in
+    omega (arith, step, same, whole, longer, is)
+
+pub wait_end : (xs : List Entry) (k l total : ℕ) → length xs ≤ k → max l (longest_wait (drop k xs)) ≡ total → l ≡ total
+unfolding longest_wait
+wait_end xs k l total le is = let none : longest_wait (drop k xs) ≡ 0 = at_drop_all longest_wait xs k le in omega arith

@@ -1,0 +1,12 @@
+use Rattle.mx_texts.proofs.Places.{is_there}
+use Rattle.mx_count.specs.Kinds.{is_under}
+use Rattle.mx_count.proofs.CountLemmas.{count_more}
+use Rattle.mx_count.proofs.parcel_counts.count_parcel.Goals as goal
+
+pub returns : goal.returns
+returns g c =
+    count_more (is_under g.C.Msg.Kinded.kind_text c.args.name.now) c.args.cluster.now.sent c.args.number (c.in-Some.parcel.0, c.in-Some.parcel.1, c.in-Some.parcel.2.now)
+    c.is_under.result c.from.result c.in-Some.ensures c.is_under.ensures c.from.ensures
+
+pub unreachable-requires : goal.unreachable-requires
+unreachable-requires g c = is_there c.args.cluster.now.sent c.args.number c.in-None.ensures c.requires

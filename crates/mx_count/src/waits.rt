@@ -1,0 +1,70 @@
+//! How long nodes waited.
+
+ghost use Rattle.std.specs.Prelude.{◌≡◌, ◌<◌, ◌≤◌, IfSome, length, position};
+ghost use Rattle.mx_count.specs.Counts.{ends_wait, is_end, is_refusal, longest_wait, until_end, wait_from};
+
+use mx_network::{Entry, Event, Outcome};
+use mx_stamps::NodeId;
+
+/// The most events that a node waited.
+pub(crate) fn longest_wait(trace: &[Entry]) -> u64
+    ensures { result ≡ longest_wait trace.now }
+{
+    let mut longest = 0u64;
+    for (index, entry) in trace.iter().enumerate() {
+        longest = longest.max(wait_from(&entry.outcome, &trace[index + 1..]));
+    }
+    longest
+}
+
+/// The events from an asking, of this outcome, to the end of its wait, where this comes after it; 0 for
+/// every other outcome.
+fn wait_from(outcome: &Outcome, rest: &[Entry]) -> u64
+    ensures { result ≡ wait_from outcome.now rest.now }
+{
+    match outcome {
+        Outcome::Asked(stamp) => 1 + until_end(stamp.node, rest),
+        _ => 0,
+    }
+}
+
+/// How many events come before the one by which this node's wait ends, or at all where none does.
+fn until_end(node: NodeId, rest: &[Entry]) -> u64
+    ensures value { result ≡ until_end node rest.now }
+    ensures within { result ≤ length rest.now }
+{
+    match end_in(node, rest) {
+        Some(index) => index as u64,
+        None => rest.len() as u64,
+    }
+}
+
+/// The place of the event by which this node's wait ends.
+fn end_in(node: NodeId, rest: &[Entry]) -> Option<usize>
+    ensures value { result ≡ position (ends_wait node) rest.now }
+    ensures within { IfSome result (λ index. index < length rest.now) }
+{
+    rest.iter().position(|entry| ends_wait(node, entry))
+}
+
+/// Whether this node's wait ends here: it enters, or gives its request up.
+fn ends_wait(node: NodeId, entry: &Entry) -> bool
+    ensures { result ≡ ends_wait node entry.now }
+{
+    is_end(node, &entry.event) && !is_refusal(&entry.outcome)
+}
+
+fn is_end(node: NodeId, event: &Event) -> bool
+    ensures { result ≡ is_end node event.now }
+{
+    match event {
+        Event::Enter(other) | Event::Cancel(other) => other.get() == node.get(),
+        _ => false,
+    }
+}
+
+fn is_refusal(outcome: &Outcome) -> bool
+    ensures { result ≡ is_refusal outcome.now }
+{
+    matches!(outcome, Outcome::Refused(_))
+}

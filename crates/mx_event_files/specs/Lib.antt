@@ -1,2 +1,0 @@
--- Words: what the words ask for.
-pub mod Words

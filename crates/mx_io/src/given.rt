@@ -1,0 +1,41 @@
+//! The words of the process, and the status with which it ends.
+
+use crate::output::Output;
+use crate::stream::Stream;
+use std::alloc::{AllocError, AllocGlobal, Global};
+use std::io::{ErrorKind, Write};
+use std::rt::Env;
+use std::{env, io};
+
+/// The words of the command line, without the program's name. An `Err` means that memory ran out, or
+/// that a word is not UTF-8.
+pub fn given_words<R: Env + AllocGlobal>(rt: &R) -> io::Result<Vec<String>> {
+    let words = env::args(rt)?.skip(1).collect(rt.alloc())?;
+    Ok(words)
+}
+
+/// The same words, borrowed.
+pub fn as_slices<'a>(alloc: Global, given: &'a [String]) -> Result<Vec<&'a str>, AllocError> {
+    let mut words = Vec::new(alloc);
+    for word in given {
+        words.push(word.as_str())?;
+    }
+    Ok(words)
+}
+
+/// The status of a command; where its words could not be had, standard error is told why, and the status
+/// is 5 for want of memory, else 2.
+pub fn status_of<E: Write + Drop>(ended: io::Result<u8>, err: E) -> u8 {
+    match ended {
+        Ok(status) => status,
+        Err(e) => {
+            let (line, status) = if e.kind() == ErrorKind::OutOfMemory {
+                ("mx: out of memory\n", 5)
+            } else {
+                ("error: the words are not UTF-8\n", 2)
+            };
+            let _ = Stream(err).put(line.as_bytes());
+            status
+        }
+    }
+}

@@ -1,0 +1,84 @@
+//! The files and the streams of the process.
+
+use crate::counted::Counted;
+use crate::source::{Source, SourceFault};
+use std::alloc::Global;
+use std::io::{ErrorKind, Read};
+use std::rt::Files;
+use std::{fs, io};
+
+/// A longer file, or a longer standard input, can't be read.
+const MOST_BYTES: u64 = 268_435_456;
+
+/// Nor can one that takes more reads, as where each gives one byte, or each is interrupted.
+const MOST_READS: u64 = 268_435_456;
+
+/// Why a name gives no bytes.
+#[derive(Clone, Copy)]
+pub enum Refusal {
+    Because(&'static str),
+    Memory,
+}
+
+impl Refusal {
+    /// The fault of a source, which has no reason.
+    pub fn fault(self) -> SourceFault {
+        match self {
+            Refusal::Because(_) => SourceFault::Unreadable,
+            Refusal::Memory => SourceFault::Memory,
+        }
+    }
+}
+
+/// Files by their paths, and standard input by the name `-`.
+#[derive(Drop)]
+pub struct Streams<'a, R: Files + Input> {
+    pub rt: &'a R,
+}
+
+impl<R: Files + Input> Source for Streams<'_, R> {
+    fn bytes(&mut self, alloc: Global, name: &str) -> Result<Vec<u8>, SourceFault> {
+        match read_name(self.rt, alloc, name) {
+            Ok(bytes) => Ok(bytes),
+            Err(refusal) => Err(refusal.fault()),
+        }
+    }
+}
+
+/// The bytes of a file, or of standard input.
+pub fn read_name<R: Files + Input>(rt: &R, alloc: Global, name: &str) -> Result<Vec<u8>, Refusal> {
+    if name == "-" {
+        return read_all(alloc, rt.reader());
+    }
+    match fs::open(rt, name) {
+        Ok(file) => read_all(alloc, file),
+        Err(e) => Err(refused_for(&e)),
+    }
+}
+
+fn read_all<R: Read + Drop>(alloc: Global, reader: R) -> Result<Vec<u8>, Refusal> {
+    let mut bytes = Vec::new(alloc);
+    let mut counted = Counted {
+        inner: reader.take(MOST_BYTES + 1),
+        left: MOST_READS,
+    };
+    match counted.read_to_end(&mut bytes) {
+        Ok(_) if bytes.len() as u64 > MOST_BYTES => {
+            Err(Refusal::Because("it has more than 268435456 bytes"))
+        }
+        Ok(_) => Ok(bytes),
+        Err(e) => Err(refused_for(&e)),
+    }
+}
+
+fn refused_for(e: &io::Error) -> Refusal {
+    match e.kind() {
+        ErrorKind::OutOfMemory => Refusal::Memory,
+        ErrorKind::NotFound => Refusal::Because("there is no file of this name"),
+        ErrorKind::PermissionDenied => Refusal::Because("who runs mx may not read it"),
+        ErrorKind::IsADirectory => Refusal::Because("it is a folder"),
+        ErrorKind::NotADirectory => Refusal::Because("a part of its path is no folder"),
+        ErrorKind::TimedOut => Refusal::Because("it takes more than 268435456 reads"),
+        _ => Refusal::Because("the system fails to read it"),
+    }
+}

@@ -1,0 +1,126 @@
+//! Why a live run ends without a journal, and how that is told.
+
+ghost use Rattle.std.specs.Prelude.{◌≡◌, ◌⊎◌, Some};
+ghost use Rattle.mx_live.specs.Halts.{halt_line, halt_status};
+
+use mx_cli::{Fault, FaultLine, Names, Stop, put_line, tell_memory};
+use mx_io::{Output, PutFault};
+use std::alloc::{AllocError, Global};
+use std::fmt;
+
+/// Why a live run ends without a journal.
+#[derive(Clone, Copy, PartialEq, Eq)]
+pub enum Halt {
+    /// The plan can't be read, or is refused.
+    Plan(Fault),
+    /// The plan allows fewer sections than all nodes together want.
+    TooFewSections,
+    /// A node was not done when its turns were spent.
+    TurnsSpent,
+    /// Not all nodes came to the gate.
+    GateShut,
+    /// An output refused a text.
+    Writer,
+    Memory,
+}
+
+impl Halt {
+    /// The status with which the run ends.
+    pub(crate) fn status(self) -> u8
+        ensures { result ≡ halt_status self }
+    {
+        match self {
+            Halt::Plan(_) | Halt::TooFewSections | Halt::Writer => 1,
+            Halt::TurnsSpent | Halt::GateShut => 3,
+            Halt::Memory => 5,
+        }
+    }
+}
+
+impl From<Stop> for Halt {
+    ghost use Rattle.std.specs.Prelude.{◌≡◌};
+    ghost use Rattle.mx_live.specs.Halts.{halt_of_stop};
+
+    ghost from_gives = { λ stop halt. halt ≡ halt_of_stop stop };
+
+    fn from(stop: Stop) -> Halt {
+        match stop {
+            Stop::Fault(fault) => Halt::Plan(fault),
+            Stop::Writer => Halt::Writer,
+            Stop::Memory => Halt::Memory,
+        }
+    }
+}
+
+impl From<PutFault> for Halt {
+    ghost use Rattle.std.specs.Prelude.{◌≡◌};
+    ghost use Rattle.mx_live.specs.Halts.{halt_of_put};
+
+    ghost from_gives = { λ fault halt. halt ≡ halt_of_put fault };
+
+    fn from(fault: PutFault) -> Halt {
+        match fault {
+            PutFault::Refused => Halt::Writer,
+            PutFault::Memory => Halt::Memory,
+        }
+    }
+}
+
+impl From<AllocError> for Halt {
+    ghost use Rattle.std.specs.Prelude.{◌≡◌};
+    ghost use Rattle.mx_live.specs.declared.halts.Halt.TheVariants.{Memory};
+
+    ghost from_gives = { λ _ halt. halt ≡ Memory };
+
+    fn from(_e: AllocError) -> Halt {
+        Halt::Memory
+    }
+}
+
+/// The line of a halt, where the plan has this name.
+#[derive(Clone, Copy)]
+pub(crate) struct HaltLine<'a> {
+    pub(crate) halt: Halt,
+    pub(crate) plan: &'a str,
+}
+
+impl fmt::Display for HaltLine<'_> {
+    ghost output = { λ l. Some (halt_line l.plan.now l.halt) };
+
+    fn fmt<W: fmt::Write>(&self, f: &mut fmt::Formatter<W>) -> fmt::Result {
+        match self.halt {
+            Halt::Plan(fault) => write!(f, "{}", fault_line(fault, self.plan)),
+            Halt::TooFewSections => writeln!(f, "mx: too few sections"),
+            Halt::TurnsSpent => writeln!(f, "mx: turns spent"),
+            Halt::GateShut => writeln!(f, "mx: gate shut"),
+            Halt::Memory => writeln!(f, "mx: out of memory"),
+            Halt::Writer => Ok(()),
+        }
+    }
+}
+
+/// The line of a fault of a plan of this name.
+fn fault_line<'a>(fault: Fault, plan: &'a str) -> FaultLine<'a>
+    ensures fault { result.fault ≡ fault }
+    ensures plan { result.names.plan.now ≡ plan.now }
+    ensures events { result.names.events.now ≡ plan.now }
+{
+    let names = Names { plan, events: plan };
+    FaultLine { fault, names }
+}
+
+/// Tells why a run has no journal, and answers the status. A writer that refuses is told nothing.
+pub fn tell<E: Output>(alloc: Global, halt: Halt, plan: &str, err: &mut E) -> u8
+    ensures { (result ≡ halt_status halt) ⊎ (result ≡ 5) }
+{
+    if halt == Halt::Writer {
+        return 1;
+    }
+    if halt == Halt::Memory {
+        return tell_memory(err);
+    }
+    match put_line(alloc, err, HaltLine { halt, plan }) {
+        Ok(()) | Err(PutFault::Refused) => halt.status(),
+        Err(PutFault::Memory) => tell_memory(err),
+    }
+}

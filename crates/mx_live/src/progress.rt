@@ -1,0 +1,53 @@
+//! How far a live run has come.
+
+use crate::assembly::Assembly;
+use mx_cli::put_line;
+use mx_io::Output;
+use mx_nodelaws::Exclusion;
+use mx_stations::Watch;
+use std::alloc::Global;
+use std::fmt;
+use std::rt::Clock;
+use std::thread::sleep;
+use std::time::Duration;
+
+/// How often in a second it is looked whether the run is over.
+const LOOKS_A_SECOND: u32 = 20;
+
+/// How many sections stand.
+#[derive(Clone, Copy)]
+struct ProgressLine(u64);
+
+impl fmt::Display for ProgressLine {
+    fn fmt<W: fmt::Write>(&self, f: &mut fmt::Formatter<W>) -> fmt::Result {
+        writeln!(f, "mx: {} sections stand", self.0)
+    }
+}
+
+/// Tells about once a second how many sections stand, until all workers have ended. What can't be
+/// told is left out.
+pub(crate) fn tell_progress<C: Exclusion, K: Clock, E: Output>(
+    clock: &K,
+    alloc: Global,
+    watch: &Watch<C>,
+    gate: &Assembly,
+    err: &mut E,
+) {
+    for _second in 0..u64::MAX {
+        if is_over(clock, gate) {
+            return;
+        }
+        let _ = put_line(alloc, err, ProgressLine(watch.sections()));
+    }
+}
+
+/// Waits for a second, or until all workers have ended. True where they have.
+fn is_over<K: Clock>(clock: &K, gate: &Assembly) -> bool {
+    for _look in 0..LOOKS_A_SECOND {
+        if gate.is_left() {
+            return true;
+        }
+        sleep(clock, Duration::from_millis(50));
+    }
+    false
+}

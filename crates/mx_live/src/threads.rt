@@ -1,0 +1,244 @@
+//! The threads of a live run, one for each station.
+
+ghost use Rattle.std.specs.Prelude.{◌≡◌, ◌≤◌, ℕ, length, IfOk, OnOk};
+ghost use Rattle.atomic_table.specs.Seated.{TableId};
+ghost use Rattle.mx_plan.specs.Fields.{Fields};
+ghost use Rattle.mx_stations.specs.Gathered.{KeepsTable};
+ghost use Rattle.mx_stations.specs.Works.{Works, WorksAtMost, WorksFor, WorksSettling};
+ghost use Rattle.mx_live.specs.declared.threads.Orders.{Orders as TheOrders};
+ghost use Rattle.mx_live.specs.Stations.{AreAll, Rests};
+ghost use Rattle.mx_live.specs.Workers.{IsLeft, Promises, WasLeft, weather_of};
+
+use crate::any_station::AnyStation;
+use crate::assembly::Assembly;
+use mx_explorer::Weather;
+use mx_nodelaws::Exclusion;
+use mx_stamps::NodeId;
+use mx_stations::{Script, Station, Worked, work_settling};
+use std::alloc::{AllocError, Global};
+use std::snapshot::Snapshot;
+use std::sync::Arc;
+use std::thread;
+use std::thread::{Promise, PromisedHandle, Threads};
+
+/// How many of 256 parcels a link loses, and how many it repeats.
+const LOST: u16 = 16;
+
+const DOUBLED: u16 = 16;
+
+/// What each worker is to do, the seed of the first one's links, and after how many of its sections
+/// each settles its journal, 0 for never.
+#[derive(Clone, Copy)]
+pub(crate) struct Orders {
+    pub(crate) sections: u64,
+    pub(crate) seed: u64,
+    pub(crate) turns: u64,
+    pub(crate) settle: u64,
+}
+
+/// What a worker leaves.
+pub(crate) type Ended = (AnyStation, Worked);
+
+/// The promise of a worker: it leads from this station to the one that it leaves, as it was
+/// ordered.
+#[derive(Drop)]
+pub(crate) struct WorkAt {
+    at: Snapshot<AnyStation>,
+    orders: Orders,
+}
+
+impl Promise<Ended> for WorkAt {
+    ghost use Rattle.mx_live.specs.Workers.{IsLeft};
+
+    ghost kept_by = { λ p ended. IsLeft p.orders p.at.value ended };
+}
+
+/// A thread that works at a station.
+pub(crate) type Worker = PromisedHandle<Ended, WorkAt>;
+
+/// Does the work at a station, and notes its end at the gate.
+fn do_work(station: AnyStation, gate: &Assembly, orders: Orders) -> Ended
+    ensures { IsLeft orders station result }
+{
+    let ended = work_any(station, gate, orders);
+    gate.note_end();
+    ended
+}
+
+/// Does the work at a station, whichever algorithm its node runs.
+fn work_any(station: AnyStation, gate: &Assembly, orders: Orders) -> Ended
+    ensures { IsLeft orders station result }
+{
+    match station {
+        AnyStation::Ricart(station) => {
+            let (left, worked) = work_at(station, gate, orders);
+            (AnyStation::Ricart(left), worked)
+        }
+        AnyStation::Maekawa(station) => {
+            let (left, worked) = work_at(station, gate, orders);
+            (AnyStation::Maekawa(left), worked)
+        }
+        AnyStation::Raymond(station) => {
+            let (left, worked) = work_at(station, gate, orders);
+            (AnyStation::Raymond(left), worked)
+        }
+    }
+}
+
+/// Does the work at a station, under links of its own seed. It settles after each so many sections
+/// of its own as the orders say, with 0 never.
+fn work_at<C: Exclusion>(
+    station: Station<C>,
+    gate: &Assembly,
+    orders: Orders,
+) -> (Station<C>, Worked)
+    ensures works { WorksSettling C.core 0 orders.settle station result.0 }
+    ensures never { orders.settle ≡ 0 → Works C.core 0 station result.0 }
+    ensures most { WorksAtMost C.core 0 orders.settle orders.turns station result.0 }
+    ensures same { KeepsTable station result.0 }
+    ensures done { result.1 ≡ Worked.Done → orders.sections ≤ length result.0.me.receipts }
+    ensures spent { (n : ℕ) → result.1 ≡ Worked.NotYet n
+        → WorksFor C.core 0 orders.settle orders.turns station result.0 }
+{
+    let script = Script {
+        register: 0,
+        sections: orders.sections,
+    };
+    let weather = weather_at(orders.seed, station.node());
+    work_settling(station, script, orders.settle, gate, weather, orders.turns)
+}
+
+/// The weather of the links to a node.
+fn weather_at(seed: u64, node: NodeId) -> Weather
+    ensures { result ≡ weather_of seed node }
+{
+    let own = seed.wrapping_add(u64::from(node.get()));
+    Weather::of(own, LOST, DOUBLED)
+}
+
+/// Starts a thread for a station, with a share of the gate.
+fn start<R: Threads>(
+    rt: &R,
+    station: AnyStation,
+    shared: &Arc<Assembly, Global>,
+    orders: Orders,
+) -> Result<Worker, AllocError>
+    ensures at { IfOk result (λ worker. worker.promise.at.value ≡ station) }
+    ensures told { IfOk result (λ worker. worker.promise.orders ≡ orders) }
+{
+    spawn(rt, station, Arc::try_clone(shared)?, orders)
+}
+
+/// Starts a thread for a station.
+fn spawn<R: Threads>(
+    rt: &R,
+    station: AnyStation,
+    gate: Arc<Assembly, Global>,
+    orders: Orders,
+) -> Result<Worker, AllocError>
+    ensures at { IfOk result (λ worker. worker.promise.at.value ≡ station) }
+    ensures told { IfOk result (λ worker. worker.promise.orders ≡ orders) }
+{
+    let promise = WorkAt {
+        at: Snapshot::of(&station),
+        orders,
+    };
+    let started = thread::spawn_with(
+        rt,
+        promise,
+        move || -> Ended
+            ensures { IsLeft orders station result }
+        { do_work(station, &*gate, orders) },
+    );
+    match started {
+        Ok(worker) => Ok(worker),
+        Err(_) => Err(AllocError),
+    }
+}
+
+/// Starts a thread for a station, beside those that were started.
+fn start_one<R: Threads>(
+    rt: &R,
+    workers: &mut Vec<Worker>,
+    station: AnyStation,
+    gate: &Arc<Assembly, Global>,
+    orders: Orders,
+) -> Result<(), AllocError>
+    ensures { (p : Fields) (table : TableId) → Rests p table station
+        → AreAll (λ worker. Promises p table orders
+        worker.promise.at.value worker.promise.orders) workers.old.items
+        → OnOk result (AreAll (λ worker. Promises p table orders
+        worker.promise.at.value worker.promise.orders) workers.new.items) }
+{
+    workers.reserve(1)?;
+    let worker = start(rt, station, gate, orders)?;
+    workers.push_reserved(worker);
+    Ok(())
+}
+
+/// Starts a thread for each station, until one can't be started.
+fn start_each<R: Threads>(
+    rt: &R,
+    workers: &mut Vec<Worker>,
+    stations: Vec<AnyStation>,
+    gate: &Arc<Assembly, Global>,
+    orders: Orders,
+) -> Result<(), AllocError>
+    ensures { (p : Fields) (table : TableId) → AreAll (Rests p table) stations.items
+        → AreAll (λ worker. Promises p table orders
+        worker.promise.at.value worker.promise.orders) workers.old.items
+        → OnOk result (AreAll (λ worker. Promises p table orders
+        worker.promise.at.value worker.promise.orders) workers.new.items) }
+{
+    for station in stations {
+        start_one(rt, workers, station, gate, orders)?;
+    }
+    Ok(())
+}
+
+/// Starts a thread for each station. Where one can't be started the gate is shut, and those that
+/// were started are joined.
+pub(crate) fn start_all<R: Threads>(
+    rt: &R,
+    alloc: Global,
+    stations: Vec<AnyStation>,
+    gate: &Arc<Assembly, Global>,
+    orders: Orders,
+) -> Result<Vec<Worker>, AllocError>
+    ensures { (p : Fields) (table : TableId) → AreAll (Rests p table) stations.items
+        → IfOk result (λ all. AreAll (λ worker. Promises p table orders
+        worker.promise.at.value worker.promise.orders) all.items) }
+{
+    let mut workers = Vec::new(alloc);
+    match start_each(rt, &mut workers, stations, gate, orders) {
+        Ok(()) => Ok(workers),
+        Err(AllocError) => {
+            gate.shut();
+            join_each(rt, workers);
+            Err(AllocError)
+        }
+    }
+}
+
+/// Joins threads whose work is of no use any more.
+fn join_each<R: Threads>(rt: &R, workers: Vec<Worker>) {
+    for worker in workers {
+        drop(worker.join(rt));
+    }
+}
+
+/// Joins all threads. Where memory runs out what they leave is dropped.
+pub(crate) fn join_all<R: Threads>(rt: &R, workers: Vec<Worker>) -> Result<Vec<Ended>, AllocError>
+    ensures { (p : Fields) (table : TableId) (orders : TheOrders)
+        → AreAll (λ worker. Promises p table orders
+        worker.promise.at.value worker.promise.orders) workers.items
+        → IfOk result (λ all. AreAll (WasLeft p table orders) all.items) }
+{
+    match thread::join_promised(rt, workers) {
+        Ok(ended) => Ok(ended),
+        Err(refused) => {
+            join_each(rt, refused.value);
+            Err(AllocError)
+        }
+    }
+}

@@ -1,0 +1,352 @@
+//! A run that is drawn: events of a cluster, one after another.
+
+ghost use Rattle.std.specs.Prelude.{◌≡◌, ◌≤◌, Ok, Err, None, length, IfErr, OnOk};
+ghost use Rattle.mx_network.specs.Step.{step_of};
+ghost use Rattle.mx_commands.specs.Runs.{AllNameNodes, NamesNodes, run_from};
+ghost use Rattle.mx_commands.specs.Ran.{StopsAt};
+ghost use Rattle.mx_picture.specs.Drawn.{StopsAs};
+
+use crate::inks::{Inked, ink_of};
+use crate::sheet::{Sheet, Spot};
+use mx_cli::{Fault, Stop};
+use mx_member::Parcel;
+use mx_network::{Cluster, Entry, Event, Outcome, StepFault};
+use mx_nodelaws::{Exclusion, Phase};
+use mx_plan::Plan;
+use mx_stamps::NodeId;
+use mx_texts::{EventText, Letter, OutcomeText, add_parcel};
+use std::alloc::{AllocError, Global};
+use std::collections::HashSet;
+
+/// A drawing under way.
+#[derive(Drop)]
+pub(crate) struct Drawing {
+    pub(crate) sheet: Sheet,
+    /// The parcels that are delivered, now or later.
+    arriving: HashSet<u64>,
+    /// The text that is written next.
+    label: String,
+}
+
+impl Drawing {
+    /// A drawing of these events, before the first.
+    pub(crate) fn new(alloc: Global, events: &[Event]) -> Result<Self, AllocError> {
+        let mut arriving = HashSet::new(alloc);
+        for event in events {
+            if let Event::Deliver(number) = event {
+                arriving.insert(*number)?;
+            }
+        }
+        Ok(Drawing {
+            sheet: Sheet::new(alloc),
+            arriving,
+            label: String::new(alloc),
+        })
+    }
+}
+
+/// Draws the events from a cluster on.
+pub(crate) fn draw_run<C: Exclusion>(
+    plan: &Plan,
+    mut cluster: Cluster<C>,
+    events: &[Event],
+    drawing: &mut Drawing,
+) -> Result<(), Stop>
+where
+    C::Msg: Letter + Inked,
+    requires members { length cluster.members ≡ length plan.now.nodes }
+    requires named { AllNameNodes (length plan.now.nodes) events.now }
+    ensures ok { OnOk result ((run_from C.core C.Msg.letter_text plan.now 0 cluster events.now).end ≡ None) }
+    ensures err { IfErr result (StopsAs (run_from C.core C.Msg.letter_text plan.now 0 cluster events.now)) }
+{
+    draw_events(plan, &mut cluster, events, drawing)
+}
+
+/// Each event in turn.
+fn draw_events<C: Exclusion>(
+    plan: &Plan,
+    cluster: &mut Cluster<C>,
+    events: &[Event],
+    drawing: &mut Drawing,
+) -> Result<(), Stop>
+where
+    C::Msg: Letter + Inked,
+    requires members { length cluster.old.members ≡ length plan.now.nodes }
+    requires named { AllNameNodes (length plan.now.nodes) events.now }
+    ensures ok { OnOk result ((run_from C.core C.Msg.letter_text plan.now 0 cluster.old events.now).end ≡ None) }
+    ensures err { IfErr result (StopsAs (run_from C.core C.Msg.letter_text plan.now 0 cluster.old events.now)) }
+{
+    for (index, event) in events.iter().enumerate() {
+        draw_event(plan, index as u64, event, cluster, drawing)?;
+    }
+    Ok(())
+}
+
+/// One event, in a row of its own, and what it sends.
+fn draw_event<C: Exclusion>(
+    plan: &Plan,
+    index: u64,
+    event: &Event,
+    cluster: &mut Cluster<C>,
+    drawing: &mut Drawing,
+) -> Result<(), Stop>
+where
+    C::Msg: Letter + Inked,
+    requires named { NamesNodes (length cluster.old.members) event.now }
+    ensures ok { OnOk result (step_of C.core cluster.old event.now ≡ Ok cluster.new) }
+    ensures err { IfErr result (StopsAt index (step_of C.core cluster.old event.now)) }
+{
+    let before = cluster.sent();
+    happen(index, event, cluster)?;
+    draw_row(plan, index, before, cluster, drawing)?;
+    Ok(())
+}
+
+/// The newest event, of this index, in a row of its own, and the parcels from `before` on, which it sent.
+fn draw_row<C: Exclusion>(
+    plan: &Plan,
+    index: u64,
+    before: u64,
+    cluster: &Cluster<C>,
+    drawing: &mut Drawing,
+) -> Result<(), AllocError>
+where
+    C::Msg: Letter + Inked,
+{
+    drawing.sheet.begin(index)?;
+    draw_happened(plan, before, cluster, drawing)?;
+    draw_sent(plan, cluster, before, drawing)?;
+    drawing.sheet.go_down()
+}
+
+/// One event, of this index.
+fn happen<C: Exclusion>(index: u64, event: &Event, cluster: &mut Cluster<C>) -> Result<(), Stop>
+    requires named { NamesNodes (length cluster.old.members) event.now }
+    ensures ok { OnOk result (step_of C.core cluster.old event.now ≡ Ok cluster.new) }
+    ensures err { IfErr result (StopsAt index (step_of C.core cluster.old event.now)) }
+{
+    match step(event, cluster) {
+        Ok(()) => Ok(()),
+        Err(StepFault::NoParcel) => Err(Stop::Fault(Fault::NoParcel(index))),
+        Err(StepFault::Memory) => Err(Stop::Memory),
+        Err(StepFault::NoNode) => unreachable!(),
+    }
+}
+
+/// One event, of nodes that the cluster has.
+fn step<C: Exclusion>(event: &Event, cluster: &mut Cluster<C>) -> Result<(), StepFault>
+    requires named { NamesNodes (length cluster.old.members) event.now }
+    ensures ok { OnOk result (step_of C.core cluster.old event.now ≡ Ok cluster.new) }
+    ensures no_node { (result ≡ Err StepFault.NoNode) → ⊥ }
+    ensures no_parcel { (result ≡ Err StepFault.NoParcel) → step_of C.core cluster.old event.now ≡ Err StepFault.NoParcel }
+{
+    cluster.advance(*event)
+}
+
+/// What happened last, at the node where it did. It sent the parcels from `before` on.
+fn draw_happened<C: Exclusion>(
+    plan: &Plan,
+    before: u64,
+    cluster: &Cluster<C>,
+    drawing: &mut Drawing,
+) -> Result<(), AllocError>
+where
+    C::Msg: Letter + Inked,
+{
+    let Some(entry) = cluster.trace().last() else {
+        return Ok(());
+    };
+    match happening_of(&entry.event) {
+        Happening::Delivery(number) => draw_delivery(plan, cluster, number, drawing),
+        Happening::Act(node) => {
+            let spot = spot_of_act(cluster, node, before);
+            draw_act(plan, node, spot, entry, drawing)
+        }
+    }
+}
+
+/// What an event is: an act of a node, or the delivery of the parcel of a number.
+#[derive(Clone, Copy)]
+enum Happening {
+    Act(NodeId),
+    Delivery(u64),
+}
+
+fn happening_of(event: &Event) -> Happening {
+    match event {
+        Event::Deliver(number) => Happening::Delivery(*number),
+        Event::Ask(node)
+        | Event::Enter(node)
+        | Event::Read(node, _)
+        | Event::Write(node, _, _)
+        | Event::Leave(node)
+        | Event::Cancel(node)
+        | Event::Settle(node, _)
+        | Event::Tick(node)
+        | Event::Want(node, _)
+        | Event::Restart(node) => Happening::Act(*node),
+    }
+}
+
+/// Where an act of this node is told, which sent the parcels from `before` on: at the left where all of
+/// them go to the right, so that no arrow runs under the text.
+fn spot_of_act<C: Exclusion>(cluster: &Cluster<C>, node: NodeId, before: u64) -> Spot {
+    let mut to_left = false;
+    let mut to_right = false;
+    for number in before..cluster.sent() {
+        if let Some(parcel) = cluster.parcel(number) {
+            if parcel.1.get() > node.get() {
+                to_right = true;
+            } else {
+                to_left = true;
+            }
+        }
+    }
+    if to_right && !to_left {
+        Spot::Left
+    } else {
+        Spot::Right
+    }
+}
+
+/// What a node did. The number of a section that it entered stands for the dot.
+fn draw_act(
+    plan: &Plan,
+    node: NodeId,
+    spot: Spot,
+    entry: &Entry,
+    drawing: &mut Drawing,
+) -> Result<(), AllocError> {
+    tell_act(plan, entry, &mut drawing.label)?;
+    drawing.sheet.text(node, spot, drawing.label.as_str())?;
+    tell_section(&entry.outcome, drawing)?;
+    draw_outcome(node, &entry.outcome, &mut drawing.sheet)
+}
+
+/// Puts an act and what came of it in place of the label.
+fn tell_act(plan: &Plan, entry: &Entry, label: &mut String) -> Result<(), AllocError> {
+    let done = EventText {
+        plan,
+        event: &entry.event,
+    };
+    let came = OutcomeText(&entry.outcome);
+    label.clear();
+    write!(label, "{done}: {came}")
+}
+
+/// Tells in words that a node entered or left.
+fn tell_section(outcome: &Outcome, drawing: &mut Drawing) -> Result<(), AllocError> {
+    match outcome {
+        Outcome::Entered(_) | Outcome::Left(_) => drawing.sheet.tell(drawing.label.as_str()),
+        _ => Ok(()),
+    }
+}
+
+/// What came of an act at its node: another phase, or a dot.
+fn draw_outcome(node: NodeId, outcome: &Outcome, sheet: &mut Sheet) -> Result<(), AllocError> {
+    match outcome {
+        Outcome::Entered(number) => sheet.change(node, Phase::Inside(*number)),
+        Outcome::Left(_) | Outcome::Cancelled => sheet.turn(node, Phase::Idle),
+        Outcome::Asked(_) => sheet.turn(node, Phase::Waiting),
+        Outcome::Value(_)
+        | Outcome::Written
+        | Outcome::Sent(_)
+        | Outcome::Settled
+        | Outcome::Delivered
+        | Outcome::Woken
+        | Outcome::Refused(_) => sheet.dot(node),
+    }
+}
+
+/// The arrow of a parcel to its delivery.
+fn draw_delivery<C: Exclusion>(
+    plan: &Plan,
+    cluster: &Cluster<C>,
+    number: u64,
+    drawing: &mut Drawing,
+) -> Result<(), AllocError>
+where
+    C::Msg: Letter + Inked,
+{
+    let Some(parcel) = cluster.parcel(number) else {
+        return Ok(());
+    };
+    let spot = if parcel.0.get() <= parcel.1.get() {
+        Spot::Right
+    } else {
+        Spot::Left
+    };
+    tell_parcel(plan, number, parcel.2, &mut drawing.label)?;
+    drawing
+        .sheet
+        .arrow(number, parcel.0, parcel.1, ink_of(parcel.2))?;
+    drawing.sheet.mark(parcel.1, spot, drawing.label.as_str())
+}
+
+/// The parcels from `before` on, which the present event sent.
+fn draw_sent<C: Exclusion>(
+    plan: &Plan,
+    cluster: &Cluster<C>,
+    before: u64,
+    drawing: &mut Drawing,
+) -> Result<(), AllocError>
+where
+    C::Msg: Letter + Inked,
+{
+    for number in before..cluster.sent() {
+        drawing.sheet.send()?;
+        if !drawing.arriving.contains(&number) {
+            draw_loss(plan, cluster, number, drawing)?;
+        }
+    }
+    Ok(())
+}
+
+/// A parcel that ends in the air, in a row of its own.
+fn draw_loss<C: Exclusion>(
+    plan: &Plan,
+    cluster: &Cluster<C>,
+    number: u64,
+    drawing: &mut Drawing,
+) -> Result<(), AllocError>
+where
+    C::Msg: Letter + Inked,
+{
+    let Some(parcel) = cluster.parcel(number) else {
+        return Ok(());
+    };
+    let spot = if parcel.0.get() <= parcel.1.get() {
+        Spot::RightInAir
+    } else {
+        Spot::LeftInAir
+    };
+    tell_loss(plan, number, parcel.2, parcel.1, &mut drawing.label)?;
+    drawing
+        .sheet
+        .lose_below(parcel.0, spot, drawing.label.as_str())
+}
+
+/// Puts the number and the text of a parcel, and to whom it was sent, in place of the label.
+fn tell_loss<M: Letter>(
+    plan: &Plan,
+    number: u64,
+    parcel: &Parcel<M>,
+    to: NodeId,
+    label: &mut String,
+) -> Result<(), AllocError> {
+    tell_parcel(plan, number, parcel, label)?;
+    let name = plan.node_name(to.get()).unwrap_or("");
+    write!(label, " to {name}")
+}
+
+/// Puts the number and the text of a parcel in place of the label.
+fn tell_parcel<M: Letter>(
+    plan: &Plan,
+    number: u64,
+    parcel: &Parcel<M>,
+    label: &mut String,
+) -> Result<(), AllocError> {
+    label.clear();
+    write!(label, "#{number} ")?;
+    add_parcel(plan, parcel, label)
+}

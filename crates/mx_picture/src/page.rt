@@ -1,0 +1,191 @@
+//! The whole picture: its size, its nodes, and what was drawn.
+
+ghost use Rattle.std.specs.Prelude.{string_bytes, OnOk};
+ghost use Rattle.mx_picture.specs.Drawn.{IsWhole};
+
+use crate::escaping::add_escaped;
+use crate::looks::{LEGEND, LEGEND_WIDTH, STYLES};
+use crate::places::{LANE, y_of};
+use crate::sheet::Sheet;
+use mx_plan::{Plan, Shape};
+use std::alloc::AllocError;
+
+/// What stands above the first row: the legend and the names of the nodes.
+const HEAD: u64 = 64;
+
+/// What stands below the last row: the names again.
+const FOOT: u64 = 30;
+
+/// What stands at the left: the indices of the events.
+const INDICES: u64 = 60;
+
+/// How far from the edge the indices end.
+const INDEX_END: u64 = 50;
+
+/// How far a node's name reaches to each side of its line, at the most.
+const NAME: u64 = 100;
+
+/// How far the texts stand off from their nodes, and from the edge of the page.
+const MARGIN: u64 = 40;
+
+/// The page, which has room for all texts. The line of the first node stands `left` pixels from its edge.
+#[derive(Clone, Copy)]
+struct Frame {
+    left: u64,
+    width: u64,
+    height: u64,
+}
+
+/// Appends the whole picture of so many events.
+pub(crate) fn add_page(
+    plan: &Plan,
+    events: u64,
+    sheet: &Sheet,
+    text: &mut String,
+) -> Result<(), AllocError>
+    ensures { OnOk result (IsWhole (string_bytes text.new)) }
+{
+    let frame = frame_of(plan, sheet);
+    add_size(&frame, text)?;
+    add_title(plan, events, text)?;
+    add_story(sheet, text)?;
+    add_ground(plan, sheet, &frame, text)?;
+    add_drawn(sheet, text)
+}
+
+/// Appends what lies below all that was drawn.
+fn add_ground(
+    plan: &Plan,
+    sheet: &Sheet,
+    frame: &Frame,
+    text: &mut String,
+) -> Result<(), AllocError> {
+    add_head(frame, text)?;
+    add_guides(sheet, frame, text)?;
+    add_indices(sheet, frame.left, text)?;
+    add_lanes(plan, y_of(sheet.row), text)
+}
+
+/// Appends what was drawn, and closes the picture.
+fn add_drawn(sheet: &Sheet, text: &mut String) -> Result<(), AllocError>
+    ensures { OnOk result (IsWhole (string_bytes text.new)) }
+{
+    text.push_str(sheet.bars.as_str())?;
+    text.push_str(sheet.arrows.as_str())?;
+    text.push_str(sheet.texts.as_str())?;
+    text.push_str("</svg>\n")
+}
+
+fn frame_of(plan: &Plan, sheet: &Sheet) -> Frame {
+    let left = sheet
+        .left
+        .saturating_add(MARGIN)
+        .max(NAME)
+        .saturating_add(INDICES);
+    let last = LANE * u64::from(plan.nodes() - 1);
+    let right = sheet.right.saturating_add(MARGIN).max(last + NAME);
+    Frame {
+        left,
+        width: left.saturating_add(right).max(LEGEND_WIDTH),
+        height: y_of(sheet.row) + HEAD + FOOT,
+    }
+}
+
+/// Appends the size of the picture.
+fn add_size(frame: &Frame, text: &mut String) -> Result<(), AllocError> {
+    let left = frame.left;
+    let width = frame.width;
+    let height = frame.height;
+    write!(
+        text,
+        "<svg xmlns=\"http://www.w3.org/2000/svg\" role=\"img\" width=\"{width}\" height=\"{height}\""
+    )?;
+    write!(text, " viewBox=\"-{left} -{HEAD} {width} {height}\">\n")
+}
+
+/// Appends the title: the algorithm, the nodes and how many events there are.
+fn add_title(plan: &Plan, events: u64, text: &mut String) -> Result<(), AllocError> {
+    let algorithm = algorithm_of(plan);
+    write!(text, "<title>{algorithm} algorithm, nodes:")?;
+    for index in 0..plan.nodes() {
+        text.push(' ')?;
+        add_escaped(plan.node_name(index).unwrap_or(""), text)?;
+    }
+    write!(text, ", events: {events}</title>\n")
+}
+
+/// Whose algorithm the plan has.
+fn algorithm_of(plan: &Plan) -> &'static str {
+    match plan.shape() {
+        Shape::Ricart(_) => "Ricart and Agrawala's",
+        Shape::Maekawa(_) => "Maekawa's",
+        Shape::Raymond(_) => "Raymond's",
+    }
+}
+
+/// Appends what is told to those who can't see the picture.
+fn add_story(sheet: &Sheet, text: &mut String) -> Result<(), AllocError> {
+    text.push_str("<desc>Time goes down, and each event is told beside its node. Sections:")?;
+    if sheet.story.is_empty() {
+        text.push_str(" none.")?;
+    }
+    text.push_str(sheet.story.as_str())?;
+    text.push_str("</desc>\n")
+}
+
+/// Appends the styles, the paper and the legend.
+fn add_head(frame: &Frame, text: &mut String) -> Result<(), AllocError> {
+    let left = frame.left;
+    let width = frame.width;
+    let height = frame.height;
+    text.push_str(STYLES)?;
+    write!(text, "<g transform=\"translate(-{left} -{HEAD})\">\n")?;
+    write!(
+        text,
+        "<path class=\"paper\" d=\"M0 0h{width}v{height}h-{width}z\"/>\n{LEGEND}</g>\n"
+    )
+}
+
+/// Appends the lines across the page.
+fn add_guides(sheet: &Sheet, frame: &Frame, text: &mut String) -> Result<(), AllocError> {
+    let left = frame.left;
+    let width = frame.width;
+    text.push_str("<path class=\"guide\" d=\"")?;
+    for y in &sheet.guides {
+        write!(text, "M-{left} {y}h{width}")?;
+    }
+    text.push_str("\"/>\n")
+}
+
+/// Appends the indices of the events.
+fn add_indices(sheet: &Sheet, left: u64, text: &mut String) -> Result<(), AllocError> {
+    let aside = left.saturating_sub(INDEX_END);
+    write!(
+        text,
+        "<g class=\"index\" transform=\"translate(-{aside})\">\n<text y=\"-18\">event</text>\n"
+    )?;
+    text.push_str(sheet.indices.as_str())?;
+    text.push_str("</g>\n")
+}
+
+/// Appends the line of each node, with its name above and below.
+fn add_lanes(plan: &Plan, bottom: u64, text: &mut String) -> Result<(), AllocError> {
+    for index in 0..plan.nodes() {
+        let name = plan.node_name(index).unwrap_or("");
+        add_lane(name, LANE * u64::from(index), bottom, text)?;
+    }
+    Ok(())
+}
+
+/// Appends the line of a node, with its name above and below.
+fn add_lane(name: &str, x: u64, bottom: u64, text: &mut String) -> Result<(), AllocError> {
+    write!(text, "<path class=\"node\" d=\"M{x}-12V{bottom}\"/>\n")?;
+    write!(text, "<text class=\"name\" x=\"{x}\" y=\"-18\">")?;
+    add_escaped(name, text)?;
+    write!(
+        text,
+        "</text>\n<text class=\"name\" x=\"{x}\" y=\"{bottom}\" dy=\"20\">"
+    )?;
+    add_escaped(name, text)?;
+    text.push_str("</text>\n")
+}

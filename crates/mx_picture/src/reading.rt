@@ -1,0 +1,143 @@
+//! The plan is read, then the events, as `replay` does it; then they are drawn.
+
+ghost use Rattle.std.specs.Prelude.{◌≡◌, Some, None, length, string_bytes, IfErr, IfOk, IfSome, OnOk};
+ghost use Rattle.mx_cli.specs.Words.{names_of};
+ghost use Rattle.mx_cli.specs.Words as task;
+ghost use Rattle.mx_commands.specs.Jobs.{on_events, replay_one, report_of_events, run_by};
+ghost use Rattle.mx_commands.specs.Runs.{AllNameNodes};
+ghost use Rattle.mx_commands.specs.Ran.{Ran, RanOf, RanOn};
+ghost use Rattle.mx_picture.specs.Drawn.{Draws, IsWhole, StopsAs};
+
+use crate::drawing::{Drawing, draw_run};
+use crate::page::add_page;
+use crate::sheet::Sheet;
+use mx_cli::{Named, Names, Stop, are_dashes, fetch, fetch_plan, plan_in, split_line};
+use mx_commands::start;
+use mx_io::{Output, Source};
+use mx_maekawa::Maekawa;
+use mx_network::Event;
+use mx_plan::{Plan, Shape, read_events};
+use mx_raymond::Raymond;
+use mx_ricart::Ricart;
+use std::alloc::{AllocError, Global};
+
+/// Reads the plan, then the events, and prints their picture. Answers the status.
+pub fn draw<S: Source, O: Output>(
+    alloc: Global,
+    names: &Names<'_>,
+    source: &mut S,
+    out: &mut O,
+) -> Result<u8, Stop>
+    ensures ran { RanOf (O.takes_all out.old) None None (S.told source.old)
+        (task.replay (names_of names.now)) result }
+    ensures drawn { Draws (O.written out.old) (O.written out.new) result }
+    ensures stays { O.takes_all out.new ≡ O.takes_all out.old }
+{
+    if are_dashes(names) {
+        let one = fetch(alloc, source, names.plan, Named::Plan)?;
+        return draw_one(alloc, one.as_slice(), out);
+    }
+    let plan = fetch_plan(alloc, source, names.plan)?;
+    draw_named(alloc, &plan, source, names.events, out)
+}
+
+/// The picture of the events of a name.
+fn draw_named<S: Source, O: Output>(
+    alloc: Global,
+    plan: &Plan,
+    source: &mut S,
+    name: &str,
+    out: &mut O,
+) -> Result<u8, Stop>
+    ensures ran { IfSome (S.told source.old name.now) (λ telling.
+        Ran (O.takes_all out.old) None None (on_events plan.now telling) result) }
+    ensures drawn { Draws (O.written out.old) (O.written out.new) result }
+    ensures stays { O.takes_all out.new ≡ O.takes_all out.old }
+{
+    let events = fetch(alloc, source, name, Named::Events)?;
+    draw_text(alloc, plan, events.as_slice(), out)
+}
+
+/// The picture of one text: its first line is the plan, and what follows is the events.
+fn draw_one<O: Output>(alloc: Global, bytes: &[u8], out: &mut O) -> Result<u8, Stop>
+    ensures ran { RanOn (O.takes_all out.old) None None (replay_one (Some bytes.now)) result }
+    ensures drawn { Draws (O.written out.old) (O.written out.new) result }
+    ensures stays { O.takes_all out.new ≡ O.takes_all out.old }
+{
+    let (line, rest) = split_line(bytes);
+    let plan = plan_in(alloc, line)?;
+    draw_text(alloc, &plan, rest, out)
+}
+
+/// Reads the events and prints their picture.
+fn draw_text<O: Output>(alloc: Global, plan: &Plan, text: &[u8], out: &mut O) -> Result<u8, Stop>
+    ensures ran { Ran (O.takes_all out.old) None None (report_of_events text.now plan.now) result }
+    ensures drawn { Draws (O.written out.old) (O.written out.new) result }
+    ensures stays { O.takes_all out.new ≡ O.takes_all out.old }
+{
+    let events = read_events(alloc, text, plan)?;
+    let page = page_of(alloc, plan, events.as_slice())?;
+    out.put(page.as_bytes())?;
+    Ok(0)
+}
+
+/// The picture of these events.
+fn page_of(alloc: Global, plan: &Plan, events: &[Event]) -> Result<String, Stop>
+    requires { AllNameNodes (length plan.now.nodes) events.now }
+    ensures whole { IfOk result (λ page. IsWhole (string_bytes page)) }
+    ensures ok { OnOk result ((run_by plan.now plan.now.shape events.now).end ≡ None) }
+    ensures err { IfErr result (StopsAs (run_by plan.now plan.now.shape events.now)) }
+{
+    let mut drawing = Drawing::new(alloc, events)?;
+    draw_by_shape(alloc, plan, events, &mut drawing)?;
+    let page = whole_page(alloc, plan, events.len() as u64, &mut drawing.sheet)?;
+    Ok(page)
+}
+
+/// The page of what was drawn of so many events.
+fn whole_page(
+    alloc: Global,
+    plan: &Plan,
+    events: u64,
+    sheet: &mut Sheet,
+) -> Result<String, AllocError>
+    ensures { IfOk result (λ page. IsWhole (string_bytes page)) }
+{
+    sheet.close()?;
+    let mut page = String::new(alloc);
+    add_page(plan, events, sheet, &mut page)?;
+    Ok(page)
+}
+
+/// Draws the events, by the plan's algorithm.
+fn draw_by_shape(
+    alloc: Global,
+    plan: &Plan,
+    events: &[Event],
+    drawing: &mut Drawing,
+) -> Result<(), Stop>
+    requires { AllNameNodes (length plan.now.nodes) events.now }
+    ensures ok { OnOk result ((run_by plan.now plan.now.shape events.now).end ≡ None) }
+    ensures err { IfErr result (StopsAs (run_by plan.now plan.now.shape events.now)) }
+{
+    match plan.shape() {
+        Shape::Ricart(count) => draw_run(
+            plan,
+            start::<Ricart>(alloc, plan, count)?,
+            events,
+            drawing,
+        ),
+        Shape::Maekawa(sets) => draw_run(
+            plan,
+            start::<Maekawa>(alloc, plan, sets)?,
+            events,
+            drawing,
+        ),
+        Shape::Raymond(tree) => draw_run(
+            plan,
+            start::<Raymond>(alloc, plan, tree)?,
+            events,
+            drawing,
+        ),
+    }
+}

@@ -1,0 +1,102 @@
+//! The words of `draw` and `script`, which are read apart from those of the other commands.
+
+ghost use Rattle.std.specs.Prelude.{◌≡◌, [], IfOk, IfErr, option_map};
+ghost use Rattle.clap.specs.Words.{app_of, fault_of, found_of, rows_of, subcommand_rows_of, HasKind};
+ghost use Rattle.mx_cli.specs.Words.{IsCommand, texts_of};
+ghost use Rattle.mx_scripts.specs.Words.{draw_app, draw_in, errand_asked, errand_in, errand_of, file_line, script_app, script_in};
+
+use crate::help;
+use clap::{ArgMatches, Command, Error};
+use mx_cli::{
+    Exploration, Names, bare_command, exploration_at, file_arg, flag_arg, is_given, line_of,
+    matches_in, plan_arg, seed_arg, steps_arg, text_at,
+};
+use std::alloc::{AllocError, Global};
+
+/// Which file of events is asked for.
+#[derive(Clone, Copy, Debug, PartialEq, Eq)]
+pub enum Errand<'a> {
+    /// What `explore` does.
+    Draw(Exploration<'a>),
+    /// A walk of this plan, seed and number of steps.
+    Walk(Exploration<'a>),
+    /// What a script says: the names of the plan and of the script.
+    Script(Names<'a>),
+}
+
+fn draw_command<'a>(alloc: Global) -> Result<Command<'a>, AllocError>
+    ensures { IfOk result (IsCommand draw_app) }
+{
+    let begun = bare_command(alloc, "draw", help::DRAW, help::DRAW_EXAMPLE);
+    let with_plan = begun.arg(plan_arg(alloc))?;
+    let with_seed = with_plan.arg(seed_arg(alloc))?;
+    let with_steps = with_seed.arg(steps_arg(alloc))?;
+    let help = "Draws with purpose: parcels arrive, and nodes enter and leave";
+    with_steps.arg(flag_arg(alloc, "walk", help))
+}
+
+fn script_command<'a>(alloc: Global) -> Result<Command<'a>, AllocError>
+    ensures { IfOk result (IsCommand script_app) }
+{
+    let begun = bare_command(alloc, "script", help::SCRIPT, help::SCRIPT_EXAMPLE);
+    let with_plan = begun.arg(plan_arg(alloc))?;
+    let help = "The file of the script, or - for standard input";
+    with_plan.arg(file_arg(alloc, "SCRIPT", help))
+}
+
+/// The commands that are read.
+fn file_line<'a>(alloc: Global) -> Result<Command<'a>, AllocError>
+    ensures { IfOk result (λ command. app_of command ≡ file_line) }
+{
+    line_of(alloc, draw_command(alloc)?)?.subcommand(script_command(alloc)?)
+}
+
+/// What the words, of which `draw` or `script` is the first, ask for. Their faults are those of `clap`,
+/// and words that ask for help come as such a fault too, with the text to show.
+pub(crate) fn asked<'a>(alloc: Global, words: &'a [&'a str]) -> Result<Option<Errand<'a>>, Error>
+    ensures read { IfOk result (λ _. fault_of file_line (texts_of words.entry.now) ≡ []) }
+    ensures ok { IfOk result (λ errand.
+        option_map errand_of errand ≡ errand_asked (texts_of words.entry.now)) }
+    ensures err { IfErr result (HasKind (fault_of file_line (texts_of words.entry.now))) }
+{
+    let matches = matches_in(file_line(alloc)?, words)?;
+    Ok(errand_in(&matches))
+}
+
+fn errand_in<'a>(matches: &ArgMatches<'a>) -> Option<Errand<'a>>
+    ensures { option_map errand_of result ≡ errand_in (subcommand_rows_of matches.now) }
+{
+    match matches.subcommand() {
+        Some((name, inner)) if name == "draw" => draw_in(inner),
+        Some((name, inner)) if name == "script" => script_in(inner),
+        _ => None,
+    }
+}
+
+fn draw_in<'a>(matches: &ArgMatches<'a>) -> Option<Errand<'a>>
+    ensures { option_map errand_of result ≡ draw_in (rows_of (found_of matches.now)) }
+{
+    let Some(exploration) = exploration_at(matches) else {
+        return None;
+    };
+    if is_given(matches, "walk") {
+        Some(Errand::Walk(exploration))
+    } else {
+        Some(Errand::Draw(exploration))
+    }
+}
+
+fn script_in<'a>(matches: &ArgMatches<'a>) -> Option<Errand<'a>>
+    ensures { option_map errand_of result ≡ script_in (rows_of (found_of matches.now)) }
+{
+    let Some(plan) = text_at(matches, "PLAN") else {
+        return None;
+    };
+    let Some(script) = text_at(matches, "SCRIPT") else {
+        return None;
+    };
+    Some(Errand::Script(Names {
+        plan,
+        events: script,
+    }))
+}

@@ -1,0 +1,107 @@
+//! What comes of an event, and the items of a trace.
+
+ghost use Rattle.std.specs.Prelude.{◌≡◌};
+ghost use Rattle.mx_sections.specs.Causes.{cause_number, cause_words};
+
+use mx_events::Event;
+use mx_journal::Receipt;
+use mx_stamps::Stamp;
+
+/// Why a node refused.
+#[derive(Clone, Copy, Debug, PartialEq, Eq)]
+pub enum Cause {
+    NotIdle,
+    StampsSpent,
+    NotWaiting,
+    NotGranted,
+    NumbersSpent,
+    NotInside,
+    NoRegister,
+    /// The journal does not cover this section, the first that it does not: below the own one, at a
+    /// read, or up to the number that is to be settled.
+    Gap(u64),
+    /// The section has eight reads already, at a read, or eight writes, at a write.
+    Full,
+    /// The journal's base stands for more sections already, for those up to this one.
+    Below(u64),
+}
+
+impl Cause {
+    /// What it is called, without the number that a gap or a base has.
+    pub fn words(&self) -> &'static str
+        ensures { result.now ≡ cause_words self.now }
+    {
+        match self {
+            Cause::NotIdle => "not idle",
+            Cause::StampsSpent => "stamps spent",
+            Cause::NotWaiting => "not waiting",
+            Cause::NotGranted => "not granted",
+            Cause::NumbersSpent => "numbers spent",
+            Cause::NotInside => "not inside",
+            Cause::NoRegister => "no register",
+            Cause::Gap(_) => "gap",
+            Cause::Full => "full",
+            Cause::Below(_) => "below",
+        }
+    }
+
+    /// The number that a gap or a base has.
+    pub fn number(&self) -> Option<u64>
+        ensures { result ≡ cause_number self.now }
+    {
+        match self {
+            Cause::Gap(number) | Cause::Below(number) => Some(*number),
+            _ => None,
+        }
+    }
+}
+
+/// What came of an event.
+#[derive(Debug, PartialEq, Eq, Drop)]
+pub enum Outcome {
+    /// The stamp of the request.
+    Asked(Stamp),
+    /// The number of the section.
+    Entered(u64),
+    /// What was read.
+    Value(u64),
+    Written,
+    /// The reads and the writes of the section.
+    Left(Receipt),
+    Cancelled,
+    Settled,
+    /// How many parcels were sent.
+    Sent(u64),
+    Delivered,
+    Woken,
+    /// The node refused the event, and changed nothing.
+    Refused(Cause),
+}
+
+impl Outcome {
+    /// An equal outcome.
+    pub fn copy(&self) -> Outcome
+        ensures { result ≡ self.now }
+    {
+        match self {
+            Outcome::Asked(stamp) => Outcome::Asked(*stamp),
+            Outcome::Entered(number) => Outcome::Entered(*number),
+            Outcome::Value(value) => Outcome::Value(*value),
+            Outcome::Written => Outcome::Written,
+            Outcome::Left(receipt) => Outcome::Left(receipt.copy()),
+            Outcome::Cancelled => Outcome::Cancelled,
+            Outcome::Settled => Outcome::Settled,
+            Outcome::Sent(count) => Outcome::Sent(*count),
+            Outcome::Delivered => Outcome::Delivered,
+            Outcome::Woken => Outcome::Woken,
+            Outcome::Refused(cause) => Outcome::Refused(*cause),
+        }
+    }
+}
+
+/// An item of the trace.
+#[derive(Debug, PartialEq, Eq, Drop)]
+pub struct Entry {
+    pub event: Event,
+    pub outcome: Outcome,
+}

@@ -1,2 +1,0 @@
--- Drawn: what is printed of a picture, and why none is.
-pub mod Drawn

@@ -1,7 +1,0 @@
--- FaultLines: lines. Outputs: what a run leaves in its output, and whether that has refused. Told: what the two
--- outputs get of help, of refused words and of faults. Reading: what is read of a source. Closed: how a run is closed.
-pub mod FaultLines
-pub mod Outputs
-pub mod Told
-pub mod Reading
-pub mod Closed

@@ -1,6 +1,0 @@
-use Rattle.std.proofs.Common.{◌≡◌, drop, max}
-use Rattle.mx_tallies.specs.Counts.{longest_wait}
-use Rattle.mx_tallies.proofs.waits.longest_wait.Given as goal
-
-abbrev pub invariant-loop-index : goal.invariant-loop-index
-invariant-loop-index l = max l.longest (longest_wait (drop l.index l.trace)) ≡ longest_wait l.trace

@@ -1,5 +1,0 @@
-pub mod ShownLemmas
-pub mod StationLemmas
-pub mod WorkerLemmas
-pub mod SectionLemmas
-pub mod AlgorithmLemmas

@@ -1,6 +1,0 @@
-use Rattle.std.proofs.Common.{rules}
-use Rattle.mx_threads.proofs.StationLemmas.{none_so}
-use Rattle.mx_threads.proofs.threads.start_all.Goals as goal
-
-pub returns-in-Ok : goal.returns-in-Ok
-returns-in-Ok g c = λ p table all. c.in-Ok.ensures p table all (none_so _ (search rules))

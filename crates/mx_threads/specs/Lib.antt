@@ -1,7 +1,0 @@
--- Stations: the stations of a plan. Workers: what workers are told, promise and leave. Together: what all have together.
--- Shown: what a live run prints. Halts: why one ends without a journal.
-pub mod Stations
-pub mod Workers
-pub mod Together
-pub mod Shown
-pub mod Halts

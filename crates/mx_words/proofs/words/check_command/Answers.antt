@@ -1,4 +1,0 @@
-use Rattle.mx_words.proofs.words.check_command.Goals as goal
-
-pub returns : goal.returns
-returns c = c.plan_command.ensures

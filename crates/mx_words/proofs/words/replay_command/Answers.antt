@@ -1,5 +1,0 @@
-use Rattle.mx_words.proofs.WordLemmas.{with_arg}
-use Rattle.mx_words.proofs.words.replay_command.Goals as goal
-
-pub returns : goal.returns
-returns c = with_arg _ c.plan_command-begun.result c.with_arg.result c.plan_command-begun.ensures c.events_arg.ensures c.with_arg.ensures
