@@ -4,11 +4,9 @@ use crate::expecting::{expect, expect_number, expect_word};
 use crate::lines::Path;
 use crate::page::Page;
 use crate::values::{elements, is_among, items_in, text_in};
+use mx_stamps::MOST_EVENTS;
 use serde_json::Value;
 use std::alloc::AllocError;
-
-/// The greatest number of events that a text may list.
-const MOST_EVENTS: usize = 1_000_000;
 
 const WORDS: [&str; 11] = [
     "ask", "enter", "read", "write", "leave", "cancel", "settle", "tick", "want", "deliver",

@@ -9,14 +9,9 @@ use crate::lines::{Foreign, Path};
 use crate::page::Page;
 use crate::shape_members::explain_shape;
 use crate::values::{is_among, items_in, member_of, names_at, names_in, text_in};
+use mx_stamps::{MOST_NODES, MOST_REGISTERS};
 use serde_json::Value;
 use std::alloc::AllocError;
-
-/// The greatest number of nodes of a plan.
-pub(crate) const MOST_NODES: usize = 21;
-
-/// The greatest number of registers of a plan.
-pub(crate) const MOST_REGISTERS: usize = 32;
 
 const ALGORITHMS: [&str; 3] = ["ricart", "maekawa", "raymond"];
 
@@ -75,13 +70,13 @@ fn explain_members(page: &mut Page<'_>, algorithm: &str, plan: &Value) -> Result
 /// The names of a plan.
 fn explain_lists(page: &mut Page<'_>, plan: &Value) -> Result<(), AllocError> {
     let (nodes, registers) = ("an array of 1 to 21 names", "an array of 1 to 32 names");
-    explain_names(page, "nodes", plan, MOST_NODES, nodes)?;
-    explain_names(page, "registers", plan, MOST_REGISTERS, registers)
+    explain_names(page, "nodes", plan, MOST_NODES as usize, nodes)?;
+    explain_names(page, "registers", plan, MOST_REGISTERS as usize, registers)
 }
 
 /// The shape of its nodes.
 fn explain_shape_of(page: &mut Page<'_>, algorithm: &str, plan: &Value) -> Result<(), AllocError> {
-    let nodes = names_at(page.alloc, Some(plan), "nodes", MOST_NODES)?;
+    let nodes = names_at(page.alloc, Some(plan), "nodes", MOST_NODES as usize)?;
     explain_shape(page, algorithm, plan, nodes.as_slice())
 }
 

@@ -1,10 +1,10 @@
 //! Why nodes have no such shape.
 
 use crate::page::Page;
-use crate::plan_faults::MOST_NODES;
 use crate::values::{items_in, member_of, names_at};
 use mx_plan::ShapeFault;
 use mx_quorums::QuorumFault;
+use mx_stamps::MOST_NODES;
 use mx_trees::TreeFault;
 use serde_json::Value;
 use std::alloc::AllocError;
@@ -16,7 +16,7 @@ pub(crate) fn explain_shape_fault(
     plan: &Value,
     fault: ShapeFault,
 ) -> Result<(), AllocError> {
-    let nodes = names_at(page.alloc, Some(plan), "nodes", MOST_NODES)?;
+    let nodes = names_at(page.alloc, Some(plan), "nodes", MOST_NODES as usize)?;
     let edges = items_in(member_of(plan, "edges")).len();
     say_fault(page, nodes.as_slice(), edges, fault)
 }

@@ -3,11 +3,12 @@
 use crate::event_faults::{Known, explain_events};
 use crate::json_faults::{Part, value_in};
 use crate::page::Page;
-use crate::plan_faults::{MOST_NODES, MOST_REGISTERS, explain_plan};
+use crate::plan_faults::explain_plan;
 use crate::repeated::warn_of_repeated;
 use crate::shape_faults::explain_shape_fault;
 use crate::values::names_at;
 use mx_plan::ShapeFault;
+use mx_stamps::{MOST_NODES, MOST_REGISTERS};
 use serde_json::Value;
 use std::alloc::AllocError;
 
@@ -69,8 +70,8 @@ fn explain_read_events(
     plan: Option<&Value>,
     events: &Value,
 ) -> Result<(), AllocError> {
-    let nodes = names_at(page.alloc, plan, "nodes", MOST_NODES)?;
-    let registers = names_at(page.alloc, plan, "registers", MOST_REGISTERS)?;
+    let nodes = names_at(page.alloc, plan, "nodes", MOST_NODES as usize)?;
+    let registers = names_at(page.alloc, plan, "registers", MOST_REGISTERS as usize)?;
     let known = Known {
         nodes: nodes.as_slice(),
         registers: registers.as_slice(),

@@ -10,7 +10,7 @@ use mx_stamps::{NodeId, Stamp};
 /// A node of an exclusion algorithm. Its step table is `core`; each call equals the table in state,
 /// answer and letters in order. The laws below the calls are what a cluster rests on.
 pub trait Exclusion: Drop {
-    ghost use Rattle.mx_stamps.specs.declared.node_id.TheConstants.{MAX_NODES};
+    ghost use Rattle.mx_stamps.specs.declared.limits.TheConstants.{MOST_NODES};
     ghost use Rattle.mx_nodelaws.specs.World.{World};
     ghost use Rattle.mx_nodelaws.specs.Core.{Core, KeepsPhases, BearsNumber};
     ghost use Rattle.mx_nodelaws.specs.Laws.{KeepsGood};
@@ -37,7 +37,7 @@ pub trait Exclusion: Drop {
         ensures value { result ≡ core.count shape.now }
         ensures valid { IsShape shape.now }
         ensures low { 0 < result }
-        ensures high { result ≤ MAX_NODES };
+        ensures high { result ≤ MOST_NODES };
 
     /// A node that has just been started. Its stamps, grants or hops count on from `origin`; `limit` is
     /// the greatest section number.

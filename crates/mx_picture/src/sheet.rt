@@ -7,7 +7,7 @@ use crate::escaping::add_escaped;
 use crate::places::{MOST_ROWS, x_of, y_of};
 use crate::widths::width_of;
 use mx_nodelaws::Phase;
-use mx_stamps::{MAX_NODES, NodeId};
+use mx_stamps::{MOST_NODES, NodeId};
 use std::alloc::{AllocError, Global};
 
 /// Since which row a node is in a phase.
@@ -245,7 +245,7 @@ impl Sheet {
 
     /// What still goes on ends with the picture.
     pub(crate) fn close(&mut self) -> Result<(), AllocError> {
-        for index in 0..MAX_NODES {
+        for index in 0..MOST_NODES {
             if let Some(node) = NodeId::of(index) {
                 self.change(node, Phase::Idle)?;
             }

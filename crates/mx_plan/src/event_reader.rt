@@ -11,12 +11,9 @@ use crate::place::Place;
 use crate::plan::Plan;
 use crate::values::{elements, list_in, parse, text_in};
 use mx_events::Event;
-use mx_stamps::NodeId;
+use mx_stamps::{MOST_EVENTS, NodeId};
 use serde_json::Value;
 use std::alloc::Global;
-
-/// The greatest number of events that a text may list.
-const MOST_EVENTS: usize = 1_000_000;
 
 /// Reads a list of at most 1,000,000 events. Each is an array of a word and of names of the plan's
 /// nodes and registers, and of whole numbers of 64 bits: `["ask",N]`, `["enter",N]`, `["read",N,R]`,

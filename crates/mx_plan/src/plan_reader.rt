@@ -19,18 +19,9 @@ use crate::quorum_reader::quorums_in;
 use crate::shape::Shape;
 use crate::tree_reader::tree_in;
 use crate::values::{number_in, parse};
-use mx_stamps::MAX_NODES;
+use mx_stamps::{MOST_NODES, MOST_REGISTERS, MOST_SECTIONS};
 use serde_json::Value;
 use std::alloc::Global;
-
-/// The greatest number of nodes that a plan may name.
-const MOST_NODES: usize = MAX_NODES as usize;
-
-/// The greatest number of registers that a plan may name.
-const MOST_REGISTERS: usize = 32;
-
-/// The greatest number that a plan may give to its last section.
-const MOST_SECTIONS: u64 = 1_000_000;
 
 /// Reads a plan: an object with `algorithm`, `nodes`, `registers`, `sections`, where it is not 0
 /// `origin`, for Maekawa's algorithm `quorums`, and for Raymond's `edges` and `holder`. Other keys
@@ -67,11 +58,11 @@ fn both_names(alloc: Global, value: &Value) -> Result<(Names, Names), PlanFault>
     ensures nodes { IfOk result (λ names. AreNames 21 names.0) }
     ensures registers { IfOk result (λ names. AreNames 32 names.1) }
 {
-    let nodes = names_at(alloc, value.get("nodes"), MOST_NODES, Place::Nodes)?;
+    let nodes = names_at(alloc, value.get("nodes"), MOST_NODES as usize, Place::Nodes)?;
     names_at(
         alloc,
         value.get("registers"),
-        MOST_REGISTERS,
+        MOST_REGISTERS as usize,
         Place::Registers,
     )
     .map(|registers| (nodes, registers))

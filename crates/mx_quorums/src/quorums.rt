@@ -12,7 +12,7 @@ use crate::fault::QuorumFault;
 use crate::lines::grid_rows;
 use crate::lists::{check_filled, check_members, rows_of};
 use crate::shifts::{differences, plane_rows};
-use mx_stamps::{MAX_NODES, NodeId};
+use mx_stamps::{MOST_NODES, NodeId};
 use std::marker::Model;
 
 /// For each of 1 to 21 nodes the set of its arbiters. Each node is in its own set, and any two sets
@@ -56,10 +56,10 @@ impl Quorums {
     /// A grid of nodes, row by row: node `r * cols + c` has row r and column c, and its set is its
     /// row and its column. A grid of no node or of more than 21 is refused.
     pub fn grid(rows: u8, cols: u8) -> Result<Quorums, QuorumFault>
-        ensures ok { IsOk result ↔ ((0 < rows * cols) × (rows * cols ≤ MAX_NODES)) }
+        ensures ok { IsOk result ↔ ((0 < rows * cols) × (rows * cols ≤ MOST_NODES)) }
         ensures sets { IfOk result (λ family. IsGrid rows cols family) }
         ensures no_nodes { IsErrOf result QuorumFault.NoNodes ↔ (rows * cols ≡ 0) }
-        ensures too_many { IsErrOf result QuorumFault.TooMany ↔ (MAX_NODES < rows * cols) }
+        ensures too_many { IsErrOf result QuorumFault.TooMany ↔ (MOST_NODES < rows * cols) }
     {
         let nodes = node_count(rows as usize * cols as usize)?;
         Quorums::checked(nodes, grid_rows(nodes, cols))
@@ -82,7 +82,7 @@ impl Quorums {
     /// The family of these sets, of which each has nodes alone.
     fn checked(nodes: u8, rows: Rows) -> Result<Quorums, QuorumFault>
         requires some { 0 < nodes }
-        requires few { nodes ≤ MAX_NODES }
+        requires few { nodes ≤ MOST_NODES }
         requires marks { MarksNodes nodes rows }
         ensures { IsChecked nodes rows result }
     {
@@ -94,7 +94,7 @@ impl Quorums {
     pub fn nodes(&self) -> u8
         ensures value { result ≡ self.now.count }
         ensures low { 0 < result }
-        ensures high { result ≤ MAX_NODES }
+        ensures high { result ≤ MOST_NODES }
         ensures valid { IsMeeting self.now }
         ensures within { IsWithin self.now }
     {

@@ -4,7 +4,7 @@ ghost use Rattle.std.specs.Prelude.{ℕ, ◌≡◌, false, [], ◌∷◌, ◌++�
 ghost use Rattle.mx_raymond.specs.Queue.{is_queued, is_empty, head_of, rest_of, joined, without};
 
 use arrayvec::ArrayVec;
-use mx_stamps::{MAX_NODES, NodeId};
+use mx_stamps::{MOST_NODES, NodeId};
 use std::marker::Model;
 
 /// The nodes that want the privilege from a node: names of its neighbours and its own, each at most
@@ -61,7 +61,7 @@ impl Queue {
         requires { is_queued self.old node ≡ false }
         ensures { self.new ≡ self.old ++ node ∷ [] }
     {
-        prove!(node.get() < MAX_NODES);
+        prove!(node.get() < MOST_NODES);
         self.names.push(node);
     }
 

@@ -4,7 +4,7 @@ ghost use Rattle.std.specs.Prelude.{◌<◌};
 
 use mx_network::{Cluster, Event};
 use mx_nodelaws::Exclusion;
-use mx_stamps::{MAX_NODES, NodeId};
+use mx_stamps::{MOST_NODES, NodeId};
 use std::alloc::{AllocError, Global};
 
 /// How many links there are between the nodes of the greatest cluster, each with itself too.
@@ -27,7 +27,7 @@ pub(crate) struct Mail {
 fn link(from: NodeId, to: NodeId) -> usize
     ensures { result < 441 }
 {
-    usize::from(from.get()) * usize::from(MAX_NODES) + usize::from(to.get())
+    usize::from(from.get()) * usize::from(MOST_NODES) + usize::from(to.get())
 }
 
 /// Whether a parcel goes from one node to another.

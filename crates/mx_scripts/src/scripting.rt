@@ -17,11 +17,8 @@ use mx_nodelaws::Exclusion;
 use mx_plan::{Plan, Shape};
 use mx_raymond::Raymond;
 use mx_ricart::Ricart;
-use mx_stamps::NodeId;
+use mx_stamps::{MOST_EVENTS, NodeId};
 use std::alloc::Global;
-
-/// The greatest number of events that a file lists.
-const MOST_EVENTS: usize = 1_000_000;
 
 /// The file of the events of a script, by the plan's algorithm.
 pub(crate) fn script_file(alloc: Global, plan: &Plan, script: &str) -> Result<String, Halt>

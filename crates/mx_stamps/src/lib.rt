@@ -2,9 +2,11 @@
 #![tactic(auto)]
 
 mod clock;
+mod limits;
 mod node_id;
 mod stamp;
 
 pub use clock::Clock;
-pub use node_id::{MAX_NODES, NodeId};
+pub use limits::{MOST_EVENTS, MOST_NODES, MOST_REGISTERS, MOST_SECTIONS};
+pub use node_id::NodeId;
 pub use stamp::Stamp;

@@ -2,10 +2,8 @@
 
 ghost use Rattle.std.specs.Prelude.{◌≡◌, ◌<◌, ◌↔◌, IsSome, IfSome};
 
+use crate::limits::MOST_NODES;
 use std::marker::Model;
-
-/// The greatest number of nodes in a cluster.
-pub const MAX_NODES: u8 = 21;
 
 /// A node, by its number from 0 to 20.
 #[derive(Clone, Copy, Debug, Default, PartialEq, Eq, PartialOrd, Ord, Hash)]
@@ -15,13 +13,13 @@ pub struct NodeId {
 
 impl Model for NodeId {
     ghost use Rattle.std.specs.Prelude.{ℕ, ◌<◌};
-    ghost use Rattle.mx_stamps.specs.declared.node_id.TheConstants.{MAX_NODES};
+    ghost use Rattle.mx_stamps.specs.declared.limits.TheConstants.{MOST_NODES};
 
     ghost Value = { ℕ };
 
     ghost view = { λ n. n.index };
 
-    ghost invariant = { λ n. n.index < MAX_NODES };
+    ghost invariant = { λ n. n.index < MOST_NODES };
 
     ghost inverse = { λ n. record { index = n } };
 }
@@ -29,10 +27,10 @@ impl Model for NodeId {
 impl NodeId {
     /// The node of this number. None from 21 on: no cluster has such a node.
     pub fn of(index: u8) -> Option<NodeId>
-        ensures some { IsSome result ↔ (index < MAX_NODES) }
+        ensures some { IsSome result ↔ (index < MOST_NODES) }
         ensures value { IfSome result (λ n. n ≡ index) }
     {
-        if index < MAX_NODES {
+        if index < MOST_NODES {
             Some(NodeId { index })
         } else {
             None
@@ -42,7 +40,7 @@ impl NodeId {
     /// Its number.
     pub fn get(self) -> u8
         ensures value { result ≡ self }
-        ensures bound { result < MAX_NODES }
+        ensures bound { result < MOST_NODES }
     {
         self.index
     }

@@ -7,7 +7,7 @@ ghost use Rattle.mx_trees.specs.Tree.{toward_of, are_neighbours, IsToward, IsRoo
 use crate::edges::{bad_edge, neighbours, unjoined};
 use crate::fault::TreeFault;
 use crate::growth::Growth;
-use mx_stamps::{MAX_NODES, NodeId};
+use mx_stamps::{MOST_NODES, NodeId};
 use std::marker::Model;
 
 /// A tree of 1 to 21 nodes, of which one is the holder of the privilege at the start (Raymond
@@ -41,7 +41,7 @@ fn checked(nodes: u8, edges: &[(u8, u8)], holder: u8) -> Result<NodeId, TreeFaul
     if nodes == 0 {
         return Err(TreeFault::NoNodes);
     }
-    if nodes > MAX_NODES {
+    if nodes > MOST_NODES {
         return Err(TreeFault::TooMany);
     }
     if let Some(k) = bad_edge(nodes, edges) {
