@@ -7,8 +7,8 @@ use mx_stamps::Stamp;
 pub enum MaekawaMsg {
     /// A requester asks an arbiter for its grant.
     Request(Stamp),
-    /// An arbiter grants: the number of the grant, and the highest section number that the arbiter
-    /// had been told.
+    /// An arbiter grants. The first number is that of the grant, the second the highest section
+    /// number that the arbiter had been told.
     Locked(Stamp, u64, u64),
     /// An arbiter has another request to serve first.
     Failed(Stamp),
@@ -16,8 +16,8 @@ pub enum MaekawaMsg {
     Inquire(Stamp, u64),
     /// A requester gives the grant of this number back.
     Relinquish(Stamp, u64),
-    /// A requester has ended its requests up to this stamp: the highest section number that it
-    /// knows.
+    /// A requester has ended its requests up to this stamp. The number is the highest section number
+    /// that it knows.
     Release(Stamp, u64),
 }
 

@@ -8,7 +8,8 @@ use mx_stamps::Stamp;
 pub enum RicartMsg {
     /// A node asks for the section.
     Request(Stamp),
-    /// The sender permits the request of this stamp: the highest section number that it knew.
+    /// The sender permits the request of this stamp. The number is the highest section number that it
+    /// knew.
     Reply(Stamp, u64),
 }
 
