@@ -6,7 +6,7 @@ use Rattle.mx_stamps.specs.Stamp.{Before, is_before_of, is_same_as}
 use Rattle.mx_stamps.specs.Numbers.{last_number}
 use Rattle.mx_letters.specs.declared.maekawa.MaekawaMsg.{MaekawaMsg}
 use Rattle.mx_letters.specs.declared.maekawa.MaekawaMsg.TheVariants.{Locked, Failed, Inquire}
-use Rattle.mx_nodelaws.specs.World.{Done}
+use Rattle.mx_nodelaws.specs.World.{Done, sending, becoming}
 use Rattle.mx_maekawa.specs.declared.lock.Lock.{Lock}
 use Rattle.mx_maekawa.specs.Node.{ArbiterState}
 
@@ -46,13 +46,6 @@ others_at a but j = if nat_eq j but then None else waiting_at a j
 abbrev pub ArbiterDone : Type 0
 ArbiterDone = Done ArbiterState (Unit {0}) MaekawaMsg
 
--- nothing is sent
-abbrev pub silent : ArbiterState → ArbiterDone
-silent a = record { state = a; answer = tt; letters = [] }
-
-abbrev pub sending : ArbiterState → List (ℕ × MaekawaMsg) → ArbiterDone
-sending a letters = record { state = a; answer = tt; letters = letters }
-
 -- the grant of the lock, if there is a lock
 abbrev pub lock_letter : Option Lock → List (ℕ × MaekawaMsg)
 lock_letter None = []
@@ -70,12 +63,12 @@ abbrev pub locked : ArbiterState → Stamp → ArbiterDone
 locked a u = sending (locking a u) ((u.node, Locked u (a.granted + 1) a.last) ∷ [])
 
 abbrev pub grant_to : Option Stamp → ArbiterState → ArbiterDone
-grant_to None a = silent a
-grant_to (Some u) a = if nat_lt a.granted last_number then locked a u else silent a
+grant_to None a = becoming a
+grant_to (Some u) a = if nat_lt a.granted last_number then locked a u else becoming a
 
 abbrev pub grant_in : Option Lock → ArbiterState → ArbiterDone
 grant_in None a = grant_to (least_of (waiting_at a) a.count) a
-grant_in (Some lock) a = silent a
+grant_in (Some lock) a = becoming a
 
 abbrev pub grant : ArbiterState → ArbiterDone
 grant a = grant_in a.lock a
@@ -138,13 +131,13 @@ abbrev pub is_overtaken : ArbiterState → Stamp → Bool
 is_overtaken a s = is_later (stamp_of a.lock) s || is_later (waiting_at a s.node) s
 
 abbrev pub take_fresh : Stamp → ArbiterState → ArbiterDone
-take_fresh s a = if is_overtaken a s then silent a else queue a.lock s a
+take_fresh s a = if is_overtaken a s then becoming a else queue a.lock s a
 
 abbrev pub take_live : Stamp → ArbiterState → ArbiterDone
 take_live s a = if is_for a.lock s then sending a (lock_letter a.lock) else take_fresh s a
 
 abbrev pub take_request : Stamp → ArbiterState → ArbiterDone
-take_request s a = if nat_lt (ended_at a s.node) s.number then take_live s a else silent a
+take_request s a = if nat_lt (ended_at a s.node) s.number then take_live s a else becoming a
 
 -- RELINQUISH from the node of s: where the lock is for exactly this stamp and grant it ends, and the
 -- request waits again.
@@ -162,7 +155,7 @@ abbrev pub taking_back : Stamp → ArbiterState → ArbiterState
 taking_back s a = record a { lock = None; waiting = slice_set a.waiting s.node (or_else (waiting_at a s.node) s) }
 
 abbrev pub take_relinquish : Stamp → ℕ → ArbiterState → ArbiterDone
-take_relinquish s g a = if is_exactly a.lock s g then grant (taking_back s a) else silent a
+take_relinquish s g a = if is_exactly a.lock s g then grant (taking_back s a) else becoming a
 
 -- RELEASE from the node of s: all its requests up to s have ended, and a lock for one of them ends.
 -- Published: the lock ends, and the first of those that wait is granted.
@@ -183,4 +176,4 @@ is_up_to None s = false
 is_up_to (Some lock) s = nat_eq lock.stamp.node s.node && nat_lt lock.stamp.number (s.number + 1)
 
 abbrev pub take_release : Stamp → ℕ → ArbiterState → ArbiterDone
-take_release s t a = if is_up_to a.lock s then grant (unlocking (ending s t a)) else silent (ending s t a)
+take_release s t a = if is_up_to a.lock s then grant (unlocking (ending s t a)) else becoming (ending s t a)

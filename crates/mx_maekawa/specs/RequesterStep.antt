@@ -5,7 +5,7 @@ use Rattle.mx_stamps.specs.declared.stamp.Stamp.{Stamp}
 use Rattle.mx_stamps.specs.Stamp.{is_same_as}
 use Rattle.mx_letters.specs.declared.maekawa.MaekawaMsg.{MaekawaMsg}
 use Rattle.mx_letters.specs.declared.maekawa.MaekawaMsg.TheVariants.{Request, Relinquish, Release}
-use Rattle.mx_nodelaws.specs.World.{Done, Quiet, addressed}
+use Rattle.mx_nodelaws.specs.World.{Done, Quiet, sending, becoming, and_then, addressed}
 use Rattle.mx_nodelaws.specs.declared.phase.Phase.{Phase}
 use Rattle.mx_nodelaws.specs.declared.phase.Phase.TheVariants.{Idle, Waiting, Inside}
 use Rattle.mx_nodelaws.specs.declared.faults.AskFault.{AskFault}
@@ -13,7 +13,7 @@ use Rattle.mx_nodelaws.specs.declared.faults.CancelFault.{CancelFault}
 use Rattle.mx_nodelaws.specs.declared.faults.EnterFault.{EnterFault}
 use Rattle.mx_nodelaws.specs.declared.faults.LeaveFault.{LeaveFault}
 use Rattle.mx_nodelaws.specs.Phases.{is_busy, is_waiting}
-use Rattle.mx_nodelaws.specs.Calls.{unchanged, ask_by, enter_by, leave_by, cancel_by}
+use Rattle.mx_nodelaws.specs.Calls.{ask_by, enter_by, leave_by, cancel_by}
 use Rattle.mx_nodelaws.specs.Tests.{all_below}
 use Rattle.mx_maekawa.specs.Node.{RequesterState}
 
@@ -69,11 +69,11 @@ abbrev pub HoldsAll : RequesterState → Type 0
 HoldsAll r = (a : ℕ) → a < r.count → is_own r a ≡ true → holds r a ≡ true
 
 -- the same as a test
-abbrev pub is_granted : RequesterState → ℕ → Bool
-is_granted r a = not (is_own r a) || holds r a
+abbrev pub is_held : RequesterState → ℕ → Bool
+is_held r a = not (is_own r a) || holds r a
 
 abbrev pub holds_all : RequesterState → Bool
-holds_all r = all_below (is_granted r) r.count
+holds_all r = all_below (is_held r) r.count
 
 -- some arbiter has failed the current request
 abbrev pub HasFailed : RequesterState → Type 0
@@ -98,18 +98,14 @@ RequesterDone A = Done RequesterState A MaekawaMsg
 
 -- one letter to arbiter a
 abbrev pub saying : RequesterState → ℕ → MaekawaMsg → RequesterDone (Unit {0})
-saying r a letter = record { state = r; answer = tt; letters = (a, letter) ∷ [] }
-
--- one step, and then another
-abbrev pub and_then : RequesterDone (Unit {0}) → (RequesterState → RequesterDone (Unit {0})) → RequesterDone (Unit {0})
-and_then first second = record { state = (second first.state).state; answer = tt; letters = first.letters ++ (second first.state).letters }
+saying r a letter = sending r ((a, letter) ∷ [])
 
 -- the grant of a remembered inquiry of arbiter b, if there is one, is given back
 abbrev pub giving_remembered : RequesterState → ℕ → ℕ → RequesterState
 giving_remembered r b g = record r { back = slice_set r.back b g; held = slice_set r.held b None; remembered = slice_set r.remembered b None; failed = slice_set r.failed b true }
 
 abbrev pub giving : Option ℕ → RequesterState → ℕ → RequesterDone (Unit {0})
-giving None r b = unchanged r tt
+giving None r b = becoming r
 giving (Some g) r b = saying (giving_remembered r b g) b (Relinquish r.ours g)
 
 abbrev pub give_remembered : ℕ → RequesterState → RequesterDone (Unit {0})
@@ -117,7 +113,7 @@ give_remembered b r = giving (remembered_at r b) r b
 
 -- the same for each of the arbiters below n, in order
 abbrev pub give_below : ℕ → RequesterState → RequesterDone (Unit {0})
-give_below zero r = unchanged r tt
+give_below zero r = becoming r
 give_below (suc n) r = and_then (give_below n r) (give_remembered n)
 
 -- Fail: arbiter a has failed the request, and each grant of a remembered inquiry is given back.
@@ -147,7 +143,7 @@ ask_in p r = ask_by (λ (x : RequesterState). x.highest) asked p r
 -- a LOCKED or INQUIRE for an ended stamp is answered by a release.
 -- Added: the release of that stamp may have been lost, and the arbiter would stay locked for it.
 abbrev pub release_ended : RequesterState → Stamp → ℕ → RequesterDone (Unit {0})
-release_ended r stamp a = if has_ended r stamp then saying r a (Release stamp r.top) else unchanged r tt
+release_ended r stamp a = if has_ended r stamp then saying r a (Release stamp r.top) else becoming r
 
 -- LOCKED from arbiter a, for the current request, whose grant is missing.
 -- Published: the grant is held.
@@ -158,10 +154,10 @@ abbrev pub holding : RequesterState → ℕ → ℕ → ℕ → RequesterState
 holding r a g c = record r { held = slice_set r.held a (Some g); failed = slice_set r.failed a false; top = max r.top c }
 
 abbrev pub locked_fresh : ℕ → Stamp → ℕ → ℕ → RequesterState → RequesterDone (Unit {0})
-locked_fresh a stamp g c r = if nat_lt (back_at r a) g then unchanged (holding r a g c) tt else saying r a (Relinquish stamp g)
+locked_fresh a stamp g c r = if nat_lt (back_at r a) g then becoming (holding r a g c) else saying r a (Relinquish stamp g)
 
 abbrev pub locked_current : ℕ → Stamp → ℕ → ℕ → RequesterState → RequesterDone (Unit {0})
-locked_current a stamp g c r = if holds r a then unchanged r tt else locked_fresh a stamp g c r
+locked_current a stamp g c r = if holds r a then becoming r else locked_fresh a stamp g c r
 
 abbrev pub take_locked : ℕ → Stamp → ℕ → ℕ → RequesterState → RequesterDone (Unit {0})
 take_locked a stamp g c r = if is_current_wait r stamp then locked_current a stamp g c r else release_ended r stamp a
@@ -170,7 +166,7 @@ take_locked a stamp g c r = if is_current_wait r stamp then locked_current a sta
 -- Published: the node then knows that it does not get every grant yet, which is Fail.
 -- Added: the test of the stamp, and that no grant of a is held, since a FAILED may come late.
 abbrev pub take_failed : ℕ → Stamp → RequesterState → RequesterDone (Unit {0})
-take_failed a stamp r = if is_current_wait r stamp && not (holds r a) then fail a r else unchanged r tt
+take_failed a stamp r = if is_current_wait r stamp && not (holds r a) then fail a r else becoming r
 
 -- INQUIRE from arbiter a for the grant that is held: it is given back where some arbiter has failed,
 -- else the inquiry is remembered.
@@ -184,7 +180,7 @@ remembering r a g = record r { remembered = slice_set r.remembered a (Some g) }
 
 abbrev pub inquired_held : ℕ → Stamp → ℕ → RequesterState → RequesterDone (Unit {0})
 inquired_held a stamp g r =
-    if has_failed_below r r.count then saying (giving_now r a g) a (Relinquish stamp g) else unchanged (remembering r a g) tt
+    if has_failed_below r r.count then saying (giving_now r a g) a (Relinquish stamp g) else becoming (remembering r a g)
 
 -- INQUIRE for a grant that has not come: it is given back at once, and arbiter a has failed.
 -- Added, since the LOCKED may have been lost or overtaken.
@@ -224,7 +220,7 @@ abbrev pub ending : RequesterState → RequesterState
 ending r = record r { phase = Idle; held = replicate 21 None; failed = replicate 21 false; remembered = replicate 21 None }
 
 abbrev pub ended : RequesterState → RequesterDone (Unit {0})
-ended r = record { state = ending r; answer = tt; letters = addressed (to_own r (Release r.ours r.top)) r.count }
+ended r = sending (ending r) (addressed (to_own r (Release r.ours r.top)) r.count)
 
 abbrev pub leave_in : Phase → RequesterState → RequesterDone (Result ℕ LeaveFault)
 leave_in p r = leave_by ended p r

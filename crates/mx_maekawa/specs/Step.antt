@@ -4,9 +4,8 @@ use Rattle.std.specs.Prelude.{ℕ, Bool, ◌&&◌, ◌++◌, max, nat_eq, if◌t
 use Rattle.mx_stamps.specs.declared.stamp.Stamp.{Stamp}
 use Rattle.mx_letters.specs.declared.maekawa.MaekawaMsg.{MaekawaMsg}
 use Rattle.mx_letters.specs.declared.maekawa.MaekawaMsg.TheVariants.{Request, Locked, Failed, Inquire, Relinquish, Release}
-use Rattle.mx_nodelaws.specs.World.{Done}
+use Rattle.mx_nodelaws.specs.World.{Done, sending, becoming}
 use Rattle.mx_nodelaws.specs.Core.{Core}
-use Rattle.mx_nodelaws.specs.Calls.{unchanged}
 use Rattle.mx_nodelaws.specs.Rows.{Rows, core_of}
 use Rattle.mx_quorums.specs.Family.{Family, row_of, has_of}
 use Rattle.mx_maekawa.specs.Node.{RequesterState, ArbiterState, Node}
@@ -43,17 +42,17 @@ abbrev pub seeing : Node → ℕ → Node
 seeing s number = record s { requester = record (s.requester) { highest = max s.requester.highest number } }
 
 abbrev pub deliver_of : ℕ → MaekawaMsg → Node → Done Node (Unit {0}) MaekawaMsg
-deliver_of from (Request stamp) s = if is_call s from stamp then by_arbiter (seeing s stamp.number) (take_request stamp s.arbiter) else unchanged s tt
-deliver_of from (Locked stamp g c) s = if is_answer s from stamp then by_requester s (take_locked from stamp g c s.requester) else unchanged s tt
-deliver_of from (Failed stamp) s = if is_answer s from stamp then by_requester s (take_failed from stamp s.requester) else unchanged s tt
-deliver_of from (Inquire stamp g) s = if is_answer s from stamp then by_requester s (take_inquire from stamp g s.requester) else unchanged s tt
-deliver_of from (Relinquish stamp g) s = if is_call s from stamp then by_arbiter s (take_relinquish stamp g s.arbiter) else unchanged s tt
-deliver_of from (Release stamp t) s = if is_call s from stamp then by_arbiter s (take_release stamp t s.arbiter) else unchanged s tt
+deliver_of from (Request stamp) s = if is_call s from stamp then by_arbiter (seeing s stamp.number) (take_request stamp s.arbiter) else becoming s
+deliver_of from (Locked stamp g c) s = if is_answer s from stamp then by_requester s (take_locked from stamp g c s.requester) else becoming s
+deliver_of from (Failed stamp) s = if is_answer s from stamp then by_requester s (take_failed from stamp s.requester) else becoming s
+deliver_of from (Inquire stamp g) s = if is_answer s from stamp then by_requester s (take_inquire from stamp g s.requester) else becoming s
+deliver_of from (Relinquish stamp g) s = if is_call s from stamp then by_arbiter s (take_relinquish stamp g s.arbiter) else becoming s
+deliver_of from (Release stamp t) s = if is_call s from stamp then by_arbiter s (take_release stamp t s.arbiter) else becoming s
 
 -- tick: the request is sent again, and then the grant of the lock. Added, since either may have been
 -- lost
 abbrev pub tick_of : Node → Done Node (Unit {0}) MaekawaMsg
-tick_of s = record { state = s; answer = tt; letters = request_again s.requester ++ lock_letter s.arbiter.lock }
+tick_of s = sending s (request_again s.requester ++ lock_letter s.arbiter.lock)
 
 -- the whole table
 abbrev pub maekawa_rows : Rows Family Node MaekawaMsg
@@ -64,7 +63,7 @@ maekawa_rows = record {
   mine = λ s. s.requester.mine;
   top = λ s. s.requester.top;
   limit = λ s. s.requester.limit;
-  last = λ s. s.requester.highest;
+  counter = λ s. s.requester.highest;
   is_granted = λ s. holds_all s.requester;
   ask = λ s. by_requester s (asked s.requester);
   deliver = deliver_of;

@@ -16,27 +16,27 @@ use Rattle.mx_nodelaws.specs.declared.faults.EnterFault.{EnterFault}
 use Rattle.mx_nodelaws.specs.declared.faults.EnterFault.TheVariants.{NotWaiting, NotGranted, NumbersSpent}
 use Rattle.mx_nodelaws.specs.declared.faults.LeaveFault.{LeaveFault}
 
-module _ {S M : Type 0} (last : S → ℕ) (asked : S → Done S Stamp M) where
-  pub ask_cases : (P : Done S (Result Stamp AskFault) M → Type 0) (s : S) → (nat_lt (last s) last_number ≡ true → P (answering (asked s) (Ok (asked s).answer))) → P (unchanged s (Err StampsSpent)) → P (ask_by last asked Idle s)
-  ask_cases P s low spent = cond_case P (nat_lt (last s) last_number) (answering (asked s) (Ok (asked s).answer)) (unchanged s (Err StampsSpent)) low (λ _. spent)
+module _ {S M : Type 0} (counter : S → ℕ) (asked : S → Done S Stamp M) where
+  pub ask_cases : (P : Done S (Result Stamp AskFault) M → Type 0) (s : S) → (nat_lt (counter s) last_number ≡ true → P (answering (asked s) (Ok (asked s).answer))) → P (unchanged s (Err StampsSpent)) → P (ask_by counter asked Idle s)
+  ask_cases P s low spent = cond_case P (nat_lt (counter s) last_number) (answering (asked s) (Ok (asked s).answer)) (unchanged s (Err StampsSpent)) low (λ _. spent)
 
   -- what asking keeps is kept, whatever the answer is
-  pub ask_keeps : {X : Type 0} (part : S → X) (p : Phase) (s : S) → part (asked s).state ≡ part s → part (ask_by last asked p s).state ≡ part s
+  pub ask_keeps : {X : Type 0} (part : S → X) (p : Phase) (s : S) → part (asked s).state ≡ part s → part (ask_by counter asked p s).state ≡ part s
   ask_keeps part Idle s kept = ask_cases (λ d. part d.state ≡ part s) s (λ _. kept) refl
   ask_keeps part Waiting s kept = refl
   ask_keeps part (Inside n) s kept = refl
 
-  pub ask_ok : (phase : S → Phase) (p : Phase) (s : S) (x : Stamp) → phase (asked s).state ≡ Waiting → (ask_by last asked p s).answer ≡ Ok x → (p ≡ Idle) × (phase (ask_by last asked p s).state ≡ Waiting)
+  pub ask_ok : (phase : S → Phase) (p : Phase) (s : S) (x : Stamp) → phase (asked s).state ≡ Waiting → (ask_by counter asked p s).answer ≡ Ok x → (p ≡ Idle) × (phase (ask_by counter asked p s).state ≡ Waiting)
   ask_ok phase Idle s x waits h = (refl, ask_cases (λ d. d.answer ≡ Ok x → phase d.state ≡ Waiting) s (λ _ _. waits) (λ g. let bad : ⊥ = cc in absurd bad) h)
   ask_ok phase Waiting s x waits h = let bad : ⊥ = cc in absurd bad
   ask_ok phase (Inside n) s x waits h = let bad : ⊥ = cc in absurd bad
 
-  pub ask_err : (p : Phase) (s : S) (f : AskFault) → (ask_by last asked p s).answer ≡ Err f → ((ask_by last asked p s).state ≡ s) × ((ask_by last asked p s).letters ≡ [])
+  pub ask_err : (p : Phase) (s : S) (f : AskFault) → (ask_by counter asked p s).answer ≡ Err f → ((ask_by counter asked p s).state ≡ s) × ((ask_by counter asked p s).letters ≡ [])
   ask_err Idle s f h = ask_cases (λ d. d.answer ≡ Err f → (d.state ≡ s) × (d.letters ≡ [])) s (λ _ g. let bad : ⊥ = cc in absurd bad) (λ _. (refl, refl)) h
   ask_err Waiting s f h = (refl, refl)
   ask_err (Inside n) s f h = (refl, refl)
 
-  pub ask_not_idle : (p : Phase) (s : S) → ((ask_by last asked p s).answer ≡ Err NotIdle) ↔ (p ≢ Idle)
+  pub ask_not_idle : (p : Phase) (s : S) → ((ask_by counter asked p s).answer ≡ Err NotIdle) ↔ (p ≢ Idle)
   ask_not_idle Idle s = (
     λ h _. ask_cases (λ d. d.answer ≡ Err NotIdle → ⊥) s (λ _ g. let bad : ⊥ = cc in bad) (λ g. let bad : ⊥ = cc in bad) h,
     λ ne. absurd (ne refl),

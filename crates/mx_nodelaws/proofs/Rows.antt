@@ -4,13 +4,13 @@ use Rattle.mx_stamps.specs.declared.stamp.Stamp.{Stamp}
 use Rattle.mx_stamps.specs.Lists.{greatest}
 use Rattle.mx_stamps.specs.Numbers.{last_number}
 use Rattle.mx_stamps.proofs.Choices.{and_true, lt_true}
-use Rattle.mx_nodelaws.specs.World.{World, Done, quietly, IsNode, WasSent, after}
+use Rattle.mx_nodelaws.specs.World.{World, Done, quietly, becoming, IsNode, WasSent, after}
 use Rattle.mx_nodelaws.specs.Phases.{is_waiting}
 use Rattle.mx_nodelaws.specs.Calls.{unchanged, ask_by, enter_by, leave_by, cancel_by}
 use Rattle.mx_nodelaws.specs.Core.{KeepsPhases, IsInside}
 use Rattle.mx_nodelaws.specs.Bounds.{IsBoundedDone}
 use Rattle.mx_nodelaws.specs.Laws.{KeepsGood, started}
-use Rattle.mx_nodelaws.specs.Rows.{Rows, core_of, becoming, KeepsCourse, KeepsSafe, KeepsBounds, IsGoodWorld}
+use Rattle.mx_nodelaws.specs.Rows.{Rows, core_of, KeepsCourse, KeepsSafe, KeepsBounds, IsGoodWorld}
 use Rattle.mx_nodelaws.specs.declared.phase.Phase.{Phase}
 use Rattle.mx_nodelaws.specs.declared.phase.Phase.TheVariants.{Idle, Waiting, Inside}
 use Rattle.mx_nodelaws.specs.declared.faults.AskFault.{AskFault}
@@ -31,11 +31,11 @@ phases_of rows keeps = record {
   started_idle = λ shape i origin limit. ap (λ c. c.phase) (keeps.start shape i origin limit);
   started_mine = λ shape i origin limit. ap (λ c. c.mine) (keeps.start shape i origin limit);
   started_limit = λ shape i origin limit. ap (λ c. c.limit) (keeps.start shape i origin limit);
-  ask_ok = λ s x h. ask_ok rows.last rows.ask rows.phase (rows.phase s) s x (ap (λ c. c.phase) (keeps.ask s)) h;
-  ask_err = λ s f h. ask_err rows.last rows.ask (rows.phase s) s f h;
-  ask_not_idle = λ s. ask_not_idle rows.last rows.ask (rows.phase s) s;
-  ask_mine = λ s. ask_keeps rows.last rows.ask rows.mine (rows.phase s) s (ap (λ c. c.mine) (keeps.ask s));
-  ask_limit = λ s. ask_keeps rows.last rows.ask rows.limit (rows.phase s) s (ap (λ c. c.limit) (keeps.ask s));
+  ask_ok = λ s x h. ask_ok rows.counter rows.ask rows.phase (rows.phase s) s x (ap (λ c. c.phase) (keeps.ask s)) h;
+  ask_err = λ s f h. ask_err rows.counter rows.ask (rows.phase s) s f h;
+  ask_not_idle = λ s. ask_not_idle rows.counter rows.ask (rows.phase s) s;
+  ask_mine = λ s. ask_keeps rows.counter rows.ask rows.mine (rows.phase s) s (ap (λ c. c.mine) (keeps.ask s));
+  ask_limit = λ s. ask_keeps rows.counter rows.ask rows.limit (rows.phase s) s (ap (λ c. c.limit) (keeps.ask s));
   deliver_phase = λ from m s. ap (λ c. c.phase) (keeps.deliver from m s);
   deliver_mine = λ from m s. ap (λ c. c.mine) (keeps.deliver from m s);
   deliver_limit = λ from m s. ap (λ c. c.limit) (keeps.deliver from m s);
@@ -82,10 +82,10 @@ module _ {H S M : Type 0} (rows : Rows H S M) (IsShape : H → Type 0) (Safe : W
     same : {A : Type 0} (answer : A) → Good (after w i (unchanged s answer))
     same answer = nothing_kept Good w i s answer good at
 
-    ask_good : (p : Phase) → rows.phase s ≡ p → Good (after w i (ask_by rows.last rows.ask p s))
+    ask_good : (p : Phase) → rows.phase s ≡ p → Good (after w i (ask_by rows.counter rows.ask p s))
     ask_good Idle e =
-        ask_cases rows.last rows.ask (λ d. Good (after w i d)) s
-        (λ low. row_good (rows.ask s) (safe.ask w i s good.safe at e) (bounds.ask (length w.nodes) s bound (lt_true (rows.last s) last_number low)))
+        ask_cases rows.counter rows.ask (λ d. Good (after w i d)) s
+        (λ low. row_good (rows.ask s) (safe.ask w i s good.safe at e) (bounds.ask (length w.nodes) s bound (lt_true (rows.counter s) last_number low)))
         (same {A = Result Stamp AskFault} (Err StampsSpent))
     ask_good Waiting e = same {A = Result Stamp AskFault} (Err NotIdle)
     ask_good (Inside n) e = same {A = Result Stamp AskFault} (Err NotIdle)

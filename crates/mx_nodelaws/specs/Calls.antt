@@ -21,11 +21,11 @@ unchanged s answer = record { state = s; answer = answer; letters = [] }
 abbrev pub refused : {S : Type 0} → S → EnterFault → Quiet S (Result ℕ EnterFault)
 refused s fault = record { state = s; answer = Err fault }
 
--- ask: an idle node asks, unless the number that its next stamp counts on from is the greatest u64 value
+-- ask: an idle node asks, unless the counter that its stamps are drawn from is at its end
 abbrev pub ask_by : {S M : Type 0} → (S → ℕ) → (S → Done S Stamp M) → Phase → S → Done S (Result Stamp AskFault) M
-ask_by last asked Idle s = if nat_lt (last s) last_number then answering (asked s) (Ok (asked s).answer) else unchanged s (Err StampsSpent)
-ask_by last asked Waiting s = unchanged s (Err NotIdle)
-ask_by last asked (Inside n) s = unchanged s (Err NotIdle)
+ask_by counter asked Idle s = if nat_lt (counter s) last_number then answering (asked s) (Ok (asked s).answer) else unchanged s (Err StampsSpent)
+ask_by counter asked Waiting s = unchanged s (Err NotIdle)
+ask_by counter asked (Inside n) s = unchanged s (Err NotIdle)
 
 -- enter: the section's number is one above the highest that the node knows
 abbrev pub entered_by : {S : Type 0} → (S → ℕ) → (S → S) → S → Quiet S (Result ℕ EnterFault)

@@ -1,10 +1,10 @@
 -- The rows of an algorithm's step table, where the phase refuses nothing. What a phase refuses, and how
 -- sections are numbered, is the same for all algorithms: core_of adds it.
-use Rattle.std.specs.Prelude.{ℕ, ◌+◌, ◌<◌, ◌≤◌, ◌^◌, ◌≡◌, ◌↔◌, ◌&&◌, Bool, true, List, []}
+use Rattle.std.specs.Prelude.{ℕ, ◌+◌, ◌<◌, ◌≤◌, ◌^◌, ◌≡◌, ◌↔◌, ◌&&◌, Bool, true, List}
 use Rattle.mx_stamps.specs.declared.stamp.Stamp.{Stamp}
 use Rattle.mx_stamps.specs.Lists.{IsIn, greatest}
 use Rattle.mx_stamps.specs.Numbers.{last_number}
-use Rattle.mx_nodelaws.specs.World.{World, Done, IsNode, WasSent, after}
+use Rattle.mx_nodelaws.specs.World.{World, Done, IsNode, WasSent, after, becoming}
 use Rattle.mx_nodelaws.specs.Phases.{is_waiting}
 use Rattle.mx_nodelaws.specs.Calls.{ask_by, enter_by, leave_by, cancel_by}
 use Rattle.mx_nodelaws.specs.Core.{Core, IsInside}
@@ -24,8 +24,9 @@ pub record Rows (H S M : Type 0) : Type 0 where
   pub mine : S → ℕ
   pub top : S → ℕ
   pub limit : S → ℕ
-  -- the number that its next stamp counts on from: the highest that it has drawn or seen, or how often it asked
-  pub last : S → ℕ
+  -- the counter that `ask` draws from: the highest stamp number that it has drawn or seen, or how many of
+  -- its asks were accepted
+  pub counter : S → ℕ
   -- every permission for its request is there
   pub is_granted : S → Bool
   -- an idle node asks; the answer is the stamp of its request
@@ -50,17 +51,13 @@ core_of rows = record {
   mine = rows.mine;
   limit = rows.limit;
   can_enter = λ s. is_waiting (rows.phase s) && rows.is_granted s;
-  ask = λ s. ask_by rows.last rows.ask (rows.phase s) s;
+  ask = λ s. ask_by rows.counter rows.ask (rows.phase s) s;
   deliver = rows.deliver;
   enter = λ s. enter_by rows.is_granted rows.top rows.limit rows.enter (rows.phase s) s;
   leave = λ s. leave_by rows.leave (rows.phase s) s;
   cancel = λ s. cancel_by rows.cancel (rows.phase s) s;
   tick = rows.tick;
 }
-
--- a step after which this is the state, and which sends nothing
-abbrev pub becoming : {S M : Type 0} → S → Done S (Unit {0}) M
-becoming s = record { state = s; answer = tt; letters = [] }
 
 -- what the promises on phases speak of
 pub record Course : Type 0 where
@@ -102,7 +99,7 @@ pub record KeepsSafe {H S M : Type 0} (rows : Rows H S M) (IsShape : H → Type 
 -- each row keeps each number a u64 value and each name one of n nodes, in states (Node) and letters (Letter)
 pub record KeepsBounds {H S M : Type 0} (rows : Rows H S M) (IsShape : H → Type 0) (Node : ℕ → S → Type 0) (Letter : ℕ → M → Type 0) : Type 0 where
   pub start : (shape : H) (origin limit i : ℕ) → IsShape shape → origin < 2 ^ 64 → limit ≤ 1000000 → i < rows.count shape → Node (rows.count shape) (rows.start shape i origin limit)
-  pub ask : (n : ℕ) (s : S) → Node n s → rows.last s < last_number → IsBoundedDone Node Letter n (rows.ask s)
+  pub ask : (n : ℕ) (s : S) → Node n s → rows.counter s < last_number → IsBoundedDone Node Letter n (rows.ask s)
   pub deliver : (n : ℕ) (s : S) → Node n s → (from : ℕ) (m : M) → from < n → Letter n m → IsBoundedDone Node Letter n (rows.deliver from m s)
   pub enter : (n : ℕ) (s : S) → Node n s → rows.top s < rows.limit s → Node n (rows.enter s)
   pub leave : (n : ℕ) (s : S) → Node n s → IsBoundedDone Node Letter n (rows.leave s)

@@ -8,7 +8,7 @@ pub record Done (S A M : Type 0) : Type 0 where
   pub answer : A
   pub letters : List (ℕ × M)
 
--- the same of an act that sends nothing
+-- what an act gives that sends nothing: its next state and its answer
 pub record Quiet (S A : Type 0) : Type 0 where
   pub state : S
   pub answer : A
@@ -19,6 +19,22 @@ quietly step = record { state = step.state; answer = step.answer; letters = [] }
 -- the same step with another answer
 abbrev pub answering : {S A B M : Type 0} → Done S A M → B → Done S B M
 answering done b = record { state = done.state; answer = b; letters = done.letters }
+
+-- a step after which this is the state, and whose letters are these
+abbrev pub sending : {S M : Type 0} → S → List (ℕ × M) → Done S (Unit {0}) M
+sending s letters = record { state = s; answer = tt; letters = letters }
+
+-- a step after which this is the state, and which sends nothing
+abbrev pub becoming : {S M : Type 0} → S → Done S (Unit {0}) M
+becoming s = sending s []
+
+-- one step of a node, and then another
+abbrev pub and_then : {S A M : Type 0} → Done S A M → (S → Done S (Unit {0}) M) → Done S A M
+and_then first second = record {
+  state = (second first.state).state;
+  answer = first.answer;
+  letters = first.letters ++ (second first.state).letters;
+}
 
 -- the state of each node, in order, and each letter ever sent, with its sender and its addressee
 pub record World (S M : Type 0) : Type 0 where

@@ -6,12 +6,11 @@ use Rattle.mx_stamps.specs.declared.stamp.Stamp.{Stamp}
 use Rattle.mx_stamps.specs.Numbers.{last_number}
 use Rattle.mx_letters.specs.declared.raymond.RaymondMsg.{RaymondMsg}
 use Rattle.mx_letters.specs.declared.raymond.RaymondMsg.TheVariants.{Request, Privilege, Got}
-use Rattle.mx_nodelaws.specs.World.{Done}
+use Rattle.mx_nodelaws.specs.World.{Done, answering, sending, becoming, and_then}
 use Rattle.mx_nodelaws.specs.Core.{Core}
 use Rattle.mx_nodelaws.specs.declared.phase.Phase.TheVariants.{Idle, Waiting, Inside}
 use Rattle.mx_nodelaws.specs.Phases.{is_inside}
-use Rattle.mx_nodelaws.specs.Calls.{unchanged}
-use Rattle.mx_nodelaws.specs.Rows.{Rows, core_of, becoming}
+use Rattle.mx_nodelaws.specs.Rows.{Rows, core_of}
 use Rattle.mx_trees.specs.Tree.{Rooted, toward_of, are_neighbours}
 use Rattle.mx_raymond.specs.declared.unacked.Unacked.{Unacked}
 use Rattle.mx_raymond.specs.Queue.{is_empty, head_of, rest_of, joined, without}
@@ -55,14 +54,6 @@ is_named (Some name) node = nat_eq name node
 abbrev pub has_permission : Node → Bool
 has_permission s = is_holder s && is_named (head_of s.queue) s.me
 
--- a step, and then a second one
-abbrev pub and_then : {A : Type 0} → NodeDone A → (Node → NodeDone (Unit {0})) → NodeDone A
-and_then first second = record {
-  state = (second first.state).state;
-  answer = first.answer;
-  letters = first.letters ++ (second first.state).letters;
-}
-
 -- Assign: a node that has the privilege and is not inside passes it on to the head of its queue, if
 -- that is another node.
 -- Published: procedure ASSIGN_PRIVILEGE. Its case of a node that heads its own queue is `enter` here.
@@ -75,11 +66,11 @@ abbrev pub passing : Node → ℕ → Node
 passing s next = record s { holder = next; queue = rest_of s.queue; has_asked = false; hop = s.hop + 1; unacked = Some (record { to = next; hop = s.hop + 1; last = s.top }) }
 
 abbrev pub passed : Node → ℕ → NodeDone (Unit {0})
-passed s next = record { state = passing s next; answer = tt; letters = (next, Privilege (s.hop + 1) s.top) ∷ [] }
+passed s next = sending (passing s next) ((next, Privilege (s.hop + 1) s.top) ∷ [])
 
 abbrev pub assign_privilege_to : Option ℕ → Node → NodeDone (Unit {0})
-assign_privilege_to None s = unchanged s tt
-assign_privilege_to (Some next) s = if can_pass s next then passed s next else unchanged s tt
+assign_privilege_to None s = becoming s
+assign_privilege_to (Some next) s = if can_pass s next then passed s next else becoming s
 
 abbrev pub assign_privilege : Node → NodeDone (Unit {0})
 assign_privilege s = assign_privilege_to (head_of s.queue) s
@@ -94,10 +85,10 @@ abbrev pub requesting : Node → Node
 requesting s = record s { has_asked = true; sent = s.sent + 1 }
 
 abbrev pub requested : Node → NodeDone (Unit {0})
-requested s = record { state = requesting s; answer = tt; letters = (s.holder, Request (s.sent + 1)) ∷ [] }
+requested s = sending (requesting s) ((s.holder, Request (s.sent + 1)) ∷ [])
 
 abbrev pub make_request : Node → NodeDone (Unit {0})
-make_request s = if must_request s then requested s else unchanged s tt
+make_request s = if must_request s then requested s else becoming s
 
 -- a step, then Assign, then Make
 abbrev pub serving : {A : Type 0} → NodeDone A → NodeDone A
@@ -110,7 +101,7 @@ abbrev pub asking : Node → Node
 asking s = record s { phase = Waiting; queue = s.queue ++ s.me ∷ []; asks = s.asks + 1 }
 
 abbrev pub asked : Node → NodeDone Stamp
-asked s = serving (unchanged (asking s) (record { number = s.asks + 1; node = s.me }))
+asked s = serving (answering (becoming (asking s)) (record { number = s.asks + 1; node = s.me }))
 
 -- the privilege that it sent last is sent again, while its arrival is not known
 abbrev pub privilege_again : Option Unacked → List (ℕ × RaymondMsg)
@@ -121,7 +112,7 @@ privilege_again (Some u) = (u.to, Privilege u.hop u.last) ∷ []
 -- the request was sent. The privilege is sent again.
 -- Added, since the privilege may have been lost.
 abbrev pub take_holders_request : Node → NodeDone (Unit {0})
-take_holders_request s = record { state = s; answer = tt; letters = privilege_again s.unacked }
+take_holders_request s = sending s (privilege_again s.unacked)
 
 -- a request of another neighbour, which joins the queue; then Assign and Make.
 -- Published: the node receives a REQUEST.
@@ -136,8 +127,8 @@ queueing s from number = record s { queue = joined s.queue from; heard = slice_s
 abbrev pub take_others_request : ℕ → ℕ → Node → NodeDone (Unit {0})
 take_others_request from number s =
     if nat_lt (heard_from s from) number
-    then serving (unchanged (queueing s from number) tt)
-    else unchanged s tt
+    then serving (becoming (queueing s from number))
+    else becoming s
 
 abbrev pub take_request : ℕ → ℕ → Node → NodeDone (Unit {0})
 take_request from number s = if nat_eq from s.holder then take_holders_request s else take_others_request from number s
@@ -152,7 +143,7 @@ abbrev pub holding : Node → ℕ → ℕ → Node
 holding s hop last = record s { holder = s.me; has_asked = false; hop = hop; unacked = None; top = max s.top last }
 
 abbrev pub acknowledging : Node → ℕ → ℕ → NodeDone (Unit {0})
-acknowledging s from hop = record { state = s; answer = tt; letters = (from, Got hop) ∷ [] }
+acknowledging s from hop = sending s ((from, Got hop) ∷ [])
 
 abbrev pub take_privilege : ℕ → ℕ → ℕ → Node → NodeDone (Unit {0})
 take_privilege from hop last s =
@@ -167,16 +158,16 @@ is_unacked None from hop = false
 is_unacked (Some u) from hop = nat_eq u.to from && nat_eq u.hop hop
 
 abbrev pub take_got : ℕ → ℕ → Node → NodeDone (Unit {0})
-take_got from hop s = if is_unacked s.unacked from hop then unchanged (record s { unacked = None }) tt else unchanged s tt
+take_got from hop s = if is_unacked s.unacked from hop then becoming (record s { unacked = None }) else becoming s
 
 -- each letter comes from a neighbour. Added: any other is ignored
 abbrev pub is_neighbour : Node → ℕ → Bool
 is_neighbour s from = are_neighbours s.tree s.me from
 
 abbrev pub deliver_of : ℕ → RaymondMsg → Node → NodeDone (Unit {0})
-deliver_of from (Request number) s = if is_neighbour s from then take_request from number s else unchanged s tt
-deliver_of from (Privilege hop last) s = if is_neighbour s from then take_privilege from hop last s else unchanged s tt
-deliver_of from (Got hop) s = if is_neighbour s from then take_got from hop s else unchanged s tt
+deliver_of from (Request number) s = if is_neighbour s from then take_request from number s else becoming s
+deliver_of from (Privilege hop last) s = if is_neighbour s from then take_privilege from hop last s else becoming s
+deliver_of from (Got hop) s = if is_neighbour s from then take_got from hop s else becoming s
 
 -- enter: the node leaves the head of its queue, and the section's number is one above the highest that
 -- it knows.
@@ -209,7 +200,7 @@ abbrev pub request_again : Node → List (ℕ × RaymondMsg)
 request_again s = if s.has_asked && not (is_holder s) then (s.holder, Request s.sent) ∷ [] else []
 
 abbrev pub tick_of : Node → NodeDone (Unit {0})
-tick_of s = record { state = s; answer = tt; letters = privilege_again s.unacked ++ request_again s }
+tick_of s = sending s (privilege_again s.unacked ++ request_again s)
 
 -- the whole table
 abbrev pub raymond_rows : Rows Rooted Node RaymondMsg
@@ -220,7 +211,7 @@ raymond_rows = record {
   mine = λ s. s.mine;
   top = λ s. s.top;
   limit = λ s. s.limit;
-  last = λ s. s.asks;
+  counter = λ s. s.asks;
   is_granted = has_permission;
   ask = asked;
   deliver = deliver_of;

@@ -6,11 +6,10 @@ use Rattle.mx_stamps.specs.declared.stamp.Stamp.{Stamp}
 use Rattle.mx_stamps.specs.Stamp.{is_before_of, is_same_as}
 use Rattle.mx_letters.specs.declared.ricart.RicartMsg.{RicartMsg}
 use Rattle.mx_letters.specs.declared.ricart.RicartMsg.TheVariants.{Request, Reply}
-use Rattle.mx_nodelaws.specs.World.{Done, addressed}
+use Rattle.mx_nodelaws.specs.World.{Done, sending, becoming, addressed}
 use Rattle.mx_nodelaws.specs.Core.{Core}
 use Rattle.mx_nodelaws.specs.declared.phase.Phase.TheVariants.{Idle, Waiting, Inside}
 use Rattle.mx_nodelaws.specs.Phases.{is_busy, is_waiting}
-use Rattle.mx_nodelaws.specs.Calls.{unchanged}
 use Rattle.mx_nodelaws.specs.Tests.{all_below}
 use Rattle.mx_nodelaws.specs.Rows.{Rows, core_of}
 use Rattle.mx_ricart.specs.Node.{Node}
@@ -91,13 +90,13 @@ deferring s stamp = record s { deferred = slice_set s.deferred stamp.node (Some 
 
 -- its reply is sent
 abbrev pub replied : Node → Stamp → Done Node (Unit {0}) RicartMsg
-replied s stamp = record { state = s; answer = tt; letters = (stamp.node, Reply stamp s.top) ∷ [] }
+replied s stamp = sending s ((stamp.node, Reply stamp s.top) ∷ [])
 
 -- it is deferred where the node's own request is current and comes first
 abbrev pub take_request : Node → Stamp → Done Node (Unit {0}) RicartMsg
 take_request s stamp =
     if is_busy s.phase && is_before_of s.ours stamp
-    then unchanged (deferring (seeing s stamp.number) stamp) tt
+    then becoming (deferring (seeing s stamp.number) stamp)
     else replied (seeing s stamp.number) stamp
 
 -- a reply comes: it counts once, while the node waits, where it bears the current stamp.
@@ -109,14 +108,14 @@ counting s from top = record s { got = slice_set s.got from true; top = max s.to
 abbrev pub take_reply : Node → ℕ → Stamp → ℕ → Done Node (Unit {0}) RicartMsg
 take_reply s from stamp top =
     if is_waiting s.phase && (is_same_as stamp s.ours && not (has_reply s from))
-    then unchanged (counting s from top) tt
-    else unchanged s tt
+    then becoming (counting s from top)
+    else becoming s
 
 -- both letters come from another node, and the stamp of a request is its sender's.
 -- Added: any other letter is ignored.
 abbrev pub deliver_of : ℕ → RicartMsg → Node → Done Node (Unit {0}) RicartMsg
-deliver_of from (Request stamp) s = if is_other s from && nat_eq stamp.node from then take_request s stamp else unchanged s tt
-deliver_of from (Reply stamp top) s = if is_other s from then take_reply s from stamp top else unchanged s tt
+deliver_of from (Request stamp) s = if is_other s from && nat_eq stamp.node from then take_request s stamp else becoming s
+deliver_of from (Reply stamp top) s = if is_other s from then take_reply s from stamp top else becoming s
 
 -- enter: the section's number is one above the highest that the node knows.
 -- Published: the process that invokes mutual exclusion, where no reply is outstanding any more.
@@ -139,7 +138,7 @@ abbrev pub reply_deferred : Node → ℕ → Option RicartMsg
 reply_deferred s j = reply_to (deferred_at s j) s.top
 
 abbrev pub ended : Node → Done Node (Unit {0}) RicartMsg
-ended s = record { state = ending s; answer = tt; letters = addressed (reply_deferred s) s.count }
+ended s = sending (ending s) (addressed (reply_deferred s) s.count)
 
 -- tick: a waiting node sends its request again to each other node whose reply is missing.
 -- Added, since the request or its reply may have been lost.
@@ -147,10 +146,10 @@ abbrev pub request_missing : Node → ℕ → Option RicartMsg
 request_missing s j = if nat_eq j s.me || has_reply s j then None else Some (Request s.ours)
 
 abbrev pub ticked : Node → Done Node (Unit {0}) RicartMsg
-ticked s = record { state = s; answer = tt; letters = addressed (request_missing s) s.count }
+ticked s = sending s (addressed (request_missing s) s.count)
 
 abbrev pub tick_of : Node → Done Node (Unit {0}) RicartMsg
-tick_of s = if is_waiting s.phase then ticked s else unchanged s tt
+tick_of s = if is_waiting s.phase then ticked s else becoming s
 
 -- the whole table
 abbrev pub ricart_rows : Rows ℕ Node RicartMsg
@@ -161,7 +160,7 @@ ricart_rows = record {
   mine = λ s. s.mine;
   top = λ s. s.top;
   limit = λ s. s.limit;
-  last = λ s. s.highest;
+  counter = λ s. s.highest;
   is_granted = has_all_replies;
   ask = asked;
   deliver = deliver_of;

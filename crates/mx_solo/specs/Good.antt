@@ -1,7 +1,7 @@
 -- What a cluster of one node keeps.
 use Rattle.std.specs.Prelude.{ℕ, ◌≡◌, ◌<◌, length}
 use Rattle.mx_nodelaws.specs.World.{World, WasSent}
-use Rattle.mx_nodelaws.specs.Bounds.{IsU64}
+use Rattle.mx_nodelaws.specs.Bounds.{IsU64, BoundedPhase}
 use Rattle.mx_nodelaws.specs.Rows.{IsGoodWorld}
 use Rattle.mx_solo.specs.Node.{Node}
 use Rattle.mx_solo.specs.declared.solo.One.{One}
@@ -18,6 +18,7 @@ pub record IsSafe (w : World Node ℕ) : Type 0 where
 pub record BoundedNode (n : ℕ) (s : Node) : Type 0 where
   pub me : s.me < n
   pub limit : IsU64 s.limit
+  pub phase : BoundedPhase s.phase
   pub mine : IsU64 s.mine
 
 abbrev pub BoundedLetter : ℕ → ℕ → Type 0

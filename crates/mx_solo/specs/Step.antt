@@ -2,10 +2,10 @@
 -- specs/Calls.antt.
 use Rattle.std.specs.Prelude.{ℕ, ◌+◌, true, []}
 use Rattle.mx_stamps.specs.declared.stamp.Stamp.{Stamp}
-use Rattle.mx_nodelaws.specs.World.{Done}
+use Rattle.mx_nodelaws.specs.World.{Done, becoming}
 use Rattle.mx_nodelaws.specs.Core.{Core}
 use Rattle.mx_nodelaws.specs.declared.phase.Phase.TheVariants.{Idle, Waiting, Inside}
-use Rattle.mx_nodelaws.specs.Rows.{Rows, core_of, becoming}
+use Rattle.mx_nodelaws.specs.Rows.{Rows, core_of}
 use Rattle.mx_solo.specs.declared.solo.One.{One}
 use Rattle.mx_solo.specs.Node.{Node}
 
@@ -32,7 +32,8 @@ solo_rows count = record {
   mine = λ s. s.mine;
   top = λ s. s.mine;
   limit = λ s. s.limit;
-  last = λ s. 0;
+  -- its stamps are drawn from no counter
+  counter = λ s. 0;
   is_granted = λ s. true;
   ask = asked;
   deliver = λ from letter s. becoming s;

@@ -50,14 +50,11 @@ impl Exclusion for Solo {
 
     ghost laws = { solo_laws };
 
-    fn nodes(shape: &One) -> u8 {
-        let _ = shape;
+    fn nodes(_shape: &One) -> u8 {
         1
     }
 
-    fn start(shape: &One, me: NodeId, origin: u64, limit: u64) -> Self {
-        let _ = shape;
-        let _ = origin;
+    fn start(_shape: &One, me: NodeId, _origin: u64, limit: u64) -> Self {
         Solo {
             me,
             limit,
@@ -66,8 +63,7 @@ impl Exclusion for Solo {
         }
     }
 
-    fn ask(&mut self, out: &mut Outbox<u8>) -> Result<Stamp, AskFault> {
-        let _ = out;
+    fn ask(&mut self, _out: &mut Outbox<u8>) -> Result<Stamp, AskFault> {
         if !matches!(self.phase, Phase::Idle) {
             return Err(AskFault::NotIdle);
         }
@@ -79,11 +75,7 @@ impl Exclusion for Solo {
         })
     }
 
-    fn deliver(&mut self, from: NodeId, letter: u8, out: &mut Outbox<u8>) {
-        let _ = from;
-        let _ = letter;
-        let _ = out;
-    }
+    fn deliver(&mut self, _from: NodeId, _letter: u8, _out: &mut Outbox<u8>) {}
 
     fn can_enter(&self) -> bool {
         matches!(self.phase, Phase::Waiting)
@@ -101,8 +93,7 @@ impl Exclusion for Solo {
         Ok(self.mine)
     }
 
-    fn leave(&mut self, out: &mut Outbox<u8>) -> Result<u64, LeaveFault> {
-        let _ = out;
+    fn leave(&mut self, _out: &mut Outbox<u8>) -> Result<u64, LeaveFault> {
         let Phase::Inside(number) = self.phase else {
             return Err(LeaveFault::NotInside);
         };
@@ -110,8 +101,7 @@ impl Exclusion for Solo {
         Ok(number)
     }
 
-    fn cancel(&mut self, out: &mut Outbox<u8>) -> Result<(), CancelFault> {
-        let _ = out;
+    fn cancel(&mut self, _out: &mut Outbox<u8>) -> Result<(), CancelFault> {
         if !matches!(self.phase, Phase::Waiting) {
             return Err(CancelFault::NotWaiting);
         }
@@ -119,9 +109,7 @@ impl Exclusion for Solo {
         Ok(())
     }
 
-    fn tick(&mut self, out: &mut Outbox<u8>) {
-        let _ = out;
-    }
+    fn tick(&mut self, _out: &mut Outbox<u8>) {}
 
     fn phase(&self) -> Phase {
         self.phase

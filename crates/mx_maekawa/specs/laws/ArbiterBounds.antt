@@ -1,5 +1,6 @@
 -- The arbiter's rows keep each number a u64 value, and each name a node.
 use Rattle.std.proofs.Common.{ℕ, zero, suc, ◌<◌, ◌+◌, ◌≡◌, inl, inr, ◌||◌, List, [], ◌∷◌, Option, Some, None, max, slice_set, get_or, nat_eq, nat_lt, refl, subst, arith}
+use Rattle.mx_nodelaws.specs.World.{sending, becoming}
 use Rattle.std.proofs.lemmas.Option.{same_Some}
 use Rattle.mx_stamps.specs.declared.stamp.Stamp.{Stamp}
 use Rattle.mx_stamps.specs.Stamp.{is_before_of}
@@ -12,7 +13,7 @@ use Rattle.mx_nodelaws.proofs.Bounds.{nil, one, both}
 use Rattle.mx_nodelaws.specs.Bounds.{IsU64, BoundedStamp, AreBounded, IsBoundedDone}
 use Rattle.mx_maekawa.specs.declared.lock.Lock.{Lock}
 use Rattle.mx_maekawa.specs.Node.{ArbiterState}
-use Rattle.mx_maekawa.specs.ArbiterStep.{others_at, silent, sending, lock_letter, locked, least_of, lesser, grant_to, grant_in, grant, is_below, fail_least, overtaking, rank_against, rank_by, waiting_for, queue, is_for, is_overtaken, take_fresh, take_live, take_request, is_exactly, or_else, waiting_at, unlocking, taking_back, take_relinquish, drop_up_to, ended_at, ending, is_up_to, take_release}
+use Rattle.mx_maekawa.specs.ArbiterStep.{others_at, lock_letter, locked, least_of, lesser, grant_to, grant_in, grant, is_below, fail_least, overtaking, rank_against, rank_by, waiting_for, queue, is_for, is_overtaken, take_fresh, take_live, take_request, is_exactly, or_else, waiting_at, unlocking, taking_back, take_relinquish, drop_up_to, ended_at, ending, is_up_to, take_release}
 use Rattle.mx_maekawa.specs.Good.{BoundedLetter, BoundedLock, BoundedArbiter}
 use Rattle.mx_maekawa.specs.ArbiterStep.{ArbiterDone}
 use Rattle.mx_maekawa.specs.laws.RequesterBounds.{set_small}
@@ -22,7 +23,7 @@ abbrev pub BoundedArbiterDone : ℕ → ArbiterDone → Type 0
 BoundedArbiterDone n did = IsBoundedDone BoundedArbiter BoundedLetter n did
 
 module _ (n : ℕ) where
-  quietly_bounded : (a : ArbiterState) → BoundedArbiter n a → BoundedArbiterDone n (silent a)
+  quietly_bounded : (a : ArbiterState) → BoundedArbiter n a → BoundedArbiterDone n (becoming a)
   quietly_bounded a ok = record { state = ok; letters = nil BoundedLetter n }
 
   -- the least request
@@ -76,7 +77,7 @@ module _ (n : ℕ) where
   grant_to_bounded : (o : Option Stamp) (a : ArbiterState) → ((u : Stamp) → o ≡ Some u → BoundedStamp n u) → BoundedArbiter n a → BoundedArbiterDone n (grant_to o a)
   grant_to_bounded None a bounded ok = quietly_bounded a ok
   grant_to_bounded (Some u) a bounded ok =
-      cond_case (λ d. BoundedArbiterDone n d) (nat_lt a.granted last_number) (locked a u) (silent a)
+      cond_case (λ d. BoundedArbiterDone n d) (nat_lt a.granted last_number) (locked a u) (becoming a)
       (λ e. locked_bounded a u (lt_true a.granted last_number e) (bounded u refl) ok) (λ _. quietly_bounded a ok)
 
   grant_in_bounded : (o : Option Lock) (a : ArbiterState) → BoundedArbiter n a → BoundedArbiterDone n (grant_in o a)
@@ -121,10 +122,10 @@ module _ (n : ℕ) where
   pub request_bounded : (stamp : Stamp) (a : ArbiterState) → BoundedStamp n stamp → BoundedArbiter n a → BoundedArbiterDone n (take_request stamp a)
   request_bounded stamp a bounded ok =
       let P : ArbiterDone → Type 0 = λ d. BoundedArbiterDone n d in
-      cond_case P (nat_lt (ended_at a stamp.node) stamp.number) (take_live stamp a) (silent a)
+      cond_case P (nat_lt (ended_at a stamp.node) stamp.number) (take_live stamp a) (becoming a)
       (λ _. cond_case P (is_for a.lock stamp) (sending a (lock_letter a.lock)) (take_fresh stamp a)
       (λ _. record { state = ok; letters = lock_letter_bounded a.lock ok.lock })
-      (λ _. cond_case P (is_overtaken a stamp) (silent a) (queue a.lock stamp a) (λ _. quietly_bounded a ok) (λ _. queue_bounded a.lock stamp a refl bounded ok)))
+      (λ _. cond_case P (is_overtaken a stamp) (becoming a) (queue a.lock stamp a) (λ _. quietly_bounded a ok) (λ _. queue_bounded a.lock stamp a refl bounded ok)))
       (λ _. quietly_bounded a ok)
 
   -- RELINQUISH
@@ -134,7 +135,7 @@ module _ (n : ℕ) where
 
   pub relinquish_bounded : (stamp : Stamp) (g : ℕ) (a : ArbiterState) → BoundedStamp n stamp → BoundedArbiter n a → BoundedArbiterDone n (take_relinquish stamp g a)
   relinquish_bounded stamp g a bounded ok =
-      cond_case (λ d. BoundedArbiterDone n d) (is_exactly a.lock stamp g) (grant (taking_back stamp a)) (silent a)
+      cond_case (λ d. BoundedArbiterDone n d) (is_exactly a.lock stamp g) (grant (taking_back stamp a)) (becoming a)
       (λ _. grant_bounded (taking_back stamp a) (record { count = ok.count; lock = no_lock_bounded; granted = ok.granted; waiting = put a.waiting stamp.node (or_else (waiting_at a stamp.node) stamp) (λ u e. or_else_bounded (waiting_at a stamp.node) stamp u bounded (λ v k. ok.waiting stamp.node v k) e) ok.waiting; ended = ok.ended; last = ok.last }))
       (λ _. quietly_bounded a ok)
 
@@ -146,5 +147,5 @@ module _ (n : ℕ) where
       let was : IsU64 (ended_at a stamp.node) = ok.ended stamp.node (ended_at a stamp.node) refl in
       let number : IsU64 stamp.number = bounded.0 in
       let mid : BoundedArbiter n x = record { count = ok.count; lock = ok.lock; granted = ok.granted; waiting = put a.waiting stamp.node (drop_up_to (waiting_at a stamp.node) stamp.number) (λ u e. drop_bounded (waiting_at a stamp.node) stamp.number u (λ v k. ok.waiting stamp.node v k) e) ok.waiting; ended = set_small n a.ended stamp.node (max (ended_at a stamp.node) stamp.number) (omega arith) ok.ended; last = (let k = ok.last in omega arith) } in
-      cond_case (λ d. BoundedArbiterDone n d) (is_up_to a.lock stamp) (grant (unlocking x)) (silent x)
+      cond_case (λ d. BoundedArbiterDone n d) (is_up_to a.lock stamp) (grant (unlocking x)) (becoming x)
       (λ _. grant_bounded (unlocking x) (record { count = mid.count; lock = no_lock_bounded; granted = mid.granted; waiting = mid.waiting; ended = mid.ended; last = mid.last })) (λ _. quietly_bounded x mid)

@@ -7,12 +7,12 @@ use Rattle.mx_stamps.proofs.Choices.{lt_true, eq_true, and_true, cond_case}
 use Rattle.mx_stamps.proofs.Stamps.{same_stamp}
 use Rattle.mx_letters.specs.declared.maekawa.MaekawaMsg.{MaekawaMsg}
 use Rattle.mx_letters.specs.declared.maekawa.MaekawaMsg.TheVariants.{Locked, Failed, Inquire, Relinquish, Release}
-use Rattle.mx_nodelaws.specs.World.{IsNode, WasSent, after}
+use Rattle.mx_nodelaws.specs.World.{sending, becoming, IsNode, WasSent, after}
 use Rattle.mx_nodelaws.proofs.Frame.{reached_max}
 use Rattle.mx_maekawa.specs.declared.lock.Lock.{Lock}
 use Rattle.mx_maekawa.specs.Node.{Node}
 use Rattle.mx_maekawa.specs.Step.{by_arbiter, seeing}
-use Rattle.mx_maekawa.specs.ArbiterStep.{silent, sending, lock_letter, grant, is_below, fail_least, overtaking, rank_against, rank_by, least_of, others_at, waiting_for, queue, is_for, is_overtaken, take_fresh, take_live, take_request, is_exactly, or_else, waiting_at, unlocking, taking_back, take_relinquish, ended_at, ending, is_up_to, take_release}
+use Rattle.mx_maekawa.specs.ArbiterStep.{lock_letter, grant, is_below, fail_least, overtaking, rank_against, rank_by, least_of, others_at, waiting_for, queue, is_for, is_overtaken, take_fresh, take_live, take_request, is_exactly, or_else, waiting_at, unlocking, taking_back, take_relinquish, ended_at, ending, is_up_to, take_release}
 use Rattle.mx_maekawa.specs.Good.{NodeWorld, IsReached, IsNodeOk, HasNoOverdueInquiry, IsSound, IsSafe}
 use Rattle.mx_maekawa.specs.ArbiterStep.{ArbiterDone}
 use Rattle.mx_maekawa.specs.laws.Parts.{aside_sound, one_letter}
@@ -77,7 +77,7 @@ module _ (w : NodeWorld) (i : ℕ) (s : Node) (good : IsSafe w) (at : IsNode w i
 
   queue_safe : (o : Option Lock) (stamp : Stamp) → s.arbiter.lock ≡ o → IsSafe (after w i (by_arbiter (seeing s stamp.number) (queue o stamp s.arbiter)))
   queue_safe None stamp is =
-      let first = by_arbiter (seeing s stamp.number) (silent (waiting_for s.arbiter stamp)) in
+      let first = by_arbiter (seeing s stamp.number) (becoming (waiting_for s.arbiter stamp)) in
       let mid = first.state in
       let saw : IsSafe (after w i first) = saw_safe stamp.number (slice_set s.arbiter.waiting stamp.node (Some stamp)) [] (none_may mid) in
       let second = by_arbiter mid (grant mid.arbiter) in
@@ -92,23 +92,23 @@ module _ (w : NodeWorld) (i : ℕ) (s : Node) (good : IsSafe w) (at : IsNode w i
   request_safe stamp =
       let P : ArbiterDone → Type 0 = λ d. IsSafe (after w i (by_arbiter (seeing s stamp.number) d)) in
       let a = s.arbiter in
-      let nothing : P (silent a) = saw_safe stamp.number a.waiting [] (none_may (seeing s stamp.number)) in
-      cond_case P (nat_lt (ended_at a stamp.node) stamp.number) (take_live stamp a) (silent a)
+      let nothing : P (becoming a) = saw_safe stamp.number a.waiting [] (none_may (seeing s stamp.number)) in
+      cond_case P (nat_lt (ended_at a stamp.node) stamp.number) (take_live stamp a) (becoming a)
       (λ _. cond_case P (is_for a.lock stamp) (sending a (lock_letter a.lock)) (take_fresh stamp a)
       (λ _. saw_safe stamp.number a.waiting (lock_letter a.lock) (lock_may (seeing s stamp.number) a.lock refl))
-      (λ _. cond_case P (is_overtaken a stamp) (silent a) (queue a.lock stamp a) (λ _. nothing) (λ _. queue_safe a.lock stamp refl)))
+      (λ _. cond_case P (is_overtaken a stamp) (becoming a) (queue a.lock stamp a) (λ _. nothing) (λ _. queue_safe a.lock stamp refl)))
       (λ _. nothing)
 
   -- RELINQUISH
 
   pub relinquish_safe : (from : ℕ) (stamp : Stamp) (g : ℕ) → stamp.node ≡ from → WasSent w from i (Relinquish stamp g) → IsSafe (after w i (by_arbiter s (take_relinquish stamp g s.arbiter)))
   relinquish_safe from stamp g node sent =
-      cond_case (λ d. IsSafe (after w i (by_arbiter s d))) (is_exactly s.arbiter.lock stamp g) (grant (taking_back stamp s.arbiter)) (silent s.arbiter)
+      cond_case (λ d. IsSafe (after w i (by_arbiter s d))) (is_exactly s.arbiter.lock stamp g) (grant (taking_back stamp s.arbiter)) (becoming s.arbiter)
       (λ e.
       let p = exactly_means s.arbiter.lock stamp g e in
       let lock : Lock = p.0 in
       let ws = slice_set s.arbiter.waiting stamp.node (or_else (waiting_at s.arbiter stamp.node) stamp) in
-      let first = by_arbiter s (silent (taking_back stamp s.arbiter)) in
+      let first = by_arbiter s (becoming (taking_back stamp s.arbiter)) in
       let mid = first.state in
       let sent_lock : WasSent w lock.stamp.node i (Relinquish lock.stamp lock.grant) =
       subst (λ x. WasSent w x.node i (Relinquish x lock.grant)) (sym p.2) (subst (λ x. WasSent w stamp.node i (Relinquish stamp x)) (sym p.3) (subst (λ x. WasSent w x i (Relinquish stamp g)) (sym node) sent)) in
@@ -117,7 +117,7 @@ module _ (w : NodeWorld) (i : ℕ) (s : Node) (good : IsSafe w) (at : IsNode w i
       safe_of w i s good at {A = Unit {0}} (by_arbiter s (grant (taking_back stamp s.arbiter)))
       (both_sound i {A = Unit {0}} {B = Unit {0}} w first second (grant_sound i (after w i first) mid ended (now_is i w s first at)))
       none_overdue_s)
-      (λ _. still_safe w i s good at {A = Unit {0}} tt)
+      (λ _. still_safe w i s good at)
 
   -- RELEASE
 
@@ -125,11 +125,11 @@ module _ (w : NodeWorld) (i : ℕ) (s : Node) (good : IsSafe w) (at : IsNode w i
   release_safe from stamp t node sent =
       let a = ending stamp t s.arbiter in
       let reached : IsReached w (max s.arbiter.last t) = reached_max (λ x. x.requester.mine) w s.arbiter.last t ok_s.last_reached (good.sound.letters from i (Release stamp t) sent).reached in
-      cond_case (λ d. IsSafe (after w i (by_arbiter s d))) (is_up_to s.arbiter.lock stamp) (grant (unlocking a)) (silent a)
+      cond_case (λ d. IsSafe (after w i (by_arbiter s d))) (is_up_to s.arbiter.lock stamp) (grant (unlocking a)) (becoming a)
       (λ e.
       let p = up_to_means s.arbiter.lock stamp e in
       let lock : Lock = p.0 in
-      let first = by_arbiter s (silent (unlocking a)) in
+      let first = by_arbiter s (becoming (unlocking a)) in
       let mid = first.state in
       let sent_lock : WasSent w lock.stamp.node i (Release stamp t) = subst (λ x. WasSent w x i (Release stamp t)) (sym (p.2 ∙ node)) sent in
       let ended : IsSound (after w i first) = unlocked_sound w i s good.sound at {A = Unit {0}} tt a.waiting a.ended a.last lock p.1 (inr (stamp, t, sent_lock, p.3, omega arith)) (omega arith) reached in
@@ -137,6 +137,6 @@ module _ (w : NodeWorld) (i : ℕ) (s : Node) (good : IsSafe w) (at : IsNode w i
       safe_of w i s good at {A = Unit {0}} (by_arbiter s (grant (unlocking a)))
       (both_sound i {A = Unit {0}} {B = Unit {0}} w first second (grant_sound i (after w i first) mid ended (now_is i w s first at)))
       none_overdue_s)
-      (λ _. safe_of w i s good at {A = Unit {0}} (by_arbiter s (silent a))
+      (λ _. safe_of w i s good at {A = Unit {0}} (by_arbiter s (becoming a))
       (aside_sound w i s good.sound at {A = Unit {0}} tt s.requester.failed s.requester.remembered s.requester.highest a.waiting a.ended a.last [] ok_s.remembered_held (omega arith) (omega arith) reached (none_may (record s { arbiter = a })))
       none_overdue_s)

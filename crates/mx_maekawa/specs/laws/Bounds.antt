@@ -6,10 +6,9 @@ use Rattle.mx_stamps.proofs.Choices.{cond_case}
 use Rattle.mx_stamps.specs.Numbers.{last_number}
 use Rattle.mx_letters.specs.declared.maekawa.MaekawaMsg.{MaekawaMsg}
 use Rattle.mx_letters.specs.declared.maekawa.MaekawaMsg.TheVariants.{Request, Locked, Failed, Inquire, Relinquish, Release}
-use Rattle.mx_nodelaws.specs.World.{Done}
+use Rattle.mx_nodelaws.specs.World.{Done, becoming}
 use Rattle.mx_nodelaws.proofs.Bounds.{nil, both}
 use Rattle.mx_nodelaws.specs.Bounds.{IsU64, IsBoundedDone}
-use Rattle.mx_nodelaws.specs.Calls.{unchanged}
 use Rattle.mx_quorums.specs.Family.{Family, IsMeeting}
 use Rattle.mx_maekawa.specs.Node.{RequesterState, ArbiterState, Node}
 use Rattle.mx_maekawa.specs.RequesterStep.{asked, take_locked, take_failed, take_inquire, entering, ended, request_again}
@@ -30,7 +29,7 @@ module _ (n : ℕ) (s : Node) (ok : BoundedNode n s) where
   by_a : (d : Done ArbiterState (Unit {0}) MaekawaMsg) → arbiter.BoundedArbiterDone n d → BoundedDone {A = Unit {0}} n (by_arbiter s d)
   by_a d p = record { state = record { requester = ok.requester; arbiter = p.state }; letters = p.letters }
 
-  ignored : BoundedDone {A = Unit {0}} n (unchanged s tt)
+  ignored : BoundedDone {A = Unit {0}} n (becoming s)
   ignored = record { state = ok; letters = nil BoundedLetter n }
 
   saw : (number : ℕ) → IsU64 number → BoundedRequester n (seeing s number).requester
@@ -41,22 +40,22 @@ module _ (n : ℕ) (s : Node) (ok : BoundedNode n s) where
 
   pub deliver_done : (from : ℕ) (m : MaekawaMsg) → from < n → BoundedLetter n m → BoundedDone {A = Unit {0}} n (deliver_of from m s)
   deliver_done from (Request stamp) lt p =
-      cond_case (λ d. BoundedDone {A = Unit {0}} n d) (is_call s from stamp) (by_arbiter (seeing s stamp.number) (take_request stamp s.arbiter)) (unchanged s tt)
+      cond_case (λ d. BoundedDone {A = Unit {0}} n d) (is_call s from stamp) (by_arbiter (seeing s stamp.number) (take_request stamp s.arbiter)) (becoming s)
       (λ _. let a = arbiter.request_bounded n stamp s.arbiter p ok.arbiter in record { state = record { requester = saw stamp.number p.0; arbiter = a.state }; letters = a.letters }) (λ _. ignored)
   deliver_done from (Locked stamp g c) lt p =
-      cond_case (λ d. BoundedDone {A = Unit {0}} n d) (is_answer s from stamp) (by_requester s (take_locked from stamp g c s.requester)) (unchanged s tt)
+      cond_case (λ d. BoundedDone {A = Unit {0}} n d) (is_answer s from stamp) (by_requester s (take_locked from stamp g c s.requester)) (becoming s)
       (λ _. by_r {A = Unit {0}} (take_locked from stamp g c s.requester) (locked_bounded n from stamp g c s.requester lt p.0 p.1 p.2 ok.requester)) (λ _. ignored)
   deliver_done from (Failed stamp) lt p =
-      cond_case (λ d. BoundedDone {A = Unit {0}} n d) (is_answer s from stamp) (by_requester s (take_failed from stamp s.requester)) (unchanged s tt)
+      cond_case (λ d. BoundedDone {A = Unit {0}} n d) (is_answer s from stamp) (by_requester s (take_failed from stamp s.requester)) (becoming s)
       (λ _. by_r {A = Unit {0}} (take_failed from stamp s.requester) (failed_bounded n from stamp s.requester ok.requester)) (λ _. ignored)
   deliver_done from (Inquire stamp g) lt p =
-      cond_case (λ d. BoundedDone {A = Unit {0}} n d) (is_answer s from stamp) (by_requester s (take_inquire from stamp g s.requester)) (unchanged s tt)
+      cond_case (λ d. BoundedDone {A = Unit {0}} n d) (is_answer s from stamp) (by_requester s (take_inquire from stamp g s.requester)) (becoming s)
       (λ _. by_r {A = Unit {0}} (take_inquire from stamp g s.requester) (inquire_bounded n from stamp g s.requester lt p.0 p.1 ok.requester)) (λ _. ignored)
   deliver_done from (Relinquish stamp g) lt p =
-      cond_case (λ d. BoundedDone {A = Unit {0}} n d) (is_call s from stamp) (by_arbiter s (take_relinquish stamp g s.arbiter)) (unchanged s tt)
+      cond_case (λ d. BoundedDone {A = Unit {0}} n d) (is_call s from stamp) (by_arbiter s (take_relinquish stamp g s.arbiter)) (becoming s)
       (λ _. by_a (take_relinquish stamp g s.arbiter) (arbiter.relinquish_bounded n stamp g s.arbiter p.0 ok.arbiter)) (λ _. ignored)
   deliver_done from (Release stamp t) lt p =
-      cond_case (λ d. BoundedDone {A = Unit {0}} n d) (is_call s from stamp) (by_arbiter s (take_release stamp t s.arbiter)) (unchanged s tt)
+      cond_case (λ d. BoundedDone {A = Unit {0}} n d) (is_call s from stamp) (by_arbiter s (take_release stamp t s.arbiter)) (becoming s)
       (λ _. by_a (take_release stamp t s.arbiter) (arbiter.release_bounded n stamp t s.arbiter p.0 p.1 ok.arbiter)) (λ _. ignored)
 
   pub enter_done : s.requester.top < s.requester.limit → BoundedNode n (record s { requester = entering s.requester })

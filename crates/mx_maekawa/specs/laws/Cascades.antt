@@ -8,15 +8,14 @@ use Rattle.mx_stamps.proofs.Lists.{dec_eq, get_set_same, none_is_no_some}
 use Rattle.mx_stamps.proofs.Choices.{cond_case}
 use Rattle.mx_stamps.specs.Numbers.{last_number}
 use Rattle.mx_letters.specs.declared.maekawa.MaekawaMsg.{MaekawaMsg}
-use Rattle.mx_nodelaws.specs.World.{Done, IsNode, after}
-use Rattle.mx_nodelaws.proofs.Worlds.{after_nothing, after_twice}
+use Rattle.mx_nodelaws.specs.World.{Done, becoming, IsNode, after}
+use Rattle.mx_nodelaws.proofs.Worlds.{nothing_kept, after_twice}
 use Rattle.mx_nodelaws.specs.declared.phase.Phase.TheVariants.{Waiting}
 use Rattle.mx_nodelaws.specs.Phases.{is_busy}
-use Rattle.mx_nodelaws.specs.Calls.{unchanged}
 use Rattle.mx_maekawa.specs.declared.lock.Lock.{Lock}
 use Rattle.mx_maekawa.specs.Node.{RequesterState, Node}
 use Rattle.mx_maekawa.specs.RequesterStep.{held_at, remembered_at, giving, give_remembered, give_below, failing, fail}
-use Rattle.mx_maekawa.specs.ArbiterStep.{silent, locked, least_of, waiting_at, grant_to, grant_in, grant}
+use Rattle.mx_maekawa.specs.ArbiterStep.{locked, least_of, waiting_at, grant_to, grant_in, grant}
 use Rattle.mx_maekawa.specs.Step.{by_requester, by_arbiter}
 use Rattle.mx_maekawa.specs.Good.{NodeWorld, HasNoOverdueInquiry, IsSound}
 use Rattle.mx_maekawa.specs.laws.Places.{get_or_other, get_or_set_none, emptied}
@@ -64,15 +63,15 @@ module _ (i : ℕ) where
   pub now_is : {A : Type 0} (w : NodeWorld) (s : Node) (done : Done Node A MaekawaMsg) → IsNode w i s → IsNode (after w i done) i done.state
   now_is w s done at = get_set_same w.nodes i s done.state at
 
-  pub same_sound : {A : Type 0} (w : NodeWorld) (s : Node) (answer : A) → IsSound w → IsNode w i s → IsSound (after w i (unchanged s answer))
-  same_sound w s answer good at = subst (λ x. IsSound x) (sym (after_nothing w i s answer at)) good
+  still_sound : (w : NodeWorld) (s : Node) → IsSound w → IsNode w i s → IsSound (after w i (becoming s))
+  still_sound w s good at = nothing_kept {A = Unit {0}} IsSound w i s tt good at
 
   -- two parts, one after the other
   pub both_sound : {A B : Type 0} (w : NodeWorld) (first : Done Node A MaekawaMsg) (second : Done Node B MaekawaMsg) → IsSound (after (after w i first) i second) → IsSound (after w i (record { state = second.state; answer = second.answer; letters = first.letters ++ second.letters }))
   both_sound w first second sound = subst (λ x. IsSound x) (after_twice w i first second) sound
 
   giving_sound : (w : NodeWorld) (s : Node) (b : ℕ) (o : Option ℕ) → IsSound w → IsNode w i s → s.requester.phase ≡ Waiting → b < 21 → remembered_at s.requester b ≡ o → IsSound (after w i (by_requester s (giving o s.requester b)))
-  giving_sound w s b None good at waiting lt was = same_sound {A = Unit {0}} w s tt good at
+  giving_sound w s b None good at waiting lt was = still_sound w s good at
   giving_sound w s b (Some g) good at waiting lt was =
       let ok = good.nodes i s at in
       let has : held_at s.requester b ≡ Some g = ok.remembered_held b g was in
@@ -87,7 +86,7 @@ module _ (i : ℕ) where
       (omega arith)
 
   give_sound : (n : ℕ) (w : NodeWorld) (s : Node) → IsSound w → IsNode w i s → s.requester.phase ≡ Waiting → n ≤ 21 → IsSound (after w i (by_requester s (give_below n s.requester)))
-  give_sound zero w s good at waiting few = same_sound {A = Unit {0}} w s tt good at
+  give_sound zero w s good at waiting few = still_sound w s good at
   give_sound (suc n) w s good at waiting few =
       let first = by_requester s (give_below n s.requester) in
       let x = first.state in
@@ -98,7 +97,7 @@ module _ (i : ℕ) where
   pub failed_sound : (w : NodeWorld) (s : Node) (a : ℕ) → IsSound w → IsNode w i s → s.requester.phase ≡ Waiting → IsSound (after w i (by_requester s (fail a s.requester)))
   failed_sound w s a good at waiting =
       let ok = good.nodes i s at in
-      let first = by_requester s (unchanged {A = Unit {0}} (failing s.requester a) tt) in
+      let first = by_requester s (becoming (failing s.requester a)) in
       let sound : IsSound (after w i first) = aside_sound w i s good at {A = Unit {0}} tt (slice_set s.requester.failed a true) s.requester.remembered s.requester.highest s.arbiter.waiting s.arbiter.ended s.arbiter.last [] ok.remembered_held (omega arith) (omega arith) ok.last_reached (λ b m none. absurd none) in
       let second = by_requester first.state (give_below s.requester.count first.state.requester) in
       both_sound w first second (give_sound s.requester.count (after w i first) first.state sound (now_is w s first at) waiting ok.placed.few)
@@ -112,14 +111,14 @@ module _ (i : ℕ) where
       absurd (none_is_no_some g (sym (give_clears n r a (omega arith)) ∙ subst (λ x. remembered_at x a ≡ Some g) is was))
 
   grant_to_sound : (w : NodeWorld) (s : Node) (o : Option Stamp) → IsSound w → IsNode w i s → s.arbiter.lock ≡ None → IsSound (after w i (by_arbiter s (grant_to o s.arbiter)))
-  grant_to_sound w s None good at free = same_sound {A = Unit {0}} w s tt good at
+  grant_to_sound w s None good at free = still_sound w s good at
   grant_to_sound w s (Some u) good at free =
-      cond_case (λ d. IsSound (after w i (by_arbiter s d))) (nat_lt s.arbiter.granted last_number) (locked s.arbiter u) (silent s.arbiter)
-      (λ _. granted_sound w i s good at {A = Unit {0}} tt u free) (λ _. same_sound {A = Unit {0}} w s tt good at)
+      cond_case (λ d. IsSound (after w i (by_arbiter s d))) (nat_lt s.arbiter.granted last_number) (locked s.arbiter u) (becoming s.arbiter)
+      (λ _. granted_sound w i s good at {A = Unit {0}} tt u free) (λ _. still_sound w s good at)
 
   grant_in_sound : (w : NodeWorld) (s : Node) (o : Option Lock) → IsSound w → IsNode w i s → s.arbiter.lock ≡ o → IsSound (after w i (by_arbiter s (grant_in o s.arbiter)))
   grant_in_sound w s None good at is = grant_to_sound w s (least_of (waiting_at s.arbiter) s.arbiter.count) good at is
-  grant_in_sound w s (Some lock) good at is = same_sound {A = Unit {0}} w s tt good at
+  grant_in_sound w s (Some lock) good at is = still_sound w s good at
 
   pub grant_sound : (w : NodeWorld) (s : Node) → IsSound w → IsNode w i s → IsSound (after w i (by_arbiter s (grant s.arbiter)))
   grant_sound w s good at = grant_in_sound w s s.arbiter.lock good at refl

@@ -6,13 +6,11 @@ use Rattle.mx_stamps.proofs.Lists.{in_append, none_is_no_some, get_or_replicate}
 use Rattle.mx_stamps.proofs.Choices.{eq_true, and_true, cond_case}
 use Rattle.mx_letters.specs.declared.maekawa.MaekawaMsg.{MaekawaMsg}
 use Rattle.mx_letters.specs.declared.maekawa.MaekawaMsg.TheVariants.{Request, Locked, Failed, Inquire, Relinquish, Release}
-use Rattle.mx_nodelaws.specs.World.{IsNode, WasSent, after, addressed}
+use Rattle.mx_nodelaws.specs.World.{becoming, IsNode, WasSent, after, addressed}
 use Rattle.mx_nodelaws.proofs.Worlds.{in_addressed}
 use Rattle.mx_nodelaws.specs.declared.phase.Phase.TheVariants.{Idle, Waiting}
 use Rattle.mx_nodelaws.specs.Phases.{is_waiting}
 use Rattle.mx_nodelaws.proofs.Sent.{sent_if}
-use Rattle.mx_nodelaws.specs.Calls.{unchanged}
-use Rattle.mx_nodelaws.specs.Rows.{becoming}
 use Rattle.mx_quorums.specs.Family.{has_of}
 use Rattle.mx_maekawa.specs.Node.{RequesterState, Node}
 use Rattle.mx_maekawa.specs.RequesterStep.{is_own, holds, holds_all, to_missing, asking, asked, take_locked, take_failed, take_inquire, entering, ending, ended, request_again}
@@ -32,8 +30,8 @@ module _ (w : NodeWorld) (i : ℕ) (s : Node) (good : IsSafe w) (at : IsNode w i
   ok_s : IsNodeOk w i s
   ok_s = good.sound.nodes i s at
 
-  ignored : IsSafe (after w i (unchanged {A = Unit {0}} s tt))
-  ignored = still_safe w i s good at {A = Unit {0}} tt
+  ignored : IsSafe (after w i (becoming s))
+  ignored = still_safe w i s good at
 
   -- ask
 
@@ -50,22 +48,22 @@ module _ (w : NodeWorld) (i : ℕ) (s : Node) (good : IsSafe w) (at : IsNode w i
 
   pub deliver_safe : (from : ℕ) (m : MaekawaMsg) → WasSent w from i m → IsSafe (after w i (deliver_of from m s))
   deliver_safe from (Request stamp) sent =
-      cond_case (λ d. IsSafe (after w i d)) (is_call s from stamp) (by_arbiter (seeing s stamp.number) (take_request stamp s.arbiter)) (unchanged s tt)
+      cond_case (λ d. IsSafe (after w i d)) (is_call s from stamp) (by_arbiter (seeing s stamp.number) (take_request stamp s.arbiter)) (becoming s)
       (λ _. request_safe w i s good at stamp) (λ _. ignored)
   deliver_safe from (Locked stamp g c) sent =
-      cond_case (λ d. IsSafe (after w i d)) (is_answer s from stamp) (by_requester s (take_locked from stamp g c s.requester)) (unchanged s tt)
+      cond_case (λ d. IsSafe (after w i d)) (is_answer s from stamp) (by_requester s (take_locked from stamp g c s.requester)) (becoming s)
       (λ e. let p = answers from stamp e in locked_safe w i s good at from stamp g c p.0 p.1 sent) (λ _. ignored)
   deliver_safe from (Failed stamp) sent =
-      cond_case (λ d. IsSafe (after w i d)) (is_answer s from stamp) (by_requester s (take_failed from stamp s.requester)) (unchanged s tt)
+      cond_case (λ d. IsSafe (after w i d)) (is_answer s from stamp) (by_requester s (take_failed from stamp s.requester)) (becoming s)
       (λ _. failed_safe w i s good at from stamp) (λ _. ignored)
   deliver_safe from (Inquire stamp g) sent =
-      cond_case (λ d. IsSafe (after w i d)) (is_answer s from stamp) (by_requester s (take_inquire from stamp g s.requester)) (unchanged s tt)
+      cond_case (λ d. IsSafe (after w i d)) (is_answer s from stamp) (by_requester s (take_inquire from stamp g s.requester)) (becoming s)
       (λ e. let p = answers from stamp e in inquire_safe w i s good at from stamp g p.0 p.1 sent) (λ _. ignored)
   deliver_safe from (Relinquish stamp g) sent =
-      cond_case (λ d. IsSafe (after w i d)) (is_call s from stamp) (by_arbiter s (take_relinquish stamp g s.arbiter)) (unchanged s tt)
+      cond_case (λ d. IsSafe (after w i d)) (is_call s from stamp) (by_arbiter s (take_relinquish stamp g s.arbiter)) (becoming s)
       (λ e. relinquish_safe w i s good at from stamp g (calls from stamp e) sent) (λ _. ignored)
   deliver_safe from (Release stamp t) sent =
-      cond_case (λ d. IsSafe (after w i d)) (is_call s from stamp) (by_arbiter s (take_release stamp t s.arbiter)) (unchanged s tt)
+      cond_case (λ d. IsSafe (after w i d)) (is_call s from stamp) (by_arbiter s (take_release stamp t s.arbiter)) (becoming s)
       (λ e. release_safe w i s good at from stamp t (calls from stamp e) sent) (λ _. ignored)
 
   -- enter

@@ -6,10 +6,9 @@ use Rattle.mx_stamps.proofs.Lists.{none_is_no_some, get_or_replicate, get_each_b
 use Rattle.mx_stamps.proofs.Choices.{cond_case}
 use Rattle.mx_letters.specs.declared.maekawa.MaekawaMsg.{MaekawaMsg}
 use Rattle.mx_letters.specs.declared.maekawa.MaekawaMsg.TheVariants.{Request, Locked, Failed, Inquire, Relinquish, Release}
-use Rattle.mx_nodelaws.specs.World.{Done, IsNode, WasSent}
+use Rattle.mx_nodelaws.specs.World.{Done, becoming, IsNode, WasSent}
 use Rattle.mx_nodelaws.specs.Core.{KeepsPhases}
 use Rattle.mx_nodelaws.specs.Laws.{KeepsGood, started}
-use Rattle.mx_nodelaws.specs.Calls.{unchanged}
 use Rattle.mx_nodelaws.specs.Phases.{is_busy}
 use Rattle.mx_nodelaws.specs.Rows.{course}
 use Rattle.mx_nodelaws.specs.declared.phase.Phase.TheVariants.{Idle}
@@ -40,19 +39,19 @@ give_stays zero r x h = h
 give_stays (suc n) r x h = let y = (give_below n x).state in giving_stays (remembered_at y n) r y n (give_stays n r x h)
 
 released_stays : (r : RequesterState) (stamp : Stamp) (a : ℕ) → Stays r (release_ended r stamp a).state
-released_stays r stamp a = cond_case (λ d. Stays r d.state) (has_ended r stamp) (saying r a (Release stamp r.top)) (unchanged r tt) (λ _. refl) (λ _. refl)
+released_stays r stamp a = cond_case (λ d. Stays r d.state) (has_ended r stamp) (saying r a (Release stamp r.top)) (becoming r) (λ _. refl) (λ _. refl)
 
 locked_stays : (a : ℕ) (stamp : Stamp) (g c : ℕ) (r : RequesterState) → Stays r (take_locked a stamp g c r).state
 locked_stays a stamp g c r =
     let P : RequesterDone (Unit {0}) → Type 0 = λ d. Stays r d.state in
     cond_case P (is_current_wait r stamp) (locked_current a stamp g c r) (release_ended r stamp a)
-    (λ _. cond_case P (holds r a) (unchanged r tt) (locked_fresh a stamp g c r) (λ _. refl)
-    (λ _. cond_case P (nat_lt (back_at r a) g) (unchanged (holding r a g c) tt) (saying r a (Relinquish stamp g)) (λ _. refl) (λ _. refl)))
+    (λ _. cond_case P (holds r a) (becoming r) (locked_fresh a stamp g c r) (λ _. refl)
+    (λ _. cond_case P (nat_lt (back_at r a) g) (becoming (holding r a g c)) (saying r a (Relinquish stamp g)) (λ _. refl) (λ _. refl)))
     (λ _. released_stays r stamp a)
 
 failed_stays : (a : ℕ) (stamp : Stamp) (r : RequesterState) → Stays r (take_failed a stamp r).state
 failed_stays a stamp r =
-    cond_case (λ d. Stays r d.state) (is_current_wait r stamp && not (holds r a)) (fail a r) (unchanged r tt)
+    cond_case (λ d. Stays r d.state) (is_current_wait r stamp && not (holds r a)) (fail a r) (becoming r)
     (λ _. give_stays r.count r (failing r a) refl) (λ _. refl)
 
 inquired_stays : (o : Option ℕ) (a : ℕ) (stamp : Stamp) (g : ℕ) (r : RequesterState) → Stays r (inquired o a stamp g r).state
@@ -60,7 +59,7 @@ inquired_stays None a stamp g r = give_stays r.count r (failing (declining r a g
 inquired_stays (Some h) a stamp g r =
     let P : RequesterDone (Unit {0}) → Type 0 = λ d. Stays r d.state in
     cond_case P (nat_eq h g) (inquired_held a stamp g r) (saying r a (Relinquish stamp g))
-    (λ _. cond_case P (has_failed_below r r.count) (saying (giving_now r a g) a (Relinquish stamp g)) (unchanged (remembering r a g) tt) (λ _. refl) (λ _. refl))
+    (λ _. cond_case P (has_failed_below r r.count) (saying (giving_now r a g) a (Relinquish stamp g)) (becoming (remembering r a g)) (λ _. refl) (λ _. refl))
     (λ _. refl)
 
 inquire_stays : (a : ℕ) (stamp : Stamp) (g : ℕ) (r : RequesterState) → Stays r (take_inquire a stamp g r).state
@@ -71,11 +70,11 @@ inquire_stays a stamp g r =
 abbrev NodeStays : Node → Done Node (Unit {0}) MaekawaMsg → Type 0
 NodeStays s d = Stays s.requester d.state.requester
 
-called : (s : Node) (from : ℕ) (stamp : Stamp) (done : Done Node (Unit {0}) MaekawaMsg) → NodeStays s done → NodeStays s (cond (is_call s from stamp) done (unchanged s tt))
-called s from stamp done h = cond_case (NodeStays s) (is_call s from stamp) done (unchanged s tt) (λ _. h) (λ _. refl)
+called : (s : Node) (from : ℕ) (stamp : Stamp) (done : Done Node (Unit {0}) MaekawaMsg) → NodeStays s done → NodeStays s (cond (is_call s from stamp) done (becoming s))
+called s from stamp done h = cond_case (NodeStays s) (is_call s from stamp) done (becoming s) (λ _. h) (λ _. refl)
 
-answered : (s : Node) (from : ℕ) (stamp : Stamp) (done : Done Node (Unit {0}) MaekawaMsg) → NodeStays s done → NodeStays s (cond (is_answer s from stamp) done (unchanged s tt))
-answered s from stamp done h = cond_case (NodeStays s) (is_answer s from stamp) done (unchanged s tt) (λ _. h) (λ _. refl)
+answered : (s : Node) (from : ℕ) (stamp : Stamp) (done : Done Node (Unit {0}) MaekawaMsg) → NodeStays s done → NodeStays s (cond (is_answer s from stamp) done (becoming s))
+answered s from stamp done h = cond_case (NodeStays s) (is_answer s from stamp) done (becoming s) (λ _. h) (λ _. refl)
 
 deliver_stays : (from : ℕ) (m : MaekawaMsg) (s : Node) → NodeStays s (deliver_of from m s)
 deliver_stays from (Request stamp) s = called s from stamp (by_arbiter (seeing s stamp.number) (take_request stamp s.arbiter)) refl

@@ -7,13 +7,12 @@ use Rattle.mx_stamps.proofs.Choices.{and_true, cond_case}
 use Rattle.mx_stamps.specs.Numbers.{last_number}
 use Rattle.mx_letters.specs.declared.maekawa.MaekawaMsg.{MaekawaMsg}
 use Rattle.mx_letters.specs.declared.maekawa.MaekawaMsg.TheVariants.{Request, Relinquish, Release}
-use Rattle.mx_nodelaws.specs.World.{addressed}
+use Rattle.mx_nodelaws.specs.World.{becoming, addressed}
 use Rattle.mx_nodelaws.proofs.Bounds.{nil, one, both}
 use Rattle.mx_nodelaws.proofs.Worlds.{in_addressed}
 use Rattle.mx_nodelaws.specs.Phases.{is_waiting}
 use Rattle.mx_nodelaws.specs.Bounds.{IsU64, BoundedStamp, AreBounded, IsBoundedDone}
 use Rattle.mx_nodelaws.proofs.Sent.{sent_if}
-use Rattle.mx_nodelaws.specs.Calls.{unchanged}
 use Rattle.mx_maekawa.specs.Node.{RequesterState}
 use Rattle.mx_maekawa.specs.RequesterStep.{saying, held_at, remembered_at, back_at, is_own, holds, has_ended, to_own, to_missing, asking, asked, giving, give_remembered, give_below, failing, fail, release_ended, holding, is_current_wait, locked_fresh, locked_current, take_locked, take_failed, has_failed_below, giving_now, remembering, declining, inquired_held, inquired_missing, inquired, take_inquire, entering, ended, request_again}
 use Rattle.mx_maekawa.specs.Good.{BoundedLetter, BoundedRequester}
@@ -78,15 +77,15 @@ module _ (n : ℕ) where
 
   released_bounded : (r : RequesterState) (stamp : Stamp) (a : ℕ) → BoundedStamp n stamp → a < n → BoundedRequester n r → BoundedRequesterDone {A = Unit {0}} n (release_ended r stamp a)
   released_bounded r stamp a bounded lt ok =
-      cond_case (λ d. BoundedRequesterDone {A = Unit {0}} n d) (has_ended r stamp) (saying r a (Release stamp r.top)) (unchanged r tt)
+      cond_case (λ d. BoundedRequesterDone {A = Unit {0}} n d) (has_ended r stamp) (saying r a (Release stamp r.top)) (becoming r)
       (λ _. record { state = ok; letters = one BoundedLetter n a (Release stamp r.top) lt (bounded, ok.top) }) (λ _. record { state = ok; letters = nil BoundedLetter n })
 
   pub locked_bounded : (a : ℕ) (stamp : Stamp) (g c : ℕ) (r : RequesterState) → a < n → BoundedStamp n stamp → IsU64 g → IsU64 c → BoundedRequester n r → BoundedRequesterDone {A = Unit {0}} n (take_locked a stamp g c r)
   locked_bounded a stamp g c r lt bounded small last ok =
       let P : RequesterDone (Unit {0}) → Type 0 = λ d. BoundedRequesterDone {A = Unit {0}} n d in
       cond_case P (is_current_wait r stamp) (locked_current a stamp g c r) (release_ended r stamp a)
-      (λ _. cond_case P (holds r a) (unchanged r tt) (locked_fresh a stamp g c r) (λ _. record { state = ok; letters = nil BoundedLetter n })
-      (λ _. cond_case P (nat_lt (back_at r a) g) (unchanged (holding r a g c) tt) (saying r a (Relinquish stamp g))
+      (λ _. cond_case P (holds r a) (becoming r) (locked_fresh a stamp g c r) (λ _. record { state = ok; letters = nil BoundedLetter n })
+      (λ _. cond_case P (nat_lt (back_at r a) g) (becoming (holding r a g c)) (saying r a (Relinquish stamp g))
       (λ _. record { state = record { me = ok.me; own = ok.own; count = ok.count; limit = ok.limit; phase = ok.phase; highest = ok.highest; issued = ok.issued; ours = ok.ours; held = put_small r.held a g small ok.held; back = ok.back; remembered = ok.remembered; top = (let k = ok.top in omega arith); mine = ok.mine }; letters = nil BoundedLetter n })
       (λ _. record { state = ok; letters = one BoundedLetter n a (Relinquish stamp g) lt (bounded, small) })))
       (λ _. released_bounded r stamp a bounded lt ok)
@@ -95,7 +94,7 @@ module _ (n : ℕ) where
 
   pub failed_bounded : (a : ℕ) (stamp : Stamp) (r : RequesterState) → BoundedRequester n r → BoundedRequesterDone {A = Unit {0}} n (take_failed a stamp r)
   failed_bounded a stamp r ok =
-      cond_case (λ d. BoundedRequesterDone {A = Unit {0}} n d) (is_current_wait r stamp && not (holds r a)) (fail a r) (unchanged r tt)
+      cond_case (λ d. BoundedRequesterDone {A = Unit {0}} n d) (is_current_wait r stamp && not (holds r a)) (fail a r) (becoming r)
       (λ _. fail_bounded a r ok) (λ _. record { state = ok; letters = nil BoundedLetter n })
 
   -- INQUIRE
@@ -109,7 +108,7 @@ module _ (n : ℕ) where
 
   held_bounded : (a : ℕ) (stamp : Stamp) (g : ℕ) (r : RequesterState) → a < n → BoundedStamp n stamp → IsU64 g → BoundedRequester n r → BoundedRequesterDone {A = Unit {0}} n (inquired_held a stamp g r)
   held_bounded a stamp g r lt bounded small ok =
-      cond_case (λ d. BoundedRequesterDone {A = Unit {0}} n d) (has_failed_below r r.count) (saying (giving_now r a g) a (Relinquish stamp g)) (unchanged (remembering r a g) tt)
+      cond_case (λ d. BoundedRequesterDone {A = Unit {0}} n d) (has_failed_below r r.count) (saying (giving_now r a g) a (Relinquish stamp g)) (becoming (remembering r a g))
       (λ _. record { state = record { me = ok.me; own = ok.own; count = ok.count; limit = ok.limit; phase = ok.phase; highest = ok.highest; issued = ok.issued; ours = ok.ours; held = emptied_small r.held a ok.held; back = set_small r.back a g small ok.back; remembered = ok.remembered; top = ok.top; mine = ok.mine }; letters = one BoundedLetter n a (Relinquish stamp g) lt (bounded, small) })
       (λ _. record { state = record { me = ok.me; own = ok.own; count = ok.count; limit = ok.limit; phase = ok.phase; highest = ok.highest; issued = ok.issued; ours = ok.ours; held = ok.held; back = ok.back; remembered = put_small r.remembered a g small ok.remembered; top = ok.top; mine = ok.mine }; letters = nil BoundedLetter n })
 

@@ -9,12 +9,11 @@ use Rattle.mx_stamps.proofs.Choices.{lt_true, lt_false, eq_true, eq_false, eq_is
 use Rattle.mx_stamps.proofs.Stamps.{same_stamp}
 use Rattle.mx_letters.specs.declared.maekawa.MaekawaMsg.{MaekawaMsg}
 use Rattle.mx_letters.specs.declared.maekawa.MaekawaMsg.TheVariants.{Locked, Inquire, Relinquish, Release}
-use Rattle.mx_nodelaws.specs.World.{Done, IsNode, WasSent, after}
-use Rattle.mx_nodelaws.proofs.Worlds.{after_nothing}
+use Rattle.mx_nodelaws.specs.World.{Done, becoming, IsNode, WasSent, after}
+use Rattle.mx_nodelaws.proofs.Worlds.{nothing_kept}
 use Rattle.mx_nodelaws.specs.declared.phase.Phase.TheVariants.{Waiting}
 use Rattle.mx_nodelaws.specs.Phases.{is_busy, is_waiting}
 use Rattle.mx_nodelaws.proofs.Phases.{waiting_is}
-use Rattle.mx_nodelaws.specs.Calls.{unchanged}
 use Rattle.mx_maekawa.specs.Node.{Node}
 use Rattle.mx_maekawa.specs.RequesterStep.{RequesterDone, saying, held_at, remembered_at, back_at, has_failed, is_own, holds, has_ended, failing, fail, release_ended, holding, is_current_wait, locked_fresh, locked_current, take_locked, take_failed, has_failed_below, giving_now, remembering, declining, inquired_held, inquired_missing, inquired, take_inquire}
 use Rattle.mx_maekawa.specs.Step.{by_requester}
@@ -43,8 +42,8 @@ module _ (w : NodeWorld) (i : ℕ) (s : Node) (good : IsSafe w) (at : IsNode w i
     ];
   }
 
-  pub still_safe : {A : Type 0} (answer : A) → IsSafe (after w i (unchanged s answer))
-  still_safe answer = subst (λ x. IsSafe x) (sym (after_nothing w i s answer at)) good
+  pub still_safe : IsSafe (after w i (becoming s))
+  still_safe = nothing_kept {A = Unit {0}} IsSafe w i s tt good at
 
   -- one letter
   says_safe : (a : ℕ) (m : MaekawaMsg) → IsSendable w i s s a m → IsSafe (after w i (by_requester s (saying s.requester a m)))
@@ -68,9 +67,9 @@ module _ (w : NodeWorld) (i : ℕ) (s : Node) (good : IsSafe w) (at : IsNode w i
 
   released_safe : (stamp : Stamp) (a : ℕ) → stamp.node ≡ i → IsSafe (after w i (by_requester s (release_ended s.requester stamp a)))
   released_safe stamp a node =
-      cond_case (λ d. IsSafe (after w i (by_requester s d))) (has_ended s.requester stamp) (saying s.requester a (Release stamp s.requester.top)) (unchanged s.requester tt)
+      cond_case (λ d. IsSafe (after w i (by_requester s d))) (has_ended s.requester stamp) (saying s.requester a (Release stamp s.requester.top)) (becoming s.requester)
       (λ e. says_safe a (Release stamp s.requester.top) (record { node = node; ended = ended_means stamp node e; mine = ok_s.mine_top; reached = ok_s.top_reached }))
-      (λ _. still_safe {A = Unit {0}} tt)
+      (λ _. still_safe)
 
   current_means : (stamp : Stamp) → is_current_wait s.requester stamp ≡ true → (s.requester.phase ≡ Waiting) × (stamp ≡ s.requester.ours)
   current_means stamp e = let p = and_true (is_waiting s.requester.phase) (is_same_as stamp s.requester.ours) e in (waiting_is s.requester.phase p.0, same_stamp stamp s.requester.ours p.1)
@@ -83,7 +82,7 @@ module _ (w : NodeWorld) (i : ℕ) (s : Node) (good : IsSafe w) (at : IsNode w i
   fresh_safe : (a : ℕ) (stamp : Stamp) (g c : ℕ) → is_own s.requester a ≡ true → stamp.node ≡ i → WasSent w a i (Locked stamp g c) → s.requester.phase ≡ Waiting → stamp ≡ s.requester.ours → holds s.requester a ≡ false → IsSafe (after w i (by_requester s (locked_fresh a stamp g c s.requester)))
   fresh_safe a stamp g c own node sent waiting same none =
       let r = s.requester in
-      let taken = unchanged {A = Unit {0}} (holding r a g c) tt in
+      let taken = becoming (holding r a g c) in
       cond_case (λ d. IsSafe (after w i (by_requester s d))) (nat_lt (back_at r a) g) taken (saying r a (Relinquish stamp g))
       (λ above. safe_of {A = Unit {0}} (by_requester s taken)
       (held_sound w i s good.sound at {A = Unit {0}} tt a g c waiting own (none_of (held_at r a) none) (lt_true (back_at r a) g above) (subst (λ x. WasSent w a i (Locked x g c)) same sent))
@@ -96,8 +95,8 @@ module _ (w : NodeWorld) (i : ℕ) (s : Node) (good : IsSafe w) (at : IsNode w i
       let P : RequesterDone (Unit {0}) → Type 0 = λ d. IsSafe (after w i (by_requester s d)) in
       cond_case P (is_current_wait r stamp) (locked_current a stamp g c r) (release_ended r stamp a)
       (λ e. let p = current_means stamp e in
-      cond_case P (holds r a) (unchanged r tt) (locked_fresh a stamp g c r)
-      (λ _. still_safe {A = Unit {0}} tt)
+      cond_case P (holds r a) (becoming r) (locked_fresh a stamp g c r)
+      (λ _. still_safe)
       (λ none. fresh_safe a stamp g c own node sent p.0 p.1 none))
       (λ _. released_safe stamp a node)
 
@@ -114,9 +113,9 @@ module _ (w : NodeWorld) (i : ℕ) (s : Node) (good : IsSafe w) (at : IsNode w i
   pub failed_safe : (a : ℕ) (stamp : Stamp) → IsSafe (after w i (by_requester s (take_failed a stamp s.requester)))
   failed_safe a stamp =
       let r = s.requester in
-      cond_case (λ d. IsSafe (after w i (by_requester s d))) (is_current_wait r stamp && not (holds r a)) (fail a r) (unchanged r tt)
+      cond_case (λ d. IsSafe (after w i (by_requester s d))) (is_current_wait r stamp && not (holds r a)) (fail a r) (becoming r)
       (λ e. fail_safe a (current_means stamp (and_true (is_current_wait r stamp) (not (holds r a)) e).0).0)
-      (λ _. still_safe {A = Unit {0}} tt)
+      (λ _. still_safe)
 
   -- INQUIRE
 
@@ -162,9 +161,9 @@ module _ (w : NodeWorld) (i : ℕ) (s : Node) (good : IsSafe w) (at : IsNode w i
       (omega arith)))
       (λ b y d lt was. absurd (none_remembered b y was))
 
-  remembered_safe : (a g : ℕ) → held_at s.requester a ≡ Some g → has_failed_below s.requester s.requester.count ≡ false → IsSafe (after w i (by_requester s (unchanged {A = Unit {0}} (remembering s.requester a g) tt)))
+  remembered_safe : (a g : ℕ) → held_at s.requester a ≡ Some g → has_failed_below s.requester s.requester.count ≡ false → IsSafe (after w i (by_requester s (becoming (remembering s.requester a g))))
   remembered_safe a g has none =
-      safe_of {A = Unit {0}} (by_requester s (unchanged {A = Unit {0}} (remembering s.requester a g) tt))
+      safe_of {A = Unit {0}} (by_requester s (becoming (remembering s.requester a g)))
       (aside_sound w i s good.sound at {A = Unit {0}} tt s.requester.failed (slice_set s.requester.remembered a (Some g)) s.requester.highest s.arbiter.waiting s.arbiter.ended s.arbiter.last []
       (λ b y was. elim (get_or_after s.requester.remembered a b (Some g) None (Some y) was) [
         | inl p ↦ subst (λ k. held_at s.requester k ≡ Some y) (sym p.0) (has ∙ p.1)
@@ -187,7 +186,7 @@ module _ (w : NodeWorld) (i : ℕ) (s : Node) (good : IsSafe w) (at : IsNode w i
   held_safe : (a : ℕ) (stamp : Stamp) (g : ℕ) → s.requester.phase ≡ Waiting → stamp ≡ s.requester.ours → is_own s.requester a ≡ true → held_at s.requester a ≡ Some g → IsSafe (after w i (by_requester s (inquired_held a stamp g s.requester)))
   held_safe a stamp g waiting same own has =
       let r = s.requester in
-      cond_case (λ d. IsSafe (after w i (by_requester s d))) (has_failed_below r r.count) (saying (giving_now r a g) a (Relinquish stamp g)) (unchanged (remembering r a g) tt)
+      cond_case (λ d. IsSafe (after w i (by_requester s d))) (has_failed_below r r.count) (saying (giving_now r a g) a (Relinquish stamp g)) (becoming (remembering r a g))
       (λ failed. gave_now_safe a stamp g waiting same own has failed)
       (λ none. remembered_safe a g has none)
 

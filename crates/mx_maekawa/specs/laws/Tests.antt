@@ -4,7 +4,7 @@ use Rattle.mx_stamps.proofs.Lists.{dec_eq}
 use Rattle.mx_stamps.proofs.Choices.{not_both, or_cases, or_false, neither}
 use Rattle.mx_nodelaws.proofs.Tests.{each_passes, all_pass}
 use Rattle.mx_maekawa.specs.Node.{RequesterState}
-use Rattle.mx_maekawa.specs.RequesterStep.{is_some, has_failed, is_own, holds, is_granted, holds_all, has_failed_below, HoldsAll, HasFailed}
+use Rattle.mx_maekawa.specs.RequesterStep.{is_some, has_failed, is_own, holds, is_held, holds_all, has_failed_below, HoldsAll, HasFailed}
 
 -- a number that is held, if there is one
 
@@ -23,10 +23,10 @@ own_or_not true held h = h refl
 own_or_not false held h = refl
 
 pub holds_each : (r : RequesterState) → holds_all r ≡ true → HoldsAll r
-holds_each r all a lt own = or_false (not (is_own r a)) (holds r a) (each_passes (is_granted r) r.count all a lt) (ap not own)
+holds_each r all a lt own = or_false (not (is_own r a)) (holds r a) (each_passes (is_held r) r.count all a lt) (ap not own)
 
 pub holds_all_is : (r : RequesterState) → (holds_all r ≡ true) ↔ HoldsAll r
-holds_all_is r = (holds_each r, λ h. all_pass (is_granted r) r.count (λ a lt. own_or_not (is_own r a) (holds r a) (h a lt)))
+holds_all_is r = (holds_each r, λ h. all_pass (is_held r) r.count (λ a lt. own_or_not (is_own r a) (holds r a) (h a lt)))
 
 pub some_failed : (r : RequesterState) (n : ℕ) → has_failed_below r n ≡ true → (b : ℕ) × (b < n) × (has_failed r b ≡ true)
 some_failed r zero h = let bad : ⊥ = cc in absurd bad

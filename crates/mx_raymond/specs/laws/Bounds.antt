@@ -8,8 +8,7 @@ use Rattle.mx_letters.specs.declared.raymond.RaymondMsg.{RaymondMsg}
 use Rattle.mx_letters.specs.declared.raymond.RaymondMsg.TheVariants.{Request, Privilege, Got}
 use Rattle.mx_nodelaws.proofs.Bounds.{nil, one, both}
 use Rattle.mx_nodelaws.specs.Bounds.{IsU64, AreBounded}
-use Rattle.mx_nodelaws.specs.Calls.{unchanged}
-use Rattle.mx_nodelaws.specs.Rows.{becoming}
+use Rattle.mx_nodelaws.specs.World.{answering, becoming}
 use Rattle.mx_trees.specs.Tree.{Rooted, IsRooted}
 use Rattle.mx_raymond.specs.declared.unacked.Unacked.{Unacked}
 use Rattle.mx_raymond.specs.Node.{Node}
@@ -19,7 +18,7 @@ use Rattle.mx_raymond.specs.laws.Tests.{queued_pushed, queued_joined, queued_wit
 use Rattle.mx_raymond.specs.laws.ServingBounds.{BoundedDone, serving_bounded}
 
 module _ (n : ℕ) (s : Node) (ok : BoundedNode n s) where
-  as_it_was : BoundedDone {A = Unit {0}} n (unchanged s tt)
+  as_it_was : BoundedDone {A = Unit {0}} n (becoming s)
   as_it_was = record { state = ok; letters = nil BoundedLetter n }
 
   -- ask
@@ -42,7 +41,7 @@ module _ (n : ℕ) (s : Node) (ok : BoundedNode n s) where
 
   pub asked_bounded : s.asks < last_number → BoundedDone n (asked s)
   asked_bounded low =
-      let first : NodeDone Stamp = unchanged (asking s) (record { number = s.asks + 1; node = s.me }) in
+      let first : NodeDone Stamp = answering (becoming (asking s)) (record { number = s.asks + 1; node = s.me }) in
       serving_bounded n first (record { state = asking_bounded low; letters = nil BoundedLetter n })
 
   -- a request
@@ -76,10 +75,10 @@ module _ (n : ℕ) (s : Node) (ok : BoundedNode n s) where
   request_bounded : (from number : ℕ) → from < n → IsU64 number → BoundedDone n (take_request from number s)
   request_bounded from number lt small =
       let P : NodeDone (Unit {0}) → Type 0 = λ d. BoundedDone n d in
-      let first : NodeDone (Unit {0}) = unchanged (queueing s from number) tt in
+      let first : NodeDone (Unit {0}) = becoming (queueing s from number) in
       cond_case P (nat_eq from s.holder) (take_holders_request s) (take_others_request from number s)
       (λ _. record { state = ok; letters = again_bounded s.unacked refl })
-      (λ _. cond_case P (nat_lt (heard_from s from) number) (serving first) (unchanged s tt)
+      (λ _. cond_case P (nat_lt (heard_from s from) number) (serving first) (becoming s)
       (λ _. serving_bounded n first (record { state = queueing_bounded from number lt small; letters = nil BoundedLetter n }))
       (λ _. as_it_was))
 
@@ -114,8 +113,8 @@ module _ (n : ℕ) (s : Node) (ok : BoundedNode n s) where
   got_bounded : (from hop : ℕ) → BoundedDone n (take_got from hop s)
   got_bounded from hop =
       let P : NodeDone (Unit {0}) → Type 0 = λ d. BoundedDone n d in
-      let first : NodeDone (Unit {0}) = unchanged (record s { unacked = None }) tt in
-      cond_case P (is_unacked s.unacked from hop) first (unchanged s tt)
+      let first : NodeDone (Unit {0}) = becoming (record s { unacked = None }) in
+      cond_case P (is_unacked s.unacked from hop) first (becoming s)
       (λ _. record {
         state = record { me = ok.me; limit = ok.limit; phase = ok.phase; holder = ok.holder; queue = ok.queue; hop = ok.hop; unacked = λ u e. absurd (none_is_no_some u e); asks = ok.asks; sent = ok.sent; heard = ok.heard; top = ok.top; mine = ok.mine };
         letters = nil BoundedLetter n;
@@ -125,15 +124,15 @@ module _ (n : ℕ) (s : Node) (ok : BoundedNode n s) where
   pub deliver_bounded : (from : ℕ) (m : RaymondMsg) → from < n → BoundedLetter n m → BoundedDone n (deliver_of from m s)
   deliver_bounded from (Request number) lt small =
       let P : NodeDone (Unit {0}) → Type 0 = λ d. BoundedDone n d in
-      cond_case P (is_neighbour s from) (take_request from number s) (unchanged s tt)
+      cond_case P (is_neighbour s from) (take_request from number s) (becoming s)
       (λ _. request_bounded from number lt small) (λ _. as_it_was)
   deliver_bounded from (Privilege hop last) lt small =
       let P : NodeDone (Unit {0}) → Type 0 = λ d. BoundedDone n d in
-      cond_case P (is_neighbour s from) (take_privilege from hop last s) (unchanged s tt)
+      cond_case P (is_neighbour s from) (take_privilege from hop last s) (becoming s)
       (λ _. privilege_bounded from hop last lt small.0 small.1) (λ _. as_it_was)
   deliver_bounded from (Got hop) lt small =
       let P : NodeDone (Unit {0}) → Type 0 = λ d. BoundedDone n d in
-      cond_case P (is_neighbour s from) (take_got from hop s) (unchanged s tt)
+      cond_case P (is_neighbour s from) (take_got from hop s) (becoming s)
       (λ _. got_bounded from hop) (λ _. as_it_was)
 
   -- enter

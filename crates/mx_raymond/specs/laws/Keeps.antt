@@ -6,19 +6,17 @@ use Rattle.mx_stamps.proofs.Lists.{in_append}
 use Rattle.mx_stamps.proofs.Choices.{lt_true, cond_case}
 use Rattle.mx_letters.specs.declared.raymond.RaymondMsg.{RaymondMsg}
 use Rattle.mx_letters.specs.declared.raymond.RaymondMsg.TheVariants.{Request, Privilege, Got}
-use Rattle.mx_nodelaws.specs.World.{World, IsNode, WasSent, after}
+use Rattle.mx_nodelaws.specs.World.{World, answering, becoming, and_then, IsNode, WasSent, after}
 use Rattle.mx_nodelaws.specs.declared.phase.Phase.TheVariants.{Inside}
 use Rattle.mx_nodelaws.proofs.Worlds.{after_twice}
 use Rattle.mx_nodelaws.proofs.Frame.{itself}
-use Rattle.mx_nodelaws.specs.Calls.{unchanged}
-use Rattle.mx_nodelaws.specs.Rows.{becoming}
 use Rattle.mx_raymond.specs.declared.unacked.Unacked.{Unacked}
 use Rattle.mx_raymond.specs.Queue.{head_of}
 use Rattle.mx_raymond.specs.Node.{Node}
-use Rattle.mx_raymond.specs.Step.{NodeDone, is_holder, has_permission, and_then, can_pass, passed, assign_privilege_to, assign_privilege, must_request, requested, make_request, serving, asking, asked, privilege_again, take_holders_request, heard_from, queueing, take_others_request, take_request, holding, acknowledging, take_privilege, is_unacked, take_got, is_neighbour, deliver_of, entering, leaving, left, withdrawing, cancelled, request_again, tick_of}
+use Rattle.mx_raymond.specs.Step.{NodeDone, is_holder, has_permission, can_pass, passed, assign_privilege_to, assign_privilege, must_request, requested, make_request, serving, asking, asked, privilege_again, take_holders_request, heard_from, queueing, take_others_request, take_request, holding, acknowledging, take_privilege, is_unacked, take_got, is_neighbour, deliver_of, entering, leaving, left, withdrawing, cancelled, request_again, tick_of}
 use Rattle.mx_raymond.specs.Good.{IsNodeOk, IsSafe}
 use Rattle.mx_raymond.specs.laws.Tests.{permission_holds, may_pass}
-use Rattle.mx_raymond.specs.laws.PrivilegeStays.{KeepsPrivilege, stays_safe, unchanged_safe}
+use Rattle.mx_raymond.specs.laws.PrivilegeStays.{KeepsPrivilege, stays_safe, still_safe}
 use Rattle.mx_raymond.specs.laws.PrivilegeMoves.{holds, passed_kept, arrived_kept, entered_kept}
 
 -- a letter that is a request is no privilege
@@ -32,7 +30,7 @@ only_got to b hop last gone (inr none) = absurd none
 
 module _ (w : World Node RaymondMsg) (i : ℕ) (s : Node) (at : IsNode w i s) (safe : IsSafe w) where
   -- a step that changes neither the privilege's place nor what is known of it, and sends nothing
-  quiet_stays : {A : Type 0} (state : Node) (answer : A) → state.me ≡ s.me → state.holder ≡ s.holder → state.hop ≡ s.hop → state.top ≡ s.top → state.mine ≡ s.mine → ((n : ℕ) → state.phase ≡ Inside n → s.phase ≡ Inside n) → ((u : Unacked) → state.unacked ≡ Some u → s.unacked ≡ Some u) → KeepsPrivilege w i s (unchanged state answer)
+  quiet_stays : {A : Type 0} (state : Node) (answer : A) → state.me ≡ s.me → state.holder ≡ s.holder → state.hop ≡ s.hop → state.top ≡ s.top → state.mine ≡ s.mine → ((n : ℕ) → state.phase ≡ Inside n → s.phase ≡ Inside n) → ((u : Unacked) → state.unacked ≡ Some u → s.unacked ≡ Some u) → KeepsPrivilege w i s (answering (becoming state) answer)
   quiet_stays state answer me holder hop top mine inside unacked = record {
     me = me;
     holder = holder;
@@ -55,16 +53,16 @@ module _ (w : World Node RaymondMsg) (i : ℕ) (s : Node) (at : IsNode w i s) (s
   -- Assign
 
   assign_to_safe : (o : Option ℕ) → IsSafe (after w i (assign_privilege_to o s))
-  assign_to_safe None = unchanged_safe w i s at {A = Unit {0}} tt safe
+  assign_to_safe None = still_safe w i s at safe
   assign_to_safe (Some next) =
       let P : NodeDone (Unit {0}) → Type 0 = λ d. IsSafe (after w i d) in
-      cond_case P (can_pass s next) (passed s next) (unchanged s tt)
+      cond_case P (can_pass s next) (passed s next) (becoming s)
       (λ e.
       let may = may_pass s next e in
       let ok : IsNodeOk w safe.highest i s = safe.at.nodes i s at in
       let h = holds w i s at safe.highest safe.at (may.holder ∙ ok.me) in
       record { highest = safe.highest + 1; at = passed_kept w i s at safe.highest safe.at next may h.0 h.1 })
-      (λ _. unchanged_safe w i s at {A = Unit {0}} tt safe)
+      (λ _. still_safe w i s at safe)
 
   assign_safe : IsSafe (after w i (assign_privilege s))
   assign_safe = assign_to_safe (head_of s.queue)
@@ -74,7 +72,7 @@ module _ (w : World Node RaymondMsg) (i : ℕ) (s : Node) (at : IsNode w i s) (s
   make_safe : IsSafe (after w i (make_request s))
   make_safe =
       let P : NodeDone (Unit {0}) → Type 0 = λ d. IsSafe (after w i d) in
-      cond_case P (must_request s) (requested s) (unchanged s tt)
+      cond_case P (must_request s) (requested s) (becoming s)
       (λ _. stays_safe w i s at (requested s) safe (record {
         me = refl;
         holder = refl;
@@ -85,7 +83,7 @@ module _ (w : World Node RaymondMsg) (i : ℕ) (s : Node) (at : IsNode w i s) (s
         unacked = λ u e. e;
         letters = λ b hop last sent. absurd (only_request s.holder b hop last (s.sent + 1) sent);
       }))
-      (λ _. unchanged_safe w i s at {A = Unit {0}} tt safe)
+      (λ _. still_safe w i s at safe)
 
 -- a safe step, and then one that keeps each world safe
 then_safe : {A : Type 0} (w : World Node RaymondMsg) (i : ℕ) (s : Node) (at : IsNode w i s) (first : NodeDone A) (second : Node → NodeDone (Unit {0})) → ((v : World Node RaymondMsg) (t : Node) → IsNode v i t → IsSafe v → IsSafe (after v i (second t))) → IsSafe (after w i first) → IsSafe (after w i (and_then first second))
@@ -102,7 +100,7 @@ module _ (w : World Node RaymondMsg) (i : ℕ) (s : Node) (at : IsNode w i s) (s
 
   pub asked_safe : IsSafe (after w i (asked s))
   asked_safe =
-      let first : NodeDone Stamp = unchanged (asking s) (record { number = s.asks + 1; node = s.me }) in
+      let first : NodeDone Stamp = answering (becoming (asking s)) (record { number = s.asks + 1; node = s.me }) in
       serving_safe w i s at first (stays_safe w i s at first safe
       (quiet_stays w i s at safe (asking s) first.answer refl refl refl refl refl (λ n f. let bad : ⊥ = cc in absurd bad) (λ u f. f)))
 
@@ -123,11 +121,11 @@ module _ (w : World Node RaymondMsg) (i : ℕ) (s : Node) (at : IsNode w i s) (s
   others_request_safe : (from number : ℕ) → IsSafe (after w i (take_others_request from number s))
   others_request_safe from number =
       let P : NodeDone (Unit {0}) → Type 0 = λ d. IsSafe (after w i d) in
-      let first : NodeDone (Unit {0}) = unchanged (queueing s from number) tt in
-      cond_case P (nat_lt (heard_from s from) number) (serving first) (unchanged s tt)
+      let first : NodeDone (Unit {0}) = becoming (queueing s from number) in
+      cond_case P (nat_lt (heard_from s from) number) (serving first) (becoming s)
       (λ _. serving_safe w i s at first (stays_safe w i s at first safe
       (quiet_stays w i s at safe (queueing s from number) tt refl refl refl refl refl (λ n f. f) (λ u f. f))))
-      (λ _. unchanged_safe w i s at {A = Unit {0}} tt safe)
+      (λ _. still_safe w i s at safe)
 
   request_safe : (from number : ℕ) → IsSafe (after w i (take_request from number s))
   request_safe from number =
@@ -163,25 +161,25 @@ module _ (w : World Node RaymondMsg) (i : ℕ) (s : Node) (at : IsNode w i s) (s
   got_safe : (from hop : ℕ) → IsSafe (after w i (take_got from hop s))
   got_safe from hop =
       let P : NodeDone (Unit {0}) → Type 0 = λ d. IsSafe (after w i d) in
-      let first : NodeDone (Unit {0}) = unchanged (record s { unacked = None }) tt in
-      cond_case P (is_unacked s.unacked from hop) first (unchanged s tt)
+      let first : NodeDone (Unit {0}) = becoming (record s { unacked = None }) in
+      cond_case P (is_unacked s.unacked from hop) first (becoming s)
       (λ _. stays_safe w i s at first safe
       (quiet_stays w i s at safe (record s { unacked = None }) tt refl refl refl refl refl (λ n f. f) (λ u f. let bad : ⊥ = cc in absurd bad)))
-      (λ _. unchanged_safe w i s at {A = Unit {0}} tt safe)
+      (λ _. still_safe w i s at safe)
 
   pub deliver_safe : (from : ℕ) (m : RaymondMsg) → WasSent w from i m → IsSafe (after w i (deliver_of from m s))
   deliver_safe from (Request number) sent =
       let P : NodeDone (Unit {0}) → Type 0 = λ d. IsSafe (after w i d) in
-      cond_case P (is_neighbour s from) (take_request from number s) (unchanged s tt)
-      (λ _. request_safe from number) (λ _. unchanged_safe w i s at {A = Unit {0}} tt safe)
+      cond_case P (is_neighbour s from) (take_request from number s) (becoming s)
+      (λ _. request_safe from number) (λ _. still_safe w i s at safe)
   deliver_safe from (Privilege hop last) sent =
       let P : NodeDone (Unit {0}) → Type 0 = λ d. IsSafe (after w i d) in
-      cond_case P (is_neighbour s from) (take_privilege from hop last s) (unchanged s tt)
-      (λ _. privilege_safe from hop last sent) (λ _. unchanged_safe w i s at {A = Unit {0}} tt safe)
+      cond_case P (is_neighbour s from) (take_privilege from hop last s) (becoming s)
+      (λ _. privilege_safe from hop last sent) (λ _. still_safe w i s at safe)
   deliver_safe from (Got hop) sent =
       let P : NodeDone (Unit {0}) → Type 0 = λ d. IsSafe (after w i d) in
-      cond_case P (is_neighbour s from) (take_got from hop s) (unchanged s tt)
-      (λ _. got_safe from hop) (λ _. unchanged_safe w i s at {A = Unit {0}} tt safe)
+      cond_case P (is_neighbour s from) (take_got from hop s) (becoming s)
+      (λ _. got_safe from hop) (λ _. still_safe w i s at safe)
 
   -- enter
 

@@ -6,11 +6,10 @@ use Rattle.mx_stamps.proofs.Lists.{dec_eq, get_each_below, length_each_below, no
 use Rattle.mx_stamps.proofs.Choices.{cond_case}
 use Rattle.mx_letters.specs.declared.raymond.RaymondMsg.{RaymondMsg}
 use Rattle.mx_letters.specs.declared.raymond.RaymondMsg.TheVariants.{Request, Privilege, Got}
-use Rattle.mx_nodelaws.specs.World.{World, IsNode}
+use Rattle.mx_nodelaws.specs.World.{World, answering, becoming, IsNode}
 use Rattle.mx_nodelaws.specs.Core.{KeepsPhases}
 use Rattle.mx_nodelaws.specs.Laws.{KeepsGood, started}
-use Rattle.mx_nodelaws.specs.Calls.{unchanged}
-use Rattle.mx_nodelaws.specs.Rows.{becoming, course_of}
+use Rattle.mx_nodelaws.specs.Rows.{course_of}
 use Rattle.mx_nodelaws.proofs.Rows.{phases_of, laws_of}
 use Rattle.mx_trees.specs.Tree.{Rooted, IsRooted}
 use Rattle.mx_raymond.specs.Queue.{head_of}
@@ -31,12 +30,12 @@ assign_to_steady : (o : Option ℕ) (s : Node) → IsSteady s (assign_privilege_
 assign_to_steady None s = refl
 assign_to_steady (Some next) s =
     let P : NodeDone (Unit {0}) → Type 0 = λ d. IsSteady s d.state in
-    cond_case P (can_pass s next) (passed s next) (unchanged s tt) (λ _. refl) (λ _. refl)
+    cond_case P (can_pass s next) (passed s next) (becoming s) (λ _. refl) (λ _. refl)
 
 make_steady : (s : Node) → IsSteady s (make_request s).state
 make_steady s =
     let P : NodeDone (Unit {0}) → Type 0 = λ d. IsSteady s d.state in
-    cond_case P (must_request s) (requested s) (unchanged s tt) (λ _. refl) (λ _. refl)
+    cond_case P (must_request s) (requested s) (becoming s) (λ _. refl) (λ _. refl)
 
 serving_steady : {A : Type 0} (step : NodeDone A) → IsSteady step.state (serving step).state
 serving_steady step = make_steady (assign_privilege step.state).state ∙ assign_to_steady (head_of step.state.queue) step.state
@@ -46,10 +45,10 @@ serving_steady step = make_steady (assign_privilege step.state).state ∙ assign
 request_steady : (from number : ℕ) (s : Node) → IsSteady s (take_request from number s).state
 request_steady from number s =
     let P : NodeDone (Unit {0}) → Type 0 = λ d. IsSteady s d.state in
-    let first : NodeDone (Unit {0}) = unchanged (queueing s from number) tt in
+    let first : NodeDone (Unit {0}) = becoming (queueing s from number) in
     cond_case P (nat_eq from s.holder) (take_holders_request s) (take_others_request from number s)
     (λ _. refl)
-    (λ _. cond_case P (nat_lt (heard_from s from) number) (serving first) (unchanged s tt)
+    (λ _. cond_case P (nat_lt (heard_from s from) number) (serving first) (becoming s)
     (λ _. serving_steady first) (λ _. refl))
 
 privilege_steady : (from hop last : ℕ) (s : Node) → IsSteady s (take_privilege from hop last s).state
@@ -62,24 +61,24 @@ privilege_steady from hop last s =
 got_steady : (from hop : ℕ) (s : Node) → IsSteady s (take_got from hop s).state
 got_steady from hop s =
     let P : NodeDone (Unit {0}) → Type 0 = λ d. IsSteady s d.state in
-    cond_case P (is_unacked s.unacked from hop) (unchanged (record s { unacked = None }) tt) (unchanged s tt)
+    cond_case P (is_unacked s.unacked from hop) (becoming (record s { unacked = None })) (becoming s)
     (λ _. refl) (λ _. refl)
 
 deliver_steady : (from : ℕ) (m : RaymondMsg) (s : Node) → IsSteady s (deliver_of from m s).state
 deliver_steady from (Request number) s =
     let P : NodeDone (Unit {0}) → Type 0 = λ d. IsSteady s d.state in
-    cond_case P (is_neighbour s from) (take_request from number s) (unchanged s tt) (λ _. request_steady from number s) (λ _. refl)
+    cond_case P (is_neighbour s from) (take_request from number s) (becoming s) (λ _. request_steady from number s) (λ _. refl)
 deliver_steady from (Privilege hop last) s =
     let P : NodeDone (Unit {0}) → Type 0 = λ d. IsSteady s d.state in
-    cond_case P (is_neighbour s from) (take_privilege from hop last s) (unchanged s tt) (λ _. privilege_steady from hop last s) (λ _. refl)
+    cond_case P (is_neighbour s from) (take_privilege from hop last s) (becoming s) (λ _. privilege_steady from hop last s) (λ _. refl)
 deliver_steady from (Got hop) s =
     let P : NodeDone (Unit {0}) → Type 0 = λ d. IsSteady s d.state in
-    cond_case P (is_neighbour s from) (take_got from hop s) (unchanged s tt) (λ _. got_steady from hop s) (λ _. refl)
+    cond_case P (is_neighbour s from) (take_got from hop s) (becoming s) (λ _. got_steady from hop s) (λ _. refl)
 
 pub raymond_phases : KeepsPhases raymond_core
 raymond_phases = phases_of raymond_rows (record {
   start = λ tree i origin limit. refl;
-  ask = λ s. let first : NodeDone Stamp = unchanged (asking s) (record { number = s.asks + 1; node = s.me }) in serving_steady first;
+  ask = λ s. let first : NodeDone Stamp = answering (becoming (asking s)) (record { number = s.asks + 1; node = s.me }) in serving_steady first;
   deliver = deliver_steady;
   enter = λ s. refl;
   leave = λ s. let first : NodeDone (Unit {0}) = becoming (leaving s) in serving_steady first;

@@ -4,11 +4,10 @@ use Rattle.mx_stamps.specs.Lists.{IsIn}
 use Rattle.mx_stamps.proofs.Lists.{dec_eq, get_after}
 use Rattle.mx_letters.specs.declared.raymond.RaymondMsg.{RaymondMsg}
 use Rattle.mx_letters.specs.declared.raymond.RaymondMsg.TheVariants.{Request, Privilege, Got}
-use Rattle.mx_nodelaws.specs.World.{World, Done, IsNode, WasSent, after}
+use Rattle.mx_nodelaws.specs.World.{World, Done, becoming, IsNode, WasSent, after}
 use Rattle.mx_nodelaws.specs.declared.phase.Phase.TheVariants.{Inside}
-use Rattle.mx_nodelaws.proofs.Worlds.{after_nothing}
+use Rattle.mx_nodelaws.proofs.Worlds.{nothing_kept}
 use Rattle.mx_nodelaws.proofs.Frame.{is_new, is_old, here_after, sent_after, sent_before}
-use Rattle.mx_nodelaws.specs.Calls.{unchanged}
 use Rattle.mx_raymond.specs.declared.unacked.Unacked.{Unacked}
 use Rattle.mx_raymond.specs.Node.{Node}
 use Rattle.mx_raymond.specs.Good.{IsReached, IsLast, HasSeen, IsPrivilegeOk, IsLetterOk, IsHeld, IsUnderWay, IsSafeAt, IsSafe}
@@ -112,5 +111,5 @@ module _ (w : World Node RaymondMsg) (i : ℕ) (s : Node) (at : IsNode w i s) wh
   stays_safe done safe stays = record { highest = safe.highest; at = stays_kept done safe.highest safe.at stays }
 
   -- a refusal
-  pub unchanged_safe : {A : Type 0} (answer : A) → IsSafe w → IsSafe (after w i (unchanged s answer))
-  unchanged_safe answer safe = subst (λ x. IsSafe x) (sym (after_nothing w i s answer at)) safe
+  pub still_safe : IsSafe w → IsSafe (after w i (becoming s))
+  still_safe safe = nothing_kept {A = Unit {0}} IsSafe w i s tt safe at

@@ -6,11 +6,11 @@ use Rattle.mx_stamps.specs.Numbers.{last_number}
 use Rattle.mx_letters.specs.declared.raymond.RaymondMsg.TheVariants.{Request, Privilege}
 use Rattle.mx_nodelaws.proofs.Bounds.{nil, one, both}
 use Rattle.mx_nodelaws.specs.Bounds.{IsBoundedDone}
-use Rattle.mx_nodelaws.specs.Calls.{unchanged}
+use Rattle.mx_nodelaws.specs.World.{becoming, and_then}
 use Rattle.mx_raymond.specs.declared.unacked.Unacked.{Unacked}
 use Rattle.mx_raymond.specs.Queue.{head_of}
 use Rattle.mx_raymond.specs.Node.{Node}
-use Rattle.mx_raymond.specs.Step.{NodeDone, and_then, can_pass, passed, assign_privilege_to, assign_privilege, must_request, requested, make_request, serving}
+use Rattle.mx_raymond.specs.Step.{NodeDone, can_pass, passed, assign_privilege_to, assign_privilege, must_request, requested, make_request, serving}
 use Rattle.mx_raymond.specs.Good.{BoundedLetter, BoundedUnacked, BoundedNode}
 use Rattle.mx_raymond.specs.laws.Tests.{queued_behind, queued_head, may_pass, may_request}
 
@@ -19,8 +19,8 @@ abbrev pub BoundedDone : {A : Type 0} → ℕ → NodeDone A → Type 0
 BoundedDone n step = IsBoundedDone BoundedNode BoundedLetter n step
 
 module _ (n : ℕ) where
-  unchanged_bounded : {A : Type 0} (s : Node) (answer : A) → BoundedNode n s → BoundedDone n (unchanged s answer)
-  unchanged_bounded s answer ok = record { state = ok; letters = nil BoundedLetter n }
+  still_bounded : (s : Node) → BoundedNode n s → BoundedDone {A = Unit {0}} n (becoming s)
+  still_bounded s ok = record { state = ok; letters = nil BoundedLetter n }
 
   passed_bounded : (s : Node) (next : ℕ) → next < n → s.hop < last_number → BoundedNode n s → BoundedDone n (passed s next)
   passed_bounded s next lt low ok = record {
@@ -42,12 +42,12 @@ module _ (n : ℕ) where
   }
 
   assign_to_bounded : (o : Option ℕ) (s : Node) → head_of s.queue ≡ o → BoundedNode n s → BoundedDone n (assign_privilege_to o s)
-  assign_to_bounded None s e ok = unchanged_bounded s tt ok
+  assign_to_bounded None s e ok = still_bounded s ok
   assign_to_bounded (Some next) s e ok =
       let P : NodeDone (Unit {0}) → Type 0 = λ d. BoundedDone n d in
-      cond_case P (can_pass s next) (passed s next) (unchanged s tt)
+      cond_case P (can_pass s next) (passed s next) (becoming s)
       (λ can. passed_bounded s next (ok.queue next (queued_head s.queue next e)) (may_pass s next can).hop ok)
-      (λ _. unchanged_bounded {A = Unit {0}} s tt ok)
+      (λ _. still_bounded s ok)
 
   assign_bounded : (s : Node) → BoundedNode n s → BoundedDone n (assign_privilege s)
   assign_bounded s ok = assign_to_bounded (head_of s.queue) s refl ok
@@ -61,9 +61,9 @@ module _ (n : ℕ) where
   make_bounded : (s : Node) → BoundedNode n s → BoundedDone n (make_request s)
   make_bounded s ok =
       let P : NodeDone (Unit {0}) → Type 0 = λ d. BoundedDone n d in
-      cond_case P (must_request s) (requested s) (unchanged s tt)
+      cond_case P (must_request s) (requested s) (becoming s)
       (λ must. requested_bounded s (may_request s must) ok)
-      (λ _. unchanged_bounded {A = Unit {0}} s tt ok)
+      (λ _. still_bounded s ok)
 
   then_bounded : {A : Type 0} (first : NodeDone A) (second : Node → NodeDone (Unit {0})) → ((s : Node) → BoundedNode n s → BoundedDone n (second s)) → BoundedDone n first → BoundedDone n (and_then first second)
   then_bounded first second keeps ok =

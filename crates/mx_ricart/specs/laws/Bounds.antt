@@ -8,10 +8,9 @@ use Rattle.mx_stamps.proofs.Choices.{cond_case}
 use Rattle.mx_stamps.specs.Numbers.{last_number}
 use Rattle.mx_letters.specs.declared.ricart.RicartMsg.{RicartMsg}
 use Rattle.mx_letters.specs.declared.ricart.RicartMsg.TheVariants.{Request, Reply}
-use Rattle.mx_nodelaws.specs.World.{Done, addressed}
+use Rattle.mx_nodelaws.specs.World.{Done, becoming, addressed}
 use Rattle.mx_nodelaws.specs.Phases.{is_busy, is_waiting}
 use Rattle.mx_nodelaws.specs.Bounds.{IsU64, BoundedStamp, AreBounded, IsBoundedDone}
-use Rattle.mx_nodelaws.specs.Calls.{unchanged}
 use Rattle.mx_nodelaws.proofs.Worlds.{in_addressed}
 use Rattle.mx_nodelaws.proofs.Bounds.{nil, one}
 use Rattle.mx_nodelaws.proofs.Sent.{sent_unless}
@@ -25,7 +24,7 @@ abbrev pub BoundedDone : {A : Type 0} → ℕ → Done Node A RicartMsg → Type
 BoundedDone n done = IsBoundedDone BoundedNode BoundedLetter n done
 
 module _ (n : ℕ) (s : Node) (ok : BoundedNode n s) where
-  as_was : BoundedDone {A = Unit {0}} n (unchanged s tt)
+  as_was : BoundedDone {A = Unit {0}} n (becoming s)
   as_was = record { state = ok; letters = nil BoundedLetter n }
 
   -- a request to some nodes of the cluster
@@ -57,7 +56,7 @@ module _ (n : ℕ) (s : Node) (ok : BoundedNode n s) where
   request_bounded : (stamp : Stamp) → BoundedStamp n stamp → BoundedDone {A = Unit {0}} n (take_request s stamp)
   request_bounded stamp bounded =
       let seen : IsU64 (max s.highest stamp.number) = (let a = ok.highest in let b = bounded.0 in omega arith) in
-      cond_case (λ d. BoundedDone {A = Unit {0}} n d) (is_busy s.phase && is_before_of s.ours stamp) (unchanged (deferring (seeing s stamp.number) stamp) tt) (replied (seeing s stamp.number) stamp)
+      cond_case (λ d. BoundedDone {A = Unit {0}} n d) (is_busy s.phase && is_before_of s.ours stamp) (becoming (deferring (seeing s stamp.number) stamp)) (replied (seeing s stamp.number) stamp)
       (λ _. record {
         state = record { me = ok.me; count = ok.count; limit = ok.limit; phase = ok.phase; highest = seen; ours = ok.ours; waits = waits_bounded stamp bounded; top = ok.top; mine = ok.mine };
         letters = nil BoundedLetter n;
@@ -71,7 +70,7 @@ module _ (n : ℕ) (s : Node) (ok : BoundedNode n s) where
 
   reply_bounded : (from : ℕ) (stamp : Stamp) (top : ℕ) → IsU64 top → BoundedDone {A = Unit {0}} n (take_reply s from stamp top)
   reply_bounded from stamp top small =
-      cond_case (λ d. BoundedDone {A = Unit {0}} n d) (is_waiting s.phase && (is_same_as stamp s.ours && not (has_reply s from))) (unchanged (counting s from top) tt) (unchanged s tt)
+      cond_case (λ d. BoundedDone {A = Unit {0}} n d) (is_waiting s.phase && (is_same_as stamp s.ours && not (has_reply s from))) (becoming (counting s from top)) (becoming s)
       (λ _. record {
         state = record { me = ok.me; count = ok.count; limit = ok.limit; phase = ok.phase; highest = ok.highest; ours = ok.ours; waits = ok.waits; top = (let k = ok.top in omega arith); mine = ok.mine };
         letters = nil BoundedLetter n;
@@ -80,10 +79,10 @@ module _ (n : ℕ) (s : Node) (ok : BoundedNode n s) where
 
   pub deliver_bounded : (from : ℕ) (m : RicartMsg) → BoundedLetter n m → BoundedDone {A = Unit {0}} n (deliver_of from m s)
   deliver_bounded from (Request stamp) bounded =
-      cond_case (λ d. BoundedDone {A = Unit {0}} n d) (is_other s from && nat_eq stamp.node from) (take_request s stamp) (unchanged s tt)
+      cond_case (λ d. BoundedDone {A = Unit {0}} n d) (is_other s from && nat_eq stamp.node from) (take_request s stamp) (becoming s)
       (λ _. request_bounded stamp bounded) (λ _. as_was)
   deliver_bounded from (Reply stamp top) bounded =
-      cond_case (λ d. BoundedDone {A = Unit {0}} n d) (is_other s from) (take_reply s from stamp top) (unchanged s tt)
+      cond_case (λ d. BoundedDone {A = Unit {0}} n d) (is_other s from) (take_reply s from stamp top) (becoming s)
       (λ _. reply_bounded from stamp top bounded.1) (λ _. as_was)
 
   -- enter
@@ -109,7 +108,7 @@ module _ (n : ℕ) (s : Node) (ok : BoundedNode n s) where
 
   pub tick_bounded : BoundedDone {A = Unit {0}} n (tick_of s)
   tick_bounded =
-      cond_case (λ d. BoundedDone {A = Unit {0}} n d) (is_waiting s.phase) (ticked s) (unchanged s tt)
+      cond_case (λ d. BoundedDone {A = Unit {0}} n d) (is_waiting s.phase) (ticked s) (becoming s)
       (λ _. record { state = ok; letters = requests_bounded s.ours ok.ours (λ j. nat_eq j s.me || has_reply s j) }) (λ _. as_was)
 
 -- a node at rest

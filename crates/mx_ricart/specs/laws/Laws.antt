@@ -6,11 +6,10 @@ use Rattle.mx_stamps.proofs.Lists.{length_each_below}
 use Rattle.mx_stamps.proofs.Choices.{cond_case}
 use Rattle.mx_letters.specs.declared.ricart.RicartMsg.{RicartMsg}
 use Rattle.mx_letters.specs.declared.ricart.RicartMsg.TheVariants.{Request, Reply}
-use Rattle.mx_nodelaws.specs.World.{World, Done}
+use Rattle.mx_nodelaws.specs.World.{World, Done, becoming}
 use Rattle.mx_nodelaws.specs.Core.{KeepsPhases}
 use Rattle.mx_nodelaws.specs.Laws.{KeepsGood, started}
 use Rattle.mx_nodelaws.specs.Phases.{is_busy, is_waiting}
-use Rattle.mx_nodelaws.specs.Calls.{unchanged}
 use Rattle.mx_nodelaws.specs.Rows.{course_of}
 use Rattle.mx_nodelaws.proofs.Each.{each_at_start, each_again}
 use Rattle.mx_nodelaws.proofs.Rows.{phases_of, laws_of}
@@ -29,12 +28,12 @@ IsSteady s done = course_of ricart_rows done.state ≡ course_of ricart_rows s
 
 deliver_steady : (from : ℕ) (m : RicartMsg) (s : Node) → IsSteady s (deliver_of from m s)
 deliver_steady from (Request stamp) s =
-    cond_case (IsSteady s) (is_other s from && nat_eq stamp.node from) (take_request s stamp) (unchanged s tt)
-    (λ _. cond_case (IsSteady s) (is_busy s.phase && is_before_of s.ours stamp) (unchanged (deferring (seeing s stamp.number) stamp) tt) (replied (seeing s stamp.number) stamp) (λ _. refl) (λ _. refl))
+    cond_case (IsSteady s) (is_other s from && nat_eq stamp.node from) (take_request s stamp) (becoming s)
+    (λ _. cond_case (IsSteady s) (is_busy s.phase && is_before_of s.ours stamp) (becoming (deferring (seeing s stamp.number) stamp)) (replied (seeing s stamp.number) stamp) (λ _. refl) (λ _. refl))
     (λ _. refl)
 deliver_steady from (Reply stamp top) s =
-    cond_case (IsSteady s) (is_other s from) (take_reply s from stamp top) (unchanged s tt)
-    (λ _. cond_case (IsSteady s) (is_waiting s.phase && (is_same_as stamp s.ours && not (has_reply s from))) (unchanged (counting s from top) tt) (unchanged s tt) (λ _. refl) (λ _. refl))
+    cond_case (IsSteady s) (is_other s from) (take_reply s from stamp top) (becoming s)
+    (λ _. cond_case (IsSteady s) (is_waiting s.phase && (is_same_as stamp s.ours && not (has_reply s from))) (becoming (counting s from top)) (becoming s) (λ _. refl) (λ _. refl))
     (λ _. refl)
 
 pub ricart_phases : KeepsPhases ricart_core
@@ -45,7 +44,7 @@ ricart_phases = phases_of ricart_rows (record {
   enter = λ s. refl;
   leave = λ s. refl;
   cancel = λ s. refl;
-  tick = λ s. cond_case (IsSteady s) (is_waiting s.phase) (ticked s) (unchanged s tt) (λ _. refl) (λ _. refl);
+  tick = λ s. cond_case (IsSteady s) (is_waiting s.phase) (ticked s) (becoming s) (λ _. refl) (λ _. refl);
 })
 
 -- the world at rest

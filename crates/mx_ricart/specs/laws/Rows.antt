@@ -10,15 +10,13 @@ use Rattle.mx_stamps.proofs.Choices.{eq_true, and_true, and_false, cond_case}
 use Rattle.mx_stamps.proofs.Stamps.{not_before, same_stamp}
 use Rattle.mx_letters.specs.declared.ricart.RicartMsg.{RicartMsg}
 use Rattle.mx_letters.specs.declared.ricart.RicartMsg.TheVariants.{Request, Reply}
-use Rattle.mx_nodelaws.specs.World.{World, Done, IsNode, WasSent, after}
+use Rattle.mx_nodelaws.specs.World.{World, Done, becoming, IsNode, WasSent, after}
 use Rattle.mx_nodelaws.specs.declared.phase.Phase.TheVariants.{Idle, Waiting}
 use Rattle.mx_nodelaws.proofs.Frame.{is_new, reached_max}
 use Rattle.mx_nodelaws.proofs.Worlds.{in_addressed, nothing_kept}
 use Rattle.mx_nodelaws.specs.Phases.{is_busy, is_waiting}
 use Rattle.mx_nodelaws.proofs.Phases.{waiting_not_inside, waiting_is, idle_not_busy}
 use Rattle.mx_nodelaws.proofs.Sent.{sent_unless}
-use Rattle.mx_nodelaws.specs.Calls.{unchanged}
-use Rattle.mx_nodelaws.specs.Rows.{becoming}
 use Rattle.mx_ricart.specs.Node.{Node}
 use Rattle.mx_ricart.specs.Step.{is_other, has_reply, deferred_at, HasAllReplies, asking, request_others, asked, seeing, later_of, deferring, replied, take_request, counting, take_reply, deliver_of, entering, ending, reply_to, reply_deferred, ended, request_missing, ticked, tick_of}
 use Rattle.mx_ricart.specs.Good.{IsBusy, HasSeen, IsReached, IsNodeOk, IsRequestOk, IsReplyOk, IsLetterOk, IsSafe}
@@ -48,7 +46,7 @@ module _ (w : World Node RicartMsg) (i : ℕ) (s : Node) (good : IsSafe w) (at :
   was_ok = good.nodes i s at
 
   -- a letter that no row fits
-  ignored : IsSafe (after w i (unchanged {A = Unit {0}} s tt))
+  ignored : IsSafe (after w i (becoming s))
   ignored = nothing_kept {A = Unit {0}} IsSafe w i s tt good at
 
   -- the node itself after its step
@@ -100,10 +98,10 @@ module _ (w : World Node RicartMsg) (i : ℕ) (s : Node) (good : IsSafe w) (at :
       (λ _. (λ f. other (sym node ∙ sym e ∙ f), sym e, omega arith, subst (λ x. HasSeen (after w i done) x stamp.number) (sym (e ∙ node)) (seen_after w i s done good at moves from stamp.number ok.issued)))
       (λ _. (λ f. r.0 (sym e ∙ f), r.1 ∙ sym e, (let le : old.number ≤ s.highest = r.2 in omega arith), subst (λ x. HasSeen (after w i done) x old.number) (sym e) (seen_after w i s done good at moves stamp.node old.number r.3))))
 
-  deferred_good : (from : ℕ) (stamp : Stamp) → from ≢ i → stamp.node ≡ from → IsRequestOk w from stamp → IsSafe (after w i (unchanged {A = Unit {0}} (deferring (seeing s stamp.number) stamp) tt))
+  deferred_good : (from : ℕ) (stamp : Stamp) → from ≢ i → stamp.node ≡ from → IsRequestOk w from stamp → IsSafe (after w i (becoming (deferring (seeing s stamp.number) stamp)))
   deferred_good from stamp other node ok =
       let new : Node = deferring (seeing s stamp.number) stamp in
-      let done : Done Node (Unit {0}) RicartMsg = unchanged new tt in
+      let done : Done Node (Unit {0}) RicartMsg = becoming new in
       let moves = saw_moves stamp.number new refl refl refl refl in
       let kept = other_after w i s done good at moves i s was_ok in
       good_after w i s done good at moves
@@ -163,15 +161,15 @@ module _ (w : World Node RicartMsg) (i : ℕ) (s : Node) (good : IsSafe w) (at :
 
   request_good : (from : ℕ) (stamp : Stamp) → from ≢ i → stamp.node ≡ from → IsRequestOk w from stamp → IsSafe (after w i (take_request s stamp))
   request_good from stamp other node ok =
-      cond_case (λ d. IsSafe (after w i d)) (is_busy s.phase && is_before_of s.ours stamp) (unchanged (deferring (seeing s stamp.number) stamp) tt) (replied (seeing s stamp.number) stamp)
+      cond_case (λ d. IsSafe (after w i d)) (is_busy s.phase && is_before_of s.ours stamp) (becoming (deferring (seeing s stamp.number) stamp)) (replied (seeing s stamp.number) stamp)
       (λ _. deferred_good from stamp other node ok) (λ free. replied_good from stamp other node ok free)
 
   -- a reply comes
 
-  counted_good : (from : ℕ) (stamp : Stamp) (top : ℕ) → s.phase ≡ Waiting → stamp ≡ s.ours → WasSent w from i (Reply stamp top) → IsSafe (after w i (unchanged {A = Unit {0}} (counting s from top) tt))
+  counted_good : (from : ℕ) (stamp : Stamp) (top : ℕ) → s.phase ≡ Waiting → stamp ≡ s.ours → WasSent w from i (Reply stamp top) → IsSafe (after w i (becoming (counting s from top)))
   counted_good from stamp top waiting same sent =
       let new : Node = counting s from top in
-      let done : Done Node (Unit {0}) RicartMsg = unchanged new tt in
+      let done : Done Node (Unit {0}) RicartMsg = becoming new in
       let moves : MovesForward w i s new = record { highest = omega arith; mine = omega arith; stamp = λ busy. inl (busy, refl); entry = inl refl } in
       let kept = other_after w i s done good at moves i s was_ok in
       let letter : IsReplyOk w from i stamp top = good.letters from i (Reply stamp top) sent in
@@ -194,7 +192,7 @@ module _ (w : World Node RicartMsg) (i : ℕ) (s : Node) (good : IsSafe w) (at :
 
   reply_good : (from : ℕ) (stamp : Stamp) (top : ℕ) → WasSent w from i (Reply stamp top) → IsSafe (after w i (take_reply s from stamp top))
   reply_good from stamp top sent =
-      cond_case (λ d. IsSafe (after w i d)) (is_waiting s.phase && (is_same_as stamp s.ours && not (has_reply s from))) (unchanged (counting s from top) tt) (unchanged s tt)
+      cond_case (λ d. IsSafe (after w i d)) (is_waiting s.phase && (is_same_as stamp s.ours && not (has_reply s from))) (becoming (counting s from top)) (becoming s)
       (λ e.
       let p = and_true (is_waiting s.phase) (is_same_as stamp s.ours && not (has_reply s from)) e in
       let q = and_true (is_same_as stamp s.ours) (not (has_reply s from)) p.1 in
@@ -203,12 +201,12 @@ module _ (w : World Node RicartMsg) (i : ℕ) (s : Node) (good : IsSafe w) (at :
 
   pub deliver_good : (from : ℕ) (m : RicartMsg) → WasSent w from i m → IsSafe (after w i (deliver_of from m s))
   deliver_good from (Request stamp) sent =
-      cond_case (λ d. IsSafe (after w i d)) (is_other s from && nat_eq stamp.node from) (take_request s stamp) (unchanged s tt)
+      cond_case (λ d. IsSafe (after w i d)) (is_other s from && nat_eq stamp.node from) (take_request s stamp) (becoming s)
       (λ e. let p = and_true (is_other s from) (nat_eq stamp.node from) e in
       request_good from stamp (λ f. (other_is s from p.0).1 (f ∙ sym was_ok.me)) (eq_true stamp.node from p.1) (good.letters from i (Request stamp) sent))
       (λ _. ignored)
   deliver_good from (Reply stamp top) sent =
-      cond_case (λ d. IsSafe (after w i d)) (is_other s from) (take_reply s from stamp top) (unchanged s tt)
+      cond_case (λ d. IsSafe (after w i d)) (is_other s from) (take_reply s from stamp top) (becoming s)
       (λ _. reply_good from stamp top sent) (λ _. ignored)
 
   -- enter
@@ -282,5 +280,5 @@ module _ (w : World Node RicartMsg) (i : ℕ) (s : Node) (good : IsSafe w) (at :
 
   pub tick_good : IsSafe (after w i (tick_of s))
   tick_good =
-      cond_case (λ d. IsSafe (after w i d)) (is_waiting s.phase) (ticked s) (unchanged s tt)
+      cond_case (λ d. IsSafe (after w i d)) (is_waiting s.phase) (ticked s) (becoming s)
       (λ e. ticked_good (waiting_busy (waiting_is s.phase e))) (λ _. ignored)

@@ -3,11 +3,10 @@ use Rattle.std.proofs.Common.{ℕ, ◌≡◌, List, [], ◌∷◌, Some, length,
 use Rattle.std.proofs.lemmas.Option.{same_Some, slice_get_within}
 use Rattle.mx_stamps.specs.Lists.{IsIn, greatest}
 use Rattle.mx_stamps.proofs.Lists.{append_nil, length_each_below, length_set, none_is_no_some}
-use Rattle.mx_nodelaws.specs.World.{World, IsNode, after}
+use Rattle.mx_nodelaws.specs.World.{World, becoming, IsNode, after}
 use Rattle.mx_nodelaws.specs.Core.{KeepsPhases}
 use Rattle.mx_nodelaws.specs.Laws.{KeepsGood}
 use Rattle.mx_nodelaws.specs.Bounds.{IsBoundedDone}
-use Rattle.mx_nodelaws.specs.Rows.{becoming}
 use Rattle.mx_nodelaws.proofs.Phases.{waiting_not_inside}
 use Rattle.mx_nodelaws.proofs.Bounds.{nil}
 use Rattle.mx_nodelaws.proofs.Rows.{phases_of, laws_of}
@@ -64,11 +63,11 @@ solo_laws = laws_of (solo_rows 1) IsOne IsSafe BoundedNode BoundedLetter
       top_greatest = λ w i s safe at waiting granted. only_mine w.nodes s safe.alone (subst (λ k. slice_get w.nodes k ≡ Some s) (zeroth w i s safe at) at);
     })
     (record {
-      start = λ shape origin limit i valid small high lt. record { me = lt; limit = omega arith; mine = omega arith };
-      ask = λ n s ok low. record { state = record { me = ok.me; limit = ok.limit; mine = ok.mine }; letters = nil BoundedLetter n };
+      start = λ shape origin limit i valid small high lt. record { me = lt; limit = omega arith; phase = tt; mine = omega arith };
+      ask = λ n s ok low. record { state = record { me = ok.me; limit = ok.limit; phase = tt; mine = ok.mine }; letters = nil BoundedLetter n };
       deliver = λ n s ok from m lt small. quiet_bounded n s ok;
-      enter = λ n s ok lt. record { me = ok.me; limit = ok.limit; mine = (let k = ok.limit in omega arith) };
-      leave = λ n s ok. quiet_bounded n (rested s).state (record { me = ok.me; limit = ok.limit; mine = ok.mine });
-      cancel = λ n s ok. quiet_bounded n (rested s).state (record { me = ok.me; limit = ok.limit; mine = ok.mine });
+      enter = λ n s ok lt. let k = ok.limit in record { me = ok.me; limit = ok.limit; phase = omega arith; mine = omega arith };
+      leave = λ n s ok. quiet_bounded n (rested s).state (record { me = ok.me; limit = ok.limit; phase = tt; mine = ok.mine });
+      cancel = λ n s ok. quiet_bounded n (rested s).state (record { me = ok.me; limit = ok.limit; phase = tt; mine = ok.mine });
       tick = λ n s ok. quiet_bounded n s ok;
     })
