@@ -1,4 +1,5 @@
-//! The words, the files and the streams of the process, as the commands take them.
+//! Where the commands take named bytes from and where their texts go; and the words, the files and the streams
+//! of the process, as the programs take them.
 #![tactic(auto)]
 
 mod counted;
