@@ -1,12 +1,12 @@
 -- Rows of marks: where nothing is marked, and what one more write does.
 use Rattle.std.proofs.Common.{ℕ, zero, suc, ◌+◌, ◌<◌, ◌≡◌, ◌⊎◌, inl, inr, ◌↔◌, Bool, true, false, List, [], ◌∷◌, length, get_or, set, replicate, refl, sym, subst, arith, ◌≤◌, Option, Some, None, MatchOption, IsSome}
-use Rattle.std.proofs.lemmas.List.{get_or-set_same, get_or-set_other}
+use Rattle.std.proofs.lemmas.List.{get_or-set_same, get_or-set_other, length-set}
 use Rattle.mx_stamps.proofs.Lists.{dec_eq, get_or_replicate}
 use Rattle.mx_quorums.specs.Rows.{IsMarked, IsMember, BothMark, MarksNodes}
 use Rattle.mx_quorums.specs.Rules.{IsLeast, AllOwn, AllMeet}
 use Rattle.mx_quorums.specs.Family.{IsMeeting}
 
--- a mark stands within the row
+-- a mark is within the row
 pub marked_within : (row : List Bool) (j : ℕ) → IsMarked row j → j < length row
 marked_within [] j h = let bad : ⊥ = cc in absurd bad
 marked_within (b ∷ row) zero h = omega arith
@@ -36,12 +36,27 @@ one_more Q d P xs i x lt before here k = elim (dec_eq k i) [
       ((λ h. let b = (before k).0 (subst Q other h) in (omega (arith, b.0), b.1)), (λ p. subst Q (sym other) ((before k).1 (omega (arith, p.0, ne), p.1))))
 ]
 
+-- the rows below i mark what P says of them, and the others mark nothing
+pub record AreRowsBelow (P : ℕ → ℕ → Type 0) (i : ℕ) (rows : List (List Bool)) : Type 0 where
+  pub long : length rows ≡ 21
+  pub marks : (k j : ℕ) → IsMember rows k j ↔ ((k < i) × P k j)
+
+-- no row yet
+pub no_row : (P : ℕ → ℕ → Type 0) → AreRowsBelow P 0 (replicate 21 (replicate 21 false))
+no_row P = record {
+  long = refl;
+  marks = λ k j. ((λ h. absurd (none_in_rows 21 21 k j h)), (λ p. absurd (omega (arith, p.0))));
+}
+
 -- one more row
 pub one_more_row : (P : ℕ → ℕ → Type 0) (rows : List (List Bool)) (i : ℕ) (row : List Bool)
-    → i < length rows → ((k j : ℕ) → IsMember rows k j ↔ ((k < i) × P k j))
-    → ((j : ℕ) → IsMarked row j ↔ P i j) → (k j : ℕ)
-    → IsMember (set rows i row) k j ↔ ((k < i + 1) × P k j)
-one_more_row P rows i row lt before here k j = one_more (λ r. IsMarked r j) [] (λ m. P m j) rows i row lt (λ m. before m j) (here j) k
+    → i < 21 → AreRowsBelow P i rows
+    → ((j : ℕ) → IsMarked row j ↔ P i j) → AreRowsBelow P (i + 1) (set rows i row)
+one_more_row P rows i row lt before here =
+    let long = before.long in record {
+      long = simp length-set long;
+      marks = λ k j. one_more (λ r. IsMarked r j) [] (λ m. P m j) rows i row (omega arith) (λ m. before.marks m j) (here j) k;
+    }
 
 -- one more mark
 pub marked_more : (P : ℕ → Type 0) (row : List Bool) (p : ℕ) → p < length row

@@ -26,7 +26,7 @@ accepts : (n : ℕ) (marks : List (List Bool)) → AllOwn (IsMember marks) n →
 accepts n marks own meet (Ok q) h = refl
 accepts n marks own meet (Err f) h = absurd (rows_no_fault n marks f own meet h)
 
--- the node in the row of i and in the column of j stands in the sets of both
+-- the node in the row of i and in the column of j is in the sets of both
 grid_meet : (height cols i j : ℕ) → 0 < cols → i < height * cols → j < height * cols
     → (a : ℕ) × IsInLine (height * cols) cols i a × IsInLine (height * cols) cols j a
 grid_meet height cols i j some lt lt2 =

@@ -1,5 +1,6 @@
 -- A family of arbiter sets of which any two meet (Maekawa 1985).
 use Rattle.std.specs.Prelude.{ℕ, ◌<◌, ◌≤◌, ◌≡◌, Bool, true, false, List, [], slice_index_or}
+use Rattle.mx_stamps.specs.declared.limits.TheConstants.{MOST_NODES}
 
 -- how many nodes there are, and for each node a row that marks the nodes of its set
 pub record Family : Type 0 where
@@ -16,10 +17,11 @@ has_of f i j = slice_index_or (row_of f i) j false
 -- any two sets meet, and each has nodes alone and its own node
 pub record IsMeeting (f : Family) : Type 0 where
   pub some : 0 < f.count
-  pub few : f.count ≤ 21
+  pub few : f.count ≤ MOST_NODES
   pub own : (i : ℕ) → i < f.count → has_of f i i ≡ true
   pub nodes : (i j : ℕ) → i < f.count → has_of f i j ≡ true → j < f.count
-  pub meet : (i j : ℕ) → i < f.count → j < f.count → (a : ℕ) × (has_of f i a ≡ true) × (has_of f j a ≡ true)
+  pub meet : (i j : ℕ) → i < f.count → j < f.count →
+      (a : ℕ) × (has_of f i a ≡ true) × (has_of f j a ≡ true)
 
 -- a number that is no node has no set, and is in none
 pub record IsWithin (f : Family) : Type 0 where

@@ -3,18 +3,19 @@ use Rattle.std.specs.Prelude.{ℕ, ◌+◌, ◌*◌, ◌/◌, ◌%◌, ◌<◌, 
 use Rattle.mx_stamps.specs.Lists.{IsIn}
 use Rattle.mx_quorums.specs.Family.{Family, has_of}
 
--- two nodes stand in one row, or in one column
+-- two nodes are in one row, or in one column
 abbrev pub ShareLine : ℕ → ℕ → ℕ → Type 0
 ShareLine cols i j = (i / cols ≡ j / cols) ⊎ (i % cols ≡ j % cols)
 
--- node j, of n nodes, stands in the row or in the column of node i
+-- node j, of n nodes, is in the row or in the column of node i
 abbrev pub IsInLine : ℕ → ℕ → ℕ → ℕ → Type 0
 IsInLine n cols i j = (j < n) × ShareLine cols i j
 
 -- each node's set is its row and its column
 pub record IsGrid (rows cols : ℕ) (f : Family) : Type 0 where
   pub count : f.count ≡ rows * cols
-  pub sets : (i j : ℕ) → (has_of f i j ≡ true) ↔ ((i < rows * cols) × IsInLine (rows * cols) cols i j)
+  pub sets : (i j : ℕ) →
+      (has_of f i j ≡ true) ↔ ((i < rows * cols) × IsInLine (rows * cols) cols i j)
 
 -- the numbers of nodes that have a plane
 abbrev pub IsPlaneSize : ℕ → Type 0

@@ -6,22 +6,24 @@ ghost use Rattle.mx_quorums.specs.Rows.{IsMember, BothMark, IsFirstRowFault};
 ghost use Rattle.mx_quorums.specs.Lists.{IsCountFault};
 
 use crate::fault::QuorumFault;
-use mx_stamps::NodeId;
+use mx_stamps::{MOST_NODES, NodeId};
 
 /// The members of a set, by node.
-pub type Row = [bool; 21];
+pub type Row = [bool; MOST_NODES as usize];
 
 /// The set of each node. The rows past the last node are empty.
-pub type Rows = [Row; 21];
+pub type Rows = [Row; MOST_NODES as usize];
 
 /// Checks that the number of nodes is from 1 to 21.
 pub fn node_count(count: usize) -> Result<u8, QuorumFault>
-    ensures { MatchResult result (λ n. (n ≡ count) × (0 < n) × (n ≤ 21)) (λ fault. IsCountFault count fault) }
+    ensures { MatchResult result
+        (λ n. (n ≡ count) × (0 < n) × (n ≤ MOST_NODES))
+        (λ fault. IsCountFault count fault) }
 {
     match count {
         0 => Err(QuorumFault::NoNodes),
-        1..=21 => Ok(count as u8),
-        _ => Err(QuorumFault::TooMany),
+        _ if count > MOST_NODES as usize => Err(QuorumFault::TooMany),
+        _ => Ok(count as u8),
     }
 }
 
@@ -29,9 +31,9 @@ pub fn node_count(count: usize) -> Result<u8, QuorumFault>
 pub fn first_common(a: &Row, b: &Row) -> Option<NodeId>
     ensures { MatchOption result
         ((k : ℕ) → BothMark a.now b.now k → ⊥)
-        (λ k. IsLeast (BothMark a.now b.now) 21 k) }
+        (λ k. IsLeast (BothMark a.now b.now) MOST_NODES k) }
 {
-    for k in 0..21u8 {
+    for k in 0..MOST_NODES {
         if a[k as usize] && b[k as usize] {
             return NodeId::of(k);
         }
@@ -41,7 +43,7 @@ pub fn first_common(a: &Row, b: &Row) -> Option<NodeId>
 
 /// The least node whose set has no node in common with that of node i.
 fn first_apart(nodes: u8, rows: &Rows, i: u8) -> Option<u8>
-    requires few { nodes ≤ 21 }
+    requires few { nodes ≤ MOST_NODES }
     requires node { i < nodes }
     ensures { MatchOption result
         (MeetsAll (IsMember rows.now) nodes i)
@@ -57,7 +59,7 @@ fn first_apart(nodes: u8, rows: &Rows, i: u8) -> Option<u8>
 
 /// Checks that each node is in its own set.
 fn check_own(nodes: u8, rows: &Rows) -> Result<(), QuorumFault>
-    requires { nodes ≤ 21 }
+    requires { nodes ≤ MOST_NODES }
     ensures { MatchResult result
         (λ _. AllOwn (IsMember rows.now) nodes)
         (λ fault. IsFirstRowFault nodes rows.now fault) }
@@ -72,7 +74,7 @@ fn check_own(nodes: u8, rows: &Rows) -> Result<(), QuorumFault>
 
 /// Checks that any two sets meet.
 fn check_pairs(nodes: u8, rows: &Rows) -> Result<(), QuorumFault>
-    requires few { nodes ≤ 21 }
+    requires few { nodes ≤ MOST_NODES }
     requires own { AllOwn (IsMember rows.now) nodes }
     ensures { MatchResult result
         (λ _. AllMeet (IsMember rows.now) nodes)
@@ -88,7 +90,7 @@ fn check_pairs(nodes: u8, rows: &Rows) -> Result<(), QuorumFault>
 
 /// Checks that each node is in its own set, and that any two sets meet.
 pub fn check(nodes: u8, rows: &Rows) -> Result<(), QuorumFault>
-    requires { nodes ≤ 21 }
+    requires { nodes ≤ MOST_NODES }
     ensures { MatchResult result
         (λ _. AllOwn (IsMember rows.now) nodes × AllMeet (IsMember rows.now) nodes)
         (λ fault. IsFirstRowFault nodes rows.now fault) }

@@ -5,8 +5,9 @@ ghost use Rattle.mx_quorums.specs.Rows.{IsMarked, IsMember};
 ghost use Rattle.mx_quorums.specs.Shapes.{ShareLine, IsInLine};
 
 use crate::check::{Row, Rows};
+use mx_stamps::MOST_NODES;
 
-/// Whether nodes i and j stand in one row, or in one column.
+/// Whether nodes i and j are in one row, or in one column.
 fn share_line(cols: u8, i: u8, j: u8) -> bool
     requires { 0 < cols }
     ensures { IsTrue result ↔ ShareLine cols i j }
@@ -16,11 +17,11 @@ fn share_line(cols: u8, i: u8, j: u8) -> bool
 
 /// The row and the column of node i.
 fn lines_of(nodes: u8, cols: u8, i: u8) -> Row
-    requires few { nodes ≤ 21 }
+    requires few { nodes ≤ MOST_NODES }
     requires some { 0 < cols }
     ensures { (j : ℕ) → IsMarked result j ↔ IsInLine nodes cols i j }
 {
-    let mut row = [false; 21];
+    let mut row = [false; MOST_NODES as usize];
     for j in 0..nodes {
         row[j as usize] = share_line(cols, i, j);
     }
@@ -29,11 +30,11 @@ fn lines_of(nodes: u8, cols: u8, i: u8) -> Row
 
 /// The row and the column of each node.
 pub fn grid_rows(nodes: u8, cols: u8) -> Rows
-    requires few { nodes ≤ 21 }
+    requires few { nodes ≤ MOST_NODES }
     requires some { 0 < cols }
     ensures { (i j : ℕ) → IsMember result i j ↔ ((i < nodes) × IsInLine nodes cols i j) }
 {
-    let mut rows = [[false; 21]; 21];
+    let mut rows = [[false; MOST_NODES as usize]; MOST_NODES as usize];
     for i in 0..nodes {
         rows[i as usize] = lines_of(nodes, cols, i);
     }

@@ -7,10 +7,11 @@ ghost use Rattle.mx_stamps.specs.Lists.{IsIn};
 
 use crate::check::{Row, Rows};
 use crate::fault::QuorumFault;
+use mx_stamps::MOST_NODES;
 
 /// Checks that no set is empty.
 pub fn check_filled(sets: &[Vec<u8>]) -> Result<(), QuorumFault>
-    requires { length sets.now ≤ 21 }
+    requires { length sets.now ≤ MOST_NODES }
     ensures { MatchResult result
         (λ _. NoneEmpty (lists_of sets.now))
         (λ fault. IsEmptyFault (lists_of sets.now) fault) }
@@ -33,7 +34,7 @@ fn first_stranger(set: &[u8], nodes: u8) -> Option<u8>
 /// Checks that each member is a node.
 pub fn check_members(sets: &[Vec<u8>], nodes: u8) -> Result<(), QuorumFault>
     requires count { nodes ≡ length sets.now }
-    requires few { length sets.now ≤ 21 }
+    requires few { length sets.now ≤ MOST_NODES }
     ensures { MatchResult result
         (λ _. AllNodes (lists_of sets.now))
         (λ fault. IsStrangerFault (lists_of sets.now) fault) }
@@ -48,10 +49,10 @@ pub fn check_members(sets: &[Vec<u8>], nodes: u8) -> Result<(), QuorumFault>
 
 /// The row that marks the nodes of a list.
 fn row_of(set: &[u8]) -> Row
-    requires { (j : ℕ) → IsIn j set.now → j < 21 }
+    requires { (j : ℕ) → IsIn j set.now → j < MOST_NODES }
     ensures { Marks result set.now }
 {
-    let mut row = [false; 21];
+    let mut row = [false; MOST_NODES as usize];
     for j in set {
         row[*j as usize] = true;
     }
@@ -60,11 +61,11 @@ fn row_of(set: &[u8]) -> Row
 
 /// The rows that mark the nodes of each list.
 pub fn rows_of(sets: &[Vec<u8>]) -> Rows
-    requires few { length sets.now ≤ 21 }
+    requires few { length sets.now ≤ MOST_NODES }
     requires nodes { AllNodes (lists_of sets.now) }
     ensures { MarksLists result (lists_of sets.now) }
 {
-    let mut rows = [[false; 21]; 21];
+    let mut rows = [[false; MOST_NODES as usize]; MOST_NODES as usize];
     for (i, set) in sets.iter().enumerate() {
         rows[i] = row_of(set);
     }

@@ -110,7 +110,7 @@ impl Quorums {
     }
 
     /// The set of node i.
-    pub fn set(&self, i: NodeId) -> [bool; 21]
+    pub fn set(&self, i: NodeId) -> [bool; MOST_NODES as usize]
         ensures { result ≡ row_of self.now i }
     {
         self.rows[i.get() as usize]

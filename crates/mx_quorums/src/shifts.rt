@@ -6,10 +6,13 @@ ghost use Rattle.mx_quorums.specs.Rows.{IsMarked, IsMember};
 ghost use Rattle.mx_quorums.specs.Shapes.{IsPlaneSize, difference_set, IsShifted};
 
 use crate::check::{Row, Rows};
+use mx_stamps::MOST_NODES;
 
 /// Numbers of which each number below n is a difference modulo n.
 pub fn differences(n: u8) -> Option<&'static [u8]>
-    ensures { MatchOption result (IsPlaneSize n → ⊥) (λ d. IsPlaneSize n × (d.now ≡ difference_set n)) }
+    ensures { MatchOption result
+        (IsPlaneSize n → ⊥)
+        (λ d. IsPlaneSize n × (d.now ≡ difference_set n)) }
 {
     match n {
         7 => Some(&[0, 1, 3]),
@@ -22,12 +25,12 @@ pub fn differences(n: u8) -> Option<&'static [u8]>
 /// Node i plus each of the differences, modulo n.
 fn shifted(n: u8, differences: &[u8], i: u8) -> Row
     requires some { 0 < n }
-    requires few { n ≤ 21 }
+    requires few { n ≤ MOST_NODES }
     requires node { i < n }
     requires small { (d : ℕ) → IsIn d differences.now → d < n }
     ensures { (j : ℕ) → IsMarked result j ↔ IsShifted n differences.now i j }
 {
-    let mut row = [false; 21];
+    let mut row = [false; MOST_NODES as usize];
     for d in differences {
         row[((i + *d) % n) as usize] = true;
     }
@@ -37,11 +40,11 @@ fn shifted(n: u8, differences: &[u8], i: u8) -> Row
 /// Each node plus each of the differences, modulo n.
 pub fn plane_rows(n: u8, differences: &[u8]) -> Rows
     requires some { 0 < n }
-    requires few { n ≤ 21 }
+    requires few { n ≤ MOST_NODES }
     requires small { (d : ℕ) → IsIn d differences.now → d < n }
     ensures { (i j : ℕ) → IsMember result i j ↔ ((i < n) × IsShifted n differences.now i j) }
 {
-    let mut rows = [[false; 21]; 21];
+    let mut rows = [[false; MOST_NODES as usize]; MOST_NODES as usize];
     for i in 0..n {
         rows[i as usize] = shifted(n, differences, i);
     }

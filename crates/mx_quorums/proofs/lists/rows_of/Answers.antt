@@ -1,16 +1,13 @@
-use Rattle.std.proofs.Common.{◌<◌, length, subst, sym, ◌∙◌, refl, arith, length-set}
+use Rattle.std.proofs.Common.{◌<◌, length, subst, sym, ◌∙◌, arith}
 use Rattle.mx_stamps.specs.Lists.{IsIn}
 use Rattle.mx_quorums.specs.Lists.{lists_of, IsListed}
 use Rattle.mx_quorums.specs.Rows.{Marks}
-use Rattle.mx_quorums.proofs.RowLemmas.{none_in_rows, one_more_row}
+use Rattle.mx_quorums.proofs.RowLemmas.{no_row, one_more_row}
 use Rattle.mx_quorums.proofs.ListLemmas.{list_read, length_lists, listed_within}
 use Rattle.mx_quorums.proofs.lists.rows_of.Goals as goal
 
 pub loop-i-init : goal.loop-i-init
-loop-i-init c = record {
-  long = refl;
-  marks = λ k j. ((λ h. absurd (none_in_rows 21 21 k j h)), (λ p. absurd (omega (arith, p.0))));
-}
+loop-i-init c = no_row (IsListed (lists_of c.args.sets.now))
 
 pub row_of-requires : goal.row_of-requires
 row_of-requires c = λ j here.
@@ -22,10 +19,7 @@ row_of-requires c = λ j here.
 pub loop-i-preserved : goal.loop-i-preserved
 loop-i-preserved c =
     let read = list_read c.args.sets.now c.loop-i.i c.index-sets-i.result (omega arith) c.index-sets-i.is in
-    record {
-      long = simp length-set c.loop-i.invariant.long;
-      marks = one_more_row (IsListed (lists_of c.args.sets.now)) c.loop-i.rows c.loop-i.i c.row_of.result (omega arith) c.loop-i.invariant.marks (subst (Marks c.row_of.result) (c.deref.ensures.value ∙ sym read) c.row_of.ensures);
-    }
+    one_more_row (IsListed (lists_of c.args.sets.now)) c.loop-i.rows c.loop-i.i c.row_of.result (omega arith) c.loop-i.invariant (subst (Marks c.row_of.result) (c.deref.ensures.value ∙ sym read) c.row_of.ensures)
 
 pub returns : goal.returns
 returns c = λ i j.
