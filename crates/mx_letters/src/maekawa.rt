@@ -16,8 +16,8 @@ pub enum MaekawaMsg {
     Inquire(Stamp, u64),
     /// A requester gives the grant of this number back.
     Relinquish(Stamp, u64),
-    /// A requester has ended its requests up to this stamp. The number is the highest section number
-    /// that it knows.
+    /// A requester has ended its requests up to this stamp. The number is the highest section
+    /// number that it knows.
     Release(Stamp, u64),
 }
 

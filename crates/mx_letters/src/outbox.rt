@@ -59,14 +59,14 @@ impl<M: Drop> Outbox<M> {
 
     /// How many letters it can still take.
     pub fn room(&self) -> usize
-        ensures { result + length self.now ≡ 32 }
+        ensures { result + length self.now ≡ OUTBOX_ROOM }
     {
         self.letters.remaining_capacity()
     }
 
     /// Adds a letter behind the others.
     pub fn add(&mut self, to: NodeId, letter: M)
-        requires { length self.old < 32 }
+        requires { length self.old < OUTBOX_ROOM }
         ensures { self.new ≡ self.old ++ (to, letter) ∷ [] }
     {
         self.letters.push((to, letter));
@@ -74,7 +74,9 @@ impl<M: Drop> Outbox<M> {
 
     /// The k-th letter, counted from 0.
     pub fn get(&self, k: usize) -> Option<&(NodeId, M)>
-        ensures { MatchOption result (slice_get self.now k ≡ None) (λ letter. slice_get self.now k ≡ Some letter.now) }
+        ensures { MatchOption result
+            (slice_get self.now k ≡ None)
+            (λ letter. slice_get self.now k ≡ Some letter.now) }
     {
         self.letters.as_slice().get(k)
     }
@@ -82,7 +84,7 @@ impl<M: Drop> Outbox<M> {
     /// The letters, in order.
     pub fn as_slice(&self) -> &[(NodeId, M)]
         ensures value { result.now ≡ self.now }
-        ensures bound { length self.now ≤ 32 }
+        ensures bound { length self.now ≤ OUTBOX_ROOM }
     {
         self.letters.as_slice()
     }

@@ -5,8 +5,8 @@
 pub enum RaymondMsg {
     /// A node wants the privilege. The number is that of this request among those of its sender.
     Request(u64),
-    /// The privilege moves to the addressee. The first number is that of this move, its hop, the second
-    /// the highest section number that the sender knew.
+    /// The privilege moves to the addressee. The first number is that of this move, its hop, the
+    /// second the highest section number that the sender knew.
     Privilege(u64, u64),
     /// The privilege of this hop has arrived.
     Got(u64),

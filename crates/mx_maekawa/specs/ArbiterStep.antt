@@ -1,6 +1,7 @@
 -- The arbiter's rows of the step table. Each says which part of it is published (Maekawa 1985) and
 -- which is added here.
 use Rattle.std.specs.Prelude.{ℕ, zero, suc, ◌+◌, ◌<◌, ◌≡◌, Bool, false, ◌||◌, ◌&&◌, List, [], ◌∷◌, Option, Some, None, max, nat_lt, nat_eq, if◌then◌else◌, slice_index_or, slice_set, replicate}
+use Rattle.mx_stamps.specs.declared.limits.TheConstants.{MOST_NODES}
 use Rattle.mx_stamps.specs.declared.stamp.Stamp.{Stamp}
 use Rattle.mx_stamps.specs.Stamp.{Before, is_before_of, is_same_as}
 use Rattle.mx_stamps.specs.Numbers.{last_number}
@@ -12,7 +13,14 @@ use Rattle.mx_maekawa.specs.Node.{ArbiterState}
 
 -- an arbiter that has just been started: from the count and the origin
 abbrev pub start_arbiter : ℕ → ℕ → ArbiterState
-start_arbiter count origin = record { count = count; lock = None; granted = origin; waiting = replicate 21 None; ended = replicate 21 origin; last = 0 }
+start_arbiter count origin = record {
+  count = count;
+  lock = None;
+  granted = origin;
+  waiting = replicate MOST_NODES None;
+  ended = replicate MOST_NODES origin;
+  last = 0;
+}
 
 -- the request of node j that waits for a grant
 abbrev pub waiting_at : ArbiterState → ℕ → Option Stamp
@@ -31,7 +39,9 @@ lesser (Some x) (Some y) = if is_before_of y x then Some y else Some x
 -- the least of those of f 0, f 1, .., below n that are there; none where none is
 abbrev pub IsLeastOf : (ℕ → Option Stamp) → ℕ → Option Stamp → Type 0
 IsLeastOf f n None = (j : ℕ) → j < n → f j ≡ None
-IsLeastOf f n (Some u) = ((j : ℕ) × (j < n) × (f j ≡ Some u)) × ((j : ℕ) (v : Stamp) → j < n → f j ≡ Some v → Before v u → ⊥)
+IsLeastOf f n (Some u) =
+    ((j : ℕ) × (j < n) × (f j ≡ Some u))
+    × ((j : ℕ) (v : Stamp) → j < n → f j ≡ Some v → Before v u → ⊥)
 
 -- the same, found by going through the nodes
 abbrev pub least_of : (ℕ → Option Stamp) → ℕ → Option Stamp
@@ -52,12 +62,16 @@ lock_letter None = []
 lock_letter (Some lock) = (lock.stamp.node, Locked lock.stamp lock.grant lock.last) ∷ []
 
 -- Grant: where there is no lock, the least of the requests that wait gets the next grant.
--- Published: an arbiter that is not locked locks for the request that precedes all others that wait,
--- and sends LOCKED.
--- Added: the grant's number, and `last`, the highest section number that was told; nothing is granted
--- where no number is left.
+-- Published: an arbiter that is not locked locks for the request that precedes all others that
+-- wait, and sends LOCKED.
+-- Added: the grant's number, and `last`, the highest section number that was told; nothing is
+-- granted where no number is left.
 abbrev pub locking : ArbiterState → Stamp → ArbiterState
-locking a u = record a { waiting = slice_set a.waiting u.node None; granted = a.granted + 1; lock = Some (record { stamp = u; grant = a.granted + 1; last = a.last }) }
+locking a u = record a {
+  waiting = slice_set a.waiting u.node None;
+  granted = a.granted + 1;
+  lock = Some (record { stamp = u; grant = a.granted + 1; last = a.last });
+}
 
 abbrev pub locked : ArbiterState → Stamp → ArbiterDone
 locked a u = sending (locking a u) ((u.node, Locked u (a.granted + 1) a.last) ∷ [])
@@ -82,32 +96,38 @@ abbrev pub fail_least : Option Stamp → List (ℕ × MaekawaMsg)
 fail_least None = []
 fail_least (Some u) = (u.node, Failed u) ∷ []
 
--- Rank: the request s, which has to wait, is compared with the lock, and with the least of the other
--- requests that wait.
+-- Rank: the request s, which has to wait, is compared with the lock, and with the least of the
+-- other requests that wait.
 -- Published: where the lock's request or one that waits precedes s, FAILED to the node of s; else
 -- INQUIRE to the lock's node, which need not be sent again while one is unanswered.
--- Added: INQUIRE is sent each time, as the one before may have been lost. An answer that comes twice does
--- no harm: the lock ends only for a RELINQUISH of its own stamp and grant. Where the lock is for an older
--- stamp of the node of s, INQUIRE to that node, as the release of the older stamp may have been lost; and
--- FAILED to the least of the others that wait, which s has overtaken, as it may have been told nothing so
--- far.
+-- Added: INQUIRE is sent each time, as the one before may have been lost. An answer that comes
+-- twice does no harm: the lock ends only for a RELINQUISH of its own stamp and grant. Where the
+-- lock is for an older stamp of the node of s, INQUIRE to that node, as the release of the older
+-- stamp may have been lost; and FAILED to the least of the others that wait, which s has overtaken,
+-- as it may have been told nothing so far.
 abbrev pub overtaking : Lock → Option Stamp → List (ℕ × MaekawaMsg)
 overtaking lock other = (lock.stamp.node, Inquire lock.stamp lock.grant) ∷ fail_least other
 
 abbrev pub rank_against : Lock → Stamp → Option Stamp → List (ℕ × MaekawaMsg)
-rank_against lock s other = if is_before_of lock.stamp s || is_below other s then (s.node, Failed s) ∷ [] else overtaking lock other
+rank_against lock s other =
+    if is_before_of lock.stamp s || is_below other s
+    then (s.node, Failed s) ∷ []
+    else overtaking lock other
 
 abbrev pub rank_by : Lock → Stamp → Option Stamp → List (ℕ × MaekawaMsg)
-rank_by lock s other = if nat_eq lock.stamp.node s.node then (s.node, Inquire lock.stamp lock.grant) ∷ [] else rank_against lock s other
+rank_by lock s other =
+    if nat_eq lock.stamp.node s.node
+    then (s.node, Inquire lock.stamp lock.grant) ∷ []
+    else rank_against lock s other
 
 abbrev pub rank : Lock → Stamp → ArbiterState → ArbiterDone
 rank lock s a = sending a (rank_by lock s (least_of (others_at a s.node) a.count))
 
 -- REQUEST with stamp s.
 -- Published: where there is no lock it is granted; else it waits, and is ranked.
--- Added: the request is ignored where s has ended, or where a later stamp of the same node is locked
--- for or waits; where the lock is for s, its LOCKED is sent again. For requests are sent again, and
--- may come late.
+-- Added: the request is ignored where s has ended, or where a later stamp of the same node is
+-- locked for or waits; where the lock is for s, its LOCKED is sent again. For requests are sent
+-- again, and may come late.
 abbrev pub waiting_for : ArbiterState → Stamp → ArbiterState
 waiting_for a s = record a { waiting = slice_set a.waiting s.node (Some s) }
 
@@ -139,10 +159,11 @@ take_live s a = if is_for a.lock s then sending a (lock_letter a.lock) else take
 abbrev pub take_request : Stamp → ArbiterState → ArbiterDone
 take_request s a = if nat_lt (ended_at a s.node) s.number then take_live s a else becoming a
 
--- RELINQUISH from the node of s: where the lock is for exactly this stamp and grant it ends, and the
--- request waits again.
+-- RELINQUISH from the node of s: where the lock is for exactly this stamp and grant it ends, and
+-- the request waits again.
 -- Published: so, and the first of those that wait is granted.
--- Added: the tests of stamp and grant number. Where a later request of the node waits, that one stays.
+-- Added: the tests of stamp and grant number. Where a later request of the node waits, that one
+-- stays.
 abbrev pub is_exactly : Option Lock → Stamp → ℕ → Bool
 is_exactly None s g = false
 is_exactly (Some lock) s g = is_same_as lock.stamp s && nat_eq lock.grant g
@@ -152,21 +173,28 @@ or_else None s = Some s
 or_else (Some u) s = Some u
 
 abbrev pub taking_back : Stamp → ArbiterState → ArbiterState
-taking_back s a = record a { lock = None; waiting = slice_set a.waiting s.node (or_else (waiting_at a s.node) s) }
+taking_back s a = record a {
+  lock = None;
+  waiting = slice_set a.waiting s.node (or_else (waiting_at a s.node) s);
+}
 
 abbrev pub take_relinquish : Stamp → ℕ → ArbiterState → ArbiterDone
 take_relinquish s g a = if is_exactly a.lock s g then grant (taking_back s a) else becoming a
 
 -- RELEASE from the node of s: all its requests up to s have ended, and a lock for one of them ends.
 -- Published: the lock ends, and the first of those that wait is granted.
--- Added: the release bears s, so that it ends no later request, and an older request that comes late is
--- known to have ended; `last` takes in the section number that the release tells.
+-- Added: the release bears s, so that it ends no later request, and an older request that comes
+-- late is known to have ended; `last` takes in the section number that the release tells.
 abbrev pub drop_up_to : Option Stamp → ℕ → Option Stamp
 drop_up_to None number = None
 drop_up_to (Some u) number = if nat_lt number u.number then Some u else None
 
 abbrev pub ending : Stamp → ℕ → ArbiterState → ArbiterState
-ending s t a = record a { last = max a.last t; ended = slice_set a.ended s.node (max (ended_at a s.node) s.number); waiting = slice_set a.waiting s.node (drop_up_to (waiting_at a s.node) s.number) }
+ending s t a = record a {
+  last = max a.last t;
+  ended = slice_set a.ended s.node (max (ended_at a s.node) s.number);
+  waiting = slice_set a.waiting s.node (drop_up_to (waiting_at a s.node) s.number);
+}
 
 abbrev pub unlocking : ArbiterState → ArbiterState
 unlocking a = record a { lock = None }
@@ -176,4 +204,5 @@ is_up_to None s = false
 is_up_to (Some lock) s = nat_eq lock.stamp.node s.node && nat_lt lock.stamp.number (s.number + 1)
 
 abbrev pub take_release : Stamp → ℕ → ArbiterState → ArbiterDone
-take_release s t a = if is_up_to a.lock s then grant (unlocking (ending s t a)) else becoming (ending s t a)
+take_release s t a =
+    if is_up_to a.lock s then grant (unlocking (ending s t a)) else becoming (ending s t a)

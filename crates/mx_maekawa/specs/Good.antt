@@ -1,5 +1,6 @@
 -- The worlds that are reached from the start.
 use Rattle.std.specs.Prelude.{ℕ, ◌<◌, ◌≤◌, ◌≡◌, ◌⊎◌, true, false, Some, length, Bool, List, slice_index_or}
+use Rattle.mx_stamps.specs.declared.limits.TheConstants.{MOST_NODES}
 use Rattle.mx_stamps.specs.declared.stamp.Stamp.{Stamp}
 use Rattle.mx_letters.specs.declared.maekawa.MaekawaMsg.{MaekawaMsg}
 use Rattle.mx_letters.specs.declared.maekawa.MaekawaMsg.TheVariants.{Request, Locked, Failed, Inquire, Relinquish, Release}
@@ -21,13 +22,14 @@ NodeWorld = World Node MaekawaMsg
 abbrev pub IsBusy : RequesterState → Type 0
 IsBusy r = is_busy r.phase ≡ true
 
--- the own stamp of this number has ended: it is not current, and never will be again
+-- its stamp of this number has ended: it is not current, and never will be again
 abbrev pub IsEnded : RequesterState → ℕ → Type 0
 IsEnded r number = (number ≤ r.issued) × (IsBusy r → number < r.issued)
 
 -- no grant up to g of arbiter a will be held for this stamp again
 abbrev pub IsGiven : RequesterState → ℕ → Stamp → ℕ → Type 0
-IsGiven r a stamp g = IsEnded r stamp.number ⊎ ((g ≤ back_at r a) ⊎ ((h : ℕ) × (held_at r a ≡ Some h) × (g < h)))
+IsGiven r a stamp g =
+    IsEnded r stamp.number ⊎ ((g ≤ back_at r a) ⊎ ((h : ℕ) × (held_at r a ≡ Some h) × (g < h)))
 
 -- some node has entered a section of this number or a later one
 abbrev pub IsReached : NodeWorld → ℕ → Type 0
@@ -35,7 +37,9 @@ IsReached w n = IsReachedBy (λ (s : Node). s.requester.mine) w n
 
 -- arbiter a was told that node i's grant is given back, or that its request has ended
 abbrev pub IsOver : NodeWorld → ℕ → ℕ → Stamp → ℕ → Type 0
-IsOver w a i stamp g = WasSent w i a (Relinquish stamp g) ⊎ ((later : Stamp) × (t : ℕ) × WasSent w i a (Release later t) × (stamp.number ≤ later.number))
+IsOver w a i stamp g =
+    WasSent w i a (Relinquish stamp g)
+    ⊎ ((later : Stamp) × (t : ℕ) × WasSent w i a (Release later t) × (stamp.number ≤ later.number))
 
 -- the arbiter is locked for exactly this
 abbrev pub IsLockedFor : Node → Stamp → ℕ → ℕ → Type 0
@@ -48,17 +52,24 @@ pub record IsEntered (w : NodeWorld) (i : ℕ) (s : Node) : Type 0 where
   pub grant_of : ℕ → ℕ
   pub node : stamp.node ≡ i
   -- while it is inside its stamp and its number are current; once it has left the stamp has ended
-  pub inside : (n : ℕ) → s.requester.phase ≡ Inside n → (stamp ≡ s.requester.ours) × ((a : ℕ) → is_own s.requester a ≡ true → held_at s.requester a ≡ Some (grant_of a))
+  pub inside : (n : ℕ) → s.requester.phase ≡ Inside n → (stamp ≡ s.requester.ours)
+      × ((a : ℕ) → is_own s.requester a ≡ true → held_at s.requester a ≡ Some (grant_of a))
   pub ended : ((n : ℕ) → s.requester.phase ≡ Inside n → ⊥) → IsEnded s.requester stamp.number
   -- each grant was sent, and was not given back
-  pub sent : (a : ℕ) → is_own s.requester a ≡ true → (c : ℕ) × WasSent w a i (Locked stamp (grant_of a) c)
-  pub kept : (a : ℕ) → is_own s.requester a ≡ true → WasSent w i a (Relinquish stamp (grant_of a)) → ⊥
+  pub sent : (a : ℕ) → is_own s.requester a ≡ true →
+      (c : ℕ) × WasSent w a i (Locked stamp (grant_of a) c)
+  pub kept : (a : ℕ) → is_own s.requester a ≡ true → WasSent w i a (Relinquish stamp (grant_of a)) →
+      ⊥
   -- each release of the stamp or a later one tells the section's number
-  pub released : (a : ℕ) (later : Stamp) (t : ℕ) → WasSent w i a (Release later t) → stamp.number ≤ later.number → s.requester.mine ≤ t
+  pub released : (a : ℕ) (later : Stamp) (t : ℕ) → WasSent w i a (Release later t) →
+      stamp.number ≤ later.number → s.requester.mine ≤ t
   -- an arbiter is still locked for it, or was told the section's number
-  pub locked : (a : ℕ) (arbiter : Node) → is_own s.requester a ≡ true → IsNode w a arbiter → ((c : ℕ) × IsLockedFor arbiter stamp (grant_of a) c) ⊎ (s.requester.mine ≤ arbiter.arbiter.last)
+  pub locked : (a : ℕ) (arbiter : Node) → is_own s.requester a ≡ true → IsNode w a arbiter →
+      ((c : ℕ) × IsLockedFor arbiter stamp (grant_of a) c)
+      ⊎ (s.requester.mine ≤ arbiter.arbiter.last)
   -- each later grant of its arbiters tells the section's number
-  pub after : (a b : ℕ) (other : Stamp) (g c : ℕ) → is_own s.requester a ≡ true → WasSent w a b (Locked other g c) → grant_of a < g → s.requester.mine ≤ c
+  pub after : (a b : ℕ) (other : Stamp) (g c : ℕ) → is_own s.requester a ≡ true →
+      WasSent w a b (Locked other g c) → grant_of a < g → s.requester.mine ≤ c
 
 -- a grant that is held is its arbiter's lock
 pub record IsHeldOk (w : NodeWorld) (s : Node) (a g : ℕ) : Type 0 where
@@ -68,20 +79,22 @@ pub record IsHeldOk (w : NodeWorld) (s : Node) (a g : ℕ) : Type 0 where
   pub top : c ≤ s.requester.top
   pub lock : (arbiter : Node) → IsNode w a arbiter → IsLockedFor arbiter s.requester.ours g c
 
--- node i has its own name, the count, and its own set, whose arbiters are nodes and which meets each other set
+-- node i has its own name, the count, and its own set, whose arbiters are nodes and which meets
+-- each other set
 pub record IsPlaced (w : NodeWorld) (i name count : ℕ) (row : List Bool) : Type 0 where
   pub me : name ≡ i
-  pub few : count ≤ 21
+  pub few : count ≤ MOST_NODES
   pub own_few : (a : ℕ) → slice_index_or row a false ≡ true → a < count
   pub own_node : (a : ℕ) → slice_index_or row a false ≡ true → (arbiter : Node) × IsNode w a arbiter
-  pub meet : (j : ℕ) (t : Node) → IsNode w j t → (a : ℕ) × (slice_index_or row a false ≡ true) × (is_own t.requester a ≡ true)
+  pub meet : (j : ℕ) (t : Node) → IsNode w j t →
+      (a : ℕ) × (slice_index_or row a false ≡ true) × (is_own t.requester a ≡ true)
 
 -- what holds of each node
 pub record IsNodeOk (w : NodeWorld) (i : ℕ) (s : Node) : Type 0 where
   pub placed : IsPlaced w i s.requester.me s.requester.count s.requester.own
-  pub back_places : length s.requester.back ≡ 21
-  pub held_places : length s.requester.held ≡ 21
-  -- a current stamp is the last own one, and the clock has seen it
+  pub back_places : length s.requester.back ≡ MOST_NODES
+  pub held_places : length s.requester.held ≡ MOST_NODES
+  -- a current stamp is its last one, and the clock has seen it
   pub issued : s.requester.issued ≤ s.requester.highest
   pub ours_node : IsBusy s.requester → s.requester.ours.node ≡ i
   pub ours_number : IsBusy s.requester → s.requester.ours.number ≡ s.requester.issued
@@ -90,12 +103,15 @@ pub record IsNodeOk (w : NodeWorld) (i : ℕ) (s : Node) : Type 0 where
   pub top_reached : IsReached w s.requester.top
   pub last_reached : IsReached w s.arbiter.last
   -- the lock is the last grant, and was sent
-  pub lock_last : (lock : Lock) → s.arbiter.lock ≡ Some lock → (lock.grant ≡ s.arbiter.granted) × WasSent w i lock.stamp.node (Locked lock.stamp lock.grant lock.last)
+  pub lock_last : (lock : Lock) → s.arbiter.lock ≡ Some lock → (lock.grant ≡ s.arbiter.granted)
+      × WasSent w i lock.stamp.node (Locked lock.stamp lock.grant lock.last)
   pub held : IsBusy s.requester → (a g : ℕ) → held_at s.requester a ≡ Some g → IsHeldOk w s a g
   -- who is inside holds a grant of each arbiter of its set
-  pub inside_holds : (n : ℕ) → s.requester.phase ≡ Inside n → (a : ℕ) → is_own s.requester a ≡ true → (g : ℕ) × (held_at s.requester a ≡ Some g)
+  pub inside_holds : (n : ℕ) → s.requester.phase ≡ Inside n → (a : ℕ) →
+      is_own s.requester a ≡ true → (g : ℕ) × (held_at s.requester a ≡ Some g)
   -- a remembered inquiry is for the grant that is held
-  pub remembered_held : (a g : ℕ) → remembered_at s.requester a ≡ Some g → held_at s.requester a ≡ Some g
+  pub remembered_held : (a g : ℕ) → remembered_at s.requester a ≡ Some g →
+      held_at s.requester a ≡ Some g
   pub entered : 0 < s.requester.mine → IsEntered w i s
 
 -- what holds of each LOCKED that was sent
@@ -105,7 +121,8 @@ pub record IsLockedOk (w : NodeWorld) (a b : ℕ) (stamp : Stamp) (g c : ℕ) : 
   -- it tells of no section that nobody has entered
   pub reached : IsReached w c
   -- no other LOCKED of its arbiter has its grant
-  pub same : (other_b : ℕ) (other : Stamp) (other_c : ℕ) → WasSent w a other_b (Locked other g other_c) → (other ≡ stamp) × (other_c ≡ c)
+  pub same : (other_b : ℕ) (other : Stamp) (other_c : ℕ) →
+      WasSent w a other_b (Locked other g other_c) → (other ≡ stamp) × (other_c ≡ c)
   -- the arbiter is locked for it, or was told that this is over
   pub ends : (s : Node) → IsNode w a s → IsLockedFor s stamp g c ⊎ IsOver w a b stamp g
 
@@ -115,7 +132,8 @@ pub record IsRelinquishOk (w : NodeWorld) (i a : ℕ) (stamp : Stamp) (g : ℕ) 
   pub issued : (s : Node) → IsNode w i s → stamp.number ≤ s.requester.issued
   pub given : (s : Node) → IsNode w i s → IsGiven s.requester a stamp g
 
--- what holds of each RELEASE that was sent: its stamp is ended, and it tells of no section that nobody has entered
+-- what holds of each RELEASE that was sent: its stamp is ended, and it tells of no section that
+-- nobody has entered
 pub record IsReleaseOk (w : NodeWorld) (i : ℕ) (stamp : Stamp) (t : ℕ) : Type 0 where
   pub node : stamp.node ≡ i
   pub ended : (s : Node) → IsNode w i s → IsEnded s.requester stamp.number
@@ -135,7 +153,8 @@ IsSound w = IsEachOk IsNodeOk IsLetterOk w
 
 -- no inquiry is remembered while an arbiter has failed. A whole step keeps this, its parts do not
 abbrev pub HasNoOverdueInquiry : RequesterState → Type 0
-HasNoOverdueInquiry r = (a g b : ℕ) → b < r.count → remembered_at r a ≡ Some g → has_failed r b ≡ false
+HasNoOverdueInquiry r =
+    (a g b : ℕ) → b < r.count → remembered_at r a ≡ Some g → has_failed r b ≡ false
 
 pub record IsSafe (w : NodeWorld) : Type 0 where
   pub sound : IsSound w

@@ -1,5 +1,5 @@
--- Node (the state), RequesterStep and ArbiterStep (the rows of the step table by role), Step (the step table),
--- Good (the invariant); laws (their proofs).
+-- Node (the state), RequesterStep and ArbiterStep (the rows of the step table by role), Step (the
+-- step table), Good (the invariant); laws (their proofs).
 pub mod Node
 pub mod RequesterStep
 pub mod ArbiterStep

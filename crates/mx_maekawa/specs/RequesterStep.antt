@@ -1,6 +1,7 @@
--- The requester's rows of the step table. Each says which part of it is published (Maekawa 1985) and
--- which is added here.
+-- The requester's rows of the step table. Each says which part of it is published (Maekawa 1985)
+-- and which is added here.
 use Rattle.std.specs.Prelude.{ℕ, zero, suc, ◌+◌, ◌<◌, ◌≡◌, Bool, true, false, ◌||◌, ◌&&◌, not, List, [], ◌∷◌, ◌++◌, Option, Some, None, Result, max, nat_lt, nat_eq, if◌then◌else◌, slice_index_or, slice_set, replicate}
+use Rattle.mx_stamps.specs.declared.limits.TheConstants.{MOST_NODES}
 use Rattle.mx_stamps.specs.declared.stamp.Stamp.{Stamp}
 use Rattle.mx_stamps.specs.Stamp.{is_same_as}
 use Rattle.mx_letters.specs.declared.maekawa.MaekawaMsg.{MaekawaMsg}
@@ -29,15 +30,15 @@ start_requester me own count origin limit = record {
   highest = origin;
   issued = origin;
   ours = record { number = 0; node = me };
-  held = replicate 21 None;
-  back = replicate 21 origin;
-  failed = replicate 21 false;
-  remembered = replicate 21 None;
+  held = replicate MOST_NODES None;
+  back = replicate MOST_NODES origin;
+  failed = replicate MOST_NODES false;
+  remembered = replicate MOST_NODES None;
   top = 0;
   mine = 0;
 }
 
--- node a is one of the own arbiters
+-- node a is one of its arbiters
 abbrev pub is_own : RequesterState → ℕ → Bool
 is_own r a = slice_index_or r.own a false
 
@@ -64,7 +65,7 @@ has_failed r a = slice_index_or r.failed a false
 abbrev pub remembered_at : RequesterState → ℕ → Option ℕ
 remembered_at r a = slice_index_or r.remembered a None
 
--- the permission: a grant of every own arbiter is held
+-- the permission: a grant of each of its arbiters is held
 abbrev pub HoldsAll : RequesterState → Type 0
 HoldsAll r = (a : ℕ) → a < r.count → is_own r a ≡ true → holds r a ≡ true
 
@@ -90,7 +91,8 @@ is_current_wait r stamp = is_waiting r.phase && is_same_as stamp r.ours
 
 -- a stamp of this node has ended: it was drawn, and is no longer the current one
 abbrev pub has_ended : RequesterState → Stamp → Bool
-has_ended r stamp = not (is_busy r.phase && is_same_as stamp r.ours) && nat_lt stamp.number (r.issued + 1)
+has_ended r stamp =
+    not (is_busy r.phase && is_same_as stamp r.ours) && nat_lt stamp.number (r.issued + 1)
 
 -- what a step of the requester gives: its next state, its answer and its letters
 abbrev pub RequesterDone : Type 0 → Type 0
@@ -102,7 +104,12 @@ saying r a letter = sending r ((a, letter) ∷ [])
 
 -- the grant of a remembered inquiry of arbiter b, if there is one, is given back
 abbrev pub giving_remembered : RequesterState → ℕ → ℕ → RequesterState
-giving_remembered r b g = record r { back = slice_set r.back b g; held = slice_set r.held b None; remembered = slice_set r.remembered b None; failed = slice_set r.failed b true }
+giving_remembered r b g = record r {
+  back = slice_set r.back b g;
+  held = slice_set r.held b None;
+  remembered = slice_set r.remembered b None;
+  failed = slice_set r.failed b true;
+}
 
 abbrev pub giving : Option ℕ → RequesterState → ℕ → RequesterDone (Unit {0})
 giving None r b = becoming r
@@ -117,25 +124,38 @@ give_below zero r = becoming r
 give_below (suc n) r = and_then (give_below n r) (give_remembered n)
 
 -- Fail: arbiter a has failed the request, and each grant of a remembered inquiry is given back.
--- Published: inquiries that were put off are answered by RELINQUISH once the node has received FAILED.
+-- Published: inquiries that were put off are answered by RELINQUISH once the node has received
+-- FAILED.
 abbrev pub failing : RequesterState → ℕ → RequesterState
 failing r a = record r { failed = slice_set r.failed a true }
 
 abbrev pub fail : ℕ → RequesterState → RequesterDone (Unit {0})
 fail a r = give_below r.count (failing r a)
 
--- ask: the clock's next stamp, no grant yet, and a request to each own arbiter.
+-- ask: the clock's next stamp, no grant yet, and a request to each of its arbiters.
 -- Published: a REQUEST goes to every member of the node's set.
 -- Added: where no number is left the call is refused.
 abbrev pub asking : RequesterState → RequesterState
-asking r = record r { highest = r.highest + 1; issued = r.highest + 1; ours = record { number = r.highest + 1; node = r.me }; held = replicate 21 None; failed = replicate 21 false; remembered = replicate 21 None; phase = Waiting }
+asking r = record r {
+  highest = r.highest + 1;
+  issued = r.highest + 1;
+  ours = record { number = r.highest + 1; node = r.me };
+  held = replicate MOST_NODES None;
+  failed = replicate MOST_NODES false;
+  remembered = replicate MOST_NODES None;
+  phase = Waiting;
+}
 
--- the letter, to each own arbiter
+-- the letter, to each of its arbiters
 abbrev pub to_own : RequesterState → MaekawaMsg → ℕ → Option MaekawaMsg
 to_own r letter a = if is_own r a then Some letter else None
 
 abbrev pub asked : RequesterState → RequesterDone Stamp
-asked r = record { state = asking r; answer = (asking r).ours; letters = addressed (to_own r (Request (asking r).ours)) r.count }
+asked r = record {
+  state = asking r;
+  answer = (asking r).ours;
+  letters = addressed (to_own r (Request (asking r).ours)) r.count;
+}
 
 abbrev pub ask_in : Phase → RequesterState → RequesterDone (Result Stamp AskFault)
 ask_in p r = ask_by (λ (x : RequesterState). x.highest) asked p r
@@ -147,20 +167,26 @@ release_ended r stamp a = if has_ended r stamp then saying r a (Release stamp r.
 
 -- LOCKED from arbiter a, for the current request, whose grant is missing.
 -- Published: the grant is held.
--- Added: the tests of stamp and grant number, since a LOCKED may come late or twice. A grant that was
--- given back does not count again and is given back again, as the RELINQUISH may have been lost. `top`
--- takes in the section number that the arbiter tells.
+-- Added: the tests of stamp and grant number, since a LOCKED may come late or twice. A grant that
+-- was given back does not count again and is given back again, as the RELINQUISH may have been
+-- lost. `top` takes in the section number that the arbiter tells.
 abbrev pub holding : RequesterState → ℕ → ℕ → ℕ → RequesterState
-holding r a g c = record r { held = slice_set r.held a (Some g); failed = slice_set r.failed a false; top = max r.top c }
+holding r a g c = record r {
+  held = slice_set r.held a (Some g);
+  failed = slice_set r.failed a false;
+  top = max r.top c;
+}
 
 abbrev pub locked_fresh : ℕ → Stamp → ℕ → ℕ → RequesterState → RequesterDone (Unit {0})
-locked_fresh a stamp g c r = if nat_lt (back_at r a) g then becoming (holding r a g c) else saying r a (Relinquish stamp g)
+locked_fresh a stamp g c r =
+    if nat_lt (back_at r a) g then becoming (holding r a g c) else saying r a (Relinquish stamp g)
 
 abbrev pub locked_current : ℕ → Stamp → ℕ → ℕ → RequesterState → RequesterDone (Unit {0})
 locked_current a stamp g c r = if holds r a then becoming r else locked_fresh a stamp g c r
 
 abbrev pub take_locked : ℕ → Stamp → ℕ → ℕ → RequesterState → RequesterDone (Unit {0})
-take_locked a stamp g c r = if is_current_wait r stamp then locked_current a stamp g c r else release_ended r stamp a
+take_locked a stamp g c r =
+    if is_current_wait r stamp then locked_current a stamp g c r else release_ended r stamp a
 
 -- FAILED from arbiter a, for the current request, whose grant is missing.
 -- Published: the node then knows that it does not get every grant yet, which is Fail.
@@ -168,19 +194,25 @@ take_locked a stamp g c r = if is_current_wait r stamp then locked_current a sta
 abbrev pub take_failed : ℕ → Stamp → RequesterState → RequesterDone (Unit {0})
 take_failed a stamp r = if is_current_wait r stamp && not (holds r a) then fail a r else becoming r
 
--- INQUIRE from arbiter a for the grant that is held: it is given back where some arbiter has failed,
--- else the inquiry is remembered.
+-- INQUIRE from arbiter a for the grant that is held: it is given back where some arbiter has
+-- failed, else the inquiry is remembered.
 -- Published: so, with RELINQUISH for a grant that is given back.
 -- Added: the tests of stamp and grant number.
 abbrev pub giving_now : RequesterState → ℕ → ℕ → RequesterState
-giving_now r a g = record r { back = slice_set r.back a g; held = slice_set r.held a None; failed = slice_set r.failed a true }
+giving_now r a g = record r {
+  back = slice_set r.back a g;
+  held = slice_set r.held a None;
+  failed = slice_set r.failed a true;
+}
 
 abbrev pub remembering : RequesterState → ℕ → ℕ → RequesterState
 remembering r a g = record r { remembered = slice_set r.remembered a (Some g) }
 
 abbrev pub inquired_held : ℕ → Stamp → ℕ → RequesterState → RequesterDone (Unit {0})
 inquired_held a stamp g r =
-    if has_failed_below r r.count then saying (giving_now r a g) a (Relinquish stamp g) else becoming (remembering r a g)
+    if has_failed_below r r.count
+    then saying (giving_now r a g) a (Relinquish stamp g)
+    else becoming (remembering r a g)
 
 -- INQUIRE for a grant that has not come: it is given back at once, and arbiter a has failed.
 -- Added, since the LOCKED may have been lost or overtaken.
@@ -195,10 +227,12 @@ inquired_missing a stamp g r = and_then (saying (declining r a g) a (Relinquish 
 -- Added, since an INQUIRE may come late.
 abbrev pub inquired : Option ℕ → ℕ → Stamp → ℕ → RequesterState → RequesterDone (Unit {0})
 inquired None a stamp g r = inquired_missing a stamp g r
-inquired (Some h) a stamp g r = if nat_eq h g then inquired_held a stamp g r else saying r a (Relinquish stamp g)
+inquired (Some h) a stamp g r =
+    if nat_eq h g then inquired_held a stamp g r else saying r a (Relinquish stamp g)
 
 abbrev pub take_inquire : ℕ → Stamp → ℕ → RequesterState → RequesterDone (Unit {0})
-take_inquire a stamp g r = if is_current_wait r stamp then inquired (held_at r a) a stamp g r else release_ended r stamp a
+take_inquire a stamp g r =
+    if is_current_wait r stamp then inquired (held_at r a) a stamp g r else release_ended r stamp a
 
 abbrev pub can_enter_of : RequesterState → Bool
 can_enter_of r = is_waiting r.phase && holds_all r
@@ -207,17 +241,29 @@ can_enter_of r = is_waiting r.phase && holds_all r
 -- Published: the node enters once every member of its set has sent LOCKED.
 -- Added: the section's number, and the refusal where the limit is reached.
 abbrev pub entering : RequesterState → RequesterState
-entering r = record r { top = r.top + 1; mine = r.top + 1; phase = Inside (r.top + 1); remembered = replicate 21 None }
+entering r = record r {
+  top = r.top + 1;
+  mine = r.top + 1;
+  phase = Inside (r.top + 1);
+  remembered = replicate MOST_NODES None;
+}
 
 abbrev pub enter_in : Phase → RequesterState → Quiet RequesterState (Result ℕ EnterFault)
-enter_in p r = enter_by holds_all (λ (x : RequesterState). x.top) (λ (x : RequesterState). x.limit) entering p r
+enter_in p r =
+    enter_by holds_all (λ (x : RequesterState). x.top) (λ (x : RequesterState). x.limit)
+    entering p r
 
--- leave: each own arbiter is sent a release.
+-- leave: each of its arbiters is sent a release.
 -- Published: so.
 -- Added: the release bears the stamp that has ended, and `top`.
 -- cancel: the same, of a node that waits. Added: its request has ended, and it enters nothing.
 abbrev pub ending : RequesterState → RequesterState
-ending r = record r { phase = Idle; held = replicate 21 None; failed = replicate 21 false; remembered = replicate 21 None }
+ending r = record r {
+  phase = Idle;
+  held = replicate MOST_NODES None;
+  failed = replicate MOST_NODES false;
+  remembered = replicate MOST_NODES None;
+}
 
 abbrev pub ended : RequesterState → RequesterDone (Unit {0})
 ended r = sending (ending r) (addressed (to_own r (Release r.ours r.top)) r.count)
@@ -228,10 +274,11 @@ leave_in p r = leave_by ended p r
 abbrev pub cancel_in : Phase → RequesterState → RequesterDone (Result (Unit {0}) CancelFault)
 cancel_in p r = cancel_by ended p r
 
--- tick: a waiting node sends its request again to each own arbiter whose grant is missing.
+-- tick: a waiting node sends its request again to each of its arbiters whose grant is missing.
 -- Added, since the request or the grant may have been lost.
 abbrev pub to_missing : RequesterState → MaekawaMsg → ℕ → Option MaekawaMsg
 to_missing r letter a = if is_own r a && not (holds r a) then Some letter else None
 
 abbrev pub request_again : RequesterState → List (ℕ × MaekawaMsg)
-request_again r = if is_waiting r.phase then addressed (to_missing r (Request r.ours)) r.count else []
+request_again r =
+    if is_waiting r.phase then addressed (to_missing r (Request r.ours)) r.count else []

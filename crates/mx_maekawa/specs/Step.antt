@@ -1,5 +1,5 @@
--- The step table: the rows of the two roles, put together. Which part of a row is published (Maekawa
--- 1985) and which is added here stands beside the rows, in RequesterStep and ArbiterStep.
+-- The step table: the rows of the two roles, put together. Which part of a row is published
+-- (Maekawa 1985) and which is added here is said beside the rows, in RequesterStep and ArbiterStep.
 use Rattle.std.specs.Prelude.{ℕ, Bool, ◌&&◌, ◌++◌, max, nat_eq, if◌then◌else◌}
 use Rattle.mx_stamps.specs.declared.stamp.Stamp.{Stamp}
 use Rattle.mx_letters.specs.declared.maekawa.MaekawaMsg.{MaekawaMsg}
@@ -13,11 +13,21 @@ use Rattle.mx_maekawa.specs.RequesterStep.{start_requester, is_own, holds_all, a
 use Rattle.mx_maekawa.specs.ArbiterStep.{start_arbiter, take_request, take_relinquish, take_release, lock_letter}
 
 -- a step of the requester alone, or of the arbiter alone
-abbrev pub by_requester : {A : Type 0} → Node → Done RequesterState A MaekawaMsg → Done Node A MaekawaMsg
-by_requester s did = record { state = record s { requester = did.state }; answer = did.answer; letters = did.letters }
+abbrev pub by_requester : {A : Type 0} → Node → Done RequesterState A MaekawaMsg →
+    Done Node A MaekawaMsg
+by_requester s did = record {
+  state = record s { requester = did.state };
+  answer = did.answer;
+  letters = did.letters;
+}
 
-abbrev pub by_arbiter : Node → Done ArbiterState (Unit {0}) MaekawaMsg → Done Node (Unit {0}) MaekawaMsg
-by_arbiter s did = record { state = record s { arbiter = did.state }; answer = tt; letters = did.letters }
+abbrev pub by_arbiter : Node → Done ArbiterState (Unit {0}) MaekawaMsg →
+    Done Node (Unit {0}) MaekawaMsg
+by_arbiter s did = record {
+  state = record s { arbiter = did.state };
+  answer = tt;
+  letters = did.letters;
+}
 
 -- a node that has just been started: from the sets, the node, the origin and the limit
 abbrev pub start_of : Family → ℕ → ℕ → ℕ → Node
@@ -39,18 +49,34 @@ is_call s from stamp = has_of s.quorums from s.requester.me && nat_eq stamp.node
 
 -- the clock sees the number of a request, also of one that the arbiter ignores
 abbrev pub seeing : Node → ℕ → Node
-seeing s number = record s { requester = record (s.requester) { highest = max s.requester.highest number } }
+seeing s number = record s {
+  requester = record (s.requester) { highest = max s.requester.highest number };
+}
 
 abbrev pub deliver_of : ℕ → MaekawaMsg → Node → Done Node (Unit {0}) MaekawaMsg
-deliver_of from (Request stamp) s = if is_call s from stamp then by_arbiter (seeing s stamp.number) (take_request stamp s.arbiter) else becoming s
-deliver_of from (Locked stamp g c) s = if is_answer s from stamp then by_requester s (take_locked from stamp g c s.requester) else becoming s
-deliver_of from (Failed stamp) s = if is_answer s from stamp then by_requester s (take_failed from stamp s.requester) else becoming s
-deliver_of from (Inquire stamp g) s = if is_answer s from stamp then by_requester s (take_inquire from stamp g s.requester) else becoming s
-deliver_of from (Relinquish stamp g) s = if is_call s from stamp then by_arbiter s (take_relinquish stamp g s.arbiter) else becoming s
-deliver_of from (Release stamp t) s = if is_call s from stamp then by_arbiter s (take_release stamp t s.arbiter) else becoming s
+deliver_of from (Request stamp) s =
+    if is_call s from stamp
+    then by_arbiter (seeing s stamp.number) (take_request stamp s.arbiter)
+    else becoming s
+deliver_of from (Locked stamp g c) s =
+    if is_answer s from stamp
+    then by_requester s (take_locked from stamp g c s.requester)
+    else becoming s
+deliver_of from (Failed stamp) s =
+    if is_answer s from stamp
+    then by_requester s (take_failed from stamp s.requester)
+    else becoming s
+deliver_of from (Inquire stamp g) s =
+    if is_answer s from stamp
+    then by_requester s (take_inquire from stamp g s.requester)
+    else becoming s
+deliver_of from (Relinquish stamp g) s =
+    if is_call s from stamp then by_arbiter s (take_relinquish stamp g s.arbiter) else becoming s
+deliver_of from (Release stamp t) s =
+    if is_call s from stamp then by_arbiter s (take_release stamp t s.arbiter) else becoming s
 
--- tick: the request is sent again, and then the grant of the lock. Added, since either may have been
--- lost
+-- tick: the request is sent again, and then the grant of the lock. Added, since either may have
+-- been lost
 abbrev pub tick_of : Node → Done Node (Unit {0}) MaekawaMsg
 tick_of s = sending s (request_again s.requester ++ lock_letter s.arbiter.lock)
 

@@ -4,7 +4,7 @@
 use crate::lock::{Lock, is_exactly, is_for, is_up_to, stamp_of};
 use crate::waiting::{drop_up_to, is_below, is_later, lesser, or_else};
 use mx_letters::{MaekawaMsg, Outbox};
-use mx_stamps::{NodeId, Stamp};
+use mx_stamps::{MOST_NODES, NodeId, Stamp};
 use std::marker::Model;
 
 /// The request that a node has granted as an arbiter, and the requests that wait for its grant.
@@ -20,10 +20,10 @@ pub(crate) struct Arbiter {
     granted: u64,
     /// For each node, its request that waits for a grant (the waiting queue). The least stamp is
     /// granted first.
-    waiting: [Option<Stamp>; 21],
+    waiting: [Option<Stamp>; MOST_NODES as usize],
     /// For each node, the greatest stamp number that it has released, the origin before the first.
     /// Added to the publication: a request up to that number is an old one.
-    ended: [u64; 21],
+    ended: [u64; MOST_NODES as usize],
     /// The highest section number that a release has told, 0 before the first. Added to the
     /// publication.
     last: u64,
@@ -31,30 +31,39 @@ pub(crate) struct Arbiter {
 
 impl Model for Arbiter {
     ghost use Rattle.std.specs.Prelude.{◌≤◌};
+    ghost use Rattle.mx_stamps.specs.declared.limits.TheConstants.{MOST_NODES};
     ghost use Rattle.mx_maekawa.specs.Node.{ArbiterState};
 
     ghost Value = { ArbiterState };
 
-    ghost view = { λ a. record { count = a.count; lock = a.lock; granted = a.granted; waiting = a.waiting; ended = a.ended; last = a.last } };
+    ghost view = { λ a. record {
+      count = a.count;
+      lock = a.lock;
+      granted = a.granted;
+      waiting = a.waiting;
+      ended = a.ended;
+      last = a.last;
+    } };
 
-    ghost invariant = { λ a. a.count ≤ 21 };
+    ghost invariant = { λ a. a.count ≤ MOST_NODES };
 }
 
 impl Arbiter {
     ghost use Rattle.std.specs.Prelude.{◌≡◌, ◌≤◌, ◌<◌, [], ◌++◌, length, Some};
+    ghost use Rattle.mx_stamps.specs.declared.limits.TheConstants.{MOST_NODES};
     ghost use Rattle.mx_maekawa.specs.ArbiterStep.{start_arbiter, waiting_at, others_at, IsLeastOf, least_of, lock_letter, grant_to, grant, rank, queue, take_request, take_relinquish, take_release};
 
     /// An arbiter that has just been started.
     pub(crate) fn start(count: u8, origin: u64) -> Self
-        requires { count ≤ 21 }
+        requires { count ≤ MOST_NODES }
         ensures { result ≡ start_arbiter count origin }
     {
         Arbiter {
             count,
             lock: None,
             granted: origin,
-            waiting: [None; 21],
-            ended: [origin; 21],
+            waiting: [None; MOST_NODES as usize],
+            ended: [origin; MOST_NODES as usize],
             last: 0,
         }
     }
@@ -121,7 +130,7 @@ impl Arbiter {
     }
 
     /// Ranks a request that has to wait: it is failed where another comes first, and else the grant
-    /// that the lock stands for is asked back.
+    /// that the lock is for is asked back.
     fn rank(&self, lock: &Lock, stamp: &Stamp, out: &mut Outbox<MaekawaMsg>)
         requires { out.old ≡ [] }
         ensures { out.new ≡ (rank lock.now stamp.now self.now).letters }
@@ -154,7 +163,7 @@ impl Arbiter {
 
     /// Sends the grant of the lock, if there is one.
     fn send_lock(&self, out: &mut Outbox<MaekawaMsg>)
-        requires { length out.old ≤ 21 }
+        requires { length out.old ≤ MOST_NODES }
         ensures { out.new ≡ out.old ++ lock_letter self.now.lock }
     {
         if let Some(lock) = &self.lock {
@@ -222,7 +231,7 @@ impl Arbiter {
 
     /// Sends the grant of the lock again, if there is one.
     pub(crate) fn tick(&self, out: &mut Outbox<MaekawaMsg>)
-        requires { length out.old ≤ 21 }
+        requires { length out.old ≤ MOST_NODES }
         ensures { out.new ≡ out.old ++ lock_letter self.now.lock }
     {
         self.send_lock(out);

@@ -87,7 +87,8 @@ impl Exclusion for Maekawa {
 
     fn can_enter(&self) -> bool
         ensures value { result ≡ can_enter_of self.now.requester }
-        ensures granted { IsTrue result ↔ ((self.now.requester.phase ≡ Waiting) × HoldsAll self.now.requester) }
+        ensures granted { IsTrue result
+            ↔ ((self.now.requester.phase ≡ Waiting) × HoldsAll self.now.requester) }
     {
         self.requester.can_enter()
     }

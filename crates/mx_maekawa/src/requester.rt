@@ -2,7 +2,7 @@
 
 use mx_letters::{MaekawaMsg, Outbox};
 use mx_nodelaws::{AskFault, CancelFault, EnterFault, LeaveFault, Phase};
-use mx_stamps::{Clock, NodeId, Stamp};
+use mx_stamps::{Clock, MOST_NODES, NodeId, Stamp};
 use std::marker::Model;
 
 mod answers;
@@ -14,7 +14,7 @@ pub(crate) struct Requester {
     me: NodeId,
     /// The node's own set (S_i in the publication): for each node, whether it is one of its
     /// arbiters.
-    own: [bool; 21],
+    own: [bool; MOST_NODES as usize],
     /// How many nodes the cluster has.
     count: u8,
     /// The greatest section number, from 1 to 1,000,000. Added to the publication.
@@ -32,16 +32,16 @@ pub(crate) struct Requester {
     ours: Stamp,
     /// For each arbiter, the number of its grant (LOCKED) that is held for the current request.
     /// None where it has not come or was given back, and while the node is idle.
-    held: [Option<u64>; 21],
+    held: [Option<u64>; MOST_NODES as usize],
     /// For each arbiter, the highest grant number that was given back to it (RELINQUISH); the
     /// origin before the first. Added to the publication: a grant up to it does not count again.
-    back: [u64; 21],
+    back: [u64; MOST_NODES as usize],
     /// For each arbiter, whether it has failed the current request (FAILED) or got its grant back,
     /// and has not granted the request since.
-    failed: [bool; 21],
+    failed: [bool; MOST_NODES as usize],
     /// For each arbiter, the grant that it has asked back (INQUIRE), while the node waits and does
     /// not know yet whether it will get every grant. None where no such answer is owed.
-    remembered: [Option<u64>; 21],
+    remembered: [Option<u64>; MOST_NODES as usize],
     /// The highest section number that the node knows, from its own sections and from the grants
     /// that it took; 0 at the start. Added to the publication.
     top: u64,
@@ -52,27 +52,51 @@ pub(crate) struct Requester {
 
 impl Model for Requester {
     ghost use Rattle.std.specs.Prelude.{◌≤◌};
+    ghost use Rattle.mx_stamps.specs.declared.limits.TheConstants.{MOST_NODES, MOST_SECTIONS};
     ghost use Rattle.mx_nodelaws.specs.Core.{BearsNumber};
     ghost use Rattle.mx_maekawa.specs.Node.{RequesterState};
 
     ghost Value = { RequesterState };
 
-    ghost view = { λ r. record { me = r.me; own = r.own; count = r.count; limit = r.limit; phase = r.phase; highest = r.highest; issued = r.issued; ours = r.ours; held = r.held; back = r.back; failed = r.failed; remembered = r.remembered; top = r.top; mine = r.mine } };
+    ghost view = { λ r. record {
+      me = r.me;
+      own = r.own;
+      count = r.count;
+      limit = r.limit;
+      phase = r.phase;
+      highest = r.highest;
+      issued = r.issued;
+      ours = r.ours;
+      held = r.held;
+      back = r.back;
+      failed = r.failed;
+      remembered = r.remembered;
+      top = r.top;
+      mine = r.mine;
+    } };
 
-    ghost invariant = { λ r. (r.count ≤ 21) × (r.mine ≤ 1000000) × (r.limit ≤ 1000000) × BearsNumber r.phase };
+    ghost invariant = { λ r. (r.count ≤ MOST_NODES) × (r.mine ≤ MOST_SECTIONS)
+        × (r.limit ≤ MOST_SECTIONS) × BearsNumber r.phase };
 }
 
 impl Requester {
     ghost use Rattle.std.specs.Prelude.{◌≡◌, ◌≤◌, ◌↔◌, [], length, max, IsTrue};
+    ghost use Rattle.mx_stamps.specs.declared.limits.TheConstants.{MOST_NODES, MOST_SECTIONS};
     ghost use Rattle.mx_nodelaws.specs.Core.{BearsNumber};
     ghost use Rattle.mx_nodelaws.specs.World.{addressed};
     ghost use Rattle.mx_nodelaws.specs.declared.phase.Phase.TheVariants.{Waiting};
     ghost use Rattle.mx_maekawa.specs.RequesterStep.{start_requester, is_own, holds, HoldsAll, holds_all, to_own, ask_in, can_enter_of, enter_in, leave_in, cancel_in, ended, to_missing, request_again};
 
     /// A requester that has just been started.
-    pub(crate) fn start(me: NodeId, own: &[bool; 21], count: u8, origin: u64, limit: u64) -> Self
-        requires few { count ≤ 21 }
-        requires high { limit ≤ 1000000 }
+    pub(crate) fn start(
+        me: NodeId,
+        own: &[bool; MOST_NODES as usize],
+        count: u8,
+        origin: u64,
+        limit: u64,
+    ) -> Self
+        requires few { count ≤ MOST_NODES }
+        requires high { limit ≤ MOST_SECTIONS }
         ensures { result ≡ start_requester me own.now count origin limit }
     {
         Requester {
@@ -87,10 +111,10 @@ impl Requester {
                 number: 0,
                 node: me,
             },
-            held: [None; 21],
-            back: [origin; 21],
-            failed: [false; 21],
-            remembered: [None; 21],
+            held: [None; MOST_NODES as usize],
+            back: [origin; MOST_NODES as usize],
+            failed: [false; MOST_NODES as usize],
+            remembered: [None; MOST_NODES as usize],
             top: 0,
             mine: 0,
         }
@@ -114,12 +138,12 @@ impl Requester {
     /// The number of the last section that the node entered.
     pub(crate) fn mine(&self) -> u64
         ensures value { result ≡ self.now.mine }
-        ensures high { result ≤ 1000000 }
+        ensures high { result ≤ MOST_SECTIONS }
     {
         self.mine
     }
 
-    /// Whether this node is one of the own arbiters.
+    /// Whether this node is one of its arbiters.
     pub(crate) fn is_own(&self, node: NodeId) -> bool
         ensures { result ≡ is_own self.now node }
     {
@@ -133,7 +157,7 @@ impl Requester {
         self.held[a.get() as usize].is_some()
     }
 
-    /// Whether a grant of every own arbiter is held.
+    /// Whether a grant of each of its arbiters is held.
     fn holds_all(&self) -> bool
         ensures value { result ≡ holds_all self.now }
         ensures all { IsTrue result ↔ HoldsAll self.now }
@@ -147,7 +171,7 @@ impl Requester {
         all
     }
 
-    /// Sends a letter to each own arbiter.
+    /// Sends a letter to each of its arbiters.
     fn send_own(&self, letter: &MaekawaMsg, out: &mut Outbox<MaekawaMsg>)
         requires { out.old ≡ [] }
         ensures { out.new ≡ addressed (to_own self.now letter.now) self.now.count }
@@ -161,11 +185,11 @@ impl Requester {
         }
     }
 
-    /// Sends a letter to each own arbiter whose grant is missing.
+    /// Sends a letter to each of its arbiters whose grant is missing.
     fn send_missing(&self, letter: &MaekawaMsg, out: &mut Outbox<MaekawaMsg>)
         requires { out.old ≡ [] }
         ensures value { out.new ≡ addressed (to_missing self.now letter.now) self.now.count }
-        ensures room { length out.new ≤ 21 }
+        ensures room { length out.new ≤ MOST_NODES }
     {
         for i in 0..self.count {
             if let Some(to) = NodeId::of(i) {
@@ -176,7 +200,7 @@ impl Requester {
         }
     }
 
-    /// Sends a request with a new stamp to each own arbiter.
+    /// Sends a request with a new stamp to each of its arbiters.
     pub(crate) fn ask(&mut self, out: &mut Outbox<MaekawaMsg>) -> Result<Stamp, AskFault>
         requires { out.old ≡ [] }
         ensures state { self.new ≡ (ask_in self.old.phase self.old).state }
@@ -191,9 +215,9 @@ impl Requester {
         };
         self.issued = ours.number;
         self.ours = ours;
-        self.held = [None; 21];
-        self.failed = [false; 21];
-        self.remembered = [None; 21];
+        self.held = [None; MOST_NODES as usize];
+        self.failed = [false; MOST_NODES as usize];
+        self.remembered = [None; MOST_NODES as usize];
         self.phase = Phase::Waiting;
         self.send_own(&MaekawaMsg::Request(ours), out);
         Ok(ours)
@@ -206,7 +230,7 @@ impl Requester {
         self.highest.see(number);
     }
 
-    /// Whether the node waits, and holds a grant of every own arbiter.
+    /// Whether the node waits, and holds a grant of each of its arbiters.
     pub(crate) fn can_enter(&self) -> bool
         ensures value { result ≡ can_enter_of self.now }
         ensures granted { IsTrue result ↔ ((self.now.phase ≡ Waiting) × HoldsAll self.now) }
@@ -231,12 +255,12 @@ impl Requester {
         self.top += 1;
         self.mine = self.top;
         self.phase = Phase::Inside(self.top);
-        let none_remembered = [None; 21];
+        let none_remembered = [None; MOST_NODES as usize];
         self.remembered = none_remembered;
         Ok(self.top)
     }
 
-    /// Leaves the section, and sends a release to each own arbiter.
+    /// Leaves the section, and sends a release to each of its arbiters.
     pub(crate) fn leave(&mut self, out: &mut Outbox<MaekawaMsg>) -> Result<u64, LeaveFault>
         requires { out.old ≡ [] }
         ensures state { self.new ≡ (leave_in self.old.phase self.old).state }
@@ -250,7 +274,7 @@ impl Requester {
         Ok(number)
     }
 
-    /// Gives the request up, and sends a release to each own arbiter.
+    /// Gives the request up, and sends a release to each of its arbiters.
     pub(crate) fn cancel(&mut self, out: &mut Outbox<MaekawaMsg>) -> Result<(), CancelFault>
         requires { out.old ≡ [] }
         ensures state { self.new ≡ (cancel_in self.old.phase self.old).state }
@@ -264,8 +288,8 @@ impl Requester {
         Ok(())
     }
 
-    /// Ends the current request: the node is idle and holds no grant, and each own arbiter is sent
-    /// a release.
+    /// Ends the current request: the node is idle and holds no grant, and each of its arbiters is
+    /// sent a release.
     fn end_request(&mut self, out: &mut Outbox<MaekawaMsg>)
         requires { out.old ≡ [] }
         ensures state { self.new ≡ (ended self.old).state }
@@ -273,19 +297,20 @@ impl Requester {
     {
         self.send_own(&MaekawaMsg::Release(self.ours, self.top), out);
         self.phase = Phase::Idle;
-        let no_grants = [None; 21];
+        let no_grants = [None; MOST_NODES as usize];
         self.held = no_grants;
-        let no_failures = [false; 21];
+        let no_failures = [false; MOST_NODES as usize];
         self.failed = no_failures;
-        let no_inquiries = [None; 21];
+        let no_inquiries = [None; MOST_NODES as usize];
         self.remembered = no_inquiries;
     }
 
-    /// Sends the request again, while the node waits, to each own arbiter whose grant is missing.
+    /// Sends the request again, while the node waits, to each of its arbiters whose grant is
+    /// missing.
     pub(crate) fn tick(&self, out: &mut Outbox<MaekawaMsg>)
         requires { out.old ≡ [] }
         ensures letters { out.new ≡ request_again self.now }
-        ensures room { length out.new ≤ 21 }
+        ensures room { length out.new ≤ MOST_NODES }
     {
         if matches!(self.phase, Phase::Waiting) {
             self.send_missing(&MaekawaMsg::Request(self.ours), out);

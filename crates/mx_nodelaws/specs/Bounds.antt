@@ -19,17 +19,22 @@ BoundedPhase Idle = Unit {0}
 BoundedPhase Waiting = Unit {0}
 BoundedPhase (Inside n) = IsU64 n
 
--- each letter goes to one of n nodes, and what the algorithm says of its letters (Letter) holds of it
+-- each letter goes to one of n nodes, and what an algorithm says of its letters (Letter) holds
+-- of it
 abbrev pub AreBounded : {M : Type 0} → (ℕ → M → Type 0) → ℕ → List (ℕ × M) → Type 0
-AreBounded {M} Letter n letters = (b : ℕ) (m : M) → IsIn {X = ℕ × M} (b, m) letters → (b < n) × Letter n m
+AreBounded {M} Letter n letters =
+    (b : ℕ) (m : M) → IsIn {X = ℕ × M} (b, m) letters → (b < n) × Letter n m
 
 -- a step of one of n nodes, of whose state (Node) and letters (Letter) that holds
-pub record IsBoundedDone {S A M : Type 0} (Node : ℕ → S → Type 0) (Letter : ℕ → M → Type 0) (n : ℕ) (done : Done S A M) : Type 0 where
+pub record IsBoundedDone {S A M : Type 0} (Node : ℕ → S → Type 0) (Letter : ℕ → M → Type 0) (n : ℕ)
+    (done : Done S A M) : Type 0 where
   pub state : Node n done.state
   pub letters : AreBounded Letter n done.letters
 
--- a world of whose nodes and letters that holds, and whose letters are from one of its nodes to another
--- or the same
-pub record IsBoundedWorld {S M : Type 0} (Node : ℕ → S → Type 0) (Letter : ℕ → M → Type 0) (w : World S M) : Type 0 where
+-- a world of whose nodes and letters that holds, and whose letters are from one of its nodes to
+-- another or the same
+pub record IsBoundedWorld {S M : Type 0} (Node : ℕ → S → Type 0) (Letter : ℕ → M → Type 0)
+    (w : World S M) : Type 0 where
   pub nodes : (i : ℕ) (s : S) → IsNode w i s → Node (length w.nodes) s
-  pub letters : (a b : ℕ) (m : M) → WasSent w a b m → (a < length w.nodes) × (b < length w.nodes) × Letter (length w.nodes) m
+  pub letters : (a b : ℕ) (m : M) → WasSent w a b m →
+      (a < length w.nodes) × (b < length w.nodes) × Letter (length w.nodes) m

@@ -22,8 +22,12 @@ abbrev pub refused : {S : Type 0} → S → EnterFault → Quiet S (Result ℕ E
 refused s fault = record { state = s; answer = Err fault }
 
 -- ask: an idle node asks, unless the counter that its stamps are drawn from is at its end
-abbrev pub ask_by : {S M : Type 0} → (S → ℕ) → (S → Done S Stamp M) → Phase → S → Done S (Result Stamp AskFault) M
-ask_by counter asked Idle s = if nat_lt (counter s) last_number then answering (asked s) (Ok (asked s).answer) else unchanged s (Err StampsSpent)
+abbrev pub ask_by : {S M : Type 0} → (S → ℕ) → (S → Done S Stamp M) → Phase → S →
+    Done S (Result Stamp AskFault) M
+ask_by counter asked Idle s =
+    if nat_lt (counter s) last_number
+    then answering (asked s) (Ok (asked s).answer)
+    else unchanged s (Err StampsSpent)
 ask_by counter asked Waiting s = unchanged s (Err NotIdle)
 ask_by counter asked (Inside n) s = unchanged s (Err NotIdle)
 
@@ -32,20 +36,25 @@ abbrev pub entered_by : {S : Type 0} → (S → ℕ) → (S → S) → S → Qui
 entered_by top entering s = record { state = entering s; answer = Ok (top s + 1) }
 
 -- a waiting node enters where it has every permission and the limit is not reached
-abbrev pub enter_by : {S : Type 0} → (S → Bool) → (S → ℕ) → (S → ℕ) → (S → S) → Phase → S → Quiet S (Result ℕ EnterFault)
+abbrev pub enter_by : {S : Type 0} → (S → Bool) → (S → ℕ) → (S → ℕ) → (S → S) → Phase → S →
+    Quiet S (Result ℕ EnterFault)
 enter_by granted top limit entering Idle s = refused s NotWaiting
 enter_by granted top limit entering Waiting s =
-    if granted s then (if nat_lt (top s) (limit s) then entered_by top entering s else refused s NumbersSpent) else refused s NotGranted
+    if granted s
+    then (if nat_lt (top s) (limit s) then entered_by top entering s else refused s NumbersSpent)
+    else refused s NotGranted
 enter_by granted top limit entering (Inside n) s = refused s NotWaiting
 
--- leave: a node that is inside leaves, and answers the number of its section
-abbrev pub leave_by : {S M : Type 0} → (S → Done S (Unit {0}) M) → Phase → S → Done S (Result ℕ LeaveFault) M
+-- leave: a node that is inside leaves, and the answer is the number of its section
+abbrev pub leave_by : {S M : Type 0} → (S → Done S (Unit {0}) M) → Phase → S →
+    Done S (Result ℕ LeaveFault) M
 leave_by left Idle s = unchanged s (Err NotInside)
 leave_by left Waiting s = unchanged s (Err NotInside)
 leave_by left (Inside n) s = answering (left s) (Ok n)
 
 -- cancel: a waiting node gives its request up
-abbrev pub cancel_by : {S M : Type 0} → (S → Done S (Unit {0}) M) → Phase → S → Done S (Result (Unit {0}) CancelFault) M
+abbrev pub cancel_by : {S M : Type 0} → (S → Done S (Unit {0}) M) → Phase → S →
+    Done S (Result (Unit {0}) CancelFault) M
 cancel_by cancelled Idle s = unchanged s (Err cancel.NotWaiting)
 cancel_by cancelled Waiting s = answering (cancelled s) (Ok tt)
 cancel_by cancelled (Inside n) s = unchanged s (Err cancel.NotWaiting)

@@ -1,5 +1,6 @@
 -- The step table of an exclusion algorithm, and the promises on phases.
 use Rattle.std.specs.Prelude.{ℕ, ◌<◌, ◌≤◌, ◌≡◌, ◌≢◌, ◌↔◌, Bool, true, false, [], Result, Ok, Err}
+use Rattle.mx_stamps.specs.declared.limits.TheConstants.{MOST_SECTIONS}
 use Rattle.mx_stamps.specs.declared.stamp.Stamp.{Stamp}
 use Rattle.mx_nodelaws.specs.declared.phase.Phase.{Phase}
 use Rattle.mx_nodelaws.specs.declared.phase.Phase.TheVariants.{Idle, Waiting, Inside}
@@ -16,7 +17,8 @@ use Rattle.mx_nodelaws.specs.World.{Done, Quiet}
 pub record Core (H S M : Type 0) : Type 0 where
   -- how many nodes a shape has
   pub count : H → ℕ
-  -- the state of a node that has just been started, from the shape, the node, the origin and the limit
+  -- the state of a node that has just been started, from the shape, the node, the origin and the
+  -- limit
   pub start : H → ℕ → ℕ → ℕ → S
   pub phase : S → Phase
   pub mine : S → ℕ
@@ -38,42 +40,61 @@ IsInside core s = (n : ℕ) × (core.phase s ≡ Inside n)
 abbrev pub BearsNumber : Phase → Type 0
 BearsNumber Idle = Unit {0}
 BearsNumber Waiting = Unit {0}
-BearsNumber (Inside n) = (0 < n) × (n ≤ 1000000)
+BearsNumber (Inside n) = (0 < n) × (n ≤ MOST_SECTIONS)
 
--- the promises on the phase, on `mine` (the last own section number) and on the limit, for every state
+-- the promises on the phase, on `mine` (the last own section number) and on the limit, for every
+-- state
 pub record KeepsPhases {H S M : Type 0} (core : Core H S M) : Type 0 where
-  -- a node that has just been started is idle, has entered no section, and has the limit that was given
-  pub started_idle : (shape : H) (i origin limit : ℕ) → core.phase (core.start shape i origin limit) ≡ Idle
-  pub started_mine : (shape : H) (i origin limit : ℕ) → core.mine (core.start shape i origin limit) ≡ 0
-  pub started_limit : (shape : H) (i origin limit : ℕ) → core.limit (core.start shape i origin limit) ≡ limit
+  -- a node that has just been started is idle, has entered no section, and has the limit that was
+  -- given
+  pub started_idle : (shape : H) (i origin limit : ℕ) →
+      core.phase (core.start shape i origin limit) ≡ Idle
+  pub started_mine : (shape : H) (i origin limit : ℕ) →
+      core.mine (core.start shape i origin limit) ≡ 0
+  pub started_limit : (shape : H) (i origin limit : ℕ) →
+      core.limit (core.start shape i origin limit) ≡ limit
   -- an accepted ask goes from Idle to Waiting, a refused one changes nothing
-  pub ask_ok : (s : S) (stamp : Stamp) → (core.ask s).answer ≡ Ok stamp → (core.phase s ≡ Idle) × (core.phase (core.ask s).state ≡ Waiting)
-  pub ask_err : (s : S) (e : AskFault) → (core.ask s).answer ≡ Err e → ((core.ask s).state ≡ s) × ((core.ask s).letters ≡ [])
+  pub ask_ok : (s : S) (stamp : Stamp) → (core.ask s).answer ≡ Ok stamp →
+      (core.phase s ≡ Idle) × (core.phase (core.ask s).state ≡ Waiting)
+  pub ask_err : (s : S) (e : AskFault) → (core.ask s).answer ≡ Err e →
+      ((core.ask s).state ≡ s) × ((core.ask s).letters ≡ [])
   pub ask_not_idle : (s : S) → ((core.ask s).answer ≡ Err NotIdle) ↔ (core.phase s ≢ Idle)
   pub ask_mine : (s : S) → core.mine (core.ask s).state ≡ core.mine s
   pub ask_limit : (s : S) → core.limit (core.ask s).state ≡ core.limit s
   -- a delivery changes none of the three
-  pub deliver_phase : (from : ℕ) (m : M) (s : S) → core.phase (core.deliver from m s).state ≡ core.phase s
-  pub deliver_mine : (from : ℕ) (m : M) (s : S) → core.mine (core.deliver from m s).state ≡ core.mine s
-  pub deliver_limit : (from : ℕ) (m : M) (s : S) → core.limit (core.deliver from m s).state ≡ core.limit s
+  pub deliver_phase : (from : ℕ) (m : M) (s : S) →
+      core.phase (core.deliver from m s).state ≡ core.phase s
+  pub deliver_mine : (from : ℕ) (m : M) (s : S) →
+      core.mine (core.deliver from m s).state ≡ core.mine s
+  pub deliver_limit : (from : ℕ) (m : M) (s : S) →
+      core.limit (core.deliver from m s).state ≡ core.limit s
   -- a node can enter only where it waits
   pub can_enter_waiting : (s : S) → core.can_enter s ≡ true → core.phase s ≡ Waiting
   -- an accepted enter goes from Waiting to Inside, a refused one changes nothing
-  pub enter_ok : (s : S) (n : ℕ) → (core.enter s).answer ≡ Ok n → (core.can_enter s ≡ true) × (core.phase (core.enter s).state ≡ Inside n) × (core.mine (core.enter s).state ≡ n)
-  pub enter_err : (s : S) (e : EnterFault) → (core.enter s).answer ≡ Err e → (core.enter s).state ≡ s
-  pub enter_not_waiting : (s : S) → ((core.enter s).answer ≡ Err NotWaiting) ↔ (core.phase s ≢ Waiting)
-  pub enter_not_granted : (s : S) → ((core.enter s).answer ≡ Err NotGranted) ↔ ((core.phase s ≡ Waiting) × (core.can_enter s ≡ false))
+  pub enter_ok : (s : S) (n : ℕ) → (core.enter s).answer ≡ Ok n → (core.can_enter s ≡ true)
+      × (core.phase (core.enter s).state ≡ Inside n) × (core.mine (core.enter s).state ≡ n)
+  pub enter_err : (s : S) (e : EnterFault) → (core.enter s).answer ≡ Err e →
+      (core.enter s).state ≡ s
+  pub enter_not_waiting : (s : S) →
+      ((core.enter s).answer ≡ Err NotWaiting) ↔ (core.phase s ≢ Waiting)
+  pub enter_not_granted : (s : S) → ((core.enter s).answer ≡ Err NotGranted)
+      ↔ ((core.phase s ≡ Waiting) × (core.can_enter s ≡ false))
   pub enter_limit : (s : S) → core.limit (core.enter s).state ≡ core.limit s
-  -- a leave is accepted exactly inside, and answers the section's number
+  -- a leave is accepted exactly inside, and its answer is the section's number
   pub leave_inside : (s : S) (n : ℕ) → ((core.leave s).answer ≡ Ok n) ↔ (core.phase s ≡ Inside n)
-  pub leave_ok : (s : S) (n : ℕ) → (core.leave s).answer ≡ Ok n → core.phase (core.leave s).state ≡ Idle
-  pub leave_err : (s : S) (e : LeaveFault) → (core.leave s).answer ≡ Err e → ((core.leave s).state ≡ s) × ((core.leave s).letters ≡ [])
+  pub leave_ok : (s : S) (n : ℕ) → (core.leave s).answer ≡ Ok n →
+      core.phase (core.leave s).state ≡ Idle
+  pub leave_err : (s : S) (e : LeaveFault) → (core.leave s).answer ≡ Err e →
+      ((core.leave s).state ≡ s) × ((core.leave s).letters ≡ [])
   pub leave_mine : (s : S) → core.mine (core.leave s).state ≡ core.mine s
   pub leave_limit : (s : S) → core.limit (core.leave s).state ≡ core.limit s
   -- an accepted cancel goes from Waiting to Idle, a refused one changes nothing
-  pub cancel_ok : (s : S) → (core.cancel s).answer ≡ Ok tt → (core.phase s ≡ Waiting) × (core.phase (core.cancel s).state ≡ Idle)
-  pub cancel_err : (s : S) (e : CancelFault) → (core.cancel s).answer ≡ Err e → ((core.cancel s).state ≡ s) × ((core.cancel s).letters ≡ [])
-  pub cancel_not_waiting : (s : S) → ((core.cancel s).answer ≡ Err cancel.NotWaiting) ↔ (core.phase s ≢ Waiting)
+  pub cancel_ok : (s : S) → (core.cancel s).answer ≡ Ok tt →
+      (core.phase s ≡ Waiting) × (core.phase (core.cancel s).state ≡ Idle)
+  pub cancel_err : (s : S) (e : CancelFault) → (core.cancel s).answer ≡ Err e →
+      ((core.cancel s).state ≡ s) × ((core.cancel s).letters ≡ [])
+  pub cancel_not_waiting : (s : S) →
+      ((core.cancel s).answer ≡ Err cancel.NotWaiting) ↔ (core.phase s ≢ Waiting)
   pub cancel_mine : (s : S) → core.mine (core.cancel s).state ≡ core.mine s
   pub cancel_limit : (s : S) → core.limit (core.cancel s).state ≡ core.limit s
   -- a tick changes none of the three

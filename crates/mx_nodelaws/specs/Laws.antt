@@ -1,5 +1,6 @@
 -- The laws of an exclusion algorithm, with a predicate Good over worlds.
 use Rattle.std.specs.Prelude.{ℕ, ◌+◌, ◌<◌, ◌≤◌, ◌^◌, ◌≡◌, ◌↔◌, true, List, [], Ok, Err, length, nat_lt, if◌then◌else◌}
+use Rattle.mx_stamps.specs.declared.limits.TheConstants.{MOST_SECTIONS}
 use Rattle.mx_stamps.specs.Lists.{IsIn, each_below, greatest}
 use Rattle.mx_nodelaws.specs.declared.faults.EnterFault.TheVariants.{NumbersSpent}
 use Rattle.mx_nodelaws.specs.World.{World, quietly, IsNode, WasSent, after}
@@ -8,31 +9,47 @@ use Rattle.mx_nodelaws.specs.Core.{Core, IsInside}
 module _ {H S M : Type 0} where
   -- each node has just been started, and nothing was sent
   abbrev pub started : Core H S M → H → ℕ → ℕ → World S M
-  started core shape origin limit =
-      record { nodes = each_below (λ i. core.start shape i origin limit) (core.count shape); sent = [] }
+  started core shape origin limit = record {
+    nodes = each_below (λ i. core.start shape i origin limit) (core.count shape);
+    sent = [];
+  }
 
   -- the greatest number of a section that some node entered, 0 before the first
   abbrev pub greatest_mine : Core H S M → World S M → ℕ
   greatest_mine core w = greatest core.mine w.nodes
 
-  pub record KeepsGood (core : Core H S M) (IsShape : H → Type 0) (Good : World S M → Type 0) : Type 0 where
+  pub record KeepsGood (core : Core H S M) (IsShape : H → Type 0)
+      (Good : World S M → Type 0) : Type 0 where
     -- start law: the world at rest is Good
-    pub at_start : (shape : H) (origin limit : ℕ) → IsShape shape → origin < 2 ^ 64 → 0 < limit → limit ≤ 1000000 → Good (started core shape origin limit)
-    -- step law: each call of each node keeps Good; a letter that is delivered was sent to that node, at any
-    -- time before
-    pub after_ask : (w : World S M) (i : ℕ) (s : S) → Good w → IsNode w i s → Good (after w i (core.ask s))
-    pub after_deliver : (w : World S M) (i : ℕ) (s : S) (from : ℕ) (m : M) → Good w → IsNode w i s → WasSent w from i m → Good (after w i (core.deliver from m s))
-    pub after_enter : (w : World S M) (i : ℕ) (s : S) → Good w → IsNode w i s → Good (after w i (quietly (core.enter s)))
-    pub after_leave : (w : World S M) (i : ℕ) (s : S) → Good w → IsNode w i s → Good (after w i (core.leave s))
-    pub after_cancel : (w : World S M) (i : ℕ) (s : S) → Good w → IsNode w i s → Good (after w i (core.cancel s))
-    pub after_tick : (w : World S M) (i : ℕ) (s : S) → Good w → IsNode w i s → Good (after w i (core.tick s))
+    pub at_start : (shape : H) (origin limit : ℕ) → IsShape shape → origin < 2 ^ 64 → 0 < limit →
+        limit ≤ MOST_SECTIONS → Good (started core shape origin limit)
+    -- step law: each call of each node keeps Good; a letter that is delivered was sent to that
+    -- node, at any time before
+    pub after_ask : (w : World S M) (i : ℕ) (s : S) → Good w → IsNode w i s →
+        Good (after w i (core.ask s))
+    pub after_deliver : (w : World S M) (i : ℕ) (s : S) (from : ℕ) (m : M) → Good w → IsNode w i s →
+        WasSent w from i m → Good (after w i (core.deliver from m s))
+    pub after_enter : (w : World S M) (i : ℕ) (s : S) → Good w → IsNode w i s →
+        Good (after w i (quietly (core.enter s)))
+    pub after_leave : (w : World S M) (i : ℕ) (s : S) → Good w → IsNode w i s →
+        Good (after w i (core.leave s))
+    pub after_cancel : (w : World S M) (i : ℕ) (s : S) → Good w → IsNode w i s →
+        Good (after w i (core.cancel s))
+    pub after_tick : (w : World S M) (i : ℕ) (s : S) → Good w → IsNode w i s →
+        Good (after w i (core.tick s))
     -- Good depends on which letters were sent, and not on how often or in which order
-    pub by_membership : (w : World S M) (sent : List (ℕ × ℕ × M)) → ((x : ℕ × ℕ × M) → IsIn x w.sent ↔ IsIn x sent) → Good w → Good (record { nodes = w.nodes; sent = sent })
+    pub by_membership : (w : World S M) (sent : List (ℕ × ℕ × M)) →
+        ((x : ℕ × ℕ × M) → IsIn x w.sent ↔ IsIn x sent) → Good w →
+        Good (record { nodes = w.nodes; sent = sent })
     -- each letter was sent to a node
     pub to_nodes : (w : World S M) (a b : ℕ) (m : M) → Good w → WasSent w a b m → b < length w.nodes
     -- exclusion law: at most one node is inside
-    pub one_inside : (w : World S M) (i j : ℕ) (s t : S) → Good w → IsNode w i s → IsNode w j t → IsInside core s → IsInside core t → i ≡ j
-    -- numbering law: where a node can enter nobody is inside, and it draws the next number up to the limit
+    pub one_inside : (w : World S M) (i j : ℕ) (s t : S) → Good w → IsNode w i s → IsNode w j t →
+        IsInside core s → IsInside core t → i ≡ j
+    -- numbering law: where a node can enter nobody is inside, and it draws the next number up to
+    -- the limit
     pub entry : (w : World S M) (i : ℕ) (s : S) → Good w → IsNode w i s → core.can_enter s ≡ true →
         ((j : ℕ) (t : S) → IsNode w j t → IsInside core t → ⊥)
-        × ((core.enter s).answer ≡ (if nat_lt (greatest_mine core w) (core.limit s) then Ok (greatest_mine core w + 1) else Err NumbersSpent))
+        × ((core.enter s).answer ≡ (if nat_lt (greatest_mine core w) (core.limit s)
+        then Ok (greatest_mine core w + 1)
+        else Err NumbersSpent))

@@ -1,6 +1,7 @@
--- The rows of an algorithm's step table, where the phase refuses nothing. What a phase refuses, and how
--- sections are numbered, is the same for all algorithms: core_of adds it.
+-- The rows of an algorithm's step table, where the phase refuses nothing. What a phase refuses, and
+-- how sections are numbered, is the same for all algorithms: core_of adds it.
 use Rattle.std.specs.Prelude.{ℕ, ◌+◌, ◌<◌, ◌≤◌, ◌^◌, ◌≡◌, ◌↔◌, ◌&&◌, Bool, true, List}
+use Rattle.mx_stamps.specs.declared.limits.TheConstants.{MOST_SECTIONS}
 use Rattle.mx_stamps.specs.declared.stamp.Stamp.{Stamp}
 use Rattle.mx_stamps.specs.Lists.{IsIn, greatest}
 use Rattle.mx_stamps.specs.Numbers.{last_number}
@@ -17,15 +18,17 @@ use Rattle.mx_nodelaws.specs.declared.phase.Phase.TheVariants.{Idle, Waiting, In
 pub record Rows (H S M : Type 0) : Type 0 where
   -- how many nodes a shape has
   pub count : H → ℕ
-  -- the state of a node that has just been started, from the shape, the node, the origin and the limit
+  -- the state of a node that has just been started, from the shape, the node, the origin and the
+  -- limit
   pub start : H → ℕ → ℕ → ℕ → S
   pub phase : S → Phase
-  -- the number of the last section that it entered, the highest that it knows, the greatest there may be
+  -- the number of the last section that it entered, the highest that it knows, the greatest there
+  -- may be
   pub mine : S → ℕ
   pub top : S → ℕ
   pub limit : S → ℕ
-  -- the counter that `ask` draws from: the highest stamp number that it has drawn or seen, or how many of
-  -- its asks were accepted
+  -- the counter that `ask` draws from: the highest stamp number that it has drawn or seen, or how
+  -- many of its asks were accepted
   pub counter : S → ℕ
   -- every permission for its request is there
   pub is_granted : S → Bool
@@ -73,40 +76,67 @@ course_of rows s = course (rows.phase s) (rows.mine s) (rows.limit s)
 
 -- what each row makes of the course of a node: from this the promises on phases follow
 pub record KeepsCourse {H S M : Type 0} (rows : Rows H S M) : Type 0 where
-  pub start : (shape : H) (i origin limit : ℕ) → course_of rows (rows.start shape i origin limit) ≡ course Idle 0 limit
-  pub ask : (s : S) → course_of rows (rows.ask s).state ≡ course Waiting (rows.mine s) (rows.limit s)
-  pub deliver : (from : ℕ) (m : M) (s : S) → course_of rows (rows.deliver from m s).state ≡ course_of rows s
-  pub enter : (s : S) → course_of rows (rows.enter s) ≡ course (Inside (rows.top s + 1)) (rows.top s + 1) (rows.limit s)
-  pub leave : (s : S) → course_of rows (rows.leave s).state ≡ course Idle (rows.mine s) (rows.limit s)
-  pub cancel : (s : S) → course_of rows (rows.cancel s).state ≡ course Idle (rows.mine s) (rows.limit s)
+  pub start : (shape : H) (i origin limit : ℕ) →
+      course_of rows (rows.start shape i origin limit) ≡ course Idle 0 limit
+  pub ask : (s : S) →
+      course_of rows (rows.ask s).state ≡ course Waiting (rows.mine s) (rows.limit s)
+  pub deliver : (from : ℕ) (m : M) (s : S) →
+      course_of rows (rows.deliver from m s).state ≡ course_of rows s
+  pub enter : (s : S) → course_of rows (rows.enter s)
+      ≡ course (Inside (rows.top s + 1)) (rows.top s + 1) (rows.limit s)
+  pub leave : (s : S) →
+      course_of rows (rows.leave s).state ≡ course Idle (rows.mine s) (rows.limit s)
+  pub cancel : (s : S) →
+      course_of rows (rows.cancel s).state ≡ course Idle (rows.mine s) (rows.limit s)
   pub tick : (s : S) → course_of rows (rows.tick s).state ≡ course_of rows s
 
 -- each row keeps a world safe, and in a safe world sections exclude one another and are numbered
-pub record KeepsSafe {H S M : Type 0} (rows : Rows H S M) (IsShape : H → Type 0) (Safe : World S M → Type 0) : Type 0 where
-  pub start : (shape : H) (origin limit : ℕ) → IsShape shape → Safe (started (core_of rows) shape origin limit)
-  pub ask : (w : World S M) (i : ℕ) (s : S) → Safe w → IsNode w i s → rows.phase s ≡ Idle → Safe (after w i (rows.ask s))
-  pub deliver : (w : World S M) (i : ℕ) (s : S) → Safe w → IsNode w i s → (from : ℕ) (m : M) → WasSent w from i m → Safe (after w i (rows.deliver from m s))
-  pub enter : (w : World S M) (i : ℕ) (s : S) → Safe w → IsNode w i s → rows.phase s ≡ Waiting → rows.is_granted s ≡ true → Safe (after w i (becoming (rows.enter s)))
-  pub leave : (w : World S M) (i : ℕ) (s : S) → Safe w → IsNode w i s → (n : ℕ) → rows.phase s ≡ Inside n → Safe (after w i (rows.leave s))
-  pub cancel : (w : World S M) (i : ℕ) (s : S) → Safe w → IsNode w i s → rows.phase s ≡ Waiting → Safe (after w i (rows.cancel s))
-  pub tick : (w : World S M) (i : ℕ) (s : S) → Safe w → IsNode w i s → Safe (after w i (rows.tick s))
-  pub by_membership : (w : World S M) (sent : List (ℕ × ℕ × M)) → ((x : ℕ × ℕ × M) → IsIn x w.sent ↔ IsIn x sent) → Safe w → Safe (record { nodes = w.nodes; sent = sent })
-  pub one_inside : (w : World S M) (i j : ℕ) (s t : S) → Safe w → IsNode w i s → IsNode w j t → IsInside (core_of rows) s → IsInside (core_of rows) t → i ≡ j
+pub record KeepsSafe {H S M : Type 0} (rows : Rows H S M) (IsShape : H → Type 0)
+    (Safe : World S M → Type 0) : Type 0 where
+  pub start : (shape : H) (origin limit : ℕ) → IsShape shape →
+      Safe (started (core_of rows) shape origin limit)
+  pub ask : (w : World S M) (i : ℕ) (s : S) → Safe w → IsNode w i s → rows.phase s ≡ Idle →
+      Safe (after w i (rows.ask s))
+  pub deliver : (w : World S M) (i : ℕ) (s : S) → Safe w → IsNode w i s → (from : ℕ) (m : M) →
+      WasSent w from i m → Safe (after w i (rows.deliver from m s))
+  pub enter : (w : World S M) (i : ℕ) (s : S) → Safe w → IsNode w i s → rows.phase s ≡ Waiting →
+      rows.is_granted s ≡ true → Safe (after w i (becoming (rows.enter s)))
+  pub leave : (w : World S M) (i : ℕ) (s : S) → Safe w → IsNode w i s → (n : ℕ) →
+      rows.phase s ≡ Inside n → Safe (after w i (rows.leave s))
+  pub cancel : (w : World S M) (i : ℕ) (s : S) → Safe w → IsNode w i s → rows.phase s ≡ Waiting →
+      Safe (after w i (rows.cancel s))
+  pub tick : (w : World S M) (i : ℕ) (s : S) → Safe w → IsNode w i s →
+      Safe (after w i (rows.tick s))
+  pub by_membership : (w : World S M) (sent : List (ℕ × ℕ × M)) →
+      ((x : ℕ × ℕ × M) → IsIn x w.sent ↔ IsIn x sent) → Safe w →
+      Safe (record { nodes = w.nodes; sent = sent })
+  pub one_inside : (w : World S M) (i j : ℕ) (s t : S) → Safe w → IsNode w i s → IsNode w j t →
+      IsInside (core_of rows) s → IsInside (core_of rows) t → i ≡ j
   -- where a node may enter nobody is inside, and it knows the number of the last section
-  pub nobody_inside : (w : World S M) (i : ℕ) (s : S) → Safe w → IsNode w i s → rows.phase s ≡ Waiting → rows.is_granted s ≡ true → (j : ℕ) (t : S) → IsNode w j t → IsInside (core_of rows) t → ⊥
-  pub top_greatest : (w : World S M) (i : ℕ) (s : S) → Safe w → IsNode w i s → rows.phase s ≡ Waiting → rows.is_granted s ≡ true → greatest rows.mine w.nodes ≡ rows.top s
+  pub nobody_inside : (w : World S M) (i : ℕ) (s : S) → Safe w → IsNode w i s →
+      rows.phase s ≡ Waiting → rows.is_granted s ≡ true → (j : ℕ) (t : S) → IsNode w j t →
+      IsInside (core_of rows) t → ⊥
+  pub top_greatest : (w : World S M) (i : ℕ) (s : S) → Safe w → IsNode w i s →
+      rows.phase s ≡ Waiting → rows.is_granted s ≡ true → greatest rows.mine w.nodes ≡ rows.top s
 
--- each row keeps each number a u64 value and each name one of n nodes, in states (Node) and letters (Letter)
-pub record KeepsBounds {H S M : Type 0} (rows : Rows H S M) (IsShape : H → Type 0) (Node : ℕ → S → Type 0) (Letter : ℕ → M → Type 0) : Type 0 where
-  pub start : (shape : H) (origin limit i : ℕ) → IsShape shape → origin < 2 ^ 64 → limit ≤ 1000000 → i < rows.count shape → Node (rows.count shape) (rows.start shape i origin limit)
-  pub ask : (n : ℕ) (s : S) → Node n s → rows.counter s < last_number → IsBoundedDone Node Letter n (rows.ask s)
-  pub deliver : (n : ℕ) (s : S) → Node n s → (from : ℕ) (m : M) → from < n → Letter n m → IsBoundedDone Node Letter n (rows.deliver from m s)
+-- each row keeps each number a u64 value and each name one of n nodes, in states (Node) and letters
+-- (Letter)
+pub record KeepsBounds {H S M : Type 0} (rows : Rows H S M) (IsShape : H → Type 0)
+    (Node : ℕ → S → Type 0) (Letter : ℕ → M → Type 0) : Type 0 where
+  pub start : (shape : H) (origin limit i : ℕ) → IsShape shape → origin < 2 ^ 64 →
+      limit ≤ MOST_SECTIONS → i < rows.count shape →
+      Node (rows.count shape) (rows.start shape i origin limit)
+  pub ask : (n : ℕ) (s : S) → Node n s → rows.counter s < last_number →
+      IsBoundedDone Node Letter n (rows.ask s)
+  pub deliver : (n : ℕ) (s : S) → Node n s → (from : ℕ) (m : M) → from < n → Letter n m →
+      IsBoundedDone Node Letter n (rows.deliver from m s)
   pub enter : (n : ℕ) (s : S) → Node n s → rows.top s < rows.limit s → Node n (rows.enter s)
   pub leave : (n : ℕ) (s : S) → Node n s → IsBoundedDone Node Letter n (rows.leave s)
   pub cancel : (n : ℕ) (s : S) → Node n s → IsBoundedDone Node Letter n (rows.cancel s)
   pub tick : (n : ℕ) (s : S) → Node n s → IsBoundedDone Node Letter n (rows.tick s)
 
 -- a safe world, each of whose numbers is a u64 value and each of whose names is a node
-pub record IsGoodWorld {S M : Type 0} (Safe : World S M → Type 0) (Node : ℕ → S → Type 0) (Letter : ℕ → M → Type 0) (w : World S M) : Type 0 where
+pub record IsGoodWorld {S M : Type 0} (Safe : World S M → Type 0) (Node : ℕ → S → Type 0)
+    (Letter : ℕ → M → Type 0) (w : World S M) : Type 0 where
   pub safe : Safe w
   pub bounded : IsBoundedWorld Node Letter w

@@ -2,7 +2,8 @@
 use Rattle.std.specs.Prelude.{ℕ, zero, suc, ◌≤◌, ◌≡◌, List, length, [], ◌∷◌, ◌++◌, Option, Some, None, slice_get, slice_set}
 use Rattle.mx_stamps.specs.Lists.{IsIn}
 
--- what one act of a node gives: its next state, its answer, and its letters in order, each with its addressee
+-- what one act of a node gives: its next state, its answer, and its letters in order, each with its
+-- addressee
 pub record Done (S A M : Type 0) : Type 0 where
   pub state : S
   pub answer : A
@@ -56,7 +57,10 @@ sent_by i (p ∷ ps) = (i, p.0, p.1) ∷ sent_by i ps
 
 -- node i takes its step, and its letters join those sent. Nothing else changes
 abbrev pub after : {S A M : Type 0} → World S M → ℕ → Done S A M → World S M
-after w i done = record { nodes = slice_set w.nodes i done.state; sent = w.sent ++ sent_by i done.letters }
+after w i done = record {
+  nodes = slice_set w.nodes i done.state;
+  sent = w.sent ++ sent_by i done.letters;
+}
 
 -- the letter, if there is one, to node n
 abbrev pub letter_to : {M : Type 0} → ℕ → Option M → List (ℕ × M)
@@ -73,6 +77,7 @@ abbrev pub AreSentBelow : {M : Type 0} → (ℕ → Option M) → ℕ → List (
 AreSentBelow f n out = (out ≡ addressed f n) × (length out ≤ n)
 
 -- a world of which each node and each letter sent is as it should be
-pub record IsEachOk {S M : Type 0} (NodeOk : World S M → ℕ → S → Type 0) (LetterOk : World S M → ℕ → ℕ → M → Type 0) (w : World S M) : Type 0 where
+pub record IsEachOk {S M : Type 0} (NodeOk : World S M → ℕ → S → Type 0)
+    (LetterOk : World S M → ℕ → ℕ → M → Type 0) (w : World S M) : Type 0 where
   pub nodes : (i : ℕ) (s : S) → IsNode w i s → NodeOk w i s
   pub letters : (a b : ℕ) (m : M) → WasSent w a b m → LetterOk w a b m

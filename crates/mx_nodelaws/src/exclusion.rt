@@ -10,7 +10,7 @@ use mx_stamps::{NodeId, Stamp};
 /// A node of an exclusion algorithm. Its step table is `core`; each call equals the table in state,
 /// answer and letters in order. The laws below the calls are what a cluster rests on.
 pub trait Exclusion: Drop {
-    ghost use Rattle.mx_stamps.specs.declared.limits.TheConstants.{MOST_NODES};
+    ghost use Rattle.mx_stamps.specs.declared.limits.TheConstants.{MOST_NODES, MOST_SECTIONS};
     ghost use Rattle.mx_nodelaws.specs.World.{World};
     ghost use Rattle.mx_nodelaws.specs.Core.{Core, KeepsPhases, BearsNumber};
     ghost use Rattle.mx_nodelaws.specs.Laws.{KeepsGood};
@@ -19,8 +19,8 @@ pub trait Exclusion: Drop {
     /// A letter.
     type Msg: Copy + Default;
 
-    /// What all nodes of a cluster know of it: how many there are and, where the algorithm needs it,
-    /// their sets of arbiters or their tree.
+    /// What all nodes of a cluster know of it: how many there are and, where the algorithm needs
+    /// it, their sets of arbiters or their tree.
     type Shape: Copy;
 
     // the step table
@@ -39,15 +39,15 @@ pub trait Exclusion: Drop {
         ensures low { 0 < result }
         ensures high { result ≤ MOST_NODES };
 
-    /// A node that has just been started. Its stamps, grants or hops count on from `origin`; `limit` is
-    /// the greatest section number.
+    /// A node that has just been started. Its stamps, grants or hops count on from `origin`;
+    /// `limit` is the greatest section number.
     fn start(shape: &Self::Shape, me: NodeId, origin: u64, limit: u64) -> Self
         requires node { me < core.count shape.now }
         requires low { 0 < limit }
-        requires high { limit ≤ 1000000 }
+        requires high { limit ≤ MOST_SECTIONS }
         ensures { result ≡ core.start shape.now me origin limit };
 
-    /// Asks for the next section, and answers the stamp of the request.
+    /// Asks for the next section, and returns the stamp of the request.
     fn ask(&mut self, out: &mut Outbox<Self::Msg>) -> Result<Stamp, AskFault>
         requires { out.old ≡ [] }
         ensures state { self.new ≡ (core.ask self.old).state }
@@ -64,12 +64,12 @@ pub trait Exclusion: Drop {
     fn can_enter(&self) -> bool
         ensures { result ≡ core.can_enter self.now };
 
-    /// Enters the section, and answers its number.
+    /// Enters the section, and returns its number.
     fn enter(&mut self) -> Result<u64, EnterFault>
         ensures state { self.new ≡ (core.enter self.old).state }
         ensures answer { result ≡ (core.enter self.old).answer };
 
-    /// Leaves the section, and answers its number.
+    /// Leaves the section, and returns its number.
     fn leave(&mut self, out: &mut Outbox<Self::Msg>) -> Result<u64, LeaveFault>
         requires { out.old ≡ [] }
         ensures state { self.new ≡ (core.leave self.old).state }
@@ -97,7 +97,7 @@ pub trait Exclusion: Drop {
     /// The number of the last section that this node entered, 0 before the first.
     fn mine(&self) -> u64
         ensures value { result ≡ core.mine self.now }
-        ensures high { result ≤ 1000000 };
+        ensures high { result ≤ MOST_SECTIONS };
 
     ghost phases: { KeepsPhases core };
 

@@ -8,8 +8,8 @@ pub enum AskFault {
     /// The node waits already, or is inside.
     #[error("not idle")]
     NotIdle,
-    /// The number that the node's next stamp counts on from is the greatest u64 value, so that there
-    /// is no next one. It is the highest stamp number that the node has drawn or seen, or, in
+    /// The number that the node's next stamp counts on from is the greatest u64 value, so that
+    /// there is no next one. It is the highest stamp number that the node has drawn or seen, or, in
     /// algorithms whose stamps count a node's own asks, how many of these were accepted.
     #[error("stamps spent")]
     StampsSpent,

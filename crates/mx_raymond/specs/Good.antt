@@ -62,7 +62,8 @@ pub record IsHeld (w : World Node RaymondMsg) (highest : ℕ) : Type 0 where
   -- the privileges of the highest hop have been seen
   pub seen : (a b last : ℕ) → WasSent w a b (Privilege highest last) → HasSeen w b highest
 
--- the privilege of the highest hop is on its way: no other has this hop, and its addressee has not seen it
+-- the privilege of the highest hop is on its way: no other has this hop, and its addressee has not
+-- seen it
 pub record IsUnderWay (w : World Node RaymondMsg) (highest : ℕ) : Type 0 where
   pub from : ℕ
   pub to : ℕ

@@ -1,6 +1,7 @@
 -- The queue of a node: names of nodes, each once, the oldest first.
 use Rattle.std.specs.Prelude.{ℕ, ◌<◌, ◌≡◌, Bool, true, false, not, List, [], ◌∷◌, ◌++◌, Option, Some, None, filter, nat_eq, if◌then◌else◌}
 use Rattle.std.specs.List.{list_any, IsDistinct}
+use Rattle.mx_stamps.specs.declared.limits.TheConstants.{MOST_NODES}
 
 -- whether this name is in the queue
 abbrev pub is_queued : List ℕ → ℕ → Bool
@@ -31,4 +32,4 @@ without queue node = filter (λ name. not (nat_eq name node)) queue
 -- each name is in it at most once, and each is the name of a node
 pub record IsQueue (queue : List ℕ) : Type 0 where
   pub once : IsDistinct nat_eq queue
-  pub nodes : (node : ℕ) → is_queued queue node ≡ true → node < 21
+  pub nodes : (node : ℕ) → is_queued queue node ≡ true → node < MOST_NODES

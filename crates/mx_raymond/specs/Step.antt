@@ -1,7 +1,8 @@
 -- The step table: for each call the node's next state, the answer, and the letters that are sent.
--- Each row says which part of it is published (Raymond 1989) and which is added here. What a phase refuses
--- stands in mx_nodelaws, specs/Calls.antt.
+-- Each row says which part of it is published (Raymond 1989) and which is added here. What a phase
+-- refuses is in mx_nodelaws, specs/Calls.antt.
 use Rattle.std.specs.Prelude.{ℕ, ◌+◌, ◌≡◌, Bool, true, false, ◌&&◌, not, List, [], ◌∷◌, ◌++◌, Option, Some, None, max, nat_lt, nat_eq, if◌then◌else◌, slice_index_or, slice_set, replicate}
+use Rattle.mx_stamps.specs.declared.limits.TheConstants.{MOST_NODES}
 use Rattle.mx_stamps.specs.declared.stamp.Stamp.{Stamp}
 use Rattle.mx_stamps.specs.Numbers.{last_number}
 use Rattle.mx_letters.specs.declared.raymond.RaymondMsg.{RaymondMsg}
@@ -33,7 +34,7 @@ start_of tree me origin limit = record {
   unacked = None;
   asks = 0;
   sent = 0;
-  heard = replicate 21 0;
+  heard = replicate MOST_NODES 0;
   top = 0;
   mine = 0;
 }
@@ -56,14 +57,22 @@ has_permission s = is_holder s && is_named (head_of s.queue) s.me
 
 -- Assign: a node that has the privilege and is not inside passes it on to the head of its queue, if
 -- that is another node.
--- Published: procedure ASSIGN_PRIVILEGE. Its case of a node that heads its own queue is `enter` here.
+-- Published: procedure ASSIGN_PRIVILEGE. Its case of a node that heads its own queue is `enter`
+-- here.
 -- Added: the hop, by which an old privilege is known; `unacked`, so that it can be sent again; the
 -- highest section number. Where no hop is left the privilege stays.
 abbrev pub can_pass : Node → ℕ → Bool
-can_pass s next = is_holder s && (not (is_inside s.phase) && (not (nat_eq next s.me) && nat_lt s.hop last_number))
+can_pass s next =
+    is_holder s && (not (is_inside s.phase) && (not (nat_eq next s.me) && nat_lt s.hop last_number))
 
 abbrev pub passing : Node → ℕ → Node
-passing s next = record s { holder = next; queue = rest_of s.queue; has_asked = false; hop = s.hop + 1; unacked = Some (record { to = next; hop = s.hop + 1; last = s.top }) }
+passing s next = record s {
+  holder = next;
+  queue = rest_of s.queue;
+  has_asked = false;
+  hop = s.hop + 1;
+  unacked = Some (record { to = next; hop = s.hop + 1; last = s.top });
+}
 
 abbrev pub passed : Node → ℕ → NodeDone (Unit {0})
 passed s next = sending (passing s next) ((next, Privilege (s.hop + 1) s.top) ∷ [])
@@ -77,9 +86,11 @@ assign_privilege s = assign_privilege_to (head_of s.queue) s
 
 -- Make: a node that wants the privilege and does not have it sends one request to its holder.
 -- Published: procedure MAKE_REQUEST.
--- Added: the request's number, by which an old request is known; none is sent where no number is left.
+-- Added: the request's number, by which an old request is known; none is sent where no number is
+-- left.
 abbrev pub must_request : Node → Bool
-must_request s = not (is_holder s) && (not (is_empty s.queue) && (not s.has_asked && nat_lt s.sent last_number))
+must_request s =
+    not (is_holder s) && (not (is_empty s.queue) && (not s.has_asked && nat_lt s.sent last_number))
 
 abbrev pub requesting : Node → Node
 requesting s = record s { has_asked = true; sent = s.sent + 1 }
@@ -96,7 +107,8 @@ serving step = and_then (and_then step assign_privilege) make_request
 
 -- ask: the node joins its own queue; then Assign and Make.
 -- Published: the node wishes to enter the critical section.
--- Added: the number of the ask, which is that of the stamp; where no number is left the call is refused.
+-- Added: the number of the ask, which is that of the stamp; where no number is left the call is
+-- refused.
 abbrev pub asking : Node → Node
 asking s = record s { phase = Waiting; queue = s.queue ++ s.me ∷ []; asks = s.asks + 1 }
 
@@ -116,13 +128,16 @@ take_holders_request s = sending s (privilege_again s.unacked)
 
 -- a request of another neighbour, which joins the queue; then Assign and Make.
 -- Published: the node receives a REQUEST.
--- Added: the test of the request's number, since a request may come late or twice; a neighbour that is
--- in the queue already stays where it is.
+-- Added: the test of the request's number, since a request may come late or twice; a neighbour that
+-- is in the queue already stays where it is.
 abbrev pub heard_from : Node → ℕ → ℕ
 heard_from s from = slice_index_or s.heard from 0
 
 abbrev pub queueing : Node → ℕ → ℕ → Node
-queueing s from number = record s { queue = joined s.queue from; heard = slice_set s.heard from number }
+queueing s from number = record s {
+  queue = joined s.queue from;
+  heard = slice_set s.heard from number;
+}
 
 abbrev pub take_others_request : ℕ → ℕ → Node → NodeDone (Unit {0})
 take_others_request from number s =
@@ -131,16 +146,24 @@ take_others_request from number s =
     else becoming s
 
 abbrev pub take_request : ℕ → ℕ → Node → NodeDone (Unit {0})
-take_request from number s = if nat_eq from s.holder then take_holders_request s else take_others_request from number s
+take_request from number s =
+    if nat_eq from s.holder then take_holders_request s else take_others_request from number s
 
--- a privilege: its arrival is always acknowledged, and it counts only where its hop is a new one; then
--- Assign and Make.
+-- a privilege: its arrival is always acknowledged, and it counts only where its hop is a new one;
+-- then Assign and Make.
 -- Published: the node receives the PRIVILEGE. There ASKED is cleared where it is used or passed on.
--- Added: ASKED is cleared at once. Nothing else changes by it: no row reads ASKED while the node has the
--- privilege, and passing it on clears ASKED as there. The acknowledgement, and the test of the hop, since
--- a privilege may come late or twice; `top` takes in the section number that the privilege tells.
+-- Added: ASKED is cleared at once. Nothing else changes by it: no row reads ASKED while the node
+-- has the privilege, and passing it on clears ASKED as there. The acknowledgement, and the test of
+-- the hop, since a privilege may come late or twice; `top` takes in the section number that the
+-- privilege tells.
 abbrev pub holding : Node → ℕ → ℕ → Node
-holding s hop last = record s { holder = s.me; has_asked = false; hop = hop; unacked = None; top = max s.top last }
+holding s hop last = record s {
+  holder = s.me;
+  has_asked = false;
+  hop = hop;
+  unacked = None;
+  top = max s.top last;
+}
 
 abbrev pub acknowledging : Node → ℕ → ℕ → NodeDone (Unit {0})
 acknowledging s from hop = sending s ((from, Got hop) ∷ [])
@@ -158,23 +181,31 @@ is_unacked None from hop = false
 is_unacked (Some u) from hop = nat_eq u.to from && nat_eq u.hop hop
 
 abbrev pub take_got : ℕ → ℕ → Node → NodeDone (Unit {0})
-take_got from hop s = if is_unacked s.unacked from hop then becoming (record s { unacked = None }) else becoming s
+take_got from hop s =
+    if is_unacked s.unacked from hop then becoming (record s { unacked = None }) else becoming s
 
 -- each letter comes from a neighbour. Added: any other is ignored
 abbrev pub is_neighbour : Node → ℕ → Bool
 is_neighbour s from = are_neighbours s.tree s.me from
 
 abbrev pub deliver_of : ℕ → RaymondMsg → Node → NodeDone (Unit {0})
-deliver_of from (Request number) s = if is_neighbour s from then take_request from number s else becoming s
-deliver_of from (Privilege hop last) s = if is_neighbour s from then take_privilege from hop last s else becoming s
+deliver_of from (Request number) s =
+    if is_neighbour s from then take_request from number s else becoming s
+deliver_of from (Privilege hop last) s =
+    if is_neighbour s from then take_privilege from hop last s else becoming s
 deliver_of from (Got hop) s = if is_neighbour s from then take_got from hop s else becoming s
 
--- enter: the node leaves the head of its queue, and the section's number is one above the highest that
--- it knows.
+-- enter: the node leaves the head of its queue, and the section's number is one above the highest
+-- that it knows.
 -- Published: procedure ASSIGN_PRIVILEGE, where the node that has the privilege heads its own queue.
 -- Added: the section's number, and the refusal where the limit is reached.
 abbrev pub entering : Node → Node
-entering s = record s { phase = Inside (s.top + 1); queue = rest_of s.queue; top = s.top + 1; mine = s.top + 1 }
+entering s = record s {
+  phase = Inside (s.top + 1);
+  queue = rest_of s.queue;
+  top = s.top + 1;
+  mine = s.top + 1;
+}
 
 -- leave: then Assign and Make.
 -- Published: the node exits the critical section.
@@ -185,8 +216,8 @@ leaving s = record s { phase = Idle }
 abbrev pub left : Node → NodeDone (Unit {0})
 left s = serving (becoming (leaving s))
 
--- cancel: the node leaves its own queue; then Assign and Make. A request that it has sent its holder stands, and
--- the privilege that comes for it is kept, or passed on.
+-- cancel: the node leaves its own queue; then Assign and Make. A request that it has sent its
+-- holder is not taken back, and the privilege that comes for it is kept, or passed on.
 -- Added, as the publication has no way to give a request up.
 abbrev pub withdrawing : Node → Node
 withdrawing s = record s { phase = Idle; queue = without s.queue s.me }

@@ -74,7 +74,7 @@ impl Queue {
         }
     }
 
-    /// Removes a name, wherever it stands.
+    /// Removes a name, wherever it is in the queue.
     pub fn remove(&mut self, node: NodeId)
         ensures value { self.new ≡ without self.old node }
         ensures gone { is_queued self.new node ≡ false }

@@ -6,7 +6,7 @@ use crate::queue::Queue;
 use crate::unacked::Unacked;
 use mx_letters::{Outbox, RaymondMsg};
 use mx_nodelaws::Phase;
-use mx_stamps::NodeId;
+use mx_stamps::{MOST_NODES, NodeId};
 use mx_trees::Tree;
 use std::marker::Model;
 
@@ -31,11 +31,11 @@ pub struct Raymond {
     /// Whether the node has sent a request to the holder, and has not had the privilege since
     /// (ASKED, which the publication clears where the privilege is used or passed on).
     pub(crate) has_asked: bool,
-    /// The highest hop of a privilege that the node has sent or taken; the origin at the start. Added
-    /// to the publication: a privilege whose hop is not above it is an old one.
+    /// The highest hop of a privilege that the node has sent or taken; the origin at the start.
+    /// Added to the publication: a privilege whose hop is not above it is an old one.
     pub(crate) hop: u64,
-    /// The privilege that the node sent last, until word comes that it has arrived, or until a newer
-    /// privilege comes. Added to the publication, so that it can be sent again.
+    /// The privilege that the node sent last, until word comes that it has arrived, or until a
+    /// newer privilege comes. Added to the publication, so that it can be sent again.
     pub(crate) unacked: Option<Unacked>,
     /// How many asks of this node were accepted: the number of the latest stamp. Added to the
     /// publication.
@@ -45,9 +45,9 @@ pub struct Raymond {
     pub(crate) sent: u64,
     /// For each neighbour, the highest number of its requests that were taken, 0 before the first.
     /// Added to the publication: a request up to that number is an old one.
-    pub(crate) heard: [u64; 21],
-    /// The highest section number that the node knows, from its own sections and from the privileges
-    /// that it took; 0 at the start. Added to the publication.
+    pub(crate) heard: [u64; MOST_NODES as usize],
+    /// The highest section number that the node knows, from its own sections and from the
+    /// privileges that it took; 0 at the start. Added to the publication.
     pub(crate) top: u64,
     /// The number of the last section that the node entered, 0 before the first. Added to the
     /// publication.
@@ -59,13 +59,44 @@ impl Model for Raymond {
 
     ghost Value = { Node };
 
-    ghost view = { λ r. record { me = r.me; tree = r.tree; limit = r.limit; phase = r.phase; holder = r.holder; queue = r.queue; has_asked = r.has_asked; hop = r.hop; unacked = r.unacked; asks = r.asks; sent = r.sent; heard = r.heard; top = r.top; mine = r.mine } };
+    ghost view = { λ r. record {
+      me = r.me;
+      tree = r.tree;
+      limit = r.limit;
+      phase = r.phase;
+      holder = r.holder;
+      queue = r.queue;
+      has_asked = r.has_asked;
+      hop = r.hop;
+      unacked = r.unacked;
+      asks = r.asks;
+      sent = r.sent;
+      heard = r.heard;
+      top = r.top;
+      mine = r.mine;
+    } };
 
-    ghost invariant = { λ r. IsState (record { me = r.me; tree = r.tree; limit = r.limit; phase = r.phase; holder = r.holder; queue = r.queue; has_asked = r.has_asked; hop = r.hop; unacked = r.unacked; asks = r.asks; sent = r.sent; heard = r.heard; top = r.top; mine = r.mine }) };
+    ghost invariant = { λ r. IsState (record {
+      me = r.me;
+      tree = r.tree;
+      limit = r.limit;
+      phase = r.phase;
+      holder = r.holder;
+      queue = r.queue;
+      has_asked = r.has_asked;
+      hop = r.hop;
+      unacked = r.unacked;
+      asks = r.asks;
+      sent = r.sent;
+      heard = r.heard;
+      top = r.top;
+      mine = r.mine;
+    }) };
 }
 
 impl Raymond {
     ghost use Rattle.std.specs.Prelude.{◌≡◌, ◌+◌, ◌<◌, ◌≤◌, ◌≢◌, ◌↔◌, [], ◌++◌, length, IsTrue, true};
+    ghost use Rattle.mx_letters.specs.declared.outbox.TheConstants.{OUTBOX_ROOM};
     ghost use Rattle.mx_raymond.specs.Step.{is_holder, HasPermission, has_permission, assign_privilege, make_request, withdrawing, privilege_again, request_again, is_neighbour, take_request, take_privilege, take_got};
 
     /// Whether the node has the privilege.
@@ -86,10 +117,10 @@ impl Raymond {
         }
     }
 
-    /// Assign: a node that has the privilege and is not inside passes it on to the head of its queue,
-    /// if that is another node.
+    /// Assign: a node that has the privilege and is not inside passes it on to the head of its
+    /// queue, if that is another node.
     fn assign_privilege(&mut self, out: &mut Outbox<RaymondMsg>)
-        requires { length out.old < 32 }
+        requires { length out.old < OUTBOX_ROOM }
         ensures state { self.new ≡ (assign_privilege self.old).state }
         ensures letters { out.new ≡ out.old ++ (assign_privilege self.old).letters }
         ensures few { length out.new ≤ length out.old + 1 }
@@ -114,7 +145,7 @@ impl Raymond {
 
     /// Make: a node that wants the privilege and does not have it sends one request to its holder.
     fn make_request(&mut self, out: &mut Outbox<RaymondMsg>)
-        requires { length out.old < 32 }
+        requires { length out.old < OUTBOX_ROOM }
         ensures state { self.new ≡ (make_request self.old).state }
         ensures letters { out.new ≡ out.old ++ (make_request self.old).letters }
     {
@@ -129,7 +160,8 @@ impl Raymond {
     pub(crate) fn serve(&mut self, out: &mut Outbox<RaymondMsg>)
         requires { length out.old < 31 }
         ensures state { self.new ≡ (make_request (assign_privilege self.old).state).state }
-        ensures letters { out.new ≡ (out.old ++ (assign_privilege self.old).letters) ++ (make_request (assign_privilege self.old).state).letters }
+        ensures letters { out.new ≡ (out.old ++ (assign_privilege self.old).letters)
+            ++ (make_request (assign_privilege self.old).state).letters }
     {
         self.assign_privilege(out);
         self.make_request(out);
@@ -156,7 +188,7 @@ impl Raymond {
 
     /// Sends the latest request again, while the privilege has not come.
     pub(crate) fn request_again(&self, out: &mut Outbox<RaymondMsg>)
-        requires { length out.old < 32 }
+        requires { length out.old < OUTBOX_ROOM }
         ensures { out.new ≡ out.old ++ request_again self.now }
     {
         if self.has_asked && !self.is_holder() {

@@ -36,11 +36,14 @@ pub record IsNodeOk (w : World Node RicartMsg) (i : ℕ) (s : Node) : Type 0 whe
   pub mine_top : s.mine ≤ s.top
   pub top_reached : IsReached w s.top
   -- who is inside has every reply
-  pub inside_has : (n : ℕ) → s.phase ≡ Inside n → (j : ℕ) → j < length w.nodes → j ≢ i → has_reply s j ≡ true
+  pub inside_has : (n : ℕ) → s.phase ≡ Inside n → (j : ℕ) → j < length w.nodes → j ≢ i →
+      has_reply s j ≡ true
   -- each reply that counts was sent, for the current stamp
-  pub replies : IsBusy s → (j : ℕ) → has_reply s j ≡ true → (top : ℕ) × (WasSent w j i (Reply s.ours top)) × (top ≤ s.top)
+  pub replies : IsBusy s → (j : ℕ) → has_reply s j ≡ true →
+      (top : ℕ) × (WasSent w j i (Reply s.ours top)) × (top ≤ s.top)
   -- a deferred request is of the node that it is kept for, and both clocks have seen it
-  pub waits : (j : ℕ) (d : Stamp) → deferred_at s j ≡ Some d → (j ≢ i) × (d.node ≡ j) × (d.number ≤ s.highest) × HasSeen w j d.number
+  pub waits : (j : ℕ) (d : Stamp) → deferred_at s j ≡ Some d →
+      (j ≢ i) × (d.node ≡ j) × (d.number ≤ s.highest) × HasSeen w j d.number
 
 -- what holds of each request that was sent: its sender has drawn its stamp
 pub record IsRequestOk (w : World Node RicartMsg) (a : ℕ) (stamp : Stamp) : Type 0 where
@@ -55,8 +58,10 @@ pub record IsReplyOk (w : World Node RicartMsg) (a b : ℕ) (stamp : Stamp) (top
   pub seen : HasSeen w a stamp.number
   -- it tells of no section that nobody has entered
   pub reached : IsReached w top
-  -- while the stamp is current, its sender has entered no section since, and has no current stamp before it
-  pub stands : (s t : Node) → IsNode w a s → IsNode w b t → IsBusy t → t.ours ≡ stamp → (s.mine ≤ top) × (IsBusy s → Before stamp s.ours)
+  -- while the stamp is current, its sender has entered no section since, and has no current stamp
+  -- before it
+  pub stands : (s t : Node) → IsNode w a s → IsNode w b t → IsBusy t → t.ours ≡ stamp →
+      (s.mine ≤ top) × (IsBusy s → Before stamp s.ours)
 
 abbrev pub IsLetterOk : World Node RicartMsg → ℕ → ℕ → RicartMsg → Type 0
 IsLetterOk w a b (Request stamp) = IsRequestOk w a stamp

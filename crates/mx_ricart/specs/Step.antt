@@ -1,7 +1,8 @@
 -- The step table: for each call the node's next state, the answer, and the letters that are sent.
--- Each row says which part of it is published (Ricart and Agrawala 1981) and which is added here. What a
--- phase refuses stands in mx_nodelaws, specs/Calls.antt.
+-- Each row says which part of it is published (Ricart and Agrawala 1981) and which is added here.
+-- What a phase refuses is in mx_nodelaws, specs/Calls.antt.
 use Rattle.std.specs.Prelude.{ℕ, ◌+◌, ◌<◌, ◌≤◌, ◌≡◌, ◌≢◌, Bool, true, false, ◌||◌, ◌&&◌, not, [], ◌∷◌, Option, Some, None, max, nat_lt, nat_eq, if◌then◌else◌, slice_index_or, slice_set, replicate}
+use Rattle.mx_stamps.specs.declared.limits.TheConstants.{MOST_NODES}
 use Rattle.mx_stamps.specs.declared.stamp.Stamp.{Stamp}
 use Rattle.mx_stamps.specs.Stamp.{is_before_of, is_same_as}
 use Rattle.mx_letters.specs.declared.ricart.RicartMsg.{RicartMsg}
@@ -16,7 +17,7 @@ use Rattle.mx_ricart.specs.Node.{Node}
 
 -- the numbers of nodes that a cluster may have
 abbrev pub IsCount : ℕ → Type 0
-IsCount n = (0 < n) × (n ≤ 21)
+IsCount n = (0 < n) × (n ≤ MOST_NODES)
 
 -- a node that has just been started: from the count, the node, the origin and the limit
 abbrev pub start_of : ℕ → ℕ → ℕ → ℕ → Node
@@ -27,8 +28,8 @@ start_of count me origin limit = record {
   phase = Idle;
   highest = origin;
   ours = record { number = 0; node = me };
-  got = replicate 21 false;
-  deferred = replicate 21 None;
+  got = replicate MOST_NODES false;
+  deferred = replicate MOST_NODES None;
   top = 0;
   mine = 0;
 }
@@ -57,19 +58,28 @@ abbrev pub has_all_replies : Node → Bool
 has_all_replies s = all_below (is_replied s) s.count
 
 -- ask: the clock's next stamp, no reply yet, and a request to every other node.
--- Published: the process that invokes mutual exclusion, up to its wait for the replies. There the request
--- takes the highest number + 1, and leaves the highest number as it was.
--- Added: the request's number becomes the highest, so that no two requests of a node bear one stamp, and a
--- reply to an older one is known by it. A request is above all that its node has seen, as there. Where no
--- number is left the call is refused.
+-- Published: the process that invokes mutual exclusion, up to its wait for the replies. There the
+-- request takes the highest number + 1, and leaves the highest number as it was.
+-- Added: the request's number becomes the highest, so that no two requests of a node bear one
+-- stamp, and a reply to an older one is known by it. A request is above all that its node has seen,
+-- as there. Where no number is left the call is refused.
 abbrev pub asking : Node → Node
-asking s = record s { highest = s.highest + 1; ours = record { number = s.highest + 1; node = s.me }; got = replicate 21 false; phase = Waiting }
+asking s = record s {
+  highest = s.highest + 1;
+  ours = record { number = s.highest + 1; node = s.me };
+  got = replicate MOST_NODES false;
+  phase = Waiting;
+}
 
 abbrev pub request_others : Node → ℕ → Option RicartMsg
 request_others s j = if nat_eq j s.me then None else Some (Request s.ours)
 
 abbrev pub asked : Node → Done Node Stamp RicartMsg
-asked s = record { state = asking s; answer = (asking s).ours; letters = addressed (request_others (asking s)) s.count }
+asked s = record {
+  state = asking s;
+  answer = (asking s).ours;
+  letters = addressed (request_others (asking s)) s.count;
+}
 
 -- a request comes: the clock sees its number, and the reply is sent at once or deferred.
 -- Published: the process that receives REQUEST messages.
@@ -86,7 +96,9 @@ later_of (Some old) stamp = if is_before_of old stamp then stamp else old
 
 -- its reply is deferred
 abbrev pub deferring : Node → Stamp → Node
-deferring s stamp = record s { deferred = slice_set s.deferred stamp.node (Some (later_of (deferred_at s stamp.node) stamp)) }
+deferring s stamp = record s {
+  deferred = slice_set s.deferred stamp.node (Some (later_of (deferred_at s stamp.node) stamp));
+}
 
 -- its reply is sent
 abbrev pub replied : Node → Stamp → Done Node (Unit {0}) RicartMsg
@@ -114,8 +126,10 @@ take_reply s from stamp top =
 -- both letters come from another node, and the stamp of a request is its sender's.
 -- Added: any other letter is ignored.
 abbrev pub deliver_of : ℕ → RicartMsg → Node → Done Node (Unit {0}) RicartMsg
-deliver_of from (Request stamp) s = if is_other s from && nat_eq stamp.node from then take_request s stamp else becoming s
-deliver_of from (Reply stamp top) s = if is_other s from then take_reply s from stamp top else becoming s
+deliver_of from (Request stamp) s =
+    if is_other s from && nat_eq stamp.node from then take_request s stamp else becoming s
+deliver_of from (Reply stamp top) s =
+    if is_other s from then take_reply s from stamp top else becoming s
 
 -- enter: the section's number is one above the highest that the node knows.
 -- Published: the process that invokes mutual exclusion, where no reply is outstanding any more.
@@ -128,7 +142,7 @@ entering s = record s { top = s.top + 1; mine = s.top + 1; phase = Inside (s.top
 -- Added: the stamp and `top` in each reply.
 -- cancel: the same, of a node that waits. Added: its request has ended, and it enters nothing.
 abbrev pub ending : Node → Node
-ending s = record s { phase = Idle; deferred = replicate 21 None }
+ending s = record s { phase = Idle; deferred = replicate MOST_NODES None }
 
 abbrev pub reply_to : Option Stamp → ℕ → Option RicartMsg
 reply_to None top = None

@@ -4,7 +4,7 @@ use crate::count::Count;
 use crate::ricart::Ricart;
 use mx_letters::{Outbox, RicartMsg};
 use mx_nodelaws::{AskFault, CancelFault, EnterFault, Exclusion, LeaveFault, Phase};
-use mx_stamps::{Clock, NodeId, Stamp};
+use mx_stamps::{Clock, MOST_NODES, NodeId, Stamp};
 
 impl Exclusion for Ricart {
     type Msg = RicartMsg;
@@ -42,8 +42,8 @@ impl Exclusion for Ricart {
                 number: 0,
                 node: me,
             },
-            got: [false; 21],
-            deferred: [None; 21],
+            got: [false; MOST_NODES as usize],
+            deferred: [None; MOST_NODES as usize],
             top: 0,
             mine: 0,
         }
@@ -57,7 +57,7 @@ impl Exclusion for Ricart {
             return Err(AskFault::StampsSpent);
         };
         self.ours = ours;
-        self.got = [false; 21];
+        self.got = [false; MOST_NODES as usize];
         self.phase = Phase::Waiting;
         self.send_requests(out);
         Ok(ours)

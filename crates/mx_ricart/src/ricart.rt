@@ -6,7 +6,7 @@ ghost use Rattle.mx_ricart.specs.Step.{later_of};
 use crate::count::Count;
 use mx_letters::{Outbox, RicartMsg};
 use mx_nodelaws::Phase;
-use mx_stamps::{Clock, NodeId, Stamp};
+use mx_stamps::{Clock, MOST_NODES, NodeId, Stamp};
 use std::marker::Model;
 
 /// A node of the algorithm. Its calls are those of `Exclusion`. Names with capitals are the
@@ -23,17 +23,17 @@ pub struct Ricart {
     /// last two.
     pub(crate) phase: Phase,
     /// The highest stamp number that the node has drawn or has seen in a request; the origin at the
-    /// start (Highest_Sequence_Number, which in the publication the own requests do not raise).
+    /// start (Highest_Sequence_Number, which in the publication its own requests do not raise).
     pub(crate) highest: Clock,
     /// The stamp of the node's latest request (Our_Sequence_Number, with ME). It is current while
     /// the node waits or is inside; while the node is idle no rule reads it.
     pub(crate) ours: Stamp,
     /// For each node, whether its reply to the current request has counted. The publication counts
     /// down Outstanding_Reply_Count instead, but here a reply may come twice.
-    pub(crate) got: [bool; 21],
+    pub(crate) got: [bool; MOST_NODES as usize],
     /// For each node, the stamp of its request whose reply waits until this node leaves
     /// (Reply_Deferred, which is a truth value there). All are None while the node is idle.
-    pub(crate) deferred: [Option<Stamp>; 21],
+    pub(crate) deferred: [Option<Stamp>; MOST_NODES as usize],
     /// The highest section number that the node knows, from its own sections and from the replies
     /// that counted; 0 at the start. Added to the publication.
     pub(crate) top: u64,
@@ -44,14 +44,27 @@ pub struct Ricart {
 
 impl Model for Ricart {
     ghost use Rattle.std.specs.Prelude.{◌≤◌};
+    ghost use Rattle.mx_stamps.specs.declared.limits.TheConstants.{MOST_SECTIONS};
     ghost use Rattle.mx_nodelaws.specs.Core.{BearsNumber};
     ghost use Rattle.mx_ricart.specs.Node.{Node};
 
     ghost Value = { Node };
 
-    ghost view = { λ r. record { me = r.me; count = r.count; limit = r.limit; phase = r.phase; highest = r.highest; ours = r.ours; got = r.got; deferred = r.deferred; top = r.top; mine = r.mine } };
+    ghost view = { λ r. record {
+      me = r.me;
+      count = r.count;
+      limit = r.limit;
+      phase = r.phase;
+      highest = r.highest;
+      ours = r.ours;
+      got = r.got;
+      deferred = r.deferred;
+      top = r.top;
+      mine = r.mine;
+    } };
 
-    ghost invariant = { λ r. (r.mine ≤ 1000000) × (r.limit ≤ 1000000) × BearsNumber r.phase };
+    ghost invariant = { λ r. (r.mine ≤ MOST_SECTIONS) × (r.limit ≤ MOST_SECTIONS)
+        × BearsNumber r.phase };
 }
 
 impl Ricart {
@@ -138,7 +151,7 @@ impl Ricart {
     {
         self.send_replies(out);
         self.phase = Phase::Idle;
-        let none = [None; 21];
+        let none = [None; MOST_NODES as usize];
         self.deferred = none;
     }
 

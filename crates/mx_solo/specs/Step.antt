@@ -1,4 +1,4 @@
--- The step table: a node enters when it likes. What a phase refuses stands in mx_nodelaws,
+-- The step table: a node enters when it likes. What a phase refuses is in mx_nodelaws,
 -- specs/Calls.antt.
 use Rattle.std.specs.Prelude.{ℕ, ◌+◌, true, []}
 use Rattle.mx_stamps.specs.declared.stamp.Stamp.{Stamp}
@@ -14,7 +14,11 @@ start_of shape me origin limit = record { me = me; limit = limit; phase = Idle; 
 
 -- ask: there is no clock, and the stamp bears the number of the last section
 abbrev pub asked : Node → Done Node Stamp ℕ
-asked s = record { state = record s { phase = Waiting }; answer = record { number = s.mine; node = s.me }; letters = [] }
+asked s = record {
+  state = record s { phase = Waiting };
+  answer = record { number = s.mine; node = s.me };
+  letters = [];
+}
 
 abbrev pub entering : Node → Node
 entering s = record s { phase = Inside (s.mine + 1); mine = s.mine + 1 }

@@ -20,6 +20,7 @@ pub struct Solo {
 
 impl Model for Solo {
     ghost use Rattle.std.specs.Prelude.{◌≤◌};
+    ghost use Rattle.mx_stamps.specs.declared.limits.TheConstants.{MOST_SECTIONS};
     ghost use Rattle.mx_nodelaws.specs.Core.{BearsNumber};
     ghost use Rattle.mx_solo.specs.Node.{Node};
 
@@ -27,7 +28,8 @@ impl Model for Solo {
 
     ghost view = { λ s. record { me = s.me; limit = s.limit; phase = s.phase; mine = s.mine } };
 
-    ghost invariant = { λ s. (s.mine ≤ 1000000) × (s.limit ≤ 1000000) × BearsNumber s.phase };
+    ghost invariant = { λ s. (s.mine ≤ MOST_SECTIONS) × (s.limit ≤ MOST_SECTIONS)
+        × BearsNumber s.phase };
 }
 
 impl Exclusion for Solo {

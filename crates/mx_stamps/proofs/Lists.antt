@@ -144,7 +144,7 @@ has_each_below f (suc n) i lt = elim (dec_eq i n) [
   | inr ne ↦ get_append_left (each_below f n) (f n ∷ []) i (f i) (has_each_below f n i (omega arith))
 ]
 
--- the element at an index stands in the list
+-- the element at an index is in the list
 pub in_get : {X : Type 0} (xs : List X) (i : ℕ) (x : X) → slice_get xs i ≡ Some x → IsIn x xs
 in_get [] i x h = absurd (none_is_no_some x h)
 in_get (y ∷ ys) zero x h = inl (sym (same_Some y x h))

@@ -49,7 +49,8 @@ impl Clock {
     /// none after 18446744073709551615.
     pub fn next(&mut self, node: NodeId) -> Option<Stamp>
         ensures spent { IsNone result ↔ (self.old ≡ last_number) }
-        ensures value { IfSome result (λ stamp. stamp ≡ record { number = self.old + 1; node = node }) }
+        ensures value { IfSome result
+            (λ stamp. stamp ≡ record { number = self.old + 1; node = node }) }
         ensures raised { IfSome result (λ stamp. self.new ≡ stamp.number) }
         ensures same { IfNone result (self.new ≡ self.old) }
     {

@@ -56,7 +56,8 @@ impl Stamp {
         ensures less { (result ≡ Ordering.Less) ↔ Before self.now other.now }
         ensures equal { (result ≡ Ordering.Equal) ↔ (self.now ≡ other.now) }
         ensures greater { (result ≡ Ordering.Greater) ↔ Before other.now self.now }
-        ensures total { Before self.now other.now ⊎ (self.now ≡ other.now) ⊎ Before other.now self.now }
+        ensures total { Before self.now other.now ⊎ (self.now ≡ other.now)
+            ⊎ Before other.now self.now }
     {
         self.cmp(other)
     }

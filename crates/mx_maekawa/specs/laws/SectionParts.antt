@@ -102,7 +102,7 @@ module _ (w : NodeWorld) (i : ℕ) (s : Node) (good : IsSound w) (at : IsNode w 
       let sound_w : (a b : ℕ) (m : MaekawaMsg) → WasSent (after w i done) a b m → WasSent w a b m = λ a b m sent. elim (in_append (a, b, m) w.sent [] sent) [ inl old ↦ old | inr none ↦ absurd none ] in
       let grant_of : ℕ → ℕ = λ a. value_or_zero (held_at s.requester a) in
       let has : (a : ℕ) → is_own s.requester a ≡ true → held_at s.requester a ≡ Some (grant_of a) = λ a own. let g = holds_own w i s was_ok all a own in value_of_some (held_at s.requester a) g.0 g.1 in
-      -- the lock at each own arbiter, before the step
+      -- the lock at each of its arbiters, before the step
       let lock : (a : ℕ) (own : is_own s.requester a ≡ true) (t : Node) → IsNode w a t → (c : ℕ) × (c ≤ s.requester.top) × IsLockedFor t s.requester.ours (grant_of a) c = λ a own t tat. held_lock w i s a (grant_of a) t good at busy (has a own) tat in
       sound_after w i s done good at moves may
       (record {
@@ -154,7 +154,7 @@ module _ (w : NodeWorld) (i : ℕ) (s : Node) (good : IsSound w) (at : IsNode w 
 
   -- leave and cancel
 
-  -- the stamp of the last entry is no later than the last own one
+  -- the stamp of the last entry is no later than its last one
   entry_issued : (v : NodeWorld) (p : Phase) → s.requester.phase ≡ p → s.requester.ours.number ≡ s.requester.issued → (en : IsEntered v i s) → en.stamp.number ≤ s.requester.issued
   entry_issued v Idle e number en = (en.ended (λ n inside. idle_not_inside s.requester.phase n e inside)).0
   entry_issued v Waiting e number en = (en.ended (λ n inside. waiting_not_inside s.requester.phase n e inside)).0

@@ -7,6 +7,7 @@ use mx_stamps::{NodeId, Stamp};
 
 impl Requester {
     ghost use Rattle.std.specs.Prelude.{◌≡◌, ◌+◌, ◌≤◌, ◌<◌, ◌↔◌, [], ◌++◌, length, IsTrue};
+    ghost use Rattle.mx_letters.specs.declared.outbox.TheConstants.{OUTBOX_ROOM};
     ghost use Rattle.mx_maekawa.specs.RequesterStep.{HasFailed, has_failed_below, is_current_wait, has_ended, give_remembered, fail, release_ended, take_locked, take_failed, inquired_held, take_inquire};
 
     /// Whether some arbiter counts as failed: the node cannot enter before that one grants again.
@@ -40,7 +41,7 @@ impl Requester {
 
     /// Gives the grant of arbiter b back, where that arbiter has asked for it.
     fn give_remembered(&mut self, b: NodeId, out: &mut Outbox<MaekawaMsg>)
-        requires { length out.old < 32 }
+        requires { length out.old < OUTBOX_ROOM }
         ensures state { self.new ≡ (give_remembered b self.old).state }
         ensures letters { out.new ≡ out.old ++ (give_remembered b self.old).letters }
         ensures room { length out.new ≤ length out.old + 1 }
@@ -145,8 +146,8 @@ impl Requester {
         }
     }
 
-    /// The same where that grant is held: it is given back where some arbiter has failed, and else
-    /// the inquiry is remembered.
+    /// Takes an INQUIRE for the grant that is held: it is given back where some arbiter has failed,
+    /// and else the inquiry is remembered.
     fn take_inquire_held(
         &mut self,
         a: NodeId,

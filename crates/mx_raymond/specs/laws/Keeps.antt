@@ -1,5 +1,5 @@
 -- Each row of the step table keeps a world safe.
-use Rattle.std.proofs.Common.{ℕ, ◌+◌, ◌≡◌, inl, inr, Bool, true, false, cond, not, ◌&&◌, [], ◌∷◌, Option, Some, None, nat_eq, nat_lt, refl, sym, ◌∙◌, ap, subst}
+use Rattle.std.proofs.Common.{ℕ, ◌+◌, ◌≡◌, inl, inr, Bool, true, false, cond, not, ◌&&◌, List, [], ◌∷◌, Option, Some, None, nat_eq, nat_lt, refl, sym, ◌∙◌, ap, subst}
 use Rattle.mx_stamps.specs.declared.stamp.Stamp.{Stamp}
 use Rattle.mx_stamps.specs.Lists.{IsIn}
 use Rattle.mx_stamps.proofs.Lists.{in_append}
@@ -7,13 +7,13 @@ use Rattle.mx_stamps.proofs.Choices.{lt_true, cond_case}
 use Rattle.mx_letters.specs.declared.raymond.RaymondMsg.{RaymondMsg}
 use Rattle.mx_letters.specs.declared.raymond.RaymondMsg.TheVariants.{Request, Privilege, Got}
 use Rattle.mx_nodelaws.specs.World.{World, answering, becoming, and_then, IsNode, WasSent, after}
-use Rattle.mx_nodelaws.specs.declared.phase.Phase.TheVariants.{Inside}
+use Rattle.mx_nodelaws.specs.declared.phase.Phase.TheVariants.{Idle, Inside}
 use Rattle.mx_nodelaws.proofs.Worlds.{after_twice}
 use Rattle.mx_nodelaws.proofs.Frame.{itself}
 use Rattle.mx_raymond.specs.declared.unacked.Unacked.{Unacked}
-use Rattle.mx_raymond.specs.Queue.{head_of}
+use Rattle.mx_raymond.specs.Queue.{head_of, without}
 use Rattle.mx_raymond.specs.Node.{Node}
-use Rattle.mx_raymond.specs.Step.{NodeDone, is_holder, has_permission, can_pass, passed, assign_privilege_to, assign_privilege, must_request, requested, make_request, serving, asking, asked, privilege_again, take_holders_request, heard_from, queueing, take_others_request, take_request, holding, acknowledging, take_privilege, is_unacked, take_got, is_neighbour, deliver_of, entering, leaving, left, withdrawing, cancelled, request_again, tick_of}
+use Rattle.mx_raymond.specs.Step.{NodeDone, is_holder, has_permission, can_pass, passed, assign_privilege_to, assign_privilege, must_request, requested, make_request, serving, asking, asked, privilege_again, take_holders_request, heard_from, queueing, take_others_request, take_request, holding, acknowledging, take_privilege, is_unacked, take_got, is_neighbour, deliver_of, entering, left, cancelled, request_again, tick_of}
 use Rattle.mx_raymond.specs.Good.{IsNodeOk, IsSafe}
 use Rattle.mx_raymond.specs.laws.Tests.{permission_holds, may_pass}
 use Rattle.mx_raymond.specs.laws.PrivilegeStays.{KeepsPrivilege, stays_safe, still_safe}
@@ -190,21 +190,19 @@ module _ (w : World Node RaymondMsg) (i : ℕ) (s : Node) (at : IsNode w i s) (s
       let h = holds w i s at safe.highest safe.at mine in
       record { highest = safe.highest; at = entered_kept w i s at safe.highest safe.at {A = Unit {0}} tt mine h.0 h.1 }
 
-  -- leave
+  -- leave and cancel: the node rests, with its queue or another
+
+  rested_safe : (queue : List ℕ) → IsSafe (after w i (serving (becoming (record s { phase = Idle; queue = queue }))))
+  rested_safe queue =
+      let first : NodeDone (Unit {0}) = becoming (record s { phase = Idle; queue = queue }) in
+      serving_safe w i s at first (stays_safe w i s at first safe
+      (quiet_stays w i s at safe first.state first.answer refl refl refl refl refl (λ k f. let bad : ⊥ = cc in absurd bad) (λ u f. f)))
 
   pub left_safe : IsSafe (after w i (left s))
-  left_safe =
-      let first : NodeDone (Unit {0}) = becoming (leaving s) in
-      serving_safe w i s at first (stays_safe w i s at first safe
-      (quiet_stays w i s at safe (leaving s) first.answer refl refl refl refl refl (λ k f. let bad : ⊥ = cc in absurd bad) (λ u f. f)))
-
-  -- cancel
+  left_safe = rested_safe s.queue
 
   pub cancelled_safe : IsSafe (after w i (cancelled s))
-  cancelled_safe =
-      let first : NodeDone (Unit {0}) = becoming (withdrawing s) in
-      serving_safe w i s at first (stays_safe w i s at first safe
-      (quiet_stays w i s at safe (withdrawing s) first.answer refl refl refl refl refl (λ k f. let bad : ⊥ = cc in absurd bad) (λ u f. f)))
+  cancelled_safe = rested_safe (without s.queue s.me)
 
   -- tick
 
