@@ -4,13 +4,13 @@ use Rattle.mx_stamps.specs.Lists.{IsIn}
 use Rattle.mx_trees.specs.declared.growth.Growth.{Growth}
 use Rattle.mx_trees.specs.Growth.{is_reached, IsClosed}
 
--- the element at a place stands in the list
+-- the element at a place is in the list
 pub in_at : {X : Type 0} (xs : List X) (k : ℕ) (d : X) → k < length xs → IsIn (get_or xs k d) xs
 in_at [] k d lt = absurd (omega arith)
 in_at (x ∷ xs) zero d lt = inl refl
 in_at (x ∷ xs) (suc k) d lt = inr (in_at xs k d (omega arith))
 
--- what stands in a list has a place there
+-- what is in a list has a place there
 pub place_of : {X : Type 0} (xs : List X) (x d : X) → IsIn x xs → (k : ℕ) × (k < length xs) × (get_or xs k d ≡ x)
 place_of [] x d i = absurd i
 place_of (y ∷ ys) x d (inl e) = (zero, omega arith, sym e)

@@ -2,6 +2,7 @@
 use Rattle.std.proofs.Common.{ℕ, zero, suc, ◌+◌, ◌≡◌, ◌≢◌, ◌↔◌, ◌<◌, ◌⊎◌, inl, inr, Bool, true, false, List, [], ◌∷◌, ◌++◌, length, get_or, replicate, take, slice_index_or, slice_set, refl, sym, ◌∙◌, ap, subst, add-one, arith}
 use Rattle.std.proofs.lemmas.List.{get_or-set_same, get_or-set_other, get_or-replicate, length-set}
 use Rattle.std.proofs.Math.Seq.{take-suc}
+use Rattle.mx_stamps.specs.Lists.{IsIn}
 use Rattle.mx_stamps.proofs.Lists.{dec_eq, get_or_replicate, in_left, in_right, in_append}
 use Rattle.mx_stamps.proofs.Choices.{not_both}
 use Rattle.mx_trees.specs.Tree.{IsSquare}
@@ -11,7 +12,7 @@ use Rattle.mx_trees.specs.Edges.{IsLinked}
 abbrev pub is_marked : List (List Bool) → ℕ → ℕ → Bool
 is_marked rows i j = slice_index_or (slice_index_or rows i []) j false
 
--- 21 rows of 21 places, in which exactly the linked nodes stand
+-- 21 rows of 21 places, in which exactly the linked nodes are marked
 pub record IsRows (rows : List (List Bool)) (edges : List (ℕ × ℕ)) : Type 0 where
   pub square : IsSquare rows
   pub near : (i j : ℕ) → (is_marked rows i j ≡ true) ↔ IsLinked edges i j
@@ -126,30 +127,21 @@ module _ (rows : List (List Bool)) (edges : List (ℕ × ℕ)) (a b : ℕ) (h : 
   back : is_marked (marked (marked rows a b) b a) b a ≡ true
   back = mark_set (marked rows a b) b a first lb la
 
+  -- an edge of the longer list is one of the list, or the new one
+  old_or_new : (i j : ℕ) → IsIn (i, j) (edges ++ (a, b) ∷ []) → IsIn (i, j) edges ⊎ ((i ≡ a) × (j ≡ b))
+  old_or_new i j n = elim (in_append (i, j) edges ((a, b) ∷ []) n) [
+    | inl m ↦ inl m
+    | inr m ↦ elim m [ inl e ↦ inr (same_parts i j a b e) | inr none ↦ absurd none ]
+  ]
+
+  mark_at : (i j k l : ℕ) → (i ≡ k) × (j ≡ l) → is_marked (marked (marked rows a b) b a) k l ≡ true → is_marked (marked (marked rows a b) b a) i j ≡ true
+  mark_at i j k l p here =
+      subst (λ x. is_marked (marked (marked rows a b) b a) x j ≡ true) (sym p.0) (subst (λ y. is_marked (marked (marked rows a b) b a) k y ≡ true) (sym p.1) here)
+
   marked_by : (i j : ℕ) → IsLinked (edges ++ (a, b) ∷ []) i j → is_marked (marked (marked rows a b) b a) i j ≡ true
   marked_by i j l = elim l [
-    | inl n ↦ elim (in_append (i, j) edges ((a, b) ∷ []) n) [
-      | inl m ↦ old_mark i j (inl m)
-      | inr m ↦ elim m [
-        | inl e ↦
-            let p = same_parts i j a b e in
-            let P : ℕ → Type 0 = λ k. is_marked (marked (marked rows a b) b a) k j ≡ true in
-            let Q : ℕ → Type 0 = λ k. is_marked (marked (marked rows a b) b a) a k ≡ true in
-            subst P (sym p.0) (subst Q (sym p.1) there)
-        | inr none ↦ absurd none
-      ]
-    ]
-    | inr n ↦ elim (in_append (j, i) edges ((a, b) ∷ []) n) [
-      | inl m ↦ old_mark i j (inr m)
-      | inr m ↦ elim m [
-        | inl e ↦
-            let p = same_parts j i a b e in
-            let P : ℕ → Type 0 = λ k. is_marked (marked (marked rows a b) b a) k j ≡ true in
-            let Q : ℕ → Type 0 = λ k. is_marked (marked (marked rows a b) b a) b k ≡ true in
-            subst P (sym p.1) (subst Q (sym p.0) back)
-        | inr none ↦ absurd none
-      ]
-    ]
+    | inl n ↦ elim (old_or_new i j n) [ inl m ↦ old_mark i j (inl m) | inr p ↦ mark_at i j a b p there ]
+    | inr n ↦ elim (old_or_new j i n) [ inl m ↦ old_mark i j (inr m) | inr p ↦ mark_at i j b a (p.1, p.0) back ]
   ]
 
   rows_and : IsRows (marked (marked rows a b) b a) (edges ++ (a, b) ∷ [])

@@ -7,7 +7,7 @@ abbrev pub IsWalk : (ℕ → ℕ → Type 0) → ℕ → List ℕ → ℕ → Ty
 IsWalk Near i [] j = i ≡ j
 IsWalk Near i (k ∷ ks) j = Near i k × IsWalk Near k ks j
 
--- no node stands in the list twice
+-- no node is in the list twice
 abbrev pub IsOnce : List ℕ → Type 0
 IsOnce [] = Unit {0}
 IsOnce (i ∷ is) = (IsIn i is → ⊥) × IsOnce is

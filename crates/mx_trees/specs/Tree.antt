@@ -1,5 +1,6 @@
 -- A rooted tree: the shape of Raymond's algorithm (Raymond 1989).
 use Rattle.std.specs.Prelude.{ℕ, ◌<◌, ◌≤◌, ◌≡◌, ◌≢◌, ◌⊎◌, Bool, true, false, List, [], ◌∷◌, length, slice_index_or}
+use Rattle.mx_stamps.specs.declared.limits.TheConstants.{MOST_NODES}
 use Rattle.mx_trees.specs.Paths.{IsPath}
 
 -- how many nodes there are, the holder, for each node a row (which nodes are its neighbours), and
@@ -24,18 +25,20 @@ IsNear t i j = are_neighbours t i j ≡ true
 
 -- 21 rows of 21 places
 pub record IsSquare (rows : List (List Bool)) : Type 0 where
-  pub tall : length rows ≡ 21
-  pub wide : (i : ℕ) → i < 21 → length (slice_index_or rows i []) ≡ 21
+  pub tall : length rows ≡ MOST_NODES
+  pub wide : (i : ℕ) → i < MOST_NODES → length (slice_index_or rows i []) ≡ MOST_NODES
 
 -- j is the second node of a path from i to the holder; or i and j both are the holder
 abbrev pub IsToward : Rooted → ℕ → ℕ → Type 0
-IsToward t i j = ((i ≡ t.holder) × (j ≡ i)) ⊎ ((rest : List ℕ) × IsPath (IsNear t) i (j ∷ rest) t.holder)
+IsToward t i j =
+    ((i ≡ t.holder) × (j ≡ i)) ⊎ ((rest : List ℕ) × IsPath (IsNear t) i (j ∷ rest) t.holder)
 
--- a rooted tree: neighbours are two different nodes, and each is a neighbour of the other; from each node
--- exactly one node is next on a path to the holder; and of two neighbours one is next from the other
+-- a rooted tree: neighbours are two different nodes, and each is a neighbour of the other; from
+-- each node exactly one node is next on a path to the holder; and of two neighbours one is next
+-- from the other
 pub record IsRooted (t : Rooted) : Type 0 where
   pub some : 0 < t.count
-  pub few : t.count ≤ 21
+  pub few : t.count ≤ MOST_NODES
   pub holder : t.holder < t.count
   pub nodes : (i j : ℕ) → IsNear t i j → (i < t.count) × (j < t.count) × (i ≢ j)
   pub both : (i j : ℕ) → IsNear t i j → IsNear t j i

@@ -5,6 +5,7 @@ ghost use Rattle.mx_trees.specs.Tree.{IsSquare};
 ghost use Rattle.mx_trees.specs.Edges.{IsLinked, AreEdges, AreJoined, IsFirstBadEdge, IsFirstUnjoined};
 
 use crate::growth::Growth;
+use mx_stamps::MOST_NODES;
 
 /// The first edge with an end that is no node, or with equal ends.
 pub fn bad_edge(nodes: u8, edges: &[(u8, u8)]) -> Option<u64>
@@ -21,8 +22,8 @@ pub fn bad_edge(nodes: u8, edges: &[(u8, u8)]) -> Option<u64>
 
 /// The first node with no path to node 0.
 pub fn unjoined(nodes: u8, edges: &[(u8, u8)]) -> Option<u8>
-    requires few { nodes ≤ 21 }
-    requires edges { AreEdges 21 (length edges.now) edges.now }
+    requires few { nodes ≤ MOST_NODES }
+    requires edges { AreEdges MOST_NODES (length edges.now) edges.now }
     ensures none { IfNone result (AreJoined nodes edges.now) }
     ensures some { IfSome result (λ i. IsFirstUnjoined nodes edges.now i) }
 {
@@ -36,13 +37,13 @@ pub fn unjoined(nodes: u8, edges: &[(u8, u8)]) -> Option<u8>
 }
 
 /// For each node, which nodes are its neighbours.
-pub fn neighbours(edges: &[(u8, u8)]) -> [[bool; 21]; 21]
-    requires { AreEdges 21 (length edges.now) edges.now }
+pub fn neighbours(edges: &[(u8, u8)]) -> [[bool; MOST_NODES as usize]; MOST_NODES as usize]
+    requires { AreEdges MOST_NODES (length edges.now) edges.now }
     ensures square { IsSquare result }
     ensures near { (i j : ℕ) →
         (slice_index_or (slice_index_or result i []) j false ≡ true) ↔ IsLinked edges.now i j }
 {
-    let mut rows = [[false; 21]; 21];
+    let mut rows = [[false; MOST_NODES as usize]; MOST_NODES as usize];
     for &(a, b) in edges {
         rows[a as usize][b as usize] = true;
         rows[b as usize][a as usize] = true;

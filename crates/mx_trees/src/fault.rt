@@ -2,7 +2,8 @@
 
 use thiserror::Error;
 
-/// Why there is no tree with these nodes, these edges and this holder: the first fault, in this order.
+/// Why there is no tree with these nodes, these edges and this holder: the first fault, in this
+/// order.
 #[derive(Clone, Copy, Debug, PartialEq, Eq, Drop, Error)]
 pub enum TreeFault {
     /// There are 0 nodes.

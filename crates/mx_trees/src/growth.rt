@@ -4,31 +4,33 @@ ghost use Rattle.std.specs.Prelude.{ℕ, ◌≡◌, ◌<◌, List, length, IfNon
 ghost use Rattle.mx_trees.specs.Edges.{AreEdges};
 ghost use Rattle.mx_trees.specs.Growth.{is_reached, with_node, IsGrown, IsClosed, IsCrossing};
 
+use mx_stamps::MOST_NODES;
+
 /// Which nodes have been reached, and from which node each.
 #[derive(Clone, Copy)]
 pub struct Growth {
-    pub reached: [bool; 21],
-    pub next: [u8; 21],
+    pub reached: [bool; MOST_NODES as usize],
+    pub next: [u8; MOST_NODES as usize],
 }
 
 impl Growth {
     /// The root alone.
     fn at(root: u8) -> Growth
-        requires { root < 21 }
+        requires { root < MOST_NODES }
         ensures { (edges : List (ℕ × ℕ)) → IsGrown edges root result }
     {
-        let mut reached = [false; 21];
+        let mut reached = [false; MOST_NODES as usize];
         reached[root as usize] = true;
         Growth {
             reached,
-            next: [root; 21],
+            next: [root; MOST_NODES as usize],
         }
     }
 
     /// The root and every node that these edges join to it.
     pub fn from(edges: &[(u8, u8)], root: u8) -> Growth
-        requires edges { AreEdges 21 (length edges.now) edges.now }
-        requires root { root < 21 }
+        requires edges { AreEdges MOST_NODES (length edges.now) edges.now }
+        requires root { root < MOST_NODES }
         ensures grown { IsGrown edges.now root result }
         ensures closed { IsClosed edges.now result }
     {
@@ -41,7 +43,7 @@ impl Growth {
 
     /// Whether it has reached this node.
     pub fn has(&self, i: u8) -> bool
-        requires { i < 21 }
+        requires { i < MOST_NODES }
         ensures { result ≡ is_reached self.now i }
     {
         self.reached[i as usize]
@@ -49,7 +51,7 @@ impl Growth {
 
     /// An edge that leads out of it: the end that it has reached, and the other.
     fn crossing(&self, edges: &[(u8, u8)]) -> Option<(u8, u8)>
-        requires { AreEdges 21 (length edges.now) edges.now }
+        requires { AreEdges MOST_NODES (length edges.now) edges.now }
         ensures none { IfNone result (IsClosed edges.now self.now) }
         ensures some { IfSome result (λ e. IsCrossing edges.now self.now e.0 e.1) }
     {
@@ -66,7 +68,7 @@ impl Growth {
 
     /// Reaches one more node.
     fn add(&mut self, near: u8, far: u8)
-        requires { far < 21 }
+        requires { far < MOST_NODES }
         ensures { self.new ≡ with_node self.old near far }
     {
         self.reached[far as usize] = true;

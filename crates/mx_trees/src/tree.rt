@@ -16,8 +16,8 @@ use std::marker::Model;
 pub struct Tree {
     nodes: u8,
     holder: NodeId,
-    neighbours: [[bool; 21]; 21],
-    next: [u8; 21],
+    neighbours: [[bool; MOST_NODES as usize]; MOST_NODES as usize],
+    next: [u8; MOST_NODES as usize],
 }
 
 impl Model for Tree {
@@ -25,11 +25,26 @@ impl Model for Tree {
 
     ghost Value = { Rooted };
 
-    ghost view = { λ t. record { count = t.nodes; holder = t.holder; rows = t.neighbours; next = t.next } };
+    ghost view = { λ t. record {
+      count = t.nodes;
+      holder = t.holder;
+      rows = t.neighbours;
+      next = t.next;
+    } };
 
-    ghost invariant = { λ t. IsRooted (record { count = t.nodes; holder = t.holder; rows = t.neighbours; next = t.next }) };
+    ghost invariant = { λ t. IsRooted (record {
+      count = t.nodes;
+      holder = t.holder;
+      rows = t.neighbours;
+      next = t.next;
+    }) };
 
-    ghost inverse = { λ r. record { nodes = r.count; holder = r.holder; neighbours = r.rows; next = r.next } };
+    ghost inverse = { λ r. record {
+      nodes = r.count;
+      holder = r.holder;
+      neighbours = r.rows;
+      next = r.next;
+    } };
 }
 
 /// The holder as a node, where the nodes, edges and holder are a tree; else the first fault.
@@ -66,7 +81,8 @@ impl Tree {
         ensures ok { IsOk result ↔ (IsTree nodes edges.now × (holder < nodes)) }
         ensures value { IfOk result (λ t. IsTreeOf nodes edges.now holder t) }
         // what is valid and is of these edges is this tree
-        ensures only { IfOk result (λ t. (u : Rooted) → IsRooted u → IsTreeOf nodes edges.now holder u → u ≡ t) }
+        ensures only { IfOk result (λ t. (u : Rooted) → IsRooted u →
+            IsTreeOf nodes edges.now holder u → u ≡ t) }
         // the first fault in their order, with its least witness; there is at most one
         ensures fault { (fault : TreeFault) →
             IsErrOf result fault ↔ IsFirstFault nodes edges.now holder fault }
@@ -87,7 +103,7 @@ impl Tree {
     pub fn nodes(&self) -> u8
         ensures value { result ≡ self.now.count }
         ensures low { 0 < result }
-        ensures high { result ≤ 21 }
+        ensures high { result ≤ MOST_NODES }
         ensures valid { IsRooted self.now }
     {
         self.nodes
