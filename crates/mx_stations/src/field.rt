@@ -5,7 +5,7 @@ ghost use Rattle.mx_stations.specs.Entries.{Node};
 ghost use Rattle.mx_stations.specs.Running.{DidAct, GoToNodes, HandFits, acted_view, word_of};
 
 use crate::next::{Becomes, Looks, Next};
-use crate::rule::{Law, Setup, Slot, View};
+use crate::rule::{Knowledge, Law, Setup, Slot};
 use atomic_table::{Seat, Table};
 use mx_journal::Receipt;
 use mx_letters::Outbox;
@@ -16,13 +16,13 @@ use std::alloc::Global;
 use std::marker::Brand;
 
 /// The seat of one station.
-pub type Place<C> = Seat<Slot<C>, View<C>>;
+pub type SeatOf<C> = Seat<Slot<C>, Knowledge<C>>;
 
 /// A status word for each node, and for each link from a node to a node four slots, each with its
 /// word.
 #[derive(Drop)]
 pub struct Field<C: Exclusion> {
-    pub(crate) board: Table<Slot<C>, View<C>, Setup<C::Shape>, Law<C>, Global>,
+    pub(crate) board: Table<Slot<C>, Knowledge<C>, Setup<C::Shape>, Law<C>, Global>,
     pub(crate) nodes: u8,
     ghost key: { board.shared.key.nodes ≡ nodes },
     ghost words: { board.shared.table_id.words ≡ nodes + nodes * nodes * 4 },
@@ -43,9 +43,9 @@ fn status_of<C: Exclusion>(member: &Member<C>) -> u64
 }
 
 /// The one step of an act. The call picks the view that it leaves.
-fn store_as<C: Exclusion, N: Next<View<C>>>(
+fn store_as<C: Exclusion, N: Next<Knowledge<C>>>(
     field: &Field<C>,
-    seat: &mut Place<C>,
+    seat: &mut SeatOf<C>,
     node: NodeId,
     member: &Member<C>,
     out: &Outbox<Parcel<C::Msg>>,
@@ -76,7 +76,7 @@ fn store_as<C: Exclusion, N: Next<View<C>>>(
 /// One act of a seat with one node.
 pub(crate) fn act<C: Exclusion>(
     field: &Field<C>,
-    seat: &mut Place<C>,
+    seat: &mut SeatOf<C>,
     node: NodeId,
     member: &Member<C>,
     out: &Outbox<Parcel<C::Msg>>,
@@ -98,7 +98,7 @@ pub(crate) fn act<C: Exclusion>(
 }
 
 /// A look at a word, which tells that the parcel in hand can be taken.
-pub(crate) fn look<C: Exclusion>(field: &Field<C>, seat: &mut Place<C>)
+pub(crate) fn look<C: Exclusion>(field: &Field<C>, seat: &mut SeatOf<C>)
     requires table { seat.old.table_id ≡ field.now.board.shared.table_id }
     ensures same { (seat.new.table_id ≡ seat.old.table_id) × (seat.new.me ≡ seat.old.me) }
     ensures fits { HandFits seat.new.me.0 }

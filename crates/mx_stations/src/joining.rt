@@ -3,14 +3,14 @@
 ghost use Rattle.std.specs.Prelude.{◌≡◌, ◌<◌, length, map};
 ghost use Rattle.mx_stations.specs.Gathered.{Knows, OfOneTable, me_of, nodes_in};
 
-use crate::field::{Field, Place};
+use crate::field::{Field, SeatOf};
 use crate::next::{Learns, OfCount};
 use crate::rule::TakeIn;
 use crate::station::Station;
 use mx_nodelaws::Exclusion;
 use std::marker::Brand;
 
-fn learn_as<C: Exclusion, N: OfCount>(field: &Field<C>, seat: &mut Place<C>)
+fn learn_as<C: Exclusion, N: OfCount>(field: &Field<C>, seat: &mut SeatOf<C>)
     requires table { seat.old.table_id ≡ field.now.board.shared.table_id }
     requires count { N.count ≡ field.now.nodes }
     ensures same { (seat.new.table_id ≡ seat.old.table_id) × (seat.new.me ≡ seat.old.me) }
@@ -20,7 +20,7 @@ fn learn_as<C: Exclusion, N: OfCount>(field: &Field<C>, seat: &mut Place<C>)
 }
 
 /// A look at the rule: the nodes in view are nodes of one running world.
-fn learn<C: Exclusion>(field: &Field<C>, seat: &mut Place<C>)
+fn learn<C: Exclusion>(field: &Field<C>, seat: &mut SeatOf<C>)
     requires table { seat.old.table_id ≡ field.now.board.shared.table_id }
     ensures same { (seat.new.table_id ≡ seat.old.table_id) × (seat.new.me ≡ seat.old.me) }
     ensures knows { Knows C.core C.Good field.now.nodes seat.new.me.0 }

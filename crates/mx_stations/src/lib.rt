@@ -21,10 +21,10 @@ mod watching;
 mod working;
 
 pub use answers::{PutOut, TakeFault, Taken, TurnReport};
-pub use field::{Field, Place};
+pub use field::{Field, SeatOf};
 pub use gathering::{GatherFault, Gathered, Ungathered, gather};
 pub use next::{Becomes, Gives, Learns, Looks, Next, OfCount, OfSlot, TriesToClaim, TriesToTake};
-pub use rule::{HandOn, Law, Setup, Slot, TakeIn, View};
+pub use rule::{HandOn, Knowledge, Law, Setup, Slot, TakeIn};
 pub use settling::work_settling;
 pub use station::Station;
 pub use together::Sees;

@@ -7,7 +7,7 @@ ghost use Rattle.mx_stations.specs.Gathered.{Knows};
 ghost use Rattle.mx_stations.specs.Running.{GoToNodes, HandFits};
 ghost use Rattle.mx_stations.specs.Slides.{Claimed, Taken};
 
-use crate::rule::{Slot, View};
+use crate::rule::{Knowledge, Slot};
 use atomic_table::Play;
 use mx_nodelaws::Exclusion;
 use std::marker::{Brand, PhantomData};
@@ -30,7 +30,7 @@ pub struct Becomes<N> {
     of: PhantomData<N>,
 }
 
-impl<C: Exclusion, N: Next<View<C>>> Play<Slot<C>, View<C>> for Becomes<N> {
+impl<C: Exclusion, N: Next<Knowledge<C>>> Play<Slot<C>, Knowledge<C>> for Becomes<N> {
     ghost then = { λ step before found now. (now ≡ (N.after before.0, before.1)) × GoToNodes N.count now.0 };
 }
 
@@ -39,7 +39,7 @@ pub struct Looks<C> {
     of: PhantomData<C>,
 }
 
-impl<C: Exclusion> Play<Slot<C>, View<C>> for Looks<C> {
+impl<C: Exclusion> Play<Slot<C>, Knowledge<C>> for Looks<C> {
     ghost then = { λ step before found now. (now ≡ before) × HandFits now.0 };
 }
 
@@ -57,7 +57,7 @@ pub struct Learns<C, N> {
     of: PhantomData<(C, N)>,
 }
 
-impl<C: Exclusion, N: OfCount> Play<Slot<C>, View<C>> for Learns<C, N> {
+impl<C: Exclusion, N: OfCount> Play<Slot<C>, Knowledge<C>> for Learns<C, N> {
     ghost then = { λ step before found now. (now ≡ before) × Knows C.core C.Good N.count now.0 };
 }
 
@@ -79,7 +79,7 @@ pub struct TriesToClaim<N> {
     of: PhantomData<N>,
 }
 
-impl<C: Exclusion, N: OfSlot> Play<Slot<C>, View<C>> for TriesToClaim<N> {
+impl<C: Exclusion, N: OfSlot> Play<Slot<C>, Knowledge<C>> for TriesToClaim<N> {
     ghost then = { λ step before found now. Claimed N.slot before found now };
 }
 
@@ -88,7 +88,7 @@ pub struct TriesToTake<N> {
     of: PhantomData<N>,
 }
 
-impl<C: Exclusion, N: OfSlot> Play<Slot<C>, View<C>> for TriesToTake<N> {
+impl<C: Exclusion, N: OfSlot> Play<Slot<C>, Knowledge<C>> for TriesToTake<N> {
     ghost then = { λ step before found now. Taken N.slot N.from before found now };
 }
 
@@ -97,6 +97,6 @@ pub struct Gives<N> {
     of: PhantomData<N>,
 }
 
-impl<C: Exclusion, N: Next<View<C>>> Play<Slot<C>, View<C>> for Gives<N> {
+impl<C: Exclusion, N: Next<Knowledge<C>>> Play<Slot<C>, Knowledge<C>> for Gives<N> {
     ghost then = { λ step before found now. now ≡ (N.after before.0, rest before.1) };
 }

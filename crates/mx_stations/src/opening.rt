@@ -6,7 +6,7 @@ ghost use Rattle.mx_member.specs.Steps.{start_of};
 ghost use Rattle.mx_stations.specs.Opened.{AreFresh, starts_of};
 ghost use Rattle.mx_stations.specs.Running.{all_of, fresh};
 
-use crate::field::{Field, Place};
+use crate::field::{Field, SeatOf};
 use crate::rule::{HandOn, Setup};
 use crate::slots::SLOTS;
 use crate::station::Station;
@@ -89,7 +89,7 @@ fn seat_all<C: Exclusion>(
     alloc: Global,
     setup: &Setup<C::Shape>,
     field: Arc<Field<C>, Global>,
-    mut seat: Place<C>,
+    mut seat: SeatOf<C>,
 ) -> Result<(Vec<Station<C>>, Vec<Member<C>>), AllocError>
     requires table { seat.table_id ≡ (arc_value field).board.shared.table_id }
     requires nodes { (arc_value field).nodes ≡ setup.now.nodes }

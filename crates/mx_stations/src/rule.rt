@@ -24,11 +24,11 @@ pub type Slot<C> = Option<Parcel<<C as Exclusion>::Msg>>;
 
 /// What a seat knows: its nodes, each with its member, its receipts and its parcels. No value of it
 /// is made.
-pub struct View<C: Exclusion> {
+pub struct Knowledge<C: Exclusion> {
     of: PhantomData<C>,
 }
 
-impl<C: Exclusion> Model for View<C> {
+impl<C: Exclusion> Model for Knowledge<C> {
     ghost use Rattle.std.specs.Prelude.{List, []};
     ghost use Rattle.mx_stations.specs.Entries.{Node};
 
@@ -42,7 +42,7 @@ pub struct Law<C> {
     of: PhantomData<C>,
 }
 
-impl<C: Exclusion> TableRule<Slot<C>, View<C>, Setup<C::Shape>> for Law<C> {
+impl<C: Exclusion> TableRule<Slot<C>, Knowledge<C>, Setup<C::Shape>> for Law<C> {
     ghost holds = { λ setup s. Holds C.core C.Good setup.nodes s };
 
     ghost first = { λ setup. all_of setup.nodes
@@ -52,7 +52,7 @@ impl<C: Exclusion> TableRule<Slot<C>, View<C>, Setup<C::Shape>> for Law<C> {
 /// A seat hands its first node on.
 pub struct HandOn;
 
-impl<C: Exclusion> Split<View<C>> for HandOn {
+impl<C: Exclusion> Split<Knowledge<C>> for HandOn {
     ghost left = { λ v. all_but_first v };
 
     ghost right = { λ v. only_first v };
@@ -61,7 +61,7 @@ impl<C: Exclusion> Split<View<C>> for HandOn {
 /// A seat takes in all nodes of another, which stand before its own.
 pub struct TakeIn;
 
-impl<C: Exclusion> Join<View<C>> for TakeIn {
+impl<C: Exclusion> Join<Knowledge<C>> for TakeIn {
     ghost both = { λ v w. w ++ v };
 
     ghost spent = { [] };

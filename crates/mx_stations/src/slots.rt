@@ -7,9 +7,9 @@ ghost use Rattle.mx_stations.specs.Links.{slot_at};
 ghost use Rattle.mx_stations.specs.Running.{IsIdle, Keeps};
 ghost use Rattle.mx_stations.specs.Slides.{Claimed, Claims, HasEmptied, HasUsed, IsFilling, IsHolding, KeepsHand, Lifts, Taken, Takes, placed_view, released_view};
 
-use crate::field::{Field, Place};
+use crate::field::{Field, SeatOf};
 use crate::next::{Gives, Next, OfSlot, TriesToClaim, TriesToTake};
-use crate::rule::View;
+use crate::rule::Knowledge;
 use mx_member::Parcel;
 use mx_nodelaws::Exclusion;
 use mx_stamps::NodeId;
@@ -32,7 +32,7 @@ fn slot_of<C: Exclusion>(field: &Field<C>, from: NodeId, to: NodeId, index: u8) 
 
 fn claim_as<C: Exclusion, N: OfSlot>(
     field: &Field<C>,
-    seat: &mut Place<C>,
+    seat: &mut SeatOf<C>,
     node: NodeId,
     to: NodeId,
     index: u8,
@@ -54,7 +54,7 @@ fn claim_as<C: Exclusion, N: OfSlot>(
 
 fn claim<C: Exclusion>(
     field: &Field<C>,
-    seat: &mut Place<C>,
+    seat: &mut SeatOf<C>,
     node: NodeId,
     to: NodeId,
     index: u8,
@@ -72,7 +72,7 @@ fn claim<C: Exclusion>(
 /// Tries the slots of the link in order, and claims the first that is empty.
 pub(crate) fn claim_empty<C: Exclusion>(
     field: &Field<C>,
-    seat: &mut Place<C>,
+    seat: &mut SeatOf<C>,
     node: NodeId,
     to: NodeId,
 ) -> Option<u8>
@@ -94,9 +94,9 @@ pub(crate) fn claim_empty<C: Exclusion>(
 }
 
 /// Puts the parcel into the slot that the seat holds, and gives it back.
-fn place_as<C: Exclusion, N: Next<View<C>>>(
+fn place_as<C: Exclusion, N: Next<Knowledge<C>>>(
     field: &Field<C>,
-    seat: &mut Place<C>,
+    seat: &mut SeatOf<C>,
     node: NodeId,
     to: NodeId,
     index: u8,
@@ -123,7 +123,7 @@ fn place_as<C: Exclusion, N: Next<View<C>>>(
 
 pub(crate) fn place<C: Exclusion>(
     field: &Field<C>,
-    seat: &mut Place<C>,
+    seat: &mut SeatOf<C>,
     node: NodeId,
     to: NodeId,
     index: u8,
@@ -142,7 +142,7 @@ pub(crate) fn place<C: Exclusion>(
 
 fn grab_as<C: Exclusion, N: OfSlot>(
     field: &Field<C>,
-    seat: &mut Place<C>,
+    seat: &mut SeatOf<C>,
     node: NodeId,
     from: NodeId,
     index: u8,
@@ -164,7 +164,7 @@ fn grab_as<C: Exclusion, N: OfSlot>(
 
 fn grab<C: Exclusion>(
     field: &Field<C>,
-    seat: &mut Place<C>,
+    seat: &mut SeatOf<C>,
     node: NodeId,
     from: NodeId,
     index: u8,
@@ -182,7 +182,7 @@ fn grab<C: Exclusion>(
 /// Tries the slots of the link in order, and takes the first that is filled.
 fn grab_filled<C: Exclusion>(
     field: &Field<C>,
-    seat: &mut Place<C>,
+    seat: &mut SeatOf<C>,
     node: NodeId,
     from: NodeId,
 ) -> Option<u8>
@@ -206,7 +206,7 @@ fn grab_filled<C: Exclusion>(
 /// Takes the parcel out of the slot that the seat holds.
 fn lift<C: Exclusion>(
     field: &Field<C>,
-    seat: &mut Place<C>,
+    seat: &mut SeatOf<C>,
     node: NodeId,
     from: NodeId,
     index: u8,
@@ -227,7 +227,7 @@ fn lift<C: Exclusion>(
 /// Takes the parcel out of the first filled slot of the link. The seat holds that slot then.
 pub(crate) fn take_up<C: Exclusion>(
     field: &Field<C>,
-    seat: &mut Place<C>,
+    seat: &mut SeatOf<C>,
     node: NodeId,
     from: NodeId,
 ) -> Option<(u8, Parcel<C::Msg>)>
@@ -248,9 +248,9 @@ pub(crate) fn take_up<C: Exclusion>(
 }
 
 /// Gives the emptied slot back. The parcel stays in hand, or is thrown away.
-fn release_as<C: Exclusion, N: Next<View<C>>>(
+fn release_as<C: Exclusion, N: Next<Knowledge<C>>>(
     field: &Field<C>,
-    seat: &mut Place<C>,
+    seat: &mut SeatOf<C>,
     node: NodeId,
     from: NodeId,
     index: u8,
@@ -274,7 +274,7 @@ fn release_as<C: Exclusion, N: Next<View<C>>>(
 
 pub(crate) fn release<C: Exclusion>(
     field: &Field<C>,
-    seat: &mut Place<C>,
+    seat: &mut SeatOf<C>,
     node: NodeId,
     from: NodeId,
     index: u8,

@@ -5,7 +5,7 @@ ghost use Rattle.mx_nodelaws.specs.Core.{BearsNumber};
 ghost use Rattle.mx_registers.specs.Based.{registers_in};
 ghost use Rattle.mx_registers.specs.Registers.{value_in};
 
-use crate::field::{Field, Place};
+use crate::field::{Field, SeatOf};
 use crate::waiting::Waiting;
 use mx_journal::{Journal, Receipt};
 use mx_letters::Outbox;
@@ -21,7 +21,7 @@ use std::sync::Arc;
 #[derive(Drop)]
 pub struct Station<C: Exclusion> {
     pub(crate) field: Arc<Field<C>, Global>,
-    pub(crate) seat: Place<C>,
+    pub(crate) seat: SeatOf<C>,
     pub(crate) node: NodeId,
     pub(crate) member: Member<C>,
     /// The parcel that was taken and is still to be delivered, with its sender.

@@ -8,9 +8,9 @@ ghost use Rattle.mx_stations.specs.Entries.{Node};
 ghost use Rattle.mx_stations.specs.Running.{word_of};
 ghost use Rattle.mx_stations.specs.Together.{HoldsSent, RunTogether, ShowsNode};
 
-use crate::field::{Field, Place};
+use crate::field::{Field, SeatOf};
 use crate::next::OfCount;
-use crate::rule::{HandOn, Slot, TakeIn, View};
+use crate::rule::{HandOn, Knowledge, Slot, TakeIn};
 use crate::station::Station;
 use atomic_table::Play;
 use mx_nodelaws::Exclusion;
@@ -22,13 +22,13 @@ pub struct Sees<C, N> {
     of: PhantomData<(C, N)>,
 }
 
-impl<C: Exclusion, N: OfCount> Play<Slot<C>, View<C>> for Sees<C, N> {
+impl<C: Exclusion, N: OfCount> Play<Slot<C>, Knowledge<C>> for Sees<C, N> {
     ghost then = { λ step before found now. (now ≡ before)
         × ShowsNode C.core C.Good N.count step.word found now.0 };
 }
 
 /// A look at the word of a node, where the call picks how many nodes there are.
-fn see_as<C: Exclusion, N: OfCount>(field: &Field<C>, seat: &mut Place<C>, node: u8) -> u64
+fn see_as<C: Exclusion, N: OfCount>(field: &Field<C>, seat: &mut SeatOf<C>, node: u8) -> u64
     requires table { seat.old.table_id ≡ field.now.board.shared.table_id }
     requires within { node < field.now.nodes }
     requires count { N.count ≡ field.now.nodes }
@@ -39,7 +39,7 @@ fn see_as<C: Exclusion, N: OfCount>(field: &Field<C>, seat: &mut Place<C>, node:
 }
 
 /// A look at the word of a node, which tells of the nodes in view.
-fn see<C: Exclusion>(field: &Field<C>, seat: &mut Place<C>, node: u8) -> u64
+fn see<C: Exclusion>(field: &Field<C>, seat: &mut SeatOf<C>, node: u8) -> u64
     requires table { seat.old.table_id ≡ field.now.board.shared.table_id }
     requires within { node < field.now.nodes }
     ensures same { (seat.new.table_id ≡ seat.old.table_id) × (seat.new.me ≡ seat.old.me) }
@@ -49,7 +49,7 @@ fn see<C: Exclusion>(field: &Field<C>, seat: &mut Place<C>, node: u8) -> u64
 }
 
 /// A look with two seats of one node each as one.
-fn see_both<C: Exclusion>(field: &Field<C>, one: &mut Place<C>, other: &mut Place<C>)
+fn see_both<C: Exclusion>(field: &Field<C>, one: &mut SeatOf<C>, other: &mut SeatOf<C>)
     requires table { one.old.table_id ≡ field.now.board.shared.table_id }
     requires same_table { other.old.table_id ≡ one.old.table_id }
     requires one { (e : Node C C.Msg) × (one.old.me ≡ (e ∷ [], [])) }
