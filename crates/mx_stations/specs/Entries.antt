@@ -5,13 +5,13 @@ use Rattle.mx_member.specs.declared.parcel.Parcel.{Parcel}
 use Rattle.mx_member.specs.Member.{MemberState}
 use Rattle.mx_member.specs.Running.{Owned}
 
--- where the node's move of a parcel stands: it has claimed this slot, or has taken it
+-- how far the node's move of a parcel is: it has claimed this slot, or has taken it
 pub data Stage : Type 0 where
   Idle : Stage
   Writing : ℕ → Stage
   Reading : ℕ → Stage
 
--- A parcel stands in `sent` with its addressee, in `hand` with its sender, and in `placed` and
+-- A parcel is in `sent` with its addressee, in `hand` with its sender, and in `placed` and
 -- `taken` with the slot.
 pub record Entry (T P : Type 0) : Type 0 where
   pub node : ℕ

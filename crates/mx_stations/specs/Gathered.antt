@@ -5,6 +5,7 @@ use mathlib.Core.Option.{some}
 use lib.ListN.{get_elem?}
 use Rattle.atomic_table.specs.Seated.{TableId}
 use Rattle.mx_stamps.specs.Lists.{IsIn}
+use Rattle.mx_stamps.specs.declared.limits.TheConstants.{MOST_REGISTERS}
 use Rattle.mx_journal.specs.declared.receipts.Read.{Read}
 use Rattle.mx_journal.specs.declared.receipts.Receipt.{Receipt}
 use Rattle.mx_journal.specs.Drafted.{record_of}
@@ -28,7 +29,7 @@ module _ {T P : Type 0} where
   abbrev pub me_of : Post T P → Entry T P
   me_of s = s.me
 
-  -- the stations are of one table, of so many nodes
+  -- the stations are of one table, of some number of nodes
   abbrev pub OfOneTable : List (Post T P) → Type 0
   OfOneTable posts = (table : TableId) × (n : ℕ) × ((k : ℕ) (s : Post T P)
       → get_elem? posts k ≡ some s → (s.table ≡ table) × (s.nodes ≡ n))
@@ -135,5 +136,5 @@ pub record IsGathered {T P : Type 0} (posts : List (Post T P)) (journal : Journa
   pub reads : (k : ℕ) (r : Receipt) (x : Read) → slice_get receipts k ≡ Some r
       → IsIn x r.reads.items → IsSerialRead (writes_to k (map record_of receipts)) r.writes.items x
   -- and each register of the journal has what the writes of all receipts, in order, leave
-  pub shows : (count : ℕ) → count ≤ 32
+  pub shows : (count : ℕ) → count ≤ MOST_REGISTERS
       → AreApplied (writes_to (length receipts) (map record_of receipts)) (registers_in count journal)

@@ -79,7 +79,7 @@ left_in true hand = hand
 left_in false hand = None
 
 module _ {H S M : Type 0} (core : Core H S M) where
-  -- one act of the node, with this in hand after it: its receipt, if it answers one, joins its own
+  -- one act of the node, with this in hand after it: its receipt, if it returns one, joins its own
   abbrev pub act_on : Act M → Option (ℕ × Parcel M) → Entry (MemberState S) (Parcel M)
       → Entry (MemberState S) (Parcel M)
   act_on a hand e =
@@ -116,7 +116,7 @@ module _ {T P : Type 0} where
       (s.me.hand ≡ None) × ((p : P) × (index : ℕ) × (index < 4) × (t ≡ post s.table s.nodes
       (releasing (Some (from, p)) (taking (slot_from s from index) from p s.me)) s.waiting))
 
-  -- nothing lies there for the empty hand, and nothing changes; from each slot of the own link all
+  -- nothing lies there for the empty hand, and nothing changes; from each slot of a link to itself all
   -- that was placed was taken
   abbrev pub FindsNone : ℕ → Post T P → Post T P → Type 0
   FindsNone from s t =

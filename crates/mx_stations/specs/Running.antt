@@ -44,7 +44,7 @@ module _ {T P : Type 0} where
         taken = [];
       }
 
-  -- no node stands twice in a view
+  -- no node is twice in a view
   abbrev pub Once : List (Entry T P) → Type 0
   Once [] = Unit {0}
   Once (e ∷ v) = ((f : Entry T P) → IsIn f v → f.node ≢ e.node) × Once v
@@ -54,7 +54,7 @@ module _ {T P : Type 0} where
   sent_of [] = []
   sent_of (e ∷ es) = sent_by e.node e.sent ++ sent_of es
 
--- each node of the world stands in exactly one view, as it is
+-- each node of the world is in exactly one view, as it is
 pub record Stands {T P : Type 0} (n : ℕ) (views : List (List (Entry T P)))
     (world : List (Entry T P)) : Type 0 where
   pub owner : ℕ → ℕ

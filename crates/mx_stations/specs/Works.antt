@@ -8,7 +8,8 @@ use Rattle.mx_stations.specs.declared.answers.TurnReport.{TurnReport}
 use Rattle.mx_stations.specs.Posts.{does}
 use Rattle.mx_stations.specs.Turns.{Goes, Moves, Station, Turns}
 
--- an act of a worker of n nodes: it asks, enters, leaves, reads or writes its register, or asks a node for records
+-- an act of a worker of n nodes: it asks, enters, leaves, reads or writes its register, or asks a
+-- node for records
 abbrev pub IsWorkers : {M : Type 0} → ℕ → ℕ → Act M → Type 0
 IsWorkers register n act.Ask = Unit {0}
 IsWorkers register n act.Enter = Unit {0}
@@ -58,8 +59,8 @@ module _ {H S M : Type 0} (core : Core H S M) (register : ℕ) where
       (m : Station core) × (n : Station core) × LeavesNone core register s m × MayLeave core m n
       × HasTurned core n t
 
--- a section was left, since there were so many before and are so many now, and `every`, which is
--- not 0, divides how many there are now
+-- a section was left, since there were `before` and are `now`, and `every`, which is not 0, divides
+-- how many there are now
 abbrev pub IsDue : ℕ → ℕ → ℕ → Type 0
 IsDue every before now = (every ≢ 0) × (before < now) × (now % every ≡ 0)
 
@@ -88,10 +89,10 @@ module _ {H S M : Type 0} (core : Core H S M) (register every : ℕ) where
   abbrev pub WorksSettling : Station core → Station core → Type 0
   WorksSettling s t = (ms : List (Station core)) × Rounds ms s t
 
-  -- exactly so many of these, one after another: so many turns were made
+  -- exactly this many of these, one after another: this many turns were made
   abbrev pub WorksFor : ℕ → Station core → Station core → Type 0
   WorksFor turns s t = (ms : List (Station core)) × (length ms ≡ turns) × Rounds ms s t
 
-  -- at most so many
+  -- at most this many
   abbrev pub WorksAtMost : ℕ → Station core → Station core → Type 0
   WorksAtMost turns s t = (made : ℕ) × (made ≤ turns) × WorksFor made s t

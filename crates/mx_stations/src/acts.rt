@@ -63,7 +63,7 @@ impl<C: Exclusion> Station<C> {
         }
     }
 
-    /// Enters the section with an empty draft, and answers its number.
+    /// Enters the section with an empty draft, and returns its number.
     pub fn enter(&mut self) -> Result<u64, EnterFault>
         ensures answer { result ≡ (enter_of C.core self.old.me.member).answer }
         ensures done { OnOk result (self.new ≡ does C.core Enter self.old) }
@@ -75,8 +75,8 @@ impl<C: Exclusion> Station<C> {
         }
     }
 
-    /// Reads a register inside: the value that the own draft wrote last, or else what the sections
-    /// before left.
+    /// Reads a register inside: the value that this node's draft wrote last, or else what the
+    /// sections before left.
     pub fn read(&mut self, register: u8) -> Result<u64, ReadFault>
         ensures answer { result ≡ (read_of C.core register self.old.me.member).answer }
         ensures done { OnOk result (self.new ≡ does C.core (Read register) self.old) }
@@ -100,8 +100,8 @@ impl<C: Exclusion> Station<C> {
         }
     }
 
-    /// Puts the registers after sections 1 to `upto` in place of their records in the journal. It is
-    /// no event of the core, sends nothing, and takes no memory.
+    /// Puts the registers after sections 1 to `upto` in place of their records in the journal. It
+    /// is no event of the core, sends nothing, and takes no memory.
     pub fn settle(&mut self, upto: u64) -> Result<(), SettleFault>
         ensures answer { result ≡ (settle_of upto self.old.me.member).answer }
         ensures done { OnOk result (self.new ≡ does C.core (Settle upto) self.old) }

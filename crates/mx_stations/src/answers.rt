@@ -1,4 +1,4 @@
-//! What a station's calls answer.
+//! What a station's calls return.
 
 ghost use Rattle.std.specs.Prelude.{◌≡◌, ◌<◌};
 ghost use Rattle.mx_stations.specs.Turns.{begun, noted, noted_put};

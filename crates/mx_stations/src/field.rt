@@ -97,7 +97,8 @@ pub(crate) fn act<C: Exclusion>(
     store_as::<C, Brand>(field, seat, node, member, out, hand, receipts);
 }
 
-/// A look at a word, which tells that the parcel in hand can be taken.
+/// A look at a word, which tells that the parcel in hand can be taken. What it reads is of no use:
+/// it stays for the proof alone, which learns here what the rule of the table says.
 pub(crate) fn look<C: Exclusion>(field: &Field<C>, seat: &mut SeatOf<C>)
     requires table { seat.old.table_id ≡ field.now.board.shared.table_id }
     ensures same { (seat.new.table_id ≡ seat.old.table_id) × (seat.new.me ≡ seat.old.me) }

@@ -15,7 +15,7 @@ use crate::station::Station;
 use mx_journal::{Journal, Receipt};
 use mx_merge::{MergeFault, merge};
 use mx_nodelaws::{Exclusion, Phase};
-use mx_stamps::NodeId;
+use mx_stamps::{MOST_NODES, NodeId};
 use std::alloc::{AllocError, Global};
 use thiserror::Error;
 
@@ -51,7 +51,7 @@ pub struct Ungathered<C: Exclusion> {
 /// How many nodes the stations' table has: at least one, where there is no station.
 fn count_of<C: Exclusion>(stations: &[Station<C>]) -> u8
     ensures value { result ≡ nodes_in stations.now }
-    ensures few { result ≤ 21 }
+    ensures few { result ≤ MOST_NODES }
 {
     match stations.first() {
         Some(station) => station.field.nodes,

@@ -19,7 +19,8 @@ fn learn_as<C: Exclusion, N: OfCount>(field: &Field<C>, seat: &mut SeatOf<C>)
     field.board.shared.load::<Learns<C, N>>(seat, 0);
 }
 
-/// A look at the rule: the nodes in view are nodes of one running world.
+/// A look at the rule: the nodes in view are nodes of one running world. It is made for the proof
+/// alone, and what it reads is of no use.
 fn learn<C: Exclusion>(field: &Field<C>, seat: &mut SeatOf<C>)
     requires table { seat.old.table_id ≡ field.now.board.shared.table_id }
     ensures same { (seat.new.table_id ≡ seat.old.table_id) × (seat.new.me ≡ seat.old.me) }

@@ -31,7 +31,8 @@ pub struct Becomes<N> {
 }
 
 impl<C: Exclusion, N: Next<Knowledge<C>>> Play<Slot<C>, Knowledge<C>> for Becomes<N> {
-    ghost then = { λ step before found now. (now ≡ (N.after before.0, before.1)) × GoToNodes N.count now.0 };
+    ghost then = { λ step before found now.
+        (now ≡ (N.after before.0, before.1)) × GoToNodes N.count now.0 };
 }
 
 /// A look: what is in hand can be taken.

@@ -15,7 +15,7 @@ use atomic_table::Table;
 use mx_letters::Outbox;
 use mx_member::Member;
 use mx_nodelaws::Exclusion;
-use mx_stamps::NodeId;
+use mx_stamps::{MOST_NODES, MOST_REGISTERS, MOST_SECTIONS, NodeId};
 use std::alloc::{AllocError, Global};
 use std::sync::Arc;
 
@@ -31,9 +31,9 @@ impl<C: Exclusion> Field<C> {
         registers: u8,
     ) -> Result<Vec<Station<C>>, AllocError>
         requires low { 0 < limit }
-        requires high { limit ≤ 1000000 }
+        requires high { limit ≤ MOST_SECTIONS }
         requires some { 0 < registers }
-        requires few { registers ≤ 32 }
+        requires few { registers ≤ MOST_REGISTERS }
         ensures { IfOk result (λ all. AreFresh (C.core.count shape.now)
             (λ i. start_of C.core shape.now i origin limit registers) all.items) }
     {
@@ -61,11 +61,11 @@ fn start_members<C: Exclusion>(
     setup: &Setup<C::Shape>,
 ) -> Result<Vec<Member<C>>, AllocError>
     requires nodes { setup.now.nodes ≡ C.core.count setup.now.shape }
-    requires named { setup.now.nodes ≤ 21 }
+    requires named { setup.now.nodes ≤ MOST_NODES }
     requires low { 0 < setup.now.limit }
-    requires high { setup.now.limit ≤ 1000000 }
+    requires high { setup.now.limit ≤ MOST_SECTIONS }
     requires some { 0 < setup.now.registers }
-    requires few { setup.now.registers ≤ 32 }
+    requires few { setup.now.registers ≤ MOST_REGISTERS }
     ensures { IfOk result (λ all. all.items ≡ all_of setup.now.nodes (starts_of C.core setup.now)) }
 {
     let mut members = Vec::new(alloc);
@@ -93,13 +93,14 @@ fn seat_all<C: Exclusion>(
 ) -> Result<(Vec<Station<C>>, Vec<Member<C>>), AllocError>
     requires table { seat.table_id ≡ (arc_value field).board.shared.table_id }
     requires nodes { (arc_value field).nodes ≡ setup.now.nodes }
-    requires named { setup.now.nodes ≤ 21 }
+    requires named { setup.now.nodes ≤ MOST_NODES }
     requires counted { setup.now.nodes ≡ C.core.count setup.now.shape }
     requires low { 0 < setup.now.limit }
-    requires high { setup.now.limit ≤ 1000000 }
+    requires high { setup.now.limit ≤ MOST_SECTIONS }
     requires some { 0 < setup.now.registers }
-    requires few { setup.now.registers ≤ 32 }
-    requires all { seat.me ≡ (all_of setup.now.nodes (λ i. fresh i (starts_of C.core setup.now i)), []) }
+    requires few { setup.now.registers ≤ MOST_REGISTERS }
+    requires all { seat.me
+        ≡ (all_of setup.now.nodes (λ i. fresh i (starts_of C.core setup.now i)), []) }
     ensures { IfOk result (λ all. AreFresh setup.now.nodes (starts_of C.core setup.now) all.0.items) }
 {
     let mut members = start_members(alloc, setup)?;

@@ -58,7 +58,7 @@ impl<C: Exclusion> Split<Knowledge<C>> for HandOn {
     ghost right = { λ v. only_first v };
 }
 
-/// A seat takes in all nodes of another, which stand before its own.
+/// A seat takes in all nodes of another, in front of its own.
 pub struct TakeIn;
 
 impl<C: Exclusion> Join<Knowledge<C>> for TakeIn {

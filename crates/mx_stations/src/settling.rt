@@ -81,8 +81,8 @@ fn settle_if_due<C: Exclusion>(station: &mut Station<C>, before: usize, every: u
     }
 }
 
-/// Whether a section was left, since there were so many before, and the number divides how many
-/// there are now.
+/// Whether a section was left since there were `before`, and `every` divides how many there are
+/// `now`.
 fn is_due(before: usize, now: usize, every: u64) -> bool
     ensures { IsTrue result ↔ IsDue every before now }
 {

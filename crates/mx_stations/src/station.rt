@@ -6,12 +6,12 @@ ghost use Rattle.mx_registers.specs.Based.{registers_in};
 ghost use Rattle.mx_registers.specs.Registers.{value_in};
 
 use crate::field::{Field, SeatOf};
-use crate::waiting::Waiting;
+use crate::waiting::{WAITING_ROOM, Waiting};
 use mx_journal::{Journal, Receipt};
 use mx_letters::Outbox;
 use mx_member::{Member, Parcel};
 use mx_nodelaws::{Exclusion, Phase};
-use mx_stamps::NodeId;
+use mx_stamps::{MOST_NODES, MOST_SECTIONS, NodeId};
 use std::alloc::Global;
 use std::marker::Model;
 use std::sync::Arc;
@@ -62,12 +62,12 @@ impl<C: Exclusion> Station<C> {
     /// How many nodes there are.
     pub fn nodes(&self) -> u8
         ensures value { result ≡ self.now.nodes }
-        ensures few { result ≤ 21 }
+        ensures few { result ≤ MOST_NODES }
     {
         self.field.nodes
     }
 
-    /// Where the node stands.
+    /// The phase of the node.
     pub fn phase(&self) -> Phase
         ensures value { result ≡ C.core.phase self.now.me.member.core }
         ensures numbered { BearsNumber result }
@@ -85,7 +85,7 @@ impl<C: Exclusion> Station<C> {
     /// The number of the last section that this node entered, 0 before the first.
     pub fn mine(&self) -> u64
         ensures value { result ≡ C.core.mine self.now.me.member.core }
-        ensures high { result ≤ 1000000 }
+        ensures high { result ≤ MOST_SECTIONS }
     {
         self.member.mine()
     }
@@ -116,7 +116,7 @@ impl<C: Exclusion> Station<C> {
     /// How many parcels wait to be put out.
     pub fn waits(&self) -> usize
         ensures count { result ≡ length self.now.waiting }
-        ensures few { result ≤ 64 }
+        ensures few { result ≤ WAITING_ROOM }
     {
         self.waiting.len()
     }

@@ -9,7 +9,7 @@ use mx_letters::Outbox;
 use mx_member::Parcel;
 use mx_stamps::NodeId;
 
-/// How many parcels wait at the most.
+/// The greatest number of parcels that wait in a station.
 pub const WAITING_ROOM: usize = 64;
 
 /// Parcels with their addressees.
@@ -19,6 +19,8 @@ pub(crate) type Waiting<M> = ArrayVec<(NodeId, Parcel<M>), WAITING_ROOM>;
 pub(crate) fn store_up<M: Copy + Default>(waiting: &mut Waiting<M>, out: &Outbox<Parcel<M>>)
     ensures { waiting.new.items ≡ waiting_after waiting.old.items out.now }
 {
+    // For the prover alone: it knows that no more wait than there is room for once it has seen how
+    // many there are.
     let _count = waiting.len();
     for sent in out.as_slice() {
         if waiting.len() < WAITING_ROOM {
@@ -30,7 +32,7 @@ pub(crate) fn store_up<M: Copy + Default>(waiting: &mut Waiting<M>, out: &Outbox
 /// Takes the first.
 pub(crate) fn take_first<M: Copy + Default>(waiting: &mut Waiting<M>) -> Option<(NodeId, Parcel<M>)>
     ensures first { IfSome result (λ x. waiting.old.items ≡ x ∷ waiting.new.items) }
-    ensures room { OnSome result (array_vec_len waiting.new < 64) }
+    ensures room { OnSome result (array_vec_len waiting.new < WAITING_ROOM) }
     ensures none { IfNone result ((waiting.old.items ≡ []) × (waiting.new ≡ waiting.old)) }
 {
     if waiting.len() == 0 {

@@ -49,8 +49,8 @@ impl<C: Exclusion> Watch<C> {
     }
 }
 
-/// How many sections were left when a node's word was this: those up to its last one, which is still
-/// open where the word is odd.
+/// How many sections were left when a node's word was this: those up to its last one, which is
+/// still open where the word is odd.
 fn sections_in(word: u64) -> u64 {
     (word / 2).saturating_sub(word % 2)
 }

@@ -24,7 +24,7 @@ pub trait Gate {
     fn done(&self, node: NodeId) -> bool;
 }
 
-/// What a worker has to do: to add 1 to this register, in so many sections.
+/// What a worker has to do: to add 1 to this register, in a given number of sections.
 #[derive(Clone, Copy, Debug, PartialEq, Eq)]
 pub struct Script {
     pub register: u8,
@@ -36,13 +36,13 @@ pub struct Script {
 pub enum Worked {
     /// The station has its sections, and the gate let it stop.
     Done,
-    /// All turns were made, so many.
+    /// All turns were made: this many.
     NotYet(u64),
     /// The gate did not let it begin.
     GateShut,
 }
 
-/// Where a worker stands: whether it has written in its section, and which node it asked last for
+/// How far a worker is: whether it has written in its section, and which node it asked last for
 /// the records that it lacks.
 #[derive(Drop)]
 pub(crate) struct Stance {
@@ -50,7 +50,7 @@ pub(crate) struct Stance {
     pub(crate) wanted: NodeId,
 }
 
-/// Waits at the gate, and then works at the station for at most so many turns. In each, the acts
+/// Waits at the gate, and then works at the station for at most this many turns. In each, the acts
 /// that are due come first: it asks where it is idle and lacks sections; enters where it can;
 /// inside, reads the register and writes 1 more, or where records are missing asks the next node in
 /// the circle for them; leaves once it has written. Then the station takes a turn, by these fates
@@ -108,7 +108,7 @@ fn work_at<C: Exclusion, G: Gate, F: Fates>(
     Worked::NotYet(turns)
 }
 
-/// Whether the station has so many sections, and is not inside another.
+/// Whether the station has this many sections, and is not inside another.
 pub(crate) fn is_finished<C: Exclusion>(station: &Station<C>, sections: u64) -> bool
     ensures enough { IsTrue result → sections ≤ length station.now.me.receipts }
     ensures outside { IsTrue result → IsInside C.core station.now.me.member.core → ⊥ }
@@ -119,7 +119,7 @@ pub(crate) fn is_finished<C: Exclusion>(station: &Station<C>, sections: u64) -> 
     has_sections(station, sections)
 }
 
-/// Whether the station has so many sections.
+/// Whether the station has this many sections.
 fn has_sections<C: Exclusion>(station: &Station<C>, sections: u64) -> bool
     ensures { IsTrue result ↔ (sections ≤ length station.now.me.receipts) }
 {
@@ -195,7 +195,7 @@ fn count_of<C: Exclusion>(station: &Station<C>) -> u8
     station.field.nodes
 }
 
-/// The next of so many nodes in the circle.
+/// The next node in the circle of this many.
 fn node_after(node: NodeId, nodes: u8) -> NodeId
     requires { 0 < nodes }
     ensures { result < nodes }
