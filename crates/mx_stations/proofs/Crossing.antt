@@ -1,5 +1,5 @@
 -- What a station knows of its node before and after a move of a parcel.
-use Rattle.std.proofs.Common.{◌≡◌, ◌≢◌, ◌⊎◌, inl, inr, ℕ, ◌<◌, List, [], ◌∷◌, ◌++◌, Bool, true, false, MatchBool, Option, Some, None, refl, sym, ap, ◌∙◌, subst}
+use Rattle.std.proofs.Common.{◌≡◌, ◌≢◌, ◌⊎◌, inl, inr, ℕ, ◌<◌, List, [], ◌∷◌, ◌++◌, Bool, true, false, IfSome, MatchBool, MatchOption, Option, Some, None, is_some, refl, sym, ap, ◌∙◌, subst}
 use Rattle.atomic_table.specs.Table.{Me}
 use Rattle.atomic_table.specs.Seated.{TableId}
 use Rattle.mx_stamps.specs.Lists.{IsIn}
@@ -146,3 +146,8 @@ module _ {H S M : Type 0} (core : Core H S M) where
   -- a parcel was fetched, and memory was refused
   pub kept_it : (from : ℕ) (s s1 s2 t : P) → (s.me.hand ≡ None) × (s1 ≡ s) → Fetches from s1 s2 → t ≡ s2 → KeepsInHand from s t
   kept_it from s s1 s2 t still got same = inr (subst (λ (z : P × P). Fetches from z.0 z.1) (λ j. (still.1 j, sym same j)) got)
+
+-- of what was taken the fate is known
+pub got_some : {T P : Type 0} (from : ℕ) (r : Option Fate) (s t : Post T P) → MatchOption r (FindsNone from s t) (λ fate. IsFated from fate s t) → IfSome r (λ fate. fate ≡ Pass) → MatchBool (is_some r) (Fetches from s t) (FindsNone from s t)
+got_some from None s t found is = found
+got_some from (Some fate) s t found is = subst (λ (z : Fate). IsFated from z s t) is found

@@ -2,7 +2,7 @@
 use Rattle.std.proofs.Common.{◌≡◌, inl, inr, ⊎_elim, ℕ, zero, suc, ◌+◌, ◌*◌, ◌<◌, ◌≤◌, ◌^◌, List, [], ◌∷◌, ◌++◌, map, length, replicate, drop, slice_index_or, Option, Some, None, refl, sym, ap, ◌∙◌, subst, arith, length-append}
 use mathlib.Core.Option.{some, some-injective, some-ne-none}
 use mathlib.Core.Option as maybe
-use Rattle.mx_stations.specs.Links.{free, Link, Links, slot_at}
+use Rattle.mx_stations.specs.Links.{empty, IsSlot, Links, slot_at}
 use lib.ListN.{get_elem?}
 use Rattle.atomic_table.specs.Table.{opening}
 use Rattle.atomic_table.specs.Seated.{TableId}
@@ -107,13 +107,13 @@ module _ {T : Type 0} (P : Type 0) (starts : ℕ → T) where
   fresh_links n =
       let F : ℕ → Entry T P = λ i. fresh i (starts i) in
       record {
-        phase = (λ k. free);
+        state = (λ k. empty);
         wide = ap length (map_replicate {B = maybe.Option (Option P)} some (n * n * 4) None) ∙ replicate_length (n * n * 4) (some None);
         each = (λ a b v e f in_four ea fb.
             let x = all_at 0 n F a e ea in let y = all_at 0 n F b f fb in
             let k : ℕ = slot_at n a b v in
             let low : k < n * n * 4 = slot_low n a b v x.0 y.0 in_four in
-            subst (λ (z : Entry T P × Entry T P). Link n (replicate (n + n * n * 4) 0) (map some (replicate (n * n * 4) None)) k b z.0 z.1 free) (λ j. (sym x.1 j, sym y.1 j))
+            subst (λ (z : Entry T P × Entry T P). IsSlot n (replicate (n + n * n * 4) 0) (map some (replicate (n * n * 4) None)) k b z.0 z.1 empty) (λ j. (sym x.1 j, sym y.1 j))
             record {
               word = replicate_at (n + n * n * 4) 0 (n + k) (omega arith);
               lies = ap (λ (l : List (maybe.Option (Option P))). get_elem? l k) (map_replicate {B = maybe.Option (Option P)} some (n * n * 4) None) ∙ replicate_at (n * n * 4) (some None) k low;

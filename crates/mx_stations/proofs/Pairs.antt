@@ -9,7 +9,7 @@ use lib.ListN.{get_elem?}
 use Rattle.atomic_table.proofs.Lists.{at_set, set_else}
 use Rattle.mx_stamps.specs.Lists.{IsIn}
 use Rattle.mx_stations.specs.Entries.{Entry}
-use Rattle.mx_stations.specs.Links.{Phase, free, writing, full, reading, of, Writes, Reads, waiting, Lies, WasSent, Link, Links, slot_at}
+use Rattle.mx_stations.specs.Links.{SlotState, empty, claimed, filled, taken, of, Writes, Reads, lying, Lies, WasSent, IsSlot, Links, slot_at}
 use Rattle.mx_stations.proofs.Places.{within}
 
 one_pair : (n a b c d : ℕ) → b < n → d < n → a * n + b ≡ c * n + d → (a ≡ c) × (b ≡ d)
@@ -55,17 +55,17 @@ module _ {P : Type 0} where
   of_other k j [] p ne = ap (λ b. cond b (p ∷ []) []) (ne_eqb j k ne)
   of_other k j (x ∷ xs) p ne = ap (λ (z : List P). cond (eqb x.0 k) (x.1 ∷ z) z) (of_other k j xs p ne)
 
-  lies_else : (homes homes' : List (maybe.Option (Option P))) (k : ℕ) (ph : Phase P) → get_elem? homes' k ≡ get_elem? homes k → Lies homes k ph → Lies homes' k ph
-  lies_else homes homes' k free e h = e ∙ h
-  lies_else homes homes' k writing e h = tt
-  lies_else homes homes' k (full p) e h = e ∙ h
-  lies_else homes homes' k reading e h = tt
+  lies_else : (homes homes' : List (maybe.Option (Option P))) (k : ℕ) (st : SlotState P) → get_elem? homes' k ≡ get_elem? homes k → Lies homes k st → Lies homes' k st
+  lies_else homes homes' k empty e h = e ∙ h
+  lies_else homes homes' k claimed e h = tt
+  lies_else homes homes' k (filled p) e h = e ∙ h
+  lies_else homes homes' k taken e h = tt
 
-  sent_still : (to : ℕ) (xs ys : List (ℕ × P)) (ph : Phase P) → ((x : ℕ × P) → IsIn x xs → IsIn x ys) → WasSent to xs ph → WasSent to ys ph
-  sent_still to xs ys free more h = tt
-  sent_still to xs ys writing more h = tt
-  sent_still to xs ys (full p) more h = more (to, p) h
-  sent_still to xs ys reading more h = tt
+  sent_still : (to : ℕ) (xs ys : List (ℕ × P)) (st : SlotState P) → ((x : ℕ × P) → IsIn x xs → IsIn x ys) → WasSent to xs st → WasSent to ys st
+  sent_still to xs ys empty more h = tt
+  sent_still to xs ys claimed more h = tt
+  sent_still to xs ys (filled p) more h = more (to, p) h
+  sent_still to xs ys taken more h = tt
 
 module _ {T P : Type 0} where
   -- a node's change, as far as the slot k sees it
@@ -79,14 +79,14 @@ module _ {T P : Type 0} where
   pub unchanged : (k : ℕ) (e : Entry T P) → Keeps k e e
   unchanged k e = record { placed = refl; taken = refl; sent = (λ x h. h); writes = ((λ h. h), (λ h. h)); reads = ((λ h. h), (λ h. h)) }
 
-  link_stays : (n : ℕ) (words words' : List ℕ) (homes homes' : List (maybe.Option (Option P))) (k to : ℕ) (e f e' f' : Entry T P) (ph : Phase P)
-      → Link n words homes k to e f ph → get_elem? words' (n + k) ≡ get_elem? words (n + k) → get_elem? homes' k ≡ get_elem? homes k → Keeps k e e' → Keeps k f f' → Link n words' homes' k to e' f' ph
-  link_stays n words words' homes homes' k to e f e' f' ph l w h ke kf =
+  link_stays : (n : ℕ) (words words' : List ℕ) (homes homes' : List (maybe.Option (Option P))) (k to : ℕ) (e f e' f' : Entry T P) (st : SlotState P)
+      → IsSlot n words homes k to e f st → get_elem? words' (n + k) ≡ get_elem? words (n + k) → get_elem? homes' k ≡ get_elem? homes k → Keeps k e e' → Keeps k f f' → IsSlot n words' homes' k to e' f' st
+  link_stays n words words' homes homes' k to e f e' f' st l w h ke kf =
       record {
         word = w ∙ l.word;
-        lies = lies_else homes homes' k ph h l.lies;
-        log = ke.placed ∙ l.log ∙ ap (λ (z : List P). z ++ waiting ph) (sym kf.taken);
-        sent = sent_still to e.sent e'.sent ph ke.sent l.sent;
+        lies = lies_else homes homes' k st h l.lies;
+        log = ke.placed ∙ l.log ∙ ap (λ (z : List P). z ++ lying st) (sym kf.taken);
+        sent = sent_still to e.sent e'.sent st ke.sent l.sent;
         writer = ((λ x. l.writer.0 (ke.writes.0 x)), (λ x. ke.writes.1 (l.writer.1 x)));
         reader = ((λ x. l.reader.0 (kf.reads.0 x)), (λ x. kf.reads.1 (l.reader.1 x)));
         used = (λ r none. l.used r (sym kf.taken ∙ none));
@@ -106,25 +106,25 @@ module _ {T P : Type 0} where
       → Links n words homes world → get_elem? world i ≡ some e → ((k : ℕ) → get_elem? words' (n + k) ≡ get_elem? words (n + k)) → ((k : ℕ) → Keeps k e e') → Links n words' homes (set world i e')
   links_still n words words' homes world i e e' ls at same_words changed =
       record {
-        phase = ls.phase;
+        state = ls.state;
         wide = ls.wide;
         each = (λ a b v x y low ax by.
             let k : ℕ = slot_at n a b v in
             let ox = after world i e e' (Keeps k) at (changed k) (unchanged k) a x ax in
             let oy = after world i e e' (Keeps k) at (changed k) (unchanged k) b y by in
-            link_stays n words words' homes homes k b ox.0 oy.0 x y (ls.phase k) (ls.each a b v ox.0 oy.0 low ox.1 oy.1) (same_words k) refl ox.2 oy.2);
+            link_stays n words words' homes homes k b ox.0 oy.0 x y (ls.state k) (ls.each a b v ox.0 oy.0 low ox.1 oy.1) (same_words k) refl ox.2 oy.2);
       }
 
   -- a change of the one slot from c to d with the index u
-  pub links_step : (n : ℕ) (words : List ℕ) (homes homes' : List (maybe.Option (Option P))) (world : List (Entry T P)) (i : ℕ) (e e' : Entry T P) (c d u : ℕ) (w : ℕ) (ph : Phase P)
+  pub links_step : (n : ℕ) (words : List ℕ) (homes homes' : List (maybe.Option (Option P))) (world : List (Entry T P)) (i : ℕ) (e e' : Entry T P) (c d u : ℕ) (w : ℕ) (st : SlotState P)
       → Links n words homes world → length world ≡ n → get_elem? world i ≡ some e → d < n → u < 4
       → length homes' ≡ length homes → ((k : ℕ) → k ≢ slot_at n c d u → get_elem? homes' k ≡ get_elem? homes k) → ((k : ℕ) → k ≢ slot_at n c d u → Keeps k e e')
-      → ((x y : Entry T P) → get_elem? (set world i e') c ≡ some x → get_elem? (set world i e') d ≡ some y → Link n (set words (n + slot_at n c d u) w) homes' (slot_at n c d u) d x y ph)
+      → ((x y : Entry T P) → get_elem? (set world i e') c ≡ some x → get_elem? (set world i e') d ≡ some y → IsSlot n (set words (n + slot_at n c d u) w) homes' (slot_at n c d u) d x y st)
       → Links n (set words (n + slot_at n c d u) w) homes' (set world i e')
-  links_step n words homes homes' world i e e' c d u w ph ls long at in_n in_four homes_long homes_else changed new =
+  links_step n words homes homes' world i e e' c d u w st ls long at in_n in_four homes_long homes_else changed new =
       let s : ℕ = slot_at n c d u in
       record {
-        phase = but ls.phase s ph;
+        state = but ls.state s st;
         wide = homes_long ∙ ls.wide;
         each = (λ a b v x y low ax by.
             let k : ℕ = slot_at n a b v in
@@ -133,13 +133,13 @@ module _ {T P : Type 0} where
             let bn : b < n = subst (λ (z : ℕ). b < z) len (within now b y by) in
             dite (ℕ_discrete k s)
             (λ is. let p = one_slot n a b v c d u bn in_n low in_four is in
-            subst (λ (z : ℕ × ℕ × ℕ). Link n (set words (n + s) w) homes' (slot_at n z.0 z.1 z.2) z.1 x y (but ls.phase s ph (slot_at n z.0 z.1 z.2))) (λ j. (sym p.0 j, sym p.1 j, sym p.2 j))
-            (subst (λ (z : Phase P). Link n (set words (n + s) w) homes' s d x y z) (sym (but_here ls.phase s ph))
+            subst (λ (z : ℕ × ℕ × ℕ). IsSlot n (set words (n + s) w) homes' (slot_at n z.0 z.1 z.2) z.1 x y (but ls.state s st (slot_at n z.0 z.1 z.2))) (λ j. (sym p.0 j, sym p.1 j, sym p.2 j))
+            (subst (λ (z : SlotState P). IsSlot n (set words (n + s) w) homes' s d x y z) (sym (but_here ls.state s st))
             (new x y (ap (λ (z : ℕ). get_elem? now z) (sym p.0) ∙ ax) (ap (λ (z : ℕ). get_elem? now z) (sym p.1) ∙ by))))
             (λ ne.
             let ox = after world i e e' (Keeps k) at (changed k ne) (unchanged k) a x ax in
             let oy = after world i e e' (Keeps k) at (changed k ne) (unchanged k) b y by in
-            subst (λ (z : Phase P). Link n (set words (n + s) w) homes' k b x y z) (sym (but_else ls.phase s ph k ne))
-            (link_stays n words (set words (n + s) w) homes homes' k b ox.0 oy.0 x y (ls.phase k) (ls.each a b v ox.0 oy.0 low ox.1 oy.1)
+            subst (λ (z : SlotState P). IsSlot n (set words (n + s) w) homes' k b x y z) (sym (but_else ls.state s st k ne))
+            (link_stays n words (set words (n + s) w) homes homes' k b ox.0 oy.0 x y (ls.state k) (ls.each a b v ox.0 oy.0 low ox.1 oy.1)
             (set_else words (n + s) (n + k) w (λ e. ne (omega arith))) (homes_else k ne) ox.2 oy.2)));
       }

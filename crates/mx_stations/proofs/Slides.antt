@@ -14,9 +14,9 @@ use Rattle.mx_member.specs.Running.{IsRunning, Owned}
 use Rattle.mx_stations.specs.Entries.{Entry, Node, owned_of}
 use Rattle.mx_stations.specs.Entries.{Stage}
 use Rattle.mx_stations.specs.Entries.{Idle, Writing, Reading}
-use Rattle.mx_stations.specs.Links.{Phase, free, writing, full, reading, of, Writes, Reads, face, waiting, IsWriting, IsReading, Lies, WasSent, Link, slot_at}
+use Rattle.mx_stations.specs.Links.{SlotState, empty, claimed, filled, taken, of, Writes, Reads, word_for, lying, IsClaimed, IsTaken, Lies, WasSent, IsSlot, slot_at}
 use Rattle.mx_stations.specs.Running.{Holds, IsIdle, Shown, sent_of, word_of}
-use Rattle.mx_stations.specs.Slides.{claiming, placing, taking, releasing, Claimed, Taken, placed_view, released_view, IsFilling, IsHolding, KeepsHand}
+use Rattle.mx_stations.specs.Slides.{claiming, placing, taking, releasing, TriesClaim, TriesTake, placed_view, released_view, IsFilling, IsHolding, KeepsHand}
 use Rattle.mx_stations.proofs.Places.{within, one_at, sent_in_world, moves, set_same}
 use Rattle.mx_stations.proofs.Pairs.{links_step, Keeps, of_more, of_other, slot_low}
 
@@ -60,19 +60,19 @@ module _ {H S M : Type 0} (core : Core H S M) (Good : World S M → Type 0) wher
       }
 
   -- one step of a parcel: the seat's node changes, and one slot with its word
-  slides : (n : ℕ) (s : State (Option (Parcel M)) (List (Node S M))) (id : ℕ) (e e' : Node S M) (c d u w : ℕ) (homes' : List (maybe.Option (Option (Parcel M)))) (ph : Phase (Parcel M))
+  slides : (n : ℕ) (s : State (Option (Parcel M)) (List (Node S M))) (id : ℕ) (e e' : Node S M) (c d u w : ℕ) (homes' : List (maybe.Option (Option (Parcel M)))) (st : SlotState (Parcel M))
       → (h : Holds core Good n s) → get_elem? s.views id ≡ some (e ∷ []) → d < n → u < 4 → e'.node ≡ e.node → owned_of e' ≡ owned_of e → e'.sent ≡ e.sent
       → ((x : ℕ × Parcel M) → e'.hand ≡ Some x → IsIn (x.0, e.node, x.1) (sent_of h.world))
       → length homes' ≡ length s.homes → ((k : ℕ) → k ≢ slot_at n c d u → get_elem? homes' k ≡ get_elem? s.homes k) → ((k : ℕ) → k ≢ slot_at n c d u → Keeps k e e')
-      → ((x y : Node S M) → get_elem? (set h.world e.node e') c ≡ some x → get_elem? (set h.world e.node e') d ≡ some y → Link n (set s.words (n + slot_at n c d u) w) homes' (slot_at n c d u) d x y ph)
+      → ((x y : Node S M) → get_elem? (set h.world e.node e') c ≡ some x → get_elem? (set h.world e.node e') d ≡ some y → IsSlot n (set s.words (n + slot_at n c d u) w) homes' (slot_at n c d u) d x y st)
       → Holds core Good n record { words = set s.words (n + slot_at n c d u) w; homes = homes'; views = set s.views id (e' ∷ []) }
-  slides n s id e e' c d u w homes' ph h at dn un node state sent held homes_long homes_else changed new =
+  slides n s id e e' c d u w homes' st h at dn un node state sent held homes_long homes_else changed new =
       let here = (h.stands.known id (e ∷ []) e at (inl refl)).0 in
       record {
         world = set h.world e.node e';
         stands = moves n s.views h.world id e e' h.stands at node;
         shown = shown_still n s.words h.world e.node e e' (slot_at n c d u) w h.shown h.stands.long here node state sent held;
-        links = links_step n s.words s.homes homes' h.world e.node e e' c d u w ph h.links h.stands.long here dn un homes_long homes_else changed new;
+        links = links_step n s.words s.homes homes' h.world e.node e e' c d u w st h.links h.stands.long here dn un homes_long homes_else changed new;
       }
 
 pub some_at : {A : Type 0} (l : List A) (i : ℕ) → i < length l → (a : A) × (get_elem? l i ≡ some a)
@@ -123,51 +123,51 @@ module _ {T P : Type 0} where
   was world i e e' j y at is = ⊎_elim (λ t. (e, ap (λ (z : ℕ). get_elem? world z) t.0 ∙ at, inl (sym t.1, refl))) (λ t. (y, t.1, inr refl)) (at_set world i j e' y is)
 
 module _ {P : Type 0} where
-  free_lies : (homes : List (maybe.Option (Option P))) (k : ℕ) (ph : Phase P) → face ph ≡ 0 → Lies homes k ph → get_elem? homes k ≡ some (some None)
-  free_lies homes k free e h = h
-  free_lies homes k writing e h = absurd (omega arith)
-  free_lies homes k (full p) e h = absurd (omega arith)
-  free_lies homes k reading e h = absurd (omega arith)
+  empty_there : (homes : List (maybe.Option (Option P))) (k : ℕ) (st : SlotState P) → word_for st ≡ 0 → Lies homes k st → get_elem? homes k ≡ some (some None)
+  empty_there homes k empty e h = h
+  empty_there homes k claimed e h = absurd (omega arith)
+  empty_there homes k (filled p) e h = absurd (omega arith)
+  empty_there homes k taken e h = absurd (omega arith)
 
-  free_waits : (ph : Phase P) → face ph ≡ 0 → (waiting ph ≡ []) × (IsReading ph → ⊥)
-  free_waits free e = (refl, λ h. h)
-  free_waits writing e = absurd (omega arith)
-  free_waits (full p) e = absurd (omega arith)
-  free_waits reading e = absurd (omega arith)
+  empty_lies : (st : SlotState P) → word_for st ≡ 0 → (lying st ≡ []) × (IsTaken st → ⊥)
+  empty_lies empty e = (refl, λ h. h)
+  empty_lies claimed e = absurd (omega arith)
+  empty_lies (filled p) e = absurd (omega arith)
+  empty_lies taken e = absurd (omega arith)
 
-  full_is : (ph : Phase P) → face ph ≡ 2 → (p : P) × (ph ≡ full p)
-  full_is free e = absurd (omega arith)
-  full_is writing e = absurd (omega arith)
-  full_is (full p) e = (p, refl)
-  full_is reading e = absurd (omega arith)
+  filled_is : (st : SlotState P) → word_for st ≡ 2 → (p : P) × (st ≡ filled p)
+  filled_is empty e = absurd (omega arith)
+  filled_is claimed e = absurd (omega arith)
+  filled_is (filled p) e = (p, refl)
+  filled_is taken e = absurd (omega arith)
 
-  writing_is : (ph : Phase P) → IsWriting ph → (waiting ph ≡ []) × (IsReading ph → ⊥)
-  writing_is free h = absurd h
-  writing_is writing h = (refl, λ r. r)
-  writing_is (full p) h = absurd h
-  writing_is reading h = absurd h
+  claimed_lies : (st : SlotState P) → IsClaimed st → (lying st ≡ []) × (IsTaken st → ⊥)
+  claimed_lies empty h = absurd h
+  claimed_lies claimed h = (refl, λ r. r)
+  claimed_lies (filled p) h = absurd h
+  claimed_lies taken h = absurd h
 
-  reading_is : (ph : Phase P) → IsReading ph → (waiting ph ≡ []) × (IsWriting ph → ⊥)
-  reading_is free h = absurd h
-  reading_is writing h = absurd h
-  reading_is (full p) h = absurd h
-  reading_is reading h = (refl, λ r. r)
+  taken_lies : (st : SlotState P) → IsTaken st → (lying st ≡ []) × (IsClaimed st → ⊥)
+  taken_lies empty h = absurd h
+  taken_lies claimed h = absurd h
+  taken_lies (filled p) h = absurd h
+  taken_lies taken h = (refl, λ r. r)
 
   not_nil : (xs : List P) (p : P) → xs ++ p ∷ [] ≡ [] → ⊥
   not_nil xs p e = let n : length (xs ++ p ∷ []) ≡ 0 = ap length e in let m = length-append xs (p ∷ []) in absurd (omega arith)
 
   -- a slot in use that its sender is not filling has been used
-  was_used : (xs ys : List P) (ph : Phase P) → xs ≡ ys ++ waiting ph → face ph ≢ 0 → (IsWriting ph → ⊥) → (IsReading ph → ys ≢ []) → xs ≢ []
-  was_used xs ys free log busy writes reads nil = busy refl
-  was_used xs ys writing log busy writes reads nil = writes tt
-  was_used xs ys (full p) log busy writes reads nil = not_nil ys p (sym log ∙ nil)
-  was_used xs ys reading log busy writes reads nil = reads tt (sym (append-nil ys) ∙ sym log ∙ nil)
+  was_used : (xs ys : List P) (st : SlotState P) → xs ≡ ys ++ lying st → word_for st ≢ 0 → (IsClaimed st → ⊥) → (IsTaken st → ys ≢ []) → xs ≢ []
+  was_used xs ys empty log busy writes reads nil = busy refl
+  was_used xs ys claimed log busy writes reads nil = writes tt
+  was_used xs ys (filled p) log busy writes reads nil = not_nil ys p (sym log ∙ nil)
+  was_used xs ys taken log busy writes reads nil = reads tt (sym (append-nil ys) ∙ sym log ∙ nil)
 
-  no_wait : (ph : Phase P) → face ph ≢ 2 → waiting ph ≡ []
-  no_wait free ne = refl
-  no_wait writing ne = refl
-  no_wait (full p) ne = absurd (ne refl)
-  no_wait reading ne = refl
+  none_lies : (st : SlotState P) → word_for st ≢ 2 → lying st ≡ []
+  none_lies empty ne = refl
+  none_lies claimed ne = refl
+  none_lies (filled p) ne = absurd (ne refl)
+  none_lies taken ne = refl
 
 module _ {H S M : Type 0} (core : Core H S M) (Good : World S M → Type 0) where
   abbrev Rule : ℕ → State (Option (Parcel M)) (List (Node S M)) → Type 0
@@ -180,33 +180,33 @@ module _ {H S M : Type 0} (core : Core H S M) (Good : World S M → Type 0) wher
 
   -- the sender takes an empty slot
   pub claims : (n slots id b u : ℕ) (e : Node S M) → b < n → u < 4 → e.stage ≡ Idle
-      → Allows (Rule n) slots id (e ∷ [], []) (n + slot_at n e.node b u) (λ m. either (eqb m 0) 1 m) (Claimed (slot_at n e.node b u) (e ∷ [], []))
+      → Allows (Rule n) slots id (e ∷ [], []) (n + slot_at n e.node b u) (λ m. either (eqb m 0) 1 m) (TriesClaim (slot_at n e.node b u) (e ∷ [], []))
   claims n slots id b u e bn un idle s h homes at small =
       let a : ℕ = e.node in let k : ℕ = slot_at n a b u in let e' : Node S M = claiming k e in
       let here = (h.stands.known id (e ∷ []) e at (inl refl)).0 in
       let fb = some_at h.world b (subst (λ (z : ℕ). b < z) (sym h.stands.long) bn) in
-      let ph = h.links.phase k in let l = h.links.each a b u e fb.0 un here fb.1 in
+      let st = h.links.state k in let l = h.links.each a b u e fb.0 un here fb.1 in
       let found : ℕ = get_or s.words (n + k) 0 in
-      let found_is : found ≡ face ph = word_read s.words (n + k) (face ph) l.word in
-      let in_words = within s.words (n + k) (face ph) l.word in
+      let found_is : found ≡ word_for st = word_read s.words (n + k) (word_for st) l.word in
+      let in_words = within s.words (n + k) (word_for st) l.word in
       exchanged found 0 1
-      (λ m. (w : List (Node S M)) × (act : Act (Option (Parcel M))) × Valid s.homes [] act × Rule n (stepped s (n + k) m id [] w act) × Claimed k (e ∷ [], []) found (w, carried_after [] act))
-      (λ hit. let empty = sym found_is ∙ hit in let waits = free_waits ph empty in (
+      (λ m. (w : List (Node S M)) × (act : Act (Option (Parcel M))) × Valid s.homes [] act × Rule n (stepped s (n + k) m id [] w act) × TriesClaim k (e ∷ [], []) found (w, carried_after [] act))
+      (λ hit. let is_empty = sym found_is ∙ hit in let waits = empty_lies st is_empty in (
         e' ∷ [],
         takes k None,
-        free_lies s.homes k ph empty l.lies,
-        slides core Good n s id e e' a b u 1 (set s.homes k none) writing h at bn un refl refl refl (λ x held. h.shown.held a e x here held)
+        empty_there s.homes k st is_empty l.lies,
+        slides core Good n s id e e' a b u 1 (set s.homes k none) claimed h at bn un refl refl refl (λ x held. h.shown.held a e x here held)
             (length-set s.homes k none) (λ j ne. set_else s.homes k j none ne)
             (λ j ne. keeps_quiet j e e' (quiet_idle j e.stage idle) (quiet_writing j k (Writing k) ne refl) refl refl refl)
             (λ x y ax by. let x_is = one_at (set h.world a e') a x e' ax (set_here h.world a e' (within h.world a e here)) in
             let oy = was h.world a e e' b y here by in
             let old_y : oy.0 ≡ fb.0 = one_at h.world b oy.0 fb.0 oy.1 fb.1 in
-            let taken : of k y.taken ≡ of k fb.0.taken = ⊎_elim (λ t. ap (λ (z : Node S M). of k z.taken) t.0 ∙ ap (λ (z : Node S M). of k z.taken) (sym t.1 ∙ old_y)) (λ t. ap (λ (z : Node S M). of k z.taken) (t ∙ old_y)) oy.2 in
+            let taken_is : of k y.taken ≡ of k fb.0.taken = ⊎_elim (λ t. ap (λ (z : Node S M). of k z.taken) t.0 ∙ ap (λ (z : Node S M). of k z.taken) (sym t.1 ∙ old_y)) (λ t. ap (λ (z : Node S M). of k z.taken) (t ∙ old_y)) oy.2 in
             let not_reading : Reads k y.stage → ⊥ = ⊎_elim (λ t r. subst (λ (z : Node S M). Reads k z.stage) t.0 r) (λ t r. waits.1 (l.reader.0 (subst (λ (z : Node S M). Reads k z.stage) (t ∙ old_y) r))) oy.2 in
             record {
               word = set_here s.words (n + k) 1 in_words;
               lies = tt;
-              log = ap (λ (z : Node S M). of k z.placed) x_is ∙ l.log ∙ (λ i. sym taken i ++ waits.0 i);
+              log = ap (λ (z : Node S M). of k z.placed) x_is ∙ l.log ∙ (λ i. sym taken_is i ++ waits.0 i);
               sent = tt;
               writer = ((λ w. tt), (λ w. subst (λ (z : Node S M). Writes k z.stage) (sym x_is) refl));
               reader = (not_reading, (λ r. absurd r));
@@ -219,7 +219,7 @@ module _ {H S M : Type 0} (core : Core H S M) (Good : World S M → Type 0) wher
         keeps,
         tt,
         again n s (n + k) id e h at,
-        ((λ hit. absurd (miss hit)), (λ _. (refl, (e, refl, was_used (of k e.placed) (of k fb.0.taken) ph l.log (λ z. miss (found_is ∙ z)) (λ w. (quiet_idle k e.stage idle).0 (l.writer.1 w)) l.used)))),
+        ((λ hit. absurd (miss hit)), (λ _. (refl, (e, refl, was_used (of k e.placed) (of k fb.0.taken) st l.log (λ z. miss (found_is ∙ z)) (λ w. (quiet_idle k e.stage idle).0 (l.writer.1 w)) l.used)))),
       ))
 
   -- the sender gives the slot back, with a parcel that it has sent
@@ -230,24 +230,24 @@ module _ {H S M : Type 0} (core : Core H S M) (Good : World S M → Type 0) wher
       let here = (h.stands.known id (e ∷ []) e at (inl refl)).0 in
       let an : a < n = subst (λ (z : ℕ). a < z) h.stands.long (within h.world a e here) in
       let fb = some_at h.world b (subst (λ (z : ℕ). b < z) (sym h.stands.long) bn) in
-      let ph = h.links.phase k in let l = h.links.each a b u e fb.0 un here fb.1 in
-      let is_writing = writing_is ph (l.writer.0 (subst (Writes k) (sym stage) refl)) in
+      let st = h.links.state k in let l = h.links.each a b u e fb.0 un here fb.1 in
+      let is_writing = claimed_lies st (l.writer.0 (subst (Writes k) (sym stage) refl)) in
       let in_homes : k < length s.homes = subst (λ (z : ℕ). k < z) (sym h.links.wide) (slot_low n a b u an bn un) in (
         e' ∷ [],
         gives,
         tt,
-        slides core Good n s id e e' a b u 2 (set s.homes k (some (Some p))) (full p) h at bn un refl refl refl (λ x held. h.shown.held a e x here held)
+        slides core Good n s id e e' a b u 2 (set s.homes k (some (Some p))) (filled p) h at bn un refl refl refl (λ x held. h.shown.held a e x here held)
             (length-set s.homes k (some (Some p))) (λ j ne. set_else s.homes k j (some (Some p)) ne)
             (λ j ne. keeps_quiet j e e' (quiet_writing j k e.stage ne stage) (quiet_idle j Idle refl) (of_other j k e.placed p (λ q. ne (sym q))) refl refl)
             (λ x y ax by. let x_is = one_at (set h.world a e') a x e' ax (set_here h.world a e' (within h.world a e here)) in
             let oy = was h.world a e e' b y here by in
             let old_y : oy.0 ≡ fb.0 = one_at h.world b oy.0 fb.0 oy.1 fb.1 in
-            let taken : of k y.taken ≡ of k fb.0.taken = ⊎_elim (λ t. ap (λ (z : Node S M). of k z.taken) t.0 ∙ ap (λ (z : Node S M). of k z.taken) (sym t.1 ∙ old_y)) (λ t. ap (λ (z : Node S M). of k z.taken) (t ∙ old_y)) oy.2 in
+            let taken_is : of k y.taken ≡ of k fb.0.taken = ⊎_elim (λ t. ap (λ (z : Node S M). of k z.taken) t.0 ∙ ap (λ (z : Node S M). of k z.taken) (sym t.1 ∙ old_y)) (λ t. ap (λ (z : Node S M). of k z.taken) (t ∙ old_y)) oy.2 in
             let not_reading : Reads k y.stage → ⊥ = ⊎_elim (λ t r. subst (λ (z : Node S M). Reads k z.stage) t.0 r) (λ t r. is_writing.1 (l.reader.0 (subst (λ (z : Node S M). Reads k z.stage) (t ∙ old_y) r))) oy.2 in
             record {
-              word = set_here s.words (n + k) 2 (within s.words (n + k) (face ph) l.word);
+              word = set_here s.words (n + k) 2 (within s.words (n + k) (word_for st) l.word);
               lies = set_here s.homes k (some (Some p)) in_homes;
-              log = ap (λ (z : Node S M). of k z.placed) x_is ∙ of_more k e.placed p ∙ ap (λ (z : List (Parcel M)). z ++ p ∷ []) (l.log ∙ ap (λ (z : List (Parcel M)). of k fb.0.taken ++ z) is_writing.0 ∙ append-nil (of k fb.0.taken)) ∙ ap (λ (z : List (Parcel M)). z ++ p ∷ []) (sym taken);
+              log = ap (λ (z : Node S M). of k z.placed) x_is ∙ of_more k e.placed p ∙ ap (λ (z : List (Parcel M)). z ++ p ∷ []) (l.log ∙ ap (λ (z : List (Parcel M)). of k fb.0.taken ++ z) is_writing.0 ∙ append-nil (of k fb.0.taken)) ∙ ap (λ (z : List (Parcel M)). z ++ p ∷ []) (sym taken_is);
               sent = subst (λ (z : Node S M). IsIn (b, p) z.sent) (sym x_is) was_sent;
               writer = ((λ w. subst (λ (z : Node S M). Writes k z.stage) x_is w), (λ w. absurd w));
               reader = (not_reading, (λ r. absurd r));
@@ -258,26 +258,26 @@ module _ {H S M : Type 0} (core : Core H S M) (Good : World S M → Type 0) wher
 
   -- the receiver takes a filled slot
   pub grabs : (n slots id a u : ℕ) (e : Node S M) → a < n → u < 4 → e.stage ≡ Idle
-      → Allows (Rule n) slots id (e ∷ [], []) (n + slot_at n a e.node u) (λ m. either (eqb m 2) 3 m) (Taken (slot_at n a e.node u) a (e ∷ [], []))
+      → Allows (Rule n) slots id (e ∷ [], []) (n + slot_at n a e.node u) (λ m. either (eqb m 2) 3 m) (TriesTake (slot_at n a e.node u) a (e ∷ [], []))
   grabs n slots id a u e an un idle s h homes at small =
       let b : ℕ = e.node in let k : ℕ = slot_at n a b u in
       let here = (h.stands.known id (e ∷ []) e at (inl refl)).0 in
       let bn : b < n = subst (λ (z : ℕ). b < z) h.stands.long (within h.world b e here) in
       let fa = some_at h.world a (subst (λ (z : ℕ). a < z) (sym h.stands.long) an) in
-      let ph = h.links.phase k in let l = h.links.each a b u fa.0 e un fa.1 here in
-      let in_words = within s.words (n + k) (face ph) l.word in
+      let st = h.links.state k in let l = h.links.each a b u fa.0 e un fa.1 here in
+      let in_words = within s.words (n + k) (word_for st) l.word in
       let found : ℕ = get_or s.words (n + k) 0 in
-      let found_is : found ≡ face ph = word_read s.words (n + k) (face ph) l.word in
+      let found_is : found ≡ word_for st = word_read s.words (n + k) (word_for st) l.word in
       exchanged found 2 3
-      (λ m. (w : List (Node S M)) × (act : Act (Option (Parcel M))) × Valid s.homes [] act × Rule n (stepped s (n + k) m id [] w act) × Taken k a (e ∷ [], []) found (w, carried_after [] act))
-      (λ hit. let fill = full_is ph (sym found_is ∙ hit) in let p : Parcel M = fill.0 in let e' : Node S M = taking k a p e in
-      let old_log : of k fa.0.placed ≡ of k e.taken ++ p ∷ [] = l.log ∙ ap (λ (z : Phase (Parcel M)). of k e.taken ++ waiting z) fill.1 in
+      (λ m. (w : List (Node S M)) × (act : Act (Option (Parcel M))) × Valid s.homes [] act × Rule n (stepped s (n + k) m id [] w act) × TriesTake k a (e ∷ [], []) found (w, carried_after [] act))
+      (λ hit. let fill = filled_is st (sym found_is ∙ hit) in let p : Parcel M = fill.0 in let e' : Node S M = taking k a p e in
+      let old_log : of k fa.0.placed ≡ of k e.taken ++ p ∷ [] = l.log ∙ ap (λ (z : SlotState (Parcel M)). of k e.taken ++ lying z) fill.1 in
       let sent : IsIn (b, p) fa.0.sent = subst (WasSent b fa.0.sent) fill.1 l.sent in
       let letter : IsIn (a, b, p) (sent_of h.world) = subst (λ (z : ℕ). IsIn (z, b, p) (sent_of h.world)) (h.stands.numbered a fa.0 fa.1) (sent_in_world h.world a fa.0 (b, p) fa.1 sent) in (
         e' ∷ [],
         takes k (Some p),
         subst (Lies s.homes k) fill.1 l.lies,
-        slides core Good n s id e e' a b u 3 (set s.homes k none) reading h at bn un refl refl refl
+        slides core Good n s id e e' a b u 3 (set s.homes k none) taken h at bn un refl refl refl
             (λ x held. subst (λ (z : ℕ × Parcel M). IsIn (z.0, b, z.1) (sent_of h.world)) (some_is (a, p) x held) letter)
             (length-set s.homes k none) (λ j ne. set_else s.homes k j none ne)
             (λ j ne. keeps_quiet j e e' (quiet_idle j e.stage idle) (quiet_reading j k (Reading k) ne refl) refl (of_other j k e.taken p (λ q. ne (sym q))) refl)
@@ -285,7 +285,7 @@ module _ {H S M : Type 0} (core : Core H S M) (Good : World S M → Type 0) wher
             let ox = was h.world b e e' a x here ax in
             let old_x : ox.0 ≡ fa.0 = one_at h.world a ox.0 fa.0 ox.1 fa.1 in
             let placed : of k x.placed ≡ of k fa.0.placed = ⊎_elim (λ t. ap (λ (z : Node S M). of k z.placed) t.0 ∙ ap (λ (z : Node S M). of k z.placed) (sym t.1 ∙ old_x)) (λ t. ap (λ (z : Node S M). of k z.placed) (t ∙ old_x)) ox.2 in
-            let not_writing : Writes k x.stage → ⊥ = ⊎_elim (λ t w. subst (λ (z : Node S M). Writes k z.stage) t.0 w) (λ t w. subst IsWriting fill.1 (l.writer.0 (subst (λ (z : Node S M). Writes k z.stage) (t ∙ old_x) w))) ox.2 in
+            let not_writing : Writes k x.stage → ⊥ = ⊎_elim (λ t w. subst (λ (z : Node S M). Writes k z.stage) t.0 w) (λ t w. subst IsClaimed fill.1 (l.writer.0 (subst (λ (z : Node S M). Writes k z.stage) (t ∙ old_x) w))) ox.2 in
             record {
               word = set_here s.words (n + k) 3 in_words;
               lies = tt;
@@ -302,7 +302,7 @@ module _ {H S M : Type 0} (core : Core H S M) (Good : World S M → Type 0) wher
         keeps,
         tt,
         again n s (n + k) id e h at,
-        ((λ hit. absurd (miss hit)), (λ _. (refl, (e, refl, λ own. ap (λ (z : Node S M). of k z.placed) (one_at h.world b e fa.0 here (ap (λ (z : ℕ). get_elem? h.world z) (sym own) ∙ fa.1)) ∙ l.log ∙ ap (λ (z : List (Parcel M)). of k e.taken ++ z) (no_wait ph (λ z. miss (found_is ∙ z))) ∙ append-nil (of k e.taken))))),
+        ((λ hit. absurd (miss hit)), (λ _. (refl, (e, refl, λ own. ap (λ (z : Node S M). of k z.placed) (one_at h.world b e fa.0 here (ap (λ (z : ℕ). get_elem? h.world z) (sym own) ∙ fa.1)) ∙ l.log ∙ ap (λ (z : List (Parcel M)). of k e.taken ++ z) (none_lies st (λ z. miss (found_is ∙ z))) ∙ append-nil (of k e.taken))))),
       ))
 
   -- the receiver gives the emptied slot back
@@ -313,13 +313,13 @@ module _ {H S M : Type 0} (core : Core H S M) (Good : World S M → Type 0) wher
       let here = (h.stands.known id (e ∷ []) e at (inl refl)).0 in
       let bn : b < n = subst (λ (z : ℕ). b < z) h.stands.long (within h.world b e here) in
       let fa = some_at h.world a (subst (λ (z : ℕ). a < z) (sym h.stands.long) an) in
-      let ph = h.links.phase k in let l = h.links.each a b u fa.0 e un fa.1 here in
-      let is_reading = reading_is ph (l.reader.0 (subst (Reads k) (sym stage) refl)) in
+      let st = h.links.state k in let l = h.links.each a b u fa.0 e un fa.1 here in
+      let is_reading = taken_lies st (l.reader.0 (subst (Reads k) (sym stage) refl)) in
       let in_homes : k < length s.homes = subst (λ (z : ℕ). k < z) (sym h.links.wide) (slot_low n a b u an bn un) in (
         e' ∷ [],
         gives,
         tt,
-        slides core Good n s id e e' a b u 0 (set s.homes k (some None)) free h at bn un refl refl refl
+        slides core Good n s id e e' a b u 0 (set s.homes k (some None)) empty h at bn un refl refl refl
             (λ x held. h.shown.held b e x here (⊎_elim (λ same. sym same ∙ held) (λ none. absurd (cc)) kept))
             (length-set s.homes k (some None)) (λ j ne. set_else s.homes k j (some None) ne)
             (λ j ne. keeps_quiet j e e' (quiet_reading j k e.stage ne stage) (quiet_idle j Idle refl) refl refl refl)
@@ -329,7 +329,7 @@ module _ {H S M : Type 0} (core : Core H S M) (Good : World S M → Type 0) wher
             let placed : of k x.placed ≡ of k fa.0.placed = ⊎_elim (λ t. ap (λ (z : Node S M). of k z.placed) t.0 ∙ ap (λ (z : Node S M). of k z.placed) (sym t.1 ∙ old_x)) (λ t. ap (λ (z : Node S M). of k z.placed) (t ∙ old_x)) ox.2 in
             let not_writing : Writes k x.stage → ⊥ = ⊎_elim (λ t w. subst (λ (z : Node S M). Writes k z.stage) t.0 w) (λ t w. is_reading.1 (l.writer.0 (subst (λ (z : Node S M). Writes k z.stage) (t ∙ old_x) w))) ox.2 in
             record {
-              word = set_here s.words (n + k) 0 (within s.words (n + k) (face ph) l.word);
+              word = set_here s.words (n + k) 0 (within s.words (n + k) (word_for st) l.word);
               lies = set_here s.homes k (some None) in_homes;
               log = placed ∙ l.log ∙ ap (λ (z : List (Parcel M)). of k e.taken ++ z) is_reading.0 ∙ ap (λ (z : Node S M). of k z.taken ++ []) (sym y_is);
               sent = tt;
@@ -342,11 +342,11 @@ module _ {H S M : Type 0} (core : Core H S M) (Good : World S M → Type 0) wher
 
   -- the same at a seat whose view is known
   pub claims_at : (n key slots id : ℕ) (me : Me (Option (Parcel M)) (List (Node S M))) (node b u slot k : ℕ) → key ≡ n → IsIdle me node → b < n → u < 4 → slot ≡ slot_at n node b u → k ≡ slot_at n node b u
-      → Allows (Rule key) slots id me (n + k) (λ m. either (eqb m 0) 1 m) (Claimed slot me)
+      → Allows (Rule key) slots id me (n + k) (λ m. either (eqb m 0) 1 m) (TriesClaim slot me)
   claims_at n key slots id me node b u slot k is_key idle bn un is_slot is_k =
       let e : Node S M = idle.0 in
       let slot_is : slot_at n e.node b u ≡ slot = ap (λ (z : ℕ). slot_at n z b u) idle.2 ∙ sym is_slot in
-      subst (λ (z : ℕ × Me (Option (Parcel M)) (List (Node S M)) × ℕ × ℕ). Allows (Rule z.0) slots id z.1 (n + z.2) (λ m. either (eqb m 0) 1 m) (Claimed z.3 z.1)) (λ i. (sym is_key i, sym idle.1 i, (slot_is ∙ is_slot ∙ sym is_k) i, slot_is i))
+      subst (λ (z : ℕ × Me (Option (Parcel M)) (List (Node S M)) × ℕ × ℕ). Allows (Rule z.0) slots id z.1 (n + z.2) (λ m. either (eqb m 0) 1 m) (TriesClaim z.3 z.1)) (λ i. (sym is_key i, sym idle.1 i, (slot_is ∙ is_slot ∙ sym is_k) i, slot_is i))
       (claims n slots id b u e bn un idle.3)
 
   pub places_at : (n key slots id : ℕ) (me me0 : Me (Option (Parcel M)) (List (Node S M))) (node b u k : ℕ) (p : Parcel M) (after : List (Node S M)) → key ≡ n → b < n → u < 4 → IsFilling me0 (slot_at n node b u) node b p
@@ -364,11 +364,11 @@ module _ {H S M : Type 0} (core : Core H S M) (Good : World S M → Type 0) wher
       subst (λ (z : ℕ × Me (Option (Parcel M)) (List (Node S M)) × ℕ). Allows (Rule z.0) slots id z.1 (n + z.2) (λ _. 2) (λ _ m. m ≡ (after, rest z.1.1))) (λ i. (sym is_key i, sym me_is i, sym is_k i)) at_after
 
   pub grabs_at : (n key slots id : ℕ) (me : Me (Option (Parcel M)) (List (Node S M))) (node a u slot from k : ℕ) → key ≡ n → IsIdle me node → a < n → u < 4 → slot ≡ slot_at n a node u → from ≡ a → k ≡ slot_at n a node u
-      → Allows (Rule key) slots id me (n + k) (λ m. either (eqb m 2) 3 m) (Taken slot from me)
+      → Allows (Rule key) slots id me (n + k) (λ m. either (eqb m 2) 3 m) (TriesTake slot from me)
   grabs_at n key slots id me node a u slot from k is_key idle an un is_slot is_from is_k =
       let e : Node S M = idle.0 in
       let slot_is : slot_at n a e.node u ≡ slot = ap (λ (z : ℕ). slot_at n a z u) idle.2 ∙ sym is_slot in
-      subst (λ (z : ℕ × Me (Option (Parcel M)) (List (Node S M)) × ℕ × ℕ × ℕ). Allows (Rule z.0) slots id z.1 (n + z.2) (λ m. either (eqb m 2) 3 m) (Taken z.3 z.4 z.1)) (λ i. (sym is_key i, sym idle.1 i, (slot_is ∙ is_slot ∙ sym is_k) i, slot_is i, sym is_from i))
+      subst (λ (z : ℕ × Me (Option (Parcel M)) (List (Node S M)) × ℕ × ℕ × ℕ). Allows (Rule z.0) slots id z.1 (n + z.2) (λ m. either (eqb m 2) 3 m) (TriesTake z.3 z.4 z.1)) (λ i. (sym is_key i, sym idle.1 i, (slot_is ∙ is_slot ∙ sym is_k) i, slot_is i, sym is_from i))
       (grabs n slots id a u e an un idle.3)
 
   pub releases_at : (n key slots id : ℕ) (me : Me (Option (Parcel M)) (List (Node S M))) (node a u j : ℕ) (hand : Option (ℕ × Parcel M)) (after : List (Node S M)) → key ≡ n → a < n → u < 4 → IsHolding me (slot_at n a node u) node None

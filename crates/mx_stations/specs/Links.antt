@@ -4,20 +4,33 @@ use Rattle.std.specs.Prelude.{◌≡◌, ◌≢◌, ℕ, ◌+◌, ◌*◌, ◌<�
 use mathlib.Core.Option.{some}
 use mathlib.Core.Option as maybe
 use lib.ListN.{get_elem?}
+use Rattle.atomic_table.specs.Seated.{TableId}
 use Rattle.mx_stamps.specs.Lists.{IsIn}
-use Rattle.mx_stations.specs.Entries.{Entry}
-use Rattle.mx_stations.specs.Entries.{Stage}
-use Rattle.mx_stations.specs.Entries.{Idle, Writing, Reading}
+use Rattle.mx_stations.specs.declared.slots.Link.{Link}
+use Rattle.mx_stations.specs.declared.slots.TheConstants.{SLOTS, EMPTY, CLAIMED, FILLED, TAKEN}
+use Rattle.mx_stations.specs.Entries.{Entry, Stage, Idle, Writing, Reading}
 
-pub data Phase (P : Type 0) : Type 0 where
-  free : Phase P
-  writing : Phase P
-  full : P → Phase P
-  reading : Phase P
+-- nothing lies in the slot, its sender fills it, a parcel lies there, its receiver empties it
+pub data SlotState (P : Type 0) : Type 0 where
+  empty : SlotState P
+  claimed : SlotState P
+  filled : P → SlotState P
+  taken : SlotState P
 
 -- the place of one slot of a link between two of n nodes: which of the four it is tells its index
 abbrev pub slot_at : ℕ → ℕ → ℕ → ℕ → ℕ
-slot_at n from to index = (from * n + to) * 4 + index
+slot_at n from to index = (from * n + to) * SLOTS + index
+
+abbrev pub slot_in : ℕ → Link → ℕ → ℕ
+slot_in n link index = slot_at n link.from link.to index
+
+-- a link between two of n nodes
+abbrev pub IsLink : ℕ → Link → Type 0
+IsLink n link = (link.from < n) × (link.to < n)
+
+-- and the seat is at the table of these nodes
+abbrev pub IsLinkAt : TableId → TableId → ℕ → Link → Type 0
+IsLinkAt seat table n link = (seat ≡ table) × (IsLink n link)
 
 -- the parcels of one slot, in order
 abbrev pub of : {P : Type 0} → ℕ → List (ℕ × P) → List P
@@ -36,59 +49,59 @@ Reads k (Writing j) = ⊥
 Reads k (Reading j) = j ≡ k
 
 module _ {P : Type 0} where
-  abbrev pub face : Phase P → ℕ
-  face free = 0
-  face writing = 1
-  face (full p) = 2
-  face reading = 3
+  abbrev pub word_for : SlotState P → ℕ
+  word_for empty = EMPTY
+  word_for claimed = CLAIMED
+  word_for (filled p) = FILLED
+  word_for taken = TAKEN
 
-  abbrev pub waiting : Phase P → List P
-  waiting free = []
-  waiting writing = []
-  waiting (full p) = p ∷ []
-  waiting reading = []
+  abbrev pub lying : SlotState P → List P
+  lying empty = []
+  lying claimed = []
+  lying (filled p) = p ∷ []
+  lying taken = []
 
-  abbrev pub IsWriting : Phase P → Type 0
-  IsWriting free = ⊥
-  IsWriting writing = Unit {0}
-  IsWriting (full p) = ⊥
-  IsWriting reading = ⊥
+  abbrev pub IsClaimed : SlotState P → Type 0
+  IsClaimed empty = ⊥
+  IsClaimed claimed = Unit {0}
+  IsClaimed (filled p) = ⊥
+  IsClaimed taken = ⊥
 
-  abbrev pub IsReading : Phase P → Type 0
-  IsReading free = ⊥
-  IsReading writing = ⊥
-  IsReading (full p) = ⊥
-  IsReading reading = Unit {0}
+  abbrev pub IsTaken : SlotState P → Type 0
+  IsTaken empty = ⊥
+  IsTaken claimed = ⊥
+  IsTaken (filled p) = ⊥
+  IsTaken taken = Unit {0}
 
   -- what lies in the slot
-  abbrev pub Lies : List (maybe.Option (Option P)) → ℕ → Phase P → Type 0
-  Lies homes k free = get_elem? homes k ≡ some (some None)
-  Lies homes k writing = Unit {0}
-  Lies homes k (full p) = get_elem? homes k ≡ some (some (Some p))
-  Lies homes k reading = Unit {0}
+  abbrev pub Lies : List (maybe.Option (Option P)) → ℕ → SlotState P → Type 0
+  Lies homes k empty = get_elem? homes k ≡ some (some None)
+  Lies homes k claimed = Unit {0}
+  Lies homes k (filled p) = get_elem? homes k ≡ some (some (Some p))
+  Lies homes k taken = Unit {0}
 
   -- a parcel that lies there was sent to the receiver
-  abbrev pub WasSent : ℕ → List (ℕ × P) → Phase P → Type 0
-  WasSent to sent free = Unit {0}
-  WasSent to sent writing = Unit {0}
-  WasSent to sent (full p) = IsIn (to, p) sent
-  WasSent to sent reading = Unit {0}
+  abbrev pub WasSent : ℕ → List (ℕ × P) → SlotState P → Type 0
+  WasSent to sent empty = Unit {0}
+  WasSent to sent claimed = Unit {0}
+  WasSent to sent (filled p) = IsIn (to, p) sent
+  WasSent to sent taken = Unit {0}
 
 -- What was taken is what was placed, in order, but for a parcel that lies there.
-pub record Link {T P : Type 0} (n : ℕ) (words : List ℕ) (homes : List (maybe.Option (Option P)))
-    (k to : ℕ) (e f : Entry T P) (ph : Phase P) : Type 0 where
-  pub word : get_elem? words (n + k) ≡ some (face ph)
-  pub lies : Lies homes k ph
-  pub log : of k e.placed ≡ of k f.taken ++ waiting ph
-  pub sent : WasSent to e.sent ph
-  pub writer : (Writes k e.stage → IsWriting ph) × (IsWriting ph → Writes k e.stage)
-  pub reader : (Reads k f.stage → IsReading ph) × (IsReading ph → Reads k f.stage)
-  pub used : IsReading ph → of k f.taken ≢ []
+pub record IsSlot {T P : Type 0} (n : ℕ) (words : List ℕ) (homes : List (maybe.Option (Option P)))
+    (k to : ℕ) (e f : Entry T P) (st : SlotState P) : Type 0 where
+  pub word : get_elem? words (n + k) ≡ some (word_for st)
+  pub lies : Lies homes k st
+  pub log : of k e.placed ≡ of k f.taken ++ lying st
+  pub sent : WasSent to e.sent st
+  pub writer : (Writes k e.stage → IsClaimed st) × (IsClaimed st → Writes k e.stage)
+  pub reader : (Reads k f.stage → IsTaken st) × (IsTaken st → Reads k f.stage)
+  pub used : IsTaken st → of k f.taken ≢ []
 
 pub record Links {T P : Type 0} (n : ℕ) (words : List ℕ) (homes : List (maybe.Option (Option P)))
     (world : List (Entry T P)) : Type 0 where
-  pub phase : ℕ → Phase P
-  pub wide : length homes ≡ n * n * 4
-  pub each : (a b index : ℕ) (e f : Entry T P) → index < 4 → get_elem? world a ≡ some e
+  pub state : ℕ → SlotState P
+  pub wide : length homes ≡ n * n * SLOTS
+  pub each : (a b index : ℕ) (e f : Entry T P) → index < SLOTS → get_elem? world a ≡ some e
       → get_elem? world b ≡ some f
-      → Link n words homes (slot_at n a b index) b e f (phase (slot_at n a b index))
+      → IsSlot n words homes (slot_at n a b index) b e f (state (slot_at n a b index))

@@ -14,8 +14,9 @@ use Rattle.mx_stations.specs.declared.answers.PutOut.{PutOut}
 use Rattle.mx_stations.specs.declared.answers.PutOut.TheVariants.{Sent, Full, Nothing}
 use Rattle.mx_stations.specs.declared.answers.Taken.{Taken}
 use Rattle.mx_stations.specs.declared.answers.Taken.TheVariants.{Got, Empty}
-use Rattle.mx_stations.specs.Entries.{Entry}
-use Rattle.mx_stations.specs.Entries.{Idle}
+use Rattle.mx_stations.specs.declared.slots.TheConstants.{SLOTS}
+use Rattle.mx_stations.specs.declared.waiting.TheConstants.{WAITING_ROOM}
+use Rattle.mx_stations.specs.Entries.{Entry, Idle}
 use Rattle.mx_stations.specs.Links.{of, slot_at}
 use Rattle.mx_stations.specs.Running.{acted}
 use Rattle.mx_stations.specs.Slides.{placing, taking, releasing}
@@ -69,9 +70,9 @@ module _ {T P : Type 0} where
 abbrev pub Waits : {P : Type 0} → ℕ → List (ℕ × P) → List (ℕ × P) → Type 0
 Waits {P} n sent waiting = (x : ℕ × P) → IsIn x waiting → IsIn x sent × (x.0 < n)
 
--- what is sent waits, and beyond 64 it is lost
+-- what is sent waits, and beyond the room it is lost
 abbrev pub waiting_after : {P : Type 0} → List (ℕ × P) → List (ℕ × P) → List (ℕ × P)
-waiting_after waiting out = take 64 (waiting ++ out)
+waiting_after waiting out = take WAITING_ROOM (waiting ++ out)
 
 -- what a delivery leaves in hand
 abbrev pub left_in : {P : Type 0} → Bool → Option (ℕ × P) → Option (ℕ × P)
@@ -113,7 +114,7 @@ module _ {T P : Type 0} where
   -- one parcel crosses from a slot of the link into the empty hand
   abbrev pub Fetches : ℕ → Post T P → Post T P → Type 0
   Fetches from s t =
-      (s.me.hand ≡ None) × ((p : P) × (index : ℕ) × (index < 4) × (t ≡ post s.table s.nodes
+      (s.me.hand ≡ None) × ((p : P) × (index : ℕ) × (index < SLOTS) × (t ≡ post s.table s.nodes
       (releasing (Some (from, p)) (taking (slot_from s from index) from p s.me)) s.waiting))
 
   -- nothing lies there for the empty hand, and nothing changes; from each slot of a link to itself all
@@ -121,7 +122,7 @@ module _ {T P : Type 0} where
   abbrev pub FindsNone : ℕ → Post T P → Post T P → Type 0
   FindsNone from s t =
       (s.me.hand ≡ None) × (t ≡ s)
-      × (from ≡ s.me.node → (index : ℕ) → index < 4
+      × (from ≡ s.me.node → (index : ℕ) → index < SLOTS
       → of (slot_from s from index) s.me.placed ≡ of (slot_from s from index) s.me.taken)
 
   -- the first that waits leaves, and is placed in a slot of its link; or it moves to the end, and
@@ -129,12 +130,12 @@ module _ {T P : Type 0} where
   abbrev pub PutsOut : Post T P → PutOut → Post T P → Type 0
   PutsOut s Sent t =
       (to : ℕ) × (p : P) × (rest : List (ℕ × P)) × (s.waiting ≡ (to, p) ∷ rest)
-      × (index : ℕ) × (index < 4)
+      × (index : ℕ) × (index < SLOTS)
       × (t ≡ post s.table s.nodes (placing (slot_to s to index) p s.me) rest)
   PutsOut s Full t =
       (to : ℕ) × (p : P) × (rest : List (ℕ × P)) × (s.waiting ≡ (to, p) ∷ rest)
       × (t ≡ post s.table s.nodes s.me (rest ++ (to, p) ∷ []))
-      × ((index : ℕ) → index < 4 → of (slot_to s to index) s.me.placed ≢ [])
+      × ((index : ℕ) → index < SLOTS → of (slot_to s to index) s.me.placed ≢ [])
   PutsOut s Nothing t = (s.waiting ≡ []) × (t ≡ s)
 
 module _ {H S M : Type 0} (core : Core H S M) where

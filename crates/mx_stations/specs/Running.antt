@@ -17,8 +17,7 @@ use Rattle.mx_member.specs.Member.{MemberState}
 use Rattle.mx_member.specs.Receipts.{closed_by}
 use Rattle.mx_member.specs.Running.{IsRunning}
 use Rattle.mx_member.specs.Steps.{IsTakeable}
-use Rattle.mx_stations.specs.Entries.{Entry, Node, owned_of}
-use Rattle.mx_stations.specs.Entries.{Idle}
+use Rattle.mx_stations.specs.Entries.{Entry, Idle, Node, owned_of}
 use Rattle.mx_stations.specs.Links.{Links}
 
 -- f k, f (k + 1), .., n of them

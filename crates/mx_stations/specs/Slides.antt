@@ -1,8 +1,8 @@
 -- The steps by which a parcel crosses a slot.
 use Rattle.std.specs.Prelude.{◌≡◌, ◌≢◌, ◌⊎◌, ℕ, List, [], ◌∷◌, ◌++◌, Option, Some, None}
 use Rattle.atomic_table.specs.Table.{Me}
-use Rattle.mx_stations.specs.Entries.{Entry}
-use Rattle.mx_stations.specs.Entries.{Idle, Writing, Reading}
+use Rattle.mx_stations.specs.declared.slots.TheConstants.{EMPTY, FILLED}
+use Rattle.mx_stations.specs.Entries.{Entry, Idle, Writing, Reading}
 use Rattle.mx_stations.specs.Links.{of}
 use Rattle.mx_stamps.specs.Lists.{IsIn}
 
@@ -71,9 +71,10 @@ module _ {T P : Type 0} where
   HasUsed k m = (e : Entry T P) × (m.0 ≡ e ∷ []) × (of k e.placed ≢ [])
 
   -- one try to claim a slot
-  abbrev pub Claimed : ℕ → Me (Option P) (List (Entry T P)) → ℕ → Me (Option P) (List (Entry T P))
-      → Type 0
-  Claimed k m found m' = (found ≡ 0 → Claims k m m') × (found ≢ 0 → (m' ≡ m) × HasUsed k m)
+  abbrev pub TriesClaim : ℕ → Me (Option P) (List (Entry T P)) → ℕ
+      → Me (Option P) (List (Entry T P)) → Type 0
+  TriesClaim k m found m' =
+      (found ≡ EMPTY → Claims k m m') × (found ≢ EMPTY → (m' ≡ m) × HasUsed k m)
 
   -- the slot had a parcel, and the seat has both
   abbrev pub Takes : ℕ → ℕ → Me (Option P) (List (Entry T P)) → Me (Option P) (List (Entry T P))
@@ -94,10 +95,10 @@ module _ {T P : Type 0} where
       (e : Entry T P) × (m.0 ≡ e ∷ []) × (from ≡ e.node → of k e.placed ≡ of k e.taken)
 
   -- one try to take the parcel of a slot
-  abbrev pub Taken : ℕ → ℕ → Me (Option P) (List (Entry T P)) → ℕ → Me (Option P) (List (Entry T P))
-      → Type 0
-  Taken k from m found m' =
-      (found ≡ 2 → Takes k from m m') × (found ≢ 2 → (m' ≡ m) × HasEmptied k from m)
+  abbrev pub TriesTake : ℕ → ℕ → Me (Option P) (List (Entry T P)) → ℕ
+      → Me (Option P) (List (Entry T P)) → Type 0
+  TriesTake k from m found m' =
+      (found ≡ FILLED → Takes k from m m') × (found ≢ FILLED → (m' ≡ m) × HasEmptied k from m)
 
   abbrev pub placed_view : ℕ → P → List (Entry T P) → List (Entry T P)
   placed_view k p [] = []

@@ -9,6 +9,7 @@ use Rattle.mx_member.specs.Member.{MemberState}
 use Rattle.mx_stations.specs.declared.answers.PutOut.{PutOut}
 use Rattle.mx_stations.specs.declared.answers.PutOut.TheVariants.{Sent, Full, Nothing}
 use Rattle.mx_stations.specs.declared.answers.TurnReport.{TurnReport}
+use Rattle.mx_stations.specs.declared.slots.TheConstants.{SLOTS}
 use Rattle.mx_stations.specs.Posts.{Delivers, Fetches, FindsNone, Post, PutsOut, does, post, slot_from}
 use Rattle.mx_stations.specs.Slides.{releasing, taking}
 
@@ -22,7 +23,7 @@ module _ {T P : Type 0} where
   -- one parcel is taken from the link with an empty hand, and thrown away
   abbrev pub Throws : ℕ → Post T P → Post T P → Type 0
   Throws from s t =
-      (s.me.hand ≡ None) × ((p : P) × (index : ℕ) × (index < 4) × (t ≡ post s.table s.nodes
+      (s.me.hand ≡ None) × ((p : P) × (index : ℕ) × (index < SLOTS) × (t ≡ post s.table s.nodes
       (releasing None (taking (slot_from s from index) from p s.me)) s.waiting))
 
   -- what becomes of a parcel that is taken

@@ -1,6 +1,8 @@
 //! The table that the stations share, and the step of an act.
 
 ghost use Rattle.std.specs.Prelude.{◌≡◌, ◌+◌, ◌*◌, ◌<◌, ◌≤◌, ◌∷◌, []};
+ghost use Rattle.mx_stamps.specs.declared.limits.TheConstants.{MOST_NODES};
+ghost use Rattle.mx_stations.specs.declared.slots.TheConstants.{SLOTS};
 ghost use Rattle.mx_stations.specs.Entries.{Node};
 ghost use Rattle.mx_stations.specs.Running.{DidAct, GoToNodes, HandFits, acted_view, word_of};
 
@@ -25,10 +27,10 @@ pub struct Field<C: Exclusion> {
     pub(crate) board: Table<Slot<C>, Knowledge<C>, Setup<C::Shape>, Law<C>, Global>,
     pub(crate) nodes: u8,
     ghost key: { board.shared.key.nodes ≡ nodes },
-    ghost words: { board.shared.table_id.words ≡ nodes + nodes * nodes * 4 },
-    ghost slots: { board.shared.table_id.slots ≡ nodes * nodes * 4 },
+    ghost words: { board.shared.table_id.words ≡ nodes + nodes * nodes * SLOTS },
+    ghost slots: { board.shared.table_id.slots ≡ nodes * nodes * SLOTS },
     ghost some: { 0 < nodes },
-    ghost few: { nodes ≤ 21 },
+    ghost few: { nodes ≤ MOST_NODES },
 }
 
 /// What a node's word shows.

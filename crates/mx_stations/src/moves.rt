@@ -1,13 +1,15 @@
 //! How the parcels of a station cross the links: each call makes one try.
 
 ghost use Rattle.std.specs.Prelude.{◌≡◌, ◌≢◌, ◌<◌, IfOk, MatchBool, None, OnErr};
+ghost use Rattle.mx_letters.specs.declared.fates.Fate.TheVariants.{Pass};
 ghost use Rattle.mx_stations.specs.Posts.{Delivers, DeliversAs, Fetches, FindsNone, KeepsInHand, PutsOut, TakesIn};
 
 use crate::answers::{PutOut, TakeFault, Taken};
 use crate::field::look;
-use crate::slots::{claim_empty, place, release, take_up};
+use crate::slots::{Link, claim_empty, place};
 use crate::station::Station;
 use crate::waiting::take_first;
+use mx_letters::Fate;
 use mx_member::Act;
 use mx_nodelaws::Exclusion;
 use mx_stamps::NodeId;
@@ -49,14 +51,10 @@ impl<C: Exclusion> Station<C> {
         ensures { MatchBool result (Fetches from self.old self.new)
             (FindsNone from self.old self.new) }
     {
-        let field = &*self.field;
-        let Some(found) = take_up(field, &mut self.seat, self.node, from) else {
-            return false;
-        };
-        let hand = Some((from, found.1));
-        release(field, &mut self.seat, self.node, from, found.0, &hand);
-        self.hand = hand;
-        true
+        let pass = || -> Fate
+            ensures { result ≡ Pass }
+        { Fate::Pass };
+        self.fetch_fated(from, pass).is_some()
     }
 
     /// Delivers the parcel in hand, or else takes one from the link and delivers it.
@@ -82,13 +80,16 @@ impl<C: Exclusion> Station<C> {
         let Some(first) = take_first(&mut self.waiting) else {
             return PutOut::Nothing;
         };
-        let to = first.0;
+        let link = Link {
+            from: self.node,
+            to: first.0,
+        };
         let field = &*self.field;
-        let Some(index) = claim_empty(field, &mut self.seat, self.node, to) else {
+        let Some(index) = claim_empty(field, &mut self.seat, &link) else {
             self.waiting.push(first);
             return PutOut::Full;
         };
-        place(field, &mut self.seat, self.node, to, index, first.1);
+        place(field, &mut self.seat, &link, index, first.1);
         PutOut::Sent
     }
 }

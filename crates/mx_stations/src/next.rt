@@ -5,7 +5,7 @@ ghost use Rattle.std.specs.Prelude.{◌≡◌, ℕ};
 ghost use Rattle.atomic_table.specs.Table.{rest};
 ghost use Rattle.mx_stations.specs.Gathered.{Knows};
 ghost use Rattle.mx_stations.specs.Running.{GoToNodes, HandFits};
-ghost use Rattle.mx_stations.specs.Slides.{Claimed, Taken};
+ghost use Rattle.mx_stations.specs.Slides.{TriesClaim, TriesTake};
 
 use crate::rule::{Knowledge, Slot};
 use atomic_table::Play;
@@ -81,7 +81,7 @@ pub struct TriesToClaim<N> {
 }
 
 impl<C: Exclusion, N: OfSlot> Play<Slot<C>, Knowledge<C>> for TriesToClaim<N> {
-    ghost then = { λ step before found now. Claimed N.slot before found now };
+    ghost then = { λ step before found now. TriesClaim N.slot before found now };
 }
 
 /// A try to take a slot.
@@ -90,7 +90,7 @@ pub struct TriesToTake<N> {
 }
 
 impl<C: Exclusion, N: OfSlot> Play<Slot<C>, Knowledge<C>> for TriesToTake<N> {
-    ghost then = { λ step before found now. Taken N.slot N.from before found now };
+    ghost then = { λ step before found now. TriesTake N.slot N.from before found now };
 }
 
 /// The seat gives its slot back.

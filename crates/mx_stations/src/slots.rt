@@ -3,9 +3,9 @@
 
 ghost use Rattle.std.specs.Prelude.{◌≡◌, ◌⊎◌, ℕ, ◌+◌, ◌*◌, ◌<◌, List, [], ◌∷◌, Option, Some, None, IfNone, IfSome};
 ghost use Rattle.mx_member.specs.declared.parcel.Parcel.{Parcel as OneParcel};
-ghost use Rattle.mx_stations.specs.Links.{slot_at};
+ghost use Rattle.mx_stations.specs.Links.{IsLink, IsLinkAt, slot_in};
 ghost use Rattle.mx_stations.specs.Running.{IsIdle, Keeps};
-ghost use Rattle.mx_stations.specs.Slides.{Claimed, Claims, HasEmptied, HasUsed, IsFilling, IsHolding, KeepsHand, Lifts, Taken, Takes, placed_view, released_view};
+ghost use Rattle.mx_stations.specs.Slides.{Claims, HasEmptied, HasUsed, IsFilling, IsHolding, KeepsHand, Lifts, Takes, TriesClaim, TriesTake, placed_view, released_view};
 
 use crate::field::{Field, SeatOf};
 use crate::next::{Gives, Next, OfSlot, TriesToClaim, TriesToTake};
@@ -16,77 +16,89 @@ use mx_stamps::NodeId;
 use std::marker::Brand;
 
 /// How many slots each link has.
-pub(crate) const SLOTS: u8 = 4;
+pub const SLOTS: u8 = 4;
 
-/// The place of one slot of the link from one node to another.
-fn slot_of<C: Exclusion>(field: &Field<C>, from: NodeId, to: NodeId, index: u8) -> usize
-    requires from { from < field.now.nodes }
-    requires to { to < field.now.nodes }
-    requires index { index < 4 }
-    ensures value { result ≡ slot_at field.now.nodes from to index }
-    ensures within { result < field.now.nodes * field.now.nodes * 4 }
+/// The word of a slot in which nothing lies.
+const EMPTY: u64 = 0;
+
+/// The word of a slot that its sender fills.
+const CLAIMED: u64 = 1;
+
+/// The word of a slot in which a parcel lies.
+const FILLED: u64 = 2;
+
+/// The word of a slot that its receiver empties.
+const TAKEN: u64 = 3;
+
+/// The link from a node to a node.
+#[derive(Clone, Copy)]
+pub(crate) struct Link {
+    pub(crate) from: NodeId,
+    pub(crate) to: NodeId,
+}
+
+/// The place of one slot of the link.
+fn slot_of<C: Exclusion>(field: &Field<C>, link: &Link, index: u8) -> usize
+    requires link { IsLink field.now.nodes link.now }
+    requires index { index < SLOTS }
+    ensures value { result ≡ slot_in field.now.nodes link.now index }
+    ensures within { result < field.now.nodes * field.now.nodes * SLOTS }
 {
-    let link = from.get() as usize * field.nodes as usize + to.get() as usize;
-    link * SLOTS as usize + index as usize
+    let place = link.from.get() as usize * field.nodes as usize + link.to.get() as usize;
+    place * SLOTS as usize + index as usize
 }
 
 fn claim_as<C: Exclusion, N: OfSlot>(
     field: &Field<C>,
     seat: &mut SeatOf<C>,
-    node: NodeId,
-    to: NodeId,
+    link: &Link,
     index: u8,
 ) -> u64
-    requires table { seat.old.table_id ≡ field.now.board.shared.table_id }
-    requires nodes { (node < field.now.nodes) × (to < field.now.nodes) }
-    requires index { index < 4 }
-    requires idle { IsIdle seat.old.me node }
-    requires slot { N.slot ≡ slot_at field.now.nodes node to index }
+    requires link { IsLinkAt seat.old.table_id field.now.board.shared.table_id field.now.nodes
+        link.now }
+    requires index { index < SLOTS }
+    requires idle { IsIdle seat.old.me link.now.from }
+    requires slot { N.slot ≡ slot_in field.now.nodes link.now index }
     ensures same { (seat.new.table_id ≡ seat.old.table_id) × (seat.new.id ≡ seat.old.id) }
-    ensures claimed { Claimed (slot_at field.now.nodes node to index) seat.old.me result seat.new.me }
+    ensures claimed { TriesClaim (slot_in field.now.nodes link.now index) seat.old.me result
+        seat.new.me }
 {
-    let slot = slot_of(field, node, to, index);
+    let slot = slot_of(field, link, index);
     field
         .board
         .shared
-        .compare_exchange::<TriesToClaim<N>>(seat, field.nodes as usize + slot, 0, 1)
+        .compare_exchange::<TriesToClaim<N>>(seat, field.nodes as usize + slot, EMPTY, CLAIMED)
 }
 
-fn claim<C: Exclusion>(
-    field: &Field<C>,
-    seat: &mut SeatOf<C>,
-    node: NodeId,
-    to: NodeId,
-    index: u8,
-) -> u64
-    requires table { seat.old.table_id ≡ field.now.board.shared.table_id }
-    requires nodes { (node < field.now.nodes) × (to < field.now.nodes) }
-    requires index { index < 4 }
-    requires idle { IsIdle seat.old.me node }
+fn claim<C: Exclusion>(field: &Field<C>, seat: &mut SeatOf<C>, link: &Link, index: u8) -> u64
+    requires link { IsLinkAt seat.old.table_id field.now.board.shared.table_id field.now.nodes
+        link.now }
+    requires index { index < SLOTS }
+    requires idle { IsIdle seat.old.me link.now.from }
     ensures same { (seat.new.table_id ≡ seat.old.table_id) × (seat.new.id ≡ seat.old.id) }
-    ensures claimed { Claimed (slot_at field.now.nodes node to index) seat.old.me result seat.new.me }
+    ensures claimed { TriesClaim (slot_in field.now.nodes link.now index) seat.old.me result
+        seat.new.me }
 {
-    claim_as::<C, Brand>(field, seat, node, to, index)
+    claim_as::<C, Brand>(field, seat, link, index)
 }
 
 /// Tries the slots of the link in order, and claims the first that is empty.
 pub(crate) fn claim_empty<C: Exclusion>(
     field: &Field<C>,
     seat: &mut SeatOf<C>,
-    node: NodeId,
-    to: NodeId,
+    link: &Link,
 ) -> Option<u8>
-    requires table { seat.old.table_id ≡ field.now.board.shared.table_id }
-    requires nodes { (node < field.now.nodes) × (to < field.now.nodes) }
-    requires idle { IsIdle seat.old.me node }
+    requires link { IsLinkAt seat.old.table_id field.now.board.shared.table_id field.now.nodes
+        link.now }
+    requires idle { IsIdle seat.old.me link.now.from }
     ensures same { (seat.new.table_id ≡ seat.old.table_id) × (seat.new.id ≡ seat.old.id) }
-    ensures some { IfSome result (λ index. (index < 4)
-        × Claims (slot_at field.now.nodes node to index) seat.old.me seat.new.me) }
-    ensures none { IfNone result ((seat.new.me ≡ seat.old.me) × ((index : ℕ) → index < 4
-        → HasUsed (slot_at field.now.nodes node to index) seat.old.me)) }
+    ensures some { IfSome result (λ index. (index < SLOTS)
+        × Claims (slot_in field.now.nodes link.now index) seat.old.me seat.new.me) }
+    ensures none { IfNone result ((seat.new.me ≡ seat.old.me) × ((index : ℕ) → index < SLOTS
+        → HasUsed (slot_in field.now.nodes link.now index) seat.old.me)) }
 {
     for index in 0..SLOTS {
-        if claim(field, seat, node, to, index) == 0 {
+        if claim(field, seat, link, index) == EMPTY {
             return Some(index);
         }
     }
@@ -97,106 +109,96 @@ pub(crate) fn claim_empty<C: Exclusion>(
 fn place_as<C: Exclusion, N: Next<Knowledge<C>>>(
     field: &Field<C>,
     seat: &mut SeatOf<C>,
-    node: NodeId,
-    to: NodeId,
+    link: &Link,
     index: u8,
     parcel: Parcel<C::Msg>,
 )
-    requires table { seat.old.table_id ≡ field.now.board.shared.table_id }
-    requires nodes { (node < field.now.nodes) × (to < field.now.nodes) }
-    requires index { index < 4 }
-    requires filling { IsFilling seat.old.me (slot_at field.now.nodes node to index) node to parcel }
+    requires link { IsLinkAt seat.old.table_id field.now.board.shared.table_id field.now.nodes
+        link.now }
+    requires index { index < SLOTS }
+    requires filling { IsFilling seat.old.me (slot_in field.now.nodes link.now index)
+        link.now.from link.now.to parcel }
     requires next { N.after seat.old.me.0
-        ≡ placed_view (slot_at field.now.nodes node to index) parcel seat.old.me.0 }
+        ≡ placed_view (slot_in field.now.nodes link.now index) parcel seat.old.me.0 }
     ensures same { (seat.new.table_id ≡ seat.old.table_id) × (seat.new.id ≡ seat.old.id) }
     ensures view { seat.new.me
-        ≡ (placed_view (slot_at field.now.nodes node to index) parcel seat.old.me.0, []) }
+        ≡ (placed_view (slot_in field.now.nodes link.now index) parcel seat.old.me.0, []) }
 {
-    let slot = slot_of(field, node, to, index);
+    let slot = slot_of(field, link, index);
     let shared = &field.board.shared;
     match shared.exchange(seat, slot, Some(parcel)) {
         None => {}
         Some(_) => unreachable!(),
     }
-    shared.store::<Gives<N>>(seat, field.nodes as usize + slot, 2);
+    shared.store::<Gives<N>>(seat, field.nodes as usize + slot, FILLED);
 }
 
 pub(crate) fn place<C: Exclusion>(
     field: &Field<C>,
     seat: &mut SeatOf<C>,
-    node: NodeId,
-    to: NodeId,
+    link: &Link,
     index: u8,
     parcel: Parcel<C::Msg>,
 )
-    requires table { seat.old.table_id ≡ field.now.board.shared.table_id }
-    requires nodes { (node < field.now.nodes) × (to < field.now.nodes) }
-    requires index { index < 4 }
-    requires filling { IsFilling seat.old.me (slot_at field.now.nodes node to index) node to parcel }
+    requires link { IsLinkAt seat.old.table_id field.now.board.shared.table_id field.now.nodes
+        link.now }
+    requires index { index < SLOTS }
+    requires filling { IsFilling seat.old.me (slot_in field.now.nodes link.now index)
+        link.now.from link.now.to parcel }
     ensures same { (seat.new.table_id ≡ seat.old.table_id) × (seat.new.id ≡ seat.old.id) }
     ensures view { seat.new.me
-        ≡ (placed_view (slot_at field.now.nodes node to index) parcel seat.old.me.0, []) }
+        ≡ (placed_view (slot_in field.now.nodes link.now index) parcel seat.old.me.0, []) }
 {
-    place_as::<C, Brand>(field, seat, node, to, index, parcel);
+    place_as::<C, Brand>(field, seat, link, index, parcel);
 }
 
 fn grab_as<C: Exclusion, N: OfSlot>(
     field: &Field<C>,
     seat: &mut SeatOf<C>,
-    node: NodeId,
-    from: NodeId,
+    link: &Link,
     index: u8,
 ) -> u64
-    requires table { seat.old.table_id ≡ field.now.board.shared.table_id }
-    requires nodes { (node < field.now.nodes) × (from < field.now.nodes) }
-    requires index { index < 4 }
-    requires idle { IsIdle seat.old.me node }
-    requires slot { (N.slot ≡ slot_at field.now.nodes from node index) × (N.from ≡ from) }
+    requires link { IsLinkAt seat.old.table_id field.now.board.shared.table_id field.now.nodes
+        link.now }
+    requires index { index < SLOTS }
+    requires idle { IsIdle seat.old.me link.now.to }
+    requires slot { (N.slot ≡ slot_in field.now.nodes link.now index) × (N.from ≡ link.now.from) }
     ensures same { (seat.new.table_id ≡ seat.old.table_id) × (seat.new.id ≡ seat.old.id) }
-    ensures taken { Taken (slot_at field.now.nodes from node index) from seat.old.me result seat.new.me }
+    ensures taken { TriesTake (slot_in field.now.nodes link.now index) link.now.from seat.old.me
+        result seat.new.me }
 {
-    let slot = slot_of(field, from, node, index);
+    let slot = slot_of(field, link, index);
     field
         .board
         .shared
-        .compare_exchange::<TriesToTake<N>>(seat, field.nodes as usize + slot, 2, 3)
+        .compare_exchange::<TriesToTake<N>>(seat, field.nodes as usize + slot, FILLED, TAKEN)
 }
 
-fn grab<C: Exclusion>(
-    field: &Field<C>,
-    seat: &mut SeatOf<C>,
-    node: NodeId,
-    from: NodeId,
-    index: u8,
-) -> u64
-    requires table { seat.old.table_id ≡ field.now.board.shared.table_id }
-    requires nodes { (node < field.now.nodes) × (from < field.now.nodes) }
-    requires index { index < 4 }
-    requires idle { IsIdle seat.old.me node }
+fn grab<C: Exclusion>(field: &Field<C>, seat: &mut SeatOf<C>, link: &Link, index: u8) -> u64
+    requires link { IsLinkAt seat.old.table_id field.now.board.shared.table_id field.now.nodes
+        link.now }
+    requires index { index < SLOTS }
+    requires idle { IsIdle seat.old.me link.now.to }
     ensures same { (seat.new.table_id ≡ seat.old.table_id) × (seat.new.id ≡ seat.old.id) }
-    ensures taken { Taken (slot_at field.now.nodes from node index) from seat.old.me result seat.new.me }
+    ensures taken { TriesTake (slot_in field.now.nodes link.now index) link.now.from seat.old.me
+        result seat.new.me }
 {
-    grab_as::<C, Brand>(field, seat, node, from, index)
+    grab_as::<C, Brand>(field, seat, link, index)
 }
 
 /// Tries the slots of the link in order, and takes the first that is filled.
-fn grab_filled<C: Exclusion>(
-    field: &Field<C>,
-    seat: &mut SeatOf<C>,
-    node: NodeId,
-    from: NodeId,
-) -> Option<u8>
-    requires table { seat.old.table_id ≡ field.now.board.shared.table_id }
-    requires nodes { (node < field.now.nodes) × (from < field.now.nodes) }
-    requires idle { IsIdle seat.old.me node }
+fn grab_filled<C: Exclusion>(field: &Field<C>, seat: &mut SeatOf<C>, link: &Link) -> Option<u8>
+    requires link { IsLinkAt seat.old.table_id field.now.board.shared.table_id field.now.nodes
+        link.now }
+    requires idle { IsIdle seat.old.me link.now.to }
     ensures same { (seat.new.table_id ≡ seat.old.table_id) × (seat.new.id ≡ seat.old.id) }
-    ensures some { IfSome result (λ index. (index < 4)
-        × Takes (slot_at field.now.nodes from node index) from seat.old.me seat.new.me) }
-    ensures none { IfNone result ((seat.new.me ≡ seat.old.me) × ((index : ℕ) → index < 4
-        → HasEmptied (slot_at field.now.nodes from node index) from seat.old.me)) }
+    ensures some { IfSome result (λ index. (index < SLOTS) × Takes
+        (slot_in field.now.nodes link.now index) link.now.from seat.old.me seat.new.me) }
+    ensures none { IfNone result ((seat.new.me ≡ seat.old.me) × ((index : ℕ) → index < SLOTS
+        → HasEmptied (slot_in field.now.nodes link.now index) link.now.from seat.old.me)) }
 {
     for index in 0..SLOTS {
-        if grab(field, seat, node, from, index) == 2 {
+        if grab(field, seat, link, index) == FILLED {
             return Some(index);
         }
     }
@@ -207,20 +209,20 @@ fn grab_filled<C: Exclusion>(
 fn lift<C: Exclusion>(
     field: &Field<C>,
     seat: &mut SeatOf<C>,
-    node: NodeId,
-    from: NodeId,
+    link: &Link,
     index: u8,
 ) -> Parcel<C::Msg>
-    requires table { seat.old.table_id ≡ field.now.board.shared.table_id }
-    requires nodes { (node < field.now.nodes) × (from < field.now.nodes) }
-    requires index { index < 4 }
+    requires link { IsLinkAt seat.old.table_id field.now.board.shared.table_id field.now.nodes
+        link.now }
+    requires index { index < SLOTS }
     requires holding { (p : OneParcel C.Msg)
-        × IsHolding seat.old.me (slot_at field.now.nodes from node index) node (Some p) }
+        × IsHolding seat.old.me (slot_in field.now.nodes link.now index) link.now.to (Some p) }
     ensures same { (seat.new.table_id ≡ seat.old.table_id) × (seat.new.id ≡ seat.old.id) }
-    ensures view { seat.new.me ≡ (seat.old.me.0, (slot_at field.now.nodes from node index, None) ∷ []) }
-    ensures parcel { seat.old.me.1 ≡ (slot_at field.now.nodes from node index, Some result) ∷ [] }
+    ensures view { seat.new.me
+        ≡ (seat.old.me.0, (slot_in field.now.nodes link.now index, None) ∷ []) }
+    ensures parcel { seat.old.me.1 ≡ (slot_in field.now.nodes link.now index, Some result) ∷ [] }
 {
-    let slot = slot_of(field, from, node, index);
+    let slot = slot_of(field, link, index);
     field.board.shared.exchange(seat, slot, None).unwrap()
 }
 
@@ -228,22 +230,21 @@ fn lift<C: Exclusion>(
 pub(crate) fn take_up<C: Exclusion>(
     field: &Field<C>,
     seat: &mut SeatOf<C>,
-    node: NodeId,
-    from: NodeId,
+    link: &Link,
 ) -> Option<(u8, Parcel<C::Msg>)>
-    requires table { seat.old.table_id ≡ field.now.board.shared.table_id }
-    requires nodes { (node < field.now.nodes) × (from < field.now.nodes) }
-    requires idle { IsIdle seat.old.me node }
+    requires link { IsLinkAt seat.old.table_id field.now.board.shared.table_id field.now.nodes
+        link.now }
+    requires idle { IsIdle seat.old.me link.now.to }
     ensures same { (seat.new.table_id ≡ seat.old.table_id) × (seat.new.id ≡ seat.old.id) }
-    ensures some { IfSome result (λ found. (found.0 < 4) × Lifts
-        (slot_at field.now.nodes from node found.0) from found.1 seat.old.me seat.new.me) }
-    ensures none { IfNone result ((seat.new.me ≡ seat.old.me) × ((index : ℕ) → index < 4
-        → HasEmptied (slot_at field.now.nodes from node index) from seat.old.me)) }
+    ensures some { IfSome result (λ found. (found.0 < SLOTS) × Lifts
+        (slot_in field.now.nodes link.now found.0) link.now.from found.1 seat.old.me seat.new.me) }
+    ensures none { IfNone result ((seat.new.me ≡ seat.old.me) × ((index : ℕ) → index < SLOTS
+        → HasEmptied (slot_in field.now.nodes link.now index) link.now.from seat.old.me)) }
 {
-    let Some(index) = grab_filled(field, seat, node, from) else {
+    let Some(index) = grab_filled(field, seat, link) else {
         return None;
     };
-    let parcel = lift(field, seat, node, from, index);
+    let parcel = lift(field, seat, link, index);
     Some((index, parcel))
 }
 
@@ -251,42 +252,42 @@ pub(crate) fn take_up<C: Exclusion>(
 fn release_as<C: Exclusion, N: Next<Knowledge<C>>>(
     field: &Field<C>,
     seat: &mut SeatOf<C>,
-    node: NodeId,
-    from: NodeId,
+    link: &Link,
     index: u8,
     hand: &Option<(NodeId, Parcel<C::Msg>)>,
 )
-    requires table { seat.old.table_id ≡ field.now.board.shared.table_id }
-    requires nodes { (node < field.now.nodes) × (from < field.now.nodes) }
-    requires index { index < 4 }
-    requires holding { IsHolding seat.old.me (slot_at field.now.nodes from node index) node None }
+    requires link { IsLinkAt seat.old.table_id field.now.board.shared.table_id field.now.nodes
+        link.now }
+    requires index { index < SLOTS }
+    requires holding { IsHolding seat.old.me (slot_in field.now.nodes link.now index) link.now.to
+        None }
     requires hand { KeepsHand seat.old.me.0 hand.now }
     requires next { N.after seat.old.me.0 ≡ released_view hand.now seat.old.me.0 }
     ensures same { (seat.new.table_id ≡ seat.old.table_id) × (seat.new.id ≡ seat.old.id) }
     ensures view { seat.new.me ≡ (released_view hand.now seat.old.me.0, []) }
 {
-    let slot = slot_of(field, from, node, index);
+    let slot = slot_of(field, link, index);
     field
         .board
         .shared
-        .store::<Gives<N>>(seat, field.nodes as usize + slot, 0);
+        .store::<Gives<N>>(seat, field.nodes as usize + slot, EMPTY);
 }
 
 pub(crate) fn release<C: Exclusion>(
     field: &Field<C>,
     seat: &mut SeatOf<C>,
-    node: NodeId,
-    from: NodeId,
+    link: &Link,
     index: u8,
     hand: &Option<(NodeId, Parcel<C::Msg>)>,
 )
-    requires table { seat.old.table_id ≡ field.now.board.shared.table_id }
-    requires nodes { (node < field.now.nodes) × (from < field.now.nodes) }
-    requires index { index < 4 }
-    requires holding { IsHolding seat.old.me (slot_at field.now.nodes from node index) node None }
+    requires link { IsLinkAt seat.old.table_id field.now.board.shared.table_id field.now.nodes
+        link.now }
+    requires index { index < SLOTS }
+    requires holding { IsHolding seat.old.me (slot_in field.now.nodes link.now index) link.now.to
+        None }
     requires hand { KeepsHand seat.old.me.0 hand.now }
     ensures same { (seat.new.table_id ≡ seat.old.table_id) × (seat.new.id ≡ seat.old.id) }
     ensures view { seat.new.me ≡ (released_view hand.now seat.old.me.0, []) }
 {
-    release_as::<C, Brand>(field, seat, node, from, index, hand);
+    release_as::<C, Brand>(field, seat, link, index, hand);
 }

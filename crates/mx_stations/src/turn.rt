@@ -1,7 +1,7 @@
 //! A turn of a station: what waits for it comes in, what waits in it goes out, and where there was
 //! neither its clock ticks.
 
-ghost use Rattle.std.specs.Prelude.{◌≡◌, ◌≢◌, ◌<◌, ◌≤◌, ◌==◌, ◌&&◌, IfOk, List, MatchBool, MatchOption, None, OnErr, OnOk, Option, length};
+ghost use Rattle.std.specs.Prelude.{◌≡◌, ◌≢◌, ◌<◌, ◌≤◌, ◌==◌, ◌&&◌, IfOk, IfSome, List, MatchBool, MatchOption, None, OnErr, OnOk, Option, length};
 ghost use Rattle.mx_letters.specs.declared.fates.Fate.{Fate as TheFate};
 ghost use Rattle.mx_letters.specs.declared.fates.Fate.TheVariants.{Twice};
 ghost use Rattle.mx_member.specs.declared.acts.Act.TheVariants.{Tick};
@@ -10,7 +10,7 @@ ghost use Rattle.mx_stations.specs.Posts.{FindsNone, does};
 ghost use Rattle.mx_stations.specs.Turns.{DeliversFirst, DeliversMore, Goes, IsFated, PutsEach, TakesEach, TakesFated, Turns, fated_hand, noted_all, noted_puts};
 
 use crate::answers::{TakeFault, TurnReport};
-use crate::slots::{release, take_up};
+use crate::slots::{Link, release, take_up};
 use crate::station::Station;
 use mx_letters::{Fate, Fates};
 use mx_member::Parcel;
@@ -44,18 +44,25 @@ impl<C: Exclusion> Station<C> {
         self.deliver_as(true)
     }
 
-    /// Takes one parcel from the link into the empty hand, or throws it away, by its fate.
-    fn fetch_fated<F: Fates>(&mut self, from: NodeId, fates: &mut F) -> Option<Fate>
+    /// Takes one parcel from the link into the empty hand, or throws it away, by its fate. That is
+    /// asked for once the parcel is taken.
+    pub(crate) fn fetch_fated<A: FnOnce() -> Fate>(&mut self, from: NodeId, ask: A) -> Option<Fate>
         requires within { from < self.old.nodes }
         requires empty { self.old.me.hand ≡ None }
-        ensures { MatchOption result (FindsNone from self.old self.new)
+        requires ask { A.pre ask }
+        ensures fated { MatchOption result (FindsNone from self.old self.new)
             (λ fate. IsFated from fate self.old self.new) }
+        ensures asked { IfSome result (λ fate. A.post ask fate) }
     {
+        let link = Link {
+            from,
+            to: self.node,
+        };
         let field = &*self.field;
-        let found = take_up(field, &mut self.seat, self.node, from)?;
-        let fate = fates.fate();
+        let found = take_up(field, &mut self.seat, &link)?;
+        let fate = ask();
         let hand = hand_of(fate, from, found.1);
-        release(field, &mut self.seat, self.node, from, found.0, &hand);
+        release(field, &mut self.seat, &link, found.0, &hand);
         self.hand = hand;
         Some(fate)
     }
@@ -73,7 +80,7 @@ impl<C: Exclusion> Station<C> {
         ensures empty { OnOk result (self.new.me.hand ≡ None) }
         ensures kept { OnErr result (self.new.me.hand ≢ None) }
     {
-        let Some(fate) = self.fetch_fated(from, fates) else {
+        let Some(fate) = self.fetch_fated(from, || fates.fate()) else {
             return Ok(None);
         };
         self.deliver_more(fate)?;

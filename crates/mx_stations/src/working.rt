@@ -8,6 +8,7 @@ ghost use Rattle.mx_stations.specs.Works.{LeavesNone, MayLeave, TakesTurn, Works
 
 use crate::answers::{TakeFault, TurnReport};
 use crate::gathering::is_inside;
+use crate::settling::work_settling;
 use crate::station::Station;
 use mx_letters::Fates;
 use mx_member::ReadFault;
@@ -57,10 +58,10 @@ pub(crate) struct Stance {
 /// of parcels. It waits only where its gate waits. The station is not to be inside; where there is
 /// no such register the worker never gets out of its first section.
 pub fn work<C: Exclusion, G: Gate, F: Fates + Drop>(
-    mut station: Station<C>,
+    station: Station<C>,
     script: Script,
     gate: &G,
-    mut fates: F,
+    fates: F,
     turns: u64,
 ) -> (Station<C>, Worked)
     ensures works { Works C.core script.register station result.0 }
@@ -73,39 +74,7 @@ pub fn work<C: Exclusion, G: Gate, F: Fates + Drop>(
         → (n ≡ turns) × WorksFor C.core script.register 0 n station result.0 }
     ensures shut { result.1 ≡ Worked.GateShut → result.0 ≡ station }
 {
-    let worked = work_at(&mut station, &script, gate, &mut fates, turns);
-    (station, worked)
-}
-
-fn work_at<C: Exclusion, G: Gate, F: Fates>(
-    station: &mut Station<C>,
-    script: &Script,
-    gate: &G,
-    fates: &mut F,
-    turns: u64,
-) -> Worked
-    ensures most { WorksAtMost C.core script.now.register 0 turns station.old station.new }
-    ensures done { result ≡ Worked.Done → script.now.sections ≤ length station.new.me.receipts }
-    ensures outside { result ≡ Worked.Done → IsInside C.core station.new.me.member.core → ⊥ }
-    ensures not_yet { (n : ℕ) → result ≡ Worked.NotYet n
-        → (n ≡ turns) × WorksFor C.core script.now.register 0 n station.old station.new }
-    ensures shut { result ≡ Worked.GateShut → station.new ≡ station.old }
-{
-    let node = station.node();
-    if !gate.arrive(node) {
-        return Worked::GateShut;
-    }
-    let mut stance = Stance {
-        written: false,
-        wanted: node,
-    };
-    for _turn in 0..turns {
-        take_turn(station, script, &mut stance, fates);
-        if is_finished(station, script.sections) && gate.done(node) {
-            return Worked::Done;
-        }
-    }
-    Worked::NotYet(turns)
+    work_settling(station, script, 0, gate, fates, turns)
 }
 
 /// Whether the station has this many sections, and is not inside another.

@@ -1,5 +1,5 @@
 use Rattle.std.proofs.Common.{◌≡◌, ℕ, ◌<◌}
-use Rattle.mx_stations.specs.Links.{slot_at}
+use Rattle.mx_stations.specs.Links.{slot_in}
 use Rattle.mx_stations.specs.Slides.{HasUsed}
 use Rattle.mx_stations.proofs.slots.claim_empty.Given as goal
 
@@ -8,4 +8,4 @@ invariant-loop-index g l =
     (l.seat.table_id ≡ l.fn.seat.table_id)
     × (l.seat.id ≡ l.fn.seat.id)
     × (l.seat.me ≡ l.fn.seat.me)
-    × ((j : ℕ) → j < l.index → HasUsed (slot_at l.field.nodes l.node l.to j) l.fn.seat.me)
+    × ((j : ℕ) → j < l.index → HasUsed (slot_in l.field.nodes l.link j) l.fn.seat.me)

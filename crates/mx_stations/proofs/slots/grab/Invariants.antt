@@ -1,5 +1,5 @@
-use Rattle.mx_stations.specs.Links.{slot_at}
+use Rattle.mx_stations.specs.Links.{slot_in}
 use Rattle.mx_stations.proofs.slots.grab.Given as goal
 
 abbrev pub ghosts-grab_as : goal.ghosts-grab_as
-ghosts-grab_as g a = record { slot = slot_at a.field.now.nodes a.from a.node a.index; from = a.from }
+ghosts-grab_as g a = record { slot = slot_in a.field.now.nodes a.link.now a.index; from = a.link.now.from }

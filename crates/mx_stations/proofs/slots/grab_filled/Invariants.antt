@@ -1,5 +1,5 @@
 use Rattle.std.proofs.Common.{◌≡◌, ℕ, ◌<◌}
-use Rattle.mx_stations.specs.Links.{slot_at}
+use Rattle.mx_stations.specs.Links.{slot_in}
 use Rattle.mx_stations.specs.Slides.{HasEmptied}
 use Rattle.mx_stations.proofs.slots.grab_filled.Given as goal
 
@@ -8,4 +8,4 @@ invariant-loop-index g l =
     (l.seat.table_id ≡ l.fn.seat.table_id)
     × (l.seat.id ≡ l.fn.seat.id)
     × (l.seat.me ≡ l.fn.seat.me)
-    × ((j : ℕ) → j < l.index → HasEmptied (slot_at l.field.nodes l.from l.node j) l.from l.fn.seat.me)
+    × ((j : ℕ) → j < l.index → HasEmptied (slot_in l.field.nodes l.link j) l.link.from l.fn.seat.me)

@@ -5,4 +5,4 @@ use Rattle.mx_stations.proofs.slots.lift.Goals as goal
 pub exchange-requires : goal.exchange-requires
 exchange-requires g c =
     let h = c.requires.holding in
-    (c.requires.table, (Some h.0, held_at _ _ _ _ (ap (λ m. m.1) h.1.1) c.slot_of-slot.ensures.value))
+    (c.requires.link.0, (Some h.0, held_at _ _ _ _ (ap (λ m. m.1) h.1.1) c.slot_of-slot.ensures.value))

@@ -22,8 +22,8 @@ module _ {T P : Type 0} (node k from : ℕ) (m m1 : Me (Option P) (List (Entry T
       let q_is : took.2.0 ≡ q = some_is took.2.0 q (ap (λ (z : ℕ × Option P). z.1) (only_one (k, Some took.2.0) (k, Some q) (sym (ap (λ (z : Me (Option P) (List (Entry T P))). z.1) held) ∙ has))) in
       (took.0, took.1, view ∙ (λ j. ((held j).0, (k, None) ∷ [])) ∙ (λ j. (taking k from (q_is j) took.0 ∷ [], (k, None) ∷ [])))
 
-pub lift-parcel-requires-clause-table : goal.lift-parcel-requires-clause-table
-lift-parcel-requires-clause-table g c = c.in-Some.ensures.same.0 ∙ c.requires.table
+pub lift-parcel-requires-clause-link : goal.lift-parcel-requires-clause-link
+lift-parcel-requires-clause-link g c = (c.in-Some.ensures.same.0 ∙ c.requires.link.0, c.requires.link.1)
 
 pub lift-parcel-requires-clause-index : goal.lift-parcel-requires-clause-index
 lift-parcel-requires-clause-index g c = c.in-Some.ensures.some.0

@@ -7,12 +7,12 @@ use Rattle.mx_stations.proofs.Crossing.{fills, placed_seat, placed_waits, put_se
 use Rattle.mx_stamps.specs.Lists.{IsIn}
 use Rattle.mx_stations.proofs.station.Station.put_out.Goals as goal
 
-pub claim_empty-requires-clause-nodes : goal.claim_empty-requires-clause-nodes
-claim_empty-requires-clause-nodes g c =
+pub claim_empty-requires-clause-link : goal.claim_empty-requires-clause-link
+claim_empty-requires-clause-link g c =
     let i = c.self.invariant in let f = c.in-Some.ensures in
     let to = (i.3 c.in-Some.first (subst (λ l. IsIn c.in-Some.first l) (sym f.first) (inl refl))).1 in
     let n = ap (λ f. f.nodes) (sym c.deref-field.ensures) in
-    (subst (λ (k : ℕ). c.self.inside.node < k) n i.2, subst (λ (k : ℕ). c.in-Some.first.0 < k) n to)
+    (i.0 ∙ sym (ap (λ f. f.board.shared.table_id) c.deref-field.ensures), (subst (λ (k : ℕ). c.self.inside.node < k) n i.2, subst (λ (k : ℕ). c.in-Some.first.0 < k) n to))
 
 pub invariant_of-self-in_default-claim_empty : goal.invariant_of-self-in_default-claim_empty
 invariant_of-self-in_default-claim_empty g c =
@@ -26,12 +26,12 @@ returns-in_default-claim_empty g c =
     let at : ℕ → ℕ → ℕ = λ nodes u. slot_at nodes c.self.inside.node c.in-Some.first.0 u in
     put_full _ _ _ _ _ i.1 (at c.deref-field.result.now.nodes) _ _ _ _ _ _ _ _ _ _ c.self.view_is n.same.0 (λ u. ap (λ z. at z.nodes u) c.deref-field.ensures) n.none.0 n.none.1 f.first c.push.ensures.items
 
-pub place-requires-clause-nodes : goal.place-requires-clause-nodes
-place-requires-clause-nodes g c =
+pub place-requires-clause-link : goal.place-requires-clause-link
+place-requires-clause-link g c =
     let i = c.self.invariant in let f = c.in-Some.ensures in
     let to = (i.3 c.in-Some.first (subst (λ l. IsIn c.in-Some.first l) (sym f.first) (inl refl))).1 in
     let n = ap (λ f. f.nodes) (sym c.deref-field.ensures) in
-    (subst (λ (k : ℕ). c.self.inside.node < k) n i.2, subst (λ (k : ℕ). c.in-Some.first.0 < k) n to)
+    (c.in-Some-claim_empty.ensures.same.0 ∙ i.0 ∙ sym (ap (λ f. f.board.shared.table_id) c.deref-field.ensures), (subst (λ (k : ℕ). c.self.inside.node < k) n i.2, subst (λ (k : ℕ). c.in-Some.first.0 < k) n to))
 
 pub place-requires-clause-filling : goal.place-requires-clause-filling
 place-requires-clause-filling g c =
@@ -54,14 +54,8 @@ invariant_of-self g c =
     let i = c.self.invariant in let p = c.self.inside in
     (i.0, i.1, i.2, subst (λ w. Waits (arc_value p.field).nodes (sent_in p.seat.me.0) w.items) (sym c.in_default.ensures.none.1) i.3)
 
-pub claim_empty-requires-clause-table : goal.claim_empty-requires-clause-table
-claim_empty-requires-clause-table g c = c.self.invariant.0 ∙ sym (ap (λ f. f.board.shared.table_id) c.deref-field.ensures)
-
 pub claim_empty-requires-clause-idle : goal.claim_empty-requires-clause-idle
 claim_empty-requires-clause-idle g c = idle _ _ _ _ _ c.self.invariant.1
-
-pub place-requires-clause-table : goal.place-requires-clause-table
-place-requires-clause-table g c = c.in-Some-claim_empty.ensures.same.0 ∙ c.self.invariant.0 ∙ sym (ap (λ f. f.board.shared.table_id) c.deref-field.ensures)
 
 pub place-requires-clause-index : goal.place-requires-clause-index
 place-requires-clause-index g c = c.in-Some-claim_empty.ensures.some.0
