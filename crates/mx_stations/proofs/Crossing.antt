@@ -9,6 +9,7 @@ use Rattle.mx_letters.specs.declared.fates.Fate.TheVariants.{Pass, Drop, Twice}
 use Rattle.mx_nodelaws.specs.Core.{Core}
 use Rattle.mx_member.specs.declared.parcel.Parcel.{Parcel}
 use Rattle.mx_member.specs.Member.{MemberState}
+use Rattle.mx_member.specs.Steps.{IsTakeable}
 use Rattle.mx_stations.specs.declared.answers.PutOut.TheVariants.{Sent, Full}
 use Rattle.mx_stations.specs.Entries.{Entry}
 use Rattle.mx_stations.specs.Links.{of, slot_at}
@@ -17,6 +18,7 @@ use Rattle.mx_stations.specs.Posts.{Delivers, Fetches, FindsNone, KeepsInHand, P
 use Rattle.mx_stations.specs.Turns.{IsFated, fated_hand}
 use Rattle.mx_stations.proofs.Places.{only_one}
 use Rattle.mx_stations.proofs.Posts.{settled}
+use Rattle.mx_stations.proofs.Slides.{some_is}
 use Rattle.mx_stations.proofs.Waits.{waits_less, waits_turned}
 
 module _ {T P : Type 0} where
@@ -151,3 +153,9 @@ module _ {H S M : Type 0} (core : Core H S M) where
 pub got_some : {T P : Type 0} (from : ℕ) (r : Option Fate) (s t : Post T P) → MatchOption r (FindsNone from s t) (λ fate. IsFated from fate s t) → IfSome r (λ fate. fate ≡ Pass) → MatchBool (is_some r) (Fetches from s t) (FindsNone from s t)
 got_some from None s t found is = found
 got_some from (Some fate) s t found is = subst (λ (z : Fate). IsFated from z s t) is found
+
+-- the parcel in hand is the one that the member can take
+pub held_takes : {S M : Type 0} (x : MemberState S) (hand : Option (ℕ × Parcel M)) (s : Post (MemberState S) (Parcel M)) (held : ℕ × Parcel M) → s.me.member ≡ x → s.me.hand ≡ hand → hand ≡ Some held
+    → ((from : ℕ) × (p : Parcel M) × (s.me.hand ≡ Some (from, p)) × IsTakeable from p s.me.member) → IsTakeable held.0 held.1 x
+held_takes {S} {M} x hand s held member same is can =
+    subst (λ (z : (ℕ × Parcel M) × MemberState S). IsTakeable z.0.0 z.0.1 z.1) (λ i. (some_is (can.0, can.1) held (sym can.2 ∙ same ∙ is) i, member i)) can.3

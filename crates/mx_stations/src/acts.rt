@@ -1,16 +1,19 @@
 //! What a station does to its node: each act is one event of it, and one store to its word. A
 //! refused act stores nothing.
 
-ghost use Rattle.std.specs.Prelude.{◌≡◌, ◌<◌, ◌↔◌, ◌++◌, [], ◌∷◌, Err, IfOk, MatchBool, Ok, OnErr, OnOk};
+ghost use Rattle.std.specs.Prelude.{◌≡◌, ◌<◌, ◌↔◌, ◌++◌, ℕ, [], ◌∷◌, Err, IfOk, MatchBool, Ok, OnErr, OnOk, Some};
 ghost use Rattle.std.specs.Vec.{vec_capacity, vec_len};
 ghost use Rattle.mx_nodelaws.specs.Core.{IsInside};
-ghost use Rattle.mx_member.specs.Steps.{ask_of, cancel_of, enter_of, leave_of, read_of, settle_of, write_of};
-ghost use Rattle.mx_member.specs.declared.acts.Act.TheVariants.{Ask, Cancel, Enter, Leave, Read, Restart, Settle, Tick, Want, Write};
+ghost use Rattle.mx_member.specs.Steps.{IsTakeable, ask_of, cancel_of, enter_of, leave_of, read_of, settle_of, write_of};
+ghost use Rattle.mx_member.specs.declared.acts.Act.TheVariants.{Ask, Cancel, Deliver, Enter, Leave, Read, Restart, Settle, Tick, Want, Write};
 ghost use Rattle.mx_member.specs.Acts.{IsDoable, IsRefusal, NeedsMemory, act_of};
 ghost use Rattle.mx_member.specs.Receipts.{closed_by};
-ghost use Rattle.mx_stations.specs.Posts.{after_act, does, left_in};
+ghost use Rattle.mx_member.specs.declared.parcel.Parcel.{Parcel as OneParcel};
+ghost use Rattle.mx_member.specs.Member.{BringsRecords};
+ghost use Rattle.mx_stations.specs.Posts.{DeliversAs, does, left_in};
 ghost use Rattle.mx_stations.specs.Running.{MayDo};
 
+use crate::answers::TakeFault;
 use crate::field::act;
 use crate::station::Station;
 use crate::waiting::store_up;
@@ -19,7 +22,6 @@ use mx_letters::Outbox;
 use mx_member::{Act, Answer, CloseFault, Member, Parcel, ReadFault, WriteFault, perform};
 use mx_nodelaws::{AskFault, CancelFault, EnterFault, Exclusion, Phase};
 use mx_stamps::{NodeId, Stamp};
-use std::alloc::AllocError;
 
 /// Ends an act of the member: the one store that tells it, and what it sent joins what waits. The
 /// station is whole again only after it, so that no method can do this.
@@ -152,7 +154,8 @@ impl<C: Exclusion> Station<C> {
         Ok(receipt)
     }
 
-    /// One act that takes no memory, moves no parcel and closes no section.
+    /// One act that takes no memory, moves no parcel and closes no section, and the one store that
+    /// tells it, but none where it is refused.
     fn does(&mut self, act: Act<C::Msg>) -> Answer
         requires may { MayDo self.old.nodes self.old.me.hand act }
         requires doable { IsDoable act self.old.me.member }
@@ -162,34 +165,55 @@ impl<C: Exclusion> Station<C> {
         ensures done { (IsRefusal result → ⊥) → self.new ≡ does C.core act self.old }
         ensures refused { IsRefusal result → self.new ≡ self.old }
     {
-        match self.step(act, true) {
-            Ok(answer) => answer,
-            Err(_) => unreachable!(),
+        self.out.clear();
+        let Ok(answer) = perform(&mut self.member, act, &mut self.out) else {
+            unreachable!();
+        };
+        if is_refusal(&answer) {
+            return answer;
         }
+        tell!(self);
+        answer
     }
 
-    /// One act of the node that closes no section, and the one store that tells it, but none where
-    /// it is refused. The hand is empty after it, but where its parcel is to be delivered `again`.
-    pub(crate) fn step(&mut self, act: Act<C::Msg>, again: bool) -> Result<Answer, AllocError>
-        requires may { MayDo self.old.nodes self.old.me.hand act }
-        requires doable { IsDoable act self.old.me.member }
-        requires receipts { closed_by (act_of C.core act self.old.me.member).answer ≡ [] }
-        ensures answer { IfOk result (λ answer.
-            answer ≡ (act_of C.core act self.old.me.member).answer) }
-        ensures done { IfOk result (λ answer. (IsRefusal answer → ⊥)
-            → self.new ≡ after_act C.core act (left_in again self.old.me.hand) self.old) }
-        ensures refused { IfOk result (λ answer. IsRefusal answer → self.new ≡ self.old) }
-        ensures memory { OnErr result (NeedsMemory C.core act self.old.me.member) }
-        ensures kept { OnErr result (self.new ≡ self.old) }
+    /// Delivers the parcel in hand, which the member takes where it lies. The hand is empty after
+    /// it, but where its parcel is to be delivered `again`.
+    pub(crate) fn hand_over(&mut self, again: bool) -> Result<(), TakeFault>
+        requires { (from : ℕ) × (p : OneParcel C.Msg) × (self.old.me.hand ≡ Some (from, p))
+            × IsTakeable from p self.old.me.member }
+        ensures delivered { OnOk result (DeliversAs C.core again self.old self.new) }
+        ensures memory { OnErr result (self.new ≡ self.old) }
     {
+        let Some(held) = &self.hand else {
+            unreachable!();
+        };
         self.out.clear();
-        let answer = perform(&mut self.member, act, &mut self.out)?;
-        if is_refusal(&answer) {
-            return Ok(answer);
-        }
+        receive(&mut self.member, held.0, &held.1, &mut self.out)?;
         let_go(&mut self.hand, again);
         tell!(self);
-        Ok(answer)
+        Ok(())
+    }
+}
+
+/// A member takes a parcel that it can take, so that the only way to fail is that memory runs out.
+fn receive<C: Exclusion>(
+    member: &mut Member<C>,
+    from: NodeId,
+    parcel: &Parcel<C::Msg>,
+    out: &mut Outbox<Parcel<C::Msg>>,
+) -> Result<(), TakeFault>
+    requires empty { out.old ≡ [] }
+    requires takeable { IsTakeable from parcel.now member.old }
+    ensures state { OnOk result (member.new
+        ≡ (act_of C.core (Deliver from parcel.now) member.old).state) }
+    ensures letters { OnOk result (out.new
+        ≡ (act_of C.core (Deliver from parcel.now) member.old).letters) }
+    ensures memory { OnErr result (BringsRecords parcel.now) }
+    ensures err { OnErr result (member.new ≡ member.old) }
+{
+    match member.receive(from, parcel, out) {
+        Ok(()) => Ok(()),
+        Err(_) => Err(TakeFault::Memory),
     }
 }
 

@@ -10,7 +10,6 @@ use crate::slots::{Link, claim_empty, place};
 use crate::station::Station;
 use crate::waiting::take_first;
 use mx_letters::Fate;
-use mx_member::Act;
 use mx_nodelaws::Exclusion;
 use mx_stamps::NodeId;
 
@@ -24,13 +23,11 @@ impl<C: Exclusion> Station<C> {
         ensures held { OnErr result (self.old.me.hand ≢ None) }
         ensures memory { OnErr result (self.new ≡ self.old) }
     {
-        let Some(held) = &self.hand else {
+        let Some(_held) = &self.hand else {
             return Ok(false);
         };
-        let from = held.0;
-        let parcel = held.1.copy();
         look(&self.field, &mut self.seat);
-        self.step(Act::Deliver(from, parcel), again)?;
+        self.hand_over(again)?;
         Ok(true)
     }
 
