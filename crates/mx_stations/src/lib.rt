@@ -6,6 +6,7 @@ mod acts;
 mod answers;
 mod field;
 mod gathering;
+mod idling;
 mod joining;
 mod moves;
 mod next;

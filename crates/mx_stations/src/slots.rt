@@ -291,3 +291,16 @@ pub(crate) fn release<C: Exclusion>(
 {
     release_as::<C, Brand>(field, seat, link, index, hand);
 }
+
+/// Whether a parcel lies in a slot of the link. It is a look of which nothing is proved.
+pub(crate) fn has_filled<C: Exclusion>(field: &Field<C>, link: &Link) -> bool
+    requires { IsLink field.now.nodes link.now }
+{
+    for index in 0..SLOTS {
+        let slot = slot_of(field, link, index);
+        if field.board.shared.peek(field.nodes as usize + slot) == FILLED {
+            return true;
+        }
+    }
+    false
+}

@@ -6,15 +6,14 @@ ghost use Rattle.mx_nodelaws.specs.Core.{IsInside};
 ghost use Rattle.mx_stations.specs.Gathered.{KeepsTable};
 ghost use Rattle.mx_stations.specs.Works.{LeavesNone, MayLeave, TakesTurn, Works, WorksAtMost, WorksFor};
 
-use crate::answers::{TakeFault, TurnReport};
 use crate::gathering::is_inside;
+use crate::idling::give_way;
 use crate::settling::work_settling;
 use crate::station::Station;
 use mx_letters::Fates;
 use mx_member::ReadFault;
 use mx_nodelaws::Exclusion;
 use mx_stamps::NodeId;
-use std::thread::yield_now;
 
 /// When workers begin, and when they may stop. Either call may wait for other workers.
 pub trait Gate {
@@ -110,14 +109,7 @@ pub(crate) fn take_turn<C: Exclusion, F: Fates>(
     add_if_due(station, script.register, stance);
     leave_if_due(station, stance);
     let report = station.turn(fates);
-    give_way(&report);
-}
-
-/// Lets other threads run where nothing came.
-fn give_way(report: &Result<TurnReport, TakeFault>) {
-    if let Ok(TurnReport { taken: 0, .. }) = report {
-        yield_now();
-    }
+    give_way(station, &report);
 }
 
 /// Asks where sections are lacking.
