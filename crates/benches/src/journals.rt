@@ -1,5 +1,5 @@
 //! Times the journal against a plain `BTreeMap`: puts in order, in reverse and in a seeded shuffle,
-//! and merges of two halves; and puts in order into a journal that is settled after so many each time.
+//! and merges of two halves; and puts in order into a journal that is settled now and then.
 
 use anyhow::{Result, bail};
 use mx_journal::{Journal, Record, Write};
@@ -134,7 +134,7 @@ fn time_orders(rt: &HostRuntime, numbers: &mut [u64], seed: u64) -> Result<()> {
     time_puts(rt, "shuffled", numbers)
 }
 
-/// Times puts and merges of so many records.
+/// Times puts and merges of this many records.
 pub(crate) fn time_journals(rt: &HostRuntime, records: u64, seed: u64) -> Result<()> {
     let mut numbers = ascending(rt.alloc(), records)?;
     time_orders(rt, numbers.as_mut_slice(), seed)
@@ -145,7 +145,7 @@ fn is_due(number: u64, every: u64) -> bool {
     every > 0 && number % every == 0
 }
 
-/// Puts records in order, and settles all that are there after so many each time.
+/// Puts records in order, and settles all that are there after each `every` of them.
 fn put_and_settle(alloc: Global, records: u64, every: u64) -> Result<Journal> {
     let mut journal = Journal::new(alloc);
     for last in 0..records {
@@ -171,7 +171,8 @@ fn tell_settled(rt: &HostRuntime, journal: &Journal, every: u64, begun: Instant)
     Ok(())
 }
 
-/// Times puts in order into a journal that is settled after so many each time, or never where that is 0.
+/// Times puts in order into a journal that is settled after each `every` of them, or never where
+/// that is 0.
 pub(crate) fn time_settling(rt: &HostRuntime, records: u64, every: u64) -> Result<()> {
     let begun = Instant::now(rt)?;
     let journal = put_and_settle(rt.alloc(), records, every)?;

@@ -1,5 +1,5 @@
 //! Times stations in threads, one for each node, over a network that loses nothing: how long they
-//! take to enter so many sections in all, and how many parcels that takes.
+//! take to enter a given number of sections in all, and how many parcels that takes.
 
 use crate::meeting::Meeting;
 use crate::nodes::{AnyStation, sections_of};
@@ -20,7 +20,8 @@ fn total(numbers: &[u64]) -> u64 {
     sum
 }
 
-/// Runs the nodes, each for so many sections. Answers how many they entered, and how many parcels came.
+/// Runs the nodes, each for this many sections. Returns how many they entered, and how many parcels
+/// came.
 fn run_nodes<R: Threads + Sync>(
     rt: &R,
     stations: Vec<AnyStation>,
@@ -36,7 +37,7 @@ fn run_nodes<R: Threads + Sync>(
     Ok((total(each.as_slice()), parcels.load(Ordering::SeqCst)))
 }
 
-/// Runs the nodes, each for so many sections, and prints how many they entered, how many parcels
+/// Runs the nodes, each for this many sections, and prints how many they entered, how many parcels
 /// came, and the microseconds that they took.
 fn measure<R: Threads + Sync + Clock + Print>(
     rt: &R,
@@ -50,7 +51,7 @@ fn measure<R: Threads + Sync + Clock + Print>(
     Ok(())
 }
 
-/// Runs the nodes of an algorithm until they have entered so many sections in all.
+/// Runs the nodes of an algorithm until they have entered this many sections in all.
 pub(crate) fn time_stations<R: Threads + Sync + Clock + Print + AllocGlobal>(
     rt: &R,
     algorithm: &str,

@@ -27,7 +27,7 @@ fn time(rt: &HostRuntime, what: &str, first: &str, second: &str) -> Result<()> {
     }
 }
 
-/// Times stations, of so many nodes and sections as these words say.
+/// Times stations, of as many nodes and sections as these words say.
 fn time_run<R: Threads + Sync + Clock + Print + AllocGlobal>(
     rt: &R,
     algorithm: &str,

@@ -60,7 +60,7 @@ fn raymond(alloc: Global, nodes: u8) -> Result<Vec<AnyStation>> {
     Ok(all)
 }
 
-/// The stations of so many nodes.
+/// The stations of this many nodes.
 pub(crate) fn stations_of(alloc: Global, algorithm: &str, nodes: u8) -> Result<Vec<AnyStation>> {
     match algorithm {
         "ricart" => ricart(alloc, nodes),

@@ -1,5 +1,6 @@
-//! Two replicas keep a journal each and were apart for a while. They tell one another what they lack,
-//! until both have all that either had, and show the registers. Then a third has another record.
+//! Two replicas keep a journal each and were apart for a while. They tell one another what they
+//! lack, until both have all that either had, and show the registers. Then a third has another
+//! record.
 #![tactic(auto)]
 
 use anyhow::{Result, bail};

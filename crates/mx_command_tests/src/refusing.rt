@@ -10,7 +10,7 @@ use std::thread::Threads;
 const RICART: &str =
     "{\"algorithm\":\"ricart\",\"nodes\":[\"a\",\"b\",\"c\"],\"registers\":[\"count\"],\"sections\":10}";
 
-/// An output that takes so many texts, and answers the next, or else the flush, with this.
+/// An output that takes `room` texts, and refuses the next, or else the flush, with this fault.
 #[derive(Drop)]
 struct Narrow {
     taken: u64,
@@ -32,7 +32,7 @@ impl Output for Narrow {
     }
 }
 
-/// Runs the words, and answers the status.
+/// Runs the words, and returns the status.
 fn run_words<R: Threads + Clock>(
     rt: &R,
     alloc: Global,

@@ -9,7 +9,7 @@ use std::alloc::Global;
 use std::test::Fail;
 use std::thread;
 
-/// The stations of so many nodes.
+/// The stations of this many nodes.
 fn stations_of(alloc: Global, nodes: u8) -> Result<Vec<Station<Ricart>>, Fail> {
     let shape = Count::of(nodes).ok_or("count")?;
     Ok(Field::<Ricart>::stations(alloc, &shape, 0, 1000, 1)?)
@@ -38,7 +38,8 @@ fn gate_of_a_live_run_holds(rt: HostRuntime) -> Result<(), Fail> {
     for worked in &ended {
         assert_eq!(rt; *worked, Worked::Done);
     }
-    // workers in one thread: this refuses the wrong body `workers_run_in_turn`, by a gate that stays shut
+    // workers in one thread: this refuses the wrong body `workers_run_in_turn`, by a gate that
+    // stays shut
     let shut = Assembly::new(5, 1000);
     for station in stations_of(rt.alloc(), 5)? {
         assert_eq!(rt; work_at(station, &shut), Worked::GateShut);

@@ -65,7 +65,7 @@ fn start(rt: &HostRuntime, shape: &Count) -> Result<Cluster<Ricart>> {
     }
 }
 
-/// Makes room for so many events more.
+/// Makes room for this many events more.
 fn make_room(
     rt: &HostRuntime,
     cluster: &mut Cluster<Ricart>,
@@ -199,7 +199,7 @@ fn happen(
     Ok(shown(cluster, nodes))
 }
 
-/// The same in a cluster that ends with it.
+/// What the nodes show after the events, in a cluster that ends with it.
 fn shown_after(
     rt: &HostRuntime,
     mut cluster: Cluster<Ricart>,
@@ -210,8 +210,8 @@ fn shown_after(
     happen(rt, &mut cluster, list, nodes, way)
 }
 
-/// The same by `advance`, in a cluster that makes room for more at the end, and whose journals are
-/// merged then.
+/// What they show after the events, by `advance`, in a cluster that makes room for more at the end,
+/// and whose journals are merged then.
 fn shown_merged(
     rt: &HostRuntime,
     mut cluster: Cluster<Ricart>,

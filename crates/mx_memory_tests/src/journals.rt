@@ -1,5 +1,5 @@
-//! Puts, merges and joins. Beside each journal stands its twin, of the same records, which is
-//! refused nothing.
+//! Puts, merges and joins. Beside each journal is its twin, of the same records, which is refused
+//! nothing.
 
 use crate::telling::{back, call, expect, refused};
 use anyhow::Result;
@@ -9,8 +9,8 @@ use mx_stamps::NodeId;
 use std::alloc::{AllocError, Global};
 
 /// Numbers that come one by one into an empty journal. They begin runs and lengthen them at either
-/// end, and they join a run to one that is as long (3) or shorter (6), and to a longer one (2), which
-/// takes no memory where it has room.
+/// end, and they join a run to one that is as long (3) or shorter (6), and to a longer one (2),
+/// which takes no memory where it has room.
 const SINGLES: [&[u64]; 3] = [
     &[5, 1, 9, 2, 4, 3, 8, 7, 6],
     &[3, 4, 1, 2],
@@ -32,7 +32,7 @@ const LISTS: [&[&[u64]]; 9] = [
     &[&[1, 2], &[3, 4, 5], &[6, 7, 8, 9, 10]],
     // they go on behind a run, and a number is missing before the next one
     &[&[1, 9], &[2, 3, 4, 5], &[6, 7]],
-    // a run stands behind them that is shorter, as long, and longer
+    // a run is behind them that is shorter, as long, and longer
     &[
         &[17],
         &[13, 14, 15, 16],
@@ -45,7 +45,7 @@ const LISTS: [&[&[u64]]; 9] = [
     &[&[1, 2, 6, 7, 8, 9], &[3, 4, 5]],
     // where it is shorter both times
     &[&[1, 6, 7, 8, 9, 10, 11, 12, 13], &[2, 3, 4, 5]],
-    // they stand in no order
+    // they are in no order
     &[&[3, 4, 1, 2], &[9, 7, 5, 6, 8]],
 ];
 

@@ -87,7 +87,7 @@ fn close(
     Ok(is_whole(&receipt))
 }
 
-/// The same as an act.
+/// The member leaves by an act. Whether its receipt is whole.
 fn act(member: &mut Member<Ricart>, out: &mut Outbox<Parcel<RicartMsg>>) -> Result<bool, CloseFault>
     requires { out.old ≡ [] }
 {
@@ -138,7 +138,7 @@ enum Taking {
     Receive,
 }
 
-/// The member takes the records of these numbers. What it answers, and whether nothing is sent.
+/// The member takes the records of these numbers. What it returns, and whether nothing is sent.
 fn delivered(
     member: &mut Member<Ricart>,
     numbers: &[u64],

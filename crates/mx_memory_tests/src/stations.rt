@@ -89,7 +89,7 @@ fn station_shown(station: &Station<Ricart>) -> StationShown {
     }
 }
 
-/// Whether a station is inside a section, with so many receipts and records.
+/// Whether a station is inside a section, with this many receipts and records.
 fn is_inside(station: &Station<Ricart>, number: u64, receipts: usize) -> bool {
     let shown = station_shown(station);
     shown.phase == Phase::Inside(number) && shown.receipts == receipts && shown.records == receipts
@@ -151,7 +151,7 @@ fn send_record(
     send(zero)
 }
 
-/// Whether so many records and waiting parcels are in a station.
+/// Whether a station has these numbers of records and of waiting parcels.
 fn has(station: &Station<Ricart>, records: usize, waits: usize) -> bool {
     let shown = station_shown(station);
     shown.records == records && shown.waits == waits
@@ -212,8 +212,8 @@ fn has_not_ticked(answer: &Result<TurnReport, TakeFault>) -> bool {
     }
 }
 
-/// A station takes a turn, and where memory was refused another one, which delivers the record first.
-/// The record is in hand then, and no second fate of it is asked for.
+/// A station takes a turn, and where memory was refused another one, which delivers the record
+/// first. The record is in hand then, and no second fate of it is asked for.
 fn take_turn(rt: &HostRuntime, station: &mut Station<Ricart>) -> Result<()> {
     let mut fates = Asked(0);
     call(rt, "Station::turn");
@@ -238,7 +238,7 @@ fn have_section(rt: &HostRuntime, station: &mut Station<Ricart>, number: u64) ->
     leave(rt, station, number)
 }
 
-/// Gathers stations, again where memory was refused: they have come back with so many receipts.
+/// Gathers stations, again where memory was refused: they have come back with this many receipts.
 fn gather_again(
     rt: &HostRuntime,
     stations: Vec<Station<Ricart>>,
@@ -260,7 +260,7 @@ fn gather_again(
     }
 }
 
-/// Whether the first of these stations has so many receipts.
+/// Whether the first of these stations has this many receipts.
 fn has_receipts(stations: &[Station<Ricart>], receipts: usize) -> bool {
     match stations.first() {
         Some(station) => station_shown(station).receipts == receipts,

@@ -1,4 +1,5 @@
-//! What is told of a call. What can't be told is missing from what the program prints, which is compared.
+//! What is told of a call. What can't be told is missing from what the program prints, which is
+//! compared.
 
 use anyhow::{Result, bail};
 
@@ -7,7 +8,7 @@ pub(crate) fn call(rt: &HostRuntime, name: &str) {
     let _ = println!(rt; "call {name}");
 }
 
-/// The call has answered.
+/// The call has returned.
 pub(crate) fn back(rt: &HostRuntime) {
     let _ = println!(rt; "back");
 }

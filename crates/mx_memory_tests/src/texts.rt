@@ -1,5 +1,5 @@
-//! What the texts of a plan, of a node and of parcels are. Where memory is refused nothing is promised
-//! of the string that takes the text, and the text begins anew.
+//! What the texts of a plan, of a node and of parcels are. Where memory is refused nothing is
+//! promised of the string that takes the text, and the text begins anew.
 
 use crate::members::{parcel_of, started};
 use crate::telling::{back, call, expect, refused};

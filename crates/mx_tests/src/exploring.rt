@@ -93,7 +93,7 @@ fn drawn_write(words: &mut Pcg32) -> Event {
     Event::Write(first, register, u64::from(words.next_u32()))
 }
 
-/// The event that the next words stand for.
+/// The event that the next words mean.
 fn drawn_event(words: &mut Pcg32) -> Event {
     match below(words, 16) {
         0 | 1 => Event::Ask(drawn_node(words)),

@@ -42,7 +42,7 @@ fn times_after_a_turn(station: &mut Station<Ricart>, fates: &mut Asked) -> Optio
     Some(fates.times)
 }
 
-/// The same after each of three turns.
+/// How many fates a station has asked for after each of three turns.
 fn times_in_three_turns(station: &mut Station<Ricart>, fate: Fate) -> Option<(u32, u32, u32)> {
     let mut fates = Asked { fate, times: 0 };
     let first = times_after_a_turn(station, &mut fates)?;
@@ -51,7 +51,8 @@ fn times_in_three_turns(station: &mut Station<Ricart>, fate: Fate) -> Option<(u3
     Some((first, second, third))
 }
 
-/// The same at node 0, to which nodes 1 and 2 have sent so many parcels.
+/// How many fates node 0 has asked for after each of three turns, where nodes 1 and 2 have sent it
+/// these numbers of parcels.
 fn times_asked(
     stations: &mut [Station<Ricart>],
     sent: (u32, u32),
@@ -66,14 +67,14 @@ fn times_asked(
     times_in_three_turns(zero, fate)
 }
 
-/// The same in a new cluster.
+/// How many fates node 0 asks for in a new cluster, after each of three turns.
 fn times(alloc: Global, sent: (u32, u32), fate: Fate) -> Result<Option<(u32, u32, u32)>, Fail> {
     let shape = Count::of(3).ok_or("count")?;
     let mut all = Field::<Ricart>::stations(alloc, &shape, 0, 1000, 1)?;
     Ok(times_asked(all.as_mut_slice(), sent, fate))
 }
 
-/// Whether so many fates are asked for, whatever they are.
+/// Whether these numbers of fates are asked for, whatever they are.
 fn are_asked(alloc: Global, sent: (u32, u32), wanted: (u32, u32, u32)) -> Result<bool, Fail> {
     for fate in [Fate::Pass, Fate::Drop, Fate::Twice] {
         if times(alloc, sent, fate)? != Some(wanted) {
@@ -83,8 +84,8 @@ fn are_asked(alloc: Global, sent: (u32, u32), wanted: (u32, u32, u32)) -> Result
     Ok(true)
 }
 
-/// How many parcels nodes 1 and 2 have sent to node 0, and how many fates it has asked for after each of
-/// three turns, in which it takes one from each node that has one.
+/// How many parcels nodes 1 and 2 have sent to node 0, and how many fates it has asked for after
+/// each of three turns, in which it takes one from each node that has one.
 const TIMES: [((u32, u32), (u32, u32, u32)); 5] = [
     ((0, 0), (0, 0, 0)),
     ((1, 0), (1, 1, 1)),

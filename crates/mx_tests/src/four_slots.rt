@@ -1,4 +1,4 @@
-//! Two stations whose links have four slots each: what each call answers, and what is gathered.
+//! Two stations whose links have four slots each: what each call returns, and what is gathered.
 
 ghost use Rattle.std.specs.Prelude.{◌≡◌, ◌<◌, IfOk, IfSome};
 ghost use Rattle.mx_stations.specs.Gathered.{KeepsTable, OfOneTable};
@@ -15,7 +15,7 @@ use std::alloc::{AllocError, Global};
 use std::process::Abort;
 use std::test::Fail;
 
-/// A call of a station, with what it answers.
+/// A call of a station, with what it returns.
 #[derive(Drop)]
 enum Call {
     Ask,
@@ -27,7 +27,7 @@ enum Call {
     Enter(u64),
 }
 
-/// Whether the station answers the call so.
+/// Whether the call returns that.
 fn answers(station: &mut Station<Ricart>, call: &Call) -> bool
     ensures { KeepsTable station.old station.new }
 {
@@ -55,7 +55,7 @@ pub(crate) fn other_of(station: &Station<Ricart>) -> Option<NodeId>
     }
 }
 
-/// Whether taking a parcel in from the other of two nodes is answered so.
+/// Whether that comes of taking a parcel in from the other of two nodes.
 pub(crate) fn takes_from_other(station: &mut Station<Ricart>, answer: Taken) -> bool
     ensures { KeepsTable station.old station.new }
 {
@@ -92,7 +92,7 @@ fn one_answers(zero: &mut Station<Ricart>, one: &mut Station<Ricart>, node: u8, 
     }
 }
 
-/// Both answer all calls so, one after another.
+/// All calls return that, one after another.
 fn assert_calls(
     rt: &impl Abort,
     zero: &mut Station<Ricart>,

@@ -42,8 +42,8 @@ fn is_of(journal: &Journal, numbers: &[u64]) -> bool {
     journal.len() == numbers.len()
 }
 
-/// Numbers and values of records that are put together, the answer, and how many the journal has
-/// then.
+/// Numbers and values of records that are put together, what comes of it, and how many the journal
+/// has then.
 type Puts = (&'static [(u64, u64)], Result<u64, PutFault>, usize);
 
 const PUTS: [Puts; 5] = [
@@ -54,7 +54,7 @@ const PUTS: [Puts; 5] = [
     (&[(3, 3), (3, 3), (1, 1)], Ok(1), 3),
 ];
 
-/// Whether a journal answers such a list so.
+/// Whether that comes of putting such a list into a journal.
 fn answers(alloc: Global, journal: &mut Journal, puts: &Puts) -> Result<bool, AllocError> {
     let list = entries(alloc, puts.0)?;
     Ok(journal.put_all(list.as_slice()) == puts.1 && journal.len() == puts.2)
@@ -161,20 +161,20 @@ fn base_of(upto: u64, value: u64) -> Option<Base> {
     Base::of(upto, cells)
 }
 
-/// What `take_base` of such a base answers.
+/// What `take_base` of such a base returns.
 fn taken(journal: &mut Journal, upto: u64, value: u64) -> Option<Result<u64, BaseFault>> {
     let base = base_of(upto, value)?;
     Some(journal.take_base(&base))
 }
 
-/// Whether a journal of 1, 2, 3 and 5 settles up to a number, has so many records then, and lacks
+/// Whether a journal of 1, 2, 3 and 5 settles up to a number, has `left` records then, and lacks
 /// what it lacked before.
 fn settles_to(journal: &mut Journal, upto: u64, left: usize) -> bool {
     journal.settle(upto) == Ok(()) && extent(journal) == (left, 5, 3) && lacks(journal, 6, &KEPT)
 }
 
-/// Whether a journal that has settled 1 and 2 refuses to settle less, or what it lacks, and takes any
-/// record of 2 for its own.
+/// Whether a journal that has settled 1 and 2 refuses to settle less, or what it lacks, and takes
+/// any record of 2 for its own.
 fn stays_settled(journal: &mut Journal) -> bool {
     journal.settle(1) == Err(SettleFault::Below(2))
         && journal.settle(4) == Err(SettleFault::Gap(4))
@@ -193,7 +193,7 @@ fn first_register(journal: &Journal) -> (Option<u64>, Option<u64>) {
     (shown.value(0), shown.written_by(0))
 }
 
-/// Whether a journal has settled 1 to 3, of which the last wrote 3, and has the record of 5 besides.
+/// Whether a journal has settled 1 to 3, of which the last wrote 3, and has the record of 5 too.
 fn has_base(journal: &Journal) -> bool {
     match base_of(3, 3) {
         Some(base) => journal.base().is(&base) && is_of(journal, &[5]),

@@ -76,7 +76,7 @@ const SENT: [(u8, Sent, Result<(), DeliverFault>); 5] = [
     (2, Want, Err(DeliverFault::Stranger)),
 ];
 
-/// Whether a member answers such a parcel so, and sends nothing.
+/// Whether a member takes such a parcel in this way, and sends nothing.
 fn answers(
     member: &mut Member<Ricart>,
     from: u8,
@@ -88,7 +88,8 @@ fn answers(
     told == *answer && out.is_empty()
 }
 
-/// Whether a member answers each of these parcels so, and keeps what the first brought.
+/// Whether a member takes each of these parcels as the table says, and keeps what the first
+/// brought.
 fn refuses_forged(member: &mut Member<Ricart>) -> bool {
     for (from, sent, answer) in &SENT {
         if !answers(member, *from, *sent, answer)

@@ -1,4 +1,4 @@
-//! Plans that are refused, each with its fault. Many more stand in `examples/hostile`.
+//! Plans that are refused, each with its fault. Many more are in `examples/hostile`.
 
 use mx_plan::{Plan, PlanFault, read_events, read_plan};
 use std::alloc::{AllocError, Global};

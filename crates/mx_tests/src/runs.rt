@@ -60,7 +60,7 @@ fn is_told(step: &Step, outcome: &Outcome) -> bool {
     }
 }
 
-/// How many sections have been left after this step, where so many had been before it.
+/// How many sections have been left after this step, where `left` had been before it.
 fn left_after(step: &Step, left: u64) -> u64 {
     match step {
         Leave(_, number, _, _) => *number,
@@ -68,7 +68,7 @@ fn left_after(step: &Step, left: u64) -> u64 {
     }
 }
 
-/// Whether the journals of all nodes merge into one that covers just so many sections.
+/// Whether the journals of all nodes merge into one that covers `left` sections, and no more.
 fn merge<C: Exclusion>(alloc: Global, cluster: &Cluster<C>, left: u64) -> Result<bool, Fail> {
     let all = cluster.merged(alloc, &[node(0), node(1), node(2)])?;
     Ok(all.top() == left && all.gapless_to() == left)

@@ -185,7 +185,7 @@ fn ricart_in_threads<R: Threads + Sync>(
     Ok(back)
 }
 
-/// The same for stations by Maekawa's algorithm.
+/// Gives each station by Maekawa's algorithm to a thread of its own.
 fn maekawa_in_threads<R: Threads + Sync>(
     rt: &R,
     stations: Vec<Station<Maekawa>>,
@@ -205,7 +205,7 @@ fn maekawa_in_threads<R: Threads + Sync>(
     Ok(back)
 }
 
-/// The same for stations by Raymond's algorithm.
+/// Gives each station by Raymond's algorithm to a thread of its own.
 fn raymond_in_threads<R: Threads + Sync>(
     rt: &R,
     stations: Vec<Station<Raymond>>,
@@ -235,8 +235,8 @@ fn is_settled(all: &Gathered) -> bool {
         && view(journal, 1).value(0) == Some(100)
 }
 
-/// What is gathered of stations. Section 100 is the twentieth of its node, which knows of all before it,
-/// since it read inside. So it has settled them all.
+/// What is gathered of stations. Section 100 is the twentieth of its node, which knows of all
+/// before it, since it read inside. So it has settled them all.
 fn is_counted<C: Exclusion>(alloc: Global, stations: Vec<Station<C>>) -> bool
     requires { OfOneTable stations.items }
 {

@@ -27,7 +27,8 @@ fn one_by_one(alloc: Global, list: &[Record]) -> Result<Journal, Fail> {
     Ok(journal)
 }
 
-/// Whether a journal takes so many records together, and then what another took changes nothing.
+/// Whether a journal takes thousands of records together, and then what another took changes
+/// nothing.
 fn takes_all(journal: &mut Journal, list: &[Record], other: &Journal) -> bool {
     journal.put_all(list) == Ok(5000)
         && journal.put_all(list) == Ok(0)
@@ -55,8 +56,8 @@ fn names() -> [NodeId; 21] {
     names
 }
 
-/// The event at this index of sections that 21 nodes have in turn. In each a node sends 20 requests,
-/// all are replied to, and it enters, writes and leaves: 44 events, and 40 parcels.
+/// The event at this index of sections that 21 nodes have in turn. In each a node sends 20
+/// requests, all are replied to, and it enters, writes and leaves: 44 events, and 40 parcels.
 fn event_at(index: u64) -> Event {
     let section = index / 44;
     let name = node((section % 21) as u8);
@@ -69,7 +70,7 @@ fn event_at(index: u64) -> Event {
     }
 }
 
-/// So many events of such sections.
+/// The first `count` events of such sections.
 fn turns(alloc: Global, count: u64) -> Result<Vec<Event>, AllocError> {
     let mut events = Vec::new(alloc);
     for index in 0..count {
@@ -84,7 +85,7 @@ fn started(alloc: Global) -> Result<Cluster<Ricart>, Fail> {
     Ok(Cluster::start(alloc, &shape, 0, 1000, 1)?)
 }
 
-/// Whether a cluster runs through events, and has so many items and parcels then.
+/// Whether a cluster runs through events, and has 5,280 items and 4,800 parcels then.
 fn runs(cluster: &mut Cluster<Ricart>, events: &[Event]) -> bool {
     cluster.run(events).is_ok() && cluster.trace().len() == 5280 && cluster.sent() == 4800
 }
@@ -97,7 +98,7 @@ fn has_sections(alloc: Global, cluster: &mut Cluster<Ricart>) -> bool {
     }
 }
 
-/// Whether the journals of all its nodes merge into one of so many records.
+/// Whether the journals of all its nodes merge into one of 120 records.
 fn merges(alloc: Global, cluster: &Cluster<Ricart>) -> bool {
     match cluster.merged(alloc, &names()) {
         Ok(all) => all.len() == 120 && all.gapless_to() == 120,

@@ -4,7 +4,7 @@ use crate::given::node;
 use mx_stamps::Stamp;
 use std::cmp::Ordering;
 
-/// Two stamps, each a number and a node, and how the first stands to the second.
+/// Two stamps, each a number and a node, and how the first compares to the second.
 const PAIRS: [((u64, u8), (u64, u8), Ordering); 6] = [
     ((1, 2), (2, 0), Ordering::Less),
     ((2, 0), (2, 1), Ordering::Less),
@@ -22,7 +22,7 @@ fn stamp(parts: (u64, u8)) -> Stamp {
     }
 }
 
-/// Whether this is how the first stands to the second.
+/// Whether this is how the first compares to the second.
 fn are_ordered(a: &Stamp, b: &Stamp, order: Ordering) -> bool {
     a.compare(b) == order
         && a.is_before(b) == (order == Ordering::Less)

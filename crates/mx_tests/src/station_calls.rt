@@ -8,7 +8,8 @@ use mx_ricart::Ricart;
 use mx_stations::Station;
 use std::test::Fail;
 
-/// Both stations take turns, often enough for whatever one of them asks. Answers whether memory lasted.
+/// Both stations take turns, often enough for whatever one of them asks. Returns whether memory
+/// lasted.
 fn exchange(zero: &mut Station<Ricart>, one: &mut Station<Ricart>) -> bool {
     for _round in 0..8 {
         if zero.turn(&mut Fair).is_err() || one.turn(&mut Fair).is_err() {
@@ -50,8 +51,8 @@ fn enters(one: &mut Station<Ricart>, other: &mut Station<Ricart>, number: u64) -
         && status_of_other(other) == Some(number.wrapping_mul(2).wrapping_add(1))
 }
 
-/// Whether a station that is inside reads the first value, writes, forgets it by a restart, writes the
-/// second value and leaves.
+/// Whether a station that is inside reads the first value, writes, forgets it by a restart, writes
+/// the second value and leaves.
 fn writes(station: &mut Station<Ricart>, before: u64, after: u64) -> bool {
     let is_read = station.read(0) == Ok(before) && station.write(0, 4).is_ok();
     station.restart();
@@ -64,8 +65,8 @@ fn shown(station: &Station<Ricart>) -> (u64, usize, Option<u64>) {
     (journal.base().upto(), journal.len(), station.value(0))
 }
 
-/// Whether the first of two stations has the section of this number, in which it reads the one value and
-/// writes the other, and settles what it knows, and whether the second then asks it for that.
+/// Whether the first of two stations has the section of this number, in which it reads the one
+/// value and writes the other, and settles what it knows, and whether the second then asks it for that.
 fn settles(
     one: &mut Station<Ricart>,
     other: &mut Station<Ricart>,
@@ -81,8 +82,8 @@ fn settles(
         && wants(one, other)
 }
 
-/// Whether what node 0 writes and settles is what node 1 reads in the next section, which it settles in
-/// turn.
+/// Whether what node 0 writes and settles is what node 1 reads in the next section, which it
+/// settles in turn.
 fn settle_in_turn(zero: &mut Station<Ricart>, one: &mut Station<Ricart>) -> bool {
     let settled = (2, 0, Some(6));
     settles(zero, one, 1, (0, 5))

@@ -147,8 +147,8 @@ fn sixty_four_parcels_wait(rt: HostRuntime) -> Result<(), Fail> {
 /// A report with which nothing comes to pass.
 const NONE: TurnReport = TurnReport { taken: 0, ..TAKEN };
 
-/// Turns of two nodes, of which node 0 has asked: it puts its request out, and ticks; node 1 takes it
-/// and puts out the reply; node 0 takes that and puts the request out again.
+/// Turns of two nodes, of which node 0 has asked: it puts its request out, and ticks; node 1 takes
+/// it and puts out the reply; node 0 takes that and puts the request out again.
 const TURNS: [(u8, TurnReport); 3] = [
     (
         0,

@@ -41,8 +41,8 @@ pub(crate) struct Run {
     pub(crate) steps: &'static [Step],
 }
 
-/// Events of two nodes with two registers: node 0 reads what node 1 wrote, once node 1 has sent it the
-/// record that it lacks, and then what it has written itself.
+/// Events of two nodes with two registers: node 0 reads what node 1 wrote, once node 1 has sent it
+/// the record that it lacks, and then what it has written itself.
 pub(crate) const READ_WAITS: Run = Run {
     name: "read_waits_for_the_gap",
     nodes: 2,

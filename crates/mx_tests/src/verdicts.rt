@@ -114,7 +114,7 @@ const SECTIONS: [(&[Did], Verdict); 7] = [
     ),
 ];
 
-/// Reads see what the sections before leave, and the own writes until the node wakes up again.
+/// Reads see what the sections before leave, and the node's own writes until it wakes up again.
 /// What is written outside counts for nothing.
 const READS: [(&[Did], Verdict); 8] = [
     (
@@ -261,7 +261,7 @@ fn edited(
     Ok(list)
 }
 
-/// The same item.
+/// A copy of an item.
 fn copied(entry: &Entry) -> Entry {
     Entry {
         event: entry.event,
@@ -279,8 +279,8 @@ fn are_found(alloc: Global, trace: &[Entry]) -> Result<bool, AllocError> {
     Ok(true)
 }
 
-/// What two nodes do in four sections, of which the last reads what the second wrote, before and after
-/// a write of its own: 30 items.
+/// What two nodes do in four sections, of which the last reads what the second wrote, before and
+/// after a write of its own: 30 items.
 fn four_sections(alloc: Global) -> Result<Cluster<Ricart>, Fail> {
     let shape = Count::of(2).ok_or("count")?;
     let mut cluster = started(alloc, &shape, &READ_WAITS)?;

@@ -10,8 +10,8 @@ use std::test::Fail;
 use std::thread;
 use std::thread::{Threads, yield_now};
 
-/// A gate that opens once so many nodes have arrived, and stays shut once one of them has looked
-/// too often. Nobody may stop before all have their sections.
+/// A gate that opens once a given number of nodes have arrived, and stays shut once one of them has
+/// looked too often. Nobody may stop before all have their sections.
 #[derive(Drop)]
 pub(crate) struct Assembly {
     nodes: u64,
@@ -104,8 +104,8 @@ fn counted(ended: &[(Worked, u64)]) -> Option<u64> {
     Some(most)
 }
 
-/// The greatest value that workers know who have a thread each, and how many parcels came before all of
-/// them had arrived.
+/// The greatest value that workers know who have a thread each, and how many parcels came before
+/// all of them had arrived.
 fn counted_in_threads<R: Threads + Sync>(
     rt: &R,
     stations: Vec<Station<Ricart>>,
@@ -126,7 +126,8 @@ fn gate_holds_until_all_arrive(rt: HostRuntime) -> Result<(), Fail> {
     Ok(())
 }
 
-/// Whether the gate stays shut for each of five workers in turn, which refuses the wrong body `workers_run_in_turn`.
+/// Whether the gate stays shut for each of five workers in turn, which refuses the wrong body
+/// `workers_run_in_turn`.
 fn is_shut_for_all(stations: Vec<Station<Ricart>>) -> bool {
     let gate = Assembly::new(5, 1000);
     for station in stations {
@@ -160,8 +161,8 @@ impl Gate for Open {
     }
 }
 
-/// Nodes, of which the first ones do nothing; whether the workers of the others may stop, how many turns
-/// they have, and how each of them ends.
+/// Nodes, of which the first ones do nothing; whether the workers of the others may stop, how many
+/// turns they have, and how each of them ends.
 #[derive(Clone, Copy)]
 struct Ending {
     nodes: u8,
