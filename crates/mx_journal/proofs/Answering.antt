@@ -55,7 +55,7 @@ on_err (Err e) p q f = f p q
 one_conflict : (m n : ℕ) (result : Result ℕ PutFault) → result ≡ Err (Conflict m) → result ≡ Err (Conflict n) → m ≡ n
 one_conflict m n result d e = cc
 
--- a failure answers no value, and what holds anyway holds at a failure
+-- a failure returns no value, and what holds anyway holds at a failure
 pub no_value : {X E : Type 0} (r : Result X E) (P : X → Type 0) → IsErr r → IfOk r P
 no_value (Ok x) P e = absurd (let f = e in cc)
 no_value (Err fault) P e = tt
@@ -111,10 +111,6 @@ no_success (Err fault) P e = tt
 pub on_failure : {X E P Q : Type 0} (r : Result X E) → OnErr r P → (P → Q) → OnErr r Q
 on_failure (Ok x) p f = tt
 on_failure (Err fault) p f = f p
-
-pub if_both : {X E : Type 0} (r : Result X E) (P Q : X → Type 0) → IfOk r P → IfOk r Q → IfOk r (λ x. P x × Q x)
-if_both (Ok x) P Q p q = (p, q)
-if_both (Err fault) P Q p q = tt
 
 -- no test is both true and false
 pub not_true : (b : Bool) → b ≡ true → b ≡ false → ⊥

@@ -132,7 +132,7 @@ cut_some run [] (next ∷ others) =
     (λ _. ap (λ l. l ∷ []) (take_all (length run) run (omega arith)))
 cut_some run (more ∷ runs) others = ap (λ l. run ∷ l) (cut_some more runs others)
 
--- the runs with the first records alone of the last of so many
+-- the first runs, of whose last one only the first records are left
 abbrev cut_of : ℕ → ℕ → ℕ → List (List Record) → List (List Record)
 cut_of count j len runs = slice_set (take count runs) j (take len (get_or (take count runs) j []))
 

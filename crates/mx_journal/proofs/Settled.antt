@@ -74,7 +74,7 @@ pub gapless_value : (m k : ℕ) (xs : List Record) → Ascending (suc k) xs → 
 gapless_value m k xs a e =
     e ∙ ap (λ l. first_missing (k + 1) l) (above_all k xs a) ∙ ap (λ n. first_missing n xs) (let q : k + 1 ≡ suc k = omega arith in q)
 
--- a journal that settles what its base stands for stays as it is
+-- a journal that settles what its base covers stays as it is
 pub settled_same : (journal : JournalState) → Ascending (suc journal.base.upto) journal.records → settled journal.base.upto journal ≡ journal
 settled_same journal a =
     let k = journal.base.upto in

@@ -47,7 +47,7 @@ above_runs n k x (y ∷ ys) runs r l =
     above_case (λ l. AreRuns k (l ∷ runs)) n x (y ∷ ys) (λ _. r)
     (λ _. above_runs n k y ys runs (omega arith, subst (λ m. AreConsecutive (suc m) ys) (sym next) (r.1).1, r.2) l)
 
--- so many are the numbers up to n in a run
+-- how many numbers up to n a run has
 abbrev pub skipped : ℕ → List Record → List Record
 skipped n run = drop (suc n - first_number run) run
 

@@ -35,7 +35,8 @@ IsConflict n xs =
 
 -- records of the list that bear the same number below n are equal
 abbrev pub AreAgreeingBelow : ℕ → List Record → Type 0
-AreAgreeingBelow n xs = (x y : Record) → IsIn x xs → IsIn y xs → x.number ≡ y.number → x.number < n → x ≡ y
+AreAgreeingBelow n xs =
+    (x y : Record) → IsIn x xs → IsIn y xs → x.number ≡ y.number → x.number < n → x ≡ y
 
 -- n is the least number that two records of the list bear that differ
 abbrev pub IsFirstConflict : ℕ → List Record → Type 0

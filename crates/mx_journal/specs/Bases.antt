@@ -1,5 +1,6 @@
 -- Bases: what the registers hold after the first sections, in place of the records of these.
 use Rattle.std.specs.Prelude.{ℕ, ◌≡◌, ◌≢◌, ◌≤◌, ◌⊎◌, List, [], ◌∷◌, Option, Some, None, get_or, replicate}
+use Rattle.mx_stamps.specs.declared.limits.TheConstants.{MOST_REGISTERS}
 use Rattle.mx_stamps.specs.Lists.{IsIn, each_below}
 use Rattle.mx_journal.specs.declared.records.Record.{Record}
 use Rattle.mx_journal.specs.declared.cells.Cell.{Cell}
@@ -16,7 +17,7 @@ unwritten = record { value = 0; number = 0 }
 
 -- the registers before the first section
 abbrev pub origin : BaseState
-origin = record { upto = 0; cells = replicate 32 unwritten }
+origin = record { upto = 0; cells = replicate MOST_REGISTERS unwritten }
 
 -- one of the sections 1 to k wrote the cell, or none did and it has the value 0
 abbrev pub IsCellOf : ℕ → Cell → Type 0
@@ -31,10 +32,14 @@ abbrev pub after_section : ℕ → Option ℕ → Cell → Cell
 after_section n None cell = cell
 after_section n (Some value) cell = record { value = value; number = n }
 
--- the 32 registers after one more section, of this record
+-- the registers after one more section, of this record
 abbrev pub with_section : Record → List Cell → List Cell
 with_section entry cells =
-    each_below (λ register. after_section entry.number (last_value register entry.writes.items) (get_or cells register unwritten)) 32
+    each_below
+    (λ register.
+    after_section entry.number (last_value register entry.writes.items)
+    (get_or cells register unwritten))
+    MOST_REGISTERS
 
 -- the registers after the sections of these records, one after another
 abbrev pub with_sections : List Record → List Cell → List Cell

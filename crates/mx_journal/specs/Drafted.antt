@@ -17,12 +17,14 @@ fresh = record { reads = []; writes = [] }
 
 -- the value of the last of these writes to the register
 abbrev pub last_value : ℕ → List Write → Option ℕ
-last_value register writes = last_or None (map (λ w. w.value) (filter (λ w. w.register == register) writes))
+last_value register writes =
+    last_or None (map (λ w. w.value) (filter (λ w. w.register == register) writes))
 
 -- the draft with one more read, which comes after the writes so far
 abbrev pub with_read : ℕ → ℕ → Drafted → Drafted
 with_read register value draft = record {
-  reads = draft.reads ++ record { register = register; value = value; after = length draft.writes } ∷ [];
+  reads = draft.reads
+      ++ record { register = register; value = value; after = length draft.writes } ∷ [];
   writes = draft.writes;
 }
 

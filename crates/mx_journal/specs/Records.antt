@@ -26,7 +26,8 @@ IsNumbered xs = (x : Record) → IsIn x xs → 1 ≤ x.number
 abbrev pub with_record : Record → List Record → List Record
 with_record r [] = r ∷ []
 with_record r (x ∷ xs) =
-    if nat_lt r.number x.number then r ∷ x ∷ xs else (if nat_lt x.number r.number then x ∷ with_record r xs else x ∷ xs)
+    if nat_lt r.number x.number then r ∷ x ∷ xs
+    else (if nat_lt x.number r.number then x ∷ with_record r xs else x ∷ xs)
 
 -- the map with these records too; of several that bear the same number the first counts
 abbrev pub with_records : List Record → List Record → List Record

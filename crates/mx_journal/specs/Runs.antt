@@ -1,9 +1,11 @@
--- A journal is kept as runs: lists of records with consecutive numbers, between which numbers are missing.
+-- A journal is kept as runs: lists of records with consecutive numbers, between which numbers are
+-- missing.
 use Rattle.std.specs.Prelude.{ℕ, suc, ◌+◌, ◌-◌, ◌≡◌, ◌≤◌, ◌<◌, ◌⊎◌, List, [], ◌∷◌, ◌++◌, None, length, get_or, slice_set, nat_eq, nat_le, if◌then◌else◌}
 use Rattle.std.specs.List.{remove}
 use Rattle.mx_stamps.specs.Lists.{IsIn}
 use Rattle.mx_journal.specs.declared.records.Record.{Record}
-use Rattle.mx_journal.specs.Records.{IsThere, record_at, with_record}
+use Rattle.mx_journal.specs.Agreement.{AreAgreeing}
+use Rattle.mx_journal.specs.Records.{Ascending, IsThere, above, record_at, with_record, with_records}
 
 -- the records of these runs, in order
 abbrev pub flatten : List (List Record) → List Record
@@ -26,8 +28,8 @@ last_number [] = 0
 last_number (x ∷ []) = x.number
 last_number (x ∷ y ∷ ys) = last_number (y ∷ ys)
 
--- each run has a record, and its numbers are consecutive; the first number is at least `least`; behind each
--- run at least one number is missing before the next
+-- each run has a record, and its numbers are consecutive; the first number is at least `least`;
+-- behind each run at least one number is missing before the next
 abbrev pub AreRuns : ℕ → List (List Record) → Type 0
 AreRuns least [] = Unit {0}
 AreRuns least ([] ∷ runs) = ⊥
@@ -64,19 +66,38 @@ pub record IsNextOfBoth (n : ℕ) (xs ys : List Record) (r : Record) : Type 0 wh
 
 -- the joined records are those of either map that are numbered above `from` up to `to`
 pub record IsJoinedUpTo (from to : ℕ) (xs ys joined : List Record) : Type 0 where
-  pub known : (x : Record) → IsIn x joined → (IsIn x xs ⊎ IsIn x ys) × (from < x.number) × (x.number ≤ to)
+  pub known : (x : Record) → IsIn x joined
+      → (IsIn x xs ⊎ IsIn x ys) × (from < x.number) × (x.number ≤ to)
   pub all : (x : Record) → IsIn x xs ⊎ IsIn x ys → from < x.number → x.number ≤ to → IsIn x joined
+
+-- the runs can take in those records of the others that are numbered above `from`, as all of ours
+-- are
+pub record CanJoin (from : ℕ) (other runs : List (List Record)) : Type 0 where
+  pub ours : AreRuns 1 runs
+  pub theirs : AreRuns 1 other
+  pub agreeing : AreAgreeing (flatten runs) (flatten other)
+  pub behind : Ascending (suc from) (flatten runs)
+
+-- the new runs are those of the old records and of the others above `from`, of which k were new
+pub record AreJoined (from : ℕ) (other old new : List (List Record)) (k : ℕ) : Type 0 where
+  pub records : flatten new ≡ with_records (above from (flatten other)) (flatten old)
+  pub runs : AreRuns 1 new
+  pub count : length (flatten new) ≡ length (flatten old) + k
 
 -- each record of the list bears a number that some record of xs or of ys bears
 abbrev pub AreNumbersOf : List Record → List Record → List Record → Type 0
 AreNumbersOf list xs ys = (x : Record) → IsIn x list → IsThere x.number xs ⊎ IsThere x.number ys
 
--- the run, which becomes one with the first of the others where that goes on from it, and then the others
+-- the run, which becomes one with the first of the others where that goes on from it, and then the
+-- others
 abbrev pub stitched : List Record → List (List Record) → List (List Record)
 stitched run [] = run ∷ []
-stitched run (next ∷ runs) = if nat_eq (last_number run + 1) (first_number next) then (run ++ next) ∷ runs else run ∷ next ∷ runs
+stitched run (next ∷ runs) =
+    if nat_eq (last_number run + 1) (first_number next) then (run ++ next) ∷ runs
+    else run ∷ next ∷ runs
 
--- the runs, and then others. The last of the former and the first of the latter become one where it goes on from it
+-- the runs, and then others. The last of the former and the first of the latter become one where it
+-- goes on from it
 abbrev pub sewn : List (List Record) → List (List Record) → List (List Record)
 sewn [] others = others
 sewn (run ∷ []) others = stitched run others

@@ -1,4 +1,4 @@
--- What searches answer.
+-- What searches return.
 use Rattle.std.specs.Prelude.{ℕ, min, Option, Some, None}
 
 -- the lower of the two numbers, or n where there is no other

@@ -1,4 +1,5 @@
--- Settled journals: a base in place of the records of the first sections, and the map of the records above it.
+-- Settled journals: a base in place of the records of the first sections, and the map of the
+-- records above it.
 use Rattle.std.specs.Prelude.{ℕ, suc, ◌+◌, ◌≡◌, ◌≤◌, ◌<◌, ◌⊎◌, ◌↔◌, List, max, length, nat_lt, if◌then◌else◌, filter}
 use Rattle.mx_stamps.specs.Lists.{IsIn}
 use Rattle.mx_journal.specs.declared.records.Record.{Record}
@@ -6,7 +7,8 @@ use Rattle.mx_journal.specs.Agreement.{AreAgreeing, IsSubmap}
 use Rattle.mx_journal.specs.Bases.{BaseState, origin, with_sections}
 use Rattle.mx_journal.specs.Records.{Ascending, IsThere, above, below, top_of, with_record, with_records}
 
--- a base, and the records of numbers above it; all numbers up to the base have their writes in its registers
+-- a base, and the records of numbers above it; all numbers up to the base have their writes in its
+-- registers
 pub record JournalState : Type 0 where
   pub base : BaseState
   pub records : List Record
@@ -15,11 +17,11 @@ pub record JournalState : Type 0 where
 abbrev pub unsettled : List Record → JournalState
 unsettled records = record { base = origin; records = records }
 
--- n is the number of a section that the base stands for
+-- n is the number of a section that the base covers
 abbrev pub IsSettled : ℕ → JournalState → Type 0
 IsSettled n journal = (1 ≤ n) × (n ≤ journal.base.upto)
 
--- the base stands for section n, or its record is there
+-- the base covers section n, or its record is there
 abbrev pub Covers : ℕ → JournalState → Type 0
 Covers n journal = IsSettled n journal ⊎ IsThere n journal.records
 
@@ -47,53 +49,72 @@ beyond n list = filter (λ x. nat_lt n x.number) list
 
 -- the journal with this record too. Where its number is there already, nothing changes
 abbrev pub with_entry : Record → JournalState → JournalState
-with_entry entry journal = record { base = journal.base; records = with_record entry journal.records }
+with_entry entry journal =
+    record { base = journal.base; records = with_record entry journal.records }
 
--- the journal with these records too, but for those that its base stands for
+-- the journal with these records too, but for those that its base covers
 abbrev pub with_list : List Record → JournalState → JournalState
-with_list list journal = record { base = journal.base; records = with_records (beyond journal.base.upto list) journal.records }
+with_list list journal = record {
+  base = journal.base;
+  records = with_records (beyond journal.base.upto list) journal.records;
+}
 
--- the journal with this base in place of its own and of the records up to it, where the base is above its own
+-- the journal with this base in place of its own and of the records up to it, where the base is
+-- above its own
 abbrev pub with_base : BaseState → JournalState → JournalState
 with_base base journal =
-    if nat_lt journal.base.upto base.upto then record { base = base; records = above base.upto journal.records } else journal
+    if nat_lt journal.base.upto base.upto then
+    record { base = base; records = above base.upto journal.records }
+    else journal
 
 -- the journal with another's records and its base
 abbrev pub joined : JournalState → JournalState → JournalState
 joined other journal =
-    with_base other.base (record { base = journal.base; records = with_records (above journal.base.upto other.records) journal.records })
+    with_base other.base
+    (record {
+      base = journal.base;
+      records = with_records (above journal.base.upto other.records) journal.records;
+    })
 
 -- the journal with the registers after sections 1 to k in place of the records of these
 abbrev pub settled : ℕ → JournalState → JournalState
 settled k journal = record {
-  base = record { upto = k; cells = with_sections (below (suc k) journal.records) journal.base.cells };
+  base = record {
+    upto = k;
+    cells = with_sections (below (suc k) journal.records) journal.base.cells;
+  };
   records = above k journal.records;
 }
 
--- a is below b: b's base is no lower, and is the same where it is of the same sections; and b has each record
--- of a that is above its base
+-- a is below b: b's base is no lower, and is the same where it is of the same sections; and b has
+-- each record of a that is above its base
 pub record IsWithin (a b : JournalState) : Type 0 where
   pub upto : a.base.upto ≤ b.base.upto
   pub base : a.base.upto ≡ b.base.upto → a.base ≡ b.base
   pub records : (x : Record) → IsIn x a.records → b.base.upto < x.number → IsIn x b.records
 
--- the records of any number that both bear are equal, and so are the bases where they are of the same sections
+-- the records of any number that both bear are equal, and so are the bases where they are of the
+-- same sections
 pub record DoAgree (a b : JournalState) : Type 0 where
   pub records : AreAgreeing a.records b.records
   pub bases : a.base.upto ≡ b.base.upto → a.base ≡ b.base
 
 -- the base of the first k sections, of which these are the records
 abbrev pub base_of : ℕ → List Record → BaseState
-base_of k sections = record { upto = k; cells = with_sections (below (suc k) sections) origin.cells }
+base_of k sections =
+    record { upto = k; cells = with_sections (below (suc k) sections) origin.cells }
 
--- the journal knows of these sections alone: its base is that of the first of them, its records are among theirs
+-- the journal knows of these sections alone: its base is that of the first of them, its records are
+-- among theirs
 pub record IsOfSections (sections : List Record) (journal : JournalState) : Type 0 where
   pub base : journal.base ≡ base_of journal.base.upto sections
   pub records : IsSubmap journal.records sections
 
 -- both journals know of the same sections
 abbrev pub AreOfOneMap : JournalState → JournalState → Type 0
-AreOfOneMap a b = (sections : List Record) × Ascending 1 sections × IsOfSections sections a × IsOfSections sections b
+AreOfOneMap a b =
+    (sections : List Record)
+    × Ascending 1 sections × IsOfSections sections a × IsOfSections sections b
 
 -- both journals cover the same numbers
 abbrev pub CoverSame : JournalState → JournalState → Type 0

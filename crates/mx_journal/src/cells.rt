@@ -6,9 +6,10 @@ ghost use Rattle.mx_journal.specs.Drafted.{last_value};
 ghost use Rattle.mx_journal.specs.Written.{after_one};
 
 use crate::records::{Record, Write};
+use mx_stamps::MOST_REGISTERS;
 
 /// The number of registers that a base keeps. Writes to others enter no base.
-pub(crate) const REGISTERS: usize = 32;
+pub(crate) const REGISTERS: usize = MOST_REGISTERS as usize;
 
 /// What a register holds: a value, and the number of the section that wrote it, 0 where none did.
 #[derive(Clone, Copy, Debug, Default, PartialEq, Eq)]
@@ -52,7 +53,7 @@ pub(crate) fn take_section(cells: &mut [Cell; REGISTERS], entry: &Record)
 
 /// Takes the writes of a section, in order.
 fn write_all(cells: &mut [Cell; REGISTERS], number: u64, writes: &[Write])
-    ensures { (register : ℕ) → register < 32 → get_or cells.new register unwritten
+    ensures { (register : ℕ) → register < MOST_REGISTERS → get_or cells.new register unwritten
         ≡ after_section number (last_value register writes.now)
         (get_or cells.old register unwritten) }
 {
@@ -63,8 +64,8 @@ fn write_all(cells: &mut [Cell; REGISTERS], number: u64, writes: &[Write])
 
 /// Takes one write of a section. It is passed over where its register is not kept.
 fn put(cells: &mut [Cell; REGISTERS], number: u64, write: Write)
-    ensures { (register : ℕ) → register < 32 → get_or cells.new register unwritten
-        ≡ after_one register number write (get_or cells.old register unwritten) }
+    ensures { (register : ℕ) → register < MOST_REGISTERS → get_or cells.new register unwritten
+        ≡ after_one (after_section number) register write (get_or cells.old register unwritten) }
 {
     let at = usize::from(write.register);
     if at < REGISTERS {

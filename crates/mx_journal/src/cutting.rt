@@ -23,7 +23,7 @@ pub(crate) fn cut_up_to(runs: &mut Vec<Run>, number: u64)
     run.skip(count);
 }
 
-/// Drops the first runs, so many.
+/// Drops the first `count` runs.
 fn drop_runs(runs: &mut Vec<Run>, count: usize)
     requires { count ≤ length runs.old.items }
     ensures { runs.new.items ≡ drop count runs.old.items }

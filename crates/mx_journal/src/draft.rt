@@ -15,8 +15,8 @@ use thiserror::Error;
 #[error("the draft is full")]
 pub struct Full;
 
-/// What a node has read and written since it entered its section or last restarted in it: at most eight
-/// reads and eight writes, in order.
+/// What a node has read and written since it entered its section or last restarted in it: at most
+/// eight reads and eight writes, in order.
 #[derive(Drop)]
 pub struct Draft {
     reads: ArrayVec<Read, 8>,

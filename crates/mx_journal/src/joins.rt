@@ -3,7 +3,7 @@
 ghost use Rattle.std.specs.Prelude.{suc, ◌≡◌, ◌+◌, ◌≤◌, ◌<◌, ◌⊎◌, IsTrue, IsFalse, IfOk, IfSome, IfNone, None, OnOk, OnErr, [], ◌++◌, ◌-◌, get_or, length, slice_set};
 ghost use Rattle.mx_journal.specs.Agreement.{AreAgreeing, IsSubmap};
 ghost use Rattle.mx_journal.specs.Records.{Ascending, BringsNew, IsNumbered, IsThere, above, record_at, with_records};
-ghost use Rattle.mx_journal.specs.Runs.{AreNew, AreNumbersOf, AreRuns, IsJoinedUpTo, IsNextOfBoth, TouchesBelow, first_number, flatten, last_number};
+ghost use Rattle.mx_journal.specs.Runs.{AreJoined, AreNew, AreNumbersOf, AreRuns, CanJoin, IsJoinedUpTo, IsNextOfBoth, TouchesBelow, first_number, flatten, last_number};
 ghost use Rattle.mx_journal.specs.Settled.{beyond};
 
 use crate::places::{insert, is_there, next_in, place_of, top_in, touches_below};
@@ -68,18 +68,12 @@ pub(crate) fn are_there(runs: &[Run], from: u64, other: &[Run]) -> bool
 }
 
 /// Takes in the records of runs that agree that are numbered above `from`, as all of ours are, and
-/// answers how many were new. Where memory runs out nothing changes. One run that goes on from one
+/// returns how many were new. Where memory runs out nothing changes. One run that goes on from one
 /// of ours is moved there; else all is made anew.
 pub(crate) fn join_runs(runs: &mut Vec<Run>, from: u64, other: &[Run]) -> Result<u64, AllocError>
-    requires runs { AreRuns 1 runs.old.items }
-    requires other { AreRuns 1 other.now }
-    requires agreeing { AreAgreeing (flatten runs.old.items) (flatten other.now) }
-    requires behind { Ascending (suc from) (flatten runs.old.items) }
-    ensures records { IfOk result (λ _. flatten runs.new.items
-        ≡ with_records (above from (flatten other.now)) (flatten runs.old.items)) }
-    ensures runs { IfOk result (λ _. AreRuns 1 runs.new.items) }
-    ensures count { IfOk result (λ k. length (flatten runs.new.items)
-        ≡ length (flatten runs.old.items) + k) }
+    requires { CanJoin from other.now runs.old.items }
+    ensures ok { IfOk result (λ k.
+        AreJoined from other.now runs.old.items runs.new.items k) }
     ensures err { OnErr result (runs.new.items ≡ runs.old.items) }
 {
     if other.is_empty() {
@@ -132,17 +126,12 @@ fn append_run(runs: &mut Vec<Run>, at: usize, more: &Run) -> Result<(), AllocErr
     run.join(more.record(0).copy(), &mut rest)
 }
 
-/// The same as `join_runs`, for any runs: copies of all records of both take the first's place.
+/// Takes in those records as `join_runs` does, for any runs: copies of all records of both take the
+/// first's place.
 fn join_copies(runs: &mut Vec<Run>, from: u64, other: &[Run]) -> Result<u64, AllocError>
-    requires runs { AreRuns 1 runs.old.items }
-    requires other { AreRuns 1 other.now }
-    requires agreeing { AreAgreeing (flatten runs.old.items) (flatten other.now) }
-    requires behind { Ascending (suc from) (flatten runs.old.items) }
-    ensures records { IfOk result (λ _. flatten runs.new.items
-        ≡ with_records (above from (flatten other.now)) (flatten runs.old.items)) }
-    ensures runs { IfOk result (λ _. AreRuns 1 runs.new.items) }
-    ensures count { IfOk result (λ k. length (flatten runs.new.items)
-        ≡ length (flatten runs.old.items) + k) }
+    requires { CanJoin from other.now runs.old.items }
+    ensures ok { IfOk result (λ k.
+        AreJoined from other.now runs.old.items runs.new.items k) }
     ensures err { OnErr result (runs.new.items ≡ runs.old.items) }
 {
     let to = top_in(runs).max(top_in(other)).max(from);

@@ -1,5 +1,5 @@
 //! The journal of a node: the sections that it knows. Their records are kept by number, and those
-//! of the first ones may be settled: then a base, the registers after them, stands in their place.
+//! of the first ones may be settled: then a base, the registers after them, is in their place.
 
 ghost use Rattle.std.specs.Prelude.{ℕ, suc, ◌≡◌, ◌+◌, ◌≤◌, ◌<◌, ◌↔◌, ◌++◌, ◌⊎◌, [], ◌∷◌, List, Some, None, Ok, Err, IsOk, IsTrue, IfOk, OnOk, OnErr, MatchOption, max, length, take};
 ghost use Rattle.mx_journal.specs.Agreement.{IsConsistent, IsFirstConflict, IsOther};
@@ -71,7 +71,7 @@ impl Journal {
         self.records.put(entry)
     }
 
-    /// Puts all records of a list, or none where one of them can't be put, and answers how many
+    /// Puts all records of a list, or none where one of them can't be put, and returns how many
     /// were new. Those whose numbers the base covers are passed over, whatever they wrote. A record
     /// may stand in the list more than once. `Conflict` names the least number that two differing
     /// records bear; both may be in the list, or one in the journal. `Memory` comes only where
@@ -93,9 +93,9 @@ impl Journal {
         self.records.put_all(self.base.upto(), list)
     }
 
-    /// Takes what an agreeing journal covers too, its base where that is above the own one, and
-    /// answers how many numbers are newly covered. Memory is asked for before anything changes, and
-    /// only where there is a record that is new.
+    /// Takes what an agreeing journal covers too, with its base where that is above this journal's,
+    /// and returns how many numbers are newly covered. Memory is asked for before anything changes,
+    /// and only where there is a record that is new.
     pub fn join(&mut self, other: &Journal) -> Result<u64, AllocError>
         requires { DoAgree self.old other.now }
         ensures ok { IfOk result (λ k. (self.new ≡ joined other.now self.old)
@@ -149,8 +149,8 @@ impl Journal {
         Ok(())
     }
 
-    /// Takes a base in place of the own one and of the records up to it, where it is above the own
-    /// one, and answers how many numbers are newly covered. It takes no memory.
+    /// Takes a base in place of its own and of the records up to it, where it is above its own, and
+    /// returns how many numbers are newly covered. It takes no memory.
     pub fn take_base(&mut self, base: &Base) -> Result<u64, BaseFault>
         ensures conflict { (n : ℕ) → (result ≡ Err (BaseFault.Conflict n))
             ↔ ((n ≡ base.now.upto) × AreOpposed self.old.base base.now) }
@@ -166,7 +166,8 @@ impl Journal {
         Ok(self.rise_to(base))
     }
 
-    /// The same, of a base that does not differ from the own one if both are of the same sections.
+    /// Takes a base where it is above its own, and returns how many numbers are newly covered. It
+    /// does not look whether two bases of the same sections differ.
     fn rise_to(&mut self, base: &Base) -> u64
         ensures value { self.new ≡ with_base base.now self.old }
         ensures count { covered self.new ≡ covered self.old + result }

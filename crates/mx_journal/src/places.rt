@@ -1,4 +1,4 @@
-//! Where a number stands in runs, and the records there.
+//! Where a number is in runs, and the records there.
 
 ghost use Rattle.std.specs.Prelude.{◌≡◌, ◌≢◌, [], ◌∷◌, ◌++◌, ◌+◌, ◌-◌, ◌<◌, ◌≤◌, ◌↔◌, IsTrue, IsFalse, Some, None, MatchOption, OnOk, OnErr, length, get_or, take};
 ghost use Rattle.mx_journal.specs.Gapless.{first_missing};
@@ -46,7 +46,7 @@ pub(crate) fn next_in(runs: &[Run], number: u64) -> Option<&Record>
     Some(next_in_run(&runs[at], number))
 }
 
-/// The same, in a run that ends above the number.
+/// The record with the least number above this one, in a run that ends above it.
 fn next_in_run(run: &Run, number: u64) -> &Record
     requires consecutive { AreConsecutive (first_number run.now) run.now }
     requires least { 1 ≤ first_number run.now }

@@ -1,4 +1,4 @@
-//! What a journal answers to records, and the conflicts among them.
+//! What comes of putting records, and the conflicts among them.
 
 ghost use Rattle.std.specs.Prelude.{◌≡◌, ◌≤◌, ◌<◌, ◌↔◌, ◌++◌, ◌⊎◌, IsTrue, IsFalse, IfSome, IfNone};
 ghost use Rattle.mx_stamps.specs.Lists.{IsIn};
@@ -85,7 +85,8 @@ fn agrees_in(list: &[Record], entry: &Record) -> bool
     true
 }
 
-/// The same, by a search by halves, in a list that ascends.
+/// Whether the record of that number in the runs is this one, or there is none. It is found by a
+/// search by halves.
 fn agrees_at_place(runs: &[Run], entry: &Record) -> bool
     requires { AreRuns 1 runs.now }
     ensures agrees { IsTrue result → AgreesWith entry.now (flatten runs.now) }
@@ -97,8 +98,9 @@ fn agrees_at_place(runs: &[Run], entry: &Record) -> bool
     }
 }
 
-/// The same, in a journal's records and in a list to which the record belongs. A list whose numbers
-/// ascend has no two records of the same number, so only the journal is searched then.
+/// Whether each record of a journal and of a list that bears the record's number is that record,
+/// which belongs to the list. A list whose numbers ascend has no two records of the same number, so
+/// only the journal is searched then.
 fn agrees_in_both(runs: &[Run], list: &[Record], in_order: bool, entry: &Record) -> bool
     requires ascending { AreRuns 1 runs.now }
     requires ordered { IsTrue in_order → Ascending 1 list.now }

@@ -18,7 +18,7 @@ use arrayvec::ArrayVec;
 use std::alloc::{AllocError, Global};
 use std::marker::Model;
 
-/// The greatest number of records that `records_in` answers at once.
+/// The greatest number of records that `records_in` returns at once.
 pub(crate) const RECORDS_AT_ONCE: usize = 4;
 
 /// A finite map from section numbers, 1 and above, to the records that bear them.
@@ -77,7 +77,7 @@ impl RecordMap {
     }
 
     /// Puts all records of a list that are numbered above `from`, or none where one of them can't
-    /// be put, and answers how many were new. `Conflict` names the least number above `from` that
+    /// be put, and returns how many were new. `Conflict` names the least number above `from` that
     /// two differing records bear. `Memory` comes only where there is no other fault.
     pub(crate) fn put_all(&mut self, from: u64, list: &[Record]) -> Result<u64, PutFault>
         ensures zero { (result ≡ Err PutFault.ZeroNumber) ↔ IsThere 0 list.now }
@@ -100,7 +100,7 @@ impl RecordMap {
     }
 
     /// Takes the records of an agreeing map too that are numbered above `from`, as all of ours are,
-    /// and answers how many were new. Memory is asked for before anything changes, and only where
+    /// and returns how many were new. Memory is asked for before anything changes, and only where
     /// there is something new.
     pub(crate) fn join(&mut self, from: u64, other: &RecordMap) -> Result<u64, AllocError>
         requires agreeing { AreAgreeing self.old other.now }
@@ -116,7 +116,7 @@ impl RecordMap {
         join_runs(&mut self.runs, from, &other.runs)
     }
 
-    /// Drops the records up to the number, and answers how many they were.
+    /// Drops the records up to the number, and returns how many they were.
     pub(crate) fn drop_up_to(&mut self, number: u64) -> usize
         ensures value { self.new ≡ above number self.old }
         ensures count { length self.old ≡ length self.new + result }

@@ -1,4 +1,4 @@
-//! Runs: records that stand in a row, with consecutive numbers where a journal keeps them.
+//! Runs: records in a row, with consecutive numbers where a journal keeps them.
 
 ghost use Rattle.std.specs.Prelude.{◌≡◌, ◌+◌, ◌<◌, ◌≤◌, [], ◌∷◌, ◌++◌, OnOk, OnErr, length, get_or, take, drop};
 ghost use Rattle.std.specs.VecDeque.{deque_capacity, deque_len};
@@ -88,14 +88,14 @@ impl Run {
         Ok(())
     }
 
-    /// Keeps the first records, so many, and drops the others.
+    /// Keeps the first `len` records, and drops the others.
     pub(crate) fn truncate(&mut self, len: usize)
         ensures { self.new ≡ take len self.old }
     {
         self.records.truncate(len);
     }
 
-    /// Drops the first records, so many.
+    /// Drops the first `count` records.
     pub(crate) fn skip(&mut self, count: usize)
         ensures { self.new ≡ drop count self.old }
     {
@@ -125,15 +125,20 @@ impl Run {
         ensures next { OnErr result (next.new ≡ next.old) }
     {
         if self.records.len() >= next.records.len() {
-            return append(&mut self.records, entry, &mut next.records);
+            self.records.reserve(next.records.len().saturating_add(1))?;
+            self.records.push_back_reserved(entry);
+            move_behind(&mut self.records, &mut next.records);
+            return Ok(());
         }
-        prepend(&mut next.records, entry, &mut self.records)?;
+        next.records.reserve(self.records.len().saturating_add(1))?;
+        next.records.push_front_reserved(entry);
+        move_before(&mut next.records, &mut self.records);
         mem::swap(&mut self.records, &mut next.records);
         Ok(())
     }
 }
 
-/// Drops the first records, so many.
+/// Drops the first `count` records.
 fn drop_first(records: &mut VecDeque<Record>, count: usize)
     ensures { records.new.items ≡ drop count records.old.items }
 {
@@ -142,38 +147,14 @@ fn drop_first(records: &mut VecDeque<Record>, count: usize)
     }
 }
 
-/// Puts the record behind the records, and then moves the others behind it.
-fn append(
-    records: &mut VecDeque<Record>,
-    entry: Record,
-    behind: &mut VecDeque<Record>,
-) -> Result<(), AllocError>
-    ensures ok { OnOk result (records.new.items ≡ records.old.items ++ entry ∷ behind.old.items) }
-    ensures err { OnErr result (records.new.items ≡ records.old.items) }
-    ensures behind { OnErr result (behind.new.items ≡ behind.old.items) }
+/// Moves the other records behind these, which have room for them.
+fn move_behind(records: &mut VecDeque<Record>, behind: &mut VecDeque<Record>)
+    requires { deque_len records.old + deque_len behind.old ≤ deque_capacity records.old }
+    ensures { records.new.items ≡ records.old.items ++ behind.old.items }
 {
-    records.reserve(behind.len().saturating_add(1))?;
-    records.push_back_reserved(entry);
     while let Some(other) = behind.pop_front() {
         records.push_back_reserved(other);
     }
-    Ok(())
-}
-
-/// Puts the record before the records, and then moves the others before it.
-fn prepend(
-    records: &mut VecDeque<Record>,
-    entry: Record,
-    before: &mut VecDeque<Record>,
-) -> Result<(), AllocError>
-    ensures ok { OnOk result (records.new.items ≡ before.old.items ++ entry ∷ records.old.items) }
-    ensures err { OnErr result (records.new.items ≡ records.old.items) }
-    ensures before { OnErr result (before.new.items ≡ before.old.items) }
-{
-    records.reserve(before.len().saturating_add(1))?;
-    records.push_front_reserved(entry);
-    move_before(records, before);
-    Ok(())
 }
 
 /// Moves the other records before these, which have room for them.

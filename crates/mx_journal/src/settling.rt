@@ -12,7 +12,7 @@ use thiserror::Error;
 /// Why a journal does not settle its first sections.
 #[derive(Clone, Copy, Debug, PartialEq, Eq, Error)]
 pub enum SettleFault {
-    /// The journal's base stands for more sections already, for those up to this one.
+    /// The journal's base covers more sections already, those up to this one.
     #[error("sections up to {0} are settled")]
     Below(u64),
     /// This is the first number that the journal does not cover.

@@ -9,7 +9,7 @@ use crate::places::{len_of, place_of, top_in, touches_below};
 use crate::runs::Run;
 use std::alloc::AllocError;
 
-/// Takes in the runs of records whose numbers nothing bears yet, and answers how many they are.
+/// Takes in the runs of records whose numbers nothing bears yet, and returns how many they are.
 /// Where memory runs out nothing changes. Records between the least and the greatest new number are
 /// copied; the others stay where they are.
 pub(crate) fn put_runs(runs: &mut Vec<Run>, new: &[Run]) -> Result<u64, AllocError>
@@ -171,7 +171,7 @@ fn sew_first(runs: &mut Vec<Run>, others: &mut Vec<Run>) -> Result<(), AllocErro
     Ok(())
 }
 
-/// Keeps the first runs, so many, and of the last of them the first records, so many.
+/// Keeps the first `count` runs, and of the last of them the first `len` records.
 fn cut(runs: &mut Vec<Run>, count: usize, len: usize)
     requires { count ≤ length runs.old.items }
     ensures items { runs.new.items ≡ slice_set (take count runs.old.items) (count - 1)

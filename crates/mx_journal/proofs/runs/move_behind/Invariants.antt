@@ -1,9 +1,9 @@
-use Rattle.std.proofs.Common.{◌≡◌, ◌+◌, ◌≤◌, ◌∷◌, ◌++◌}
-use Rattle.mx_journal.proofs.runs.append.Given as goal
+use Rattle.std.proofs.Common.{◌≡◌, ◌+◌, ◌≤◌, ◌++◌}
+use Rattle.mx_journal.proofs.runs.move_behind.Given as goal
 
 abbrev pub invariant-loop-other : goal.invariant-loop-other
 invariant-loop-other l = record {
-  moved : l.records.items ++ l.behind.items ≡ l.fn.records.items ++ l.fn.entry ∷ l.fn.behind.items;
+  moved : l.records.items ++ l.behind.items ≡ l.fn.records.items ++ l.fn.behind.items;
   room : l.records.len + l.behind.len ≤ l.records.cap;
 }
 
