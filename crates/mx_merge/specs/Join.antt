@@ -20,4 +20,5 @@ pub record IsLeastJournal (a b j : JournalState) : Type 0 where
 -- n is the least number at which the journals differ: that of both bases, or one that records bear
 abbrev pub IsFirstDifference : ℕ → JournalState → JournalState → Type 0
 IsFirstDifference n a b =
-    (AreOpposed a.base b.base × (n ≡ a.base.upto)) ⊎ ((AreOpposed a.base b.base → ⊥) × IsFirstConflict n (a.records ++ b.records))
+    (AreOpposed a.base b.base × (n ≡ a.base.upto))
+    ⊎ ((AreOpposed a.base b.base → ⊥) × IsFirstConflict n (a.records ++ b.records))

@@ -6,8 +6,8 @@ use Rattle.mx_journal.specs.declared.records.Record.{Record}
 use Rattle.mx_journal.specs.declared.ranges.Range.{Range}
 use Rattle.mx_journal.specs.Settled.{Covers, JournalState}
 
--- a widest range of missing numbers: none of it is covered, from 1 to the limit, and it can be extended
--- neither to the left nor to the right
+-- a widest range of missing numbers: none of it is covered, from 1 to the limit, and it can be
+-- extended neither to the left nor to the right
 pub record IsGap (limit : ℕ) (journal : JournalState) (range : Range) : Type 0 where
   pub low : 1 ≤ range.first
   pub some : range.first ≤ range.last
@@ -21,25 +21,29 @@ abbrev pub AscendingRanges : ℕ → List Range → Type 0
 AscendingRanges least [] = Unit {0}
 AscendingRanges least (r ∷ rs) = (least ≤ r.first) × AscendingRanges (r.last + 1) rs
 
--- the gap is left out: there are `count` ranges, the most there may be, and it stands behind all of them
+-- the gap is left out: there are `count` ranges, the most there may be, and it is behind them all
 abbrev pub IsLeftOut : ℕ → Range → List Range → Type 0
-IsLeftOut count gap ranges = (length ranges ≡ count) × ((r : Range) → IsIn r ranges → r.last < gap.first)
+IsLeftOut count gap ranges =
+    (length ranges ≡ count) × ((r : Range) → IsIn r ranges → r.last < gap.first)
 
 -- the ranges are gaps, ascending; each gap is among them, or is left out
-pub record IsListOfGaps (count limit : ℕ) (journal : JournalState) (ranges : List Range) : Type 0 where
+pub record IsListOfGaps (count limit : ℕ) (journal : JournalState) (ranges : List Range)
+    : Type 0 where
   pub gaps : (r : Range) → IsIn r ranges → IsGap limit journal r
   pub ascending : AscendingRanges 1 ranges
   pub all : (gap : Range) → IsGap limit journal gap → IsIn gap ranges ⊎ IsLeftOut count gap ranges
 
 -- the range of the numbers above `before` up to `last`; no range where there is no such number
 abbrev pub gap_after : ℕ → ℕ → List Range
-gap_after before last = if nat_lt before last then record { first = before + 1; last = last } ∷ [] else []
+gap_after before last =
+    if nat_lt before last then record { first = before + 1; last = last } ∷ [] else []
 
 -- the gaps above `before` up to the limit, in a map whose numbers are above `before`
 abbrev pub gaps_above : ℕ → ℕ → List Record → List Range
 gaps_above before limit [] = gap_after before limit
 gaps_above before limit (x ∷ xs) =
-    if nat_lt limit x.number then gap_after before limit else gap_after before (x.number - 1) ++ gaps_above x.number limit xs
+    if nat_lt limit x.number then gap_after before limit
+    else gap_after before (x.number - 1) ++ gaps_above x.number limit xs
 
 -- all gaps of a map of records, ascending
 abbrev pub gaps_of : ℕ → List Record → List Range

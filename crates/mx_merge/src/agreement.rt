@@ -50,6 +50,7 @@ fn first_conflict(journal: &Journal, other: &Journal) -> Option<u64>
     ensures here { Ascending (suc journal.now.base.upto) journal.now.records }
     ensures there { Ascending (suc other.now.base.upto) other.now.records }
 {
+    // both are asked: that the numbers of a journal ascend is known from these calls
     let (nothing_here, nothing_there) = (journal.is_empty(), other.is_empty());
     if nothing_here || nothing_there {
         return None;

@@ -30,10 +30,10 @@ impl From<AllocError> for MergeFault {
     }
 }
 
-/// Takes what the other journal covers into the journal, with its base where that is above the own
-/// one, and answers how many numbers are newly covered. `Conflict` names the least number at which
-/// the two differ; `Memory` comes only where they agree and there is a record that is new. At a
-/// fault the journal stays as it was.
+/// Takes what the other journal covers into the journal, with its base where that is above the
+/// journal's own, and returns how many numbers are newly covered. `Conflict` names the least number
+/// at which the two differ; `Memory` comes only where they agree and there is a record that is new.
+/// At a fault the journal stays as it was.
 pub fn merge(journal: &mut Journal, other: &Journal) -> Result<u64, MergeFault>
     ensures conflict { (n : ℕ) → (result ≡ Err (MergeFault.Conflict n))
         ↔ IsFirstDifference n journal.old other.now }
