@@ -11,7 +11,7 @@ use Rattle.mx_journal.specs.declared.records.Record.{Record}
 use Rattle.mx_journal.specs.Bases.{BaseState}
 use Rattle.mx_journal.specs.Drafted.{Drafted, with_read}
 use Rattle.mx_journal.proofs.Choices.{compared}
-use Rattle.mx_registers.specs.declared.cells.Cell.{Cell}
+use Rattle.mx_registers.specs.declared.contents.Content.{Content}
 use Rattle.mx_registers.specs.Based.{cell_in, registers_from}
 use Rattle.mx_registers.specs.Registers.{after_records, value_in}
 use Rattle.mx_member.specs.declared.faults.ReadFault.TheVariants as read
@@ -32,10 +32,10 @@ inside_ok : {S : Type 0} (register n v : ℕ) (m : MemberState S) → register <
 inside_ok register n v m r g f b e = grind (arith, nat_tests)
 
 -- a register that is there, of the view of a base and some records
-pub register_shown : (base : BaseState) (count register : ℕ) (xs : List Record) (cells : List Cell) (found : Option ℕ) → cells ≡ registers_from base count xs → register < count → found ≡ value_in register cells → unwrap_or found 0 ≡ (after_records register xs (cell_in register base)).value
+pub register_shown : (base : BaseState) (count register : ℕ) (xs : List Record) (cells : List Content) (found : Option ℕ) → cells ≡ registers_from base count xs → register < count → found ≡ value_in register cells → unwrap_or found 0 ≡ (after_records register xs (cell_in register base)).value
 register_shown base count register xs cells found is there looked =
     ap (λ o. unwrap_or o 0) (looked ∙ ap (λ c. value_in register c) is
-    ∙ ap (λ o. option_map (λ (cell : Cell). cell.value) o) (has_each_below (λ r. after_records r xs (cell_in r base)) count register there))
+    ∙ ap (λ o. option_map (λ (cell : Content). cell.value) o) (has_each_below (λ r. after_records r xs (cell_in r base)) count register there))
 
 -- where there is room, a settled section is why
 pub room_settled : (reads upto told : ℕ) → reads < 8 → told ≡ upto → read.Settled told ≡ settled_fault reads upto

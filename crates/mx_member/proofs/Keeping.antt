@@ -12,7 +12,7 @@ use Rattle.mx_journal.specs.Records.{Ascending, record_at, with_records}
 use Rattle.mx_journal.specs.Settled.{Covers, IsSettled, JournalState, beyond, with_entry, with_list}
 use Rattle.mx_journal.proofs.Beyond.{beyond_all, beyond_same, in_beyond}
 use Rattle.mx_journal.proofs.Maps.{found_in, none_in, with_record_there}
-use Rattle.mx_registers.specs.declared.cells.Cell.{Cell}
+use Rattle.mx_registers.specs.declared.contents.Content.{Content}
 use Rattle.mx_registers.specs.Based.{registers_from}
 use Rattle.mx_registers.specs.Registers.{with_taken}
 use Rattle.mx_member.specs.Member.{IsViewOf}
@@ -77,14 +77,14 @@ uncovered entry journal l none (inl s) = absurd (let high = s.1 in omega arith)
 uncovered entry journal l none (inr t) = none_in entry.number journal.records none t.0 t.1 t.2
 
 -- the view of a journal that takes a record whose number was free is the view of the journal with it
-pub shown_with : (count : ℕ) (journal : JournalState) (cells : List Cell) (entry : Record) → Ascending (suc journal.base.upto) journal.records → record_at entry.number journal.records ≡ None → IsViewOf count journal cells → IsViewOf count (with_entry entry journal) (with_taken entry cells)
+pub shown_with : (count : ℕ) (journal : JournalState) (cells : List Content) (entry : Record) → Ascending (suc journal.base.upto) journal.records → record_at entry.number journal.records ≡ None → IsViewOf count journal cells → IsViewOf count (with_entry entry journal) (with_taken entry cells)
 unfolding IsViewOf
 shown_with count journal cells entry a free is =
     ap (λ xs. with_taken entry xs) is
     ∙ registers_taken journal.base count (suc journal.base.upto) journal.records entry a (λ x h e. absurd (none_in entry.number journal.records free x h e))
 
 -- the same for the records of a list that are above the base and agree with the journal
-pub shown_all : (count : ℕ) (journal : JournalState) (list : List Record) (old new : List Cell) → Ascending (suc journal.base.upto) journal.records → IsConsistent (journal.records ++ beyond journal.base.upto list) → IsViewOf count journal old →
+pub shown_all : (count : ℕ) (journal : JournalState) (list : List Record) (old new : List Content) → Ascending (suc journal.base.upto) journal.records → IsConsistent (journal.records ++ beyond journal.base.upto list) → IsViewOf count journal old →
     (old ≡ registers_from journal.base count journal.records → new ≡ registers_from journal.base count (journal.records ++ beyond journal.base.upto list)) → IsViewOf count (with_list list journal) new
 unfolding IsViewOf
 shown_all count journal list old new a agreed is taken =

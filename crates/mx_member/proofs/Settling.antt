@@ -8,7 +8,7 @@ use Rattle.mx_journal.specs.Bases.{AreCellsOf}
 use Rattle.mx_journal.specs.Records.{Ascending}
 use Rattle.mx_journal.specs.Settled.{IsCovered, IsFirstGap, JournalState, settled}
 use Rattle.mx_nodelaws.specs.World.{Quiet}
-use Rattle.mx_registers.specs.declared.cells.Cell.{Cell}
+use Rattle.mx_registers.specs.declared.contents.Content.{Content}
 use Rattle.mx_registers.specs.Based.{registers_in}
 use Rattle.mx_registers.proofs.Based.{registers_settled}
 use Rattle.mx_member.specs.Member.{IsViewOf, MemberState, first_gap, with_journal}
@@ -62,7 +62,7 @@ settled_over r k new fields m same is = (
 )
 
 -- a view of the journal stays its view
-pub shown_settled : (r : Result (Unit {0}) SettleFault) (count k : ℕ) (old new : JournalState) (cells : List Cell) → count ≤ 32 → Ascending (suc old.base.upto) old.records → AreCellsOf old.base.upto old.base.cells → OnOk r (new ≡ settled k old) → OnErr r (new ≡ old) → IsViewOf count old cells → IsViewOf count new cells
+pub shown_settled : (r : Result (Unit {0}) SettleFault) (count k : ℕ) (old new : JournalState) (cells : List Content) → count ≤ 32 → Ascending (suc old.base.upto) old.records → AreCellsOf old.base.upto old.base.cells → OnOk r (new ≡ settled k old) → OnErr r (new ≡ old) → IsViewOf count old cells → IsViewOf count new cells
 unfolding IsViewOf
 shown_settled (Ok d) count k old new cells few order of made kept is = is ∙ sym (registers_settled count k old few order of) ∙ ap (λ j. registers_in count j) (sym made)
 shown_settled (Err fault) count k old new cells few order of made kept is = is ∙ ap (λ j. registers_in count j) (sym kept)

@@ -3,7 +3,7 @@ use Rattle.std.specs.Prelude.{ℕ, suc, ◌≡◌, List, [], ◌∷◌}
 use Rattle.mx_journal.specs.Drafted.{Drafted}
 use Rattle.mx_journal.specs.Gapless.{first_missing}
 use Rattle.mx_journal.specs.Settled.{JournalState}
-use Rattle.mx_registers.specs.declared.cells.Cell.{Cell}
+use Rattle.mx_registers.specs.declared.contents.Content.{Content}
 use Rattle.mx_registers.specs.Based.{registers_in}
 use Rattle.mx_member.specs.declared.parcel.Parcel.{Parcel}
 use Rattle.mx_member.specs.declared.parcel.Parcel.TheVariants.{Guard, Want, Base, Records}
@@ -23,9 +23,9 @@ pub record MemberState (S : Type 0) : Type 0 where
   pub journal : JournalState
   pub draft : Drafted
 
--- the cells are the registers of the journal
-unfoldable pub IsViewOf : ℕ → JournalState → List Cell → Type 0
-IsViewOf count journal cells = cells ≡ registers_in count journal
+-- these are the registers of the journal
+unfoldable pub IsViewOf : ℕ → JournalState → List Content → Type 0
+IsViewOf count journal contents = contents ≡ registers_in count journal
 
 -- the least number that the journal does not cover, where its numbers ascend from above its base on
 abbrev pub first_gap : JournalState → ℕ

@@ -22,7 +22,7 @@ use Rattle.mx_journal.specs.Drafted.{last_value, with_read, with_write, receipt_
 use Rattle.mx_journal.specs.Records.{IsNumbered, IsThere, below}
 use Rattle.mx_journal.specs.Settled.{Covers, JournalState, beyond, settled, unsettled, with_base, with_list}
 use Rattle.mx_merge.specs.Missing.{gaps_in, in_ranges}
-use Rattle.mx_registers.specs.declared.cells.Cell.{Cell}
+use Rattle.mx_registers.specs.declared.contents.Content.{Content}
 use Rattle.mx_registers.specs.Based.{cell_in}
 use Rattle.mx_registers.specs.Registers.{after_records}
 use Rattle.mx_member.specs.declared.parcel.Parcel.{Parcel}
@@ -47,7 +47,7 @@ entered (Ok n) m = with_draft fresh m
 entered (Err fault) m = m
 
 -- what the sections below n left in a register, where the journal's base is below n
-abbrev pub register_below : ℕ → ℕ → JournalState → Cell
+abbrev pub register_below : ℕ → ℕ → JournalState → Content
 register_below register n journal = after_records register (below n journal.records) (cell_in register journal.base)
 
 -- what a register shows inside section n: the draft's last write of it, or else what the sections below n left

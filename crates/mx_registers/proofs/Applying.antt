@@ -12,7 +12,7 @@ use Rattle.mx_journal.specs.Gapless.{IsGapless}
 use Rattle.mx_journal.specs.Records.{Ascending, below, record_at, top_of}
 use Rattle.mx_journal.proofs.Below.{below_more, below_none, gapless_first_missing, in_below}
 use Rattle.mx_journal.proofs.Maps.{found_at}
-use Rattle.mx_registers.specs.declared.cells.Cell.{Cell}
+use Rattle.mx_registers.specs.declared.contents.Content.{Content}
 use Rattle.mx_registers.specs.Registers.{AreApplied, after_write, applied, number_by, register_of, registers_of, writes_of, writes_to, written}
 use Rattle.mx_registers.proofs.Held.{held, number_held}
 use Rattle.mx_registers.proofs.Taking.{register_more}
@@ -35,10 +35,10 @@ pub applied_last : (register : ℕ) (ws : List Write) (v : ℕ) → applied regi
 applied_last register ws v = applied_from register ws None v
 
 -- the last write of a section counts where no later section has written the register
-pub value_after : (n : ℕ) (o : Option ℕ) (cell : Cell) → number_by cell.by ≤ n → (after_write n o cell).value ≡ unwrap_or o cell.value
-value_after n None cell l = refl
-value_after n (Some v) cell l =
-    ap (λ (c : Cell). c.value) (cond_true (nat_le (number_by cell.by) n) (record { value = v; by = Some n }) cell (grind (arith, nat_tests)))
+pub value_after : (n : ℕ) (o : Option ℕ) (content : Content) → number_by content.by ≤ n → (after_write n o content).value ≡ unwrap_or o content.value
+value_after n None content l = refl
+value_after n (Some v) content l =
+    ap (λ (c : Content). c.value) (cond_true (nat_le (number_by content.by) n) (record { value = v; by = Some n }) content (grind (arith, nat_tests)))
 
 -- the registers of sections 1 to k, all of which are there
 pub gapless_application : (register k : ℕ) (xs : List Record) → Ascending 1 xs → IsGapless k xs → (register_of register (below (suc k) xs)).value ≡ applied register (writes_to k xs) 0
@@ -51,7 +51,7 @@ gapless_application register (suc k) xs a g =
     let found : record_at (suc k) xs ≡ Some x = ap (λ n. record_at n xs) (sym more.2) ∙ found_at 1 xs a x more.1 in
     let same : before.value ≡ applied register (writes_to k xs) 0 = gapless_application register k xs a (λ n l h. g n l (omega arith)) in
     ap (λ l. (register_of register l).value) more.3
-    ∙ ap (λ (c : Cell). c.value) (register_more register (below (suc k) xs) x)
+    ∙ ap (λ (c : Content). c.value) (register_more register (below (suc k) xs) x)
     ∙ value_after x.number (written register x) before low
     ∙ ap (λ v. unwrap_or (written register x) v) same
     ∙ sym (applied_last register x.writes.items (applied register (writes_to k xs) 0))
@@ -75,8 +75,8 @@ below_all n xs l = below_whole n xs (λ x h. let m = below_top xs x h in omega a
 
 -- the registers of a journal whose numbers are 1 to k
 pub gapless_view : (count k : ℕ) (xs : List Record) → Ascending 1 xs → IsGapless k xs → top_of xs ≤ k → AreApplied (writes_to k xs) (registers_of count xs)
-gapless_view count k xs a g top register cell e =
+gapless_view count k xs a g top register content e =
     let whole : below (suc k) xs ≡ xs = below_all (suc k) xs (omega arith) in
-    ap (λ (c : Cell). c.value) (get_each_below (λ i. register_of i xs) count register cell e).1
+    ap (λ (c : Content). c.value) (get_each_below (λ i. register_of i xs) count register content e).1
     ∙ ap (λ l. (register_of register l).value) (sym whole)
     ∙ gapless_application register k xs a g

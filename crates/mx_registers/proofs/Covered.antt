@@ -2,7 +2,7 @@
 use Rattle.std.proofs.Common.{ℕ, zero, suc, ◌<◌, ◌≤◌, ◌≡◌, inl, inr, List, [], ◌∷◌, ◌++◌, replicate, refl, sym, ◌∙◌, ap, subst, arith}
 use Rattle.mx_stamps.specs.Lists.{IsIn}
 use Rattle.mx_stamps.proofs.Choices.{dec_le}
-use Rattle.mx_journal.specs.declared.cells.Cell.{Cell as BaseCell}
+use Rattle.mx_journal.specs.declared.cells.Cell.{Cell}
 use Rattle.mx_journal.specs.declared.records.Record.{Record}
 use Rattle.mx_journal.specs.Agreement.{IsSubmap}
 use Rattle.mx_journal.specs.Bases.{AreCellsOf, BaseState, origin, unwritten, with_section, with_sections}
@@ -27,18 +27,18 @@ abbrev pub CoversAll : JournalState → JournalState → Type 0
 CoversAll b a = (n : ℕ) → Covers n a → Covers n b
 
 -- no section wrote a cell of the origin
-in_replicate : (n : ℕ) (cell : BaseCell) → IsIn cell (replicate n unwritten) → cell ≡ unwritten
+in_replicate : (n : ℕ) (cell : Cell) → IsIn cell (replicate n unwritten) → cell ≡ unwritten
 in_replicate zero cell h = absurd h
 in_replicate (suc n) cell (inl e) = e
 in_replicate (suc n) cell (inr h) = in_replicate n cell h
 
-with_sections_of : (k : ℕ) (xs : List Record) (cells : List BaseCell) → ((x : Record) → IsIn x xs → (1 ≤ x.number) × (x.number ≤ k)) → AreCellsOf k cells → AreCellsOf k (with_sections xs cells)
+with_sections_of : (k : ℕ) (xs : List Record) (cells : List Cell) → ((x : Record) → IsIn x xs → (1 ≤ x.number) × (x.number ≤ k)) → AreCellsOf k cells → AreCellsOf k (with_sections xs cells)
 with_sections_of k [] cells h of = of
 with_sections_of k (x ∷ xs) cells h of =
     let w = h x (inl refl) in
     with_sections_of k xs (with_section x cells) (λ y m. h y (inr m)) (with_section_of k x cells w.0 w.1 of)
 
-with_sections_append : (xs ys : List Record) (cells : List BaseCell) → with_sections (xs ++ ys) cells ≡ with_sections ys (with_sections xs cells)
+with_sections_append : (xs ys : List Record) (cells : List Cell) → with_sections (xs ++ ys) cells ≡ with_sections ys (with_sections xs cells)
 with_sections_append [] ys cells = refl
 with_sections_append (x ∷ xs) ys cells = with_sections_append xs ys (with_section x cells)
 
@@ -95,7 +95,7 @@ settled_to sections a b order oa ob low ab ba =
 cells_of_first : (sections : List Record) (a : JournalState) → Ascending 1 sections → IsOf sections a → AreCellsOf a.base.upto a.base.cells
 cells_of_first sections a order of =
     let k = a.base.upto in
-    let none : AreCellsOf k origin.cells = λ cell h. (subst (λ (c : BaseCell). c.number ≤ k) (sym (in_replicate 32 cell h)) (omega arith), inr (ap (λ (c : BaseCell). c.value) (in_replicate 32 cell h))) in
+    let none : AreCellsOf k origin.cells = λ cell h. (subst (λ (c : Cell). c.number ≤ k) (sym (in_replicate 32 cell h)) (omega arith), inr (ap (λ (c : Cell). c.value) (in_replicate 32 cell h))) in
     subst (λ (s : BaseState). AreCellsOf k s.cells) (sym of.base)
     (with_sections_of k (below (suc k) sections) origin.cells (λ x h. let w = in_below (suc k) sections x h in let low = ascending_above 1 sections order x w.0 in let high = w.1 in (omega arith, omega arith)) none)
 

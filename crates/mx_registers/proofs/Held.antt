@@ -6,7 +6,7 @@ use Rattle.mx_stamps.proofs.Lists.{append_append, append_nil, in_append, in_left
 use Rattle.mx_stamps.proofs.Choices.{le_true, le_false, cond_case}
 use Rattle.mx_journal.specs.declared.records.Record.{Record}
 use Rattle.mx_journal.specs.Agreement.{IsConsistent, IsSubmap}
-use Rattle.mx_registers.specs.declared.cells.Cell.{Cell}
+use Rattle.mx_registers.specs.declared.contents.Content.{Content}
 use Rattle.mx_registers.specs.Registers.{IsHeld, IsHeldBy, IsLastWrite, after_record, after_records, after_write, blank, number_by, register_of, written}
 
 -- a register that no record writes has no last write
@@ -52,19 +52,19 @@ held_more_by register done x None None v w h = (
 )
 held_more_by register done x None (Some n) v w h = still register done x n v (λ u q. absurd (not_both (written register x) u w q)) h
 held_more_by register done x (Some u) None v w h =
-    cond_case (λ cell. IsHeld register (done ++ x ∷ []) cell) (nat_le 0 x.number) (record { value = u; by = Some x.number }) (record { value = v; by = None })
+    cond_case (λ content. IsHeld register (done ++ x ∷ []) content) (nat_le 0 x.number) (record { value = u; by = Some x.number }) (record { value = v; by = None })
     (λ _. newest register done x u w (λ y s k q. absurd (not_both (written register y) s (h.1 y k) q)))
     (λ f. absurd (let l = le_false 0 x.number f in omega arith))
 held_more_by register done x (Some u) (Some n) v w h =
-    cond_case (λ cell. IsHeld register (done ++ x ∷ []) cell) (nat_le n x.number) (record { value = u; by = Some x.number }) (record { value = v; by = Some n })
+    cond_case (λ content. IsHeld register (done ++ x ∷ []) content) (nat_le n x.number) (record { value = u; by = Some x.number }) (record { value = v; by = Some n })
     (λ t. newest register done x u w (λ y s k q. let l = le_true n x.number t in let m = h.4 y s k q in omega arith))
     (λ f. still register done x n v (λ s q. let l = le_false n x.number f in omega arith) h)
 
-held_from : (register : ℕ) (done xs : List Record) (cell : Cell) → IsHeld register done cell → IsHeld register (done ++ xs) (after_records register xs cell)
-held_from register done [] cell h = subst (λ l. IsHeld register l cell) (sym (append_nil done)) h
-held_from register done (x ∷ xs) cell h =
-    subst (λ l. IsHeld register l (after_records register xs (after_record register x cell))) (append_append done (x ∷ []) xs)
-    (held_from register (done ++ x ∷ []) xs (after_record register x cell) (held_more_by register done x (written register x) cell.by cell.value refl h))
+held_from : (register : ℕ) (done xs : List Record) (content : Content) → IsHeld register done content → IsHeld register (done ++ xs) (after_records register xs content)
+held_from register done [] content h = subst (λ l. IsHeld register l content) (sym (append_nil done)) h
+held_from register done (x ∷ xs) content h =
+    subst (λ l. IsHeld register l (after_records register xs (after_record register x content))) (append_append done (x ∷ []) xs)
+    (held_from register (done ++ x ∷ []) xs (after_record register x content) (held_more_by register done x (written register x) content.by content.value refl h))
 
 -- whatever the order of the records, each register holds the last write to it
 pub held : (register : ℕ) (xs : List Record) → IsHeld register xs (register_of register xs)
@@ -75,8 +75,8 @@ held_by_members_by : (register : ℕ) (xs ys : List Record) (by : Option ℕ) (v
 held_by_members_by register xs ys None v s t h = (h.0, λ x k. h.1 x (t x k))
 held_by_members_by register xs ys (Some n) v s t h = (h.0, s h.0 h.1, h.2, h.3, λ y u k q. h.4 y u (t y k) q)
 
-pub held_by_members : (register : ℕ) (xs ys : List Record) (cell : Cell) → IsSubmap xs ys → IsSubmap ys xs → IsHeld register xs cell → IsHeld register ys cell
-held_by_members register xs ys cell s t h = held_by_members_by register xs ys cell.by cell.value s t h
+pub held_by_members : (register : ℕ) (xs ys : List Record) (content : Content) → IsSubmap xs ys → IsSubmap ys xs → IsHeld register xs content → IsHeld register ys content
+held_by_members register xs ys content s t h = held_by_members_by register xs ys content.by content.value s t h
 
 held_once_by : (register : ℕ) (xs : List Record) (a b : Option ℕ) (v w : ℕ) → IsConsistent xs → IsHeldBy register xs a v → IsHeldBy register xs b w → (a ≡ b) × (v ≡ w)
 held_once_by register xs None None v w c h k = (refl, h.0 ∙ sym k.0)
@@ -91,12 +91,12 @@ held_once_by register xs (Some n) (Some m) v w c h k =
     let one : h.0 ≡ k.0 = c h.0 k.0 h.1 k.1 number in
     (ap Some (sym left ∙ number ∙ right), same_Some v w (sym h.3 ∙ ap (written register) one ∙ k.3))
 
--- agreeing records leave one cell
-pub held_once : (register : ℕ) (xs : List Record) (c d : Cell) → IsConsistent xs → IsHeld register xs c → IsHeld register xs d → c ≡ d
+-- agreeing records leave one content
+pub held_once : (register : ℕ) (xs : List Record) (c d : Content) → IsConsistent xs → IsHeld register xs c → IsHeld register xs d → c ≡ d
 held_once register xs c d agreed h k =
     let e = held_once_by register xs c.by d.by c.value d.value agreed h k in
-    let first : c ≡ record { value = d.value; by = c.by } = ap (λ v. let cell : Cell = record { value = v; by = c.by } in cell) e.1 in
-    let second : record { value = d.value; by = c.by } ≡ d = ap (λ o. let cell : Cell = record { value = d.value; by = o } in cell) e.0 in
+    let first : c ≡ record { value = d.value; by = c.by } = ap (λ v. let content : Content = record { value = v; by = c.by } in content) e.1 in
+    let second : record { value = d.value; by = c.by } ≡ d = ap (λ o. let content : Content = record { value = d.value; by = o } in content) e.0 in
     first ∙ second
 
 -- so agreeing records hold the same in any order, and however often each comes
@@ -110,5 +110,5 @@ number_held_by register n xs None v low h = omega arith
 number_held_by register n xs (Some m) v low h = let l = low h.0 h.1 in let e = h.2 in omega arith
 
 -- a register's number is one of the records'
-pub number_held : (register n : ℕ) (xs : List Record) (cell : Cell) → ((x : Record) → IsIn x xs → x.number ≤ n) → IsHeld register xs cell → number_by cell.by ≤ n
-number_held register n xs cell low h = number_held_by register n xs cell.by cell.value low h
+pub number_held : (register n : ℕ) (xs : List Record) (content : Content) → ((x : Record) → IsIn x xs → x.number ≤ n) → IsHeld register xs content → number_by content.by ≤ n
+number_held register n xs content low h = number_held_by register n xs content.by content.value low h

@@ -10,7 +10,7 @@ use Rattle.mx_journal.specs.declared.records.Record.{Record}
 use Rattle.mx_journal.specs.Agreement.{AgreesWith, IsConsistent, IsSubmap}
 use Rattle.mx_journal.specs.Records.{Ascending, with_record, with_records}
 use Rattle.mx_journal.proofs.Maps.{ascending_same, consistent_across, consistent_among, in_with_records, with_records_have, with_records_keep}
-use Rattle.mx_registers.specs.declared.cells.Cell.{Cell}
+use Rattle.mx_registers.specs.declared.contents.Content.{Content}
 use Rattle.mx_registers.specs.Registers.{IsHeld, after_record, after_records, blank, register_of, registers_of, value_in, with_taken}
 use Rattle.mx_registers.proofs.Held.{held, same_register}
 
@@ -23,37 +23,37 @@ each_below_same f g (suc n) h =
 get_or_each_below : {X : Type 0} (f : ℕ → X) (n i : ℕ) (d : X) → i < n → get_or (each_below f n) i d ≡ f i
 get_or_each_below f n i d l = get_or_from_slice_get (each_below f n) i (f i) d (has_each_below f n i l)
 
--- cells that are each what the record leaves are the view that took it
-pub taken_is : (entry : Record) (old new : List Cell) → length new ≡ length old → ((register : ℕ) → register < length old → get_or new register blank ≡ after_record register entry (get_or old register blank)) → new ≡ with_taken entry old
+-- contents that are each what the record leaves are the view that took it
+pub taken_is : (entry : Record) (old new : List Content) → length new ≡ length old → ((register : ℕ) → register < length old → get_or new register blank ≡ after_record register entry (get_or old register blank)) → new ≡ with_taken entry old
 taken_is entry old new size each =
-    let f : ℕ → Cell = λ register. after_record register entry (get_or old register blank) in
+    let f : ℕ → Content = λ register. after_record register entry (get_or old register blank) in
     ext_get_or blank new (with_taken entry old) (size ∙ sym (length_each_below f (length old)))
     (λ i l. each i (omega (arith, l, size)) ∙ sym (get_or_each_below f (length old) i blank (omega (arith, l, size))))
 
-pub after_records_more : (register : ℕ) (xs : List Record) (x : Record) (cell : Cell) → after_records register (xs ++ x ∷ []) cell ≡ after_record register x (after_records register xs cell)
-after_records_more register [] x cell = refl
-after_records_more register (y ∷ xs) x cell = after_records_more register xs x (after_record register y cell)
+pub after_records_more : (register : ℕ) (xs : List Record) (x : Record) (content : Content) → after_records register (xs ++ x ∷ []) content ≡ after_record register x (after_records register xs content)
+after_records_more register [] x content = refl
+after_records_more register (y ∷ xs) x content = after_records_more register xs x (after_record register y content)
 
 -- the register of one record more
 pub register_more : (register : ℕ) (xs : List Record) (x : Record) → register_of register (xs ++ x ∷ []) ≡ after_record register x (register_of register xs)
 register_more register xs x = after_records_more register xs x blank
 
 -- the view of some records that takes one more is the view of these, whatever it began with
-pub taken_more_from : (start : ℕ → Cell) (count : ℕ) (xs : List Record) (x : Record) → with_taken x (each_below (λ i. after_records i xs (start i)) count) ≡ each_below (λ i. after_records i (xs ++ x ∷ []) (start i)) count
+pub taken_more_from : (start : ℕ → Content) (count : ℕ) (xs : List Record) (x : Record) → with_taken x (each_below (λ i. after_records i xs (start i)) count) ≡ each_below (λ i. after_records i (xs ++ x ∷ []) (start i)) count
 taken_more_from start count xs x =
-    let f : ℕ → Cell = λ register. after_records register xs (start register) in
-    let cells = each_below f count in
-    ap (λ n. each_below (λ register. after_record register x (get_or cells register blank)) n) (length_each_below f count)
-    ∙ each_below_same (λ register. after_record register x (get_or cells register blank)) (λ register. after_records register (xs ++ x ∷ []) (start register)) count
+    let f : ℕ → Content = λ register. after_records register xs (start register) in
+    let contents = each_below f count in
+    ap (λ n. each_below (λ register. after_record register x (get_or contents register blank)) n) (length_each_below f count)
+    ∙ each_below_same (λ register. after_record register x (get_or contents register blank)) (λ register. after_records register (xs ++ x ∷ []) (start register)) count
     (λ i l. ap (λ c. after_record i x c) (get_or_each_below f count i blank l) ∙ sym (after_records_more i xs x (start i)))
 
 pub taken_more : (count : ℕ) (xs : List Record) (x : Record) → with_taken x (registers_of count xs) ≡ registers_of count (xs ++ x ∷ [])
 taken_more count xs x = taken_more_from (λ _. blank) count xs x
 
 -- each register of a view is the last write to it
-pub view_held : (count : ℕ) (xs : List Record) (register : ℕ) (cell : Cell) → slice_get (registers_of count xs) register ≡ Some cell → IsHeld register xs cell
-view_held count xs register cell e =
-    let r = get_each_below (λ i. register_of i xs) count register cell e in
+pub view_held : (count : ℕ) (xs : List Record) (register : ℕ) (content : Content) → slice_get (registers_of count xs) register ≡ Some content → IsHeld register xs content
+view_held count xs register content e =
+    let r = get_each_below (λ i. register_of i xs) count register content e in
     subst (λ c. IsHeld register xs c) (sym r.1) (held register xs)
 
 -- order and repetition of agreeing records do not matter
@@ -78,10 +78,10 @@ map_registers count xs c = joined_registers count [] xs c
 -- the value of a register that is there
 pub value_there : (count : ℕ) (xs : List Record) (register : ℕ) → register < count → value_in register (registers_of count xs) ≡ Some (register_of register xs).value
 value_there count xs register l =
-    ap (λ o. option_map (λ (cell : Cell). cell.value) o) (has_each_below (λ i. register_of i xs) count register l)
+    ap (λ o. option_map (λ (content : Content). content.value) o) (has_each_below (λ i. register_of i xs) count register l)
 
 -- a list that is written whole
-pub rewritten : (xs ws : List Cell) → length ws ≡ length xs → refill (length xs) xs ws ≡ ws
+pub rewritten : (xs ws : List Content) → length ws ≡ length xs → refill (length xs) xs ws ≡ ws
 rewritten xs ws e =
     ap (λ l. take (length xs) (ws ++ l)) (drop_all (length ws) xs (omega (arith, e)))
     ∙ ap (λ l. take (length xs) l) (append_nil ws)

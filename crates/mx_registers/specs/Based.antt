@@ -1,45 +1,52 @@
 -- What registers hold in a journal: what its base has, changed by the records above it.
 use Rattle.std.specs.Prelude.{ℕ, ◌≡◌, ◌⊎◌, List, Some, nat_eq, if◌then◌else◌, get_or, slice_get}
 use Rattle.mx_stamps.specs.Lists.{each_below}
-use Rattle.mx_journal.specs.declared.cells.Cell.{Cell as BaseCell}
+use Rattle.mx_journal.specs.declared.cells.Cell.{Cell}
 use Rattle.mx_journal.specs.declared.records.Record.{Record}
 use Rattle.mx_journal.specs.declared.records.Write.{Write}
 use Rattle.mx_journal.specs.Bases.{BaseState, unwritten}
 use Rattle.mx_journal.specs.Records.{below}
 use Rattle.mx_journal.specs.Settled.{JournalState}
-use Rattle.mx_registers.specs.declared.cells.Cell.{Cell}
+use Rattle.mx_registers.specs.declared.contents.Content.{Content}
 use Rattle.mx_registers.specs.Registers.{IsLastWrite, IsUnwritten, after_records, applied, blank}
 
 -- a base's cell, in which the number 0 says that no section wrote it
-abbrev pub shown_cell : BaseCell → Cell
-shown_cell cell = if nat_eq cell.number 0 then blank else record { value = cell.value; by = Some cell.number }
+abbrev pub shown_cell : Cell → Content
+shown_cell cell =
+    if nat_eq cell.number 0 then blank else record { value = cell.value; by = Some cell.number }
 
 -- what a base has for the register
-abbrev pub cell_in : ℕ → BaseState → Cell
+abbrev pub cell_in : ℕ → BaseState → Content
 cell_in register base = shown_cell (get_or base.cells register unwritten)
 
 -- the registers below count after the sections of a base and these records, one by one
-abbrev pub registers_from : BaseState → ℕ → List Record → List Cell
-registers_from base count records = each_below (λ register. after_records register records (cell_in register base)) count
+abbrev pub registers_from : BaseState → ℕ → List Record → List Content
+registers_from base count records =
+    each_below (λ register. after_records register records (cell_in register base)) count
 
 -- the registers below count of a journal
-abbrev pub registers_in : ℕ → JournalState → List Cell
+abbrev pub registers_in : ℕ → JournalState → List Content
 registers_in count journal = registers_from journal.base count journal.records
 
 -- the registers below count of the sections below n, of a journal whose base is below n
-abbrev pub registers_below : ℕ → ℕ → JournalState → List Cell
+abbrev pub registers_below : ℕ → ℕ → JournalState → List Content
 registers_below n count journal = registers_from journal.base count (below n journal.records)
 
--- the register has the last write to it in the record of the greatest number that writes it, else what the base has
-abbrev pub IsHeldIn : ℕ → JournalState → Cell → Type 0
-IsHeldIn register journal cell =
-    ((n : ℕ) × (cell.by ≡ Some n) × IsLastWrite register journal.records n cell.value) ⊎ (IsUnwritten register journal.records × (cell ≡ cell_in register journal.base))
+-- the register has the last write to it in the record of the greatest number that writes it, else
+-- what the base has
+abbrev pub IsHeldIn : ℕ → JournalState → Content → Type 0
+IsHeldIn register journal content =
+    ((n : ℕ) × (content.by ≡ Some n) × IsLastWrite register journal.records n content.value)
+    ⊎ (IsUnwritten register journal.records × (content ≡ cell_in register journal.base))
 
--- each cell is what its register holds in the journal
-abbrev pub AreHeldIn : JournalState → List Cell → Type 0
-AreHeldIn journal cells = (register : ℕ) (cell : Cell) → slice_get cells register ≡ Some cell → IsHeldIn register journal cell
+-- each is what its register holds in the journal
+abbrev pub AreHeldIn : JournalState → List Content → Type 0
+AreHeldIn journal contents =
+    (register : ℕ) (content : Content)
+    → slice_get contents register ≡ Some content → IsHeldIn register journal content
 
--- each cell has the value that its register has after the writes, applied in order to what the base has
-abbrev pub AreAppliedTo : BaseState → List Write → List Cell → Type 0
-AreAppliedTo base writes cells =
-    (register : ℕ) (cell : Cell) → slice_get cells register ≡ Some cell → cell.value ≡ applied register writes (cell_in register base).value
+-- each has the value that its register has after the writes, applied in order to what the base has
+abbrev pub AreAppliedTo : BaseState → List Write → List Content → Type 0
+AreAppliedTo base writes contents =
+    (register : ℕ) (content : Content) → slice_get contents register ≡ Some content
+    → content.value ≡ applied register writes (cell_in register base).value

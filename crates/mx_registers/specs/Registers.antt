@@ -8,7 +8,7 @@ use Rattle.mx_journal.specs.declared.records.Record.{Record}
 use Rattle.mx_journal.specs.Records.{record_at}
 use Rattle.mx_journal.specs.Agreement.{IsSubmap}
 use Rattle.mx_journal.specs.Drafted.{last_value}
-use Rattle.mx_registers.specs.declared.cells.Cell.{Cell}
+use Rattle.mx_registers.specs.declared.contents.Content.{Content}
 
 -- what the record writes to the register, last
 abbrev pub written : ℕ → Record → Option ℕ
@@ -18,31 +18,34 @@ written register entry = last_value register entry.writes.items
 abbrev pub IsUnwritten : ℕ → List Record → Type 0
 IsUnwritten register records = (x : Record) → IsIn x records → written register x ≡ None
 
--- n is the greatest number of a record that writes the register, and value is the last that this record
--- writes to it
+-- n is the greatest number of a record that writes the register, and value is the last that this
+-- record writes to it
 abbrev pub IsLastWrite : ℕ → List Record → ℕ → ℕ → Type 0
 IsLastWrite register records n value =
-    (x : Record) × IsIn x records × (x.number ≡ n) × (written register x ≡ Some value) × ((y : Record) (other : ℕ) → IsIn y records → written register y ≡ Some other → y.number ≤ n)
+    (x : Record) × IsIn x records × (x.number ≡ n) × (written register x ≡ Some value)
+    × ((y : Record) (other : ℕ) → IsIn y records → written register y ≡ Some other → y.number ≤ n)
 
 -- the register has this value, which section n wrote last, or which is 0 where no section wrote it
 abbrev pub IsHeldBy : ℕ → List Record → Option ℕ → ℕ → Type 0
 IsHeldBy register records None value = (value ≡ 0) × IsUnwritten register records
 IsHeldBy register records (Some n) value = IsLastWrite register records n value
 
--- the cell is what the register holds after these records, in whatever order they come
-abbrev pub IsHeld : ℕ → List Record → Cell → Type 0
-IsHeld register records cell = IsHeldBy register records cell.by cell.value
+-- this is what the register holds after these records, in whatever order they come
+abbrev pub IsHeld : ℕ → List Record → Content → Type 0
+IsHeld register records content = IsHeldBy register records content.by content.value
 
--- each cell is what its register holds after the records
-abbrev pub AreHeld : List Record → List Cell → Type 0
-AreHeld records cells = (register : ℕ) (cell : Cell) → slice_get cells register ≡ Some cell → IsHeld register records cell
+-- each is what its register holds after the records
+abbrev pub AreHeld : List Record → List Content → Type 0
+AreHeld records contents =
+    (register : ℕ) (content : Content)
+    → slice_get contents register ≡ Some content → IsHeld register records content
 
 -- both lists have the same members, in whatever order and however often
 abbrev pub HaveSameMembers : List Record → List Record → Type 0
 HaveSameMembers xs ys = IsSubmap xs ys × IsSubmap ys xs
 
 -- a register that no section wrote
-abbrev pub blank : Cell
+abbrev pub blank : Content
 blank = record { value = 0; by = None }
 
 -- the number of the section that wrote, 0 where none did
@@ -50,50 +53,57 @@ abbrev pub number_by : Option ℕ → ℕ
 number_by None = 0
 number_by (Some n) = n
 
--- a register after section n, which writes this value to it last, if it writes it at all; a write of a
--- later section stays
-abbrev pub after_write : ℕ → Option ℕ → Cell → Cell
-after_write n None cell = cell
-after_write n (Some value) cell = if nat_le (number_by cell.by) n then record { value = value; by = Some n } else cell
+-- a register after section n, which writes this value to it last, if it writes it at all; a write
+-- of a later section stays
+abbrev pub after_write : ℕ → Option ℕ → Content → Content
+after_write n None content = content
+after_write n (Some value) content =
+    if nat_le (number_by content.by) n then record { value = value; by = Some n } else content
 
 -- a register after one more record
-abbrev pub after_record : ℕ → Record → Cell → Cell
-after_record register entry cell = after_write entry.number (written register entry) cell
+abbrev pub after_record : ℕ → Record → Content → Content
+after_record register entry content = after_write entry.number (written register entry) content
 
 -- a register after these records, one by one
-abbrev pub after_records : ℕ → List Record → Cell → Cell
-after_records register [] cell = cell
-after_records register (x ∷ xs) cell = after_records register xs (after_record register x cell)
+abbrev pub after_records : ℕ → List Record → Content → Content
+after_records register [] content = content
+after_records register (x ∷ xs) content =
+    after_records register xs (after_record register x content)
 
 -- the register after these records, at first unwritten
-abbrev pub register_of : ℕ → List Record → Cell
+abbrev pub register_of : ℕ → List Record → Content
 register_of register records = after_records register records blank
 
 -- the registers below count
-abbrev pub registers_of : ℕ → List Record → List Cell
+abbrev pub registers_of : ℕ → List Record → List Content
 registers_of count records = each_below (λ register. register_of register records) count
 
 -- each register after one more record
-abbrev pub with_taken : Record → List Cell → List Cell
-with_taken entry cells = each_below (λ register. after_record register entry (get_or cells register blank)) (length cells)
+abbrev pub with_taken : Record → List Content → List Content
+with_taken entry contents =
+    each_below (λ register. after_record register entry (get_or contents register blank))
+    (length contents)
 
 -- the value of a register, if it is there
-abbrev pub value_in : ℕ → List Cell → Option ℕ
-value_in register cells = option_map (λ (cell : Cell). cell.value) (slice_get cells register)
+abbrev pub value_in : ℕ → List Content → Option ℕ
+value_in register contents =
+    option_map (λ (content : Content). content.value) (slice_get contents register)
 
--- the number of the section that wrote the cell, if there is a cell
-abbrev pub writer_of : Option Cell → Option ℕ
+-- the number of the section that wrote it, if it is there
+abbrev pub writer_of : Option Content → Option ℕ
 writer_of None = None
-writer_of (Some cell) = cell.by
+writer_of (Some content) = content.by
 
 -- the number of the section that wrote the register; none where the register is not there
-abbrev pub writer_in : ℕ → List Cell → Option ℕ
-writer_in register cells = writer_of (slice_get cells register)
+abbrev pub writer_in : ℕ → List Content → Option ℕ
+writer_in register contents = writer_of (slice_get contents register)
 
--- the value of a register after the writes, applied one after another, where it had this value before
+-- the value of a register after the writes, applied one after another, where it had this value
+-- before
 abbrev pub applied : ℕ → List Write → ℕ → ℕ
 applied register [] value = value
-applied register (w ∷ ws) value = applied register ws (if nat_eq w.register register then w.value else value)
+applied register (w ∷ ws) value =
+    applied register ws (if nat_eq w.register register then w.value else value)
 
 -- a record's writes
 abbrev pub writes_of : Option Record → List Write
@@ -105,6 +115,8 @@ abbrev pub writes_to : ℕ → List Record → List Write
 writes_to zero records = []
 writes_to (suc k) records = writes_to k records ++ writes_of (record_at (suc k) records)
 
--- each of these cells has the value that its register has after the writes, applied in order
-abbrev pub AreApplied : List Write → List Cell → Type 0
-AreApplied writes cells = (register : ℕ) (cell : Cell) → slice_get cells register ≡ Some cell → cell.value ≡ applied register writes 0
+-- each has the value that its register has after the writes, applied in order
+abbrev pub AreApplied : List Write → List Content → Type 0
+AreApplied writes contents =
+    (register : ℕ) (content : Content) → slice_get contents register ≡ Some content
+    → content.value ≡ applied register writes 0

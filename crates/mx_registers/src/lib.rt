@@ -1,10 +1,10 @@
 //! The registers that sections share, as the records of closed sections leave them.
 #![tactic(auto)]
 
-mod cells;
+mod contents;
 mod registers;
 mod views;
 
-pub use cells::Cell;
+pub use contents::Content;
 pub use registers::View;
 pub use views::{view, view_below, view_of};

@@ -8,58 +8,59 @@ ghost use Rattle.mx_journal.specs.Records.{Ascending, with_record};
 ghost use Rattle.mx_registers.specs.Based.{registers_from};
 ghost use Rattle.mx_registers.specs.Registers.{registers_of, value_in, with_taken, writer_in};
 
-use crate::cells::{BLANK, Cell, shown_cell, write_all};
+use crate::contents::{BLANK, Content, shown_cell, write_all};
 use arrayvec::ArrayVec;
 use mx_journal::{Base, Record};
+use mx_stamps::MOST_REGISTERS;
 use std::marker::Model;
 
-/// The greatest number of registers.
-pub(crate) const MOST_REGISTERS: usize = 32;
+/// The greatest number of registers that a view has.
+const ROOM: usize = MOST_REGISTERS as usize;
 
 /// The registers 0 to count - 1, each with the last write to it in the record of the greatest
 /// number that writes it. Records may be taken in any order, and more than once.
 #[derive(Drop)]
 pub struct View {
-    cells: ArrayVec<Cell, MOST_REGISTERS>,
+    contents: ArrayVec<Content, ROOM>,
 }
 
 impl Model for View {
     ghost use Rattle.std.specs.Prelude.{List};
-    ghost use Rattle.mx_registers.specs.declared.cells.Cell.{Cell};
+    ghost use Rattle.mx_registers.specs.declared.contents.Content.{Content};
 
-    ghost Value = { List Cell };
+    ghost Value = { List Content };
 
-    ghost view = { λ v. v.cells.items };
+    ghost view = { λ v. v.contents.items };
 }
 
 impl View {
     /// A view of this many registers that no section has written.
     pub fn new(count: u8) -> View
         requires least { 1 ≤ count }
-        requires most { count ≤ 32 }
+        requires most { count ≤ MOST_REGISTERS }
         ensures { result ≡ registers_of count [] }
     {
-        let mut cells = ArrayVec::new();
+        let mut contents = ArrayVec::new();
         for _ in 0..count {
-            cells.push(BLANK);
+            contents.push(BLANK);
         }
-        View { cells }
+        View { contents }
     }
 
     /// A view of this many registers after the sections of a base.
     pub(crate) fn at(base: &Base, count: u8) -> View
         requires least { 1 ≤ count }
-        requires most { count ≤ 32 }
+        requires most { count ≤ MOST_REGISTERS }
         ensures value { result ≡ registers_from base.now count [] }
         ensures cells { AreCellsOf base.now.upto base.now.cells }
     {
         // that the cells are of the base's sections is known from this call
         let _ = base.upto();
-        let mut cells = ArrayVec::new();
+        let mut contents = ArrayVec::new();
         for register in 0..count {
-            cells.push(shown_cell(base.cells()[usize::from(register)]));
+            contents.push(shown_cell(base.cells()[usize::from(register)]));
         }
-        View { cells }
+        View { contents }
     }
 
     /// Takes a record: each register that it writes has the last of these writes, unless a section
@@ -77,7 +78,7 @@ impl View {
             → self.new ≡ registers_of count (with_record entry.now records) }
     {
         write_all(
-            self.cells.as_mut_slice(),
+            self.contents.as_mut_slice(),
             entry.number,
             entry.writes.as_slice(),
         );
@@ -87,8 +88,8 @@ impl View {
     pub fn value(&self, register: u8) -> Option<u64>
         ensures { result ≡ value_in register self.now }
     {
-        let cell = self.cells.as_slice().get(usize::from(register))?;
-        Some(cell.value)
+        let content = self.contents.as_slice().get(usize::from(register))?;
+        Some(content.value)
     }
 
     /// The number of the section that wrote the register. None where no section did, or where there
@@ -96,15 +97,15 @@ impl View {
     pub fn written_by(&self, register: u8) -> Option<u64>
         ensures { result ≡ writer_in register self.now }
     {
-        let cell = self.cells.as_slice().get(usize::from(register))?;
-        cell.by
+        let content = self.contents.as_slice().get(usize::from(register))?;
+        content.by
     }
 
     /// How many registers there are.
     pub fn count(&self) -> u8
         ensures value { result ≡ length self.now }
-        ensures bound { result ≤ 32 }
+        ensures bound { result ≤ MOST_REGISTERS }
     {
-        self.cells.len() as u8
+        self.contents.len() as u8
     }
 }

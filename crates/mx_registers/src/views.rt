@@ -1,6 +1,7 @@
 //! The registers of journals and of lists of records.
 
 ghost use Rattle.std.specs.Prelude.{ℕ, suc, ◌≡◌, ◌≤◌, [], List};
+ghost use Rattle.mx_stamps.specs.declared.limits.TheConstants.{MOST_REGISTERS};
 ghost use Rattle.mx_journal.specs.declared.records.Record.{Record};
 ghost use Rattle.mx_journal.specs.Agreement.{IsConsistent};
 ghost use Rattle.mx_journal.specs.Records.{Ascending, top_of, with_records};
@@ -15,7 +16,7 @@ use mx_journal::{Journal, Record};
 /// these are the registers of the map that they make.
 pub fn view_of(records: &[Record], count: u8) -> View
     requires least { 1 ≤ count }
-    requires most { count ≤ 32 }
+    requires most { count ≤ MOST_REGISTERS }
     ensures value { result ≡ registers_of count records.now }
     ensures held { AreHeld records.now result }
     ensures same { (others : List Record) → IsConsistent records.now
@@ -33,7 +34,7 @@ pub fn view_of(records: &[Record], count: u8) -> View
 /// The registers of a journal: what its base has, changed by the records above it.
 pub fn view(journal: &Journal, count: u8) -> View
     requires least { 1 ≤ count }
-    requires most { count ≤ 32 }
+    requires most { count ≤ MOST_REGISTERS }
     ensures value { result ≡ registers_in count journal.now }
     ensures held { AreHeldIn journal.now result }
     // the writes of the sections up to k, applied in their order
@@ -59,7 +60,7 @@ pub fn view(journal: &Journal, count: u8) -> View
 /// where the journal's base is below it too.
 pub fn view_below(journal: &Journal, count: u8, number: u64) -> View
     requires least { 1 ≤ count }
-    requires most { count ≤ 32 }
+    requires most { count ≤ MOST_REGISTERS }
     ensures value { result ≡ registers_below number count journal.now }
 {
     let mut earlier = View::at(journal.base(), count);

@@ -7,7 +7,7 @@ use Rattle.std.specs.declared.alloc.AllocError.{AllocError}
 use Rattle.std.proofs.lemmas.Option.{slice_get_cases}
 use Rattle.mx_journal.specs.Settled.{JournalState}
 use Rattle.mx_nodelaws.specs.declared.phase.Phase.{Phase}
-use Rattle.mx_registers.specs.declared.cells.Cell.{Cell}
+use Rattle.mx_registers.specs.declared.contents.Content.{Content}
 use Rattle.mx_registers.specs.Based.{registers_in}
 use Rattle.mx_registers.specs.Registers.{value_in}
 use Rattle.mx_stamps.proofs.Lists.{has_each_below}
@@ -37,7 +37,7 @@ is_at xs k lt = elim (slice_get_cases xs k).1 [
 
 -- the value of a register that is there
 pub value_there : (count : ℕ) (journal : JournalState) (k : ℕ) → k < count → value_in k (registers_in count journal) ≡ Some (register_in k journal).value
-value_there count journal k lt = ap (option_map (λ (cell : Cell). cell.value)) (has_each_below (λ r. register_in r journal) count k lt)
+value_there count journal k lt = ap (option_map (λ (cell : Content). cell.value)) (has_each_below (λ r. register_in r journal) count k lt)
 
 -- the value of one more register
 pub value_more : (p : Fields) (journal : JournalState) (k : ℕ) (name : Text) (value : ℕ) (t t' : Text) → k < length p.registers → name ≡ register_name_of p k

@@ -1,7 +1,7 @@
 -- The lines of nodes: where each stands, and what its journal has.
 use Rattle.std.specs.Prelude.{ℕ, ◌-◌, List, ◌++◌, codes, decimal, length}
 use Rattle.mx_journal.specs.Settled.{JournalState}
-use Rattle.mx_registers.specs.declared.cells.Cell.{Cell}
+use Rattle.mx_registers.specs.declared.contents.Content.{Content}
 use Rattle.mx_registers.specs.Based.{cell_in}
 use Rattle.mx_registers.specs.Registers.{after_records}
 use Rattle.mx_nodelaws.specs.declared.phase.Phase.{Phase}
@@ -30,7 +30,7 @@ abbrev pub value_text : Text → ℕ → Text
 value_text name value = codes ", " ++ name ++ codes "=" ++ decimal value
 
 -- what a register holds in a journal: what the base has, after the records above it
-abbrev pub register_in : ℕ → JournalState → Cell
+abbrev pub register_in : ℕ → JournalState → Content
 register_in register journal = after_records register journal.records (cell_in register journal.base)
 
 -- the value of each register in a journal

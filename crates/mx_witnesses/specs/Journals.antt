@@ -6,7 +6,7 @@ use Rattle.mx_journal.specs.declared.receipts.Receipt.{Receipt}
 use Rattle.mx_journal.specs.Bases.{BaseState, unwritten}
 use Rattle.mx_journal.specs.Settled.{DoAgree, JournalState}
 use Rattle.mx_merge.specs.Join.{IsLeastJournal}
-use Rattle.mx_registers.specs.declared.cells.Cell.{Cell}
+use Rattle.mx_registers.specs.declared.contents.Content.{Content}
 use Rattle.mx_registers.specs.Based.{registers_in}
 use Rattle.mx_nodelaws.specs.Core.{Core}
 use Rattle.mx_member.specs.Member.{MemberState}
@@ -26,7 +26,7 @@ abbrev pub journal_at : {S M : Type 0} → ClusterState S M → ℕ → Option J
 journal_at g i = journal_in (slice_get g.members i)
 
 -- the trace is that of a run, after which nodes 0 and 1 have these journals; they agree, and j is their join, with these registers
-pub record Merges {H S M : Type 0} (core : Core H S M) (IsShape : H → Type 0) (shape : H) (trace : List Entry) (a b j : JournalState) (registers : List Cell) : Type 0 where
+pub record Merges {H S M : Type 0} (core : Core H S M) (IsShape : H → Type 0) (shape : H) (trace : List Entry) (a b j : JournalState) (registers : List Content) : Type 0 where
   pub happens : Happens core IsShape shape trace
   pub of_zero : journal_at happens.after 0 ≡ Some a
   pub of_one : journal_at happens.after 1 ≡ Some b
@@ -94,5 +94,5 @@ abbrev pub joint_journal : JournalState
 joint_journal = record { base = base 2 9 2; records = entry 3 1 5 ∷ entry 4 0 6 ∷ [] }
 
 -- register 0 has what section 4 wrote
-abbrev pub joint_registers : List Cell
+abbrev pub joint_registers : List Content
 joint_registers = record { value = 6; by = Some 4 } ∷ []

@@ -1,7 +1,7 @@
 use Rattle.std.proofs.Common.{◌≡◌, ◌∙◌, List, slice_get, take, sym, ap, arith}
 use Rattle.std.proofs.lemmas.List.{take_all}
 use Rattle.mx_stamps.proofs.Lists.{take_here}
-use Rattle.mx_registers.specs.declared.cells.Cell.{Cell}
+use Rattle.mx_registers.specs.declared.contents.Content.{Content}
 use Rattle.mx_registers.specs.Registers.{registers_of, with_taken}
 use Rattle.mx_registers.proofs.Taking.{map_registers, same_registers, taken_more, view_held}
 use Rattle.mx_registers.proofs.views.view_of.Goals as goal
@@ -20,7 +20,7 @@ value c =
     c.loop-entry.invariant ∙ ap (λ xs. registers_of c.args.count xs) (take_all c.loop-entry.entry-index c.args.records.now (omega (arith, c.loop-entry-test.false)))
 
 pub returns-clause-held : goal.returns-clause-held
-returns-clause-held c = λ register cell e. view_held c.args.count c.args.records.now register cell (ap (λ (v : List Cell). slice_get v register) (sym (value c)) ∙ e)
+returns-clause-held c = λ register content e. view_held c.args.count c.args.records.now register content (ap (λ (v : List Content). slice_get v register) (sym (value c)) ∙ e)
 
 pub returns-clause-same : goal.returns-clause-same
 returns-clause-same c = λ others agreed same. value c ∙ same_registers c.args.count c.args.records.now others agreed same.0 same.1

@@ -5,6 +5,6 @@ use Rattle.mx_registers.proofs.registers.View.at.Given as goal
 
 abbrev pub invariant-loop-register : goal.invariant-loop-register
 invariant-loop-register l = record {
-  cells : l.cells.items ≡ each_below (λ register. cell_in register l.base) l.register;
-  size : length l.cells.items ≡ l.register;
+  contents : l.contents.items ≡ each_below (λ register. cell_in register l.base) l.register;
+  size : length l.contents.items ≡ l.register;
 }

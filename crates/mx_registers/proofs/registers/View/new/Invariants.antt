@@ -5,6 +5,6 @@ use Rattle.mx_registers.proofs.registers.View.new.Given as goal
 
 abbrev pub invariant-loop : goal.invariant-loop
 invariant-loop l = record {
-  cells : l.cells.items ≡ each_below (λ _. blank) l.counter;
-  size : length l.cells.items ≡ l.counter;
+  contents : l.contents.items ≡ each_below (λ _. blank) l.counter;
+  size : length l.contents.items ≡ l.counter;
 }
