@@ -2,5 +2,7 @@
 #![tactic(auto)]
 
 mod event;
+mod kind;
 
 pub use event::Event;
+pub use kind::{EVENT_KINDS, EventKind};

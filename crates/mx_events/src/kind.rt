@@ -1,0 +1,68 @@
+//! The kinds of events, and their words.
+
+ghost use Rattle.std.specs.Prelude.{◌≡◌};
+ghost use Rattle.mx_events.specs.Words.{kind_named, word_of};
+
+/// What an event is, without its nodes, registers and numbers.
+#[derive(Clone, Copy, Debug, PartialEq, Eq)]
+pub enum EventKind {
+    Ask,
+    Enter,
+    Read,
+    Write,
+    Leave,
+    Cancel,
+    Settle,
+    Tick,
+    Want,
+    Deliver,
+    Restart,
+}
+
+/// All kinds, in the order in which they are listed for a reader.
+pub const EVENT_KINDS: [EventKind; 11] = [
+    EventKind::Ask,
+    EventKind::Enter,
+    EventKind::Read,
+    EventKind::Write,
+    EventKind::Leave,
+    EventKind::Cancel,
+    EventKind::Settle,
+    EventKind::Tick,
+    EventKind::Want,
+    EventKind::Deliver,
+    EventKind::Restart,
+];
+
+impl EventKind {
+    /// The word by which files, scripts and printed lines name it.
+    pub fn word(self) -> &'static str
+        ensures { result.now ≡ word_of self }
+    {
+        match self {
+            EventKind::Ask => "ask",
+            EventKind::Enter => "enter",
+            EventKind::Read => "read",
+            EventKind::Write => "write",
+            EventKind::Leave => "leave",
+            EventKind::Cancel => "cancel",
+            EventKind::Settle => "settle",
+            EventKind::Tick => "tick",
+            EventKind::Want => "want",
+            EventKind::Deliver => "deliver",
+            EventKind::Restart => "restart",
+        }
+    }
+
+    /// The kind that has this word; none for any other.
+    pub fn of_word(word: &str) -> Option<EventKind>
+        ensures { result ≡ kind_named word.now }
+    {
+        for kind in &EVENT_KINDS {
+            if word == kind.word() {
+                return Some(*kind);
+            }
+        }
+        None
+    }
+}
