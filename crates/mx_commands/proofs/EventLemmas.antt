@@ -1,17 +1,19 @@
 -- Events that were read name nodes of the plan.
 use Rattle.std.proofs.Common.{◌≡◌, ◌<◌, ◌+◌, ℕ, Bool, true, false, List, [], ◌∷◌, Option, Some, None, Result, Ok, Err, length, subst, refl, nat_lt}
-use Rattle.std.specs.Prelude.{◌&&◌, codes, if◌then◌else◌, position}
+use Rattle.std.specs.Prelude.{◌&&◌, if◌then◌else◌, position}
 use Rattle.std.specs.Option.{option_map_or}
 use Rattle.std.specs.Str.{bytes_eq}
 use Rattle.std.proofs.lemmas.List.Quantifiers.{position-Some}
 use Rattle.serde_json.specs.Data.{Data}
 use Rattle.mx_events.specs.declared.event.Event.{Event}
 use Rattle.mx_events.specs.declared.event.Event.TheVariants.{Ask, Enter, Leave, Cancel, Tick, Settle, Restart}
+use Rattle.mx_events.specs.declared.kind.EventKind.{EventKind}
+use Rattle.mx_events.specs.declared.kind.EventKind.TheVariants as kind
 use Rattle.mx_plan.specs.Text.{Text}
 use Rattle.mx_plan.specs.Fields.{Fields}
 use Rattle.mx_plan.specs.NameLists.{is_name_value}
 use Rattle.mx_plan.specs.Values.{and_then, each_from, elements, list_in, number_of, text_of, value_of}
-use Rattle.mx_plan.specs.Events.{acting, event_of, events_at, events_from, events_of, few, listed, misfit, node_in, reading, register_in, settling, wanting, with_one, with_two, with_three, writing_of}
+use Rattle.mx_plan.specs.Events.{acting, event_of, events_at, events_from, events_of, few, kind_in, listed, misfit, node_in, reading, register_in, settling, wanting, with_one, with_two, with_three, writing_of}
 use Rattle.mx_plan.specs.declared.place.Place.TheVariants as place
 use Rattle.mx_plan.specs.declared.faults.PlanFault.{PlanFault}
 use Rattle.mx_plan.specs.declared.faults.PlanFault.TheVariants.{NotJson, NotPlan, UnknownName}
@@ -66,32 +68,54 @@ module _ (p : Fields) where
     writing_named n r value =
         either (is_name_value n && is_name_value r) _ _ (with_node n _ (λ i lt. with_register (register_in p k r) _ (λ j. lt))) tt
 
-    one_named : (w : Text) (a : Data) → Named (with_one p k w a)
-    one_named w a =
-        either (bytes_eq w (codes "ask")) _ _ (acting_named Ask a (λ i lt. lt))
-        (either (bytes_eq w (codes "enter")) _ _ (acting_named Enter a (λ i lt. lt))
-        (either (bytes_eq w (codes "leave")) _ _ (acting_named Leave a (λ i lt. lt))
-        (either (bytes_eq w (codes "cancel")) _ _ (acting_named Cancel a (λ i lt. lt))
-        (either (bytes_eq w (codes "tick")) _ _ (acting_named Tick a (λ i lt. lt))
-        (either (bytes_eq w (codes "restart")) _ _ (acting_named Restart a (λ i lt. lt))
-        (either (bytes_eq w (codes "deliver")) _ _ (with_number (number_of (Some a)) _ _ (λ number. tt)) tt))))))
+    one_named : (o : Option EventKind) (a : Data) → Named (with_one p k o a)
+    one_named None a = tt
+    one_named (Some kind.Ask) a = acting_named Ask a (λ i lt. lt)
+    one_named (Some kind.Enter) a = acting_named Enter a (λ i lt. lt)
+    one_named (Some kind.Read) a = tt
+    one_named (Some kind.Write) a = tt
+    one_named (Some kind.Leave) a = acting_named Leave a (λ i lt. lt)
+    one_named (Some kind.Cancel) a = acting_named Cancel a (λ i lt. lt)
+    one_named (Some kind.Settle) a = tt
+    one_named (Some kind.Tick) a = acting_named Tick a (λ i lt. lt)
+    one_named (Some kind.Want) a = tt
+    one_named (Some kind.Deliver) a = with_number (number_of (Some a)) _ _ (λ number. tt)
+    one_named (Some kind.Restart) a = acting_named Restart a (λ i lt. lt)
 
-    two_named : (w : Text) (a b : Data) → Named (with_two p k w a b)
-    two_named w a b =
-        either (bytes_eq w (codes "read")) _ _ (reading_named a b)
-        (either (bytes_eq w (codes "want")) _ _ (wanting_named a b)
-        (either (bytes_eq w (codes "settle")) _ _ (settling_named a b) tt))
+    two_named : (o : Option EventKind) (a b : Data) → Named (with_two p k o a b)
+    two_named None a b = tt
+    two_named (Some kind.Ask) a b = tt
+    two_named (Some kind.Enter) a b = tt
+    two_named (Some kind.Read) a b = reading_named a b
+    two_named (Some kind.Write) a b = tt
+    two_named (Some kind.Leave) a b = tt
+    two_named (Some kind.Cancel) a b = tt
+    two_named (Some kind.Settle) a b = settling_named a b
+    two_named (Some kind.Tick) a b = tt
+    two_named (Some kind.Want) a b = wanting_named a b
+    two_named (Some kind.Deliver) a b = tt
+    two_named (Some kind.Restart) a b = tt
 
-    three_named : (w : Text) (a b c : Data) → Named (with_three p k w a b c)
-    three_named w a b c =
-        either (bytes_eq w (codes "write")) _ _ (with_number (number_of (Some c)) _ _ (writing_named a b)) tt
+    three_named : (o : Option EventKind) (a b c : Data) → Named (with_three p k o a b c)
+    three_named None a b c = tt
+    three_named (Some kind.Ask) a b c = tt
+    three_named (Some kind.Enter) a b c = tt
+    three_named (Some kind.Read) a b c = tt
+    three_named (Some kind.Write) a b c = with_number (number_of (Some c)) _ _ (writing_named a b)
+    three_named (Some kind.Leave) a b c = tt
+    three_named (Some kind.Cancel) a b c = tt
+    three_named (Some kind.Settle) a b c = tt
+    three_named (Some kind.Tick) a b c = tt
+    three_named (Some kind.Want) a b c = tt
+    three_named (Some kind.Deliver) a b c = tt
+    three_named (Some kind.Restart) a b c = tt
 
     listed_named : (ds : List Data) → Named (listed p k ds)
     listed_named [] = tt
     listed_named (w ∷ []) = tt
-    listed_named (w ∷ a ∷ []) = one_named (text_of w) a
-    listed_named (w ∷ a ∷ b ∷ []) = two_named (text_of w) a b
-    listed_named (w ∷ a ∷ b ∷ c ∷ []) = three_named (text_of w) a b c
+    listed_named (w ∷ a ∷ []) = one_named (kind_in w) a
+    listed_named (w ∷ a ∷ b ∷ []) = two_named (kind_in w) a b
+    listed_named (w ∷ a ∷ b ∷ c ∷ []) = three_named (kind_in w) a b c
     listed_named (w ∷ a ∷ b ∷ c ∷ d ∷ ds) = tt
 
     event_named : (d : Data) → Named (event_of p k d)

@@ -3,8 +3,8 @@ use Rattle.std.proofs.Common.{◌≡◌, ◌∙◌, ℕ, ◌≤◌, ◌<◌, Lis
 use Rattle.std.proofs.lemmas.Bool.Decides.{nat_tests}
 use Rattle.serde_json.specs.Data.{Data}
 use Rattle.mx_plan.specs.Fields.{Fields}
-use Rattle.mx_plan.specs.Values.{Gives, elements, list_in, text_of}
-use Rattle.mx_plan.specs.Events.{event_of, events_from, events_of, listed, with_one, with_two, with_three}
+use Rattle.mx_plan.specs.Values.{Gives, elements, list_in}
+use Rattle.mx_plan.specs.Events.{event_of, events_from, events_of, kind_in, listed, with_one, with_two, with_three}
 use Rattle.mx_plan.specs.declared.faults.PlanFault.{PlanFault}
 use Rattle.mx_events.specs.declared.event.Event.{Event}
 
@@ -39,16 +39,16 @@ module _ {X : Type 0} (view : X → Data) (p : Fields) (k : ℕ) (d : Data) (xs 
   of_list ys is = ap (listed p k) (sym lists ∙ ap (map view) is)
 
   pub of_two : (x y : X) → 2 ≤ length xs → length xs < 3 → x ≡ get_or xs 0 x → y ≡ get_or xs 1 y
-      → event_of p k d ≡ with_one p k (text_of (view x)) (view y)
+      → event_of p k d ≡ with_one p k (kind_in (view x)) (view y)
   of_two x y some few first second = of_list (x ∷ y ∷ []) (two xs x y some few first second)
 
   pub of_three : (x y z : X) → 3 ≤ length xs → length xs < 4 → x ≡ get_or xs 0 x → y ≡ get_or xs 1 y → z ≡ get_or xs 2 z
-      → event_of p k d ≡ with_two p k (text_of (view x)) (view y) (view z)
+      → event_of p k d ≡ with_two p k (kind_in (view x)) (view y) (view z)
   of_three x y z some few first second third = of_list (x ∷ y ∷ z ∷ []) (three xs x y z some few first second third)
 
   pub of_four : (x y z w : X) → 4 ≤ length xs → length xs < 5
       → x ≡ get_or xs 0 x → y ≡ get_or xs 1 y → z ≡ get_or xs 2 z → w ≡ get_or xs 3 w
-      → event_of p k d ≡ with_three p k (text_of (view x)) (view y) (view z) (view w)
+      → event_of p k d ≡ with_three p k (kind_in (view x)) (view y) (view z) (view w)
   of_four x y z w some few first second third fourth =
       of_list (x ∷ y ∷ z ∷ w ∷ []) (four xs x y z w some few first second third fourth)
 

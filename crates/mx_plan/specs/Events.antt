@@ -1,9 +1,7 @@
 -- The events that a JSON value lists.
-use Rattle.std.specs.Prelude.{◌&&◌, ℕ, List, [], ◌∷◌, length, nat_lt, codes, if◌then◌else◌, Some, Result, Ok, Err}
+use Rattle.std.specs.Prelude.{◌&&◌, ℕ, List, [], ◌∷◌, length, nat_lt, if◌then◌else◌, Option, Some, Result, Ok, Err}
 use Rattle.std.specs.Option.{option_map_or}
-use Rattle.std.specs.Str.{bytes_eq}
 use Rattle.serde_json.specs.Data.{Data}
-use Rattle.mx_plan.specs.Text.{Text}
 use Rattle.mx_plan.specs.Fields.{Fields}
 use Rattle.mx_plan.specs.Values.{and_then, each_from, elements, list_in, number_of, of_text, text_of}
 use Rattle.mx_plan.specs.NameLists.{is_name_value, number_in}
@@ -12,6 +10,10 @@ use Rattle.mx_plan.specs.declared.faults.PlanFault.{PlanFault}
 use Rattle.mx_plan.specs.declared.faults.PlanFault.TheVariants.{NotPlan}
 use Rattle.mx_events.specs.declared.event.Event.{Event}
 use Rattle.mx_events.specs.declared.event.Event.TheVariants.{Ask, Enter, Read, Write, Leave, Cancel, Tick, Want, Settle, Deliver, Restart}
+use Rattle.mx_events.specs.declared.kind.EventKind.{EventKind}
+use Rattle.mx_events.specs.declared.kind.EventKind.TheVariants as kind
+use Rattle.mx_events.specs.Words.{kind_named}
+use Rattle.mx_stamps.specs.declared.limits.TheConstants.{MOST_EVENTS}
 
 -- the k-th event has no such form
 abbrev pub misfit : {T : Type 0} → ℕ → Result T PlanFault
@@ -20,6 +22,10 @@ misfit k = Err (NotPlan (place.Event k))
 -- ["deliver",K]
 abbrev pub delivery : ℕ → Data → Result Event PlanFault
 delivery k v = option_map_or (λ number. Ok (Deliver number)) (number_of (Some v)) (misfit k)
+
+-- the kind of event that a word names
+abbrev pub kind_in : Data → Option EventKind
+kind_in w = kind_named (text_of w)
 
 -- the k-th event, in a plan's names
 module _ (p : Fields) (k : ℕ) where
@@ -54,7 +60,8 @@ module _ (p : Fields) (k : ℕ) where
 
   -- ["settle",N,K]
   abbrev pub settling : Data → Data → Result Event PlanFault
-  settling n v = option_map_or (λ upto. acting (λ i. Settle i upto) n) (number_of (Some v)) (misfit k)
+  settling n v =
+      option_map_or (λ upto. acting (λ i. Settle i upto) n) (number_of (Some v)) (misfit k)
 
   -- ["write",N,R,V], where the value is a number
   abbrev pub writing_of : Data → Data → ℕ → Result Event PlanFault
@@ -66,32 +73,31 @@ module _ (p : Fields) (k : ℕ) where
   abbrev pub writing : Data → Data → Data → Result Event PlanFault
   writing n r v = option_map_or (writing_of n r) (number_of (Some v)) (misfit k)
 
-  -- a word and what follows it
-  abbrev pub with_one : Text → Data → Result Event PlanFault
-  with_one w a =
-      if bytes_eq w (codes "ask") then acting Ask a
-      else if bytes_eq w (codes "enter") then acting Enter a
-      else if bytes_eq w (codes "leave") then acting Leave a
-      else if bytes_eq w (codes "cancel") then acting Cancel a
-      else if bytes_eq w (codes "tick") then acting Tick a
-      else if bytes_eq w (codes "restart") then acting Restart a
-      else if bytes_eq w (codes "deliver") then delivery k a
-      else misfit k
+  -- what a kind of event makes of what follows its word
+  abbrev pub with_one : Option EventKind → Data → Result Event PlanFault
+  with_one (Some kind.Ask) a = acting Ask a
+  with_one (Some kind.Enter) a = acting Enter a
+  with_one (Some kind.Leave) a = acting Leave a
+  with_one (Some kind.Cancel) a = acting Cancel a
+  with_one (Some kind.Tick) a = acting Tick a
+  with_one (Some kind.Restart) a = acting Restart a
+  with_one (Some kind.Deliver) a = delivery k a
+  with_one _ a = misfit k
 
-  abbrev pub with_two : Text → Data → Data → Result Event PlanFault
-  with_two w a b =
-      if bytes_eq w (codes "read") then reading a b
-      else if bytes_eq w (codes "want") then wanting a b
-      else if bytes_eq w (codes "settle") then settling a b
-      else misfit k
+  abbrev pub with_two : Option EventKind → Data → Data → Result Event PlanFault
+  with_two (Some kind.Read) a b = reading a b
+  with_two (Some kind.Want) a b = wanting a b
+  with_two (Some kind.Settle) a b = settling a b
+  with_two _ a b = misfit k
 
-  abbrev pub with_three : Text → Data → Data → Data → Result Event PlanFault
-  with_three w a b c = if bytes_eq w (codes "write") then writing a b c else misfit k
+  abbrev pub with_three : Option EventKind → Data → Data → Data → Result Event PlanFault
+  with_three (Some kind.Write) a b c = writing a b c
+  with_three _ a b c = misfit k
 
   abbrev pub listed : List Data → Result Event PlanFault
-  listed (w ∷ a ∷ []) = with_one (text_of w) a
-  listed (w ∷ a ∷ b ∷ []) = with_two (text_of w) a b
-  listed (w ∷ a ∷ b ∷ c ∷ []) = with_three (text_of w) a b c
+  listed (w ∷ a ∷ []) = with_one (kind_in w) a
+  listed (w ∷ a ∷ b ∷ []) = with_two (kind_in w) a b
+  listed (w ∷ a ∷ b ∷ c ∷ []) = with_three (kind_in w) a b c
   listed _ = misfit k
 
   unfoldable pub event_of : Data → Result Event PlanFault
@@ -102,7 +108,10 @@ abbrev pub events_from : Fields → ℕ → List Data → Result (List Event) Pl
 events_from p = each_from (event_of p)
 
 abbrev pub few : Fields → List Data → Result (List Event) PlanFault
-few p ds = if nat_lt 1000000 (length ds) then Err (NotPlan (place.Event 1000000)) else events_from p 0 ds
+few p ds =
+    if nat_lt MOST_EVENTS (length ds)
+    then Err (NotPlan (place.Event MOST_EVENTS))
+    else events_from p 0 ds
 
 abbrev pub events_of : Fields → Data → Result (List Event) PlanFault
 events_of p d = option_map_or (few p) (elements d) (Err (NotPlan place.Events))

@@ -10,7 +10,7 @@ use crate::name_reader::is_name_value;
 use crate::place::Place;
 use crate::plan::Plan;
 use crate::values::{elements, list_in, parse, text_in};
-use mx_events::Event;
+use mx_events::{Event, EventKind};
 use mx_stamps::{MOST_EVENTS, NodeId};
 use serde_json::Value;
 use std::alloc::Global;
@@ -58,57 +58,69 @@ fn event_in(plan: &Plan, value: &Value, k: u64) -> Result<Event, PlanFault>
     ensures { result ≡ spec.event_of plan.now k (view value.now) }
 {
     match list_in(value) {
-        [word, a] => with_one(plan, text_in(word), a, k),
-        [word, a, b] => with_two(plan, text_in(word), a, b, k),
-        [word, a, b, c] => with_three(plan, text_in(word), a, b, c, k),
+        [word, a] => with_one(plan, kind_in(word), a, k),
+        [word, a, b] => with_two(plan, kind_in(word), a, b, k),
+        [word, a, b, c] => with_three(plan, kind_in(word), a, b, c, k),
         _ => Err(PlanFault::NotPlan(Place::Event(k))),
     }
+}
+
+/// The kind of event that a word names.
+fn kind_in(word: &Value) -> Option<EventKind>
+    ensures { result ≡ spec.kind_in (view word.now) }
+{
+    EventKind::of_word(text_in(word))
 }
 
 /// What a node does alone, or a delivery. What is wrong with the node's name counts only after a word
 /// that wants one.
-fn with_one(plan: &Plan, word: &str, a: &Value, k: u64) -> Result<Event, PlanFault>
-    ensures { result ≡ spec.with_one plan.now k word.now (view a.now) }
+fn with_one(plan: &Plan, kind: Option<EventKind>, a: &Value, k: u64) -> Result<Event, PlanFault>
+    ensures { result ≡ spec.with_one plan.now k kind (view a.now) }
 {
     let node = lone_node(plan, a, k);
-    match word {
-        "ask" => Ok(Event::Ask(node?)),
-        "enter" => Ok(Event::Enter(node?)),
-        "leave" => Ok(Event::Leave(node?)),
-        "cancel" => Ok(Event::Cancel(node?)),
-        "tick" => Ok(Event::Tick(node?)),
-        "restart" => Ok(Event::Restart(node?)),
-        "deliver" => delivery(a, k),
+    match kind {
+        Some(EventKind::Ask) => Ok(Event::Ask(node?)),
+        Some(EventKind::Enter) => Ok(Event::Enter(node?)),
+        Some(EventKind::Leave) => Ok(Event::Leave(node?)),
+        Some(EventKind::Cancel) => Ok(Event::Cancel(node?)),
+        Some(EventKind::Tick) => Ok(Event::Tick(node?)),
+        Some(EventKind::Restart) => Ok(Event::Restart(node?)),
+        Some(EventKind::Deliver) => delivery(a, k),
         _ => Err(PlanFault::NotPlan(Place::Event(k))),
     }
 }
 
-fn with_two(plan: &Plan, word: &str, a: &Value, b: &Value, k: u64) -> Result<Event, PlanFault>
-    ensures { result ≡ spec.with_two plan.now k word.now (view a.now) (view b.now) }
+fn with_two(
+    plan: &Plan,
+    kind: Option<EventKind>,
+    a: &Value,
+    b: &Value,
+    k: u64,
+) -> Result<Event, PlanFault>
+    ensures { result ≡ spec.with_two plan.now k kind (view a.now) (view b.now) }
 {
-    match word {
-        "read" => reading(plan, a, b, k),
-        "want" => wanting(plan, a, b, k),
-        "settle" => settling(plan, a, b, k),
+    match kind {
+        Some(EventKind::Read) => reading(plan, a, b, k),
+        Some(EventKind::Want) => wanting(plan, a, b, k),
+        Some(EventKind::Settle) => settling(plan, a, b, k),
         _ => Err(PlanFault::NotPlan(Place::Event(k))),
     }
 }
 
 fn with_three(
     plan: &Plan,
-    word: &str,
+    kind: Option<EventKind>,
     a: &Value,
     b: &Value,
     c: &Value,
     k: u64,
 ) -> Result<Event, PlanFault>
     ensures { result
-        ≡ spec.with_three plan.now k word.now (view a.now) (view b.now) (view c.now) }
+        ≡ spec.with_three plan.now k kind (view a.now) (view b.now) (view c.now) }
 {
-    if word == "write" {
-        writing(plan, a, b, c, k)
-    } else {
-        Err(PlanFault::NotPlan(Place::Event(k)))
+    match kind {
+        Some(EventKind::Write) => writing(plan, a, b, c, k),
+        _ => Err(PlanFault::NotPlan(Place::Event(k))),
     }
 }
 
