@@ -2,6 +2,8 @@
 use Rattle.std.specs.Prelude.{ℕ, [], ◌++◌, Option, Some, None, codes, decimal, length, slice_get, unwrap_or}
 use Rattle.mx_events.specs.declared.event.Event.{Event}
 use Rattle.mx_events.specs.declared.event.Event.TheVariants.{Ask, Enter, Read, Write, Leave, Cancel, Tick, Want, Settle, Restart, Deliver}
+use Rattle.mx_events.specs.declared.kind.EventKind.TheVariants as kind
+use Rattle.mx_events.specs.Words.{word_of}
 use Rattle.mx_sections.specs.declared.outcome.Cause.{Cause}
 use Rattle.mx_sections.specs.Causes.{cause_number, cause_words}
 use Rattle.mx_sections.specs.declared.outcome.Outcome.{Outcome}
@@ -38,7 +40,9 @@ outcome_text (Asked stamp) = numbered (codes "asked") stamp.number
 outcome_text (Entered n) = numbered (codes "entered") n
 outcome_text (Value value) = numbered (codes "value") value
 outcome_text Written = codes "written"
-outcome_text (Left receipt) = numbered (codes "left") receipt.number ++ codes " writes " ++ decimal (length receipt.writes.items)
+outcome_text (Left receipt) =
+    numbered (codes "left") receipt.number
+    ++ codes " writes " ++ decimal (length receipt.writes.items)
 outcome_text Cancelled = codes "cancelled"
 outcome_text (Sent count) = numbered (codes "sent") count
 outcome_text Settled = codes "settled"
@@ -48,18 +52,22 @@ outcome_text (Refused cause) = codes "refused " ++ cause_text cause
 
 -- an event, as a file of events has it, without brackets and quotes
 abbrev pub event_text : Fields → Event → Text
-event_text p (Ask node) = named (codes "ask") (name_of p node)
-event_text p (Enter node) = named (codes "enter") (name_of p node)
-event_text p (Read node register) = named (codes "read") (name_of p node) ++ codes " " ++ register_name_of p register
+event_text p (Ask node) = named (word_of kind.Ask) (name_of p node)
+event_text p (Enter node) = named (word_of kind.Enter) (name_of p node)
+event_text p (Read node register) =
+    named (word_of kind.Read) (name_of p node) ++ codes " " ++ register_name_of p register
 event_text p (Write node register value) =
-    named (codes "write") (name_of p node) ++ codes " " ++ register_name_of p register ++ codes " " ++ decimal value
-event_text p (Leave node) = named (codes "leave") (name_of p node)
-event_text p (Cancel node) = named (codes "cancel") (name_of p node)
-event_text p (Tick node) = named (codes "tick") (name_of p node)
-event_text p (Want node other) = named (codes "want") (name_of p node) ++ codes " " ++ name_of p other
-event_text p (Settle node upto) = named (codes "settle") (name_of p node) ++ codes " " ++ decimal upto
-event_text p (Restart node) = named (codes "restart") (name_of p node)
-event_text p (Deliver k) = numbered (codes "deliver") k
+    named (word_of kind.Write) (name_of p node)
+    ++ codes " " ++ register_name_of p register ++ codes " " ++ decimal value
+event_text p (Leave node) = named (word_of kind.Leave) (name_of p node)
+event_text p (Cancel node) = named (word_of kind.Cancel) (name_of p node)
+event_text p (Tick node) = named (word_of kind.Tick) (name_of p node)
+event_text p (Want node other) =
+    named (word_of kind.Want) (name_of p node) ++ codes " " ++ name_of p other
+event_text p (Settle node upto) =
+    named (word_of kind.Settle) (name_of p node) ++ codes " " ++ decimal upto
+event_text p (Restart node) = named (word_of kind.Restart) (name_of p node)
+event_text p (Deliver k) = numbered (word_of kind.Deliver) k
 
 -- the line of the k-th event
 abbrev pub event_line : Fields → ℕ → Event → Outcome → Text

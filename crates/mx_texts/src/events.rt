@@ -80,23 +80,24 @@ impl<'a> EventText<'a> {
     fn words(&self) -> Words<'a>
         ensures { words_text result ≡ event_text self.now.plan.now self.now.event.now }
     {
+        let word = self.event.kind().word();
         match self.event {
-            Event::Ask(node) => Words::Name("ask", self.name(*node)),
-            Event::Enter(node) => Words::Name("enter", self.name(*node)),
+            Event::Ask(node)
+            | Event::Enter(node)
+            | Event::Leave(node)
+            | Event::Cancel(node)
+            | Event::Tick(node)
+            | Event::Restart(node) => Words::Name(word, self.name(*node)),
             Event::Read(node, register) => {
-                Words::Names("read", self.name(*node), self.register(*register))
+                Words::Names(word, self.name(*node), self.register(*register))
             }
             Event::Write(node, register, value) => {
                 let register = self.register(*register);
-                Words::NamesAndNumber("write", self.name(*node), register, *value)
+                Words::NamesAndNumber(word, self.name(*node), register, *value)
             }
-            Event::Leave(node) => Words::Name("leave", self.name(*node)),
-            Event::Cancel(node) => Words::Name("cancel", self.name(*node)),
-            Event::Tick(node) => Words::Name("tick", self.name(*node)),
-            Event::Want(node, other) => Words::Names("want", self.name(*node), self.name(*other)),
-            Event::Settle(node, upto) => Words::NameAndNumber("settle", self.name(*node), *upto),
-            Event::Restart(node) => Words::Name("restart", self.name(*node)),
-            Event::Deliver(number) => Words::Number("deliver", *number),
+            Event::Want(node, other) => Words::Names(word, self.name(*node), self.name(*other)),
+            Event::Settle(node, upto) => Words::NameAndNumber(word, self.name(*node), *upto),
+            Event::Deliver(number) => Words::Number(word, *number),
         }
     }
 
