@@ -1,5 +1,5 @@
 -- The text of an event in a file: its tokens, as a reader of JSON finds them.
-use Rattle.std.proofs.Common.{◌≡◌, ◌≢◌, ◌∙◌, ◌⊎◌, ◌&&◌, ◌==◌, ◌<◌, ◌≤◌, ◌^◌, ℕ, Bool, true, false, List, [], ◌∷◌, ◌++◌, Option, refl, sym, ap, ap₂, subst, arith, append_assoc, codes, decimal, inl, inr, IsUtf8, nat_le}
+use Rattle.std.proofs.Common.{◌≡◌, ◌≢◌, ◌∙◌, ◌⊎◌, ◌&&◌, ◌==◌, ◌<◌, ◌≤◌, ◌^◌, ℕ, Bool, true, false, List, [], ◌∷◌, ◌++◌, Option, refl, sym, ap, ap₂, subst, arith, append_assoc, decimal, inl, inr, IsUtf8, nat_le}
 use Rattle.std.specs.List.{list_all}
 use Rattle.std.proofs.lemmas.Bool.{and_parts, lt-ltb, or_cases}
 use Rattle.std.proofs.lemmas.Bool.Decides.{nat_tests}
@@ -18,6 +18,9 @@ use Rattle.json.proofs.Printed.Decimals.{IsNumber-decimal}
 use Rattle.json.proofs.Printed.Utf8.{IsUtf8-are_ascii}
 use Rattle.mx_events.specs.declared.event.Event.{Event}
 use Rattle.mx_events.specs.declared.event.Event.TheVariants.{Ask, Enter, Read, Write, Leave, Cancel, Tick, Want, Settle, Restart, Deliver}
+use Rattle.mx_events.specs.declared.kind.EventKind.TheVariants as kind
+use Rattle.mx_events.specs.Events.{kind_of}
+use Rattle.mx_events.specs.Words.{word_of}
 use Rattle.mx_plan.specs.Text.{Text, is_name_byte}
 use Rattle.mx_plan.specs.Fields.{Fields}
 use Rattle.mx_texts.specs.EventTexts.{name_of, register_name_of}
@@ -86,18 +89,8 @@ abbrev pub AreParts : List Part → Type 0
 AreParts [] = Unit {0}
 AreParts (t ∷ ts) = IsPart t × AreParts ts
 
-abbrev pub word_of : Event → Text
-word_of (Ask node) = codes "ask"
-word_of (Enter node) = codes "enter"
-word_of (Read node register) = codes "read"
-word_of (Write node register value) = codes "write"
-word_of (Leave node) = codes "leave"
-word_of (Cancel node) = codes "cancel"
-word_of (Tick node) = codes "tick"
-word_of (Want node other) = codes "want"
-word_of (Settle node upto) = codes "settle"
-word_of (Restart node) = codes "restart"
-word_of (Deliver k) = codes "deliver"
+abbrev pub event_word : Event → Text
+event_word e = word_of (kind_of e)
 
 abbrev pub parts_of : Fields → Event → List Part
 parts_of p (Ask node) = name (name_of p node) ∷ []
@@ -143,18 +136,18 @@ three_whole w a b c =
     ap (λ (s : Text). 91 ∷ s)
     (ap (λ (s : Text). s ++ 93 ∷ []) (append_assoc two (44 ∷ []) c) ∙ append_assoc two (44 ∷ c) (93 ∷ []) ∙ two_parts w a b (44 ∷ (c ++ 93 ∷ [])))
 
-item_is : (p : Fields) (e : Event) → item_text p e ≡ whole_text (word_of e) (parts_of p e)
-item_is p (Ask node) = one_part (quoted (codes "ask")) (quoted (name_of p node))
-item_is p (Enter node) = one_part (quoted (codes "enter")) (quoted (name_of p node))
-item_is p (Read node register) = two_whole (quoted (codes "read")) (quoted (name_of p node)) (quoted (register_name_of p register))
-item_is p (Write node register value) = three_whole (quoted (codes "write")) (quoted (name_of p node)) (quoted (register_name_of p register)) (decimal value)
-item_is p (Leave node) = one_part (quoted (codes "leave")) (quoted (name_of p node))
-item_is p (Cancel node) = one_part (quoted (codes "cancel")) (quoted (name_of p node))
-item_is p (Tick node) = one_part (quoted (codes "tick")) (quoted (name_of p node))
-item_is p (Want node other) = two_whole (quoted (codes "want")) (quoted (name_of p node)) (quoted (name_of p other))
-item_is p (Settle node upto) = two_whole (quoted (codes "settle")) (quoted (name_of p node)) (decimal upto)
-item_is p (Restart node) = one_part (quoted (codes "restart")) (quoted (name_of p node))
-item_is p (Deliver k) = one_part (quoted (codes "deliver")) (decimal k)
+item_is : (p : Fields) (e : Event) → item_text p e ≡ whole_text (event_word e) (parts_of p e)
+item_is p (Ask node) = one_part (quoted (word_of kind.Ask)) (quoted (name_of p node))
+item_is p (Enter node) = one_part (quoted (word_of kind.Enter)) (quoted (name_of p node))
+item_is p (Read node register) = two_whole (quoted (word_of kind.Read)) (quoted (name_of p node)) (quoted (register_name_of p register))
+item_is p (Write node register value) = three_whole (quoted (word_of kind.Write)) (quoted (name_of p node)) (quoted (register_name_of p register)) (decimal value)
+item_is p (Leave node) = one_part (quoted (word_of kind.Leave)) (quoted (name_of p node))
+item_is p (Cancel node) = one_part (quoted (word_of kind.Cancel)) (quoted (name_of p node))
+item_is p (Tick node) = one_part (quoted (word_of kind.Tick)) (quoted (name_of p node))
+item_is p (Want node other) = two_whole (quoted (word_of kind.Want)) (quoted (name_of p node)) (quoted (name_of p other))
+item_is p (Settle node upto) = two_whole (quoted (word_of kind.Settle)) (quoted (name_of p node)) (decimal upto)
+item_is p (Restart node) = one_part (quoted (word_of kind.Restart)) (quoted (name_of p node))
+item_is p (Deliver k) = one_part (quoted (word_of kind.Deliver)) (decimal k)
 
 -- ---- its tokens
 
@@ -206,7 +199,7 @@ abbrev Begins : Place → Type 0
 Begins q = (q ≡ fresh) ⊎ (q ≡ after_comma)
 
 unfoldable pub event_json : Fields → Event → json.Json
-event_json p e = json.array (json.item (json.string (word_of e)) (parts_json (parts_of p e)))
+event_json p e = json.array (json.item (json.string (event_word e)) (parts_json (parts_of p e)))
 
 array_tokens : (q : Place) → Begins q → (w : Text) (ts : List Part) (ls : List Lexeme)
     → punctuate q (token Token.begin_array ∷ token (Token.string w) ∷ (rest_lexemes ts ++ ls))
@@ -216,18 +209,18 @@ array_tokens q (inl is) w ts ls = rw (is, no_colon ts ls, after_parts ts ls) ref
 array_tokens q (inr is) w ts ls = rw (is, no_colon ts ls, after_parts ts ls) refl
 
 -- the text of an event, and what stands behind it
-event_lexed : (p : Fields) (e : Event) (r : Text) → IsWord (word_of e) → AreParts (parts_of p e)
-    → lex between (item_text p e ++ r) ≡ token Token.begin_array ∷ token (Token.string (word_of e)) ∷ (rest_lexemes (parts_of p e) ++ lex between r)
+event_lexed : (p : Fields) (e : Event) (r : Text) → IsWord (event_word e) → AreParts (parts_of p e)
+    → lex between (item_text p e ++ r) ≡ token Token.begin_array ∷ token (Token.string (event_word e)) ∷ (rest_lexemes (parts_of p e) ++ lex between r)
 unfolding lex
 event_lexed p e r word parts =
-    let w = word_of e in
+    let w = event_word e in
     let ts = parts_of p e in
     ap (λ (s : Text). lex between (s ++ r)) (item_is p e)
     ∙ ap (λ (s : Text). token Token.begin_array ∷ lex between s) (append_assoc (quoted w) (rest_text ts) r)
     ∙ ap (λ (l : List Lexeme). token Token.begin_array ∷ l) (lex_word w (rest_text ts ++ r) word)
     ∙ ap (λ (l : List Lexeme). token Token.begin_array ∷ token (Token.string w) ∷ l) (lex_rest ts r parts)
 
-words_are : (e : Event) → IsWord (word_of e)
+words_are : (e : Event) → IsWord (event_word e)
 unfolding is_name_byte
 words_are (Ask node) = refl
 words_are (Enter node) = refl
@@ -245,7 +238,7 @@ pub event_tokens : (q : Place) → Begins q → (p : Fields) (e : Event) (r : Te
     → punctuate q (lex between (item_text p e ++ r)) ≡ json_tokens (event_json p e) ++ punctuate after_value (lex between r)
 unfolding event_json
 event_tokens q begins p e r parts =
-    ap (punctuate q) (event_lexed p e r (words_are e) parts) ∙ array_tokens q begins (word_of e) (parts_of p e) (lex between r)
+    ap (punctuate q) (event_lexed p e r (words_are e) parts) ∙ array_tokens q begins (event_word e) (parts_of p e) (lex between r)
 
 -- ---- it is UTF-8
 
@@ -271,7 +264,7 @@ rest_utf8 (t ∷ ts) h = ascii_then 44 _ (omega arith) (IsUtf8-append (part_text
 
 pub item_utf8 : (p : Fields) (e : Event) → AreParts (parts_of p e) → IsUtf8 (item_text p e)
 item_utf8 p e h =
-    let w = word_of e in
+    let w = event_word e in
     let ts = parts_of p e in
     subst (λ (s : Text). IsUtf8 s) (sym (item_is p e))
     (ascii_then 91 _ (omega arith) (IsUtf8-append (quoted w) (rest_text ts) (quoted_utf8 w (words_are e)) (rest_utf8 ts h)))

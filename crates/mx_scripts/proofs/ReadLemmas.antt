@@ -28,7 +28,7 @@ use Rattle.mx_texts.specs.EventTexts.{name_of, register_name_of}
 use Rattle.mx_texts.specs.Lines.{each_text}
 use Rattle.mx_scripts.specs.Files.{item_text, next_text, file_text}
 use Rattle.mx_scripts.specs.Readable.{AreReadable, IsNumbered}
-use Rattle.mx_scripts.proofs.ItemLemmas.{AreParts, IsPart, IsWord, Part, ascii_then, count, event_json, event_tokens, item_utf8, name, part_json, parts_json, parts_of, word_of}
+use Rattle.mx_scripts.proofs.ItemLemmas.{AreParts, IsPart, IsWord, Part, ascii_then, count, event_json, event_tokens, event_word, item_utf8, name, part_json, parts_json, parts_of}
 
 -- ---- the tokens of a file
 
@@ -75,7 +75,7 @@ parts_data [] = no_items
 parts_data (t ∷ ts) = item (part_data t) (parts_data ts)
 
 abbrev event_data : Fields → Event → Data
-event_data p e = array (item (string (word_of e)) (parts_data (parts_of p e)))
+event_data p e = array (item (string (event_word e)) (parts_data (parts_of p e)))
 
 abbrev events_data : Fields → List Event → Items
 events_data p [] = no_items

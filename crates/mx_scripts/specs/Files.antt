@@ -2,6 +2,8 @@
 use Rattle.std.specs.Prelude.{List, [], ◌∷◌, ◌++◌, codes, decimal}
 use Rattle.mx_events.specs.declared.event.Event.{Event}
 use Rattle.mx_events.specs.declared.event.Event.TheVariants.{Ask, Enter, Read, Write, Leave, Cancel, Tick, Want, Settle, Restart, Deliver}
+use Rattle.mx_events.specs.declared.kind.EventKind.TheVariants as kind
+use Rattle.mx_events.specs.Words.{word_of}
 use Rattle.mx_plan.specs.Text.{Text, line_feed}
 use Rattle.mx_plan.specs.Fields.{Fields}
 use Rattle.mx_texts.specs.EventTexts.{name_of, register_name_of}
@@ -16,18 +18,22 @@ of_node word name = quoted word ++ codes "," ++ quoted name
 
 -- what stands between the brackets of an event
 abbrev pub items_text : Fields → Event → Text
-items_text p (Ask node) = of_node (codes "ask") (name_of p node)
-items_text p (Enter node) = of_node (codes "enter") (name_of p node)
-items_text p (Read node register) = of_node (codes "read") (name_of p node) ++ codes "," ++ quoted (register_name_of p register)
+items_text p (Ask node) = of_node (word_of kind.Ask) (name_of p node)
+items_text p (Enter node) = of_node (word_of kind.Enter) (name_of p node)
+items_text p (Read node register) =
+    of_node (word_of kind.Read) (name_of p node) ++ codes "," ++ quoted (register_name_of p register)
 items_text p (Write node register value) =
-    of_node (codes "write") (name_of p node) ++ codes "," ++ quoted (register_name_of p register) ++ codes "," ++ decimal value
-items_text p (Leave node) = of_node (codes "leave") (name_of p node)
-items_text p (Cancel node) = of_node (codes "cancel") (name_of p node)
-items_text p (Tick node) = of_node (codes "tick") (name_of p node)
-items_text p (Want node other) = of_node (codes "want") (name_of p node) ++ codes "," ++ quoted (name_of p other)
-items_text p (Settle node upto) = of_node (codes "settle") (name_of p node) ++ codes "," ++ decimal upto
-items_text p (Restart node) = of_node (codes "restart") (name_of p node)
-items_text p (Deliver k) = quoted (codes "deliver") ++ codes "," ++ decimal k
+    of_node (word_of kind.Write) (name_of p node)
+    ++ codes "," ++ quoted (register_name_of p register) ++ codes "," ++ decimal value
+items_text p (Leave node) = of_node (word_of kind.Leave) (name_of p node)
+items_text p (Cancel node) = of_node (word_of kind.Cancel) (name_of p node)
+items_text p (Tick node) = of_node (word_of kind.Tick) (name_of p node)
+items_text p (Want node other) =
+    of_node (word_of kind.Want) (name_of p node) ++ codes "," ++ quoted (name_of p other)
+items_text p (Settle node upto) =
+    of_node (word_of kind.Settle) (name_of p node) ++ codes "," ++ decimal upto
+items_text p (Restart node) = of_node (word_of kind.Restart) (name_of p node)
+items_text p (Deliver k) = quoted (word_of kind.Deliver) ++ codes "," ++ decimal k
 
 -- an event, as an array of JSON
 abbrev pub item_text : Fields → Event → Text

@@ -1,6 +1,8 @@
 //! Files of events: a list in JSON, with one event a line.
 
 ghost use Rattle.std.specs.Prelude.{◌≡◌, ◌++◌, Ok, Some, codes, decimal, string_bytes, IfOk, OnOk};
+ghost use Rattle.mx_events.specs.Events.{kind_of};
+ghost use Rattle.mx_events.specs.Words.{word_of};
 ghost use Rattle.mx_plan.specs.Events.{events_at};
 ghost use Rattle.mx_plan.specs.Fields.{IsPlan};
 ghost use Rattle.mx_texts.specs.EventTexts.{name_of, register_name_of};
@@ -118,12 +120,12 @@ struct ItemsText<'a> {
 
 impl<'a> ItemsText<'a> {
     /// The word of the event, and the name of its node.
-    fn of(&self, word: &'a str, node: NodeId) -> OfNode<'a>
-        ensures word { result.word.now ≡ word.now }
+    fn of(&self, node: NodeId) -> OfNode<'a>
+        ensures word { result.word.now ≡ word_of (kind_of self.now.event.now) }
         ensures name { result.name.now ≡ name_of self.now.plan.now node }
     {
         OfNode {
-            word,
+            word: self.event.kind().word(),
             name: name_of(self.plan, node),
         }
     }
@@ -134,27 +136,30 @@ impl fmt::Display for ItemsText<'_> {
 
     fn fmt<W: fmt::Write>(&self, f: &mut fmt::Formatter<W>) -> fmt::Result {
         match self.event {
-            Event::Ask(node) => self.of("ask", *node).fmt(f),
-            Event::Enter(node) => self.of("enter", *node).fmt(f),
+            Event::Ask(node)
+            | Event::Enter(node)
+            | Event::Leave(node)
+            | Event::Cancel(node)
+            | Event::Tick(node)
+            | Event::Restart(node) => self.of(*node).fmt(f),
             Event::Read(node, register) => {
                 let register = register_name_of(self.plan, *register);
-                self.of("read", *node).and_name(register).fmt(f)
+                self.of(*node).and_name(register).fmt(f)
             }
             Event::Write(node, register, value) => {
                 let register = register_name_of(self.plan, *register);
-                let written = self.of("write", *node).and_name(register);
+                let written = self.of(*node).and_name(register);
                 write!(f, "{written},{value}")
             }
-            Event::Leave(node) => self.of("leave", *node).fmt(f),
-            Event::Cancel(node) => self.of("cancel", *node).fmt(f),
-            Event::Tick(node) => self.of("tick", *node).fmt(f),
             Event::Want(node, other) => {
                 let other = name_of(self.plan, *other);
-                self.of("want", *node).and_name(other).fmt(f)
+                self.of(*node).and_name(other).fmt(f)
             }
-            Event::Settle(node, upto) => self.of("settle", *node).and_number(*upto).fmt(f),
-            Event::Restart(node) => self.of("restart", *node).fmt(f),
-            Event::Deliver(number) => write!(f, "{},{number}", Quoted("deliver")),
+            Event::Settle(node, upto) => self.of(*node).and_number(*upto).fmt(f),
+            Event::Deliver(number) => {
+                let word = Quoted(self.event.kind().word());
+                write!(f, "{word},{number}")
+            }
         }
     }
 }

@@ -4,7 +4,7 @@ ghost use Rattle.std.specs.Prelude.{ℕ, ◌<◌, length, IfOk, IfSome};
 ghost use Rattle.mx_scripts.specs.Scripts.{IsOver};
 
 use crate::line_faults::LineFault;
-use mx_network::Event;
+use mx_events::{Event, EventKind};
 use mx_plan::Plan;
 use mx_stamps::NodeId;
 use std::alloc::{AllocError, Global};
@@ -26,7 +26,7 @@ pub(crate) enum Order {
     ArrivesAgain(NodeId, NodeId),
 }
 
-/// A line: so many times the same.
+/// A line: what it asks for, and how often.
 #[derive(Clone, Copy)]
 pub(crate) struct Line {
     pub(crate) times: u64,
@@ -80,14 +80,14 @@ fn with_one(plan: &Plan, word: &str, a: &str) -> Result<Order, LineFault>
     ensures { IfOk result (IsOver (length plan.now.nodes) (length plan.now.registers)) }
 {
     let node = node_in(plan, a);
-    match word {
-        "ask" => Ok(Order::Happens(Event::Ask(node?))),
-        "enter" => Ok(Order::Happens(Event::Enter(node?))),
-        "leave" => Ok(Order::Happens(Event::Leave(node?))),
-        "cancel" => Ok(Order::Happens(Event::Cancel(node?))),
-        "tick" => Ok(Order::Happens(Event::Tick(node?))),
-        "restart" => Ok(Order::Happens(Event::Restart(node?))),
-        "deliver" => delivery(a),
+    match EventKind::of_word(word) {
+        Some(EventKind::Ask) => Ok(Order::Happens(Event::Ask(node?))),
+        Some(EventKind::Enter) => Ok(Order::Happens(Event::Enter(node?))),
+        Some(EventKind::Leave) => Ok(Order::Happens(Event::Leave(node?))),
+        Some(EventKind::Cancel) => Ok(Order::Happens(Event::Cancel(node?))),
+        Some(EventKind::Tick) => Ok(Order::Happens(Event::Tick(node?))),
+        Some(EventKind::Restart) => Ok(Order::Happens(Event::Restart(node?))),
+        Some(EventKind::Deliver) => delivery(a),
         _ => Err(fault_of_word(word)),
     }
 }
@@ -109,13 +109,24 @@ fn with_two(plan: &Plan, word: &str, a: &str, b: &str) -> Result<Order, LineFaul
 {
     let node = node_in(plan, a);
     let other = node_in(plan, b);
+    match EventKind::of_word(word) {
+        Some(EventKind::Read) => Ok(Order::Happens(Event::Read(node?, register_in(plan, b)?))),
+        Some(EventKind::Want) => Ok(Order::Happens(Event::Want(node?, other?))),
+        Some(EventKind::Settle) => Ok(Order::Happens(Event::Settle(node?, number_in(b)?))),
+        Some(EventKind::Deliver) => Ok(Order::Arrives(node?, other?)),
+        _ => of_network(plan, word, a, b),
+    }
+}
+
+/// What the network alone does with a parcel from one node to another.
+fn of_network(plan: &Plan, word: &str, a: &str, b: &str) -> Result<Order, LineFault>
+    ensures { IfOk result (IsOver (length plan.now.nodes) (length plan.now.registers)) }
+{
+    let from = node_in(plan, a);
+    let to = node_in(plan, b);
     match word {
-        "read" => Ok(Order::Happens(Event::Read(node?, register_in(plan, b)?))),
-        "want" => Ok(Order::Happens(Event::Want(node?, other?))),
-        "settle" => Ok(Order::Happens(Event::Settle(node?, number_in(b)?))),
-        "deliver" => Ok(Order::Arrives(node?, other?)),
-        "lose" => Ok(Order::IsLost(node?, other?)),
-        "again" => Ok(Order::ArrivesAgain(node?, other?)),
+        "lose" => Ok(Order::IsLost(from?, to?)),
+        "again" => Ok(Order::ArrivesAgain(from?, to?)),
         _ => Err(fault_of_word(word)),
     }
 }
@@ -123,9 +134,9 @@ fn with_two(plan: &Plan, word: &str, a: &str, b: &str) -> Result<Order, LineFaul
 fn with_three(plan: &Plan, word: &str, a: &str, b: &str, c: &str) -> Result<Order, LineFault>
     ensures { IfOk result (IsOver (length plan.now.nodes) (length plan.now.registers)) }
 {
-    if word != "write" {
+    let Some(EventKind::Write) = EventKind::of_word(word) else {
         return Err(fault_of_word(word));
-    }
+    };
     let node = node_in(plan, a)?;
     let register = register_in(plan, b)?;
     let value = number_in(c)?;
@@ -135,9 +146,8 @@ fn with_three(plan: &Plan, word: &str, a: &str, b: &str, c: &str) -> Result<Orde
 /// Why a line that begins with this word asks for nothing.
 fn fault_of_word(word: &str) -> LineFault {
     match word {
-        "ask" | "enter" | "leave" | "cancel" | "tick" | "restart" => LineFault::WordCount,
-        "read" | "write" | "want" | "settle" | "deliver" | "lose" | "again" => LineFault::WordCount,
-        "times" => LineFault::WordCount,
+        "lose" | "again" | "times" => LineFault::WordCount,
+        _ if EventKind::of_word(word).is_some() => LineFault::WordCount,
         _ => LineFault::NoWord,
     }
 }
