@@ -3,18 +3,11 @@
 use crate::expecting::{expect, expect_number, expect_word};
 use crate::lines::Path;
 use crate::page::Page;
-use crate::values::{elements, is_among, items_in, text_in};
+use crate::values::{elements, items_in, text_in};
+use mx_events::{EVENT_KINDS, EventKind};
 use mx_stamps::MOST_EVENTS;
 use serde_json::Value;
 use std::alloc::AllocError;
-
-const WORDS: [&str; 11] = [
-    "ask", "enter", "read", "write", "leave", "cancel", "settle", "tick", "want", "deliver",
-    "restart",
-];
-
-const EXPECTED_WORD: &str =
-    "ask, enter, read, write, leave, cancel, settle, tick, want, deliver or restart";
 
 /// What an item of an event is.
 #[derive(Clone, Copy)]
@@ -24,46 +17,47 @@ enum Wanted {
     Number,
 }
 
-/// What stands behind the word of an event, where it is one of these.
+/// What stands behind the word of an event.
 #[derive(Clone, Copy)]
 struct Form {
-    words: &'static [&'static str],
     items: &'static [Wanted],
     expected: &'static str,
 }
 
-const FORMS: [Form; 6] = [
-    Form {
-        words: &["ask", "enter", "leave", "cancel", "tick", "restart"],
-        items: &[Wanted::Node],
-        expected: "a node behind the word, and no more",
-    },
-    Form {
-        words: &["read"],
-        items: &[Wanted::Node, Wanted::Register],
-        expected: "a node and a register behind the word",
-    },
-    Form {
-        words: &["write"],
-        items: &[Wanted::Node, Wanted::Register, Wanted::Number],
-        expected: "a node, a register and a number behind the word",
-    },
-    Form {
-        words: &["want"],
-        items: &[Wanted::Node, Wanted::Node],
-        expected: "two nodes behind the word",
-    },
-    Form {
-        words: &["settle"],
-        items: &[Wanted::Node, Wanted::Number],
-        expected: "a node and the number of a section behind the word",
-    },
-    Form {
-        words: &["deliver"],
-        items: &[Wanted::Number],
-        expected: "the number of a parcel behind the word",
-    },
-];
+/// The form of the events of a kind.
+fn form_of(kind: EventKind) -> Form {
+    match kind {
+        EventKind::Ask
+        | EventKind::Enter
+        | EventKind::Leave
+        | EventKind::Cancel
+        | EventKind::Tick
+        | EventKind::Restart => Form {
+            items: &[Wanted::Node],
+            expected: "a node behind the word, and no more",
+        },
+        EventKind::Read => Form {
+            items: &[Wanted::Node, Wanted::Register],
+            expected: "a node and a register behind the word",
+        },
+        EventKind::Write => Form {
+            items: &[Wanted::Node, Wanted::Register, Wanted::Number],
+            expected: "a node, a register and a number behind the word",
+        },
+        EventKind::Want => Form {
+            items: &[Wanted::Node, Wanted::Node],
+            expected: "two nodes behind the word",
+        },
+        EventKind::Settle => Form {
+            items: &[Wanted::Node, Wanted::Number],
+            expected: "a node and the number of a section behind the word",
+        },
+        EventKind::Deliver => Form {
+            items: &[Wanted::Number],
+            expected: "the number of a parcel behind the word",
+        },
+    }
+}
 
 /// The names that events may have.
 #[derive(Clone, Copy)]
@@ -103,24 +97,36 @@ fn explain_event(
         let expected = "an array of a word and its arguments, as [\"ask\",NODE]";
         return expect(page, Path::Item("events", k), Some(event), expected);
     };
-    let path = Path::Inner("events", k, 0);
-    match form_of(text_in(Some(first))) {
-        Some(form) if form.items.len() == arguments.len() => {
-            explain_arguments(page, k, form.items, arguments, known)
-        }
-        Some(form) => expect(page, Path::Item("events", k), Some(event), form.expected),
-        None => expect_word(page, path, Some(first), &WORDS, EXPECTED_WORD),
+    let Some(kind) = EventKind::of_word(text_in(Some(first))) else {
+        return explain_word(page, Path::Inner("events", k, 0), first);
+    };
+    let form = form_of(kind);
+    if form.items.len() == arguments.len() {
+        explain_arguments(page, k, form.items, arguments, known)
+    } else {
+        expect(page, Path::Item("events", k), Some(event), form.expected)
     }
 }
 
-/// The form of the events of a word.
-fn form_of(word: &str) -> Option<Form> {
-    for form in &FORMS {
-        if is_among(word, form.words) {
-            return Some(*form);
-        }
+/// Says that a word of an event is expected at a place, and lists them.
+fn explain_word(page: &mut Page<'_>, path: Path<'_>, found: &Value) -> Result<(), AllocError> {
+    let mut words = [""; 11];
+    let mut listed = String::new(page.alloc);
+    for (k, kind) in EVENT_KINDS.iter().enumerate() {
+        words[k] = kind.word();
+        listed.push_str(before(k, words.len()))?;
+        listed.push_str(kind.word())?;
     }
-    None
+    expect_word(page, path, Some(found), &words, listed.as_str())
+}
+
+/// What a sentence has before the k-th of this many words.
+fn before(k: usize, count: usize) -> &'static str {
+    match count.saturating_sub(k) {
+        1 => " or ",
+        _ if k == 0 => "",
+        _ => ", ",
+    }
 }
 
 /// What stands behind the word of the k-th event, of which each item is wanted.
