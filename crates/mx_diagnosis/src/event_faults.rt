@@ -17,7 +17,7 @@ enum Wanted {
     Number,
 }
 
-/// What stands behind the word of an event.
+/// What follows the word of an event.
 #[derive(Clone, Copy)]
 struct Form {
     items: &'static [Wanted],
@@ -129,7 +129,7 @@ fn before(k: usize, count: usize) -> &'static str {
     }
 }
 
-/// What stands behind the word of the k-th event, of which each item is wanted.
+/// What follows the word of the k-th event, of which each item is wanted.
 fn explain_arguments(
     page: &mut Page<'_>,
     k: usize,

@@ -25,7 +25,7 @@ pub(crate) fn expect<'a>(
     })
 }
 
-/// Says that one of these words is expected at a place, where another stands there. Where there are
+/// Says that one of these words is expected at a place, where another is found. Where there are
 /// none, as in a plan that lists no nodes, that is told elsewhere.
 pub(crate) fn expect_word<'a, 'w>(
     page: &mut Page<'_>,
@@ -57,7 +57,7 @@ fn meant<'a>(page: &Page<'_>, word: &str, words: &[&'a str]) -> Result<Option<&'
     nearest(page.alloc, word, words)
 }
 
-/// Says that a number in this range is expected at a place, where none stands there.
+/// Says that a number in this range is expected at a place, where none is found.
 pub(crate) fn expect_number<'a>(
     page: &mut Page<'_>,
     path: Path<'a>,

@@ -14,7 +14,7 @@ const SHOWN: usize = 24;
 /// Brackets that nest deeper are refused.
 const DEEPEST: usize = 127;
 
-/// What is expected where a text stands that is none of JSON.
+/// What is expected where a text is that is none of JSON.
 const TEXT: &str =
     "a text in one line without control characters, each \\ of which begins an escape of a whole character";
 
@@ -25,7 +25,7 @@ const MARK: [u8; 3] = [0xEF, 0xBB, 0xBF];
 #[derive(Clone, Copy)]
 pub(crate) struct Part<'a> {
     pub(crate) text: &'a [u8],
-    /// As many lines of its file stand above it.
+    /// As many lines of its file are above it.
     pub(crate) above: usize,
     /// As deep its brackets may nest.
     pub(crate) nesting: usize,
@@ -37,7 +37,7 @@ impl<'a> Part<'a> {
         place_of(self.text, offset).below(self.above)
     }
 
-    /// What stands before a byte, and what stands from there on.
+    /// What is before a byte, and what is from there on.
     fn split_at(&self, offset: usize) -> (&'a [u8], &'a [u8]) {
         self.text.split_at(offset.min(self.text.len()))
     }
@@ -99,7 +99,7 @@ fn say_refused(
 }
 
 /// Says what is expected in place of the first token that does not fit, or that the text is cut off. The
-/// token may stand before the reader's place.
+/// token may be before the reader's place.
 fn say_expected(
     page: &mut Page<'_>,
     part: &Part<'_>,
@@ -116,7 +116,7 @@ fn say_expected(
 }
 
 /// Says what is wrong where the reader stops before the first token that does not fit: that token, where
-/// what stands before it is a value, as in `1"a"`, of which the reader makes one word.
+/// what is before it is a value, as in `1"a"`, of which the reader makes one word.
 fn say_before(
     page: &mut Page<'_>,
     part: &Part<'_>,
@@ -189,7 +189,7 @@ fn deep_in(part: &Part<'_>, scan: &Scan) -> Option<Place> {
     Some(part.place(offset))
 }
 
-/// What stands from a place on.
+/// What is from a place on.
 fn rest_of_line<'a>(part: &Part<'a>, offset: usize) -> &'a str {
     let (_, rest) = part.split_at(offset);
     match str::from_utf8(rest) {
@@ -198,7 +198,7 @@ fn rest_of_line<'a>(part: &Part<'a>, offset: usize) -> &'a str {
     }
 }
 
-/// Says why a text is not JSON, by what stands at a place.
+/// Says why a text is not JSON, by what is at a place.
 fn say_at(
     page: &mut Page<'_>,
     part: &Part<'_>,
@@ -238,7 +238,7 @@ impl fmt::Display for TooDeep {
     }
 }
 
-/// What stands in a line from a place on, as far as it is shown.
+/// What a line has from a place on, as far as it is shown.
 #[derive(Clone, Copy)]
 struct Rest<'a>(&'a str);
 
@@ -254,7 +254,7 @@ impl fmt::Display for Rest<'_> {
     }
 }
 
-/// A text is not JSON, since something else is expected where this stands.
+/// A text is not JSON, since something else is expected where this is.
 #[derive(Clone, Copy)]
 struct Misfit<'a> {
     place: Place,

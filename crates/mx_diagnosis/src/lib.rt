@@ -1,4 +1,4 @@
-//! What is wrong in a plan and its events, where it stands, and what was expected there: a line for each
+//! What is wrong in a plan and its events, where it is, and what was expected there: a line for each
 //! mistake.
 #![tactic(auto)]
 

@@ -25,7 +25,7 @@ impl Display for Path<'_> {
     }
 }
 
-/// What stands at a place, in short.
+/// What is at a place, in short.
 #[derive(Clone, Copy)]
 pub(crate) struct Found<'a>(pub(crate) Option<&'a Value>);
 
@@ -44,7 +44,7 @@ impl Display for Found<'_> {
     }
 }
 
-/// The name that is nearest to what stands at a place, where one is near.
+/// The name that is nearest to what is at a place, where one is near.
 #[derive(Clone, Copy)]
 struct Nearest<'a>(Option<&'a str>);
 
@@ -57,7 +57,7 @@ impl Display for Nearest<'_> {
     }
 }
 
-/// What stands at a place, and what was expected there.
+/// What is at a place, and what was expected there.
 #[derive(Clone, Copy)]
 pub(crate) struct Expected<'a, 'w> {
     pub(crate) path: Path<'a>,

@@ -13,7 +13,7 @@ pub(crate) struct Place {
 const START: Place = Place { line: 1, column: 1 };
 
 impl Place {
-    /// The same place in a file where so many lines stand above the text.
+    /// Where it is in a file that has this many lines above the text.
     pub(crate) fn below(self, lines: usize) -> Place {
         Place {
             line: self.line.saturating_add(lines),
@@ -21,7 +21,7 @@ impl Place {
         }
     }
 
-    /// The place behind a byte that stands here.
+    /// The place after the byte that is here.
     fn behind(self, byte: u8) -> Place {
         if byte == b'\n' {
             Place {

@@ -15,7 +15,7 @@ use std::alloc::AllocError;
 
 const ALGORITHMS: [&str; 3] = ["ricart", "maekawa", "raymond"];
 
-/// The members that may stand in a plan.
+/// The members that a plan may have.
 const MEMBERS: [&str; 8] = [
     "algorithm",
     "nodes",
@@ -191,7 +191,7 @@ fn warn_of_foreign(page: &mut Page<'_>, algorithm: &str, plan: &Value) -> Result
     Ok(())
 }
 
-/// Warns of a member that is read for its owner alone, where it stands in a plan for another algorithm.
+/// Warns of a member that is read for its owner alone, where a plan for another algorithm has it.
 fn warn_of_owned(
     page: &mut Page<'_>,
     key: &str,

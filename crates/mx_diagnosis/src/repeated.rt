@@ -1,4 +1,4 @@
-//! Members that stand twice in one object.
+//! Members that one object has twice.
 
 use crate::lines::Key;
 use crate::page::Page;
@@ -10,7 +10,7 @@ use std::alloc::{AllocError, Global};
 use std::collections::BTreeSet;
 use std::fmt;
 
-/// Warns of each member whose key stands earlier in the same object.
+/// Warns of each member whose key comes earlier in the same object.
 pub(crate) fn warn_of_repeated(page: &mut Page<'_>, text: &[u8]) -> Result<(), AllocError> {
     let scan = scanned(page.alloc, text)?;
     let mut seen = BTreeSet::new(page.alloc);
@@ -56,7 +56,7 @@ fn read_key(alloc: Global, text: &[u8], member: &Member) -> Result<Value, AllocE
     }
 }
 
-/// A warning of a member that stands twice.
+/// A warning of a member that is there twice.
 #[derive(Clone, Copy)]
 struct Repeated<'a> {
     place: Place,

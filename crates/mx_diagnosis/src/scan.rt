@@ -17,7 +17,7 @@ struct Bracket {
     is_object: bool,
 }
 
-/// What may stand next.
+/// What may come next.
 #[derive(Clone, Copy)]
 enum Next {
     Value,
@@ -84,7 +84,7 @@ impl Scan {
         self.misfit
     }
 
-    /// What may stand next.
+    /// What may come next.
     pub(crate) fn expected(&self) -> &'static str {
         match self.next {
             Next::Value => "a value",
@@ -98,7 +98,7 @@ impl Scan {
         }
     }
 
-    /// The next byte, which stands at this place.
+    /// The next byte, which is at this place.
     fn take(&mut self, offset: usize, byte: u8) -> Result<(), AllocError> {
         match self.within {
             Within::Text => self.take_in_text(offset, byte),
@@ -173,7 +173,7 @@ impl Scan {
         self.next = self.after_value();
     }
 
-    /// The quote that ends a text stands at this place.
+    /// The quote that ends a text is at this place.
     fn end_text(&mut self, offset: usize) -> Result<(), AllocError> {
         if matches!(self.next, Next::Key | Next::KeyOrCurly) {
             let object = self.opened().unwrap_or(0);
@@ -190,7 +190,7 @@ impl Scan {
         Ok(())
     }
 
-    /// What may stand behind a value.
+    /// What may follow a value.
     fn after_value(&self) -> Next {
         match self.brackets.last() {
             Some(bracket) if bracket.is_object => Next::CommaOrCurly,
@@ -200,7 +200,7 @@ impl Scan {
     }
 }
 
-/// Whether a byte may stand in a number, or in a word as `true`. No text, bracket or mark begins with it.
+/// Whether a byte may be in a number, or in a word as `true`. No text, bracket or mark begins with it.
 pub(crate) fn is_of_word(byte: u8) -> bool {
     !matches!(
         byte,
@@ -208,7 +208,7 @@ pub(crate) fn is_of_word(byte: u8) -> bool {
     )
 }
 
-/// What stands in a text.
+/// What is in a text.
 pub(crate) fn scanned(alloc: Global, text: &[u8]) -> Result<Scan, AllocError> {
     let mut scan = Scan {
         members: Vec::new(alloc),

@@ -97,7 +97,7 @@ impl fmt::Display for QuorumWords<'_> {
     }
 }
 
-/// A fault of a tree, of so many edges.
+/// A fault of a tree, with the number of its edges.
 #[derive(Clone, Copy)]
 struct TreeWords<'a> {
     fault: TreeFault,

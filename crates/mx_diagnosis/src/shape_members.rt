@@ -94,7 +94,7 @@ fn explain_side(
     expect_number(page, Path::Member(member), value, 1, 21, expected)
 }
 
-/// Whether so many rows and columns have a place for each node, or that can't be told.
+/// Whether these rows and columns have a place for each node, or that can't be told.
 fn has_places(rows: Option<u64>, cols: Option<u64>, nodes: usize) -> bool {
     match (rows, cols) {
         (Some(rows), Some(cols)) => nodes == 0 || rows.checked_mul(cols) == Some(nodes as u64),

@@ -3,7 +3,7 @@
 use std::fmt;
 use std::fmt::Display;
 
-/// A text as it stands, but for its control characters, which are shown escaped: as `\0`, `\t`, `\n` or
+/// A text as it is, but for its control characters, which are shown escaped: as `\0`, `\t`, `\n` or
 /// `\r`, else by their number, as `\u{1b}`.
 #[derive(Clone, Copy)]
 pub(crate) struct Shown<'a>(pub(crate) &'a str);

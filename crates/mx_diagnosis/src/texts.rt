@@ -12,7 +12,7 @@ use mx_stamps::{MOST_NODES, MOST_REGISTERS};
 use serde_json::Value;
 use std::alloc::AllocError;
 
-/// Says what is wrong in a plan whose nodes have no shape for this fault, or have one, and answers its
+/// Says what is wrong in a plan whose nodes have no shape for this fault, or have one, and returns its
 /// value where it is JSON.
 pub fn explain_plan_text(
     page: &mut Page<'_>,
@@ -45,7 +45,7 @@ fn explain_read_plan(
     warn_of_repeated(page, text)
 }
 
-/// Says what is wrong in events below so many lines of their file, by the names of the plan where that
+/// Says what is wrong in events that begin below a number of lines of their file, by the names of the plan where that
 /// is JSON.
 pub fn explain_event_text(
     page: &mut Page<'_>,

@@ -1,5 +1,5 @@
 -- A word that is sought among the kinds.
-use Rattle.std.proofs.Common.{◌≡◌, ℕ, ◌+◌, ◌<◌, List, [], ◌∷◌, length, drop, get_or, false, refl, arith}
+use Rattle.std.proofs.Common.{◌≡◌, ℕ, zero, suc, ◌+◌, ◌<◌, List, [], ◌∷◌, length, drop, get_or, false, refl, arith}
 use Rattle.std.specs.Str.{bytes_eq}
 use Rattle.mx_events.specs.declared.kind.EventKind.{EventKind}
 use Rattle.mx_events.specs.Words.{first_named, word_of}

@@ -34,7 +34,7 @@ abbrev pub judged : List Section → List Entry → Verdict
 judged ss [] = Sound
 judged ss (e ∷ es) = after_item (broken_at ss (mark_of e.event e.outcome)) (judged (after_marks ss (mark_of e.event e.outcome)) es)
 
--- with so many items before them
+-- with a given number of items before them
 abbrev pub shifted : ℕ → Verdict → Verdict
 shifted zero v = v
 shifted (suc i) v = shifted i (later v)

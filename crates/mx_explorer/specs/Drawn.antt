@@ -27,7 +27,7 @@ abbrev pub after_words : ℕ → Lcg → Lcg
 after_words zero g = g
 after_words (suc n) g = after_words n (pcg32 g).1
 
--- the event that a number below 16 stands for: each argument, in its order, takes one word
+-- the event that a number below 16 means: each argument, in its order, takes one word
 abbrev pub event_by : ℕ → ℕ → ℕ → Lcg → Event
 event_by n nodes registers g =
     if nat_lt n 2 then Ask (word g % nodes)

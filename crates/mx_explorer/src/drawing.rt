@@ -63,7 +63,7 @@ fn draw(words: &mut Pcg32, nodes: u8, registers: u8) -> Event
     draw_by(number, words, nodes, registers)
 }
 
-/// The event that a number below 16 stands for. Deliveries are the most frequent.
+/// The event that a number below 16 means. Deliveries are the most frequent.
 #[tactic(auto, using(crate::proofs::Schedules::leaves, crate::proofs::Schedules::delivers, crate::proofs::Schedules::cancels))]
 fn draw_by(number: u32, words: &mut Pcg32, nodes: u8, registers: u8) -> Event
     requires nodes { (0 < nodes) × (nodes ≤ 21) }

@@ -40,7 +40,7 @@ impl Ledger {
         }
     }
 
-    /// Takes an item in, or answers the clause that it breaks.
+    /// Takes an item in; returns the clause that it breaks, if it breaks one.
     pub(crate) fn take(&mut self, entry: &Entry) -> Option<Clause>
         ensures { Takes self.old (mark_of entry.now.event entry.now.outcome) result self.new }
     {

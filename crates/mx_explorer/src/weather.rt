@@ -42,7 +42,7 @@ impl Weather {
 }
 
 impl Fates for Weather {
-    /// The fate that the next word stands for.
+    /// The fate that the next word means.
     fn fate(&mut self) -> Fate
         ensures value { result ≡ fate_in self.old }
         ensures next { self.new ≡ after_fate self.old }
@@ -56,7 +56,7 @@ impl Fates for Weather {
     }
 }
 
-/// The fate that a byte stands for.
+/// The fate that a byte means.
 fn fate_of(byte: u32, lost: u16, doubled: u16) -> Fate
     ensures { result ≡ fate_by byte lost doubled }
 {

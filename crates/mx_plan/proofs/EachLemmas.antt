@@ -48,7 +48,7 @@ pub gives_fault : {B : Type 0} (wanted : Result (List B) PlanFault) (e : PlanFau
 gives_fault wanted e (Ok list) is why = absurd is
 gives_fault wanted e (Err f) is why = inl (subst (λ (x : PlanFault). wanted ≡ Err x) (sym is) why)
 
--- a failure answers no value
+-- a failure gives no value
 pub no_value : {X E : Type 0} (r : Result X E) (P : X → Type 0) → IsErr r → IfOk r P
 no_value (Ok x) P e = absurd (let f = e in cc)
 no_value (Err fault) P e = tt

@@ -8,7 +8,7 @@ use Rattle.mx_plan.specs.Events.{event_of, events_from, events_of, kind_in, list
 use Rattle.mx_plan.specs.declared.faults.PlanFault.{PlanFault}
 use Rattle.mx_events.specs.declared.event.Event.{Event}
 
--- a list of so many values is the list of these values
+-- a list as long as these values that has them in its places is the list of them
 module _ {X : Type 0} where
   two : (xs : List X) (x y : X) → 2 ≤ length xs → length xs < 3 → x ≡ get_or xs 0 x → y ≡ get_or xs 1 y → xs ≡ x ∷ y ∷ []
   two [] x y some few first second = let bad : ⊥ = omega (arith, some) in absurd bad

@@ -77,7 +77,7 @@ module _ {X : Type 0} (f : X → Data) where
       ∙ ap (map text_of) (map-append f (take i xs) (get_or xs i d ∷ []))
       ∙ map-append text_of (map f (take i xs)) (f (get_or xs i d) ∷ [])
 
-  -- the text at i stands before it too
+  -- the text at i is before it too
   pub double_at : (xs : List X) (i : ℕ) (d : X) → i < length xs
       → list_any (bytes_eq (text_of (f (get_or xs i d)))) (texts (take i xs)) ≡ true → has_double (texts xs) ≡ true
   double_at xs i d h any =

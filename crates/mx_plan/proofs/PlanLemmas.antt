@@ -23,14 +23,14 @@ both_refuse (Ok a) (Ok b) f e is = let bad : ⊥ = cc in absurd bad
 both_refuse (Ok a) (Err fault) f e is = cc
 both_refuse (Err fault) s f e is = cc
 
--- two steps that answer go on with their answers
+-- two steps that succeed go on with their results
 both_answer : {A B C : Type 0} (r : Result A PlanFault) (s : Result B PlanFault) (f : A → B → Result C PlanFault) (a : A) (b : B)
     → and_then {B = A × B} r (λ a. and_then s (λ b. Ok (a, b))) ≡ Ok (a, b) → and_then r (λ a. and_then s (f a)) ≡ f a b
 both_answer {A} {B} (Ok x) (Ok y) f a b is = let pair : ◌≡◌ {A = A × B} (x, y) (a, b) = cc in ap (λ p. f p.0 p.1) pair
 both_answer (Ok x) (Err fault) f a b is = let bad : ⊥ = cc in absurd bad
 both_answer (Err fault) s f a b is = let bad : ⊥ = cc in absurd bad
 
--- three steps, and then one over their answers
+-- three steps, and then one over their results
 in_turn : {A B C D : Type 0} (r : Result A PlanFault) (s : Result B PlanFault) (t : Result C PlanFault) (f : A → B → C → Result D PlanFault)
     → and_then r (λ a. and_then s (λ b. and_then t (f a b)))
     ≡ and_then (and_then {B = A × B × C} r (λ a. and_then s (λ b. and_then t (λ c. Ok (a, b, c))))) (λ p. f p.0 p.1 p.2)
@@ -39,7 +39,7 @@ in_turn (Ok a) (Ok b) (Err fault) f = refl
 in_turn (Ok a) (Err fault) t f = refl
 in_turn (Err fault) s t f = refl
 
--- an answer that is no fault is what the rules give
+-- a result that is no fault is what the rules give
 answered : {T : Type 0} (wanted : Result T PlanFault) (x : T) → Answers wanted (Ok x) → wanted ≡ Ok x
 answered wanted x (inl is) = sym is
 answered wanted x (inr h) = let bad : ⊥ = cc in absurd bad

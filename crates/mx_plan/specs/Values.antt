@@ -10,7 +10,7 @@ use Rattle.mx_plan.specs.Text.{Text}
 use Rattle.mx_plan.specs.declared.faults.PlanFault.{PlanFault}
 use Rattle.mx_plan.specs.declared.faults.PlanFault.TheVariants.{NotJson, Memory}
 
--- the answer is what the rules give, or memory ran out
+-- the result is what the rules give, or memory ran out
 abbrev pub Answers : {T : Type 0} → Result T PlanFault → Result T PlanFault → Type 0
 Answers wanted r = (r ≡ wanted) ⊎ (r ≡ Err Memory)
 
@@ -27,7 +27,7 @@ value_of text = if is_utf8 text then read text else None
 abbrev pub of_text : {T : Type 0} → (Data → Result T PlanFault) → List ℕ → Result T PlanFault
 of_text f text = option_map_or f (value_of text) (Err NotJson)
 
--- goes on where the first step answered
+-- goes on where the first step succeeded
 abbrev pub and_then : {A B : Type 0} → Result A PlanFault → (A → Result B PlanFault) → Result B PlanFault
 and_then (Ok a) f = f a
 and_then (Err e) f = Err e
@@ -37,7 +37,7 @@ unfoldable pub each_from : {A B : Type 0} → (ℕ → A → Result B PlanFault)
 each_from f k [] = Ok []
 each_from f k (x ∷ xs) = and_then (f k x) (λ y. and_then (each_from f (k + 1) xs) (λ ys. Ok (y ∷ ys)))
 
--- the same, by a rule that is one for all
+-- what each of a list is read as, by a rule that is one for all
 abbrev pub each : {A B : Type 0} → (A → Result B PlanFault) → List A → Result (List B) PlanFault
 each f xs = each_from (λ _. f) 0 xs
 

@@ -23,11 +23,11 @@ pub enum ShapeFault {
 pub enum PlanFault {
     /// It is not JSON, or not in UTF-8, or it nests deeper than 127.
     NotJson,
-    /// What stands at this place is missing or of another form.
+    /// What belongs at this place is missing or of another form.
     NotPlan(Place),
-    /// A name stands there twice.
+    /// A name is there twice.
     DoubleName(Place),
-    /// A well-formed name stands there that the plan does not have.
+    /// A well-formed name is there that the plan does not have.
     UnknownName(Place),
     /// All places are as they should be, but the nodes have no such shape.
     BadShape(ShapeFault),

@@ -5,7 +5,7 @@ ghost use Rattle.mx_plan.specs.FaultTexts.{place_text, place_word};
 
 use std::fmt;
 
-/// Where in a plan or in a list of events a fault stands. The places of a plan are checked in this
+/// Where in a plan or in a list of events a fault is. The places of a plan are checked in this
 /// order.
 #[derive(Clone, Copy, Debug, PartialEq, Eq)]
 pub enum Place {

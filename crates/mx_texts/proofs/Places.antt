@@ -41,7 +41,7 @@ place_written f xs k (Err e) x t t' h h' = tt
 pub place_end : {X : Type 0} (f : ℕ → X → Text) (xs : List X) (k : ℕ) (t : Text) → length xs ≤ k → t ++ texts_from f k (drop k xs) ≡ t
 place_end f xs k t le = ap (λ l. t ++ texts_from f k l) (drop_all k xs le) ∙ append_nil t
 
--- what stands at a place of a list
+-- what is at a place of a list
 pub is_there : {X : Type 0} (xs : List X) (k : ℕ) → slice_get xs k ≡ None → k < length xs → ⊥
 is_there xs k none lt = elim (slice_get_cases xs k).1 [
   | inl q ↦ absurd (none_is_no_some q.0 (sym none ∙ q.2))

@@ -13,7 +13,7 @@ use Rattle.mx_plan.specs.Text.{Text}
 use Rattle.mx_plan.specs.Fields.{Fields}
 use Rattle.mx_texts.specs.PlanTexts.{meet_line, meet_text, meeting_of}
 
--- what stands at a place of the numbers below n
+-- what is at a place of the numbers below n
 at_place : (xs : List ℕ) (i x d : ℕ) → slice_get xs i ≡ Some x → get_or xs i d ≡ x
 at_place [] i x d h = absurd (none_is_no_some x h)
 at_place (y ∷ ys) zero x d h = same_Some y x h

@@ -19,15 +19,15 @@ name_of p node = unwrap_or (slice_get p.nodes node) []
 abbrev pub register_name_of : Fields → ℕ → Text
 register_name_of p register = unwrap_or (slice_get p.registers register) []
 
--- a word, and a name behind it
+-- a word, and a name after it
 abbrev pub named : Text → Text → Text
 named word name = word ++ codes " " ++ name
 
--- a word, and a number behind it
+-- a word, and a number after it
 abbrev pub numbered : Text → ℕ → Text
 numbered word number = word ++ codes " " ++ decimal number
 
--- a word, and a number behind it where there is one
+-- a word, and a number after it where there is one
 abbrev pub with_number : Text → Option ℕ → Text
 with_number word None = word
 with_number word (Some number) = numbered word number

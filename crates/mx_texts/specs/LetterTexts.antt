@@ -18,7 +18,7 @@ stamp_text p stamp = decimal stamp.number ++ codes "." ++ name_of p stamp.node
 abbrev pub with_stamp : Text → Text → Text
 with_stamp word stamp = word ++ codes " " ++ stamp
 
--- what stands there, and a number by its name
+-- what is before it, and a number by its name
 abbrev pub with_number : Text → Text → ℕ → Text
 with_number begun name number = begun ++ codes " " ++ name ++ codes " " ++ decimal number
 

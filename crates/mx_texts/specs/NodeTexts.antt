@@ -1,4 +1,4 @@
--- The lines of nodes: where each stands, and what its journal has.
+-- The lines of nodes: the phase of each, and what its journal has.
 use Rattle.std.specs.Prelude.{ℕ, ◌-◌, List, ◌++◌, codes, decimal, length}
 use Rattle.mx_journal.specs.Settled.{JournalState}
 use Rattle.mx_registers.specs.declared.contents.Content.{Content}

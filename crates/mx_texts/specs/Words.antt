@@ -1,4 +1,4 @@
--- A word, and what stands behind it.
+-- A word, and what follows it.
 use Rattle.std.specs.Prelude.{◌++◌, codes, decimal}
 use Rattle.mx_plan.specs.Text.{Text}
 use Rattle.mx_texts.specs.declared.words.Words.{Words}

@@ -1,4 +1,4 @@
-//! The line of a node: where it stands, and what its journal has.
+//! The line of a node: its phase, and what its journal has.
 
 ghost use Rattle.std.specs.Prelude.{◌≡◌, ◌++◌, string_bytes, OnOk};
 ghost use Rattle.mx_texts.specs.NodeTexts.{journal_text, member_line, values_text};
@@ -13,7 +13,7 @@ use mx_registers::view;
 use mx_stamps::NodeId;
 use std::alloc::AllocError;
 
-/// Appends where a node stands, what it knows, and the values of the registers after it.
+/// Appends the phase of a node, what it knows, and the values of the registers after it.
 pub fn add_member_line<C: Exclusion>(
     plan: &Plan,
     node: NodeId,

@@ -1,4 +1,4 @@
-//! Where a node stands, and what its journal has.
+//! The phase of a node, and what its journal has.
 
 ghost use Rattle.std.specs.Prelude.{Some};
 ghost use Rattle.mx_texts.specs.NodeTexts.{phase_text, standing_text, known_text, value_text};

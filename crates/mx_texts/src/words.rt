@@ -1,11 +1,11 @@
-//! Words, and what stands behind them.
+//! Words, and what follows them.
 
 ghost use Rattle.std.specs.Prelude.{Some};
 ghost use Rattle.mx_texts.specs.Words.{words_text};
 
 use std::fmt;
 
-/// A word, and the names and numbers behind it.
+/// A word, and the names and numbers after it.
 #[derive(Clone, Copy)]
 pub enum Words<'a> {
     Word(&'static str),
