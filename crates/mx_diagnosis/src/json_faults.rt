@@ -1,7 +1,7 @@
 //! Where a text stops to be JSON.
 
 use crate::page::Page;
-use crate::places::{Place, offset_of, place_of};
+use crate::places::{LineColumn, offset_of, place_of};
 use crate::scan::{Scan, is_of_word, scanned};
 use crate::shown::write_shown;
 use serde_json::{Error, Value};
@@ -33,7 +33,7 @@ pub(crate) struct Part<'a> {
 
 impl<'a> Part<'a> {
     /// The place of a byte in the file.
-    fn place(&self, offset: usize) -> Place {
+    fn place(&self, offset: usize) -> LineColumn {
         place_of(self.text, offset).below(self.above)
     }
 
@@ -184,7 +184,7 @@ fn say_cut(page: &mut Page<'_>, part: &Part<'_>, scan: &Scan) -> Result<(), Allo
 }
 
 /// Where a bracket first opens within more than there may be.
-fn deep_in(part: &Part<'_>, scan: &Scan) -> Option<Place> {
+fn deep_in(part: &Part<'_>, scan: &Scan) -> Option<LineColumn> {
     let offset = scan.first_within(part.nesting)?;
     Some(part.place(offset))
 }
@@ -214,7 +214,7 @@ fn say_at(
 /// A text is not JSON.
 #[derive(Clone, Copy)]
 struct NoJson {
-    place: Place,
+    place: LineColumn,
     said: &'static str,
 }
 
@@ -226,7 +226,7 @@ impl fmt::Display for NoJson {
 
 /// A text is not JSON, since brackets nest too deep at a place.
 #[derive(Clone, Copy)]
-struct TooDeep(Place);
+struct TooDeep(LineColumn);
 
 impl fmt::Display for TooDeep {
     fn fmt<W: fmt::Write>(&self, f: &mut fmt::Formatter<W>) -> fmt::Result {
@@ -257,7 +257,7 @@ impl fmt::Display for Rest<'_> {
 /// A text is not JSON, since something else is expected where this is.
 #[derive(Clone, Copy)]
 struct Misfit<'a> {
-    place: Place,
+    place: LineColumn,
     expected: &'static str,
     rest: &'a str,
 }
@@ -276,7 +276,7 @@ impl fmt::Display for Misfit<'_> {
 
 /// Before which place a closing bracket is missing, where brackets nest too deep.
 #[derive(Clone, Copy)]
-struct Missing(Option<Place>);
+struct Missing(Option<LineColumn>);
 
 impl fmt::Display for Missing {
     fn fmt<W: fmt::Write>(&self, f: &mut fmt::Formatter<W>) -> fmt::Result {
@@ -291,8 +291,8 @@ impl fmt::Display for Missing {
 /// deep, one is not closed before that.
 #[derive(Clone, Copy)]
 struct Cut {
-    place: Place,
-    opened: Place,
+    place: LineColumn,
+    opened: LineColumn,
     missing: Missing,
 }
 

@@ -4,32 +4,32 @@ use std::fmt;
 
 /// A line and a column of a text, both counted from 1.
 #[derive(Clone, Copy)]
-pub(crate) struct Place {
+pub(crate) struct LineColumn {
     line: usize,
     column: usize,
 }
 
 /// Where a text begins.
-const START: Place = Place { line: 1, column: 1 };
+const START: LineColumn = LineColumn { line: 1, column: 1 };
 
-impl Place {
+impl LineColumn {
     /// Where it is in a file that has this many lines above the text.
-    pub(crate) fn below(self, lines: usize) -> Place {
-        Place {
+    pub(crate) fn below(self, lines: usize) -> LineColumn {
+        LineColumn {
             line: self.line.saturating_add(lines),
             column: self.column,
         }
     }
 
     /// The place after the byte that is here.
-    fn behind(self, byte: u8) -> Place {
+    fn behind(self, byte: u8) -> LineColumn {
         if byte == b'\n' {
-            Place {
+            LineColumn {
                 line: self.line.saturating_add(1),
                 column: 1,
             }
         } else {
-            Place {
+            LineColumn {
                 line: self.line,
                 column: self.column.saturating_add(1),
             }
@@ -37,14 +37,14 @@ impl Place {
     }
 }
 
-impl fmt::Display for Place {
+impl fmt::Display for LineColumn {
     fn fmt<W: fmt::Write>(&self, f: &mut fmt::Formatter<W>) -> fmt::Result {
         write!(f, "{}:{}", self.line, self.column)
     }
 }
 
 /// The place of a byte.
-pub(crate) fn place_of(text: &[u8], offset: usize) -> Place {
+pub(crate) fn place_of(text: &[u8], offset: usize) -> LineColumn {
     let mut place = START;
     for byte in text.iter().take(offset) {
         place = place.behind(*byte);

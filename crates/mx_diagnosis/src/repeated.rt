@@ -2,7 +2,7 @@
 
 use crate::lines::Key;
 use crate::page::Page;
-use crate::places::{Place, place_of};
+use crate::places::{LineColumn, place_of};
 use crate::scan::{Member, scanned};
 use crate::values::text_in;
 use serde_json::Value;
@@ -59,7 +59,7 @@ fn read_key(alloc: Global, text: &[u8], member: &Member) -> Result<Value, AllocE
 /// A warning of a member that is there twice.
 #[derive(Clone, Copy)]
 struct Repeated<'a> {
-    place: Place,
+    place: LineColumn,
     key: &'a str,
 }
 
