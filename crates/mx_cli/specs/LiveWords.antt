@@ -2,20 +2,21 @@
 use Rattle.std.specs.Prelude.{ℕ, Bool, List, Option, Some, None, codes, if◌then◌else◌, option_map, option_and_then, unwrap_or}
 use Rattle.std.specs.Str.{bytes_eq}
 use Rattle.clap.specs.Words.{App, Row, Rule, Text, first_of, new_app, with_rule}
+use Rattle.mx_stamps.specs.declared.limits.TheConstants.{MOST_SECTIONS}
 use Rattle.mx_cli.specs.declared.live_words.LiveRun.{LiveRun}
 use Rattle.mx_cli.specs.Words.{asked_of, flag_rule, is_given, line_with, needed, number_at, number_rule, plan_rule, seed_rule}
 
--- `--sections M`, a number to 1000000
+-- `--sections M`, a number up to that of the last section that a cluster may have
 abbrev pub sections_rule : Rule
-sections_rule = needed (number_rule (codes "sections") 1000000)
+sections_rule = needed (number_rule (codes "sections") MOST_SECTIONS)
 
 -- `--turns T`, a number of 64 bits
 abbrev pub turns_rule : Rule
 turns_rule = needed (number_rule (codes "turns") 18446744073709551615)
 
--- `--settle N`, a number to 1000000
+-- `--settle N`, a number up to the same
 abbrev pub settle_rule : Rule
-settle_rule = number_rule (codes "settle") 1000000
+settle_rule = number_rule (codes "settle") MOST_SECTIONS
 
 -- `--progress`
 abbrev pub progress_rule : Rule

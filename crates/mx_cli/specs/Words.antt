@@ -20,6 +20,7 @@ use Rattle.mx_cli.specs.declared.words.Request.{Request}
 use Rattle.mx_cli.specs.declared.words.Request.TheVariants.{Check, Replay, Explore}
 use Rattle.clap.specs.declared.error.kind.ErrorKind.{ErrorKind}
 use Rattle.clap.specs.declared.error.kind.ErrorKind.TheVariants.{DisplayHelp, DisplayVersion}
+use Rattle.mx_stamps.specs.declared.limits.TheConstants.{MOST_EVENTS}
 
 -- an argument that has to be given
 abbrev pub needed : Rule → Rule
@@ -65,9 +66,9 @@ pub record IsCommand (read_as : App) (command : Command) : Type 0 where
 abbrev pub seed_rule : Rule
 seed_rule = needed (number_rule (codes "seed") 18446744073709551615)
 
--- `--steps K`, a number to 1000000
+-- `--steps K`, a number up to that of the most events
 abbrev pub steps_rule : Rule
-steps_rule = needed (number_rule (codes "steps") 1000000)
+steps_rule = needed (number_rule (codes "steps") MOST_EVENTS)
 
 -- `check PLAN`
 abbrev pub check_app : App

@@ -4,10 +4,11 @@ ghost use Rattle.mx_cli.specs.Words.{IsArgument, events_rule, file_rule, flag_ru
 
 use clap::builder::ValueParser;
 use clap::{Arg, ArgAction};
+use mx_stamps::MOST_EVENTS;
 use std::alloc::Global;
 
 /// The greatest number of steps of an exploration.
-const MOST_STEPS: u64 = 1_000_000;
+const MOST_STEPS: u64 = MOST_EVENTS as u64;
 
 /// A file that has to be named.
 pub fn file_arg<'a>(alloc: Global, id: &'a str, help: &'a str) -> Arg<'a>

@@ -10,13 +10,8 @@ use crate::help;
 use crate::line::{line_of, matches_in, plan_command, with_arg};
 use crate::words::{is_given, number_at, text_at};
 use clap::{Arg, ArgMatches, Command, Error};
+use mx_stamps::MOST_SECTIONS;
 use std::alloc::{AllocError, Global};
-
-/// The greatest number of sections of a node.
-const MOST_SECTIONS: u64 = 1_000_000;
-
-/// The greatest number of sections between two of which a node settles its journal.
-const MOST_SETTLED: u64 = 1_000_000;
 
 /// What is to be run: the name of a plan, how many sections each node is to have, the seed of the
 /// first node's links, how many turns each node may take, after how many of its sections it
@@ -50,7 +45,7 @@ fn settle_arg<'a>(alloc: Global) -> Arg<'a>
 {
     let help =
         "After how many of its sections each node settles its journal, 0 to 1000000; 0 for never";
-    number_arg(alloc, "settle", help, MOST_SETTLED)
+    number_arg(alloc, "settle", help, MOST_SECTIONS)
 }
 
 fn progress_arg<'a>(alloc: Global) -> Arg<'a>

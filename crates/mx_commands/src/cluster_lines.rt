@@ -8,7 +8,7 @@ ghost use Rattle.mx_texts.specs.Lines.{texts_from};
 use mx_network::Cluster;
 use mx_nodelaws::Exclusion;
 use mx_plan::Plan;
-use mx_stamps::NodeId;
+use mx_stamps::{MOST_NODES, NodeId};
 use mx_texts::{Letter, add_member_line, add_parcel_line};
 use std::alloc::AllocError;
 
@@ -35,7 +35,7 @@ fn add_member<C: Exclusion>(
     index: u8,
     text: &mut String,
 ) -> Result<(), AllocError>
-    requires few { index < 21 }
+    requires few { index < MOST_NODES }
     requires there { index < length cluster.now.members }
     ensures { OnOk result (string_bytes text.old
         ++ texts_from (member_line C.core plan.now) index (drop index cluster.now.members)

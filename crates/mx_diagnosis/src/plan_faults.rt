@@ -9,7 +9,7 @@ use crate::lines::{Foreign, Path};
 use crate::page::Page;
 use crate::shape_members::explain_shape;
 use crate::values::{is_among, items_in, member_of, names_at, names_in, text_in};
-use mx_stamps::{MOST_NODES, MOST_REGISTERS};
+use mx_stamps::{MOST_NODES, MOST_REGISTERS, MOST_SECTIONS};
 use serde_json::Value;
 use std::alloc::AllocError;
 
@@ -89,7 +89,7 @@ fn explain_numbers(page: &mut Page<'_>, plan: &Value) -> Result<(), AllocError> 
         Path::Member("sections"),
         sections,
         1,
-        1_000_000,
+        MOST_SECTIONS,
         expected,
     )?;
     explain_origin(page, member_of(plan, "origin"))

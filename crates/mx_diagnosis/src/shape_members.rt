@@ -5,6 +5,7 @@ use crate::expecting::{expect, expect_number, expect_word, number_in, warn_of_un
 use crate::lines::Path;
 use crate::page::Page;
 use crate::values::{elements, items_in, member_of, text_in};
+use mx_stamps::MOST_NODES;
 use serde_json::Value;
 use std::alloc::AllocError;
 
@@ -91,7 +92,14 @@ fn explain_side(
     value: Option<&Value>,
 ) -> Result<(), AllocError> {
     let expected = "a whole number, 1 to 21";
-    expect_number(page, Path::Member(member), value, 1, 21, expected)
+    expect_number(
+        page,
+        Path::Member(member),
+        value,
+        1,
+        u64::from(MOST_NODES),
+        expected,
+    )
 }
 
 /// Whether these rows and columns have a place for each node, or that can't be told.

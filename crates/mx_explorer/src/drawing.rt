@@ -7,7 +7,7 @@ ghost use Rattle.mx_explorer.specs.Weather.{generator_of};
 
 use mx_plan::Plan;
 use mx_sections::Event;
-use mx_stamps::NodeId;
+use mx_stamps::{MOST_NODES, NodeId};
 use rand_core::SeedableRng;
 use rand_core::utils::NextWord;
 use rand_pcg::Pcg32;
@@ -38,7 +38,7 @@ fn schedule_over(
     nodes: u8,
     registers: u8,
 ) -> Result<Vec<Event>, AllocError>
-    requires nodes { (0 < nodes) × (nodes ≤ 21) }
+    requires nodes { (0 < nodes) × (nodes ≤ MOST_NODES) }
     requires registers { 0 < registers }
     ensures value { IfOk result (λ v. v.items ≡ drawn_list steps nodes registers (generator_of seed)) }
     ensures count { IfOk result (λ v. vec_len v ≡ steps) }
@@ -54,7 +54,7 @@ fn schedule_over(
 
 /// The next event.
 fn draw(words: &mut Pcg32, nodes: u8, registers: u8) -> Event
-    requires nodes { (0 < nodes) × (nodes ≤ 21) }
+    requires nodes { (0 < nodes) × (nodes ≤ MOST_NODES) }
     requires registers { 0 < registers }
     ensures value { result ≡ drawn nodes registers words.old }
     ensures next { words.new ≡ after_drawn result words.old }
@@ -66,7 +66,7 @@ fn draw(words: &mut Pcg32, nodes: u8, registers: u8) -> Event
 /// The event that a number below 16 means. Deliveries are the most frequent.
 #[tactic(auto, using(crate::proofs::Schedules::leaves, crate::proofs::Schedules::delivers, crate::proofs::Schedules::cancels))]
 fn draw_by(number: u32, words: &mut Pcg32, nodes: u8, registers: u8) -> Event
-    requires nodes { (0 < nodes) × (nodes ≤ 21) }
+    requires nodes { (0 < nodes) × (nodes ≤ MOST_NODES) }
     requires registers { 0 < registers }
     ensures value { result ≡ event_by number nodes registers words.old }
     ensures next { words.new ≡ after_words (arguments result) words.old }
@@ -100,7 +100,7 @@ fn draw_by(number: u32, words: &mut Pcg32, nodes: u8, registers: u8) -> Event
 }
 
 fn draw_node(words: &mut Pcg32, nodes: u8) -> NodeId
-    requires nodes { (0 < nodes) × (nodes ≤ 21) }
+    requires nodes { (0 < nodes) × (nodes ≤ MOST_NODES) }
     ensures value { result ≡ word words.old % nodes }
     ensures next { words.new ≡ after_words 1 words.old }
 {

@@ -1,6 +1,7 @@
 -- What a plan says.
 use Rattle.std.specs.Prelude.{◌≡◌, ◌≤◌, ℕ, List, Option, length, position}
 use Rattle.std.specs.Str.{bytes_eq}
+use Rattle.mx_stamps.specs.declared.limits.TheConstants.{MOST_NODES, MOST_REGISTERS, MOST_SECTIONS}
 use Rattle.mx_quorums.specs.Family.{IsMeeting, IsWithin}
 use Rattle.mx_trees.specs.Tree.{IsRooted}
 use Rattle.mx_plan.specs.Text.{Text, AreNames}
@@ -23,10 +24,10 @@ IsShape n (Raymond tree) = IsRooted tree × (tree.count ≡ n)
 
 -- what every plan keeps
 pub record IsPlan (p : Fields) : Type 0 where
-  pub nodes : AreNames 21 p.nodes
-  pub registers : AreNames 32 p.registers
+  pub nodes : AreNames MOST_NODES p.nodes
+  pub registers : AreNames MOST_REGISTERS p.registers
   pub some_sections : 1 ≤ p.sections
-  pub few_sections : p.sections ≤ 1000000
+  pub few_sections : p.sections ≤ MOST_SECTIONS
   pub shape : IsShape (length p.nodes) p.shape
 
 -- the number of a node's name

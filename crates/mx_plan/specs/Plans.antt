@@ -4,6 +4,7 @@ use Rattle.std.specs.Option.{option_map_or}
 use Rattle.std.specs.Str.{bytes_eq}
 use Rattle.serde_json.specs.Data.{Data}
 use Rattle.serde_json.specs.Find.{get, as_str}
+use Rattle.mx_stamps.specs.declared.limits.TheConstants.{MOST_NODES, MOST_REGISTERS, MOST_SECTIONS}
 use Rattle.mx_plan.specs.Text.{Text}
 use Rattle.mx_plan.specs.Fields.{Fields, IsShape}
 use Rattle.mx_plan.specs.Shapes.{PlannedShape, all_others, tree, IsShapeOf, IsRefusalOf}
@@ -34,10 +35,10 @@ abbrev pub algorithm_of : Data → Result Algorithm PlanFault
 algorithm_of d =
     option_map_or algorithm_named (option_and_then as_str (get (codes "algorithm") d)) (Err (NotPlan place.Algorithm))
 
--- the number, where it is one from 1 to 1000000
+-- the number, where it is one from 1 to the greatest section number
 abbrev pub in_range : Place → Option ℕ → Result ℕ PlanFault
 in_range p None = Err (NotPlan p)
-in_range p (Some n) = if nat_le 1 n && nat_le n 1000000 then Ok n else Err (NotPlan p)
+in_range p (Some n) = if nat_le 1 n && nat_le n MOST_SECTIONS then Ok n else Err (NotPlan p)
 
 -- the origin that the value of a key gives: 0 where the key is absent
 abbrev pub origin_of : Option Data → Result ℕ PlanFault
@@ -72,8 +73,8 @@ abbrev pub draft_of : Data → Result Draft PlanFault
 draft_of d =
     if not (is_object d) then Err (NotPlan place.Plan)
     else and_then (algorithm_of d)
-    (λ algorithm. and_then (names_of 21 place.Nodes (get (codes "nodes") d))
-    (λ nodes. and_then (names_of 32 place.Registers (get (codes "registers") d))
+    (λ algorithm. and_then (names_of MOST_NODES place.Nodes (get (codes "nodes") d))
+    (λ nodes. and_then (names_of MOST_REGISTERS place.Registers (get (codes "registers") d))
     (λ registers. and_then (in_range place.Sections (number_of (get (codes "sections") d)))
     (λ sections. and_then (origin_of (get (codes "origin") d))
     (λ origin. and_then (planned_of algorithm nodes d)

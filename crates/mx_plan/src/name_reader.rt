@@ -11,6 +11,7 @@ use crate::faults::PlanFault;
 use crate::names::{Names, is_name};
 use crate::place::Place;
 use crate::values::{array_in, elements, text_in};
+use mx_stamps::MOST_NODES;
 use serde_json::Value;
 use std::alloc::Global;
 
@@ -85,7 +86,7 @@ pub fn is_name_list(value: &Value) -> bool
 
 /// The number of a name that the nodes have.
 pub fn number_of_name(value: &Value, nodes: &Names, place: Place) -> Result<u8, PlanFault>
-    requires { length nodes.now ≤ 21 }
+    requires { length nodes.now ≤ MOST_NODES }
     ensures value { result ≡ spec.number_in place nodes.now (view value.now) }
     ensures within { IfOk result (λ n. n < length nodes.now) }
 {
@@ -102,7 +103,7 @@ pub fn numbers_of_names(
     nodes: &Names,
     place: Place,
 ) -> Result<Vec<u8>, PlanFault>
-    requires { length nodes.now ≤ 21 }
+    requires { length nodes.now ≤ MOST_NODES }
     ensures { Gives (each (spec.number_in place nodes.now) (map view values.now)) result }
 {
     let mut numbers = Vec::new(alloc);

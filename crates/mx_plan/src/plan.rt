@@ -7,7 +7,7 @@ ghost use Rattle.mx_plan.specs.PlanParts.{plan_of};
 
 use crate::names::Names;
 use crate::shape::Shape;
-use mx_stamps::NodeId;
+use mx_stamps::{MOST_NODES, MOST_REGISTERS, MOST_SECTIONS, NodeId};
 use std::marker::Model;
 
 /// What a cluster is made of: the names of its nodes, 1 to 21, and of the registers that they
@@ -53,10 +53,10 @@ impl Plan {
         origin: u64,
         shape: Shape,
     ) -> Plan
-        requires nodes { AreNames 21 nodes }
-        requires registers { AreNames 32 registers }
+        requires nodes { AreNames MOST_NODES nodes }
+        requires registers { AreNames MOST_REGISTERS registers }
         requires some_sections { 1 ≤ sections }
-        requires few_sections { sections ≤ 1000000 }
+        requires few_sections { sections ≤ MOST_SECTIONS }
         requires shape { IsShape (length nodes) shape }
         ensures { result ≡ plan_of nodes registers sections origin shape }
     {
@@ -81,7 +81,7 @@ impl Plan {
     pub fn nodes(&self) -> u8
         ensures value { result ≡ length self.now.nodes }
         ensures low { 0 < result }
-        ensures high { result ≤ 21 }
+        ensures high { result ≤ MOST_NODES }
     {
         self.nodes.len() as u8
     }
@@ -90,7 +90,7 @@ impl Plan {
     pub fn registers(&self) -> u8
         ensures value { result ≡ length self.now.registers }
         ensures low { 0 < result }
-        ensures high { result ≤ 32 }
+        ensures high { result ≤ MOST_REGISTERS }
     {
         self.registers.len() as u8
     }
@@ -99,7 +99,7 @@ impl Plan {
     pub fn sections(&self) -> u64
         ensures value { result ≡ self.now.sections }
         ensures low { 1 ≤ result }
-        ensures high { result ≤ 1000000 }
+        ensures high { result ≤ MOST_SECTIONS }
     {
         self.sections
     }

@@ -55,8 +55,8 @@ fn plan_in(alloc: Global, value: &Value) -> Result<Plan, PlanFault>
 /// The names of the nodes, and of the registers.
 fn both_names(alloc: Global, value: &Value) -> Result<(Names, Names), PlanFault>
     ensures answers { Answers (part.both_names (view value.now)) result }
-    ensures nodes { IfOk result (λ names. AreNames 21 names.0) }
-    ensures registers { IfOk result (λ names. AreNames 32 names.1) }
+    ensures nodes { IfOk result (λ names. AreNames MOST_NODES names.0) }
+    ensures registers { IfOk result (λ names. AreNames MOST_REGISTERS names.1) }
 {
     let nodes = names_at(alloc, value.get("nodes"), MOST_NODES as usize, Place::Nodes)?;
     names_at(
@@ -75,11 +75,11 @@ fn setting_in(
     value: &Value,
     nodes: &Names,
 ) -> Result<(u64, u64, Shape), PlanFault>
-    requires { AreNames 21 nodes.now }
+    requires { AreNames MOST_NODES nodes.now }
     ensures answers { part.SettingAnswers (length nodes.now)
         (part.setting_of algorithm nodes.now (view value.now)) result }
     ensures low { IfOk result (λ setting. 1 ≤ setting.0) }
-    ensures high { IfOk result (λ setting. setting.0 ≤ 1000000) }
+    ensures high { IfOk result (λ setting. setting.0 ≤ MOST_SECTIONS) }
     ensures shape { IfOk result (λ setting. IsShape (length nodes.now) setting.2) }
 {
     let sections = sections_in(value)?;
@@ -91,7 +91,7 @@ fn sections_in(value: &Value) -> Result<u64, PlanFault>
     ensures value { result
         ≡ spec.in_range Place.Sections (number_of (get (codes "sections") (view value.now))) }
     ensures low { IfOk result (λ n. 1 ≤ n) }
-    ensures high { IfOk result (λ n. n ≤ 1000000) }
+    ensures high { IfOk result (λ n. n ≤ MOST_SECTIONS) }
 {
     match number_in(value.get("sections")) {
         Some(n) if 1 <= n && n <= MOST_SECTIONS => Ok(n),
@@ -115,7 +115,7 @@ fn shape_in(
     value: &Value,
     nodes: &Names,
 ) -> Result<Shape, PlanFault>
-    requires { AreNames 21 nodes.now }
+    requires { AreNames MOST_NODES nodes.now }
     ensures { spec.ShapeAnswers (length nodes.now)
         (spec.planned_of algorithm nodes.now (view value.now)) result }
 {

@@ -15,12 +15,13 @@ use crate::names::Names;
 use crate::place::Place;
 use crate::shape::Shape;
 use crate::values::{array_in, list_in, number_in};
+use mx_stamps::MOST_NODES;
 use serde_json::Value;
 use std::alloc::Global;
 
 /// The shape of the sets that the value of the key `quorums` asks for.
 pub fn quorums_in(alloc: Global, value: Option<&Value>, nodes: &Names) -> Result<Shape, PlanFault>
-    requires { AreNames 21 nodes.now }
+    requires { AreNames MOST_NODES nodes.now }
     ensures { ShapeAnswers (length nodes.now)
         (spec.quorums_of nodes.now (option_map (λ v. view v.now) value.entry)) result }
 {
@@ -31,7 +32,7 @@ pub fn quorums_in(alloc: Global, value: Option<&Value>, nodes: &Names) -> Result
 }
 
 fn quorums_from(alloc: Global, value: &Value, nodes: &Names) -> Result<Shape, PlanFault>
-    requires { AreNames 21 nodes.now }
+    requires { AreNames MOST_NODES nodes.now }
     ensures { ShapeAnswers (length nodes.now)
         (spec.quorums_from nodes.now (view value.now)) result }
 {
@@ -42,7 +43,7 @@ fn quorums_from(alloc: Global, value: &Value, nodes: &Names) -> Result<Shape, Pl
 }
 
 fn of_kind(alloc: Global, kind: &str, value: &Value, nodes: &Names) -> Result<Shape, PlanFault>
-    requires { AreNames 21 nodes.now }
+    requires { AreNames MOST_NODES nodes.now }
     ensures { ShapeAnswers (length nodes.now)
         (spec.kind_of nodes.now (view value.now) kind.now) result }
 {
@@ -62,7 +63,7 @@ fn of_kind(alloc: Global, kind: &str, value: &Value, nodes: &Names) -> Result<Sh
 /// A grid that has as many places as there are nodes.
 fn grid_in(nodes: u8, rows: Option<u64>, cols: Option<u64>) -> Result<Shape, PlanFault>
     requires some { 0 < nodes }
-    requires few { nodes ≤ 21 }
+    requires few { nodes ≤ MOST_NODES }
     ensures { ShapeAnswers nodes (spec.grid_of nodes rows cols) result }
 {
     match (rows, cols) {
@@ -82,7 +83,7 @@ fn is_size(nodes: u8, rows: u64, cols: u64) -> bool
 
 /// The family of the sets that the value of the key `sets` lists.
 fn sets_in(alloc: Global, value: Option<&Value>, nodes: &Names) -> Result<Shape, PlanFault>
-    requires { AreNames 21 nodes.now }
+    requires { AreNames MOST_NODES nodes.now }
     ensures { ShapeAnswers (length nodes.now)
         (spec.sets_of nodes.now (option_map (λ v. view v.now) value.entry)) result }
 {
@@ -112,7 +113,7 @@ fn all_name_lists(values: &[Value]) -> bool
 
 /// The family of these arrays of names, one for each node.
 fn family_of(alloc: Global, values: &[Value], nodes: &Names) -> Result<Shape, PlanFault>
-    requires few { length nodes.now ≤ 21 }
+    requires few { length nodes.now ≤ MOST_NODES }
     requires one_each { length values.now ≡ length nodes.now }
     ensures { ShapeAnswers (length nodes.now)
         (spec.family_of nodes.now (map view values.now)) result }
@@ -123,7 +124,7 @@ fn family_of(alloc: Global, values: &[Value], nodes: &Names) -> Result<Shape, Pl
 
 /// The nodes of each set, in order.
 fn all_sets(alloc: Global, values: &[Value], nodes: &Names) -> Result<Vec<Vec<u8>>, PlanFault>
-    requires { length nodes.now ≤ 21 }
+    requires { length nodes.now ≤ MOST_NODES }
     ensures sets { spec.GivesSets (each (spec.set_of nodes.now) (map view values.now)) result }
     ensures one_each { IfOk result (λ sets. length sets.items ≡ length values.now) }
 {

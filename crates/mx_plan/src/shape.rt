@@ -8,6 +8,7 @@ ghost use Rattle.mx_plan.specs.Shapes as shape_planned;
 use crate::faults::ShapeFault;
 use mx_quorums::Quorums;
 use mx_ricart::Count;
+use mx_stamps::MOST_NODES;
 use mx_trees::Tree;
 
 /// How the nodes of a cluster are bound to one another, by the algorithm that they run.
@@ -25,7 +26,7 @@ impl Shape {
     /// All of n nodes.
     pub(crate) fn all_others(n: u8) -> Shape
         requires some { 0 < n }
-        requires few { n ≤ 21 }
+        requires few { n ≤ MOST_NODES }
         ensures { result ≡ Shape.Ricart n }
     {
         Shape::Ricart(Count::of(n).unwrap())
@@ -41,7 +42,7 @@ impl Shape {
     /// The grid of n nodes that has these rows and columns.
     pub(crate) fn grid(n: u8, rows: u8, cols: u8) -> Result<Shape, ShapeFault>
         requires some { 0 < n }
-        requires few { n ≤ 21 }
+        requires few { n ≤ MOST_NODES }
         requires size { rows * cols ≡ n }
         ensures { IsShaped n (shape_planned.grid rows cols) result }
     {

@@ -14,12 +14,13 @@ use crate::names::Names;
 use crate::place::Place;
 use crate::shape::Shape;
 use crate::values::{array_in, list_in};
+use mx_stamps::MOST_NODES;
 use serde_json::Value;
 use std::alloc::Global;
 
 /// The shape of the tree that a plan asks for.
 pub fn tree_in(alloc: Global, plan: &Value, nodes: &Names) -> Result<Shape, PlanFault>
-    requires { AreNames 21 nodes.now }
+    requires { AreNames MOST_NODES nodes.now }
     ensures { ShapeAnswers (length nodes.now) (tree_of nodes.now (view plan.now)) result }
 {
     let edges = edges_in(alloc, plan.get("edges"), nodes)?;
@@ -29,7 +30,7 @@ pub fn tree_in(alloc: Global, plan: &Value, nodes: &Names) -> Result<Shape, Plan
 
 /// The edges that the value of a key lists. Their form is checked first, and then their names.
 fn edges_in(alloc: Global, value: Option<&Value>, nodes: &Names) -> Result<Vec<(u8, u8)>, PlanFault>
-    requires { length nodes.now ≤ 21 }
+    requires { length nodes.now ≤ MOST_NODES }
     ensures { Gives (spec.edges_of nodes.now (option_map (λ v. view v.now) value.entry)) result }
 {
     match array_in(value) {
@@ -61,7 +62,7 @@ fn is_edge(value: &Value) -> bool
 }
 
 fn each_edge(alloc: Global, values: &[Value], nodes: &Names) -> Result<Vec<(u8, u8)>, PlanFault>
-    requires { length nodes.now ≤ 21 }
+    requires { length nodes.now ≤ MOST_NODES }
     ensures { Gives (each (spec.edge_of nodes.now) (map view values.now)) result }
 {
     let mut edges = Vec::new(alloc);
@@ -74,7 +75,7 @@ fn each_edge(alloc: Global, values: &[Value], nodes: &Names) -> Result<Vec<(u8, 
 
 /// The nodes that an edge joins.
 fn edge_in(value: &Value, nodes: &Names) -> Result<(u8, u8), PlanFault>
-    requires { length nodes.now ≤ 21 }
+    requires { length nodes.now ≤ MOST_NODES }
     ensures { result ≡ spec.edge_of nodes.now (view value.now) }
 {
     match list_in(value) {
@@ -89,7 +90,7 @@ fn edge_in(value: &Value, nodes: &Names) -> Result<(u8, u8), PlanFault>
 
 /// The node that the value of a key names.
 fn holder_in(value: Option<&Value>, nodes: &Names) -> Result<u8, PlanFault>
-    requires { length nodes.now ≤ 21 }
+    requires { length nodes.now ≤ MOST_NODES }
     ensures { result ≡ spec.holder_of nodes.now (option_map (λ v. view v.now) value.entry) }
 {
     match value {

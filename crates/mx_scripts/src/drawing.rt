@@ -22,6 +22,7 @@ use mx_nodelaws::Exclusion;
 use mx_plan::{Plan, Shape};
 use mx_raymond::Raymond;
 use mx_ricart::Ricart;
+use mx_stamps::MOST_EVENTS;
 use std::alloc::{AllocError, Global};
 
 /// Prints the file of the events that `explore` does from a seed: the schedule of so many steps, each
@@ -49,7 +50,7 @@ pub(crate) fn draw_schedule<O: Output>(
 /// A replay of the file of a seed reads the placed schedule, and that leads to the very cluster that
 /// `explore` judges: the same members, parcels and trace. There is nothing to do.
 pub fn replays_as_explored(plan: &Plan, seed: u64, steps: u64)
-    ensures reads { IsPlan plan.now → steps ≤ 1000000
+    ensures reads { IsPlan plan.now → steps ≤ MOST_EVENTS
         → parcels_in plan.now (schedule_of plan.now seed steps) plan.now.shape ≤ 2 ^ 64
         → events_at plan.now (drawn_file plan.now seed steps)
         ≡ Ok (placed_schedule plan.now seed steps) }

@@ -6,11 +6,11 @@ ghost use Rattle.mx_scripts.specs.Scripts.{IsOver};
 use crate::line_faults::LineFault;
 use mx_events::{Event, EventKind};
 use mx_plan::Plan;
-use mx_stamps::NodeId;
+use mx_stamps::{MOST_EVENTS, NodeId};
 use std::alloc::{AllocError, Global};
 
 /// How often a line may be repeated.
-const MOST_TIMES: u64 = 1_000_000;
+const MOST_TIMES: u64 = MOST_EVENTS as u64;
 
 /// What a line asks for. The parcels under way are those that were neither delivered nor lost.
 #[derive(Clone, Copy)]

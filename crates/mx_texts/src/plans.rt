@@ -9,7 +9,7 @@ ghost use Rattle.mx_texts.specs.PlanTexts.{meet_lines, meet_lines_of, meet_text,
 use crate::plan_lines::{MeetLine, PlanLine, TowardLine};
 use mx_plan::{Plan, Shape};
 use mx_quorums::Quorums;
-use mx_stamps::NodeId;
+use mx_stamps::{MOST_NODES, NodeId};
 use mx_trees::Tree;
 use std::alloc::AllocError;
 
@@ -41,7 +41,7 @@ fn add_meetings(plan: &Plan, sets: &Quorums, text: &mut String) -> Result<(), Al
 fn add_meetings_of(plan: &Plan, sets: &Quorums, i: u8, text: &mut String) -> Result<(), AllocError>
     requires count { sets.now.count ≡ length plan.now.nodes }
     requires there { i < length plan.now.nodes }
-    requires few { i < 21 }
+    requires few { i < MOST_NODES }
     ensures { OnOk result (string_bytes text.new ≡ string_bytes text.old ++ meet_lines_of plan.now sets.now i) }
 {
     for j in i + 1..plan.nodes() {
@@ -58,8 +58,8 @@ fn add_meeting(
     j: u8,
     text: &mut String,
 ) -> Result<(), AllocError>
-    requires first { (i < 21) × (i < sets.now.count) }
-    requires second { (j < 21) × (j < sets.now.count) }
+    requires first { (i < MOST_NODES) × (i < sets.now.count) }
+    requires second { (j < MOST_NODES) × (j < sets.now.count) }
     ensures { OnOk result (string_bytes text.new ≡ string_bytes text.old ++ meet_text plan.now sets.now i j) }
 {
     let first = NodeId::of(i).unwrap();
@@ -85,7 +85,7 @@ fn add_directions(plan: &Plan, tree: &Tree, text: &mut String) -> Result<(), All
 
 /// Appends the line of a node, where it is not the holder.
 fn add_direction(plan: &Plan, tree: &Tree, i: u8, text: &mut String) -> Result<(), AllocError>
-    requires { (i < 21) × (i < tree.now.count) }
+    requires { (i < MOST_NODES) × (i < tree.now.count) }
     ensures { OnOk result (string_bytes text.new ≡ string_bytes text.old ++ toward_text plan.now tree.now i) }
 {
     let node = NodeId::of(i).unwrap();
