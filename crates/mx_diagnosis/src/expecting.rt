@@ -77,8 +77,8 @@ pub(crate) fn number_in(value: Option<&Value>) -> Option<u64> {
     value?.as_u64()
 }
 
-/// Warns of the members of an object, which is the plan or "of" a member of it, that are none of those
-/// that are read.
+/// Warns of the members of an object, which is the plan or "of" a member of it, that are none of
+/// those that are read.
 pub(crate) fn warn_of_unread<'a>(
     page: &mut Page<'_>,
     of: &'static str,

@@ -98,8 +98,8 @@ fn say_refused(
     }
 }
 
-/// Says what is expected in place of the first token that does not fit, or that the text is cut off. The
-/// token may be before the reader's place.
+/// Says what is expected in place of the first token that does not fit, or that the text is cut
+/// off. The token may be before the reader's place.
 fn say_expected(
     page: &mut Page<'_>,
     part: &Part<'_>,
@@ -115,8 +115,8 @@ fn say_expected(
     }
 }
 
-/// Says what is wrong where the reader stops before the first token that does not fit: that token, where
-/// what is before it is a value, as in `1"a"`, of which the reader makes one word.
+/// Says what is wrong where the reader stops before the first token that does not fit: that token,
+/// where what is before it is a value, as in `1"a"`, of which the reader makes one word.
 fn say_before(
     page: &mut Page<'_>,
     part: &Part<'_>,
@@ -139,8 +139,8 @@ fn is_value(alloc: Global, text: &[u8]) -> Result<bool, AllocError> {
     }
 }
 
-/// Says what is wrong with the token at a place, up to which all tokens fit: it is a text, a number or a
-/// word that is none of JSON.
+/// Says what is wrong with the token at a place, up to which all tokens fit: it is a text, a number
+/// or a word that is none of JSON.
 fn say_unread(page: &mut Page<'_>, part: &Part<'_>, offset: usize) -> Result<(), AllocError> {
     let (before, rest) = part.split_at(offset);
     match rest {
@@ -287,8 +287,8 @@ impl fmt::Display for Missing {
     }
 }
 
-/// A text is not JSON, since it ends before what opens at a place is closed. Where brackets nest too
-/// deep, one is not closed before that.
+/// A text is not JSON, since it ends before what opens at a place is closed. Where brackets nest
+/// too deep, one is not closed before that.
 #[derive(Clone, Copy)]
 struct Cut {
     place: LineColumn,

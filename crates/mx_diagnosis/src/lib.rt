@@ -1,5 +1,5 @@
-//! What is wrong in a plan and its events, where it is, and what was expected there: a line for each
-//! mistake.
+//! What is wrong in a plan and its events, where it is, and what was expected there: a line for
+//! each mistake.
 #![tactic(auto)]
 
 mod circles;

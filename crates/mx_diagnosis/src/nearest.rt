@@ -12,8 +12,8 @@ const MOST_EDITS: usize = 3;
 /// A longer name is not looked at.
 const MOST_BYTES: usize = 64;
 
-/// The first of these names to which the fewest edits lead: at most three, and fewer than the longer
-/// name has bytes.
+/// The first of these names to which the fewest edits lead: at most three, and fewer than the
+/// longer name has bytes.
 pub(crate) fn nearest<'a>(
     alloc: Global,
     name: &str,

@@ -32,7 +32,8 @@ impl<'a> Page<'a> {
         self.text.as_str()
     }
 
-    /// Adds a line of the file. It begins with a space, or with the line and the column that it is of.
+    /// Adds a line of the file. It begins with a space, or with the line and the column that it is
+    /// of.
     pub fn say<D: Display + Drop>(&mut self, line: D) -> Result<(), AllocError> {
         self.lines = self.lines.saturating_add(1);
         if self.lines > MOST_LINES {

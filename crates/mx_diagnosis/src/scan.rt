@@ -1,4 +1,5 @@
-//! A text of JSON by its tokens: its members, the brackets that are open, and where a token does not fit.
+//! A text of JSON by its tokens: its members, the brackets that are open, and where a token does
+//! not fit.
 
 use std::alloc::{AllocError, Global};
 
@@ -79,7 +80,8 @@ impl Scan {
         self.firsts.get(depth).copied()
     }
 
-    /// Where the first token begins that does not fit. Numbers, words and the inside of texts always do.
+    /// Where the first token begins that does not fit. Numbers, words and the inside of texts
+    /// always do.
     pub(crate) fn misfit(&self) -> Option<usize> {
         self.misfit
     }
@@ -200,7 +202,8 @@ impl Scan {
     }
 }
 
-/// Whether a byte may be in a number, or in a word as `true`. No text, bracket or mark begins with it.
+/// Whether a byte may be in a number, or in a word as `true`. No text, bracket or mark begins with
+/// it.
 pub(crate) fn is_of_word(byte: u8) -> bool {
     !matches!(
         byte,

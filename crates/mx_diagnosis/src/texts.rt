@@ -12,8 +12,8 @@ use mx_stamps::{MOST_NODES, MOST_REGISTERS};
 use serde_json::Value;
 use std::alloc::AllocError;
 
-/// Says what is wrong in a plan whose nodes have no shape for this fault, or have one, and returns its
-/// value where it is JSON.
+/// Says what is wrong in a plan whose nodes have no shape for this fault, or have one, and returns
+/// its value where it is JSON.
 pub fn explain_plan_text(
     page: &mut Page<'_>,
     text: &[u8],
@@ -45,8 +45,8 @@ fn explain_read_plan(
     warn_of_repeated(page, text)
 }
 
-/// Says what is wrong in events that begin below a number of lines of their file, by the names of the plan where that
-/// is JSON.
+/// Says what is wrong in events that begin below a number of lines of their file, by the names of
+/// the plan where that is JSON.
 pub fn explain_event_text(
     page: &mut Page<'_>,
     plan: Option<&Value>,

@@ -33,7 +33,8 @@ event_by n nodes registers g =
     if nat_lt n 2 then Ask (word g % nodes)
     else if nat_lt n 4 then Enter (word g % nodes)
     else if nat_lt n 5 then Read (word g % nodes) (word (after_words 1 g) % registers)
-    else if nat_lt n 6 then Write (word g % nodes) (word (after_words 1 g) % registers) (word (after_words 2 g))
+    else if nat_lt n 6 then
+    Write (word g % nodes) (word (after_words 1 g) % registers) (word (after_words 2 g))
     else if nat_lt n 8 then Leave (word g % nodes)
     else if nat_lt n 9 then Tick (word g % nodes)
     else if nat_lt n 10 then Want (word g % nodes) (word (after_words 1 g) % nodes)
@@ -62,4 +63,5 @@ after_drawn e = after_words (suc (arguments e))
 abbrev pub drawn_list : ℕ → ℕ → ℕ → Lcg → List Event
 drawn_list zero nodes registers g = []
 drawn_list (suc steps) nodes registers g =
-    drawn nodes registers g ∷ drawn_list steps nodes registers (after_drawn (drawn nodes registers g) g)
+    drawn nodes registers g
+    ∷ drawn_list steps nodes registers (after_drawn (drawn nodes registers g) g)

@@ -20,7 +20,8 @@ holder (s ∷ ss) = if s.closed then None else Some s.node
 
 -- these values are what the writes, in order, leave in the 256 registers
 abbrev pub Shows : List Write → List ℕ → Type 0
-Shows writes values = (length values ≡ 256) × ((r : ℕ) → r < 256 → slice_index values r ≡ applied r writes 0)
+Shows writes values =
+    (length values ≡ 256) × ((r : ℕ) → r < 256 → slice_index values r ≡ applied r writes 0)
 
 -- the ledger describes these sections, and all but the newest have been left
 pub record IsLedgerOf (ss : List Section) (l : Ledger) : Type 0 where
@@ -43,7 +44,9 @@ at_entry (Some j) next n = Some Overlap
 abbrev pub broken_by : List Section → Mark → Option Clause
 broken_by ss (Came i n) = at_entry (holder ss) (suc (length ss)) n
 broken_by ss (Got i register value) =
-    if is_node i (holder ss) && nat_eq value (applied register (writes_in ss) 0) then None else Some Read
+    if is_node i (holder ss) && nat_eq value (applied register (writes_in ss) 0)
+    then None
+    else Some Read
 broken_by ss (Wrote i register value) = None
 broken_by ss (Went i receipt) =
     if is_node i (holder ss) && nat_eq receipt.number (length ss) then None else Some Overlap
@@ -54,8 +57,9 @@ abbrev pub broken_at : List Section → List Mark → Option Clause
 broken_at ss [] = None
 broken_at ss (m ∷ ms) = broken_by ss m
 
--- after a mark: `found` is the clause that it breaks; where it breaks none, the new ledger describes the
--- sections after it
+-- after a mark: `found` is the clause that it breaks; where it breaks none, the new ledger
+-- describes the sections after it
 abbrev pub Takes : Ledger → List Mark → Option Clause → Ledger → Type 0
 Takes old marks found new =
-    (ss : List Section) → IsLedgerOf ss old → (found ≡ broken_at ss marks) × (found ≡ None → IsLedgerOf (after_marks ss marks) new)
+    (ss : List Section) → IsLedgerOf ss old
+    → (found ≡ broken_at ss marks) × (found ≡ None → IsLedgerOf (after_marks ss marks) new)

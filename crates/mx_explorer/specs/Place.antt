@@ -5,5 +5,6 @@ use Rattle.mx_events.specs.declared.event.Event.TheVariants.{Deliver}
 
 -- one of the newest 64 parcels, counted back from the last one
 abbrev pub place_of : Event → ℕ → Option Event
-place_of (Deliver word) sent = if nat_eq sent 0 then None else Some (Deliver (sent - 1 - word % min sent 64))
+place_of (Deliver word) sent =
+    if nat_eq sent 0 then None else Some (Deliver (sent - 1 - word % min sent 64))
 place_of event sent = Some event

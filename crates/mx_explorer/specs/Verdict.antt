@@ -8,13 +8,14 @@ use Rattle.mx_sections.specs.Trace.{IsExclusive, IsNumbered, marks}
 use Rattle.mx_explorer.specs.declared.verdict.Clause.{Clause}
 use Rattle.mx_explorer.specs.declared.verdict.Clause.TheVariants.{Overlap, Number, Read}
 
--- in this history, which follows these sections, each value is read by the node inside the newest section,
--- and is what all writes so far, in order of entry, leave in the register
+-- in this history, which follows these sections, each value is read by the node inside the newest
+-- section, and is what all writes so far, in order of entry, leave in the register
 abbrev pub ReadsFit : List Section → List Mark → Type 0
 ReadsFit ss [] = Unit {0}
 ReadsFit ss (Came i n ∷ ms) = ReadsFit (after_mark ss (Came i n)) ms
 ReadsFit ss (Got i register value ∷ ms) =
-    IsInNewest i ss × (value ≡ applied register (writes_in ss) 0) × ReadsFit (after_mark ss (Got i register value)) ms
+    IsInNewest i ss × (value ≡ applied register (writes_in ss) 0)
+    × ReadsFit (after_mark ss (Got i register value)) ms
 ReadsFit ss (Wrote i register value ∷ ms) = ReadsFit (after_mark ss (Wrote i register value)) ms
 ReadsFit ss (Went i receipt ∷ ms) = ReadsFit (after_mark ss (Went i receipt)) ms
 ReadsFit ss (Woke i ∷ ms) = ReadsFit (after_mark ss (Woke i)) ms

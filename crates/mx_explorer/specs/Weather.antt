@@ -16,9 +16,10 @@ pub record Climate : Type 0 where
 abbrev pub generator_of : ℕ → Lcg
 generator_of seed = pcg32_of_seed (pcg32_seed 16 seed)
 
--- the fate that a byte means: bytes below `lost` lose the parcel, the next `doubled` bytes repeat it
+-- the fate that a byte means: bytes below `lost` lose the parcel, the next `doubled` ones repeat it
 abbrev pub fate_by : ℕ → ℕ → ℕ → Fate
-fate_by byte lost doubled = if nat_lt byte lost then Drop else if nat_lt byte (lost + doubled) then Twice else Pass
+fate_by byte lost doubled =
+    if nat_lt byte lost then Drop else if nat_lt byte (lost + doubled) then Twice else Pass
 
 -- each fate takes one word, of which the lowest byte decides
 abbrev pub fate_in : Climate → Fate

@@ -21,8 +21,8 @@ const SETTLED: u8 = 17;
 /// its arguments. The word of a delivery is not yet the number of a parcel: see `place`. Its only
 /// fault is that memory runs out.
 pub fn schedule(alloc: Global, seed: u64, steps: u64, plan: &Plan) -> Result<Vec<Event>, AllocError>
-    ensures value { IfOk result (λ v. v.items
-        ≡ drawn_list steps (length plan.now.nodes) (length plan.now.registers) (generator_of seed)) }
+    ensures value { IfOk result (λ v. v.items ≡ drawn_list steps (length plan.now.nodes)
+        (length plan.now.registers) (generator_of seed)) }
     ensures count { IfOk result (λ v. vec_len v ≡ steps) }
     ensures named { IfOk result (λ v. (e : Event) → IsIn e v.items
         → IsDrawn (length plan.now.nodes) (length plan.now.registers) e) }
@@ -40,7 +40,8 @@ fn schedule_over(
 ) -> Result<Vec<Event>, AllocError>
     requires nodes { (0 < nodes) × (nodes ≤ MOST_NODES) }
     requires registers { 0 < registers }
-    ensures value { IfOk result (λ v. v.items ≡ drawn_list steps nodes registers (generator_of seed)) }
+    ensures value { IfOk result (λ v. v.items
+        ≡ drawn_list steps nodes registers (generator_of seed)) }
     ensures count { IfOk result (λ v. vec_len v ≡ steps) }
     ensures named { IfOk result (λ v. (e : Event) → IsIn e v.items → IsDrawn nodes registers e) }
 {

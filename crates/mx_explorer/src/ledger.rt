@@ -13,8 +13,8 @@ use mx_stamps::NodeId;
 /// How many registers an event can name.
 const REGISTERS: usize = 256;
 
-/// What the judge remembers: who is inside, the number of the newest section, and what the registers
-/// hold.
+/// What the judge remembers: who is inside, the number of the newest section, and what the
+/// registers hold.
 #[derive(Drop)]
 pub(crate) struct Ledger {
     /// The node inside the newest section, until that is left.

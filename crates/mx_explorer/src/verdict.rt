@@ -3,13 +3,13 @@
 /// What an item of a trace can break.
 #[derive(Clone, Copy, Debug, PartialEq, Eq)]
 pub enum Clause {
-    /// A node entered while another or the same was inside; or a node left that was not inside, or that
-    /// was inside with another number.
+    /// A node entered while another or the same was inside; or a node left that was not inside, or
+    /// that was inside with another number.
     Overlap,
     /// The n-th section entered does not bear n.
     Number,
-    /// A value was read by a node that is not inside; or it is not the value that the sections before
-    /// and the node's own writes leave.
+    /// A value was read by a node that is not inside; or it is not the value that the sections
+    /// before and the node's own writes leave.
     Read,
 }
 

@@ -29,7 +29,8 @@ distinct_names p names = if has_double names then Err (DoubleName p) else Ok nam
 
 -- the names that the elements of an array are
 abbrev pub names_from : ℕ → Place → List Data → Result (List Text) PlanFault
-names_from most p ds = if are_names most ds then distinct_names p (map text_of ds) else Err (NotPlan p)
+names_from most p ds =
+    if are_names most ds then distinct_names p (map text_of ds) else Err (NotPlan p)
 
 -- the names that the value of a key lists
 abbrev pub names_of : ℕ → Place → Option Data → Result (List Text) PlanFault
@@ -37,4 +38,5 @@ names_of most p d = option_map_or (names_from most p) (array_of d) (Err (NotPlan
 
 -- the number of a name among the names that are known
 abbrev pub number_in : Place → List Text → Data → Result ℕ PlanFault
-number_in p known d = option_map_or (λ n. Ok n) (position (bytes_eq (text_of d)) known) (Err (UnknownName p))
+number_in p known d =
+    option_map_or (λ n. Ok n) (position (bytes_eq (text_of d)) known) (Err (UnknownName p))

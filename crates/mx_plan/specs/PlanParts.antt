@@ -22,7 +22,8 @@ both_names d =
     (λ nodes. and_then (names_of MOST_REGISTERS place.Registers (get (codes "registers") d))
     (λ registers. Ok (nodes, registers)))
 
--- the last section, the origin, and the shape that a plan for an algorithm asks for over these nodes
+-- the last section, the origin, and the shape that a plan for an algorithm asks for over these
+-- nodes
 abbrev pub setting_of : Algorithm → List Text → Data → Result (ℕ × ℕ × PlannedShape) PlanFault
 setting_of algorithm nodes d =
     and_then (in_range place.Sections (number_of (get (codes "sections") d)))
@@ -36,7 +37,8 @@ IsSettingOf n (sections, origin, shape_planned) setting =
     (setting.0 ≡ sections) × (setting.1 ≡ origin) × IsShapeOf n shape_planned setting.2
 
 -- what comes of a setting that is asked for, in the same way as of a plan
-abbrev pub IsSettingOutcome : ℕ → Result (ℕ × ℕ × PlannedShape) PlanFault → Result (ℕ × ℕ × Shape) PlanFault → Type 0
+abbrev pub IsSettingOutcome : ℕ → Result (ℕ × ℕ × PlannedShape) PlanFault
+    → Result (ℕ × ℕ × Shape) PlanFault → Type 0
 IsSettingOutcome n (Ok wanted) (Ok setting) = IsSettingOf n wanted setting
 IsSettingOutcome n (Ok wanted) (Err (BadShape fault)) = IsRefusalOf n wanted.2 fault
 IsSettingOutcome n (Ok wanted) (Err _) = ⊥
@@ -44,10 +46,17 @@ IsSettingOutcome n (Err wanted) (Ok setting) = ⊥
 IsSettingOutcome n (Err wanted) (Err fault) = fault ≡ wanted
 
 -- or memory ran out
-abbrev pub SettingAnswers : ℕ → Result (ℕ × ℕ × PlannedShape) PlanFault → Result (ℕ × ℕ × Shape) PlanFault → Type 0
+abbrev pub SettingAnswers : ℕ → Result (ℕ × ℕ × PlannedShape) PlanFault
+    → Result (ℕ × ℕ × Shape) PlanFault → Type 0
 SettingAnswers n wanted r = IsSettingOutcome n wanted r ⊎ (r ≡ Err Memory)
 
 -- the plan of these names and of this setting
 abbrev pub plan_of : List Text → List Text → ℕ → ℕ → Shape → Fields
 plan_of nodes registers sections origin shape =
-    record { nodes = nodes; registers = registers; sections = sections; origin = origin; shape = shape }
+    record {
+      nodes = nodes;
+      registers = registers;
+      sections = sections;
+      origin = origin;
+      shape = shape;
+    }

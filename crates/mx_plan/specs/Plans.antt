@@ -33,7 +33,8 @@ algorithm_named word =
 -- the algorithm that a plan asks for
 abbrev pub algorithm_of : Data → Result Algorithm PlanFault
 algorithm_of d =
-    option_map_or algorithm_named (option_and_then as_str (get (codes "algorithm") d)) (Err (NotPlan place.Algorithm))
+    option_map_or algorithm_named (option_and_then as_str (get (codes "algorithm") d))
+    (Err (NotPlan place.Algorithm))
 
 -- the number, where it is one from 1 to the greatest section number
 abbrev pub in_range : Place → Option ℕ → Result ℕ PlanFault
@@ -78,7 +79,13 @@ draft_of d =
     (λ registers. and_then (in_range place.Sections (number_of (get (codes "sections") d)))
     (λ sections. and_then (origin_of (get (codes "origin") d))
     (λ origin. and_then (planned_of algorithm nodes d)
-    (λ shape_planned. Ok (record { nodes = nodes; registers = registers; sections = sections; origin = origin; shape_planned = shape_planned })))))))
+    (λ shape_planned. Ok (record {
+      nodes = nodes;
+      registers = registers;
+      sections = sections;
+      origin = origin;
+      shape_planned = shape_planned;
+    })))))))
 
 -- what a text asks for
 abbrev pub draft_at : List ℕ → Result Draft PlanFault
@@ -92,11 +99,12 @@ pub record IsPlanOf (draft : Draft) (p : Fields) : Type 0 where
   pub origin : p.origin ≡ draft.origin
   pub shape : IsShapeOf (length draft.nodes) draft.shape_planned p.shape
 
--- what comes of a text: the plan that it asks for; where it asks for none, why; where its nodes have no
--- such shape, the first rule that is broken
+-- what comes of a text: the plan that it asks for; where it asks for none, why; where its nodes
+-- have no such shape, the first rule that is broken
 abbrev pub IsOutcome : Result Draft PlanFault → Result Fields PlanFault → Type 0
 IsOutcome (Ok draft) (Ok plan) = IsPlanOf draft plan
-IsOutcome (Ok draft) (Err (BadShape fault)) = IsRefusalOf (length draft.nodes) draft.shape_planned fault
+IsOutcome (Ok draft) (Err (BadShape fault)) =
+    IsRefusalOf (length draft.nodes) draft.shape_planned fault
 IsOutcome (Ok draft) (Err _) = ⊥
 IsOutcome (Err wanted) (Ok plan) = ⊥
 IsOutcome (Err wanted) (Err fault) = fault ≡ wanted

@@ -47,19 +47,23 @@ sets_of nodes d = option_map_or (sets_from nodes) (array_of d) no_quorums
 abbrev pub kind_of : List Text → Data → Text → Result PlannedShape PlanFault
 kind_of nodes d kind =
     if bytes_eq kind (codes "plane") then Ok plane
-    else if bytes_eq kind (codes "grid") then grid_of (length nodes) (number_of (get (codes "rows") d)) (number_of (get (codes "cols") d))
+    else if bytes_eq kind (codes "grid") then
+    grid_of (length nodes) (number_of (get (codes "rows") d))
+    (number_of (get (codes "cols") d))
     else if bytes_eq kind (codes "listed") then sets_of nodes (get (codes "sets") d)
     else no_quorums
 
 -- the sets that a value asks for, by its kind
 abbrev pub quorums_from : List Text → Data → Result PlannedShape PlanFault
-quorums_from nodes d = option_map_or (kind_of nodes d) (option_and_then as_str (get (codes "kind") d)) no_quorums
+quorums_from nodes d =
+    option_map_or (kind_of nodes d) (option_and_then as_str (get (codes "kind") d)) no_quorums
 
 -- the sets that the value of the key `quorums` asks for
 abbrev pub quorums_of : List Text → Option Data → Result PlannedShape PlanFault
 quorums_of nodes d = option_map_or (quorums_from nodes) d no_quorums
 
 -- the sets are what the rules give, or memory ran out
-abbrev pub GivesSets : Result (List (List ℕ)) PlanFault → Result (Vec (Vec ℕ Global) Global) PlanFault → Type 0
+abbrev pub GivesSets : Result (List (List ℕ)) PlanFault
+    → Result (Vec (Vec ℕ Global) Global) PlanFault → Type 0
 GivesSets wanted (Ok sets) = wanted ≡ Ok (lists_of sets.items)
 GivesSets wanted (Err e) = (wanted ≡ Err e) ⊎ (e ≡ Memory)

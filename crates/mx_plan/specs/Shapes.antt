@@ -10,8 +10,8 @@ use Rattle.mx_plan.specs.declared.faults.ShapeFault.{ShapeFault}
 use Rattle.mx_plan.specs.declared.faults.ShapeFault.TheVariants.{Quorum, Tree}
 use Rattle.mx_plan.specs.Fields.{IsShape}
 
--- each node asks all others; or a plane, a grid of rows and columns, or listed sets of arbiters; or a
--- tree of edges, and its holder
+-- each node asks all others; or a plane, a grid of rows and columns, or listed sets of arbiters; or
+-- a tree of edges, and its holder
 pub data PlannedShape : Type 0 where
   all_others : PlannedShape
   plane : PlannedShape
@@ -37,4 +37,7 @@ IsRefusalOf n _ _ = ⊥
 
 -- the shape that was asked for, which is a shape of n nodes; or why there is none
 abbrev pub IsShaped : ℕ → PlannedShape → Result Shape ShapeFault → Type 0
-IsShaped n shape_planned r = MatchResult r (λ shape. IsShapeOf n shape_planned shape × IsShape n shape) (λ fault. IsRefusalOf n shape_planned fault)
+IsShaped n shape_planned r =
+    MatchResult r
+    (λ shape. IsShapeOf n shape_planned shape × IsShape n shape)
+    (λ fault. IsRefusalOf n shape_planned fault)

@@ -25,7 +25,8 @@ is_edge d = are_ends (list_in d)
 -- the numbers of two names
 abbrev pub ends_of : List Text → List Data → Result (ℕ × ℕ) PlanFault
 ends_of nodes (a ∷ b ∷ []) =
-    and_then (number_in place.Edges nodes a) (λ i. and_then (number_in place.Edges nodes b) (λ j. Ok (i, j)))
+    and_then (number_in place.Edges nodes a)
+    (λ i. and_then (number_in place.Edges nodes b) (λ j. Ok (i, j)))
 ends_of nodes _ = no_edges
 
 -- the nodes that an edge joins
@@ -42,7 +43,8 @@ edges_of nodes d = option_map_or (edges_from nodes) (array_of d) no_edges
 
 -- the node that a value names
 abbrev pub holder_from : List Text → Data → Result ℕ PlanFault
-holder_from nodes d = if is_name_value d then number_in place.Holder nodes d else Err (NotPlan place.Holder)
+holder_from nodes d =
+    if is_name_value d then number_in place.Holder nodes d else Err (NotPlan place.Holder)
 
 -- the node that the value of a key names
 abbrev pub holder_of : List Text → Option Data → Result ℕ PlanFault

@@ -15,7 +15,8 @@ abbrev pub Answers : {T : Type 0} → Result T PlanFault → Result T PlanFault 
 Answers wanted r = (r ≡ wanted) ⊎ (r ≡ Err Memory)
 
 -- the list is what the rules give, or memory ran out
-abbrev pub Gives : {T : Type 0} → Result (List T) PlanFault → Result (Vec T Global) PlanFault → Type 0
+abbrev pub Gives : {T : Type 0} → Result (List T) PlanFault
+    → Result (Vec T Global) PlanFault → Type 0
 Gives wanted (Ok list) = wanted ≡ Ok list.items
 Gives wanted (Err e) = (wanted ≡ Err e) ⊎ (e ≡ Memory)
 
@@ -28,14 +29,17 @@ abbrev pub of_text : {T : Type 0} → (Data → Result T PlanFault) → List ℕ
 of_text f text = option_map_or f (value_of text) (Err NotJson)
 
 -- goes on where the first step succeeded
-abbrev pub and_then : {A B : Type 0} → Result A PlanFault → (A → Result B PlanFault) → Result B PlanFault
+abbrev pub and_then : {A B : Type 0} → Result A PlanFault → (A → Result B PlanFault)
+    → Result B PlanFault
 and_then (Ok a) f = f a
 and_then (Err e) f = Err e
 
 -- what each of a list is read as, the first being the k-th: the first fault decides
-unfoldable pub each_from : {A B : Type 0} → (ℕ → A → Result B PlanFault) → ℕ → List A → Result (List B) PlanFault
+unfoldable pub each_from : {A B : Type 0} → (ℕ → A → Result B PlanFault) → ℕ → List A
+    → Result (List B) PlanFault
 each_from f k [] = Ok []
-each_from f k (x ∷ xs) = and_then (f k x) (λ y. and_then (each_from f (k + 1) xs) (λ ys. Ok (y ∷ ys)))
+each_from f k (x ∷ xs) =
+    and_then (f k x) (λ y. and_then (each_from f (k + 1) xs) (λ ys. Ok (y ∷ ys)))
 
 -- what each of a list is read as, by a rule that is one for all
 abbrev pub each : {A B : Type 0} → (A → Result B PlanFault) → List A → Result (List B) PlanFault

@@ -16,10 +16,11 @@ use serde_json::Value;
 use std::alloc::Global;
 
 /// Reads a list of at most 1,000,000 events. Each is an array of a word and of names of the plan's
-/// nodes and registers, and of whole numbers of 64 bits: `["ask",N]`, `["enter",N]`, `["read",N,R]`,
-/// `["write",N,R,V]`, `["leave",N]`, `["cancel",N]`, `["tick",N]`, `["want",N,M]`, `["settle",N,K]`,
-/// `["deliver",K]` and `["restart",N]`. Each event is checked first for its form and then for its
-/// names; a longer list is refused at event 1,000,000, before its events are looked at.
+/// nodes and registers, and of whole numbers of 64 bits: `["ask",N]`, `["enter",N]`,
+/// `["read",N,R]`, `["write",N,R,V]`, `["leave",N]`, `["cancel",N]`, `["tick",N]`, `["want",N,M]`,
+/// `["settle",N,K]`, `["deliver",K]` and `["restart",N]`. Each event is checked first for its form
+/// and then for its names; a longer list is refused at event 1,000,000, before its events are
+/// looked at.
 pub fn read_events(alloc: Global, text: &[u8], plan: &Plan) -> Result<Vec<Event>, PlanFault>
     ensures { Gives (spec.events_at plan.now text.now) result }
 {
@@ -72,8 +73,8 @@ fn kind_in(word: &Value) -> Option<EventKind>
     EventKind::of_word(text_in(word))
 }
 
-/// What a node does alone, or a delivery. What is wrong with the node's name counts only after a word
-/// that wants one.
+/// What a node does alone, or a delivery. What is wrong with the node's name counts only after a
+/// word that wants one.
 fn with_one(plan: &Plan, kind: Option<EventKind>, a: &Value, k: u64) -> Result<Event, PlanFault>
     ensures { result ≡ spec.with_one plan.now k kind (view a.now) }
 {

@@ -24,18 +24,24 @@ with_number begun name number = begun ++ codes " " ++ name ++ codes " " ++ decim
 
 abbrev pub ricart_text : Fields → RicartMsg → Text
 ricart_text p (ricart.Request stamp) = with_stamp (codes "request") (stamp_text p stamp)
-ricart_text p (ricart.Reply stamp top) = with_number (with_stamp (codes "reply") (stamp_text p stamp)) (codes "top") top
+ricart_text p (ricart.Reply stamp top) =
+    with_number (with_stamp (codes "reply") (stamp_text p stamp)) (codes "top") top
 
 abbrev pub maekawa_text : Fields → MaekawaMsg → Text
 maekawa_text p (maekawa.Request stamp) = with_stamp (codes "request") (stamp_text p stamp)
 maekawa_text p (maekawa.Locked stamp grant last) =
-    with_number (with_stamp (codes "locked") (stamp_text p stamp)) (codes "grant") grant ++ codes " last " ++ decimal last
+    with_number (with_stamp (codes "locked") (stamp_text p stamp)) (codes "grant") grant
+    ++ codes " last " ++ decimal last
 maekawa_text p (maekawa.Failed stamp) = with_stamp (codes "failed") (stamp_text p stamp)
-maekawa_text p (maekawa.Inquire stamp grant) = with_number (with_stamp (codes "inquire") (stamp_text p stamp)) (codes "grant") grant
-maekawa_text p (maekawa.Relinquish stamp grant) = with_number (with_stamp (codes "relinquish") (stamp_text p stamp)) (codes "grant") grant
-maekawa_text p (maekawa.Release stamp top) = with_number (with_stamp (codes "release") (stamp_text p stamp)) (codes "top") top
+maekawa_text p (maekawa.Inquire stamp grant) =
+    with_number (with_stamp (codes "inquire") (stamp_text p stamp)) (codes "grant") grant
+maekawa_text p (maekawa.Relinquish stamp grant) =
+    with_number (with_stamp (codes "relinquish") (stamp_text p stamp)) (codes "grant") grant
+maekawa_text p (maekawa.Release stamp top) =
+    with_number (with_stamp (codes "release") (stamp_text p stamp)) (codes "top") top
 
 abbrev pub raymond_text : RaymondMsg → Text
 raymond_text (raymond.Request r) = codes "request " ++ decimal r
-raymond_text (raymond.Privilege hop last) = codes "privilege " ++ decimal hop ++ codes " last " ++ decimal last
+raymond_text (raymond.Privilege hop last) =
+    codes "privilege " ++ decimal hop ++ codes " last " ++ decimal last
 raymond_text (raymond.Got hop) = codes "got " ++ decimal hop

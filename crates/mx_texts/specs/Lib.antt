@@ -1,5 +1,5 @@
--- Lines: texts of lists. EventTexts, Words, LetterTexts, LetterWords, ParcelTexts, NodeTexts: each line of a replay. PlanTexts: the lines
--- of a check, and that of an exploration.
+-- Lines: texts of lists. EventTexts, Words, LetterTexts, LetterWords, ParcelTexts, NodeTexts: each
+-- line of a replay. PlanTexts: the lines of a check, and that of an exploration.
 pub mod Lines
 pub mod EventTexts
 pub mod Words

@@ -29,7 +29,8 @@ base_text base = codes "base " ++ decimal base.upto
 
 -- the k-th parcel goes from one node to another
 abbrev pub route_text : Fields → ℕ → ℕ → ℕ → Text
-route_text p k from to = codes "#" ++ decimal k ++ codes " " ++ name_of p from ++ codes ">" ++ name_of p to
+route_text p k from to =
+    codes "#" ++ decimal k ++ codes " " ++ name_of p from ++ codes ">" ++ name_of p to
 
 module _ {M : Type 0} (letter_text : Fields → M → Text) (p : Fields) where
   abbrev pub parcel_text : Parcel M → Text
@@ -41,7 +42,8 @@ module _ {M : Type 0} (letter_text : Fields → M → Text) (p : Fields) where
   -- the line of the k-th parcel
   abbrev pub parcel_line : ℕ → ℕ × ℕ × Parcel M → Text
   parcel_line k parcel =
-      codes "  " ++ route_text p k parcel.0 parcel.1 ++ codes " " ++ parcel_text parcel.2 ++ line_feed
+      codes "  " ++ route_text p k parcel.0 parcel.1 ++ codes " " ++ parcel_text parcel.2
+      ++ line_feed
 
   -- the lines of parcels, the first of which is the k-th
   abbrev pub parcel_lines : ℕ → List (ℕ × ℕ × Parcel M) → Text

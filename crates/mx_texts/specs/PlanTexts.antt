@@ -19,17 +19,20 @@ algorithm_text (Raymond tree) = codes "raymond"
 
 unfoldable pub bounds_text : Fields → Text
 bounds_text p =
-    codes "registers " ++ decimal (length p.registers) ++ codes ", sections " ++ decimal p.sections ++ codes ", origin " ++ decimal p.origin
+    codes "registers " ++ decimal (length p.registers) ++ codes ", sections " ++ decimal p.sections
+    ++ codes ", origin " ++ decimal p.origin
 
 abbrev pub plan_line : Fields → Text
 plan_line p =
-    codes "plan " ++ algorithm_text p.shape ++ codes ", nodes " ++ decimal (length p.nodes) ++ codes ", " ++ bounds_text p ++ line_feed
+    codes "plan " ++ algorithm_text p.shape ++ codes ", nodes " ++ decimal (length p.nodes)
+    ++ codes ", " ++ bounds_text p ++ line_feed
 
 -- ---- Maekawa's algorithm
 
 abbrev pub meet_line : Fields → ℕ → ℕ → ℕ → Text
 meet_line p i j node =
-    codes "meet " ++ name_of p i ++ codes " " ++ name_of p j ++ codes ": " ++ name_of p node ++ line_feed
+    codes "meet " ++ name_of p i ++ codes " " ++ name_of p j ++ codes ": " ++ name_of p node
+    ++ line_feed
 
 -- the least node in the sets of both
 abbrev pub meeting_of : Family → ℕ → ℕ → ℕ
@@ -74,4 +77,5 @@ plan_text p = plan_line p ++ shape_lines p p.shape
 -- the steps that were asked for, how often a node entered, and how many parcels were sent
 abbrev pub explored_line : ℕ → ℕ → ℕ → Text
 explored_line steps entered sent =
-    codes "explored " ++ decimal steps ++ codes ", entered " ++ decimal entered ++ codes ", sent " ++ decimal sent ++ line_feed
+    codes "explored " ++ decimal steps ++ codes ", entered " ++ decimal entered ++ codes ", sent "
+    ++ decimal sent ++ line_feed

@@ -8,7 +8,8 @@ use Rattle.mx_texts.specs.EventTexts.{named, numbered}
 abbrev pub words_text : Words → Text
 words_text (Word word) = word.now
 words_text (Number word number) = numbered word.now number
-words_text (Numbers word number second other) = numbered word.now number ++ codes " " ++ numbered second.now other
+words_text (Numbers word number second other) =
+    numbered word.now number ++ codes " " ++ numbered second.now other
 words_text (Name word name) = named word.now name.now
 words_text (NameAndNumber word name number) = named word.now name.now ++ codes " " ++ decimal number
 words_text (Names word name other) = named word.now name.now ++ codes " " ++ other.now

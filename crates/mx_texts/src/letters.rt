@@ -20,7 +20,8 @@ pub trait Letter: Copy + Default {
 
     /// Appends the text.
     fn tell(&self, plan: &Plan, text: &mut String) -> Result<(), AllocError>
-        ensures { OnOk result (string_bytes text.new ≡ string_bytes text.old ++ letter_text plan.now self.now) };
+        ensures { OnOk result (string_bytes text.new ≡ string_bytes text.old
+            ++ letter_text plan.now self.now) };
 }
 
 /// A stamp.

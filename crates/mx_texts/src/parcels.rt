@@ -123,7 +123,8 @@ fn add_want(ranges: &[Range], text: &mut String) -> Result<(), AllocError>
 
 /// Appends the numbers of these records.
 fn add_records(records: &[Record], text: &mut String) -> Result<(), AllocError>
-    ensures { OnOk result (string_bytes text.new ≡ string_bytes text.old ++ records_text records.now) }
+    ensures { OnOk result (string_bytes text.new ≡ string_bytes text.old
+        ++ records_text records.now) }
 {
     text.push_str("records")?;
     for entry in records {

@@ -29,7 +29,8 @@ pub fn add_plan(plan: &Plan, text: &mut String) -> Result<(), AllocError>
 /// Appends the lines of any two nodes.
 fn add_meetings(plan: &Plan, sets: &Quorums, text: &mut String) -> Result<(), AllocError>
     requires { sets.now.count ≡ length plan.now.nodes }
-    ensures { OnOk result (string_bytes text.new ≡ string_bytes text.old ++ meet_lines plan.now sets.now) }
+    ensures { OnOk result (string_bytes text.new ≡ string_bytes text.old
+        ++ meet_lines plan.now sets.now) }
 {
     for i in 0..plan.nodes() {
         add_meetings_of(plan, sets, i, text)?;
@@ -42,7 +43,8 @@ fn add_meetings_of(plan: &Plan, sets: &Quorums, i: u8, text: &mut String) -> Res
     requires count { sets.now.count ≡ length plan.now.nodes }
     requires there { i < length plan.now.nodes }
     requires few { i < MOST_NODES }
-    ensures { OnOk result (string_bytes text.new ≡ string_bytes text.old ++ meet_lines_of plan.now sets.now i) }
+    ensures { OnOk result (string_bytes text.new ≡ string_bytes text.old
+        ++ meet_lines_of plan.now sets.now i) }
 {
     for j in i + 1..plan.nodes() {
         add_meeting(plan, sets, i, j, text)?;
@@ -60,7 +62,8 @@ fn add_meeting(
 ) -> Result<(), AllocError>
     requires first { (i < MOST_NODES) × (i < sets.now.count) }
     requires second { (j < MOST_NODES) × (j < sets.now.count) }
-    ensures { OnOk result (string_bytes text.new ≡ string_bytes text.old ++ meet_text plan.now sets.now i j) }
+    ensures { OnOk result (string_bytes text.new ≡ string_bytes text.old
+        ++ meet_text plan.now sets.now i j) }
 {
     let first = NodeId::of(i).unwrap();
     let second = NodeId::of(j).unwrap();
@@ -75,7 +78,8 @@ fn add_meeting(
 /// Appends the lines of all nodes but the holder.
 fn add_directions(plan: &Plan, tree: &Tree, text: &mut String) -> Result<(), AllocError>
     requires { tree.now.count ≡ length plan.now.nodes }
-    ensures { OnOk result (string_bytes text.new ≡ string_bytes text.old ++ toward_lines plan.now tree.now) }
+    ensures { OnOk result (string_bytes text.new ≡ string_bytes text.old
+        ++ toward_lines plan.now tree.now) }
 {
     for i in 0..plan.nodes() {
         add_direction(plan, tree, i, text)?;
@@ -86,7 +90,8 @@ fn add_directions(plan: &Plan, tree: &Tree, text: &mut String) -> Result<(), All
 /// Appends the line of a node, where it is not the holder.
 fn add_direction(plan: &Plan, tree: &Tree, i: u8, text: &mut String) -> Result<(), AllocError>
     requires { (i < MOST_NODES) × (i < tree.now.count) }
-    ensures { OnOk result (string_bytes text.new ≡ string_bytes text.old ++ toward_text plan.now tree.now i) }
+    ensures { OnOk result (string_bytes text.new ≡ string_bytes text.old
+        ++ toward_text plan.now tree.now i) }
 {
     let node = NodeId::of(i).unwrap();
     if i == tree.holder().get() {
