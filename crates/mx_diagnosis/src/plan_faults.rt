@@ -1,14 +1,11 @@
 //! What is wrong in the members of a plan, each by itself.
 
-ghost use Rattle.std.specs.Prelude.{◌≡◌};
-ghost use Rattle.std.specs.List.{list_all};
-ghost use Rattle.mx_plan.specs.Text.{is_name, is_name_byte};
-
 use crate::expecting::{expect, expect_number, expect_word, warn_of_unread};
 use crate::lines::{Foreign, Path};
 use crate::page::Page;
 use crate::shape_members::explain_shape;
 use crate::values::{is_among, items_in, member_of, names_at, names_in, text_in};
+use mx_plan::is_name;
 use mx_stamps::{MOST_NODES, MOST_REGISTERS, MOST_SECTIONS};
 use serde_json::Value;
 use std::alloc::AllocError;
@@ -154,30 +151,6 @@ fn explain_name<'a>(
         return expect(page, path, Some(value), "a name that no earlier one equals");
     }
     Ok(())
-}
-
-/// Whether a text may be a name.
-fn is_name(text: &str) -> bool
-    ensures { result ≡ is_name text.now }
-{
-    let bytes = text.as_bytes();
-    if bytes.is_empty() || bytes.len() > 16 {
-        return false;
-    }
-    has_name_bytes(bytes)
-}
-
-fn has_name_bytes(bytes: &[u8]) -> bool
-    ensures { result ≡ list_all is_name_byte bytes.now }
-{
-    bytes.iter().all(|b| is_name_byte(*b))
-}
-
-#[tactic(auto, unfolding(mx_plan::specs::Text::is_name_byte))]
-fn is_name_byte(b: u8) -> bool
-    ensures { result ≡ is_name_byte b }
-{
-    matches!(b, b'0'..=b'9' | b'A'..=b'Z' | b'a'..=b'z' | b'_' | b'-')
 }
 
 /// Warns of the members that are for another algorithm.

@@ -17,6 +17,7 @@ mod values;
 
 pub use event_reader::read_events;
 pub use faults::{PlanFault, ShapeFault};
+pub use names::is_name;
 pub use place::Place;
 pub use plan::Plan;
 pub use plan_reader::read_plan;
