@@ -14,22 +14,9 @@ ghost use Rattle.mx_scripts.specs.Readable.{AreReadable};
 use mx_network::{Entry, Event};
 use mx_plan::Plan;
 use mx_stamps::NodeId;
+use mx_texts::{name_of, register_name_of};
 use std::alloc::{AllocError, Global};
 use std::fmt;
-
-/// The name that the plan gives a node.
-fn name_of(plan: &Plan, node: NodeId) -> &str
-    ensures { result.now ≡ name_of plan.now node }
-{
-    plan.node_name(node.get()).unwrap_or("")
-}
-
-/// The name that the plan gives a register.
-fn register_name_of(plan: &Plan, register: u8) -> &str
-    ensures { result.now ≡ register_name_of plan.now register }
-{
-    plan.register_name(register).unwrap_or("")
-}
 
 /// A word in quotes.
 #[derive(Clone, Copy)]

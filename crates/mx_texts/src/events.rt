@@ -11,14 +11,14 @@ use mx_stamps::NodeId;
 use std::fmt;
 
 /// The name that the plan gives a node.
-pub(crate) fn name_of(plan: &Plan, node: NodeId) -> &str
+pub fn name_of(plan: &Plan, node: NodeId) -> &str
     ensures { result.now ≡ name_of plan.now node }
 {
     plan.node_name(node.get()).unwrap_or("")
 }
 
 /// The name that the plan gives a register.
-pub(crate) fn register_name_of(plan: &Plan, register: u8) -> &str
+pub fn register_name_of(plan: &Plan, register: u8) -> &str
     ensures { result.now ≡ register_name_of plan.now register }
 {
     plan.register_name(register).unwrap_or("")

@@ -10,7 +10,7 @@ mod plans;
 mod standings;
 mod words;
 
-pub use events::{EventLine, EventText, OutcomeText};
+pub use events::{EventLine, EventText, OutcomeText, name_of, register_name_of};
 pub use letters::Letter;
 pub use nodes::add_member_line;
 pub use parcels::{add_parcel, add_parcel_line};
