@@ -156,35 +156,12 @@ where
     let Some(entry) = cluster.trace().last() else {
         return Ok(());
     };
-    match happening_of(&entry.event) {
-        Happening::Delivery(number) => draw_delivery(plan, cluster, number, drawing),
-        Happening::Act(node) => {
+    match entry.event.node() {
+        Some(node) => {
             let spot = spot_of_act(cluster, node, before);
             draw_act(plan, node, spot, entry, drawing)
         }
-    }
-}
-
-/// What an event is: an act of a node, or the delivery of the parcel of a number.
-#[derive(Clone, Copy)]
-enum Happening {
-    Act(NodeId),
-    Delivery(u64),
-}
-
-fn happening_of(event: &Event) -> Happening {
-    match event {
-        Event::Deliver(number) => Happening::Delivery(*number),
-        Event::Ask(node)
-        | Event::Enter(node)
-        | Event::Read(node, _)
-        | Event::Write(node, _, _)
-        | Event::Leave(node)
-        | Event::Cancel(node)
-        | Event::Settle(node, _)
-        | Event::Tick(node)
-        | Event::Want(node, _)
-        | Event::Restart(node) => Happening::Act(*node),
+        None => draw_delivery(plan, cluster, &entry.event, drawing),
     }
 }
 
@@ -262,12 +239,15 @@ fn draw_outcome(node: NodeId, outcome: &Outcome, sheet: &mut Sheet) -> Result<()
 fn draw_delivery<C: Exclusion>(
     plan: &Plan,
     cluster: &Cluster<C>,
-    number: u64,
+    event: &Event,
     drawing: &mut Drawing,
 ) -> Result<(), AllocError>
 where
     C::Msg: Letter + Inked,
 {
+    let Event::Deliver(number) = *event else {
+        return Ok(());
+    };
     let Some(parcel) = cluster.parcel(number) else {
         return Ok(());
     };
@@ -306,12 +286,15 @@ where
 fn draw_loss<C: Exclusion>(
     plan: &Plan,
     cluster: &Cluster<C>,
-    number: u64,
+    event: &Event,
     drawing: &mut Drawing,
 ) -> Result<(), AllocError>
 where
     C::Msg: Letter + Inked,
 {
+    let Event::Deliver(number) = *event else {
+        return Ok(());
+    };
     let Some(parcel) = cluster.parcel(number) else {
         return Ok(());
     };

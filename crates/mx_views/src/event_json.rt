@@ -1,10 +1,10 @@
 //! Events, and what came of them, as JSON.
 
 use crate::json::{Begun, add_node_name, add_number, add_register_name, add_word};
+use mx_events::Event;
 use mx_journal::Receipt;
-use mx_network::{Cause, Entry, Event, Outcome};
+use mx_network::{Cause, Entry, Outcome};
 use mx_plan::Plan;
-use mx_stamps::NodeId;
 use std::alloc::AllocError;
 
 /// Appends the line of an event and of what came of it.
@@ -22,63 +22,26 @@ pub(crate) fn add_event_json(
 
 /// Appends what happens, to which node and with what.
 fn add_act(plan: &Plan, event: &Event, text: &mut String) -> Result<(), AllocError> {
-    match event {
-        Event::Ask(node) => add_own(plan, "ask", *node, text),
-        Event::Enter(node) => add_own(plan, "enter", *node, text),
-        Event::Read(node, register) => add_access(plan, "read", *node, *register, text),
-        Event::Write(node, register, value) => add_write(plan, *node, *register, *value, text),
-        Event::Leave(node) => add_own(plan, "leave", *node, text),
-        Event::Cancel(node) => add_own(plan, "cancel", *node, text),
-        Event::Settle(node, upto) => add_settle(plan, *node, *upto, text),
-        Event::Tick(node) => add_own(plan, "tick", *node, text),
-        Event::Want(node, other) => add_want(plan, *node, *other, text),
-        Event::Restart(node) => add_own(plan, "restart", *node, text),
-        Event::Deliver(number) => add_delivery(*number, text),
+    add_word("act", event.kind().word(), text)?;
+    if let Some(node) = event.node() {
+        add_node_name(plan, "node", node, text)?;
     }
+    add_rest(plan, event, text)
 }
 
-/// Appends what a node does by itself.
-fn add_own(plan: &Plan, act: &str, node: NodeId, text: &mut String) -> Result<(), AllocError> {
-    add_word("act", act, text)?;
-    add_node_name(plan, "node", node, text)
-}
-
-/// Appends what a node does with a register.
-fn add_access(
-    plan: &Plan,
-    act: &str,
-    node: NodeId,
-    register: u8,
-    text: &mut String,
-) -> Result<(), AllocError> {
-    add_own(plan, act, node, text)?;
-    add_register_name(plan, register, text)
-}
-
-fn add_write(
-    plan: &Plan,
-    node: NodeId,
-    register: u8,
-    value: u64,
-    text: &mut String,
-) -> Result<(), AllocError> {
-    add_access(plan, "write", node, register, text)?;
-    add_number("value", value, text)
-}
-
-fn add_settle(plan: &Plan, node: NodeId, upto: u64, text: &mut String) -> Result<(), AllocError> {
-    add_own(plan, "settle", node, text)?;
-    add_number("upto", upto, text)
-}
-
-fn add_want(plan: &Plan, node: NodeId, other: NodeId, text: &mut String) -> Result<(), AllocError> {
-    add_own(plan, "want", node, text)?;
-    add_node_name(plan, "from", other, text)
-}
-
-fn add_delivery(number: u64, text: &mut String) -> Result<(), AllocError> {
-    add_word("act", "deliver", text)?;
-    add_number("parcel", number, text)
+/// Appends what an event says beside its word and its node.
+fn add_rest(plan: &Plan, event: &Event, text: &mut String) -> Result<(), AllocError> {
+    match event {
+        Event::Read(_, register) => add_register_name(plan, *register, text),
+        Event::Write(_, register, value) => {
+            add_register_name(plan, *register, text)?;
+            add_number("value", *value, text)
+        }
+        Event::Settle(_, upto) => add_number("upto", *upto, text),
+        Event::Want(_, other) => add_node_name(plan, "from", *other, text),
+        Event::Deliver(number) => add_number("parcel", *number, text),
+        _ => Ok(()),
+    }
 }
 
 /// Appends what came of an event.

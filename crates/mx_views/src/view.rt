@@ -1,6 +1,7 @@
 //! What is shown of a run.
 
-use mx_network::{Cluster, Event};
+use mx_events::Event;
+use mx_network::Cluster;
 use mx_nodelaws::Exclusion;
 use mx_plan::Plan;
 use mx_stamps::NodeId;
@@ -31,24 +32,18 @@ impl View<'_> {
 
     /// Whether an event is shown that has happened in this cluster.
     pub(crate) fn shows_event<C: Exclusion>(&self, cluster: &Cluster<C>, event: &Event) -> bool {
-        match event {
-            Event::Ask(node)
-            | Event::Enter(node)
-            | Event::Read(node, _)
-            | Event::Write(node, _, _)
-            | Event::Leave(node)
-            | Event::Cancel(node)
-            | Event::Settle(node, _)
-            | Event::Tick(node)
-            | Event::Want(node, _)
-            | Event::Restart(node) => self.shows_node(*node),
-            Event::Deliver(number) => self.shows_delivery(cluster, *number),
+        match event.node() {
+            Some(node) => self.shows_node(node),
+            None => self.shows_delivery(cluster, event),
         }
     }
 
-    /// Whether the delivery of the parcel of this number is shown: an event of its addressee.
-    fn shows_delivery<C: Exclusion>(&self, cluster: &Cluster<C>, number: u64) -> bool {
-        match cluster.parcel(number) {
+    /// Whether a delivery is shown: an event of the addressee of the parcel.
+    fn shows_delivery<C: Exclusion>(&self, cluster: &Cluster<C>, event: &Event) -> bool {
+        let Event::Deliver(number) = event else {
+            return false;
+        };
+        match cluster.parcel(*number) {
             Some(parcel) => self.shows_node(parcel.1),
             None => false,
         }
