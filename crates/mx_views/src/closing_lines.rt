@@ -3,7 +3,7 @@
 ghost use Rattle.std.specs.Prelude.{◌≡◌, IfOk};
 
 use crate::node_json::{VerdictJson, add_node_json};
-use crate::view::View;
+use crate::selection::Selection;
 use mx_commands::VerdictLine;
 use mx_explorer::{Verdict, judge};
 use mx_network::Cluster;
@@ -14,33 +14,37 @@ use std::alloc::AllocError;
 
 /// Appends the lines of the nodes that are shown, and that of the verdict, which is answered.
 pub(crate) fn add_closing<C: Exclusion>(
-    view: &View<'_>,
+    selection: &Selection<'_>,
     cluster: &Cluster<C>,
     text: &mut String,
 ) -> Result<Verdict, AllocError>
     ensures sound { IfOk result (λ verdict. verdict ≡ Verdict.Sound) }
 {
-    add_nodes(view, cluster, text)?;
+    add_nodes(selection, cluster, text)?;
     let verdict = judge(cluster.trace());
-    add_verdict(view, verdict, text)?;
+    add_verdict(selection, verdict, text)?;
     Ok(verdict)
 }
 
 /// Appends the lines of the nodes that are shown.
 fn add_nodes<C: Exclusion>(
-    view: &View<'_>,
+    selection: &Selection<'_>,
     cluster: &Cluster<C>,
     text: &mut String,
 ) -> Result<(), AllocError> {
-    for index in 0..view.plan.nodes() {
-        add_node(view, cluster, index, text)?;
+    for index in 0..selection.plan.nodes() {
+        add_node(selection, cluster, index, text)?;
     }
     Ok(())
 }
 
 /// Appends the line of a verdict.
-fn add_verdict(view: &View<'_>, verdict: Verdict, text: &mut String) -> Result<(), AllocError> {
-    if view.is_json {
+fn add_verdict(
+    selection: &Selection<'_>,
+    verdict: Verdict,
+    text: &mut String,
+) -> Result<(), AllocError> {
+    if selection.is_json {
         return text.write(VerdictJson(verdict));
     }
     text.write(VerdictLine(verdict))
@@ -48,7 +52,7 @@ fn add_verdict(view: &View<'_>, verdict: Verdict, text: &mut String) -> Result<(
 
 /// Appends the line of the node of this number, where it is shown.
 fn add_node<C: Exclusion>(
-    view: &View<'_>,
+    selection: &Selection<'_>,
     cluster: &Cluster<C>,
     index: u8,
     text: &mut String,
@@ -57,11 +61,11 @@ fn add_node<C: Exclusion>(
         return Ok(());
     };
     match cluster.member(node) {
-        Some(member) if view.shows_node(node) => {
-            if view.is_json {
-                return add_node_json(view.plan, node, member, text);
+        Some(member) if selection.shows_node(node) => {
+            if selection.is_json {
+                return add_node_json(selection.plan, node, member, text);
             }
-            add_member_line(view.plan, node, member, text)
+            add_member_line(selection.plan, node, member, text)
         }
         _ => Ok(()),
     }

@@ -8,8 +8,8 @@ mod json;
 mod letter_json;
 mod node_json;
 mod parcel_json;
+mod selection;
 mod showing;
-mod view;
 mod viewing;
 mod words;
 

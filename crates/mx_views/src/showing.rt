@@ -6,7 +6,7 @@ use crate::closing_lines::add_closing;
 use crate::event_json::add_event_json;
 use crate::letter_json::JsonLetter;
 use crate::parcel_json::add_parcel_json;
-use crate::view::View;
+use crate::selection::Selection;
 use mx_cli::{Fault, Stop};
 use mx_commands::verdict_status;
 use mx_io::Output;
@@ -18,7 +18,7 @@ use std::alloc::{AllocError, Global};
 /// Each event in turn, and its lines in one piece; then the closing lines. Answers the status.
 pub(crate) fn show<C: Exclusion, O: Output>(
     alloc: Global,
-    view: &View<'_>,
+    selection: &Selection<'_>,
     mut cluster: Cluster<C>,
     events: &[Event],
     out: &mut O,
@@ -27,14 +27,14 @@ where
     C::Msg: JsonLetter,
     ensures zero { IfOk result (λ status. status ≡ 0) }
 {
-    show_events(alloc, view, &mut cluster, events, out)?;
-    show_closing(alloc, view, &cluster, out)
+    show_events(alloc, selection, &mut cluster, events, out)?;
+    show_closing(alloc, selection, &cluster, out)
 }
 
 /// Each event in turn, and its lines in one piece.
 fn show_events<C: Exclusion, O: Output>(
     alloc: Global,
-    view: &View<'_>,
+    selection: &Selection<'_>,
     cluster: &mut Cluster<C>,
     events: &[Event],
     out: &mut O,
@@ -45,7 +45,7 @@ where
     let mut text = String::new(alloc);
     for (index, event) in events.iter().enumerate() {
         text.clear();
-        show_event(view, index as u64, event, cluster, &mut text)?;
+        show_event(selection, index as u64, event, cluster, &mut text)?;
         out.put(text.as_bytes())?;
     }
     Ok(())
@@ -54,21 +54,21 @@ where
 /// The closing lines. Answers the status.
 fn show_closing<C: Exclusion, O: Output>(
     alloc: Global,
-    view: &View<'_>,
+    selection: &Selection<'_>,
     cluster: &Cluster<C>,
     out: &mut O,
 ) -> Result<u8, Stop>
     ensures zero { IfOk result (λ status. status ≡ 0) }
 {
     let mut text = String::new(alloc);
-    let verdict = add_closing(view, cluster, &mut text)?;
+    let verdict = add_closing(selection, cluster, &mut text)?;
     out.put(text.as_bytes())?;
     Ok(verdict_status(verdict))
 }
 
 /// One event, and what is shown of it.
 fn show_event<C: Exclusion>(
-    view: &View<'_>,
+    selection: &Selection<'_>,
     index: u64,
     event: &Event,
     cluster: &mut Cluster<C>,
@@ -79,8 +79,8 @@ where
 {
     let before = cluster.sent();
     match cluster.advance(*event) {
-        Ok(()) if view.is_quiet => Ok(()),
-        Ok(()) => Ok(add_newest(view, index, before, cluster, text)?),
+        Ok(()) if selection.is_quiet => Ok(()),
+        Ok(()) => Ok(add_newest(selection, index, before, cluster, text)?),
         Err(StepFault::Memory) => Err(Stop::Memory),
         Err(StepFault::NoParcel | StepFault::NoNode) => Err(Stop::Fault(Fault::NoParcel(index))),
     }
@@ -89,7 +89,7 @@ where
 /// Appends the line of the newest event, where it is shown, and those of the parcels from `before` on,
 /// which it sent.
 fn add_newest<C: Exclusion>(
-    view: &View<'_>,
+    selection: &Selection<'_>,
     index: u64,
     before: u64,
     cluster: &Cluster<C>,
@@ -99,26 +99,26 @@ where
     C::Msg: JsonLetter,
 {
     match cluster.trace().last() {
-        Some(entry) if view.shows_event(cluster, &entry.event) => {
-            add_event(view, index, entry, text)?;
+        Some(entry) if selection.shows_event(cluster, &entry.event) => {
+            add_event(selection, index, entry, text)?;
         }
         _ => {}
     }
-    add_parcels(view, cluster, before, text)
+    add_parcels(selection, cluster, before, text)
 }
 
 /// Appends the line of an event.
 fn add_event(
-    view: &View<'_>,
+    selection: &Selection<'_>,
     index: u64,
     entry: &Entry,
     text: &mut String,
 ) -> Result<(), AllocError> {
-    if view.is_json {
-        return add_event_json(view.plan, index, entry, text);
+    if selection.is_json {
+        return add_event_json(selection.plan, index, entry, text);
     }
     text.write(EventLine {
-        plan: view.plan,
+        plan: selection.plan,
         index,
         event: &entry.event,
         outcome: &entry.outcome,
@@ -127,7 +127,7 @@ fn add_event(
 
 /// Appends the lines of the parcels from `before` on that are shown.
 fn add_parcels<C: Exclusion>(
-    view: &View<'_>,
+    selection: &Selection<'_>,
     cluster: &Cluster<C>,
     before: u64,
     text: &mut String,
@@ -136,14 +136,14 @@ where
     C::Msg: JsonLetter,
 {
     for number in before..cluster.sent() {
-        add_numbered(view, cluster, number, text)?;
+        add_numbered(selection, cluster, number, text)?;
     }
     Ok(())
 }
 
 /// Appends the line of the parcel of this number, where it is shown.
 fn add_numbered<C: Exclusion>(
-    view: &View<'_>,
+    selection: &Selection<'_>,
     cluster: &Cluster<C>,
     number: u64,
     text: &mut String,
@@ -152,11 +152,11 @@ where
     C::Msg: JsonLetter,
 {
     match cluster.parcel(number) {
-        Some(sent) if view.shows_parcel(sent.0, sent.1) => {
-            if view.is_json {
-                return add_parcel_json(view.plan, number, sent.0, sent.1, sent.2, text);
+        Some(sent) if selection.shows_parcel(sent.0, sent.1) => {
+            if selection.is_json {
+                return add_parcel_json(selection.plan, number, sent.0, sent.1, sent.2, text);
             }
-            add_parcel_line(view.plan, number, sent.0, sent.1, sent.2, text)
+            add_parcel_line(selection.plan, number, sent.0, sent.1, sent.2, text)
         }
         _ => Ok(()),
     }

@@ -7,8 +7,8 @@ ghost use Rattle.mx_commands.specs.Ran.{IsRunStatus};
 ghost use Rattle.mx_views.specs.ViewWords.{views_asked, view_line};
 
 use crate::fetching::fetch_run;
+use crate::selection::Selection;
 use crate::showing::show;
-use crate::view::View;
 use crate::words::{Wish, asked_wish};
 use mx_cli::{Fault, Stop, close, refuse};
 use mx_commands::start;
@@ -86,13 +86,13 @@ fn view_events<O: Output>(
 ) -> Result<u8, Stop>
     ensures zero { IfOk result (λ status. status ≡ 0) }
 {
-    let view = View {
+    let selection = Selection {
         plan,
         is_quiet: wish.is_quiet,
         node: node_in(plan, wish.node)?,
         is_json: wish.is_json,
     };
-    show_by_shape(alloc, &view, events, out)
+    show_by_shape(alloc, &selection, events, out)
 }
 
 /// The node of this name, where one is named.
@@ -109,31 +109,31 @@ fn node_in(plan: &Plan, name: Option<&str>) -> Result<Option<NodeId>, Stop> {
 /// Replays the events by the plan's algorithm.
 fn show_by_shape<O: Output>(
     alloc: Global,
-    view: &View<'_>,
+    selection: &Selection<'_>,
     events: &[Event],
     out: &mut O,
 ) -> Result<u8, Stop>
     ensures zero { IfOk result (λ status. status ≡ 0) }
 {
-    match view.plan.shape() {
+    match selection.plan.shape() {
         Shape::Ricart(count) => show(
             alloc,
-            view,
-            start::<Ricart>(alloc, view.plan, count)?,
+            selection,
+            start::<Ricart>(alloc, selection.plan, count)?,
             events,
             out,
         ),
         Shape::Maekawa(sets) => show(
             alloc,
-            view,
-            start::<Maekawa>(alloc, view.plan, sets)?,
+            selection,
+            start::<Maekawa>(alloc, selection.plan, sets)?,
             events,
             out,
         ),
         Shape::Raymond(tree) => show(
             alloc,
-            view,
-            start::<Raymond>(alloc, view.plan, tree)?,
+            selection,
+            start::<Raymond>(alloc, selection.plan, tree)?,
             events,
             out,
         ),

@@ -9,14 +9,14 @@ use mx_stamps::NodeId;
 /// What is shown of a run of a plan: the closing lines alone or all, the lines of one node or of all, as
 /// texts or as JSON.
 #[derive(Clone, Copy)]
-pub(crate) struct View<'a> {
+pub(crate) struct Selection<'a> {
     pub(crate) plan: &'a Plan,
     pub(crate) is_quiet: bool,
     pub(crate) node: Option<NodeId>,
     pub(crate) is_json: bool,
 }
 
-impl View<'_> {
+impl Selection<'_> {
     /// Whether what is of this node is shown.
     pub(crate) fn shows_node(&self, node: NodeId) -> bool {
         match self.node {
