@@ -6,8 +6,8 @@ use Rattle.mx_plan.specs.Text.{Text}
 use Rattle.mx_cli.specs.declared.faults.Stop.{Stop}
 use Rattle.mx_cli.specs.declared.faults.Stop.TheVariants as stop
 use Rattle.mx_io.specs.Outputs.{Held}
-use Rattle.mx_io.specs.declared.output.PutFault.{PutFault}
-use Rattle.mx_io.specs.declared.output.PutFault.TheVariants as put_fault
+use Rattle.mx_io.specs.declared.output.OutputFault.{OutputFault}
+use Rattle.mx_io.specs.declared.output.OutputFault.TheVariants as output_fault
 
 -- the first few of these texts were appended, each whole
 abbrev pub AppendsSome : Held → Held → List Text → Type 0
@@ -21,9 +21,9 @@ refused_after (Err stop.Writer) before = true
 refused_after (Err stop.Memory) before = before
 
 -- why a run stops at a text that an output did not take
-abbrev pub stop_of : PutFault → Stop
-stop_of put_fault.Refused = stop.Writer
-stop_of put_fault.Memory = stop.Memory
+abbrev pub stop_of : OutputFault → Stop
+stop_of output_fault.Refused = stop.Writer
+stop_of output_fault.Memory = stop.Memory
 
 -- a run that is not cut short leaves nothing kept back
 abbrev pub IsPassedOn : {T : Type 0} → Result T Stop → Bool → Type 0

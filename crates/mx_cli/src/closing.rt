@@ -8,7 +8,7 @@ ghost use Rattle.mx_cli.specs.Closed.{Closes};
 use crate::faults::Stop;
 use crate::telling::{tell, tell_memory};
 use crate::words::Names;
-use mx_io::{Output, PutFault};
+use mx_io::{Output, OutputFault};
 use std::alloc::Global;
 
 /// Passes on what the output kept back, tells why the run ended early where it did, and answers the
@@ -31,8 +31,8 @@ pub fn close<O: Output, E: Output>(
     }
     match out.flush() {
         Ok(()) => tell_end(alloc, ended, names, err),
-        Err(PutFault::Refused) => 1,
-        Err(PutFault::Memory) => tell_memory(err),
+        Err(OutputFault::Refused) => 1,
+        Err(OutputFault::Memory) => tell_memory(err),
     }
 }
 

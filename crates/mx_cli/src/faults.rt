@@ -1,6 +1,6 @@
 //! Why a run ends.
 
-use mx_io::PutFault;
+use mx_io::OutputFault;
 use mx_plan::PlanFault;
 use std::alloc::AllocError;
 
@@ -41,16 +41,16 @@ impl From<AllocError> for Stop {
     }
 }
 
-impl From<PutFault> for Stop {
+impl From<OutputFault> for Stop {
     ghost use Rattle.std.specs.Prelude.{◌≡◌};
     ghost use Rattle.mx_cli.specs.Outputs.{stop_of};
 
     ghost from_gives = { λ fault s. s ≡ stop_of fault };
 
-    fn from(fault: PutFault) -> Stop {
+    fn from(fault: OutputFault) -> Stop {
         match fault {
-            PutFault::Refused => Stop::Writer,
-            PutFault::Memory => Stop::Memory,
+            OutputFault::Refused => Stop::Writer,
+            OutputFault::Memory => Stop::Memory,
         }
     }
 }

@@ -12,7 +12,7 @@ use crate::fault_lines::FaultLine;
 use crate::faults::Fault;
 use crate::words::Names;
 use clap::error::ErrorKind;
-use mx_io::{Output, PutFault};
+use mx_io::{Output, OutputFault};
 use std::alloc::Global;
 use std::fmt::Display;
 
@@ -51,8 +51,8 @@ pub fn tell<E: Output>(alloc: Global, fault: Fault, names: &Names<'_>, err: &mut
     };
     match put_line(alloc, err, line) {
         Ok(()) => 1,
-        Err(PutFault::Refused) => 1,
-        Err(PutFault::Memory) => tell_memory(err),
+        Err(OutputFault::Refused) => 1,
+        Err(OutputFault::Memory) => tell_memory(err),
     }
 }
 
@@ -74,8 +74,8 @@ fn show<O: Output, E: Output>(alloc: Global, e: &clap::Error, out: &mut O, err: 
 {
     match put_and_flush(alloc, out, e) {
         Ok(()) => 0,
-        Err(PutFault::Refused) => 1,
-        Err(PutFault::Memory) => tell_memory(err),
+        Err(OutputFault::Refused) => 1,
+        Err(OutputFault::Memory) => tell_memory(err),
     }
 }
 
@@ -84,8 +84,8 @@ fn scold<E: Output>(alloc: Global, e: &clap::Error, err: &mut E) -> u8
     ensures { (result ≡ 2) ⊎ ((result ≡ 5) × MayTell (E.written err.old) (E.written err.new)) }
 {
     match put_line(alloc, err, e) {
-        Ok(()) | Err(PutFault::Refused) => 2,
-        Err(PutFault::Memory) => tell_memory(err),
+        Ok(()) | Err(OutputFault::Refused) => 2,
+        Err(OutputFault::Memory) => tell_memory(err),
     }
 }
 
@@ -93,8 +93,8 @@ fn put_and_flush<O: Output, D: Display + Drop>(
     alloc: Global,
     out: &mut O,
     line: D,
-) -> Result<(), PutFault>
-    ensures takes { IfErr result (λ fault. O.takes_all out.old ≡ true → fault ≡ PutFault.Memory) }
+) -> Result<(), OutputFault>
+    ensures takes { IfErr result (λ fault. O.takes_all out.old ≡ true → fault ≡ OutputFault.Memory) }
     ensures refused { O.has_refused out.new ≡ refused_by result (O.has_refused out.old) }
     ensures passed { OnOk result (O.keeps_back out.new ≡ false) }
 {
@@ -107,10 +107,10 @@ pub fn put_line<O: Output, D: Display + Drop>(
     alloc: Global,
     out: &mut O,
     line: D,
-) -> Result<(), PutFault>
+) -> Result<(), OutputFault>
     ensures ok { OnOk result (IfSome (D.output line) (Appends (O.written out.old) (O.written out.new))) }
     ensures err { OnErr result (Keeps (O.written out.old) (O.written out.new)) }
-    ensures takes { IfErr result (λ fault. O.takes_all out.old ≡ true → fault ≡ PutFault.Memory) }
+    ensures takes { IfErr result (λ fault. O.takes_all out.old ≡ true → fault ≡ OutputFault.Memory) }
     ensures refused { O.has_refused out.new ≡ refused_by result (O.has_refused out.old) }
     ensures stays { O.takes_all out.new ≡ O.takes_all out.old }
 {

@@ -1,7 +1,7 @@
 //! Outputs that refuse.
 
 use mx_commands::command;
-use mx_io::{Output, PutFault, Table};
+use mx_io::{Output, OutputFault, Table};
 use mx_live::live;
 use std::alloc::Global;
 use std::rt::Clock;
@@ -15,11 +15,11 @@ const RICART: &str =
 struct Narrow {
     taken: u64,
     room: u64,
-    answer: PutFault,
+    answer: OutputFault,
 }
 
 impl Output for Narrow {
-    fn put(&mut self, _text: &[u8]) -> Result<(), PutFault> {
+    fn put(&mut self, _text: &[u8]) -> Result<(), OutputFault> {
         if self.taken == self.room {
             return Err(self.answer);
         }
@@ -27,7 +27,7 @@ impl Output for Narrow {
         Ok(())
     }
 
-    fn flush(&mut self) -> Result<(), PutFault> {
+    fn flush(&mut self) -> Result<(), OutputFault> {
         Err(self.answer)
     }
 }
@@ -70,8 +70,8 @@ fn refused_texts_end_the_run(rt: HostRuntime) {
     for words in &lines {
         for room in [0, 1, 2, 99] {
             for (answer, status, line) in [
-                (PutFault::Refused, 1, ""),
-                (PutFault::Memory, 5, "mx: out of memory\n"),
+                (OutputFault::Refused, 1, ""),
+                (OutputFault::Memory, 5, "mx: out of memory\n"),
             ] {
                 let mut out = Narrow {
                     taken: 0,

@@ -14,8 +14,8 @@ use Rattle.mx_plan.specs.Text.{Text}
 use Rattle.mx_cli.specs.declared.faults.Fault.{Fault}
 use Rattle.mx_cli.specs.declared.faults.Stop.{Stop}
 use Rattle.mx_cli.specs.declared.faults.Stop.TheVariants as stop
-use Rattle.mx_io.specs.declared.output.PutFault.{PutFault}
-use Rattle.mx_io.specs.declared.output.PutFault.TheVariants as put_fault
+use Rattle.mx_io.specs.declared.output.OutputFault.{OutputFault}
+use Rattle.mx_io.specs.declared.output.OutputFault.TheVariants as output_fault
 use Rattle.mx_cli.specs.FaultLines.{fault_line}
 use Rattle.mx_io.specs.Told.{Telling}
 use Rattle.mx_io.specs.Outputs.{Held}
@@ -55,16 +55,16 @@ module _ (t : Bool) (a b c : Held) (told : Text → Option Telling) (task : Task
       of_jobs (job_of told task) (EndsEarly t res × Keeps a b) (EndsEarly t res × Keeps a c) (λ r. Ran t a b r res) (λ r. Ran t a c r res)
       (λ x. (x.0, keeps_on a b c x.1 same)) (λ r h. ran_keeps t a b c r res h same) ran
 
-  unflushed_early : (u : Bool) (f : PutFault) → u ≡ t → (u ≡ true → f ≡ put_fault.Memory) → EndsEarly t (Err (stop_of f))
-  unflushed_early u put_fault.Refused is takes = sym is ∙ is_false u (λ e. refused_not_memory (takes e))
-  unflushed_early u put_fault.Memory is takes = tt
+  unflushed_early : (u : Bool) (f : OutputFault) → u ≡ t → (u ≡ true → f ≡ output_fault.Memory) → EndsEarly t (Err (stop_of f))
+  unflushed_early u output_fault.Refused is takes = sym is ∙ is_false u (λ e. refused_not_memory (takes e))
+  unflushed_early u output_fault.Memory is takes = tt
 
-  unflushed_ran : (u : Bool) (r : Report) (f : PutFault) → u ≡ t → (u ≡ true → f ≡ put_fault.Memory) → Ran t a b r res → Ran t a c r (Err (stop_of f))
-  unflushed_ran u r put_fault.Refused is takes h = (sym is ∙ is_false u (λ e. refused_not_memory (takes e)), some_keeps a b c r.texts (ran_some t a b r res h) same)
-  unflushed_ran u r put_fault.Memory is takes h = some_keeps a b c r.texts (ran_some t a b r res h) same
+  unflushed_ran : (u : Bool) (r : Report) (f : OutputFault) → u ≡ t → (u ≡ true → f ≡ output_fault.Memory) → Ran t a b r res → Ran t a c r (Err (stop_of f))
+  unflushed_ran u r output_fault.Refused is takes h = (sym is ∙ is_false u (λ e. refused_not_memory (takes e)), some_keeps a b c r.texts (ran_some t a b r res h) same)
+  unflushed_ran u r output_fault.Memory is takes h = some_keeps a b c r.texts (ran_some t a b r res h) same
 
   -- what was kept back was refused
-  pub unflushed : (u : Bool) (f : PutFault) → u ≡ t → (u ≡ true → f ≡ put_fault.Memory) → RanOf t a c told task (Err (stop_of f))
+  pub unflushed : (u : Bool) (f : OutputFault) → u ≡ t → (u ≡ true → f ≡ output_fault.Memory) → RanOf t a c told task (Err (stop_of f))
   unflushed u f is takes =
       of_jobs (job_of told task) (EndsEarly t res × Keeps a b) (EndsEarly t (Err (stop_of f)) × Keeps a c) (λ r. Ran t a b r res) (λ r. Ran t a c r (Err (stop_of f)))
       (λ x. (unflushed_early u f is takes, keeps_on a b c x.1 same)) (λ r h. unflushed_ran u r f is takes h) ran

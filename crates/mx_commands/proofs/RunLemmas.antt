@@ -23,8 +23,8 @@ use Rattle.mx_cli.specs.declared.faults.Stop.{Stop}
 use Rattle.mx_cli.specs.declared.faults.Stop.TheVariants as stop
 use Rattle.mx_cli.specs.declared.faults.Fault.{Fault}
 use Rattle.mx_cli.specs.declared.faults.Fault.TheVariants.{NoParcel}
-use Rattle.mx_io.specs.declared.output.PutFault.{PutFault}
-use Rattle.mx_io.specs.declared.output.PutFault.TheVariants as put_fault
+use Rattle.mx_io.specs.declared.output.OutputFault.{OutputFault}
+use Rattle.mx_io.specs.declared.output.OutputFault.TheVariants as output_fault
 use Rattle.mx_texts.specs.EventTexts.{event_line}
 use Rattle.mx_texts.specs.ParcelTexts.{parcel_lines}
 use Rattle.mx_cli.proofs.OutputLemmas.{some_keeps}
@@ -152,16 +152,16 @@ pub is_false : (b : Bool) → (b ≡ true → ⊥) → b ≡ false
 is_false true h = absurd (h refl)
 is_false false h = refl
 
-pub refused_not_memory : put_fault.Refused ≡ put_fault.Memory → ⊥
+pub refused_not_memory : output_fault.Refused ≡ output_fault.Memory → ⊥
 refused_not_memory e = cc
 
 -- a run that stops at its output
-pub stopped_by : (t u : Bool) (a b c : Held) (r more : Report) (done : List Text) (f : PutFault)
-    → r ≡ after_texts done more → Appends a b (concat done) → Keeps b c → u ≡ t → (u ≡ true → f ≡ put_fault.Memory)
+pub stopped_by : (t u : Bool) (a b c : Held) (r more : Report) (done : List Text) (f : OutputFault)
+    → r ≡ after_texts done more → Appends a b (concat done) → Keeps b c → u ≡ t → (u ≡ true → f ≡ output_fault.Memory)
     → Ran t a c r (Err (stop_of f))
-stopped_by t u a b c r more done put_fault.Refused so_far h same is takes =
+stopped_by t u a b c r more done output_fault.Refused so_far h same is takes =
     (sym is ∙ is_false u (λ e. refused_not_memory (takes e)), some_keeps a b c r.texts (done_some a b r more done so_far h) same)
-stopped_by t u a b c r more done put_fault.Memory so_far h same is takes = some_keeps a b c r.texts (done_some a b r more done so_far h) same
+stopped_by t u a b c r more done output_fault.Memory so_far h same is takes = some_keeps a b c r.texts (done_some a b r more done so_far h) same
 
 -- a cluster at rest has the members of its shape
 pub members_at_rest : {H S M : Type 0} (core : Core H S M) (p : Fields) (shape : H) (n : ℕ) (g : ClusterState S M) → g ≡ at_rest core p shape → core.count shape ≡ n → length g.members ≡ n
@@ -171,9 +171,9 @@ members_at_rest {H} {S} {M} core p shape n g e count =
 -- ---- refusals
 
 -- a run that stops at what an output answered has refused where that did
-pub refused_on : (f : PutFault) (b : Bool) → refused_by {T = ⊤} (Err f) b ≡ refused_after {T = ℕ} (Err (stop_of f)) b
-refused_on put_fault.Refused b = refl
-refused_on put_fault.Memory b = refl
+pub refused_on : (f : OutputFault) (b : Bool) → refused_by {T = ⊤} (Err f) b ≡ refused_after {T = ℕ} (Err (stop_of f)) b
+refused_on output_fault.Refused b = refl
+refused_on output_fault.Memory b = refl
 
 -- and one that stops at an event has not
 pub stops_taken : {G : Type 0} (k : ℕ) (wanted : Result G StepFault) (s : Stop) (b : Bool) → StopsAt k wanted s → b ≡ refused_after {T = ℕ} (Err s) b

@@ -13,8 +13,8 @@ use Rattle.mx_cli.specs.declared.faults.Fault.{Fault}
 use Rattle.mx_cli.specs.declared.faults.Stop.{Stop}
 use Rattle.mx_cli.specs.declared.faults.Stop.TheVariants as stop
 use Rattle.mx_io.specs.Told.{Telling}
-use Rattle.mx_io.specs.declared.output.PutFault.{PutFault}
-use Rattle.mx_io.specs.declared.output.PutFault.TheVariants as put_fault
+use Rattle.mx_io.specs.declared.output.OutputFault.{OutputFault}
+use Rattle.mx_io.specs.declared.output.OutputFault.TheVariants as output_fault
 use Rattle.mx_io.specs.Outputs.{Held}
 use Rattle.mx_cli.specs.Outputs.{stop_of}
 use Rattle.mx_commands.specs.Runs.{Report}
@@ -145,9 +145,9 @@ is_untrue : (b : Bool) → (b ≡ true → ⊥) → b ≡ false
 is_untrue true h = absurd (h refl)
 is_untrue false h = refl
 
-pub put_fails : (t : Bool) (f : PutFault) → (t ≡ true → f ≡ put_fault.Memory) → FailsToPrint t (stop_of f)
-put_fails t put_fault.Refused takes = inr (refl, is_untrue t (λ e. let bad : ◌≡◌ {A = PutFault} put_fault.Refused put_fault.Memory = takes e in cc))
-put_fails t put_fault.Memory takes = inl refl
+pub put_fails : (t : Bool) (f : OutputFault) → (t ≡ true → f ≡ output_fault.Memory) → FailsToPrint t (stop_of f)
+put_fails t output_fault.Refused takes = inr (refl, is_untrue t (λ e. let bad : ◌≡◌ {A = OutputFault} output_fault.Refused output_fault.Memory = takes e in cc))
+put_fails t output_fault.Memory takes = inl refl
 
 pub runs_out : (t : Bool) → FailsToPrint t stop.Memory
 runs_out t = inl refl

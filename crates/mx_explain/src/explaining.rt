@@ -13,7 +13,7 @@ use crate::reasons::Reasons;
 use mx_cli::{Fault, Request, Stop, close, refuse};
 use mx_commands::{carry_out, names_in};
 use mx_diagnosis::Page;
-use mx_io::{Output, PutFault, Source};
+use mx_io::{Output, OutputFault, Source};
 use std::alloc::{AllocError, Global};
 
 /// An output that takes all, and keeps nothing.
@@ -25,11 +25,11 @@ impl Output for Nowhere {
 
     ghost has_refused = { λ _. false };
 
-    fn put(&mut self, _text: &[u8]) -> Result<(), PutFault> {
+    fn put(&mut self, _text: &[u8]) -> Result<(), OutputFault> {
         Ok(())
     }
 
-    fn flush(&mut self) -> Result<(), PutFault> {
+    fn flush(&mut self) -> Result<(), OutputFault> {
         Ok(())
     }
 }

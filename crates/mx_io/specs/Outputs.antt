@@ -1,14 +1,14 @@
 -- What outputs hold, and whether they refuse.
 use Rattle.std.specs.Prelude.{ℕ, List, Bool, true, Option, Result, Ok, Err}
-use Rattle.mx_io.specs.declared.output.PutFault.{PutFault}
-use Rattle.mx_io.specs.declared.output.PutFault.TheVariants as put_fault
+use Rattle.mx_io.specs.declared.output.OutputFault.{OutputFault}
+use Rattle.mx_io.specs.declared.output.OutputFault.TheVariants as output_fault
 
 -- what an output holds, where that is known
 abbrev pub Held : Type 0
 Held = Option (List ℕ)
 
 -- whether an output has refused something, after a call of it
-abbrev pub refused_by : {T : Type 0} → Result T PutFault → Bool → Bool
+abbrev pub refused_by : {T : Type 0} → Result T OutputFault → Bool → Bool
 refused_by (Ok t) before = before
-refused_by (Err put_fault.Refused) before = true
-refused_by (Err put_fault.Memory) before = before
+refused_by (Err output_fault.Refused) before = true
+refused_by (Err output_fault.Memory) before = before

@@ -10,7 +10,7 @@ mod stream;
 mod streams;
 
 pub use given::{as_slices, given_words, status_of};
-pub use output::{Output, PutFault};
+pub use output::{Output, OutputFault};
 pub use source::{Source, SourceFault, Table};
 pub use stream::Stream;
 pub use streams::{Refusal, Streams, read_name};

@@ -8,20 +8,20 @@ use std::alloc::{AllocError, Global};
 
 /// Why an output did not take a text.
 #[derive(Clone, Copy, Debug, PartialEq, Eq)]
-pub enum PutFault {
+pub enum OutputFault {
     Refused,
     /// Memory ran out.
     Memory,
 }
 
-impl From<AllocError> for PutFault {
+impl From<AllocError> for OutputFault {
     ghost use Rattle.std.specs.Prelude.{◌≡◌};
-    ghost use Rattle.mx_io.specs.declared.output.PutFault.TheVariants.{Memory};
+    ghost use Rattle.mx_io.specs.declared.output.OutputFault.TheVariants.{Memory};
 
     ghost from_gives = { λ _ fault. fault ≡ Memory };
 
-    fn from(_e: AllocError) -> PutFault {
-        PutFault::Memory
+    fn from(_e: AllocError) -> OutputFault {
+        OutputFault::Memory
     }
 }
 
@@ -40,19 +40,19 @@ pub trait Output {
     ghost keeps_back: { Self → Bool } = { λ _. false };
 
     /// Takes a text whole, or nothing of it.
-    fn put(&mut self, text: &[u8]) -> Result<(), PutFault>
+    fn put(&mut self, text: &[u8]) -> Result<(), OutputFault>
         ensures ok { OnOk result (Appends (written self.old) (written self.new) text.now) }
         ensures err { OnErr result (Keeps (written self.old) (written self.new)) }
         ensures refused { has_refused self.new ≡ refused_by result (has_refused self.old) }
-        ensures takes { IfErr result (λ fault. takes_all self.old ≡ true → fault ≡ PutFault.Memory) }
+        ensures takes { IfErr result (λ fault. takes_all self.old ≡ true → fault ≡ OutputFault.Memory) }
         ensures stays { takes_all self.new ≡ takes_all self.old };
 
     /// Passes on what it still keeps back.
-    fn flush(&mut self) -> Result<(), PutFault>
+    fn flush(&mut self) -> Result<(), OutputFault>
         ensures same { Keeps (written self.old) (written self.new) }
         ensures passed { OnOk result (keeps_back self.new ≡ false) }
         ensures refused { has_refused self.new ≡ refused_by result (has_refused self.old) }
-        ensures takes { IfErr result (λ fault. takes_all self.old ≡ true → fault ≡ PutFault.Memory) }
+        ensures takes { IfErr result (λ fault. takes_all self.old ≡ true → fault ≡ OutputFault.Memory) }
         ensures stays { takes_all self.new ≡ takes_all self.old };
 }
 
@@ -63,11 +63,11 @@ impl Output for Vec<u8> {
 
     ghost has_refused = { λ _. false };
 
-    fn put(&mut self, text: &[u8]) -> Result<(), PutFault> {
+    fn put(&mut self, text: &[u8]) -> Result<(), OutputFault> {
         Ok(self.extend_from_slice(text)?)
     }
 
-    fn flush(&mut self) -> Result<(), PutFault> {
+    fn flush(&mut self) -> Result<(), OutputFault> {
         Ok(())
     }
 }

@@ -1,6 +1,6 @@
 //! The writers of the process.
 
-use crate::output::{Output, PutFault};
+use crate::output::{Output, OutputFault};
 use std::io;
 use std::io::{ErrorKind, Write};
 
@@ -9,24 +9,24 @@ use std::io::{ErrorKind, Write};
 pub struct Stream<W: Write + Drop>(pub W);
 
 impl<W: Write + Drop> Output for Stream<W> {
-    fn put(&mut self, text: &[u8]) -> Result<(), PutFault> {
+    fn put(&mut self, text: &[u8]) -> Result<(), OutputFault> {
         match self.0.write_all(text) {
             Ok(()) => Ok(()),
-            Err(e) => Err(put_fault(&e)),
+            Err(e) => Err(output_fault(&e)),
         }
     }
 
-    fn flush(&mut self) -> Result<(), PutFault> {
+    fn flush(&mut self) -> Result<(), OutputFault> {
         match self.0.flush() {
             Ok(()) => Ok(()),
-            Err(e) => Err(put_fault(&e)),
+            Err(e) => Err(output_fault(&e)),
         }
     }
 }
 
-fn put_fault(e: &io::Error) -> PutFault {
+fn output_fault(e: &io::Error) -> OutputFault {
     match e.kind() {
-        ErrorKind::OutOfMemory => PutFault::Memory,
-        _ => PutFault::Refused,
+        ErrorKind::OutOfMemory => OutputFault::Memory,
+        _ => OutputFault::Refused,
     }
 }

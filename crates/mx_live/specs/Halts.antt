@@ -4,8 +4,8 @@ use Rattle.mx_plan.specs.Fields.{Fields}
 use Rattle.mx_plan.specs.Text.{Text, line_feed}
 use Rattle.mx_cli.specs.declared.faults.Stop.{Stop}
 use Rattle.mx_cli.specs.declared.faults.Stop.TheVariants as stop
-use Rattle.mx_io.specs.declared.output.PutFault.{PutFault}
-use Rattle.mx_io.specs.declared.output.PutFault.TheVariants as put_fault
+use Rattle.mx_io.specs.declared.output.OutputFault.{OutputFault}
+use Rattle.mx_io.specs.declared.output.OutputFault.TheVariants as output_fault
 use Rattle.mx_cli.specs.FaultLines.{fault_line, memory_line}
 use Rattle.mx_stations.specs.declared.working.Worked.{Worked}
 use Rattle.mx_live.specs.declared.any_station.AnyStation.{AnyStation}
@@ -49,6 +49,6 @@ halt_of_stop (stop.Fault fault) = Plan fault
 halt_of_stop stop.Writer = Writer
 halt_of_stop stop.Memory = Memory
 
-abbrev pub halt_of_put : PutFault → Halt
-halt_of_put put_fault.Refused = Writer
-halt_of_put put_fault.Memory = Memory
+abbrev pub halt_of_put : OutputFault → Halt
+halt_of_put output_fault.Refused = Writer
+halt_of_put output_fault.Memory = Memory

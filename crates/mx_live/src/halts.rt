@@ -4,7 +4,7 @@ ghost use Rattle.std.specs.Prelude.{◌≡◌, ◌⊎◌, Some};
 ghost use Rattle.mx_live.specs.Halts.{halt_line, halt_status};
 
 use mx_cli::{Fault, FaultLine, Names, Stop, put_line, tell_memory};
-use mx_io::{Output, PutFault};
+use mx_io::{Output, OutputFault};
 use std::alloc::{AllocError, Global};
 use std::fmt;
 
@@ -52,16 +52,16 @@ impl From<Stop> for Halt {
     }
 }
 
-impl From<PutFault> for Halt {
+impl From<OutputFault> for Halt {
     ghost use Rattle.std.specs.Prelude.{◌≡◌};
     ghost use Rattle.mx_live.specs.Halts.{halt_of_put};
 
     ghost from_gives = { λ fault halt. halt ≡ halt_of_put fault };
 
-    fn from(fault: PutFault) -> Halt {
+    fn from(fault: OutputFault) -> Halt {
         match fault {
-            PutFault::Refused => Halt::Writer,
-            PutFault::Memory => Halt::Memory,
+            OutputFault::Refused => Halt::Writer,
+            OutputFault::Memory => Halt::Memory,
         }
     }
 }
@@ -120,7 +120,7 @@ pub fn tell<E: Output>(alloc: Global, halt: Halt, plan: &str, err: &mut E) -> u8
         return tell_memory(err);
     }
     match put_line(alloc, err, HaltLine { halt, plan }) {
-        Ok(()) | Err(PutFault::Refused) => halt.status(),
-        Err(PutFault::Memory) => tell_memory(err),
+        Ok(()) | Err(OutputFault::Refused) => halt.status(),
+        Err(OutputFault::Memory) => tell_memory(err),
     }
 }

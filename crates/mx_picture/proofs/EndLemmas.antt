@@ -11,8 +11,8 @@ use Rattle.mx_network.specs.declared.faults.StepFault.TheVariants as step_fault
 use Rattle.mx_plan.specs.Text.{Text, line_feed}
 use Rattle.mx_plan.specs.Fields.{Fields}
 use Rattle.mx_plan.specs.declared.faults.PlanFault.{PlanFault}
-use Rattle.mx_io.specs.declared.output.PutFault.{PutFault}
-use Rattle.mx_io.specs.declared.output.PutFault.TheVariants as put_fault
+use Rattle.mx_io.specs.declared.output.OutputFault.{OutputFault}
+use Rattle.mx_io.specs.declared.output.OutputFault.TheVariants as output_fault
 use Rattle.mx_cli.specs.declared.faults.Stop.{Stop}
 use Rattle.mx_cli.specs.declared.faults.Stop.TheVariants as stop
 use Rattle.mx_commands.specs.Jobs.{run_by, where_read}
@@ -59,9 +59,9 @@ is_false true h = absurd (h refl)
 is_false false h = refl
 
 -- an output did not take the picture
-pub ran_put : (t : Bool) (r : Report) (f : PutFault) → (t ≡ true → f ≡ put_fault.Memory) → Ran t None None r (Err (stop_of f))
-ran_put t r put_fault.Refused takes = (is_false t (λ e. let bad : put_fault.Refused ≡ put_fault.Memory = takes e in cc), (0, tt))
-ran_put t r put_fault.Memory takes = (0, tt)
+pub ran_put : (t : Bool) (r : Report) (f : OutputFault) → (t ≡ true → f ≡ output_fault.Memory) → Ran t None None r (Err (stop_of f))
+ran_put t r output_fault.Refused takes = (is_false t (λ e. let bad : output_fault.Refused ≡ output_fault.Memory = takes e in cc), (0, tt))
+ran_put t r output_fault.Memory takes = (0, tt)
 
 -- a picture is whole once its last line was added
 pub whole_where_closed : (r : Result ⊤ AllocError) (was now : Text) → now ≡ (if is_ok r then was ++ (codes "</svg>" ++ line_feed) else was) → OnOk r (IsWhole now)

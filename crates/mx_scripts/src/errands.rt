@@ -20,7 +20,7 @@ use mx_cli::{
     split_line, tell_memory,
 };
 use mx_commands::print;
-use mx_io::{Output, PutFault, Source};
+use mx_io::{Output, OutputFault, Source};
 use mx_plan::Plan;
 use std::alloc::Global;
 
@@ -101,8 +101,8 @@ fn tell_line<E: Output>(alloc: Global, number: u64, fault: LineFault, err: &mut 
     ensures { (result ≡ 1) ⊎ (result ≡ 5) }
 {
     match put_line(alloc, err, ScriptLine { number, fault }) {
-        Ok(()) | Err(PutFault::Refused) => 1,
-        Err(PutFault::Memory) => tell_memory(err),
+        Ok(()) | Err(OutputFault::Refused) => 1,
+        Err(OutputFault::Memory) => tell_memory(err),
     }
 }
 
