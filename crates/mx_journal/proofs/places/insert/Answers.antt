@@ -1,5 +1,6 @@
-use Rattle.std.proofs.Common.{ℕ, ◌≡◌, ◌-◌, ◌≤◌, ◌<◌, [], ◌∷◌, ◌++◌, get_or, insert, length, slice_set, sym, ◌∙◌, ap, refl, subst, arith}
+use Rattle.std.proofs.Common.{ℕ, ◌≡◌, ◌-◌, ◌≤◌, ◌<◌, [], ◌∷◌, ◌++◌, List, get_or, insert, length, slice_set, sym, ◌∙◌, ap, refl, subst, arith}
 use Rattle.std.specs.Vec.{vec_len}
+use Rattle.mx_journal.specs.declared.records.Record.{Record}
 use Rattle.mx_journal.specs.Runs.{AreRuns, IsPut, TouchesAbove, TouchesBelow, runs_up_to}
 use Rattle.mx_journal.proofs.Answering.{at_failure, no_success, not_true, on_ok}
 use Rattle.mx_journal.proofs.Flat.{up_to_within}
@@ -9,57 +10,53 @@ use Rattle.mx_journal.proofs.places.insert.Goals as goal
 before_end : (i n : ℕ) → 1 ≤ i → i ≤ n → i - 1 < n
 before_end i n some within = omega arith
 
+-- where the record goes
+spot : (n at : ℕ) (seen runs : List (List Record)) → at ≡ runs_up_to n seen → seen ≡ runs → at ≡ runs_up_to n runs
+spot n at seen runs e same = e ∙ ap (λ l. runs_up_to n l) same
+
 pub returns-then-above-clause-ok : goal.returns-then-above-clause-ok
 returns-then-above-clause-ok c =
     let runs = c.args.runs.now.items in
-    let entry = c.args.entry in
     let at = c.place_of-at.result in
-    let spot : at ≡ runs_up_to entry.number runs = c.place_of-at.ensures.value ∙ ap (λ l. runs_up_to entry.number l) c.deref.ensures.value in
-    let below : TouchesBelow entry.number at runs = subst (λ l. TouchesBelow entry.number at l) c.deref-2.ensures.value (c.touches_below-below.ensures.0 c.if-below.true) in
-    let above : TouchesAbove entry.number at runs = subst (λ l. TouchesAbove entry.number at l) c.deref-3.ensures.value (c.touches_above-above.ensures.0 c.if-above.true) in
-    on_ok c.insert_between.result c.insert_between.ensures.ok (λ e. subst (λ l. IsPut entry runs l) (sym e) (put_both entry runs at c.requires.runs c.requires.fresh spot below above))
+    let below : TouchesBelow c.args.entry.number at runs = subst (λ l. TouchesBelow c.args.entry.number at l) c.deref-2.ensures.value (c.touches_below-below.ensures.0 c.if-below.true) in
+    let above : TouchesAbove c.args.entry.number at runs = subst (λ l. TouchesAbove c.args.entry.number at l) c.deref-3.ensures.value (c.touches_above-above.ensures.0 c.if-above.true) in
+    on_ok c.insert_between.result c.insert_between.ensures.ok (λ e. subst (λ l. IsPut c.args.entry runs l) (sym e) (put_both c.args.entry runs at c.requires.runs c.requires.fresh (spot c.args.entry.number at _ runs c.place_of-at.ensures.value c.deref.ensures.value) below above))
 
 pub returns-then-below-clause-ok : goal.returns-then-below-clause-ok
 returns-then-below-clause-ok c =
     let runs = c.args.runs.now.items in
-    let entry = c.args.entry in
     let at = c.place_of-at.result in
-    let spot : at ≡ runs_up_to entry.number runs = c.place_of-at.ensures.value ∙ ap (λ l. runs_up_to entry.number l) c.deref.ensures.value in
-    let below : TouchesBelow entry.number at runs = subst (λ l. TouchesBelow entry.number at l) c.deref-2.ensures.value (c.touches_below-below.ensures.0 c.if-below.true) in
-    let apart : TouchesAbove entry.number at runs → ⊥ = λ t.
-    let e = c.touches_above-above.ensures.1 (subst (λ l. TouchesAbove entry.number at l) (sym c.deref-3.ensures.value) t) in not_true c.touches_above-above.result e c.if-above.false in
-    let within = up_to_within entry.number runs in
+    let below : TouchesBelow c.args.entry.number at runs = subst (λ l. TouchesBelow c.args.entry.number at l) c.deref-2.ensures.value (c.touches_below-below.ensures.0 c.if-below.true) in
+    let apart : TouchesAbove c.args.entry.number at runs → ⊥ = λ t.
+    let e = c.touches_above-above.ensures.1 (subst (λ l. TouchesAbove c.args.entry.number at l) (sym c.deref-3.ensures.value) t) in not_true c.touches_above-above.result e c.if-above.false in
+    let within = up_to_within c.args.entry.number runs in
     let some = below.0 in
     let run : c.index_mut-run.result.now ≡ get_or runs (at - 1) [] = read_there runs (at - 1) c.index_mut-run.result.now (omega arith) c.index_mut-run.ensures.value in
     on_ok c.push_back.result c.push_back.ensures.ok (λ e.
-    subst (λ l. IsPut entry runs (slice_set runs (at - 1) l)) (sym (e ∙ ap (λ l. l ++ entry ∷ []) run)) (put_below entry runs at c.requires.runs c.requires.fresh spot below apart))
+    subst (λ l. IsPut c.args.entry runs (slice_set runs (at - 1) l)) (sym (e ∙ ap (λ l. l ++ c.args.entry ∷ []) run)) (put_below c.args.entry runs at c.requires.runs c.requires.fresh (spot c.args.entry.number at _ runs c.place_of-at.ensures.value c.deref.ensures.value) below apart))
 
 pub returns-then-above-2-clause-ok : goal.returns-then-above-2-clause-ok
 returns-then-above-2-clause-ok c =
     let runs = c.args.runs.now.items in
-    let entry = c.args.entry in
     let at = c.place_of-at.result in
-    let spot : at ≡ runs_up_to entry.number runs = c.place_of-at.ensures.value ∙ ap (λ l. runs_up_to entry.number l) c.deref.ensures.value in
-    let above : TouchesAbove entry.number at runs = subst (λ l. TouchesAbove entry.number at l) c.deref-3.ensures.value (c.touches_above-above.ensures.0 c.if-above-2.true) in
-    let apart : TouchesBelow entry.number at runs → ⊥ = λ t.
-    let e = c.touches_below-below.ensures.1 (subst (λ l. TouchesBelow entry.number at l) (sym c.deref-2.ensures.value) t) in not_true c.touches_below-below.result e c.if-below.false in
+    let above : TouchesAbove c.args.entry.number at runs = subst (λ l. TouchesAbove c.args.entry.number at l) c.deref-3.ensures.value (c.touches_above-above.ensures.0 c.if-above-2.true) in
+    let apart : TouchesBelow c.args.entry.number at runs → ⊥ = λ t.
+    let e = c.touches_below-below.ensures.1 (subst (λ l. TouchesBelow c.args.entry.number at l) (sym c.deref-2.ensures.value) t) in not_true c.touches_below-below.result e c.if-below.false in
     let run : c.index_mut-run-then-above-2.result.now ≡ get_or runs at [] = read_there runs at c.index_mut-run-then-above-2.result.now above.0 c.index_mut-run-then-above-2.ensures.value in
     on_ok c.push_front.result c.push_front.ensures.ok (λ e.
-    subst (λ l. IsPut entry runs (slice_set runs at l)) (sym (e ∙ ap (λ l. entry ∷ l) run)) (put_at_start entry runs at c.requires.runs c.requires.numbered c.requires.fresh spot apart above))
+    subst (λ l. IsPut c.args.entry runs (slice_set runs at l)) (sym (e ∙ ap (λ l. c.args.entry ∷ l) run)) (put_at_start c.args.entry runs at c.requires.runs c.requires.numbered c.requires.fresh (spot c.args.entry.number at _ runs c.place_of-at.ensures.value c.deref.ensures.value) apart above))
 
 pub returns-clause-ok : goal.returns-clause-ok
 returns-clause-ok c =
     let runs = c.args.runs.now.items in
-    let entry = c.args.entry in
     let at = c.place_of-at.result in
-    let spot : at ≡ runs_up_to entry.number runs = c.place_of-at.ensures.value ∙ ap (λ l. runs_up_to entry.number l) c.deref.ensures.value in
-    let above : TouchesAbove entry.number at runs → ⊥ = λ t.
-    let e = c.touches_above-above.ensures.1 (subst (λ l. TouchesAbove entry.number at l) (sym c.deref-3.ensures.value) t) in not_true c.touches_above-above.result e c.if-above-2.false in
-    let below : TouchesBelow entry.number at runs → ⊥ = λ t.
-    let e = c.touches_below-below.ensures.1 (subst (λ l. TouchesBelow entry.number at l) (sym c.deref-2.ensures.value) t) in not_true c.touches_below-below.result e c.if-below.false in
-    let run : c.push_back-2.new.self ≡ entry ∷ [] = c.in_ok-push_back.ensures.ok ∙ ap (λ l. l ++ entry ∷ []) c.new-run.ensures in
-    subst (λ l. IsPut entry runs l) (sym (c.in_ok-insert.ensures.items ∙ ap (λ l. insert runs at l) run))
-    (put_alone entry runs at c.requires.runs c.requires.numbered c.requires.fresh spot below above)
+    let above : TouchesAbove c.args.entry.number at runs → ⊥ = λ t.
+    let e = c.touches_above-above.ensures.1 (subst (λ l. TouchesAbove c.args.entry.number at l) (sym c.deref-3.ensures.value) t) in not_true c.touches_above-above.result e c.if-above-2.false in
+    let below : TouchesBelow c.args.entry.number at runs → ⊥ = λ t.
+    let e = c.touches_below-below.ensures.1 (subst (λ l. TouchesBelow c.args.entry.number at l) (sym c.deref-2.ensures.value) t) in not_true c.touches_below-below.result e c.if-below.false in
+    let run : c.push_back-2.new.self ≡ c.args.entry ∷ [] = c.in_ok-push_back.ensures.ok ∙ ap (λ l. l ++ c.args.entry ∷ []) c.new-run.ensures in
+    subst (λ l. IsPut c.args.entry runs l) (sym (c.in_ok-insert.ensures.items ∙ ap (λ l. insert runs at l) run))
+    (put_alone c.args.entry runs at c.requires.runs c.requires.numbered c.requires.fresh (spot c.args.entry.number at _ runs c.place_of-at.ensures.value c.deref.ensures.value) below above)
 
 pub place_of-at-requires : goal.place_of-at-requires
 place_of-at-requires c = subst (λ l. AreRuns 1 l) (sym c.deref.ensures.value) c.requires.runs
