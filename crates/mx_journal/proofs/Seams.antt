@@ -236,8 +236,21 @@ flat_renewed i k runs middle =
     flatten_sewn (sewn (take i runs) middle) (drop k runs) ∙ ap (λ l. l ++ flatten (drop k runs)) (flatten_sewn (take i runs) middle)
     ∙ append_append (flatten (take i runs)) (flatten middle) (flatten (drop k runs))
 
-pub renewed_runs : (first last : ℕ) (runs new middle : List (List Record)) (i k : ℕ) → Ends first last runs new → AreRuns 1 middle → IsJoinedUpTo (first - 1) last (flatten runs) (flatten new) (flatten middle) → i ≡ runs_up_to first runs → k ≡ runs_up_to last runs → AreRuns 1 (sewn (sewn (take i runs) middle) (drop k runs))
-renewed_runs first last runs new middle i k ends am j at to =
+-- the runs from place i to place k are those that reach to the new numbers, and `middle` has the records of both
+pub record Renewal (first last : ℕ) (runs new middle : List (List Record)) (i k : ℕ) : Type 0 where
+  pub ends : Ends first last runs new
+  pub between : AreRuns 1 middle
+  pub joined : IsJoinedUpTo (first - 1) last (flatten runs) (flatten new) (flatten middle)
+  pub from : i ≡ runs_up_to first runs
+  pub to : k ≡ runs_up_to last runs
+
+pub renewed_runs : (first last : ℕ) (runs new middle : List (List Record)) (i k : ℕ) → Renewal first last runs new middle i k → AreRuns 1 (sewn (sewn (take i runs) middle) (drop k runs))
+renewed_runs first last runs new middle i k r =
+    let ends = r.ends in
+    let am = r.between in
+    let j = r.joined in
+    let at = r.from in
+    let to = r.to in
     let start = ends.start in
     let order = ends.order in
     let front = runs_around 1 runs i ends.ours in
@@ -254,8 +267,12 @@ renewed_runs first last runs new middle i k ends am j at to =
       | inr p ↦ (let w = j.known x p in w.2)
     ]) (omega arith) in omega arith)
 
-pub renewed_records : (first last : ℕ) (runs new middle : List (List Record)) (i k : ℕ) → Ends first last runs new → AreRuns 1 middle → IsJoinedUpTo (first - 1) last (flatten runs) (flatten new) (flatten middle) → i ≡ runs_up_to first runs → k ≡ runs_up_to last runs → flatten (sewn (sewn (take i runs) middle) (drop k runs)) ≡ with_records (flatten new) (flatten runs)
-renewed_records first last runs new middle i k ends am j at to =
+pub renewed_records : (first last : ℕ) (runs new middle : List (List Record)) (i k : ℕ) → Renewal first last runs new middle i k → flatten (sewn (sewn (take i runs) middle) (drop k runs)) ≡ with_records (flatten new) (flatten runs)
+renewed_records first last runs new middle i k r =
+    let ends = r.ends in
+    let j = r.joined in
+    let to = r.to in
+    let at = r.from in
     let xs = flatten runs in
     let ys = flatten new in
     let front = flatten (take i runs) in
@@ -267,7 +284,7 @@ renewed_records first last runs new middle i k ends am j at to =
     let flat = flat_renewed i k runs middle in
     let agree : AreAgreeing xs ys = λ x y h t e. absurd (none_in y.number xs (ends.fresh y t) x h e) in
     same_members 1 1 (flatten (renewed i k runs middle)) (with_records ys xs)
-    (ascending_flat 1 (renewed i k runs middle) (renewed_runs first last runs new middle i k ends am j at to)) (ascending_with_all ys xs a (ascending_above 1 ys b))
+    (ascending_flat 1 (renewed i k runs middle) (renewed_runs first last runs new middle i k r)) (ascending_with_all ys xs a (ascending_above 1 ys b))
     (λ x h. elim (in_append x front (ms ++ back) (subst (λ l. IsIn x l) flat h)) [
       | inl p ↦ with_records_keep ys xs x (in_before x i runs p)
       | inr q ↦ elim (in_append x ms back q) [

@@ -6,7 +6,7 @@ use Rattle.mx_journal.specs.Records.{top_of}
 use Rattle.mx_journal.specs.Runs.{AreNew, AreRuns, IsJoinedUpTo, first_number, flatten, runs_up_to}
 use Rattle.mx_journal.proofs.Maps.{none_in}
 use Rattle.mx_journal.proofs.Flat.{ascending_flat}
-use Rattle.mx_journal.proofs.Seams.{Ends, ends_of, length_new, renewed_records, renewed_runs, up_to_more}
+use Rattle.mx_journal.proofs.Seams.{Ends, Renewal, ends_of, length_new, renewed_records, renewed_runs, up_to_more}
 use Rattle.mx_journal.proofs.sewing.put_runs.Goals as goal
 
 pub joined_up_to-requires-clause-agreeing : goal.joined_up_to-requires-clause-agreeing
@@ -28,27 +28,25 @@ renew-requires-clause-order c =
     let to : c.place_of-to.result ≡ runs_up_to c.top_in-last.result runs = c.place_of-to.ensures.value ∙ ap (λ l. runs_up_to c.top_in-last.result l) c.deref-2.ensures.value in
     omega (arith, from, to, up_to_more c.first-first.result c.top_in-last.result runs order)
 
+-- the runs that are renewed, and what they are then
+renewal : (c : goal.After-drop-middle-2) → Renewal c.first-first.result c.top_in-last.result c.args.runs.now.items c.args.new.now c.in_ok-middle.middle.items c.place_of-from.result c.place_of-to.result
+renewal c = record {
+  ends = ends c.args.runs.now.items c.args.new.now c.index-new-0.result c.first-first.result c.top_in-last.result c.is_empty.result c.requires.runs c.requires.new c.requires.fresh c.is_empty.ensures c.if-is_empty.false c.index-new-0.is c.first-first.ensures c.top_in-last.ensures;
+  between = c.in_ok-middle.ensures.runs;
+  joined = subst (λ l. IsJoinedUpTo (c.first-first.result - 1) c.top_in-last.result (flatten l) (flatten c.args.new.now) (flatten c.in_ok-middle.middle.items)) c.deref-3.ensures.value c.in_ok-middle.ensures.records;
+  from = c.place_of-from.ensures.value ∙ ap (λ l. runs_up_to c.first-first.result l) c.deref.ensures.value;
+  to = c.place_of-to.ensures.value ∙ ap (λ l. runs_up_to c.top_in-last.result l) c.deref-2.ensures.value;
+}
+
 pub returns-clause-runs : goal.returns-clause-runs
 returns-clause-runs c =
-    let runs = c.args.runs.now.items in
-    let first = c.first-first.result in
-    let last = c.top_in-last.result in
-    let middle = c.in_ok-middle.middle.items in
     subst (λ l. AreRuns 1 l) (sym c.in_ok-renew.ensures.ok)
-    (renewed_runs first last runs c.args.new.now middle c.place_of-from.result c.place_of-to.result (ends c.args.runs.now.items c.args.new.now c.index-new-0.result c.first-first.result c.top_in-last.result c.is_empty.result c.requires.runs c.requires.new c.requires.fresh c.is_empty.ensures c.if-is_empty.false c.index-new-0.is c.first-first.ensures c.top_in-last.ensures) c.in_ok-middle.ensures.runs
-    (subst (λ l. IsJoinedUpTo (first - 1) last (flatten l) (flatten c.args.new.now) (flatten middle)) c.deref-3.ensures.value c.in_ok-middle.ensures.records)
-    (c.place_of-from.ensures.value ∙ ap (λ l. runs_up_to first l) c.deref.ensures.value) (c.place_of-to.ensures.value ∙ ap (λ l. runs_up_to last l) c.deref-2.ensures.value))
+    (renewed_runs c.first-first.result c.top_in-last.result c.args.runs.now.items c.args.new.now c.in_ok-middle.middle.items c.place_of-from.result c.place_of-to.result (renewal c))
 
 pub returns-clause-records : goal.returns-clause-records
 returns-clause-records c =
-    let runs = c.args.runs.now.items in
-    let first = c.first-first.result in
-    let last = c.top_in-last.result in
-    let middle = c.in_ok-middle.middle.items in
     ap flatten c.in_ok-renew.ensures.ok
-    ∙ renewed_records first last runs c.args.new.now middle c.place_of-from.result c.place_of-to.result (ends c.args.runs.now.items c.args.new.now c.index-new-0.result c.first-first.result c.top_in-last.result c.is_empty.result c.requires.runs c.requires.new c.requires.fresh c.is_empty.ensures c.if-is_empty.false c.index-new-0.is c.first-first.ensures c.top_in-last.ensures) c.in_ok-middle.ensures.runs
-    (subst (λ l. IsJoinedUpTo (first - 1) last (flatten l) (flatten c.args.new.now) (flatten middle)) c.deref-3.ensures.value c.in_ok-middle.ensures.records)
-    (c.place_of-from.ensures.value ∙ ap (λ l. runs_up_to first l) c.deref.ensures.value) (c.place_of-to.ensures.value ∙ ap (λ l. runs_up_to last l) c.deref-2.ensures.value)
+    ∙ renewed_records c.first-first.result c.top_in-last.result c.args.runs.now.items c.args.new.now c.in_ok-middle.middle.items c.place_of-from.result c.place_of-to.result (renewal c)
 
 pub returns-clause-count : goal.returns-clause-count
 returns-clause-count c =
