@@ -1,6 +1,6 @@
 //! Edges that close a circle.
 
-use crate::lines::Found;
+use crate::lines::{Found, Path};
 use crate::page::Page;
 use crate::values::{index_in, items_in, text_in};
 use serde_json::Value;
@@ -61,7 +61,7 @@ fn explain_circle(
         return Ok(());
     };
     if closes_circle(first, second, nodes, parts) {
-        return page.say(Circle { k, first, second });
+        return page.say_of(&Path::Item("edges", k), Circle { k, first, second });
     }
     Ok(())
 }
@@ -93,8 +93,8 @@ impl fmt::Display for Circle<'_> {
             f,
             " edges[{}]: this edge closes a circle, since edges before it join {} and {}",
             self.k,
-            Found(Some(self.first)),
-            Found(Some(self.second))
+            Found(Some(self.first), ""),
+            Found(Some(self.second), "")
         )
     }
 }

@@ -17,12 +17,31 @@ pub(crate) fn expect<'a>(
     found: Option<&'a Value>,
     expected: &'a str,
 ) -> Result<(), AllocError> {
-    page.say(Expected {
+    say_expected(page, path, found, expected, None)
+}
+
+/// Says that something else is expected at a place, and which word is the nearest.
+fn say_expected<'a>(
+    page: &mut Page<'_>,
+    path: Path<'a>,
+    found: Option<&'a Value>,
+    expected: &'a str,
+    nearest: Option<&str>,
+) -> Result<(), AllocError> {
+    let mut said = Expected {
         path,
         found,
+        written: "",
         expected,
-        nearest: None,
-    })
+        nearest,
+    };
+    if page.is_full() {
+        return page.say(said);
+    }
+    let offset = page.offset(&path)?;
+    let word = page.word_at(offset)?;
+    said.written = word.as_str();
+    page.say_at(offset, said)
 }
 
 /// Says that one of these words is expected at a place, where another is found. Where there are
@@ -39,12 +58,7 @@ pub(crate) fn expect_word<'a, 'w>(
         return Ok(());
     }
     let nearest = meant(page, word, words)?;
-    page.say(Expected {
-        path,
-        found,
-        expected,
-        nearest,
-    })
+    say_expected(page, path, found, expected, nearest)
 }
 
 /// The word of these that was meant, which nobody asks for where lines are only counted.
@@ -91,11 +105,9 @@ pub(crate) fn warn_of_unread<'a>(
     for (key, _) in members.iter() {
         if !is_among(key.as_str(), read) {
             let nearest = meant(page, key.as_str(), read)?;
-            page.say(Unread {
-                key: key.as_str(),
-                of,
-                nearest,
-            })?;
+            let path = Path::Key(of, key.as_str());
+            let key = key.as_str();
+            page.say_of(&path, Unread { key, of, nearest })?;
         }
     }
     Ok(())

@@ -5,6 +5,7 @@
 mod circles;
 mod event_faults;
 mod expecting;
+mod finding;
 mod json_faults;
 mod lines;
 mod nearest;

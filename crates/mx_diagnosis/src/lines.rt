@@ -7,12 +7,14 @@ use std::fmt::Display;
 /// A longer text is not shown.
 const MOST_BYTES: usize = 40;
 
-/// A place in a file: a member, an item in it, or an item in that; items are counted from 0.
+/// A place in a file: a member, an item in it, an item in that, or a member of a member; items are
+/// counted from 0.
 #[derive(Clone, Copy)]
 pub(crate) enum Path<'a> {
     Member(&'a str),
     Item(&'a str, usize),
     Inner(&'a str, usize, usize),
+    Key(&'a str, &'a str),
 }
 
 impl Display for Path<'_> {
@@ -21,13 +23,14 @@ impl Display for Path<'_> {
             Path::Member(member) => f.write_str(member),
             Path::Item(member, i) => write!(f, "{member}[{i}]"),
             Path::Inner(member, i, j) => write!(f, "{member}[{i}][{j}]"),
+            Path::Key(member, key) => write!(f, "{member}.{key}"),
         }
     }
 }
 
-/// What is at a place, in short.
+/// What is at a place, in short: a number as it is written, where that is known.
 #[derive(Clone, Copy)]
-pub(crate) struct Found<'a>(pub(crate) Option<&'a Value>);
+pub(crate) struct Found<'a>(pub(crate) Option<&'a Value>, pub(crate) &'a str);
 
 impl Display for Found<'_> {
     fn fmt<W: fmt::Write>(&self, f: &mut fmt::Formatter<W>) -> fmt::Result {
@@ -39,9 +42,15 @@ impl Display for Found<'_> {
                 write!(f, "a text of {} bytes", text.len())
             }
             Some(Value::String(text)) => write!(f, "{text:?}"),
+            Some(Value::Number(_)) if is_short(self.1) => f.write_str(self.1),
             Some(value) => write!(f, "{value}"),
         }
     }
+}
+
+/// Whether a text is there, and short enough to be shown.
+fn is_short(text: &str) -> bool {
+    !text.is_empty() && text.len() <= MOST_BYTES
 }
 
 /// The name that is nearest to what is at a place, where one is near.
@@ -62,6 +71,8 @@ impl Display for Nearest<'_> {
 pub(crate) struct Expected<'a, 'w> {
     pub(crate) path: Path<'a>,
     pub(crate) found: Option<&'a Value>,
+    /// The number that is found, as it is written.
+    pub(crate) written: &'w str,
     pub(crate) expected: &'a str,
     pub(crate) nearest: Option<&'w str>,
 }
@@ -69,7 +80,7 @@ pub(crate) struct Expected<'a, 'w> {
 impl Display for Expected<'_, '_> {
     fn fmt<W: fmt::Write>(&self, f: &mut fmt::Formatter<W>) -> fmt::Result {
         let path = self.path;
-        let found = Found(self.found);
+        let found = Found(self.found, self.written);
         let expected = self.expected;
         let nearest = Nearest(self.nearest);
         write!(
@@ -94,6 +105,19 @@ impl Display for Key<'_> {
     }
 }
 
+/// Of which member of the plan another one is, or of the plan itself.
+#[derive(Clone, Copy)]
+struct Of(&'static str);
+
+impl Display for Of {
+    fn fmt<W: fmt::Write>(&self, f: &mut fmt::Formatter<W>) -> fmt::Result {
+        match self.0 {
+            "" => Ok(()),
+            member => write!(f, " of {member}"),
+        }
+    }
+}
+
 /// A warning of a member that nobody reads, of the plan or of a member of it.
 #[derive(Clone, Copy)]
 pub(crate) struct Unread<'a> {
@@ -105,7 +129,7 @@ pub(crate) struct Unread<'a> {
 impl Display for Unread<'_> {
     fn fmt<W: fmt::Write>(&self, f: &mut fmt::Formatter<W>) -> fmt::Result {
         let key = Key(self.key);
-        let of = self.of;
+        let of = Of(self.of);
         let nearest = Nearest(self.nearest);
         write!(
             f,

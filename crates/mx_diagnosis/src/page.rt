@@ -1,5 +1,9 @@
 //! What is said of files, a line for each fault and each warning.
 
+use crate::finding::offset_at;
+use crate::lines::Path;
+use crate::places::{LineColumn, place_of};
+use crate::scan::is_of_word;
 use crate::shown::Shown;
 use std::alloc::{AllocError, Global};
 use std::fmt;
@@ -15,6 +19,9 @@ pub struct Page<'a> {
     file: &'a str,
     text: String,
     lines: u64,
+    /// The text that is looked at, and how many lines of the file are above it.
+    source: Vec<u8>,
+    above: usize,
 }
 
 impl<'a> Page<'a> {
@@ -24,6 +31,8 @@ impl<'a> Page<'a> {
             file,
             text: String::new(alloc),
             lines: 0,
+            source: Vec::new(alloc),
+            above: 0,
         }
     }
 
@@ -43,6 +52,60 @@ impl<'a> Page<'a> {
             file: self.file,
             line,
         })
+    }
+
+    /// Looks at a text of the file, which has this many lines above it. It takes a copy, so that lines can
+    /// tell where in it they are of.
+    pub(crate) fn look_at(&mut self, text: &[u8], above: usize) -> Result<(), AllocError> {
+        self.source = Vec::from_slice(self.alloc, text)?;
+        self.above = above;
+        Ok(())
+    }
+
+    /// Adds a line of what is at a path of the text. It begins with a space.
+    pub(crate) fn say_of<D: Display + Drop>(
+        &mut self,
+        path: &Path<'_>,
+        line: D,
+    ) -> Result<(), AllocError> {
+        if self.is_full() {
+            return self.say(line);
+        }
+        let offset = self.offset(path)?;
+        self.say_at(offset, line)
+    }
+
+    /// Adds a line of the parcel that the event of this number, counted from 0, delivers. It begins with a
+    /// space.
+    pub fn say_of_parcel<D: Display + Drop>(&mut self, k: u64, line: D) -> Result<(), AllocError> {
+        self.say_of(&Path::Inner("events", k as usize, 1), line)
+    }
+
+    /// Adds a line of what is at a byte of the text. It begins with a space.
+    pub(crate) fn say_at<D: Display + Drop>(
+        &mut self,
+        offset: usize,
+        line: D,
+    ) -> Result<(), AllocError> {
+        let place = place_of(self.source.as_slice(), offset).below(self.above);
+        self.say(Placed { place, line })
+    }
+
+    /// Where the value at a path of the text begins.
+    pub(crate) fn offset(&self, path: &Path<'_>) -> Result<usize, AllocError> {
+        offset_at(self.alloc, self.source.as_slice(), path)
+    }
+
+    /// The number or the word that begins at a byte of the text.
+    pub(crate) fn word_at(&self, offset: usize) -> Result<String, AllocError> {
+        let mut word = String::new(self.alloc);
+        for byte in self.source.as_slice().iter().skip(offset) {
+            if !is_of_word(*byte) {
+                return Ok(word);
+            }
+            word.push(char::from(*byte))?;
+        }
+        Ok(word)
     }
 
     /// Whether more lines of the file are only counted.
@@ -91,6 +154,21 @@ impl<D: Display + Drop> Display for FileLine<'_, D> {
         let file = Shown(self.file);
         let line = &self.line;
         writeln!(f, "{file}:{line}")
+    }
+}
+
+/// A line of what is at a place.
+#[derive(Drop)]
+struct Placed<D: Display + Drop> {
+    place: LineColumn,
+    line: D,
+}
+
+impl<D: Display + Drop> Display for Placed<D> {
+    fn fmt<W: fmt::Write>(&self, f: &mut fmt::Formatter<W>) -> fmt::Result {
+        let place = self.place;
+        let line = &self.line;
+        write!(f, "{place}:{line}")
     }
 }
 

@@ -1,4 +1,4 @@
-//! Lines and columns of a text.
+//! Lines and columns of a text, in characters.
 
 use std::fmt;
 
@@ -28,6 +28,8 @@ impl LineColumn {
                 line: self.line.saturating_add(1),
                 column: 1,
             }
+        } else if is_within_character(byte) {
+            self
         } else {
             LineColumn {
                 line: self.line,
@@ -35,6 +37,11 @@ impl LineColumn {
             }
         }
     }
+}
+
+/// Whether a byte of UTF-8 goes on with a character.
+fn is_within_character(byte: u8) -> bool {
+    matches!(byte, 0x80..=0xBF)
 }
 
 impl fmt::Display for LineColumn {
@@ -52,14 +59,19 @@ pub(crate) fn place_of(text: &[u8], offset: usize) -> LineColumn {
     place
 }
 
-/// The byte of a line and a column, or the end of the text where there is none.
+/// The byte of a line and of a column in bytes, both counted from 1, or the end of the text if there is none.
 pub(crate) fn offset_of(text: &[u8], line: usize, column: usize) -> usize {
-    let mut place = START;
+    let (mut at, mut begins) = (1usize, 0usize);
     for (offset, byte) in text.iter().enumerate() {
-        if place.line == line && place.column == column {
-            return offset;
+        if at == line {
+            return begins
+                .saturating_add(column.saturating_sub(1))
+                .min(text.len());
         }
-        place = place.behind(*byte);
+        if *byte == b'\n' {
+            at = at.saturating_add(1);
+            begins = offset.saturating_add(1);
+        }
     }
     text.len()
 }

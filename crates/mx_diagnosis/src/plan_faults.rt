@@ -175,9 +175,10 @@ fn warn_of_owned(
     if owner == algorithm || member_of(plan, key).is_none() {
         return Ok(());
     }
-    page.say(Foreign {
+    let foreign = Foreign {
         key,
         owner,
         algorithm,
-    })
+    };
+    page.say_of(&Path::Member(key), foreign)
 }

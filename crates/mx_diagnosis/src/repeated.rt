@@ -24,7 +24,7 @@ pub(crate) fn warn_of_repeated(page: &mut Page<'_>, text: &[u8]) -> Result<(), A
 }
 
 /// The text of a key between its quotes.
-fn key_of<'a>(text: &'a [u8], member: &Member) -> &'a [u8] {
+pub(crate) fn key_of<'a>(text: &'a [u8], member: &Member) -> &'a [u8] {
     match text.get(member.from.saturating_add(1)..member.to) {
         Some(key) => key,
         None => &[],

@@ -57,6 +57,40 @@ pub(crate) struct Scan {
 }
 
 impl Scan {
+    /// A scan of a text of which nothing was taken.
+    pub(crate) fn new(alloc: Global) -> Self {
+        Scan {
+            members: Vec::new(alloc),
+            brackets: Vec::new(alloc),
+            firsts: Vec::new(alloc),
+            next: Next::Value,
+            within: Within::Nothing,
+            misfit: None,
+            from: 0,
+        }
+    }
+
+    /// How many brackets are open.
+    pub(crate) fn depth(&self) -> usize {
+        self.brackets.len()
+    }
+
+    /// Whether this byte, the next, is in no text, number or word that has begun.
+    pub(crate) fn is_between(&self, byte: u8) -> bool {
+        match self.within {
+            Within::Nothing => true,
+            Within::Word => !is_of_word(byte),
+            Within::Text | Within::Escape => false,
+        }
+    }
+
+    /// Whether a value begins with this byte, the next.
+    pub(crate) fn begins_value(&self, byte: u8) -> bool {
+        let may_begin = matches!(self.next, Next::Value | Next::ValueOrSquare);
+        let ends = matches!(byte, b' ' | b'\t' | b'\r' | b'\n' | b']');
+        self.is_between(byte) && may_begin && !ends
+    }
+
     pub(crate) fn members(&self) -> &[Member] {
         self.members.as_slice()
     }
@@ -101,7 +135,7 @@ impl Scan {
     }
 
     /// The next byte, which is at this place.
-    fn take(&mut self, offset: usize, byte: u8) -> Result<(), AllocError> {
+    pub(crate) fn take(&mut self, offset: usize, byte: u8) -> Result<(), AllocError> {
         match self.within {
             Within::Text => self.take_in_text(offset, byte),
             Within::Escape => {
@@ -213,15 +247,7 @@ pub(crate) fn is_of_word(byte: u8) -> bool {
 
 /// What is in a text.
 pub(crate) fn scanned(alloc: Global, text: &[u8]) -> Result<Scan, AllocError> {
-    let mut scan = Scan {
-        members: Vec::new(alloc),
-        brackets: Vec::new(alloc),
-        firsts: Vec::new(alloc),
-        next: Next::Value,
-        within: Within::Nothing,
-        misfit: None,
-        from: 0,
-    };
+    let mut scan = Scan::new(alloc);
     for (offset, byte) in text.iter().enumerate() {
         if scan.misfit.is_some() {
             return Ok(scan);

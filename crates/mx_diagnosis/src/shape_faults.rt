@@ -1,5 +1,6 @@
 //! Why nodes have no such shape.
 
+use crate::lines::Path;
 use crate::page::Page;
 use crate::values::{items_in, member_of, names_at};
 use mx_plan::ShapeFault;
@@ -28,12 +29,42 @@ fn say_fault(
     fault: ShapeFault,
 ) -> Result<(), AllocError> {
     match fault {
-        ShapeFault::Quorum(fault) => page.say(QuorumWords { fault, nodes }),
-        ShapeFault::Tree(fault) => page.say(TreeWords {
-            fault,
-            nodes,
-            edges,
-        }),
+        ShapeFault::Quorum(fault) => {
+            page.say_of(&quorum_path(fault), QuorumWords { fault, nodes })
+        }
+        ShapeFault::Tree(fault) => {
+            let words = TreeWords {
+                fault,
+                nodes,
+                edges,
+            };
+            page.say_of(&tree_path(fault), words)
+        }
+    }
+}
+
+/// Where a fault of arbiter sets is.
+fn quorum_path(fault: QuorumFault) -> Path<'static> {
+    match fault {
+        QuorumFault::EmptySet(i) | QuorumFault::NotOwnMember(i) | QuorumFault::Apart(_, i) => {
+            Path::Item("quorums.sets", usize::from(i))
+        }
+        QuorumFault::NoPlane(_) => Path::Member("quorums.kind"),
+        QuorumFault::NoNodes | QuorumFault::TooMany | QuorumFault::Stranger(_, _) => {
+            Path::Member("quorums")
+        }
+    }
+}
+
+/// Where a fault of a tree is.
+fn tree_path(fault: TreeFault) -> Path<'static> {
+    match fault {
+        TreeFault::BadEdge(k) => Path::Item("edges", k as usize),
+        TreeFault::WrongCount
+        | TreeFault::NotJoined(_)
+        | TreeFault::NoNodes
+        | TreeFault::TooMany
+        | TreeFault::BadHolder => Path::Member("edges"),
     }
 }
 

@@ -46,7 +46,7 @@ fn explain_family(page: &mut Page<'_>, quorums: &Value, nodes: &[&str]) -> Resul
     expect_word(page, Path::Member("quorums.kind"), value, &KINDS, expected)?;
     let kind = text_in(value);
     explain_kind(page, kind, quorums, nodes)?;
-    warn_of_unread(page, " of quorums", quorums, members_of(kind))
+    warn_of_unread(page, "quorums", quorums, members_of(kind))
 }
 
 /// What is read for a kind of quorums.

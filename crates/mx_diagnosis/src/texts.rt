@@ -27,6 +27,7 @@ pub fn explain_plan_text(
     let Some(plan) = value_in(page, part)? else {
         return Ok(None);
     };
+    page.look_at(text, 0)?;
     explain_read_plan(page, &plan, text, fault)?;
     Ok(Some(plan))
 }
@@ -59,7 +60,10 @@ pub fn explain_event_text(
         nesting: 2,
     };
     match value_in(page, part)? {
-        Some(events) => explain_read_events(page, plan, &events),
+        Some(events) => {
+            page.look_at(text, above)?;
+            explain_read_events(page, plan, &events)
+        }
         None => Ok(()),
     }
 }

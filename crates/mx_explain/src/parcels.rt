@@ -28,11 +28,10 @@ pub(crate) fn explain_parcel(
     };
     let sent = parcels_sent(page.alloc, &plan, events.as_slice())?;
     match events.get(k as usize) {
-        Some(Event::Deliver(number)) => page.say(Unsent {
-            k,
-            number: *number,
-            sent,
-        }),
+        Some(Event::Deliver(number)) => {
+            let number = *number;
+            page.say_of_parcel(k, Unsent { k, number, sent })
+        }
         _ => Ok(()),
     }
 }

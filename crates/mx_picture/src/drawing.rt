@@ -286,15 +286,12 @@ where
 fn draw_loss<C: Exclusion>(
     plan: &Plan,
     cluster: &Cluster<C>,
-    event: &Event,
+    number: u64,
     drawing: &mut Drawing,
 ) -> Result<(), AllocError>
 where
     C::Msg: Letter + Inked,
 {
-    let Event::Deliver(number) = *event else {
-        return Ok(());
-    };
     let Some(parcel) = cluster.parcel(number) else {
         return Ok(());
     };
