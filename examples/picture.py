@@ -11,6 +11,7 @@ import xml.etree.ElementTree as xml
 from collections import Counter
 
 LANE, ROW = 180, 13  # how far apart nodes and rows are
+NAMED_ROWS = 50  # after how many rows the names of the nodes come again
 SVG = "{http://www.w3.org/2000/svg}"
 PARTS = "svg title desc style defs marker g path text circle".split()
 TRAITS = """width height viewBox role transform class style id d x y dx dy cx cy r marker-end refX refY
@@ -39,8 +40,8 @@ class Run:
 
 
 def shown(run):
-    """What a picture of the run has to show, as a count of things."""
-    things, story, row, sent_in, delivered, since = [], [], 0, [], set(), {}
+    """What a picture of the run has to show, as a count of things, and at which side of its node each text is best."""
+    things, story, row, sent_in, delivered, since, best, named = [], [], 0, [], set(), {}, {}, 0
 
     def ends(node):
         begun, what = since.pop(node, (row, "nothing"))
@@ -50,6 +51,9 @@ def shown(run):
     for index, event in enumerate(run.events):
         word, args, outcome, told = event
         node = run.node_of(event)
+        if row - named >= NAMED_ROWS:
+            things += [("named", at, row, name) for at, name in enumerate(run.names)]
+            named, row = row, row + 1
         things.append(("index", row, str(index)))
         goes_right = {to > start for by, start, to, _ in run.parcels if by == index}
         if index % 10 == 0:
@@ -62,9 +66,11 @@ def shown(run):
             look = INKS.get(text.split()[0], "other") + (" again" if number in delivered else "")
             delivered.add(number)
             things.append(("arrow", look, start, sent_in[number], node, row))
-            things.append(("text", node, row, "right" if start <= node else "left", f"#{number} {text}"))
+            things.append(("text", node, row, f"#{number} {text}"))
+            best[node, row] = "right" if start <= node else "left"
         else:
-            things.append(("text", node, row, "left" if goes_right == {True} else "right", told))
+            things.append(("text", node, row, told))
+            best[node, row] = "left" if goes_right == {True} else "right"
         if outcome.startswith(("entered", "left")):
             story.append(f" {index} {told}.")
         if outcome.startswith("asked"):
@@ -89,7 +95,7 @@ def shown(run):
     for node, name in enumerate(run.names):
         things += [("name", node, name), ("name", node, name), ("line", node, row)]
     things.append(("story", "Sections:" + ("".join(story) or " none.")))
-    return Counter(things)
+    return Counter(things), best
 
 
 def width_of(text):
@@ -99,6 +105,42 @@ def width_of(text):
     others = {"-": 333, "r": 333, "i": 222, "j": 222, "l": 222, "F": 611, "T": 611, "Z": 611, "<": 584, ">": 584}
     widths = narrow | middle | wide | others | {"m": 833, "M": 833, "W": 944}
     return 12 * sum(widths.get(letter, 556) for letter in text) / 1000
+
+
+def room_of(text):
+    """The room that is kept for a text, of which none needs more."""
+    return sum(12 if "A" <= letter <= "Z" or letter in "mw" else 7 for letter in text)
+
+
+def is_crossed(arrow, node, row, side, wide):
+    """Whether an arrow runs through a text of this width at this side of a node."""
+    _, _, start, above, end, below = arrow
+    x, to, top, bottom = start * LANE, end * LANE, above * ROW, below * ROW
+    if start == end:
+        x, to = x - 20, to - 20
+    high, low = max(top, row * ROW - 5), min(bottom, row * ROW + 5)
+    if low < high:
+        return False
+    ways = [x + (to - x) * (y - top) / (bottom - top) for y in (high, low)]
+    near, far = (node * LANE + (17 if side == "right" else -17), node * LANE + (17 + wide if side == "right" else -17 - wide))
+    return min(ways) <= max(near, far) and max(ways) >= min(near, far)
+
+
+def badly_placed(things, sides, best):
+    """The texts at a side where an arrow runs through them while the other is free, and those at the other in vain."""
+    arrows = [thing for thing in things if thing[0] == "arrow"]
+    for _, node, row, text in (thing for thing in things if thing[0] == "text"):
+        own, other = best[node, row], "left" if best[node, row] == "right" else "right"
+
+        def crossed(side, wide):
+            return any(is_crossed(arrow, node, row, side, wide) for arrow in arrows)
+
+        if sides[node, row] == own:
+            is_well = not crossed(own, width_of(text) - 1) or crossed(other, room_of(text) + 1)
+        else:
+            is_well = crossed(own, room_of(text) + 1) and not crossed(other, width_of(text) - 1)
+        if not is_well:
+            yield node, row, sides[node, row], text
 
 
 def place(number, unit):
@@ -130,12 +172,12 @@ def path_of(look, d):
 
 
 def read_back(picture):
-    """What a picture shows, as a count of things."""
+    """What a picture shows, as a count of things, and at which side of its node each text is."""
     root = xml.parse(picture).getroot()
     assert all(part.tag.removeprefix(SVG) in PARTS and set(part.keys()) <= set(TRAITS) for part in root.iter())
     left, top, width, height = map(int, root.get("viewBox").split())
     assert (root.get("width"), root.get("height")) == (str(width), str(height))
-    things, sections, boxes = [], {}, []
+    things, sections, boxes, sides = [], {}, [], {}
     assert [part.tag for part in root[:2]] == [SVG + "title", SVG + "desc"] and root.get("role") == "img"
     things.append(("title", root[0].text))
     things.append(("story", root[1].text.removeprefix("Time goes down, and each event is told beside its node. ")))
@@ -159,23 +201,32 @@ def read_back(picture):
         elif part.tag == SVG + "text":
             x, y = int(part.get("x")), int(part.get("y"))
             wide = width_of(part.text)
+            if look == "heading":
+                assert (x, y) == (left + 16, top + 20) and x + 14 / 12 * wide <= left + width, f"too wide: {part.text}"
+                things.append(("heading", part.text))
+                continue
             if look == "name":
                 assert left <= x - wide / 2 and x + wide / 2 <= left + width, f"too wide: {part.text}"
-                things.append(("name", place(x, LANE), part.text))
+                again = part.get("dy") == "4"
+                things.append(("named", place(x, LANE), place(y, ROW), part.text) if again else ("name", place(x, LANE), part.text))
                 continue
             if look == "section":
                 sections[place(x, LANE), place(y, ROW)] = part.text
                 continue
             side = "left" if "left" in look else "right"
             assert part.get("dx") == ("-" if side == "left" else "") + ("33" if "air" in look else "17")
-            things.append(("air" if "air" in look else "text", place(x, LANE), place(y, ROW), side, part.text))
+            if "air" in look:
+                things.append(("air", place(x, LANE), place(y, ROW), side, part.text))
+            else:
+                things.append(("text", place(x, LANE), place(y, ROW), part.text))
+                sides[place(x, LANE), place(y, ROW)] = side
             reach = x - 33 - wide if side == "left" else x + 33 + wide
             assert left + 60 <= reach <= left + width, f"too wide: {part.text}"
             assert 0 <= y <= top + height
     for _, node, begun, ended in boxes:
         things.append(("inside " + sections.pop((node, begun)), node, begun, ended))
     assert not sections
-    return Counter(things)
+    return Counter(things), sides
 
 
 def main():
@@ -185,13 +236,19 @@ def main():
     with open(printed, encoding="utf-8") as file:
         run = Run(plan["nodes"], file.read().splitlines())
     title = f"{ALGORITHMS[plan['algorithm']]} algorithm, nodes: {' '.join(run.names)}, events: {len(run.events)}"
-    wanted = shown(run) + Counter([("title", title)])
-    there = read_back(picture)
+    entered = sum(outcome.startswith("entered") for _, _, outcome, _ in run.events)
+    heading = f"{ALGORITHMS[plan['algorithm']]} algorithm, nodes: {len(run.names)}, sections entered: {entered}"
+    wanted, best = shown(run)
+    wanted += Counter([("title", title), ("heading", heading)])
+    there, sides = read_back(picture)
     for thing in (wanted - there).elements():
         print("lacks", *thing)
     for thing in (there - wanted).elements():
         print("has", *thing)
-    sys.exit(wanted != there)
+    misplaced = list(badly_placed(there, sides, best)) if wanted == there else []
+    for text in misplaced:
+        print("badly placed", *text)
+    sys.exit(wanted != there or misplaced != [])
 
 
 if __name__ == "__main__":

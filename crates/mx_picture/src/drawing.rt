@@ -7,7 +7,10 @@ ghost use Rattle.mx_commands.specs.Ran.{StopsAt};
 ghost use Rattle.mx_picture.specs.Drawn.{StopsAs};
 
 use crate::inks::{Inked, ink_of};
-use crate::sheet::{Sheet, Spot};
+use crate::journals::Known;
+use crate::labels::Spot;
+use crate::part::Part;
+use crate::sheet::Sheet;
 use mx_cli::{Fault, Stop};
 use mx_member::Parcel;
 use mx_network::{Cluster, Entry, Event, Outcome, StepFault};
@@ -26,11 +29,16 @@ pub(crate) struct Drawing {
     arriving: HashSet<u64>,
     /// The text that is written next.
     label: String,
+    /// What is shown of all this, and what it showed of journals.
+    part: Part,
+    known: Known,
+    /// Whether the event before was not shown.
+    has_skipped: bool,
 }
 
 impl Drawing {
-    /// A drawing of these events, before the first.
-    pub(crate) fn new(alloc: Global, events: &[Event]) -> Result<Self, AllocError> {
+    /// A drawing of a part of these events, before the first.
+    pub(crate) fn new(alloc: Global, events: &[Event], part: &Part) -> Result<Self, AllocError> {
         let mut arriving = HashSet::new(alloc);
         for event in events {
             if let Event::Deliver(number) = event {
@@ -41,6 +49,9 @@ impl Drawing {
             sheet: Sheet::new(alloc),
             arriving,
             label: String::new(alloc),
+            part: *part,
+            known: Known::new(),
+            has_skipped: false,
         })
     }
 }
@@ -102,7 +113,8 @@ where
     Ok(())
 }
 
-/// The newest event, of this index, in a row of its own, and the parcels from `before` on, which it sent.
+/// The newest event, of this index, and the parcels from `before` on, which it sent: in a row of its own,
+/// if it is shown.
 fn draw_row<C: Exclusion>(
     plan: &Plan,
     index: u64,
@@ -113,10 +125,115 @@ fn draw_row<C: Exclusion>(
 where
     C::Msg: Letter + Inked,
 {
-    drawing.sheet.begin(index)?;
-    draw_happened(plan, before, cluster, drawing)?;
-    draw_sent(plan, cluster, before, drawing)?;
-    drawing.sheet.go_down()
+    let Some(entry) = cluster.trace().last() else {
+        return Ok(());
+    };
+    if is_shown(index, before, entry, cluster, &drawing.part) {
+        go_on(drawing)?;
+        drawing.sheet.begin(index)?;
+        draw_happened(plan, before, entry, cluster, drawing)?;
+        draw_sent(plan, cluster, before, drawing)?;
+        drawing.sheet.go_down()
+    } else {
+        drawing.has_skipped = true;
+        pass_over(before, entry, cluster, drawing)
+    }
+}
+
+/// A row of its own for the events before this one that were not shown, if there are such.
+pub(crate) fn go_on(drawing: &mut Drawing) -> Result<(), AllocError> {
+    if drawing.has_skipped {
+        drawing.has_skipped = false;
+        drawing.sheet.skip()?;
+    }
+    Ok(())
+}
+
+/// Whether the newest event is shown: it is of a node that is shown, or it sends or delivers a parcel
+/// from or to such a node.
+fn is_shown<C: Exclusion>(
+    index: u64,
+    before: u64,
+    entry: &Entry,
+    cluster: &Cluster<C>,
+    part: &Part,
+) -> bool {
+    if !part.has_index(index) {
+        return false;
+    }
+    let is_own = match happening_of(&entry.event) {
+        Happening::Delivery(number) => concerns(cluster, number, part),
+        Happening::Act(node) => part.has_node(node),
+    };
+    is_own || (before..cluster.sent()).any(|number| concerns(cluster, number, part))
+}
+
+/// Whether a parcel is from or to a node that is shown.
+fn concerns<C: Exclusion>(cluster: &Cluster<C>, number: u64, part: &Part) -> bool {
+    match cluster.parcel(number) {
+        Some(parcel) => part.has_node(parcel.0) || part.has_node(parcel.1),
+        None => false,
+    }
+}
+
+/// The newest event, which is not shown, and the parcels from `before` on, which it sent.
+fn pass_over<C: Exclusion>(
+    before: u64,
+    entry: &Entry,
+    cluster: &Cluster<C>,
+    drawing: &mut Drawing,
+) -> Result<(), AllocError>
+where
+    C::Msg: Letter + Inked,
+{
+    match happening_of(&entry.event) {
+        Happening::Delivery(number) => pass_delivery(cluster, number, &mut drawing.sheet)?,
+        Happening::Act(node) => pass_outcome(node, &entry.outcome, &mut drawing.sheet)?,
+    }
+    for _ in before..cluster.sent() {
+        drawing.sheet.send(false)?;
+    }
+    Ok(())
+}
+
+/// The delivery of a parcel, which is not shown.
+fn pass_delivery<C: Exclusion>(
+    cluster: &Cluster<C>,
+    number: u64,
+    sheet: &mut Sheet,
+) -> Result<(), AllocError>
+where
+    C::Msg: Letter + Inked,
+{
+    let Some(parcel) = cluster.parcel(number) else {
+        return Ok(());
+    };
+    sheet.go_out(number, parcel.0, parcel.1, ink_of(parcel.2))
+}
+
+/// What came of an act that is not shown: another phase, or nothing.
+fn pass_outcome(node: NodeId, outcome: &Outcome, sheet: &mut Sheet) -> Result<(), AllocError> {
+    match phase_after(outcome) {
+        Some(Phase::Inside(number)) => sheet.enter(node, number),
+        Some(phase) => sheet.change(node, phase),
+        None => Ok(()),
+    }
+}
+
+/// The phase to which an outcome leads, if it leads to another.
+fn phase_after(outcome: &Outcome) -> Option<Phase> {
+    match outcome {
+        Outcome::Entered(number) => Some(Phase::Inside(*number)),
+        Outcome::Left(_) | Outcome::Cancelled => Some(Phase::Idle),
+        Outcome::Asked(_) => Some(Phase::Waiting),
+        Outcome::Value(_)
+        | Outcome::Written
+        | Outcome::Sent(_)
+        | Outcome::Settled
+        | Outcome::Delivered
+        | Outcome::Woken
+        | Outcome::Refused(_) => None,
+    }
 }
 
 /// One event, of this index.
@@ -147,21 +264,54 @@ fn step<C: Exclusion>(event: &Event, cluster: &mut Cluster<C>) -> Result<(), Ste
 fn draw_happened<C: Exclusion>(
     plan: &Plan,
     before: u64,
+    entry: &Entry,
     cluster: &Cluster<C>,
     drawing: &mut Drawing,
 ) -> Result<(), AllocError>
 where
     C::Msg: Letter + Inked,
 {
-    let Some(entry) = cluster.trace().last() else {
-        return Ok(());
-    };
-    match entry.event.node() {
-        Some(node) => {
+    match happening_of(&entry.event) {
+        Happening::Delivery(number) => draw_delivery(plan, cluster, number, drawing),
+        Happening::Act(node) => {
             let spot = spot_of_act(cluster, node, before);
-            draw_act(plan, node, spot, entry, drawing)
+            tell_act(plan, entry, &mut drawing.label)?;
+            tell_section(&entry.outcome, drawing)?;
+            tell_journal(cluster, node, drawing)?;
+            drawing.sheet.text(node, spot, drawing.label.as_str())?;
+            draw_outcome(node, &entry.outcome, &mut drawing.sheet)
         }
-        None => draw_delivery(plan, cluster, &entry.event, drawing),
+    }
+}
+
+/// Appends to the label what the node's journal has, if that is shown and has changed.
+fn tell_journal<C: Exclusion>(
+    cluster: &Cluster<C>,
+    node: NodeId,
+    drawing: &mut Drawing,
+) -> Result<(), AllocError> {
+    if !drawing.part.has_journals {
+        return Ok(());
+    }
+    match cluster.member(node) {
+        Some(member) => drawing
+            .known
+            .add_changed(node, member.journal(), &mut drawing.label),
+        None => Ok(()),
+    }
+}
+
+/// What an event is: an act of a node, or the delivery of the parcel of a number.
+#[derive(Clone, Copy)]
+enum Happening {
+    Act(NodeId),
+    Delivery(u64),
+}
+
+fn happening_of(event: &Event) -> Happening {
+    match event {
+        Event::Deliver(number) => Happening::Delivery(*number),
+        _ => Happening::Act(event.node().unwrap_or_default()),
     }
 }
 
@@ -186,20 +336,6 @@ fn spot_of_act<C: Exclusion>(cluster: &Cluster<C>, node: NodeId, before: u64) ->
     }
 }
 
-/// What a node did. The number of a section that it entered stands for the dot.
-fn draw_act(
-    plan: &Plan,
-    node: NodeId,
-    spot: Spot,
-    entry: &Entry,
-    drawing: &mut Drawing,
-) -> Result<(), AllocError> {
-    tell_act(plan, entry, &mut drawing.label)?;
-    drawing.sheet.text(node, spot, drawing.label.as_str())?;
-    tell_section(&entry.outcome, drawing)?;
-    draw_outcome(node, &entry.outcome, &mut drawing.sheet)
-}
-
 /// Puts an act and what came of it in place of the label.
 fn tell_act(plan: &Plan, entry: &Entry, label: &mut String) -> Result<(), AllocError> {
     let done = EventText {
@@ -219,19 +355,13 @@ fn tell_section(outcome: &Outcome, drawing: &mut Drawing) -> Result<(), AllocErr
     }
 }
 
-/// What came of an act at its node: another phase, or a dot.
+/// What came of an act at its node: another phase, or a dot. The number of a section that it entered is in
+/// place of the dot.
 fn draw_outcome(node: NodeId, outcome: &Outcome, sheet: &mut Sheet) -> Result<(), AllocError> {
-    match outcome {
-        Outcome::Entered(number) => sheet.change(node, Phase::Inside(*number)),
-        Outcome::Left(_) | Outcome::Cancelled => sheet.turn(node, Phase::Idle),
-        Outcome::Asked(_) => sheet.turn(node, Phase::Waiting),
-        Outcome::Value(_)
-        | Outcome::Written
-        | Outcome::Sent(_)
-        | Outcome::Settled
-        | Outcome::Delivered
-        | Outcome::Woken
-        | Outcome::Refused(_) => sheet.dot(node),
+    match phase_after(outcome) {
+        Some(Phase::Inside(number)) => sheet.enter(node, number),
+        Some(phase) => sheet.turn(node, phase),
+        None => sheet.dot(node),
     }
 }
 
@@ -239,15 +369,12 @@ fn draw_outcome(node: NodeId, outcome: &Outcome, sheet: &mut Sheet) -> Result<()
 fn draw_delivery<C: Exclusion>(
     plan: &Plan,
     cluster: &Cluster<C>,
-    event: &Event,
+    number: u64,
     drawing: &mut Drawing,
 ) -> Result<(), AllocError>
 where
     C::Msg: Letter + Inked,
 {
-    let Event::Deliver(number) = *event else {
-        return Ok(());
-    };
     let Some(parcel) = cluster.parcel(number) else {
         return Ok(());
     };
@@ -257,6 +384,7 @@ where
         Spot::Left
     };
     tell_parcel(plan, number, parcel.2, &mut drawing.label)?;
+    tell_journal(cluster, parcel.1, drawing)?;
     drawing
         .sheet
         .arrow(number, parcel.0, parcel.1, ink_of(parcel.2))?;
@@ -274,8 +402,8 @@ where
     C::Msg: Letter + Inked,
 {
     for number in before..cluster.sent() {
-        drawing.sheet.send()?;
-        if !drawing.arriving.contains(&number) {
+        drawing.sheet.send(true)?;
+        if !drawing.arriving.contains(&number) && concerns(cluster, number, &drawing.part) {
             draw_loss(plan, cluster, number, drawing)?;
         }
     }

@@ -6,7 +6,7 @@ pub(crate) const STYLES: &str = "<style>
 text{font:12px Helvetica,Arial,sans-serif;stroke:#fff;stroke-width:3px;stroke-linejoin:round;paint-order:stroke}
 path{fill:none;stroke-width:1.4px}
 .paper{fill:#fff}.guide{stroke:#ddd;stroke-width:1px}.node{stroke:#999}
-.name{font-weight:bold;text-anchor:middle}.index{fill:#555;text-anchor:end}
+.heading{font-weight:bold;font-size:14px}.name{font-weight:bold;text-anchor:middle}.index{fill:#555;text-anchor:end}
 .waits{stroke:#56b4e9;stroke-width:6px}.inside{fill:#f0e442;stroke:#000}
 .section{font-weight:bold;text-anchor:middle;stroke:none}
 .request{stroke:#0072b2}.grant{stroke:#009e73;stroke-width:2.4px}.other{stroke:#cc79a7}

@@ -5,18 +5,19 @@ ghost use Rattle.mx_picture.specs.Drawn.{IsWhole};
 
 use crate::escaping::add_escaped;
 use crate::looks::{LEGEND, LEGEND_WIDTH, STYLES};
+use crate::part::Part;
 use crate::places::{LANE, y_of};
 use crate::sheet::Sheet;
 use mx_plan::{Plan, Shape};
 use std::alloc::AllocError;
 
-/// What stands above the first row: the legend and the names of the nodes.
-const HEAD: u64 = 64;
+/// What is above the first row: the heading, the legend and the names of the nodes.
+const HEAD: u64 = 86;
 
-/// What stands below the last row: the names again.
+/// What is below the last row: the names again.
 const FOOT: u64 = 30;
 
-/// What stands at the left: the indices of the events.
+/// What is at the left: the indices of the events.
 const INDICES: u64 = 60;
 
 /// How far from the edge the indices end.
@@ -25,10 +26,10 @@ const INDEX_END: u64 = 50;
 /// How far a node's name reaches to each side of its line, at the most.
 const NAME: u64 = 100;
 
-/// How far the texts stand off from their nodes, and from the edge of the page.
+/// How far texts are from their nodes, and from the edge of the page.
 const MARGIN: u64 = 40;
 
-/// The page, which has room for all texts. The line of the first node stands `left` pixels from its edge.
+/// The page, which has room for all texts. The line of the first node is `left` pixels from its edge.
 #[derive(Clone, Copy)]
 struct Frame {
     left: u64,
@@ -36,10 +37,11 @@ struct Frame {
     height: u64,
 }
 
-/// Appends the whole picture of so many events.
+/// Appends the whole picture of a part of a number of events.
 pub(crate) fn add_page(
     plan: &Plan,
     events: u64,
+    part: &Part,
     sheet: &Sheet,
     text: &mut String,
 ) -> Result<(), AllocError>
@@ -49,30 +51,41 @@ pub(crate) fn add_page(
     add_size(&frame, text)?;
     add_title(plan, events, text)?;
     add_story(sheet, text)?;
-    add_ground(plan, sheet, &frame, text)?;
-    add_drawn(sheet, text)
+    add_ground(plan, part, sheet, &frame, text)?;
+    add_lines(plan, sheet, text)?;
+    add_marks(sheet, text)
 }
 
 /// Appends what lies below all that was drawn.
 fn add_ground(
     plan: &Plan,
+    part: &Part,
     sheet: &Sheet,
     frame: &Frame,
     text: &mut String,
 ) -> Result<(), AllocError> {
     add_head(frame, text)?;
+    add_heading(plan, part, sheet, frame, text)?;
     add_guides(sheet, frame, text)?;
     add_indices(sheet, frame.left, text)?;
     add_lanes(plan, y_of(sheet.row), text)
 }
 
-/// Appends what was drawn, and closes the picture.
-fn add_drawn(sheet: &Sheet, text: &mut String) -> Result<(), AllocError>
-    ensures { OnOk result (IsWhole (string_bytes text.new)) }
-{
+/// Appends bars and arrows, and over them the names of the nodes where they are shown again.
+fn add_lines(plan: &Plan, sheet: &Sheet, text: &mut String) -> Result<(), AllocError> {
     text.push_str(sheet.bars.as_str())?;
     text.push_str(sheet.arrows.as_str())?;
-    text.push_str(sheet.texts.as_str())?;
+    for y in &sheet.headings {
+        add_names(plan, *y, text)?;
+    }
+    Ok(())
+}
+
+/// Appends dots, numbers of sections and texts, and closes the picture.
+fn add_marks(sheet: &Sheet, text: &mut String) -> Result<(), AllocError>
+    ensures { OnOk result (IsWhole (string_bytes text.new)) }
+{
+    text.push_str(sheet.marks.as_str())?;
     text.push_str("</svg>\n")
 }
 
@@ -142,8 +155,65 @@ fn add_head(frame: &Frame, text: &mut String) -> Result<(), AllocError> {
     write!(text, "<g transform=\"translate(-{left} -{HEAD})\">\n")?;
     write!(
         text,
-        "<path class=\"paper\" d=\"M0 0h{width}v{height}h-{width}z\"/>\n{LEGEND}</g>\n"
-    )
+        "<path class=\"paper\" d=\"M0 0h{width}v{height}h-{width}z\"/>\n<g transform=\"translate(0 22)\">\n"
+    )?;
+    text.push_str(LEGEND)?;
+    text.push_str("</g>\n</g>\n")
+}
+
+/// Appends what the picture shows: the algorithm, how many nodes there are and how many sections were
+/// entered, and which part of the events it is.
+fn add_heading(
+    plan: &Plan,
+    part: &Part,
+    sheet: &Sheet,
+    frame: &Frame,
+    text: &mut String,
+) -> Result<(), AllocError> {
+    let algorithm = algorithm_of(plan);
+    let nodes = plan.nodes();
+    let entered = sheet.entered;
+    let aside = frame.left.saturating_sub(16);
+    write!(text, "<text class=\"heading\" x=\"-{aside}\" y=\"-66\">")?;
+    write!(
+        text,
+        "{algorithm} algorithm, nodes: {nodes}, sections entered: {entered}"
+    )?;
+    add_part(plan, part, text)?;
+    text.push_str("</text>\n")
+}
+
+/// Appends which part of the events is shown, if it is not all.
+fn add_part(plan: &Plan, part: &Part, text: &mut String) -> Result<(), AllocError> {
+    if part.from > 0 {
+        let from = part.from;
+        write!(text, ", from event {from}")?;
+    }
+    if part.to < u64::MAX {
+        let to = part.to;
+        write!(text, ", to event {to}")?;
+    }
+    match part.node {
+        Some(node) => add_node(plan.node_name(node.get()).unwrap_or(""), text),
+        None => Ok(()),
+    }
+}
+
+/// Appends of which node alone events are shown.
+fn add_node(name: &str, text: &mut String) -> Result<(), AllocError> {
+    text.push_str(", node ")?;
+    add_escaped(name, text)
+}
+
+/// Appends the names of the nodes in this row.
+fn add_names(plan: &Plan, y: u64, text: &mut String) -> Result<(), AllocError> {
+    for index in 0..plan.nodes() {
+        let x = LANE * u64::from(index);
+        write!(text, "<text class=\"name\" x=\"{x}\" y=\"{y}\" dy=\"4\">")?;
+        add_escaped(plan.node_name(index).unwrap_or(""), text)?;
+        text.push_str("</text>\n")?;
+    }
+    Ok(())
 }
 
 /// Appends the lines across the page.

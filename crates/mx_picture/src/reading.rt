@@ -8,9 +8,9 @@ ghost use Rattle.mx_commands.specs.Runs.{AllNameNodes};
 ghost use Rattle.mx_commands.specs.Ran.{Ran, RanOf, RanOn};
 ghost use Rattle.mx_picture.specs.Drawn.{Draws, IsWhole, StopsAs};
 
-use crate::drawing::{Drawing, draw_run};
+use crate::drawing::{Drawing, draw_run, go_on};
 use crate::page::add_page;
-use crate::sheet::Sheet;
+use crate::part::Part;
 use mx_cli::{Named, Names, Stop, are_dashes, fetch, fetch_plan, plan_in, split_line};
 use mx_commands::start;
 use mx_io::{Output, Source};
@@ -88,24 +88,27 @@ fn page_of(alloc: Global, plan: &Plan, events: &[Event]) -> Result<String, Stop>
     ensures ok { OnOk result ((run_by plan.now plan.now.shape events.now).end ≡ None) }
     ensures err { IfErr result (StopsAs (run_by plan.now plan.now.shape events.now)) }
 {
-    let mut drawing = Drawing::new(alloc, events)?;
+    let part = Part::whole();
+    let mut drawing = Drawing::new(alloc, events, &part)?;
     draw_by_shape(alloc, plan, events, &mut drawing)?;
-    let page = whole_page(alloc, plan, events.len() as u64, &mut drawing.sheet)?;
+    let page = whole_page(alloc, plan, events.len() as u64, &part, &mut drawing)?;
     Ok(page)
 }
 
-/// The page of what was drawn of so many events.
+/// The page of what was drawn of a number of events.
 fn whole_page(
     alloc: Global,
     plan: &Plan,
     events: u64,
-    sheet: &mut Sheet,
+    part: &Part,
+    drawing: &mut Drawing,
 ) -> Result<String, AllocError>
     ensures { IfOk result (λ page. IsWhole (string_bytes page)) }
 {
-    sheet.close()?;
+    go_on(drawing)?;
+    drawing.sheet.close()?;
     let mut page = String::new(alloc);
-    add_page(plan, events, sheet, &mut page)?;
+    add_page(plan, events, part, &drawing.sheet, &mut page)?;
     Ok(page)
 }
 

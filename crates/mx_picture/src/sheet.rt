@@ -4,8 +4,8 @@ ghost use Rattle.std.specs.Prelude.{◌<◌, ◌≤◌, IsTrue, length, nat_le};
 ghost use Rattle.std.specs.List.{list_all};
 
 use crate::escaping::add_escaped;
+use crate::labels::{Labels, SHIFT, Spot, Way};
 use crate::places::{MOST_ROWS, x_of, y_of};
-use crate::widths::width_of;
 use mx_nodelaws::Phase;
 use mx_stamps::{MOST_NODES, NodeId};
 use std::alloc::{AllocError, Global};
@@ -17,21 +17,16 @@ struct Stay {
     phase: Phase,
 }
 
-/// A parcel that was sent: in which row, and whether it was delivered.
+/// A parcel that was sent: in which row, whether that row is shown, and whether it was delivered.
 #[derive(Clone, Copy)]
 struct Trip {
     row: u64,
+    shown: bool,
     delivered: bool,
 }
 
-/// Where a text stands: left or right of its node, or where a parcel ends in the air there.
-#[derive(Clone, Copy, PartialEq, Eq)]
-pub(crate) enum Spot {
-    Left,
-    Right,
-    LeftInAir,
-    RightInAir,
-}
+/// After how many rows the names of the nodes are shown again.
+const NAMED_ROWS: u64 = 50;
 
 /// The parts of a picture, of which each lies over those before it, and what has to be known of the
 /// rows above.
@@ -39,12 +34,18 @@ pub(crate) enum Spot {
 pub(crate) struct Sheet {
     pub(crate) bars: String,
     pub(crate) arrows: String,
-    pub(crate) texts: String,
+    pub(crate) marks: String,
+    labels: Labels,
     pub(crate) indices: String,
     /// The sections in words, for those who can't see the picture.
     pub(crate) story: String,
     /// Where lines go across the page, so that an index is found from afar.
     pub(crate) guides: Vec<u64>,
+    /// Where the names of the nodes are shown again, and the row in which they were last.
+    pub(crate) headings: Vec<u64>,
+    heading: u64,
+    /// How many sections were entered.
+    pub(crate) entered: u64,
     /// How far texts reach to the left of the first node, and to the right of it.
     pub(crate) left: u64,
     pub(crate) right: u64,
@@ -69,10 +70,14 @@ impl Sheet {
         Sheet {
             bars: String::new(alloc),
             arrows: String::new(alloc),
-            texts: String::new(alloc),
+            marks: String::new(alloc),
+            labels: Labels::new(alloc),
             indices: String::new(alloc),
             story: String::new(alloc),
             guides: Vec::new(alloc),
+            headings: Vec::new(alloc),
+            heading: 0,
+            entered: 0,
             left: 0,
             right: 0,
             row: 0,
@@ -92,13 +97,37 @@ impl Sheet {
         Ok(())
     }
 
-    /// Begins an event, of this index, in this row.
+    /// Begins an event, of this index, in this row, or in the next where names are shown in this.
     pub(crate) fn begin(&mut self, index: u64) -> Result<(), AllocError> {
+        self.repeat_names()?;
         self.event = self.row;
         self.index = index;
         self.guide(index)?;
         let y = y_of(self.row);
         write!(self.indices, "<text y=\"{y}\" dy=\"4\">{index}</text>\n")
+    }
+
+    /// Shows the names of the nodes again, in a row of their own, if they were last shown long ago.
+    fn repeat_names(&mut self) -> Result<(), AllocError> {
+        if self.row.saturating_sub(self.heading) < NAMED_ROWS {
+            return Ok(());
+        }
+        self.heading = self.row;
+        self.headings.push(y_of(self.row))?;
+        self.go_down()
+    }
+
+    /// A row of its own for events that are not shown.
+    pub(crate) fn skip(&mut self) -> Result<(), AllocError> {
+        let y = y_of(self.row);
+        write!(self.indices, "<text y=\"{y}\" dy=\"4\">..</text>\n")?;
+        self.go_down()
+    }
+
+    /// A node enters the section of this number.
+    pub(crate) fn enter(&mut self, node: NodeId, number: u64) -> Result<(), AllocError> {
+        self.entered = self.entered.saturating_add(1);
+        self.change(node, Phase::Inside(number))
     }
 
     /// Each tenth event has a line across the page.
@@ -113,32 +142,20 @@ impl Sheet {
     pub(crate) fn dot(&mut self, node: NodeId) -> Result<(), AllocError> {
         let x = x_of(node);
         let y = y_of(self.row);
-        write!(self.texts, "<circle cx=\"{x}\" cy=\"{y}\" r=\"2.5\"/>\n")
+        write!(self.marks, "<circle cx=\"{x}\" cy=\"{y}\" r=\"2.5\"/>\n")
     }
 
     /// A text beside a node.
     pub(crate) fn text(&mut self, node: NodeId, spot: Spot, text: &str) -> Result<(), AllocError> {
         let x = x_of(node);
         let y = y_of(self.row);
-        self.make_room(x, spot, width_of(text));
-        let style = style_of(spot);
-        write!(self.texts, "<text{style} x=\"{x}\" y=\"{y}\" dy=\"4\">")?;
-        add_escaped(text, &mut self.texts)?;
-        self.texts.push_str("</text>\n")
+        self.labels.add(x, y, spot, text)
     }
 
     /// The dot of an event at its node, and a text beside it.
     pub(crate) fn mark(&mut self, node: NodeId, spot: Spot, text: &str) -> Result<(), AllocError> {
         self.dot(node)?;
         self.text(node, spot, text)
-    }
-
-    /// Makes the page wide enough for a text of this width.
-    fn make_room(&mut self, x: u64, spot: Spot, width: u64) {
-        match spot {
-            Spot::Left | Spot::LeftInAir => self.left = self.left.max(width.saturating_sub(x)),
-            Spot::Right | Spot::RightInAir => self.right = self.right.max(width.saturating_add(x)),
-        }
     }
 
     /// Tells of the present event in words.
@@ -149,10 +166,11 @@ impl Sheet {
         self.story.push('.')
     }
 
-    /// The present event sends a parcel, the next by number.
-    pub(crate) fn send(&mut self) -> Result<(), AllocError> {
+    /// The present event, shown or not, sends a parcel, the next by number.
+    pub(crate) fn send(&mut self, shown: bool) -> Result<(), AllocError> {
         self.trips.push(Trip {
             row: self.event,
+            shown,
             delivered: false,
         })?;
         Ok(())
@@ -199,6 +217,17 @@ impl Sheet {
             return Ok(());
         }
         let trip = self.deliver(index);
+        if trip.shown {
+            self.join(trip, from, to, ink)
+        } else {
+            self.come_in(from, to, ink)
+        }
+    }
+
+    /// The arrow of a parcel from the row in which it was sent to the present one.
+    fn join(&mut self, trip: Trip, from: NodeId, to: NodeId, ink: &str) -> Result<(), AllocError>
+        requires { trip.row ≤ self.old.row }
+    {
         let again = if trip.delivered { " again" } else { "" };
         let x = x_of(from);
         let y = y_of(trip.row);
@@ -206,7 +235,49 @@ impl Sheet {
         let arrows = &mut self.arrows;
         write!(arrows, "<path class=\"{ink}{again}\" d=\"M{x} {y}")?;
         add_way(x, x_of(to), down, arrows)?;
-        write!(arrows, "\" marker-end=\"url(#{ink})\"/>\n")
+        write!(arrows, "\" marker-end=\"url(#{ink})\"/>\n")?;
+        self.labels.add_way(way_of(x, y, x_of(to), down))
+    }
+
+    /// The arrow of a parcel that was sent in a row that is not shown: its end.
+    fn come_in(&mut self, from: NodeId, to: NodeId, ink: &str) -> Result<(), AllocError> {
+        let x = x_of(to);
+        let y = y_of(self.row);
+        let (back, aside) = if x_of(from) <= x {
+            ("-26", "26")
+        } else {
+            ("26", "-26")
+        };
+        write!(
+            self.arrows,
+            "<path class=\"{ink}\" d=\"M{x} {y}m{back}-13l{aside} 13\" marker-end=\"url(#{ink})\"/>\n"
+        )
+    }
+
+    /// A parcel is delivered in a row that is not shown. Where it was sent in one that is, its arrow
+    /// begins there.
+    pub(crate) fn go_out(
+        &mut self,
+        number: u64,
+        from: NodeId,
+        to: NodeId,
+        ink: &str,
+    ) -> Result<(), AllocError> {
+        let index = number as usize;
+        if index >= self.trips.len() {
+            return Ok(());
+        }
+        let trip = self.deliver(index);
+        if !trip.shown || trip.delivered {
+            return Ok(());
+        }
+        let x = x_of(from);
+        let y = y_of(trip.row);
+        let aside = if x_of(to) >= x { "26" } else { "-26" };
+        write!(
+            self.arrows,
+            "<path class=\"{ink}\" d=\"M{x} {y}l{aside} 13\"/>\n"
+        )
     }
 
     /// Notes that a parcel is delivered, and answers what was known of it.
@@ -217,6 +288,7 @@ impl Sheet {
         let trip = self.trips[index];
         self.trips[index] = Trip {
             row: trip.row,
+            shown: trip.shown,
             delivered: true,
         };
         trip
@@ -230,6 +302,9 @@ impl Sheet {
             since: self.row,
             phase,
         };
+        if stay.since == self.row {
+            return Ok(());
+        }
         match stay.phase {
             Phase::Idle => Ok(()),
             Phase::Waiting => self.wait(node, stay.since),
@@ -237,19 +312,22 @@ impl Sheet {
         }
     }
 
-    /// The same, with the dot of the event by which it changes.
+    /// The phase of a node changes, at the dot of the event by which it does.
     pub(crate) fn turn(&mut self, node: NodeId, phase: Phase) -> Result<(), AllocError> {
         self.dot(node)?;
         self.change(node, phase)
     }
 
-    /// What still goes on ends with the picture.
+    /// What still goes on ends with the picture, and texts get their sides.
     pub(crate) fn close(&mut self) -> Result<(), AllocError> {
         for index in 0..MOST_NODES {
             if let Some(node) = NodeId::of(index) {
                 self.change(node, Phase::Idle)?;
             }
         }
+        let reach = self.labels.place(&mut self.marks)?;
+        self.left = reach.left;
+        self.right = reach.right;
         Ok(())
     }
 
@@ -275,7 +353,7 @@ impl Sheet {
             "<path class=\"inside\" d=\"M{x} {y}m-12-6h24v{high}h-24z\"/>\n"
         )?;
         write!(
-            self.texts,
+            self.marks,
             "<text class=\"section\" x=\"{x}\" y=\"{y}\" dy=\"4\">{number}</text>\n"
         )
     }
@@ -295,12 +373,13 @@ fn add_way(x: u64, to: u64, down: u64, text: &mut String) -> Result<(), AllocErr
     }
 }
 
-/// How a text stands beside its node.
-fn style_of(spot: Spot) -> &'static str {
-    match spot {
-        Spot::Left => " class=\"left\" dx=\"-17\"",
-        Spot::Right => " dx=\"17\"",
-        Spot::LeftInAir => " class=\"air left\" dx=\"-33\"",
-        Spot::RightInAir => " class=\"air\" dx=\"33\"",
+/// The line of an arrow from one node down to another; a bow is a line at its left.
+fn way_of(x: u64, y: u64, to: u64, down: u64) -> Way {
+    let aside = if to == x { SHIFT - 20 } else { SHIFT };
+    Way {
+        from: x.saturating_add(aside),
+        top: y,
+        to: to.saturating_add(aside),
+        bottom: y.saturating_add(down),
     }
 }

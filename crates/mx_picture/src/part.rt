@@ -1,0 +1,37 @@
+//! What part of a run is drawn.
+
+use mx_stamps::NodeId;
+
+/// The events from one index to another, of all nodes or of one, and whether journals are shown too.
+#[derive(Clone, Copy)]
+pub(crate) struct Part {
+    pub(crate) from: u64,
+    pub(crate) to: u64,
+    pub(crate) node: Option<NodeId>,
+    pub(crate) has_journals: bool,
+}
+
+impl Part {
+    /// All events of all nodes, without journals.
+    pub(crate) fn whole() -> Self {
+        Part {
+            from: 0,
+            to: u64::MAX,
+            node: None,
+            has_journals: false,
+        }
+    }
+
+    /// Whether an event of this index may be shown.
+    pub(crate) fn has_index(&self, index: u64) -> bool {
+        self.from <= index && index <= self.to
+    }
+
+    /// Whether what happens at this node is shown.
+    pub(crate) fn has_node(&self, node: NodeId) -> bool {
+        match self.node {
+            Some(shown) => shown == node,
+            None => true,
+        }
+    }
+}
