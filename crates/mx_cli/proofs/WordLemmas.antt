@@ -20,7 +20,7 @@ use Rattle.clap.proofs.WalkLemmas.{one_text-rows}
 use Rattle.clap.proofs.ValueTestLemmas.{Accepts-accepts, accepts-Accepts}
 use Rattle.clap.specs.Faults.{fault_of, is_simple_and_free}
 use Rattle.clap.proofs.OnLiterals.{clap_on_literals}
-use Rattle.mx_cli.specs.Words.{AddsArgMade, AddsBothMade, AddsMade, IsArgument, IsCommand, IsReadable, asked_of, mx_app, needed, number_at, number_of, task_asked, task_in, where_none}
+use Rattle.mx_cli.specs.Words.{AddsArgMade, AddsBothMade, AddsMade, IsArgument, IsCommand, IsReadable, asked_of, mx_app, needed, number_at, number_of, request_asked, request_in, where_none}
 
 -- ---- numbers
 
@@ -140,6 +140,6 @@ none_among (x ∷ xs) k o among s = let bad : false ≡ true = s in cc
 pub none_asked : {X : Type 0} (line : App) (read : Option (Text × List Row) → Option X) (words : List Text) (k : ErrorKind) → IsAmong k (fault_of line words) → IsSome (asked_of line read words) → ⊥
 none_asked line read words k among s = none_among (fault_of line words) k (read (subcommand_of line words)) among s
 
-pub no_task_among : (words : List Text) (k : ErrorKind) → IsAmong k (fault_of mx_app words) → IsSome (task_asked words) → ⊥
-unfolding task_asked
-no_task_among words k among s = none_asked mx_app task_in words k among s
+pub no_request_among : (words : List Text) (k : ErrorKind) → IsAmong k (fault_of mx_app words) → IsSome (request_asked words) → ⊥
+unfolding request_asked
+no_request_among words k among s = none_asked mx_app request_in words k among s

@@ -3,7 +3,7 @@ use Rattle.std.specs.Prelude.{ℕ, Bool, List, Option, Some, None, codes, if◌t
 use Rattle.std.specs.Str.{bytes_eq}
 use Rattle.clap.specs.Words.{App, Row, Rule, Text, first_of, new_app, with_rule}
 use Rattle.mx_stamps.specs.declared.limits.TheConstants.{MOST_SECTIONS}
-use Rattle.mx_cli.specs.declared.live_words.LiveRun.{LiveRun}
+use Rattle.mx_cli.specs.declared.live_words.LiveRequest.{LiveRequest as Given}
 use Rattle.mx_cli.specs.Words.{asked_of, flag_rule, is_given, line_with, needed, number_at, number_rule, plan_rule, seed_rule}
 
 -- `--sections M`, a number up to that of the last section that a cluster may have
@@ -32,7 +32,7 @@ live_line = line_with live_app
 
 -- the name of the plan, how many sections each node is to have, the seed, how many turns each may take, after how many
 -- of its sections it settles its journal (0 for never), and whether progress is to be told
-pub record Order : Type 0 where
+pub record LiveRequest : Type 0 where
   pub plan : Text
   pub sections : ℕ
   pub seed : ℕ
@@ -40,26 +40,26 @@ pub record Order : Type 0 where
   pub settle : ℕ
   pub progress : Bool
 
-abbrev pub order : Text → ℕ → ℕ → ℕ → Bool → ℕ → Order
-order plan sections seed settle progress turns =
+abbrev pub live_request : Text → ℕ → ℕ → ℕ → Bool → ℕ → LiveRequest
+live_request plan sections seed settle progress turns =
     record { plan = plan; sections = sections; seed = seed; turns = turns; settle = settle; progress = progress }
 
-abbrev pub order_of : LiveRun → Order
-order_of run = order run.plan.now run.sections run.seed run.settle run.progress run.turns
+abbrev pub request_of : Given → LiveRequest
+request_of run = live_request run.plan.now run.sections run.seed run.settle run.progress run.turns
 
 -- the number that was given for `--settle`, or 0
 abbrev pub settle_in : List Row → ℕ
 settle_in rows = unwrap_or (number_at (codes "settle") rows) 0
 
 -- what was given for the arguments
-abbrev pub live_in : List Row → Option Order
-live_in rows = option_and_then (λ plan. option_and_then (λ sections. option_and_then (λ seed. option_map (order plan sections seed (settle_in rows) (is_given (codes "progress") rows))
+abbrev pub live_in : List Row → Option LiveRequest
+live_in rows = option_and_then (λ plan. option_and_then (λ sections. option_and_then (λ seed. option_map (live_request plan sections seed (settle_in rows) (is_given (codes "progress") rows))
     (number_at (codes "turns") rows)) (number_at (codes "seed") rows)) (number_at (codes "sections") rows)) (first_of (codes "PLAN") rows)
 
-abbrev pub order_in : Option (Text × List Row) → Option Order
-order_in None = None
-order_in (Some p) = if bytes_eq p.0 (codes "live") then live_in p.1 else None
+abbrev pub request_in : Option (Text × List Row) → Option LiveRequest
+request_in None = None
+request_in (Some p) = if bytes_eq p.0 (codes "live") then live_in p.1 else None
 
 -- what the words ask for, where they are `live` with its arguments
-unfoldable pub order_asked : List Text → Option Order
-order_asked words = asked_of live_line order_in words
+unfoldable pub request_asked : List Text → Option LiveRequest
+request_asked words = asked_of live_line request_in words

@@ -16,7 +16,7 @@ use Rattle.clap.specs.declared.builder.action.ArgAction.TheVariants.{SetTrue}
 use Rattle.clap.specs.declared.builder.value_parser.ValueParser.TheVariants.{Unsigned}
 use Rattle.mx_cli.specs.declared.words.Exploration.{Exploration}
 use Rattle.mx_cli.specs.declared.words.Names.{Names}
-use Rattle.mx_cli.specs.declared.words.Request.{Request}
+use Rattle.mx_cli.specs.declared.words.Request.{Request as Given}
 use Rattle.mx_cli.specs.declared.words.Request.TheVariants.{Check, Replay, Explore}
 use Rattle.clap.specs.declared.error.kind.ErrorKind.{ErrorKind}
 use Rattle.clap.specs.declared.error.kind.ErrorKind.TheVariants.{DisplayHelp, DisplayVersion}
@@ -119,10 +119,10 @@ texts_of = map (λ word. word.now)
 -- ---- what is asked for
 
 -- `check PLAN`; `replay PLAN EVENTS`; `explore PLAN`, with a seed and a number of steps
-pub data Task : Type 0 where
-  check : Text → Task
-  replay : Text × Text → Task
-  explore : Text → ℕ → ℕ → Task
+pub data Request : Type 0 where
+  check : Text → Request
+  replay : Text × Text → Request
+  explore : Text → ℕ → ℕ → Request
 
 -- the names of the plan and of the events
 abbrev pub names_of : Names → Text × Text
@@ -132,10 +132,10 @@ names_of names = (names.plan.now, names.events.now)
 abbrev pub explored : Exploration → Text × (ℕ × ℕ)
 explored exploration = (exploration.plan.now, (exploration.seed, exploration.steps))
 
-abbrev pub task_of : Request → Task
-task_of (Check plan) = check plan.now
-task_of (Replay names) = replay (names_of names)
-task_of (Explore exploration) = explore exploration.plan.now exploration.seed exploration.steps
+abbrev pub request_of : Given → Request
+request_of (Check plan) = check plan.now
+request_of (Replay names) = replay (names_of names)
+request_of (Explore exploration) = explore exploration.plan.now exploration.seed exploration.steps
 
 -- the number that a text writes, where it is one of 64 bits
 abbrev pub number_of : Text → Option ℕ
@@ -159,19 +159,19 @@ exploration_at rows = option_and_then (λ plan. option_and_then (λ seed. option
     (number_at (codes "steps") rows)) (number_at (codes "seed") rows)) (first_of (codes "PLAN") rows)
 
 -- what was given for the arguments of each command
-abbrev pub check_in : List Row → Option Task
+abbrev pub check_in : List Row → Option Request
 check_in rows = option_map check (first_of (codes "PLAN") rows)
 
-abbrev pub replay_in : List Row → Option Task
+abbrev pub replay_in : List Row → Option Request
 replay_in rows = option_map replay (names_at rows)
 
-abbrev pub explore_in : List Row → Option Task
+abbrev pub explore_in : List Row → Option Request
 explore_in rows = option_map (λ e. explore e.0 e.1.0 e.1.1) (exploration_at rows)
 
 -- the command that was met, and what was given for it
-abbrev pub task_in : Option (Text × List Row) → Option Task
-task_in None = None
-task_in (Some p) =
+abbrev pub request_in : Option (Text × List Row) → Option Request
+request_in None = None
+request_in (Some p) =
     if bytes_eq p.0 (codes "check") then check_in p.1
     else if bytes_eq p.0 (codes "replay") then replay_in p.1
     else if bytes_eq p.0 (codes "explore") then explore_in p.1
@@ -186,8 +186,8 @@ abbrev pub asked_of : {X : Type 0} → App → (Option (Text × List Row) → Op
 asked_of line read words = where_none (fault_of line words) (read (subcommand_of line words))
 
 -- what the words ask for, where they are a command
-unfoldable pub task_asked : List Text → Option Task
-task_asked words = asked_of mx_app task_in words
+unfoldable pub request_asked : List Text → Option Request
+request_asked words = asked_of mx_app request_in words
 
 -- ---- words that are no command
 

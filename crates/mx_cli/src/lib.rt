@@ -19,7 +19,7 @@ pub use closing::{close, is_refused};
 pub use fault_lines::FaultLine;
 pub use faults::{Fault, Named, Stop};
 pub use line::{bare_command, command_line, line_of, matches_in};
-pub use live_words::{LiveRun, asked_live};
+pub use live_words::{LiveRequest, asked_live};
 pub use planning::{fetch, fetch_plan, plan_in};
 pub use splitting::{are_dashes, split_line};
 pub use telling::{put_line, refuse, tell, tell_memory};

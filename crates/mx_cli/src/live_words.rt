@@ -3,7 +3,7 @@
 ghost use Rattle.std.specs.Prelude.{◌≡◌, [], IfOk, IfErr, option_map};
 ghost use Rattle.clap.specs.Words.{app_of, fault_of, found_of, rows_of, subcommand_of, subcommand_rows_of, HasKind};
 ghost use Rattle.mx_cli.specs.Words.{IsArgument, IsCommand, texts_of};
-ghost use Rattle.mx_cli.specs.LiveWords.{live_app, live_in, live_line, order_asked, order_in, order_of, progress_rule, sections_rule, settle_in, settle_rule, turns_rule};
+ghost use Rattle.mx_cli.specs.LiveWords.{live_app, live_in, live_line, request_asked, request_in, request_of, progress_rule, sections_rule, settle_in, settle_rule, turns_rule};
 
 use crate::arguments::{flag_arg, number_arg, seed_arg};
 use crate::help;
@@ -17,7 +17,7 @@ use std::alloc::{AllocError, Global};
 /// first node's links, how many turns each node may take, after how many of its sections it
 /// settles its journal (0 for never), and whether progress is to be told.
 #[derive(Clone, Copy)]
-pub struct LiveRun<'a> {
+pub struct LiveRequest<'a> {
     pub plan: &'a str,
     pub sections: u64,
     pub seed: u64,
@@ -68,13 +68,13 @@ fn live_command<'a>(alloc: Global) -> Result<Command<'a>, AllocError>
 
 /// What the words, of which `live` is the first, ask for. Their faults are those of `clap`, and words
 /// that ask for help come as such a fault too, with the text to show.
-pub fn asked_live<'a>(alloc: Global, words: &'a [&'a str]) -> Result<Option<LiveRun<'a>>, Error>
+pub fn asked_live<'a>(alloc: Global, words: &'a [&'a str]) -> Result<Option<LiveRequest<'a>>, Error>
     ensures read { IfOk result (λ _. fault_of live_line (texts_of words.entry.now) ≡ []) }
-    ensures ok { IfOk result (λ run.
-        option_map order_of run ≡ order_asked (texts_of words.entry.now)) }
+    ensures ok { IfOk result (λ request.
+        option_map request_of request ≡ request_asked (texts_of words.entry.now)) }
     ensures err { IfErr result (HasKind (fault_of live_line (texts_of words.entry.now))) }
 {
-    Ok(run_in(&live_matches(alloc, words)?))
+    Ok(request_in(&live_matches(alloc, words)?))
 }
 
 /// What is found in the words.
@@ -94,8 +94,8 @@ fn live_command_line<'a>(alloc: Global) -> Result<Command<'a>, AllocError>
     line_of(alloc, live_command(alloc)?)
 }
 
-fn run_in<'a>(matches: &ArgMatches<'a>) -> Option<LiveRun<'a>>
-    ensures { option_map order_of result ≡ order_in (subcommand_rows_of matches.now) }
+fn request_in<'a>(matches: &ArgMatches<'a>) -> Option<LiveRequest<'a>>
+    ensures { option_map request_of result ≡ request_in (subcommand_rows_of matches.now) }
 {
     match matches.subcommand() {
         Some((name, inner)) if name == "live" => live_in(inner),
@@ -103,8 +103,8 @@ fn run_in<'a>(matches: &ArgMatches<'a>) -> Option<LiveRun<'a>>
     }
 }
 
-fn live_in<'a>(matches: &ArgMatches<'a>) -> Option<LiveRun<'a>>
-    ensures { option_map order_of result ≡ live_in (rows_of (found_of matches.now)) }
+fn live_in<'a>(matches: &ArgMatches<'a>) -> Option<LiveRequest<'a>>
+    ensures { option_map request_of result ≡ live_in (rows_of (found_of matches.now)) }
 {
     let Some(plan) = text_at(matches, "PLAN") else {
         return None;
@@ -118,7 +118,7 @@ fn live_in<'a>(matches: &ArgMatches<'a>) -> Option<LiveRun<'a>>
     let Some(turns) = number_at(matches, "turns") else {
         return None;
     };
-    Some(LiveRun {
+    Some(LiveRequest {
         plan,
         sections,
         seed,

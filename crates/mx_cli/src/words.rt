@@ -4,7 +4,7 @@ ghost use Rattle.std.specs.Prelude.{◌≡◌, [], Some, IfOk, IfErr, option_map
 ghost use Rattle.clap.specs.Words.{app_of, fault_of, first_of, found_of, rows_of, subcommand_of, subcommand_rows_of, HasKind};
 ghost use Rattle.mx_cli.specs.Words.{IsCommand, check_app, explore_app, mx_app, mx_start, replay_app};
 ghost use Rattle.mx_cli.specs.Words.{check_in, exploration_at, explore_in, explored, is_given, names_at, names_of, number_at, replay_in};
-ghost use Rattle.mx_cli.specs.Words.{task_asked, task_in, task_of, texts_of};
+ghost use Rattle.mx_cli.specs.Words.{request_asked, request_in, request_of, texts_of};
 
 use crate::arguments::{events_arg, seed_arg, steps_arg};
 use crate::help;
@@ -80,7 +80,7 @@ fn mx_line<'a>(alloc: Global) -> Result<Command<'a>, AllocError>
 pub fn asked<'a>(alloc: Global, words: &'a [&'a str]) -> Result<Option<Request<'a>>, Error>
     ensures read { IfOk result (λ _. fault_of mx_app (texts_of words.entry.now) ≡ []) }
     ensures ok { IfOk result (λ request.
-        option_map task_of request ≡ task_asked (texts_of words.entry.now)) }
+        option_map request_of request ≡ request_asked (texts_of words.entry.now)) }
     ensures err { IfErr result (HasKind (fault_of mx_app (texts_of words.entry.now))) }
 {
     Ok(request_in(&mx_matches(alloc, words)?))
@@ -97,7 +97,7 @@ fn mx_matches<'a>(alloc: Global, words: &'a [&'a str]) -> Result<ArgMatches<'a>,
 }
 
 fn request_in<'a>(matches: &ArgMatches<'a>) -> Option<Request<'a>>
-    ensures { option_map task_of result ≡ task_in (subcommand_rows_of matches.now) }
+    ensures { option_map request_of result ≡ request_in (subcommand_rows_of matches.now) }
 {
     match matches.subcommand() {
         Some((name, inner)) => request_of(name, inner),
@@ -107,7 +107,7 @@ fn request_in<'a>(matches: &ArgMatches<'a>) -> Option<Request<'a>>
 
 /// What the command of this name asks for.
 fn request_of<'a>(name: &str, matches: &ArgMatches<'a>) -> Option<Request<'a>>
-    ensures { option_map task_of result ≡ task_in (Some (name.now, rows_of (found_of matches.now))) }
+    ensures { option_map request_of result ≡ request_in (Some (name.now, rows_of (found_of matches.now))) }
 {
     match name {
         "check" => check_in(matches),
@@ -118,7 +118,7 @@ fn request_of<'a>(name: &str, matches: &ArgMatches<'a>) -> Option<Request<'a>>
 }
 
 fn check_in<'a>(matches: &ArgMatches<'a>) -> Option<Request<'a>>
-    ensures { option_map task_of result ≡ check_in (rows_of (found_of matches.now)) }
+    ensures { option_map request_of result ≡ check_in (rows_of (found_of matches.now)) }
 {
     let Some(plan) = text_at(matches, "PLAN") else {
         return None;
@@ -127,13 +127,13 @@ fn check_in<'a>(matches: &ArgMatches<'a>) -> Option<Request<'a>>
 }
 
 fn replay_in<'a>(matches: &ArgMatches<'a>) -> Option<Request<'a>>
-    ensures { option_map task_of result ≡ replay_in (rows_of (found_of matches.now)) }
+    ensures { option_map request_of result ≡ replay_in (rows_of (found_of matches.now)) }
 {
     names_at(matches).map(Request::Replay)
 }
 
 fn explore_in<'a>(matches: &ArgMatches<'a>) -> Option<Request<'a>>
-    ensures { option_map task_of result ≡ explore_in (rows_of (found_of matches.now)) }
+    ensures { option_map request_of result ≡ explore_in (rows_of (found_of matches.now)) }
 {
     exploration_at(matches).map(Request::Explore)
 }

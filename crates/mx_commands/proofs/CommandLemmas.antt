@@ -8,8 +8,8 @@ use Rattle.clap.specs.Faults.{fault_of}
 use Rattle.clap.specs.Kinds.{HasKind}
 use Rattle.clap.specs.declared.error.Error.{Error}
 use Rattle.clap.specs.declared.error.kind.ErrorKind.TheVariants.{OutOfMemory}
-use Rattle.mx_cli.specs.Words.{Task, mx_app, task_asked}
-use Rattle.mx_cli.proofs.WordLemmas.{no_task_among}
+use Rattle.mx_cli.specs.Words.{Request, mx_app, request_asked}
+use Rattle.mx_cli.proofs.WordLemmas.{no_request_among}
 use Rattle.mx_plan.specs.Text.{Text}
 use Rattle.mx_cli.specs.declared.faults.Fault.{Fault}
 use Rattle.mx_cli.specs.declared.faults.Stop.{Stop}
@@ -48,11 +48,11 @@ ran_some t a b r (Err (stop.Fault f)) h = all_some a b r.texts h.1
 ran_some t a b r (Err stop.Writer) h = h.1
 ran_some t a b r (Err stop.Memory) h = h
 
-module _ (t : Bool) (a b c : Held) (told : Text → Option Telling) (task : Task) (res : Result ℕ Stop) (ran : RanOf t a b told task res) (same : Keeps b c) where
+module _ (t : Bool) (a b c : Held) (told : Text → Option Telling) (request : Request) (res : Result ℕ Stop) (ran : RanOf t a b told request res) (same : Keeps b c) where
   -- nothing was kept back, or what was kept back was passed on
-  pub flushed : RanOf t a c told task res
+  pub flushed : RanOf t a c told request res
   flushed =
-      of_jobs (job_of told task) (EndsEarly t res × Keeps a b) (EndsEarly t res × Keeps a c) (λ r. Ran t a b r res) (λ r. Ran t a c r res)
+      of_jobs (job_of told request) (EndsEarly t res × Keeps a b) (EndsEarly t res × Keeps a c) (λ r. Ran t a b r res) (λ r. Ran t a c r res)
       (λ x. (x.0, keeps_on a b c x.1 same)) (λ r h. ran_keeps t a b c r res h same) ran
 
   unflushed_early : (u : Bool) (f : OutputFault) → u ≡ t → (u ≡ true → f ≡ output_fault.Memory) → EndsEarly t (Err (stop_of f))
@@ -64,9 +64,9 @@ module _ (t : Bool) (a b c : Held) (told : Text → Option Telling) (task : Task
   unflushed_ran u r output_fault.Memory is takes h = some_keeps a b c r.texts (ran_some t a b r res h) same
 
   -- what was kept back was refused
-  pub unflushed : (u : Bool) (f : OutputFault) → u ≡ t → (u ≡ true → f ≡ output_fault.Memory) → RanOf t a c told task (Err (stop_of f))
+  pub unflushed : (u : Bool) (f : OutputFault) → u ≡ t → (u ≡ true → f ≡ output_fault.Memory) → RanOf t a c told request (Err (stop_of f))
   unflushed u f is takes =
-      of_jobs (job_of told task) (EndsEarly t res × Keeps a b) (EndsEarly t (Err (stop_of f)) × Keeps a c) (λ r. Ran t a b r res) (λ r. Ran t a c r (Err (stop_of f)))
+      of_jobs (job_of told request) (EndsEarly t res × Keeps a b) (EndsEarly t (Err (stop_of f)) × Keeps a c) (λ r. Ran t a b r res) (λ r. Ran t a c r (Err (stop_of f)))
       (λ x. (unflushed_early u f is takes, keeps_on a b c x.1 same)) (λ r h. unflushed_ran u r f is takes h) ran
 
 -- a run that is not refused has refused nothing new
@@ -94,29 +94,29 @@ and_right : (t u : Bool) → u ≡ false → (t && u) ≡ false
 and_right true u e = e
 and_right false u e = refl
 
-module _ (t u : Bool) (told : Text → Option Telling) (task : Task) (old new : Seen) where
+module _ (t u : Bool) (told : Text → Option Telling) (request : Request) (old new : Seen) where
   -- a command from a run
   runs_from : (res : Result ℕ Stop) (status : ℕ) → (EndsEarly t res × Keeps old.out new.out → FailsAtOnce (t && u) old new status)
-      → ((r : Report) → Ran t old.out new.out r res → Prints (t && u) (names_in task) r old new status) → RanOf t old.out new.out told task res → Runs (t && u) told task old new status
+      → ((r : Report) → Ran t old.out new.out r res → Prints (t && u) (names_in request) r old new status) → RanOf t old.out new.out told request res → Runs (t && u) told request old new status
   runs_from res status early late h =
-      of_jobs (job_of told task) (EndsEarly t res × Keeps old.out new.out) (FailsAtOnce (t && u) old new status) (λ r. Ran t old.out new.out r res)
-      (λ r. Prints (t && u) (names_in task) r old new status) early late h
+      of_jobs (job_of told request) (EndsEarly t res × Keeps old.out new.out) (FailsAtOnce (t && u) old new status) (λ r. Ran t old.out new.out r res)
+      (λ r. Prints (t && u) (names_in request) r old new status) early late h
 
   -- nothing was left to tell
-  pub runs_whole : (v : ℕ) → v ≡ 0 → new.err ≡ old.err → new.kept_back ≡ false → RanOf t old.out new.out told task (Ok v) → Runs (t && u) told task old new v
+  pub runs_whole : (v : ℕ) → v ≡ 0 → new.err ≡ old.err → new.kept_back ≡ false → RanOf t old.out new.out told request (Ok v) → Runs (t && u) told request old new v
   runs_whole v zero same passed h = runs_from (Ok v) v (λ x. absurd x.0) (λ r ran. inl (record {
     status_is = zero ∙ ap status_of (sym ran.0);
     lines = ran.1;
-    fault = subst (λ (e : Option Fault). Appends old.err new.err (end_text (names_in task) e)) (sym ran.0) (subst (λ (x : Held). Appends old.err x []) (sym same) (Appends-nil old.err));
+    fault = subst (λ (e : Option Fault). Appends old.err new.err (end_text (names_in request) e)) (sym ran.0) (subst (λ (x : Held). Appends old.err x []) (sym same) (Appends-nil old.err));
     passed = passed;
   })) h
 
-  told_fault : (f : Fault) (status : ℕ) (r : Report) → TellsFault u (fault_line (names_in task) f) old.err new.err status → new.kept_back ≡ false → new.refused ≡ old.refused
-      → Ran t old.out new.out r (Err (stop.Fault f)) → Prints (t && u) (names_in task) r old new status
+  told_fault : (f : Fault) (status : ℕ) (r : Report) → TellsFault u (fault_line (names_in request) f) old.err new.err status → new.kept_back ≡ false → new.refused ≡ old.refused
+      → Ran t old.out new.out r (Err (stop.Fault f)) → Prints (t && u) (names_in request) r old new status
   told_fault f status r (inl line) passed taken h = inl (record {
     status_is = line.0 ∙ ap status_of (sym h.0);
     lines = h.1;
-    fault = subst (λ (e : Option Fault). Appends old.err new.err (end_text (names_in task) e)) (sym h.0) line.1;
+    fault = subst (λ (e : Option Fault). Appends old.err new.err (end_text (names_in request) e)) (sym h.0) line.1;
     passed = passed;
   })
   told_fault f status r (inr (inl memory)) passed taken h = inr (inl (record {
@@ -133,14 +133,14 @@ module _ (t u : Bool) (told : Text → Option Telling) (task : Task) (old new : 
   }))
 
   -- a fault was told, or was to be told
-  pub runs_fault : (f : Fault) (status : ℕ) → TellsFault u (fault_line (names_in task) f) old.err new.err status → new.kept_back ≡ false → new.refused ≡ old.refused
-      → RanOf t old.out new.out told task (Err (stop.Fault f)) → Runs (t && u) told task old new status
+  pub runs_fault : (f : Fault) (status : ℕ) → TellsFault u (fault_line (names_in request) f) old.err new.err status → new.kept_back ≡ false → new.refused ≡ old.refused
+      → RanOf t old.out new.out told request (Err (stop.Fault f)) → Runs (t && u) told request old new status
   runs_fault f status line passed taken h = runs_from (Err (stop.Fault f)) status (λ x. absurd x.0) (λ r ran. told_fault f status r line passed taken ran) h
 
   silent : new.err ≡ old.err → Keeps old.err new.err
   silent same = subst (λ (x : Held). Keeps old.err x) (sym same) (Keeps-refl old.err)
 
-  pub runs_refused : new.err ≡ old.err → RanOf t old.out new.out told task (Err stop.Writer) → Runs (t && u) told task old new 1
+  pub runs_refused : new.err ≡ old.err → RanOf t old.out new.out told request (Err stop.Writer) → Runs (t && u) told request old new 1
   runs_refused same h = runs_from (Err stop.Writer) 1 (λ x. (x.1, inr (refl, and_left t u x.0, silent same))) (λ r ran. inr (inr (record {
     status_is = refl;
     refused = and_left t u ran.0;
@@ -148,8 +148,8 @@ module _ (t u : Bool) (told : Text → Option Telling) (task : Task) (old new : 
     silent = silent same;
   }))) h
 
-  pub runs_short : (status : ℕ) → status ≡ 5 → MayTell old.err new.err → new.refused ≡ old.refused → RanOf t old.out new.out told task (Err stop.Memory)
-      → Runs (t && u) told task old new status
+  pub runs_short : (status : ℕ) → status ≡ 5 → MayTell old.err new.err → new.refused ≡ old.refused → RanOf t old.out new.out told request (Err stop.Memory)
+      → Runs (t && u) told request old new status
   runs_short status is line taken h = runs_from (Err stop.Memory) status (λ x. (x.1, inl (is, line, taken)))
       (λ r ran. inr (inl (record { status_is = is; lines = ran; told = line; taken = taken }))) h
 
@@ -160,27 +160,27 @@ told_status u line c d status (inr (inr h)) = inr (inl h.0)
 
 -- ---- words that were refused
 
-short_at_once : (takes : Bool) (told : Text → Option Telling) (task : Task) (old new : Seen) (status : ℕ) (o : Option Job) → FailsAtOnce takes old new status
-    → IfSome o (λ job. FailsAtOnce takes old new status ⊎ HoldsOfReport job (λ r. Prints takes (names_in task) r old new status))
-short_at_once takes told task old new status None h = tt
-short_at_once takes told task old new status (Some job) h = inl h
+short_at_once : (takes : Bool) (told : Text → Option Telling) (request : Request) (old new : Seen) (status : ℕ) (o : Option Job) → FailsAtOnce takes old new status
+    → IfSome o (λ job. FailsAtOnce takes old new status ⊎ HoldsOfReport job (λ r. Prints takes (names_in request) r old new status))
+short_at_once takes told request old new status None h = tt
+short_at_once takes told request old new status (Some job) h = inl h
 
 module _ (t u : Bool) (old new : Seen) (status : ℕ) (e : Error) (words : List Text) (kinds : HasKind (fault_of mx_app words) e)
     (memory : kind_of e ≡ OutOfMemory → (status ≡ 5) × Keeps old.out new.out × MayTell old.err new.err × (new.refused ≡ old.refused)) where
   short : kind_of e ≡ OutOfMemory → FailsAtOnce (t && u) old new status
   short out = let m = memory out in (m.1, inl (m.0, m.2, m.3))
 
-  refused_task : (h : (kind_of e ≡ OutOfMemory) ⊎ (IsSome (task_asked words) → ⊥)) (told : Text → Option Telling) (w : Option Task) → w ≡ task_asked words
-      → IfSome w (λ task. Runs (t && u) told task old new status)
-  refused_task h told None is = tt
-  refused_task (inl out) told (Some task) is = short_at_once (t && u) told task old new status (job_of told task) (short out)
-  refused_task (inr none) told (Some task) is = absurd (none (subst IsSome is refl))
+  refused_request : (h : (kind_of e ≡ OutOfMemory) ⊎ (IsSome (request_asked words) → ⊥)) (told : Text → Option Telling) (w : Option Request) → w ≡ request_asked words
+      → IfSome w (λ request. Runs (t && u) told request old new status)
+  refused_request h told None is = tt
+  refused_request (inl out) told (Some request) is = short_at_once (t && u) told request old new status (job_of told request) (short out)
+  refused_request (inr none) told (Some request) is = absurd (none (subst IsSome is refl))
 
-  asks_nothing : (kind_of e ≡ OutOfMemory) ⊎ (IsSome (task_asked words) → ⊥)
-  asks_nothing = elim kinds [ inl out ↦ inl out | inr among ↦ inr (no_task_among words (kind_of e) among) ]
+  asks_nothing : (kind_of e ≡ OutOfMemory) ⊎ (IsSome (request_asked words) → ⊥)
+  asks_nothing = elim kinds [ inl out ↦ inl out | inr among ↦ inr (no_request_among words (kind_of e) among) ]
 
-  pub task_refused : (told : Text → Option Telling) → IfSome (task_asked words) (λ task. Runs (t && u) told task old new status)
-  task_refused told = refused_task asks_nothing told (task_asked words) refl
+  pub request_refused : (told : Text → Option Telling) → IfSome (request_asked words) (λ request. Runs (t && u) told request old new status)
+  request_refused told = refused_request asks_nothing told (request_asked words) refl
 
-  pub status_refused : IsSome (task_asked words) → IsRunStatus status
+  pub status_refused : IsSome (request_asked words) → IsRunStatus status
   status_refused asks = elim asks_nothing [ inl out ↦ inr (inr (memory out).0) | inr none ↦ absurd (none asks) ]

@@ -5,7 +5,7 @@ use Rattle.std.specs.List.{after_first, before_first}
 use Rattle.std.specs.Option.{option_map_or}
 use Rattle.std.specs.Io.KnownBytes.{Keeps}
 use Rattle.std.specs.declared.alloc.Global.{Global}
-use Rattle.mx_cli.specs.Words as task
+use Rattle.mx_cli.specs.Words as wants
 use Rattle.mx_plan.specs.Text.{Text}
 use Rattle.mx_plan.specs.Fields.{Fields}
 use Rattle.mx_plan.specs.declared.faults.PlanFault.{PlanFault}
@@ -105,11 +105,11 @@ module _ (t : Bool) (a : Held) (o : Option Telling) (text : Fields → Text) whe
 
 module _ (told : Text → Option Telling) (names : Text × Text) (t : Bool) (a b : Held) (res : Result ℕ Stop) where
   -- one source
-  pub by_one : (is_dash names.0 && is_dash names.1) ≡ true → IfSome (told names.0) (λ x. RanOn t a b (replay_one x) res) → RanOf t a b told (task.replay names) res
+  pub by_one : (is_dash names.0 && is_dash names.1) ≡ true → IfSome (told names.0) (λ x. RanOn t a b (replay_one x) res) → RanOf t a b told (wants.replay names) res
   by_one both h = rw both (if_mapped (told names.0) replay_one _ h)
 
   -- two sources
-  pub by_two : (is_dash names.0 && is_dash names.1) ≡ false → IfSome (told names.0) (λ x. RanOn t a b (replay_two (told names.1) x) res) → RanOf t a b told (task.replay names) res
+  pub by_two : (is_dash names.0 && is_dash names.1) ≡ false → IfSome (told names.0) (λ x. RanOn t a b (replay_two (told names.1) x) res) → RanOf t a b told (wants.replay names) res
   by_two other h = rw other (if_mapped (told names.0) (replay_two (told names.1)) _ h)
 
 -- one source was not fetched

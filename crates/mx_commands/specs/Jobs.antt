@@ -1,7 +1,7 @@
 -- What the words ask for, over what a source tells: the plan, and the report of a plan.
 use Rattle.std.specs.Prelude.{ℕ, List, Option, Some, None, Result, Ok, Err, if◌then◌else◌, ◌==◌, ◌&&◌, IfSome, option_map}
 use Rattle.std.specs.List.{before_first, after_first}
-use Rattle.mx_cli.specs.Words.{Task, check, replay, explore}
+use Rattle.mx_cli.specs.Words.{Request, check, replay, explore}
 use Rattle.mx_ricart.specs.Step.{ricart_core}
 use Rattle.mx_maekawa.specs.Step.{maekawa_core}
 use Rattle.mx_raymond.specs.Step.{raymond_core}
@@ -65,7 +65,7 @@ abbrev pub replay_two : Option Telling → Telling → Job
 replay_two events plan = record { plan = plan; report = λ p. option_map (on_events p) events }
 
 -- the job of what the words ask for, where the source tells enough
-abbrev pub job_of : (Text → Option Telling) → Task → Option Job
+abbrev pub job_of : (Text → Option Telling) → Request → Option Job
 job_of told (check name) = option_map (on_plan plan_text) (told name)
 job_of told (explore name seed steps) = option_map (on_plan (λ p. explored_text p seed steps)) (told name)
 job_of told (replay names) =
@@ -73,7 +73,7 @@ job_of told (replay names) =
     else option_map (replay_two (told names.1)) (told names.0)
 
 -- the names of the plan and of the events, as the lines of faults have them
-abbrev pub names_in : Task → Text × Text
+abbrev pub names_in : Request → Text × Text
 names_in (check name) = (name, name)
 names_in (replay names) = names
 names_in (explore name seed steps) = (name, name)

@@ -2,7 +2,7 @@
 use Rattle.std.specs.Prelude.{◌≡◌, ◌⊎◌, ℕ, [], Bool, false, Option, Some, None, ⊤, Result, Ok, Err, IfSome}
 use Rattle.std.specs.Io.KnownBytes.{Appends, Keeps}
 use Rattle.std.specs.List.{concat}
-use Rattle.mx_cli.specs.Words.{Task}
+use Rattle.mx_cli.specs.Words.{Request}
 use Rattle.mx_network.specs.declared.faults.StepFault.{StepFault}
 use Rattle.mx_network.specs.declared.faults.StepFault.TheVariants as step_fault
 use Rattle.mx_plan.specs.Text.{Text}
@@ -63,10 +63,10 @@ FailsAtOnce takes_all old new status = Keeps old.out new.out
     ⊎ ((status ≡ 1) × (takes_all ≡ false) × Keeps old.err new.err))
 
 -- what the words ask for, of what a source tells: a run of its report, or memory ran out before there was one
-abbrev pub Runs : Bool → (Text → Option Telling) → Task → Seen → Seen → ℕ → Type 0
-Runs takes_all told task old new status = IfSome (job_of told task) (λ job.
+abbrev pub Runs : Bool → (Text → Option Telling) → Request → Seen → Seen → ℕ → Type 0
+Runs takes_all told request old new status = IfSome (job_of told request) (λ job.
     FailsAtOnce takes_all old new status
-    ⊎ HoldsOfReport job (λ r. Prints takes_all (names_in task) r old new status))
+    ⊎ HoldsOfReport job (λ r. Prints takes_all (names_in request) r old new status))
 
 -- the status of a verdict
 abbrev pub verdict_status : Verdict → ℕ
@@ -98,8 +98,8 @@ abbrev pub RanOn : Bool → Held → Held → Job → Result ℕ Stop → Type 0
 RanOn takes_all old new job result =
     (EndsEarly takes_all result × Keeps old new) ⊎ HoldsOfReport job (λ r. Ran takes_all old new r result)
 
-abbrev pub RanOf : Bool → Held → Held → (Text → Option Telling) → Task → Result ℕ Stop → Type 0
-RanOf takes_all old new told task result = IfSome (job_of told task) (λ job. RanOn takes_all old new job result)
+abbrev pub RanOf : Bool → Held → Held → (Text → Option Telling) → Request → Result ℕ Stop → Type 0
+RanOf takes_all old new told request result = IfSome (job_of told request) (λ job. RanOn takes_all old new job result)
 
 -- an event did not happen: there is no such parcel, or memory ran out
 abbrev pub StopsAt : {G : Type 0} → ℕ → Result G StepFault → Stop → Type 0

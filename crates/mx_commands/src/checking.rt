@@ -1,7 +1,7 @@
 //! `check`: what a plan says of its cluster.
 
 ghost use Rattle.std.specs.Prelude.{◌≡◌, IfOk};
-ghost use Rattle.mx_cli.specs.Words as task;
+ghost use Rattle.mx_cli.specs.Words as wants;
 ghost use Rattle.mx_texts.specs.PlanTexts.{plan_text};
 ghost use Rattle.mx_cli.specs.Outputs.{refused_after};
 ghost use Rattle.mx_commands.specs.Runs.{whole};
@@ -21,7 +21,7 @@ pub(crate) fn check<S: Source, O: Output>(
     out: &mut O,
 ) -> Result<u8, Stop>
     ensures ran { RanOf (O.takes_all out.old) (O.written out.old) (O.written out.new)
-        (S.told source.old) (task.check name.now) result }
+        (S.told source.old) (wants.check name.now) result }
     ensures refused { O.has_refused out.new ≡ refused_after result (O.has_refused out.old) }
     ensures zero { IfOk result (λ status. status ≡ 0) }
     ensures stays { O.takes_all out.new ≡ O.takes_all out.old }

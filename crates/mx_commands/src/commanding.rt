@@ -1,7 +1,7 @@
 //! The command: from words, named bytes and two outputs to a status.
 
 ghost use Rattle.std.specs.Prelude.{◌≡◌, ◌&&◌, Err, IsSome, IfSome, IfOk};
-ghost use Rattle.mx_cli.specs.Words.{texts_of, names_of, task_asked, task_of, AreWrong, AskHelp, mx_app};
+ghost use Rattle.mx_cli.specs.Words.{texts_of, names_of, request_asked, request_of, AreWrong, AskHelp, mx_app};
 ghost use Rattle.mx_cli.specs.Outputs.{IsPassedOn, refused_after};
 ghost use Rattle.mx_commands.specs.Jobs.{names_in};
 ghost use Rattle.mx_commands.specs.Ran.{RanOf, Runs, IsRunStatus};
@@ -25,12 +25,12 @@ pub fn command<S: Source, O: Output, E: Output>(
     out: &mut O,
     err: &mut E,
 ) -> u8
-    ensures runs { IfSome (task_asked (texts_of words.entry.now)) (λ task.
-        Runs (O.takes_all out.old && E.takes_all err.old) (S.told source.old) task
+    ensures runs { IfSome (request_asked (texts_of words.entry.now)) (λ request.
+        Runs (O.takes_all out.old && E.takes_all err.old) (S.told source.old) request
         (seen (O.written out.old) (E.written err.old) (O.has_refused out.old) (O.keeps_back out.old))
         (seen (O.written out.new) (E.written err.new) (O.has_refused out.new) (O.keeps_back out.new))
         result) }
-    ensures status { IsSome (task_asked (texts_of words.entry.now)) → IsRunStatus result }
+    ensures status { IsSome (request_asked (texts_of words.entry.now)) → IsRunStatus result }
     ensures help { AskHelp mx_app (texts_of words.entry.now) → Helps (O.takes_all out.old)
         (seen (O.written out.old) (E.written err.old) (O.has_refused out.old) (O.keeps_back out.old))
         (seen (O.written out.new) (E.written err.new) (O.has_refused out.new) (O.keeps_back out.new))
@@ -55,7 +55,7 @@ fn run_request<S: Source, O: Output, E: Output>(
     err: &mut E,
 ) -> u8
     ensures runs { Runs (O.takes_all out.old && E.takes_all err.old)
-        (S.told source.old) (task_of request.now)
+        (S.told source.old) (request_of request.now)
         (seen (O.written out.old) (E.written err.old) (O.has_refused out.old) (O.keeps_back out.old))
         (seen (O.written out.new) (E.written err.new) (O.has_refused out.new) (O.keeps_back out.new))
         result }
@@ -71,7 +71,7 @@ fn run_request<S: Source, O: Output, E: Output>(
 
 /// The names that the lines of faults have.
 pub fn names_in<'a>(request: &Request<'a>) -> Names<'a>
-    ensures { names_of result ≡ names_in (task_of request.now) }
+    ensures { names_of result ≡ names_in (request_of request.now) }
 {
     match request {
         Request::Check(plan) => Names { plan, events: plan },
@@ -92,7 +92,7 @@ fn carry_out_and_flush<S: Source, O: Output>(
     out: &mut O,
 ) -> Result<u8, Stop>
     ensures ran { RanOf (O.takes_all out.old) (O.written out.old) (O.written out.new)
-        (S.told source.old) (task_of request.now) result }
+        (S.told source.old) (request_of request.now) result }
     ensures refused { O.has_refused out.new ≡ refused_after result (O.has_refused out.old) }
     ensures passed { IsPassedOn result (O.keeps_back out.new) }
     ensures zero { IfOk result (λ status. status ≡ 0) }
@@ -113,7 +113,7 @@ pub fn carry_out<S: Source, O: Output>(
     out: &mut O,
 ) -> Result<u8, Stop>
     ensures ran { RanOf (O.takes_all out.old) (O.written out.old) (O.written out.new)
-        (S.told source.old) (task_of request.now) result }
+        (S.told source.old) (request_of request.now) result }
     ensures refused { O.has_refused out.new ≡ refused_after result (O.has_refused out.old) }
     ensures zero { IfOk result (λ status. status ≡ 0) }
     ensures stays { O.takes_all out.new ≡ O.takes_all out.old }

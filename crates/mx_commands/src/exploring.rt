@@ -2,7 +2,7 @@
 
 ghost use Rattle.std.specs.Prelude.{◌≡◌, ◌+◌, ◌<◌, ◌++◌, length, string_bytes, IfOk, OnOk};
 ghost use Rattle.std.specs.List.{count_by};
-ghost use Rattle.mx_cli.specs.Words as task;
+ghost use Rattle.mx_cli.specs.Words as wants;
 ghost use Rattle.mx_cli.specs.Outputs.{refused_after};
 ghost use Rattle.mx_commands.specs.Runs.{whole};
 ghost use Rattle.mx_commands.specs.Explored.{after_drawn, after_placed, explored_text, is_entry, or_stay, summary_by, summary_text};
@@ -34,7 +34,7 @@ pub(crate) fn explore<S: Source, O: Output>(
     out: &mut O,
 ) -> Result<u8, Stop>
     ensures ran { RanOf (O.takes_all out.old) (O.written out.old) (O.written out.new)
-        (S.told source.old) (task.explore exploration.now.plan.now exploration.now.seed exploration.now.steps) result }
+        (S.told source.old) (wants.explore exploration.now.plan.now exploration.now.seed exploration.now.steps) result }
     ensures refused { O.has_refused out.new ≡ refused_after result (O.has_refused out.old) }
     ensures zero { IfOk result (λ status. status ≡ 0) }
     ensures stays { O.takes_all out.new ≡ O.takes_all out.old }

@@ -2,7 +2,7 @@
 
 ghost use Rattle.std.specs.Prelude.{◌≡◌, length, Some, IfOk, IfSome};
 ghost use Rattle.mx_cli.specs.Words.{names_of};
-ghost use Rattle.mx_cli.specs.Words as task;
+ghost use Rattle.mx_cli.specs.Words as wants;
 ghost use Rattle.mx_cli.specs.Outputs.{refused_after};
 ghost use Rattle.mx_commands.specs.Jobs.{on_events, report_of_events};
 ghost use Rattle.mx_commands.specs.Jobs as job;
@@ -27,7 +27,7 @@ pub(crate) fn replay<S: Source, O: Output>(
     out: &mut O,
 ) -> Result<u8, Stop>
     ensures ran { RanOf (O.takes_all out.old) (O.written out.old) (O.written out.new)
-        (S.told source.old) (task.replay (names_of names.now)) result }
+        (S.told source.old) (wants.replay (names_of names.now)) result }
     ensures refused { O.has_refused out.new ≡ refused_after result (O.has_refused out.old) }
     ensures zero { IfOk result (λ status. status ≡ 0) }
     ensures stays { O.takes_all out.new ≡ O.takes_all out.old }

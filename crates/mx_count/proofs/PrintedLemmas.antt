@@ -16,7 +16,7 @@ use Rattle.mx_cli.proofs.OutputLemmas.{Appends-keeps}
 use Rattle.mx_count.specs.Listed.{AreEventsOf, PrintsCountsOf, PrintsListed, PrintsSplit, PrintsTold}
 use Rattle.mx_count.specs.declared.running.Course.{Course}
 use Rattle.mx_count.specs.declared.running.Course.TheVariants.{Drawn}
-use Rattle.mx_count.specs.CountWords.{Wanted, given, drawn}
+use Rattle.mx_count.specs.CountWords.{Request, given, drawn}
 use Rattle.mx_count.specs.Printed.{IsPlanOf, PrintsCounts, course_of, events_told, plan_told}
 
 -- the schedule was counted
@@ -75,5 +75,5 @@ module _ (told : Text → Option Telling) (names : Text × Text) where
 counts_keep : (course : Course) (p : Fields) (es : List Event) (a b c : Held) → PrintsCountsOf course p es a b → Keeps b c → PrintsCountsOf course p es a c
 counts_keep course p es a b c h same = (h.0, h.1, Appends-keeps a b c h.0 h.2 same)
 
-pub printed_keeps : (told : Text → Option Telling) (wanted : Wanted) (a b c : Held) → PrintsCounts told wanted a b → Keeps b c → PrintsCounts told wanted a c
-printed_keeps told wanted a b c h same = (h.0, h.1, h.2, counts_keep (course_of wanted) h.0 h.1 a b c h.3 same)
+pub printed_keeps : (told : Text → Option Telling) (request : Request) (a b c : Held) → PrintsCounts told request a b → Keeps b c → PrintsCounts told request a c
+printed_keeps told request a b c h same = (h.0, h.1, h.2, counts_keep (course_of request) h.0 h.1 a b c h.3 same)

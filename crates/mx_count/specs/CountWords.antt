@@ -3,8 +3,8 @@ use Rattle.std.specs.Prelude.{ℕ, List, Option, Some, None, codes, if◌then◌
 use Rattle.std.specs.Str.{bytes_eq}
 use Rattle.clap.specs.Words.{App, Row, Rule, Text, new_app, with_rule, with_subcommand}
 use Rattle.mx_cli.specs.Words.{asked_of, events_rule, exploration_at, explore_app, flag_rule, line_with, names_at, names_of, plan_rule}
-use Rattle.mx_count.specs.declared.words.Order.{Order}
-use Rattle.mx_count.specs.declared.words.Order.TheVariants.{Given, Drawn}
+use Rattle.mx_count.specs.declared.words.Request.{Request as Told}
+use Rattle.mx_count.specs.declared.words.Request.TheVariants.{Given, Drawn}
 
 -- `--count`
 abbrev pub count_rule : Rule
@@ -23,28 +23,28 @@ unfoldable pub count_line : App
 count_line = with_subcommand (line_with count_app) drawn_app.top
 
 -- what is to be counted: what comes of the events of these names, or of those of a seed and a number of steps
-pub data Wanted : Type 0 where
-  given : Text × Text → Wanted
-  drawn : Text → ℕ → ℕ → Wanted
+pub data Request : Type 0 where
+  given : Text × Text → Request
+  drawn : Text → ℕ → ℕ → Request
 
-abbrev pub order_of : Order → Wanted
-order_of (Given names) = given (names_of names)
-order_of (Drawn exploration) = drawn exploration.plan.now exploration.seed exploration.steps
+abbrev pub request_of : Told → Request
+request_of (Given names) = given (names_of names)
+request_of (Drawn exploration) = drawn exploration.plan.now exploration.seed exploration.steps
 
 -- what was given for the arguments of each command
-abbrev pub given_in : List Row → Option Wanted
+abbrev pub given_in : List Row → Option Request
 given_in rows = option_map given (names_at rows)
 
-abbrev pub drawn_in : List Row → Option Wanted
+abbrev pub drawn_in : List Row → Option Request
 drawn_in rows = option_map (λ e. drawn e.0 e.1.0 e.1.1) (exploration_at rows)
 
-abbrev pub order_in : Option (Text × List Row) → Option Wanted
-order_in None = None
-order_in (Some p) =
+abbrev pub request_in : Option (Text × List Row) → Option Request
+request_in None = None
+request_in (Some p) =
     if bytes_eq p.0 (codes "count") then given_in p.1
     else if bytes_eq p.0 (codes "explore") then drawn_in p.1
     else None
 
 -- what the words ask to count, where they ask for that
-unfoldable pub order_asked : List Text → Option Wanted
-order_asked words = asked_of count_line order_in words
+unfoldable pub request_asked : List Text → Option Request
+request_asked words = asked_of count_line request_in words

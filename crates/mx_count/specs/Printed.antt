@@ -11,7 +11,7 @@ use Rattle.mx_io.specs.Told.{Telling}
 use Rattle.mx_count.specs.Listed.{AreEventsOf, PrintsCountsOf}
 use Rattle.mx_count.specs.declared.running.Course.{Course}
 use Rattle.mx_count.specs.declared.running.Course.TheVariants.{Given, Drawn}
-use Rattle.mx_count.specs.CountWords.{Wanted, given, drawn}
+use Rattle.mx_count.specs.CountWords.{Request, given, drawn}
 
 -- what is told of the plan of two names: where both are one text, what stands before its first line feed
 abbrev pub plan_told : (Text → Option Telling) → Text × Text → Option Telling
@@ -30,14 +30,14 @@ abbrev pub IsPlanOf : Option Telling → Fields → Type 0
 IsPlanOf told p = IfSome told (λ telling. Reads telling (Ok p))
 
 -- the plan and the events that the words ask for: those that the source tells of, or the schedule of the seed
-abbrev pub IsRunOf : (Text → Option Telling) → Wanted → Fields → List Event → Type 0
+abbrev pub IsRunOf : (Text → Option Telling) → Request → Fields → List Event → Type 0
 IsRunOf told (given names) p es = IsPlanOf (plan_told told names) p × AreEventsOf (events_told told names) p es
 IsRunOf told (drawn name seed steps) p es = IsPlanOf (told name) p × (es ≡ schedule_of p seed steps)
 
-abbrev pub course_of : Wanted → Course
+abbrev pub course_of : Request → Course
 course_of (given names) = Given
 course_of (drawn name seed steps) = Drawn
 
 -- the plan and the events were read, or drawn, and their counts were printed
-abbrev pub PrintsCounts : (Text → Option Telling) → Wanted → Held → Held → Type 0
-PrintsCounts told wanted old new = (p : Fields) × (es : List Event) × IsRunOf told wanted p es × PrintsCountsOf (course_of wanted) p es old new
+abbrev pub PrintsCounts : (Text → Option Telling) → Request → Held → Held → Type 0
+PrintsCounts told request old new = (p : Fields) × (es : List Event) × IsRunOf told request p es × PrintsCountsOf (course_of request) p es old new

@@ -4,12 +4,12 @@ ghost use Rattle.std.specs.Prelude.{◌≡◌, IsSome, IfSome, IfOk};
 ghost use Rattle.mx_cli.specs.Words.{names_of, texts_of, AreWrong, AskHelp};
 ghost use Rattle.mx_cli.specs.Told.{Helps, Scolds, seen};
 ghost use Rattle.mx_commands.specs.Ran.{IsRunStatus};
-ghost use Rattle.mx_count.specs.CountWords.{order_asked, order_of, count_line};
-ghost use Rattle.mx_count.specs.CountWords as wanted;
+ghost use Rattle.mx_count.specs.CountWords.{request_asked, request_of, count_line};
+ghost use Rattle.mx_count.specs.CountWords as wants;
 ghost use Rattle.mx_count.specs.Printed.{PrintsCounts};
 
 use crate::printing::{count_named, count_schedule, count_split};
-use crate::words::{Order, asked_order};
+use crate::words::{Request, asked};
 use mx_cli::{Exploration, Named, Names, Stop, are_dashes, close, fetch, fetch_plan, refuse};
 use mx_io::{Output, Source};
 use std::alloc::Global;
@@ -25,9 +25,9 @@ pub fn count<S: Source, O: Output, E: Output>(
     out: &mut O,
     err: &mut E,
 ) -> u8
-    ensures printed { IfSome (order_asked (texts_of words.entry.now)) (λ wanted.
-        result ≡ 0 → PrintsCounts (S.told source.old) wanted (O.written out.old) (O.written out.new)) }
-    ensures status { IsSome (order_asked (texts_of words.entry.now)) → IsRunStatus result }
+    ensures printed { IfSome (request_asked (texts_of words.entry.now)) (λ request.
+        result ≡ 0 → PrintsCounts (S.told source.old) request (O.written out.old) (O.written out.new)) }
+    ensures status { IsSome (request_asked (texts_of words.entry.now)) → IsRunStatus result }
     ensures help { AskHelp count_line (texts_of words.entry.now) → Helps (O.takes_all out.old)
         (seen (O.written out.old) (E.written err.old) (O.has_refused out.old) (O.keeps_back out.old))
         (seen (O.written out.new) (E.written err.new) (O.has_refused out.new) (O.keeps_back out.new))
@@ -37,8 +37,8 @@ pub fn count<S: Source, O: Output, E: Output>(
         (seen (O.written out.new) (E.written err.new) (O.has_refused out.new) (O.keeps_back out.new))
         result }
 {
-    match asked_order(alloc, words) {
-        Ok(Some(order)) => count_and_close(alloc, &order, source, out, err),
+    match asked(alloc, words) {
+        Ok(Some(request)) => count_and_close(alloc, &request, source, out, err),
         Ok(None) => 2,
         Err(e) => refuse(alloc, &e, out, err),
     }
@@ -47,33 +47,33 @@ pub fn count<S: Source, O: Output, E: Output>(
 /// Counts what is asked for, and closes the run. Answers the status.
 fn count_and_close<S: Source, O: Output, E: Output>(
     alloc: Global,
-    order: &Order<'_>,
+    request: &Request<'_>,
     source: &mut S,
     out: &mut O,
     err: &mut E,
 ) -> u8
-    ensures printed { result ≡ 0 → PrintsCounts (S.told source.old) (order_of order.now)
+    ensures printed { result ≡ 0 → PrintsCounts (S.told source.old) (request_of request.now)
         (O.written out.old) (O.written out.new) }
     ensures status { IsRunStatus result }
 {
-    let ended = count_order(alloc, order, source, out);
-    close(alloc, ended, &order.names(), out, err)
+    let ended = count_request(alloc, request, source, out);
+    close(alloc, ended, &request.names(), out, err)
 }
 
 /// Counts what is asked for. Answers the status.
-fn count_order<S: Source, O: Output>(
+fn count_request<S: Source, O: Output>(
     alloc: Global,
-    order: &Order<'_>,
+    request: &Request<'_>,
     source: &mut S,
     out: &mut O,
 ) -> Result<u8, Stop>
-    ensures printed { IfOk result (λ _. PrintsCounts (S.told source.old) (order_of order.now)
+    ensures printed { IfOk result (λ _. PrintsCounts (S.told source.old) (request_of request.now)
         (O.written out.old) (O.written out.new)) }
     ensures zero { IfOk result (λ status. status ≡ 0) }
 {
-    match order {
-        Order::Given(names) => count_given(alloc, names, source, out),
-        Order::Drawn(exploration) => count_drawn(alloc, exploration, source, out),
+    match request {
+        Request::Given(names) => count_given(alloc, names, source, out),
+        Request::Drawn(exploration) => count_drawn(alloc, exploration, source, out),
     }
 }
 
@@ -84,7 +84,7 @@ fn count_given<S: Source, O: Output>(
     source: &mut S,
     out: &mut O,
 ) -> Result<u8, Stop>
-    ensures printed { IfOk result (λ _. PrintsCounts (S.told source.old) (wanted.given (names_of names.now))
+    ensures printed { IfOk result (λ _. PrintsCounts (S.told source.old) (wants.given (names_of names.now))
         (O.written out.old) (O.written out.new)) }
     ensures zero { IfOk result (λ status. status ≡ 0) }
 {
@@ -104,7 +104,7 @@ fn count_drawn<S: Source, O: Output>(
     out: &mut O,
 ) -> Result<u8, Stop>
     ensures printed { IfOk result (λ _. PrintsCounts (S.told source.old)
-        (wanted.drawn exploration.now.plan.now exploration.now.seed exploration.now.steps)
+        (wants.drawn exploration.now.plan.now exploration.now.seed exploration.now.steps)
         (O.written out.old) (O.written out.new)) }
     ensures zero { IfOk result (λ status. status ≡ 0) }
 {

@@ -3,7 +3,7 @@
 ghost use Rattle.std.specs.Prelude.{◌≡◌, [], IfOk, IfErr, option_map};
 ghost use Rattle.clap.specs.Words.{app_of, fault_of, found_of, rows_of, subcommand_of, subcommand_rows_of, HasKind};
 ghost use Rattle.mx_cli.specs.Words.{IsCommand, line_with, texts_of};
-ghost use Rattle.mx_count.specs.CountWords.{count_app, count_line, drawn_app, drawn_in, given_in, order_asked, order_in, order_of};
+ghost use Rattle.mx_count.specs.CountWords.{count_app, count_line, drawn_app, drawn_in, given_in, request_asked, request_in, request_of};
 
 use crate::help;
 use clap::{ArgMatches, Command, Error};
@@ -15,19 +15,19 @@ use std::alloc::{AllocError, Global};
 
 /// What is to be counted.
 #[derive(Clone, Copy)]
-pub(crate) enum Order<'a> {
+pub(crate) enum Request<'a> {
     /// What comes of the events that a file has.
     Given(Names<'a>),
     /// What comes of events drawn from a seed.
     Drawn(Exploration<'a>),
 }
 
-impl<'a> Order<'a> {
+impl<'a> Request<'a> {
     /// The names that the lines of faults have.
     pub(crate) fn names(&self) -> Names<'a> {
         match self {
-            Order::Given(names) => *names,
-            Order::Drawn(exploration) => Names {
+            Request::Given(names) => *names,
+            Request::Drawn(exploration) => Names {
                 plan: exploration.plan,
                 events: exploration.plan,
             },
@@ -66,17 +66,14 @@ fn counted_line<'a>(alloc: Global) -> Result<Command<'a>, AllocError>
 
 /// What the words ask to count. Their faults are those of `clap`, and words that ask for help come as
 /// such a fault too, with the text to show.
-pub(crate) fn asked_order<'a>(
-    alloc: Global,
-    words: &'a [&'a str],
-) -> Result<Option<Order<'a>>, Error>
+pub(crate) fn asked<'a>(alloc: Global, words: &'a [&'a str]) -> Result<Option<Request<'a>>, Error>
     ensures read { IfOk result (λ _. fault_of count_line (texts_of words.entry.now) ≡ []) }
-    ensures ok { IfOk result (λ order.
-        option_map order_of order ≡ order_asked (texts_of words.entry.now)) }
+    ensures ok { IfOk result (λ request.
+        option_map request_of request ≡ request_asked (texts_of words.entry.now)) }
     ensures err { IfErr result (HasKind (fault_of count_line (texts_of words.entry.now))) }
 {
     let matches = matches_of(alloc, words)?;
-    Ok(order_in(&matches))
+    Ok(request_in(&matches))
 }
 
 /// What is found in the words.
@@ -89,8 +86,8 @@ fn matches_of<'a>(alloc: Global, words: &'a [&'a str]) -> Result<ArgMatches<'a>,
     matches_in(count_line(alloc)?, words)
 }
 
-fn order_in<'a>(matches: &ArgMatches<'a>) -> Option<Order<'a>>
-    ensures { option_map order_of result ≡ order_in (subcommand_rows_of matches.now) }
+fn request_in<'a>(matches: &ArgMatches<'a>) -> Option<Request<'a>>
+    ensures { option_map request_of result ≡ request_in (subcommand_rows_of matches.now) }
 {
     match matches.subcommand() {
         Some((name, inner)) if name == "count" => given_in(inner),
@@ -99,14 +96,14 @@ fn order_in<'a>(matches: &ArgMatches<'a>) -> Option<Order<'a>>
     }
 }
 
-fn given_in<'a>(matches: &ArgMatches<'a>) -> Option<Order<'a>>
-    ensures { option_map order_of result ≡ given_in (rows_of (found_of matches.now)) }
+fn given_in<'a>(matches: &ArgMatches<'a>) -> Option<Request<'a>>
+    ensures { option_map request_of result ≡ given_in (rows_of (found_of matches.now)) }
 {
-    names_at(matches).map(Order::Given)
+    names_at(matches).map(Request::Given)
 }
 
-fn drawn_in<'a>(matches: &ArgMatches<'a>) -> Option<Order<'a>>
-    ensures { option_map order_of result ≡ drawn_in (rows_of (found_of matches.now)) }
+fn drawn_in<'a>(matches: &ArgMatches<'a>) -> Option<Request<'a>>
+    ensures { option_map request_of result ≡ drawn_in (rows_of (found_of matches.now)) }
 {
-    exploration_at(matches).map(Order::Drawn)
+    exploration_at(matches).map(Request::Drawn)
 }

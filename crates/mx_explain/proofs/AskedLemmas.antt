@@ -6,7 +6,7 @@ use Rattle.clap.specs.declared.error.kind.ErrorKind.{ErrorKind}
 use Rattle.clap.specs.Faults.{fault_of}
 use Rattle.mx_cli.specs.Words.{IsReadable}
 use Rattle.clap.proofs.OnLiterals.{clap_on_literals}
-use Rattle.mx_explain.specs.Asked.{explain_line, task_asked, task_in}
+use Rattle.mx_explain.specs.Asked.{explain_line, request_asked, request_in}
 use Rattle.mx_cli.proofs.WordLemmas.{none_asked}
 
 pub line_is_readable : IsReadable explain_line
@@ -14,6 +14,6 @@ unfolding clap_on_literals explain_line
 line_is_readable = record { plain = refl; free = refl }
 
 -- words that ask for something are refused only where memory runs out
-pub no_task_among : (words : List Text) (k : ErrorKind) → IsAmong k (fault_of explain_line words) → IsSome (task_asked words) → ⊥
-unfolding task_asked
-no_task_among words k among s = none_asked explain_line task_in words k among s
+pub no_request_among : (words : List Text) (k : ErrorKind) → IsAmong k (fault_of explain_line words) → IsSome (request_asked words) → ⊥
+unfolding request_asked
+no_request_among words k among s = none_asked explain_line request_in words k among s

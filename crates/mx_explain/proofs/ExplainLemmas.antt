@@ -7,7 +7,7 @@ use Rattle.clap.specs.Faults.{fault_of}
 use Rattle.clap.specs.Kinds.{HasKind}
 use Rattle.clap.specs.declared.error.Error.{Error}
 use Rattle.clap.specs.declared.error.kind.ErrorKind.TheVariants.{OutOfMemory}
-use Rattle.mx_cli.specs.Words.{Task}
+use Rattle.mx_cli.specs.Words.{Request}
 use Rattle.mx_plan.specs.Text.{Text}
 use Rattle.mx_cli.specs.declared.faults.Fault.{Fault}
 use Rattle.mx_cli.specs.declared.faults.Stop.{Stop}
@@ -24,9 +24,9 @@ use Rattle.mx_cli.specs.Told.{MayTell, Seen}
 use Rattle.mx_cli.specs.Closed.{Closes, FallsShort}
 use Rattle.mx_commands.proofs.JobLemmas.{of_jobs}
 use Rattle.mx_cli.proofs.OutputLemmas.{Appends-keeps, Appends-nil}
-use Rattle.mx_explain.specs.Asked.{explain_line, task_asked}
+use Rattle.mx_explain.specs.Asked.{explain_line, request_asked}
 use Rattle.mx_explain.specs.Explained.{EndsAs, Explains, FailsToPrint}
-use Rattle.mx_explain.proofs.AskedLemmas.{no_task_among}
+use Rattle.mx_explain.proofs.AskedLemmas.{no_request_among}
 
 -- ---- a run of which nobody reads what it prints
 
@@ -46,9 +46,9 @@ ran_for t r (Err stop.Writer) h = true_is_false h.0
 ran_for t r (Err stop.Memory) h = h
 
 -- what holds of an output that takes all holds of any
-pub ran_of_for : (t : Bool) (told : Text → Option Telling) (task : Task) (res : Result ℕ Stop) → RanOf true None None told task res → RanOf t None None told task res
-ran_of_for t told task res h =
-    of_jobs (job_of told task) (EndsEarly true res × Keeps None None) (EndsEarly t res × Keeps None None) (λ r. Ran true None None r res) (λ r. Ran t None None r res)
+pub ran_of_for : (t : Bool) (told : Text → Option Telling) (request : Request) (res : Result ℕ Stop) → RanOf true None None told request res → RanOf t None None told request res
+ran_of_for t told request res h =
+    of_jobs (job_of told request) (EndsEarly true res × Keeps None None) (EndsEarly t res × Keeps None None) (λ r. Ran true None None r res) (λ r. Ran t None None r res)
     (λ x. (early_for t res x.0, x.1)) (λ r. ran_for t r res) h
 
 early_of : (t : Bool) (s : Stop) → FailsToPrint t s → EndsEarly t (Err s)
@@ -63,45 +63,45 @@ some_early None X P x = tt
 some_early (Some job) X P x = inl x
 
 -- an explanation that is not printed
-pub ran_unprinted : (t : Bool) (told : Text → Option Telling) (task : Task) (s : Stop) → FailsToPrint t s → RanOf t None None told task (Err s)
-ran_unprinted t told task s h = some_early (job_of told task) (EndsEarly t (Err s) × Keeps None None) (λ r. Ran t None None r (Err s)) (early_of t s h, tt)
+pub ran_unprinted : (t : Bool) (told : Text → Option Telling) (request : Request) (s : Stop) → FailsToPrint t s → RanOf t None None told request (Err s)
+ran_unprinted t told request s h = some_early (job_of told request) (EndsEarly t (Err s) × Keeps None None) (λ r. Ran t None None r (Err s)) (early_of t s h, tt)
 
 -- ---- how it is closed
 
 and_left : (t u : Bool) → t ≡ false → (t && u) ≡ false
 and_left t u e = ap (λ x. x && u) e
 
-module _ (t u : Bool) (told : Text → Option Telling) (task : Task) (old new : Held) (status : ℕ) where
-  closed_early : (res : Result ℕ Stop) → EndsEarly t res → Closes (t && u) (names_in task) res old new status → FallsShort (t && u) old new status
+module _ (t u : Bool) (told : Text → Option Telling) (request : Request) (old new : Held) (status : ℕ) where
+  closed_early : (res : Result ℕ Stop) → EndsEarly t res → Closes (t && u) (names_in request) res old new status → FallsShort (t && u) old new status
   closed_early (Ok v) early h = absurd early
   closed_early (Err (stop.Fault f)) early h = absurd early
   closed_early (Err stop.Writer) early h = inr (h.0, and_left t u early, h.1)
   closed_early (Err stop.Memory) early h = h
 
-  closed_whole : (r : Report) (v : ℕ) → v ≡ 0 → r.end ≡ None → (status ≡ v) × Keeps old new → EndsAs (names_in task) r old new status
+  closed_whole : (r : Report) (v : ℕ) → v ≡ 0 → r.end ≡ None → (status ≡ v) × Keeps old new → EndsAs (names_in request) r old new status
   closed_whole r v zero end h = record {
     status_is = h.0 ∙ zero ∙ ap status_of (sym end);
-    fault = subst (λ (e : Option Fault). Appends old new (end_text (names_in task) e)) (sym end) (Appends-keeps old old new [] (Appends-nil old) h.1);
+    fault = subst (λ (e : Option Fault). Appends old new (end_text (names_in request) e)) (sym end) (Appends-keeps old old new [] (Appends-nil old) h.1);
   }
 
-  closed_ran : (r : Report) (res : Result ℕ Stop) → IfOk res (λ v. v ≡ 0) → Closes (t && u) (names_in task) res old new status → Ran t None None r res
-      → FallsShort (t && u) old new status ⊎ EndsAs (names_in task) r old new status
+  closed_ran : (r : Report) (res : Result ℕ Stop) → IfOk res (λ v. v ≡ 0) → Closes (t && u) (names_in request) res old new status → Ran t None None r res
+      → FallsShort (t && u) old new status ⊎ EndsAs (names_in request) r old new status
   closed_ran r (Ok v) zero (inl h) ran = inr (closed_whole r v zero ran.0 h)
   closed_ran r (Ok v) zero (inr h) ran = inl h
   closed_ran r (Err (stop.Fault f)) zero (inl h) ran = inr (record {
     status_is = h.0 ∙ ap status_of (sym ran.0);
-    fault = subst (λ (e : Option Fault). Appends old new (end_text (names_in task) e)) (sym ran.0) h.1;
+    fault = subst (λ (e : Option Fault). Appends old new (end_text (names_in request) e)) (sym ran.0) h.1;
   })
   closed_ran r (Err (stop.Fault f)) zero (inr h) ran = inl h
   closed_ran r (Err stop.Writer) zero h ran = inl (inr (h.0, and_left t u ran.0, h.1))
   closed_ran r (Err stop.Memory) zero h ran = inl h
 
   -- an explanation, from how the run ended and how that was closed
-  pub explained : (res : Result ℕ Stop) → IfOk res (λ v. v ≡ 0) → Closes (t && u) (names_in task) res old new status → RanOf t None None told task res
-      → Explains (t && u) told task old new status
+  pub explained : (res : Result ℕ Stop) → IfOk res (λ v. v ≡ 0) → Closes (t && u) (names_in request) res old new status → RanOf t None None told request res
+      → Explains (t && u) told request old new status
   explained res zero closes h =
-      of_jobs (job_of told task) (EndsEarly t res × Keeps None None) (FallsShort (t && u) old new status) (λ r. Ran t None None r res)
-      (λ r. FallsShort (t && u) old new status ⊎ EndsAs (names_in task) r old new status)
+      of_jobs (job_of told request) (EndsEarly t res × Keeps None None) (FallsShort (t && u) old new status) (λ r. Ran t None None r res)
+      (λ r. FallsShort (t && u) old new status ⊎ EndsAs (names_in request) r old new status)
       (λ x. closed_early res x.0 closes) (λ r. closed_ran r res zero closes) h
 
 short_status : (t : Bool) (old new : Held) (status : ℕ) → FallsShort t old new status → IsRunStatus status
@@ -123,20 +123,20 @@ module _ (t u : Bool) (old new : Seen) (status : ℕ) (e : Error) (words : List 
   short : kind_of e ≡ OutOfMemory → FallsShort (t && u) old.err new.err status
   short out = let m = memory out in inl (m.0, m.2)
 
-  refused_task : (h : (kind_of e ≡ OutOfMemory) ⊎ (IsSome (task_asked words) → ⊥)) (told : Text → Option Telling) (w : Option Task) → w ≡ task_asked words
-      → IfSome w (λ task. Explains (t && u) told task old.err new.err status)
-  refused_task h told None is = tt
-  refused_task (inl out) told (Some task) is = some_early (job_of told task) (FallsShort (t && u) old.err new.err status)
-      (λ r. FallsShort (t && u) old.err new.err status ⊎ EndsAs (names_in task) r old.err new.err status) (short out)
-  refused_task (inr none) told (Some task) is = absurd (none (subst IsSome is refl))
+  refused_request : (h : (kind_of e ≡ OutOfMemory) ⊎ (IsSome (request_asked words) → ⊥)) (told : Text → Option Telling) (w : Option Request) → w ≡ request_asked words
+      → IfSome w (λ request. Explains (t && u) told request old.err new.err status)
+  refused_request h told None is = tt
+  refused_request (inl out) told (Some request) is = some_early (job_of told request) (FallsShort (t && u) old.err new.err status)
+      (λ r. FallsShort (t && u) old.err new.err status ⊎ EndsAs (names_in request) r old.err new.err status) (short out)
+  refused_request (inr none) told (Some request) is = absurd (none (subst IsSome is refl))
 
-  asks_nothing : (kind_of e ≡ OutOfMemory) ⊎ (IsSome (task_asked words) → ⊥)
-  asks_nothing = elim kinds [ inl out ↦ inl out | inr among ↦ inr (no_task_among words (kind_of e) among) ]
+  asks_nothing : (kind_of e ≡ OutOfMemory) ⊎ (IsSome (request_asked words) → ⊥)
+  asks_nothing = elim kinds [ inl out ↦ inl out | inr among ↦ inr (no_request_among words (kind_of e) among) ]
 
-  pub task_refused : (told : Text → Option Telling) → IfSome (task_asked words) (λ task. Explains (t && u) told task old.err new.err status)
-  task_refused told = refused_task asks_nothing told (task_asked words) refl
+  pub request_refused : (told : Text → Option Telling) → IfSome (request_asked words) (λ request. Explains (t && u) told request old.err new.err status)
+  request_refused told = refused_request asks_nothing told (request_asked words) refl
 
-  pub status_refused : IsSome (task_asked words) → IsRunStatus status
+  pub status_refused : IsSome (request_asked words) → IsRunStatus status
   status_refused asks = elim asks_nothing [ inl out ↦ inr (inr (memory out).0) | inr none ↦ absurd (none asks) ]
 
 -- ---- an explanation that is not printed

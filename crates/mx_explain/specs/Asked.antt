@@ -2,7 +2,7 @@
 use Rattle.std.specs.Prelude.{List, Option, Some, None, codes, if◌then◌else◌, option_map}
 use Rattle.std.specs.Str.{bytes_eq}
 use Rattle.clap.specs.Words.{App, Row, Rule, Text, first_of, new_app, new_rule, with_rule}
-use Rattle.mx_cli.specs.Words.{Task, asked_of, check, line_with, plan_rule, replay}
+use Rattle.mx_cli.specs.Words.{Request, asked_of, check, line_with, plan_rule, replay}
 
 -- `[EVENTS]`
 abbrev pub events_rule : Rule
@@ -17,18 +17,18 @@ unfoldable pub explain_line : App
 explain_line = line_with explain_app
 
 -- a replay where events are named, else a check
-abbrev pub task_on : Text → Option Text → Task
-task_on plan None = check plan
-task_on plan (Some events) = replay (plan, events)
+abbrev pub request_on : Text → Option Text → Request
+request_on plan None = check plan
+request_on plan (Some events) = replay (plan, events)
 
 -- what was given for the arguments
-abbrev pub explain_in : List Row → Option Task
-explain_in rows = option_map (λ plan. task_on plan (first_of (codes "EVENTS") rows)) (first_of (codes "PLAN") rows)
+abbrev pub explain_in : List Row → Option Request
+explain_in rows = option_map (λ plan. request_on plan (first_of (codes "EVENTS") rows)) (first_of (codes "PLAN") rows)
 
-abbrev pub task_in : Option (Text × List Row) → Option Task
-task_in None = None
-task_in (Some p) = if bytes_eq p.0 (codes "explain") then explain_in p.1 else None
+abbrev pub request_in : Option (Text × List Row) → Option Request
+request_in None = None
+request_in (Some p) = if bytes_eq p.0 (codes "explain") then explain_in p.1 else None
 
 -- what the words ask for, where they are `explain` with its arguments
-unfoldable pub task_asked : List Text → Option Task
-task_asked words = asked_of explain_line task_in words
+unfoldable pub request_asked : List Text → Option Request
+request_asked words = asked_of explain_line request_in words

@@ -1,7 +1,7 @@
 -- With which status an explanation ends, and what standard error gets: those of the check or of the replay.
 use Rattle.std.specs.Prelude.{◌≡◌, ◌⊎◌, ℕ, Bool, false, Option, IfSome}
 use Rattle.std.specs.Io.KnownBytes.{Appends}
-use Rattle.mx_cli.specs.Words.{Task}
+use Rattle.mx_cli.specs.Words.{Request}
 use Rattle.mx_plan.specs.Text.{Text}
 use Rattle.mx_cli.specs.declared.faults.Stop.{Stop}
 use Rattle.mx_cli.specs.declared.faults.Stop.TheVariants.{Memory, Writer}
@@ -18,9 +18,9 @@ pub record EndsAs (names : Text × Text) (r : Report) (old new : Held) (status :
   pub fault : Appends old new (end_text names r.end)
 
 -- an explanation of this task, over what a source tells: it ends as the task's report, or falls short
-abbrev pub Explains : Bool → (Text → Option Telling) → Task → Held → Held → ℕ → Type 0
-Explains takes_all told task old new status = IfSome (job_of told task) (λ job. FallsShort takes_all old new status
-    ⊎ HoldsOfReport job (λ r. FallsShort takes_all old new status ⊎ EndsAs (names_in task) r old new status))
+abbrev pub Explains : Bool → (Text → Option Telling) → Request → Held → Held → ℕ → Type 0
+Explains takes_all told request old new status = IfSome (job_of told request) (λ job. FallsShort takes_all old new status
+    ⊎ HoldsOfReport job (λ r. FallsShort takes_all old new status ⊎ EndsAs (names_in request) r old new status))
 
 -- why an explanation is not printed: memory ran out, or the output refused, which one that takes all bytes never does
 abbrev pub FailsToPrint : Bool → Stop → Type 0

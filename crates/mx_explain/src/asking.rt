@@ -2,8 +2,8 @@
 
 ghost use Rattle.std.specs.Prelude.{◌≡◌, [], IfOk, IfErr, option_map};
 ghost use Rattle.clap.specs.Words.{app_of, fault_of, found_of, rows_of, subcommand_rows_of, HasKind};
-ghost use Rattle.mx_cli.specs.Words.{IsArgument, IsCommand, task_of, texts_of};
-ghost use Rattle.mx_explain.specs.Asked.{events_rule, explain_app, explain_in, explain_line, task_asked, task_in};
+ghost use Rattle.mx_cli.specs.Words.{IsArgument, IsCommand, request_of, texts_of};
+ghost use Rattle.mx_explain.specs.Asked.{events_rule, explain_app, explain_in, explain_line, request_asked, request_in};
 
 use crate::help;
 use clap::{Arg, ArgMatches, Command, Error};
@@ -25,13 +25,10 @@ fn explain_command<'a>(alloc: Global) -> Result<Command<'a>, AllocError>
 }
 
 /// The check or the replay that the words, of which `explain` is the first, ask to have explained.
-pub(crate) fn asked_explain<'a>(
-    alloc: Global,
-    words: &'a [&'a str],
-) -> Result<Option<Request<'a>>, Error>
+pub(crate) fn asked<'a>(alloc: Global, words: &'a [&'a str]) -> Result<Option<Request<'a>>, Error>
     ensures read { IfOk result (λ _. fault_of explain_line (texts_of words.entry.now) ≡ []) }
     ensures ok { IfOk result (λ request.
-        option_map task_of request ≡ task_asked (texts_of words.entry.now)) }
+        option_map request_of request ≡ request_asked (texts_of words.entry.now)) }
     ensures err { IfErr result (HasKind (fault_of explain_line (texts_of words.entry.now))) }
 {
     let line = line_of(alloc, explain_command(alloc)?)?;
@@ -40,7 +37,7 @@ pub(crate) fn asked_explain<'a>(
 }
 
 fn request_in<'a>(matches: &ArgMatches<'a>) -> Option<Request<'a>>
-    ensures { option_map task_of result ≡ task_in (subcommand_rows_of matches.now) }
+    ensures { option_map request_of result ≡ request_in (subcommand_rows_of matches.now) }
 {
     match matches.subcommand() {
         Some((name, inner)) if name == "explain" => explain_in(inner),
@@ -50,7 +47,7 @@ fn request_in<'a>(matches: &ArgMatches<'a>) -> Option<Request<'a>>
 
 /// A replay where events are named, else a check.
 fn explain_in<'a>(matches: &ArgMatches<'a>) -> Option<Request<'a>>
-    ensures { option_map task_of result ≡ explain_in (rows_of (found_of matches.now)) }
+    ensures { option_map request_of result ≡ explain_in (rows_of (found_of matches.now)) }
 {
     let Some(plan) = text_at(matches, "PLAN") else {
         return None;

@@ -1,13 +1,13 @@
 //! `explain`: from words, named bytes and two outputs to a status.
 
 ghost use Rattle.std.specs.Prelude.{◌≡◌, ◌&&◌, IsSome, IfSome, IfOk, IfErr, None, true, false};
-ghost use Rattle.mx_cli.specs.Words.{AreWrong, AskHelp, task_of, texts_of};
+ghost use Rattle.mx_cli.specs.Words.{AreWrong, AskHelp, request_of, texts_of};
 ghost use Rattle.mx_cli.specs.Told.{Helps, Scolds, seen};
 ghost use Rattle.mx_commands.specs.Ran.{IsRunStatus, RanOf};
-ghost use Rattle.mx_explain.specs.Asked.{explain_line, task_asked};
+ghost use Rattle.mx_explain.specs.Asked.{explain_line, request_asked};
 ghost use Rattle.mx_explain.specs.Explained.{Explains, FailsToPrint};
 
-use crate::asking::asked_explain;
+use crate::asking::asked;
 use crate::files::explain_files;
 use crate::reasons::Reasons;
 use mx_cli::{Fault, Request, Stop, close, refuse};
@@ -44,10 +44,10 @@ pub fn explain<S: Source + Reasons, O: Output, E: Output>(
     out: &mut O,
     err: &mut E,
 ) -> u8
-    ensures explains { IfSome (task_asked (texts_of words.entry.now)) (λ task.
-        Explains (O.takes_all out.old && E.takes_all err.old) (S.told source.old) task
+    ensures explains { IfSome (request_asked (texts_of words.entry.now)) (λ request.
+        Explains (O.takes_all out.old && E.takes_all err.old) (S.told source.old) request
         (E.written err.old) (E.written err.new) result) }
-    ensures status { IsSome (task_asked (texts_of words.entry.now)) → IsRunStatus result }
+    ensures status { IsSome (request_asked (texts_of words.entry.now)) → IsRunStatus result }
     ensures help { AskHelp explain_line (texts_of words.entry.now) → Helps (O.takes_all out.old)
         (seen (O.written out.old) (E.written err.old)
         (O.has_refused out.old) (O.keeps_back out.old))
@@ -61,7 +61,7 @@ pub fn explain<S: Source + Reasons, O: Output, E: Output>(
         (O.has_refused out.new) (O.keeps_back out.new))
         result }
 {
-    match asked_explain(alloc, words) {
+    match asked(alloc, words) {
         Ok(Some(request)) => explain_request(alloc, &request, source, out, err),
         Ok(None) => 2,
         Err(e) => refuse(alloc, &e, out, err),
@@ -76,7 +76,7 @@ fn explain_request<S: Source + Reasons, O: Output, E: Output>(
     err: &mut E,
 ) -> u8
     ensures explains { Explains (O.takes_all out.old && E.takes_all err.old) (S.told source.old)
-        (task_of request.now) (E.written err.old) (E.written err.new) result }
+        (request_of request.now) (E.written err.old) (E.written err.new) result }
     ensures status { IsRunStatus result }
 {
     let ended = carry_out_and_explain(alloc, request, source, out);
@@ -91,7 +91,7 @@ fn carry_out_and_explain<S: Source + Reasons, O: Output>(
     source: &mut S,
     out: &mut O,
 ) -> Result<u8, Stop>
-    ensures ran { RanOf (O.takes_all out.old) None None (S.told source.old) (task_of request.now)
+    ensures ran { RanOf (O.takes_all out.old) None None (S.told source.old) (request_of request.now)
         result }
     ensures zero { IfOk result (λ status. status ≡ 0) }
     ensures stays { O.takes_all out.new ≡ O.takes_all out.old }

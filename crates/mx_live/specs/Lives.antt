@@ -6,7 +6,7 @@ use Rattle.mx_journal.specs.Settled.{JournalState}
 use Rattle.mx_plan.specs.Fields.{Fields}
 use Rattle.clap.specs.Words.{Text}
 use Rattle.clap.specs.Faults.{fault_of}
-use Rattle.mx_cli.specs.LiveWords.{Order, live_line, order_asked}
+use Rattle.mx_cli.specs.LiveWords.{LiveRequest, live_line, request_asked}
 use Rattle.mx_cli.specs.declared.faults.Stop.TheVariants as stop
 use Rattle.mx_io.specs.Told.{Telling}
 use Rattle.mx_io.specs.Outputs.{Held}
@@ -24,27 +24,27 @@ abbrev pub IsPlanOf : Option Telling → Fields → Type 0
 IsPlanOf told p = IfSome told (λ telling. Reads telling (Ok p))
 
 -- each node's sections fit into the plan
-abbrev pub Fits : Order → Fields → Type 0
-Fits order p = length p.nodes * order.sections ≤ p.sections
+abbrev pub Fits : LiveRequest → Fields → Type 0
+Fits request p = length p.nodes * request.sections ≤ p.sections
 
 -- what was printed is what some receipts and their journal show: they were gathered from the stations of the plan, which
 -- began at its origin and were worked at as ordered, and each node has its sections
-abbrev pub Shows : Option Telling → Order → Held → Held → Type 0
-Shows told order old new =
+abbrev pub Shows : Option Telling → LiveRequest → Held → Held → Type 0
+Shows told request old new =
     (p : Fields) × (receipts : List Receipt) × (journal : JournalState)
-    × IsPlanOf told p × Fits order p × ComeOf p (orders_in order) receipts journal
-    × AreSerial receipts journal × HaveSections (length p.nodes) order.sections receipts × Appends old new (live_text p (length receipts) journal)
+    × IsPlanOf told p × Fits request p × ComeOf p (orders_in request) receipts journal
+    × AreSerial receipts journal × HaveSections (length p.nodes) request.sections receipts × Appends old new (live_text p (length receipts) journal)
 
 -- why the run has no journal: the plan can't be read or is refused; else it has too few sections; else threads ran in vain:
 -- a worker made all its turns, or the gate was shut. An output that takes all is no reason, and want of memory may always be
 -- one
-abbrev pub Halts : Bool → Option Telling → Order → Halt → Type 0
-Halts takes told order (Plan fault) = IfSome told (λ telling. Reads telling (Err (stop.Fault fault)))
-Halts takes told order TooFewSections = (p : Fields) × IsPlanOf told p × (p.sections < length p.nodes * order.sections)
-Halts takes told order TurnsSpent = (p : Fields) × IsPlanOf told p × Fits order p × SpendsTurns p (orders_in order)
-Halts takes told order GateShut = (p : Fields) × IsPlanOf told p × Fits order p
-Halts takes told order Writer = takes ≢ true
-Halts takes told order Memory = Unit {0}
+abbrev pub Halts : Bool → Option Telling → LiveRequest → Halt → Type 0
+Halts takes told request (Plan fault) = IfSome told (λ telling. Reads telling (Err (stop.Fault fault)))
+Halts takes told request TooFewSections = (p : Fields) × IsPlanOf told p × (p.sections < length p.nodes * request.sections)
+Halts takes told request TurnsSpent = (p : Fields) × IsPlanOf told p × Fits request p × SpendsTurns p (orders_in request)
+Halts takes told request GateShut = (p : Fields) × IsPlanOf told p × Fits request p
+Halts takes told request Writer = takes ≢ true
+Halts takes told request Memory = Unit {0}
 
 -- where the run has no journal, and neither memory nor an output failed on the way, nothing was printed
 abbrev pub IsSilent : Halt → Held → Held → Type 0
@@ -56,20 +56,20 @@ IsSilent Writer old new = Unit {0}
 IsSilent Memory old new = Unit {0}
 
 -- where a journal was printed it was passed on: the output keeps nothing back
-abbrev pub Ends : Bool → Option Telling → Order → Held → Held → Bool → Result (Unit {0}) Halt → Type 0
-Ends takes told order old new kept_back (Ok done) = Shows told order old new × (kept_back ≡ false)
-Ends takes told order old new kept_back (Err halt) = Halts takes told order halt × IsSilent halt old new
+abbrev pub Ends : Bool → Option Telling → LiveRequest → Held → Held → Bool → Result (Unit {0}) Halt → Type 0
+Ends takes told request old new kept_back (Ok done) = Shows told request old new × (kept_back ≡ false)
+Ends takes told request old new kept_back (Err halt) = Halts takes told request halt × IsSilent halt old new
 
 -- the run printed a journal and passed it on, status 0; or it has none, with the status of why; or memory ran out, status 5
-abbrev pub Lives : Bool → Option Telling → Order → Held → Held → Bool → ℕ → Type 0
-Lives takes told order old new kept_back status =
-    ((status ≡ 0) × Shows told order old new × (kept_back ≡ false))
-    ⊎ ((halt : Halt) × (status ≡ halt_status halt) × Halts takes told order halt × IsSilent halt old new)
+abbrev pub Lives : Bool → Option Telling → LiveRequest → Held → Held → Bool → ℕ → Type 0
+Lives takes told request old new kept_back status =
+    ((status ≡ 0) × Shows told request old new × (kept_back ≡ false))
+    ⊎ ((halt : Halt) × (status ≡ halt_status halt) × Halts takes told request halt × IsSilent halt old new)
     ⊎ (status ≡ 5)
 
 -- the words have no fault, and ask for no run
 abbrev pub AskNothing : List Text → Type 0
-AskNothing words = (fault_of live_line words ≡ []) × (order_asked words ≡ None)
+AskNothing words = (fault_of live_line words ≡ []) × (request_asked words ≡ None)
 
 -- nothing is written, status 2; or memory ran out, status 5
 abbrev pub Declines : Seen → Seen → ℕ → Type 0

@@ -3,7 +3,7 @@ use Rattle.std.specs.Prelude.{◌≡◌, ℕ, ◌+◌, ◌%◌, ◌^◌, ◌≤�
 use Rattle.atomic_table.specs.Seated.{TableId}
 use Rattle.mx_explorer.specs.Weather.{Climate, generator_of}
 use Rattle.mx_plan.specs.Fields.{Fields}
-use Rattle.mx_cli.specs.LiveWords.{Order}
+use Rattle.mx_cli.specs.LiveWords.{LiveRequest}
 use Rattle.mx_ricart.specs.Step.{ricart_core}
 use Rattle.mx_maekawa.specs.Step.{maekawa_core}
 use Rattle.mx_raymond.specs.Step.{raymond_core}
@@ -16,8 +16,8 @@ use Rattle.mx_live.specs.declared.threads.Orders.{Orders}
 use Rattle.mx_live.specs.Stations.{AreAll, Rests, receipts_in}
 
 -- what the words order of each worker
-abbrev pub orders_in : Order → Orders
-orders_in order = record { sections = order.sections; seed = order.seed; turns = order.turns; settle = order.settle }
+abbrev pub orders_in : LiveRequest → Orders
+orders_in request = record { sections = request.sections; seed = request.seed; turns = request.turns; settle = request.settle }
 
 -- the weather of the links to node i, by the seed plus i, wrapping: of 256 parcels they lose 16 and repeat 16
 abbrev pub weather_of : ℕ → ℕ → Climate

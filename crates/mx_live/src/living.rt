@@ -3,7 +3,7 @@
 ghost use Rattle.std.specs.Prelude.{◌≡◌, Option, false, length, IfErr, IfSome, OnOk};
 ghost use Rattle.std.specs.Io.KnownBytes.{Appends};
 ghost use Rattle.mx_cli.specs.Words.{texts_of, AreWrong, AskHelp};
-ghost use Rattle.mx_cli.specs.LiveWords.{order_asked, order_of, live_line};
+ghost use Rattle.mx_cli.specs.LiveWords.{request_asked, request_of, live_line};
 ghost use Rattle.mx_cli.specs.Told.{Helps, Scolds, seen};
 ghost use Rattle.mx_io.specs.Told.{Telling};
 ghost use Rattle.mx_live.specs.Halts.{Fails};
@@ -13,7 +13,7 @@ ghost use Rattle.mx_live.specs.Lives.{AskNothing, Declines, Ends, IsPlanOf, Live
 use crate::halts::{Halt, tell};
 use crate::running::live_by_shape;
 use crate::shown::add_journal;
-use mx_cli::{LiveRun, asked_live, fetch_plan, refuse};
+use mx_cli::{LiveRequest, asked_live, fetch_plan, refuse};
 use mx_io::{Output, Source};
 use mx_plan::Plan;
 use mx_stations::Gathered;
@@ -34,8 +34,8 @@ pub fn live<R: Threads + Clock, S: Source, O: Output, E: Output>(
     out: &mut O,
     err: &mut E,
 ) -> u8
-    ensures lives { IfSome (order_asked (texts_of words.entry.now)) (λ order.
-        Lives (O.takes_all out.old) (S.told source.old order.plan) order
+    ensures lives { IfSome (request_asked (texts_of words.entry.now)) (λ request.
+        Lives (O.takes_all out.old) (S.told source.old request.plan) request
         (O.written out.old) (O.written out.new) (O.keeps_back out.new) result) }
     ensures help { AskHelp live_line (texts_of words.entry.now) → Helps (O.takes_all out.old)
         (seen (O.written out.old) (E.written err.old)
@@ -57,7 +57,7 @@ pub fn live<R: Threads + Clock, S: Source, O: Output, E: Output>(
         result }
 {
     match asked_live(alloc, words) {
-        Ok(Some(run)) => run_live(rt, alloc, &run, source, out, err),
+        Ok(Some(request)) => run_live(rt, alloc, &request, source, out, err),
         Ok(None) => 2,
         Err(e) => refuse(alloc, &e, out, err),
     }
@@ -68,17 +68,17 @@ pub fn live<R: Threads + Clock, S: Source, O: Output, E: Output>(
 fn run_live<R: Threads + Clock, S: Source, O: Output, E: Output>(
     rt: &R,
     alloc: Global,
-    run: &LiveRun<'_>,
+    request: &LiveRequest<'_>,
     source: &mut S,
     out: &mut O,
     err: &mut E,
 ) -> u8
-    ensures { Lives (O.takes_all out.old) (S.told source.old run.now.plan.now) (order_of run.now)
+    ensures { Lives (O.takes_all out.old) (S.told source.old request.now.plan.now) (request_of request.now)
         (O.written out.old) (O.written out.new) (O.keeps_back out.new) result }
 {
-    match live_and_show(rt, alloc, run, source, out, err) {
+    match live_and_show(rt, alloc, request, source, out, err) {
         Ok(()) => 0,
-        Err(halt) => tell(alloc, halt, run.plan, err),
+        Err(halt) => tell(alloc, halt, request.plan, err),
     }
 }
 
@@ -86,16 +86,16 @@ fn run_live<R: Threads + Clock, S: Source, O: Output, E: Output>(
 fn live_and_show<R: Threads + Clock, S: Source, O: Output, E: Output>(
     rt: &R,
     alloc: Global,
-    run: &LiveRun<'_>,
+    request: &LiveRequest<'_>,
     source: &mut S,
     out: &mut O,
     err: &mut E,
 ) -> Result<(), Halt>
-    ensures { Ends (O.takes_all out.old) (S.told source.old run.now.plan.now) (order_of run.now)
+    ensures { Ends (O.takes_all out.old) (S.told source.old request.now.plan.now) (request_of request.now)
         (O.written out.old) (O.written out.new) (O.keeps_back out.new) result }
 {
-    let plan = fetch_plan(alloc, source, run.plan)?;
-    live_plan(rt, alloc, &plan, run, out, err)
+    let plan = fetch_plan(alloc, source, request.plan)?;
+    live_plan(rt, alloc, &plan, request, out, err)
 }
 
 /// Runs the nodes of a plan, where it has sections enough, and prints what their journals have
@@ -104,18 +104,18 @@ fn live_plan<R: Threads + Clock, O: Output, E: Output>(
     rt: &R,
     alloc: Global,
     plan: &Plan,
-    run: &LiveRun<'_>,
+    request: &LiveRequest<'_>,
     out: &mut O,
     err: &mut E,
 ) -> Result<(), Halt>
     ensures { (told : Option Telling) → IsPlanOf told plan.now
-        → Ends (O.takes_all out.old) told (order_of run.now)
+        → Ends (O.takes_all out.old) told (request_of request.now)
         (O.written out.old) (O.written out.new) (O.keeps_back out.new) result }
 {
-    if u64::from(plan.nodes()).saturating_mul(run.sections) > plan.sections() {
+    if u64::from(plan.nodes()).saturating_mul(request.sections) > plan.sections() {
         return Err(Halt::TooFewSections);
     }
-    let gathered = live_by_shape(rt, alloc, plan, run, err)?;
+    let gathered = live_by_shape(rt, alloc, plan, request, err)?;
     show(alloc, plan, &gathered, out)
 }
 

@@ -9,7 +9,7 @@ ghost use Rattle.mx_live.specs.Halts.{HaltsIn, RanInVain};
 ghost use Rattle.mx_live.specs.Stations.{AreAll, AreAtRest, AreReady};
 ghost use Rattle.mx_live.specs.Together.{AreSerial, ComeOf, HaveSections};
 ghost use Rattle.mx_live.specs.Workers.{AreDone, IsDone, WasLeft, orders_in};
-ghost use Rattle.mx_cli.specs.LiveWords.{order_of};
+ghost use Rattle.mx_cli.specs.LiveWords.{request_of};
 
 use crate::any_station::AnyStation;
 use crate::assembly::{Assembly, MOST_LOOKS};
@@ -19,7 +19,7 @@ use crate::by_algorithm::{
 use crate::halts::Halt;
 use crate::progress::tell_progress;
 use crate::threads::{Ended, Orders, join_all, start_all};
-use mx_cli::LiveRun;
+use mx_cli::LiveRequest;
 use mx_io::Output;
 use mx_maekawa::Maekawa;
 use mx_nodelaws::Exclusion;
@@ -38,20 +38,20 @@ pub fn live_by_shape<R: Threads + Clock, E: Output>(
     rt: &R,
     alloc: Global,
     plan: &Plan,
-    run: &LiveRun<'_>,
+    request: &LiveRequest<'_>,
     err: &mut E,
 ) -> Result<Gathered, Halt>
     ensures serial { IfOk result (λ all. AreSerial all.receipts.items all.journal) }
     ensures sections { IfOk result (λ all.
-        HaveSections (length plan.now.nodes) run.now.sections all.receipts.items) }
+        HaveSections (length plan.now.nodes) request.now.sections all.receipts.items) }
     ensures come { IfOk result (λ all.
-        ComeOf plan.now (orders_in (order_of run.now)) all.receipts.items all.journal) }
-    ensures err { IfErr result (RanInVain plan.now (orders_in (order_of run.now))) }
+        ComeOf plan.now (orders_in (request_of request.now)) all.receipts.items all.journal) }
+    ensures err { IfErr result (RanInVain plan.now (orders_in (request_of request.now))) }
 {
     match plan.shape() {
-        Shape::Ricart(shape) => live_ricart(rt, alloc, plan, shape, run, err),
-        Shape::Maekawa(shape) => live_maekawa(rt, alloc, plan, shape, run, err),
-        Shape::Raymond(shape) => live_raymond(rt, alloc, plan, shape, run, err),
+        Shape::Ricart(shape) => live_ricart(rt, alloc, plan, shape, request, err),
+        Shape::Maekawa(shape) => live_maekawa(rt, alloc, plan, shape, request, err),
+        Shape::Raymond(shape) => live_raymond(rt, alloc, plan, shape, request, err),
     }
 }
 
@@ -61,22 +61,22 @@ fn live_ricart<R: Threads + Clock, E: Output>(
     alloc: Global,
     plan: &Plan,
     shape: &Count,
-    run: &LiveRun<'_>,
+    request: &LiveRequest<'_>,
     err: &mut E,
 ) -> Result<Gathered, Halt>
     requires count { ⟦<Ricart as Exclusion>⟧.core.count shape.now ≡ length plan.now.nodes }
     requires shape { plan.now.shape ≡ Shape.Ricart shape.now }
     ensures serial { IfOk result (λ all. AreSerial all.receipts.items all.journal) }
     ensures sections { IfOk result (λ all.
-        HaveSections (length plan.now.nodes) run.now.sections all.receipts.items) }
+        HaveSections (length plan.now.nodes) request.now.sections all.receipts.items) }
     ensures come { IfOk result (λ all.
-        ComeOf plan.now (orders_in (order_of run.now)) all.receipts.items all.journal) }
-    ensures err { IfErr result (RanInVain plan.now (orders_in (order_of run.now))) }
+        ComeOf plan.now (orders_in (request_of request.now)) all.receipts.items all.journal) }
+    ensures err { IfErr result (RanInVain plan.now (orders_in (request_of request.now))) }
 {
     let stations = stations_in::<Ricart>(alloc, plan, shape)?;
     let watch = watch_over(stations.as_slice())?;
     let any = any_ricart(alloc, stations)?;
-    let left = run_all(rt, alloc, plan, any, watch, run, err)?;
+    let left = run_all(rt, alloc, plan, any, watch, request, err)?;
     let own = all_ricart(alloc, left)?;
     gather_all(alloc, own)
 }
@@ -87,22 +87,22 @@ fn live_maekawa<R: Threads + Clock, E: Output>(
     alloc: Global,
     plan: &Plan,
     shape: &Quorums,
-    run: &LiveRun<'_>,
+    request: &LiveRequest<'_>,
     err: &mut E,
 ) -> Result<Gathered, Halt>
     requires count { ⟦<Maekawa as Exclusion>⟧.core.count shape.now ≡ length plan.now.nodes }
     requires shape { plan.now.shape ≡ Shape.Maekawa shape.now }
     ensures serial { IfOk result (λ all. AreSerial all.receipts.items all.journal) }
     ensures sections { IfOk result (λ all.
-        HaveSections (length plan.now.nodes) run.now.sections all.receipts.items) }
+        HaveSections (length plan.now.nodes) request.now.sections all.receipts.items) }
     ensures come { IfOk result (λ all.
-        ComeOf plan.now (orders_in (order_of run.now)) all.receipts.items all.journal) }
-    ensures err { IfErr result (RanInVain plan.now (orders_in (order_of run.now))) }
+        ComeOf plan.now (orders_in (request_of request.now)) all.receipts.items all.journal) }
+    ensures err { IfErr result (RanInVain plan.now (orders_in (request_of request.now))) }
 {
     let stations = stations_in::<Maekawa>(alloc, plan, shape)?;
     let watch = watch_over(stations.as_slice())?;
     let any = any_maekawa(alloc, stations)?;
-    let left = run_all(rt, alloc, plan, any, watch, run, err)?;
+    let left = run_all(rt, alloc, plan, any, watch, request, err)?;
     let own = all_maekawa(alloc, left)?;
     gather_all(alloc, own)
 }
@@ -113,22 +113,22 @@ fn live_raymond<R: Threads + Clock, E: Output>(
     alloc: Global,
     plan: &Plan,
     shape: &Tree,
-    run: &LiveRun<'_>,
+    request: &LiveRequest<'_>,
     err: &mut E,
 ) -> Result<Gathered, Halt>
     requires count { ⟦<Raymond as Exclusion>⟧.core.count shape.now ≡ length plan.now.nodes }
     requires shape { plan.now.shape ≡ Shape.Raymond shape.now }
     ensures serial { IfOk result (λ all. AreSerial all.receipts.items all.journal) }
     ensures sections { IfOk result (λ all.
-        HaveSections (length plan.now.nodes) run.now.sections all.receipts.items) }
+        HaveSections (length plan.now.nodes) request.now.sections all.receipts.items) }
     ensures come { IfOk result (λ all.
-        ComeOf plan.now (orders_in (order_of run.now)) all.receipts.items all.journal) }
-    ensures err { IfErr result (RanInVain plan.now (orders_in (order_of run.now))) }
+        ComeOf plan.now (orders_in (request_of request.now)) all.receipts.items all.journal) }
+    ensures err { IfErr result (RanInVain plan.now (orders_in (request_of request.now))) }
 {
     let stations = stations_in::<Raymond>(alloc, plan, shape)?;
     let watch = watch_over(stations.as_slice())?;
     let any = any_raymond(alloc, stations)?;
-    let left = run_all(rt, alloc, plan, any, watch, run, err)?;
+    let left = run_all(rt, alloc, plan, any, watch, request, err)?;
     let own = all_raymond(alloc, left)?;
     gather_all(alloc, own)
 }
@@ -158,18 +158,18 @@ fn run_all<C: Exclusion, R: Threads + Clock, E: Output>(
     plan: &Plan,
     stations: Vec<AnyStation>,
     watch: Option<Watch<C>>,
-    run: &LiveRun<'_>,
+    request: &LiveRequest<'_>,
     err: &mut E,
 ) -> Result<Vec<Ended>, Halt>
     requires { AreReady plan.now stations.items }
     ensures done { IfOk result (λ left.
-        AreDone plan.now (orders_in (order_of run.now)) left.items) }
-    ensures err { IfErr result (RanInVain plan.now (orders_in (order_of run.now))) }
+        AreDone plan.now (orders_in (request_of request.now)) left.items) }
+    ensures err { IfErr result (RanInVain plan.now (orders_in (request_of request.now))) }
 {
     let gate = shared_gate(alloc, plan.nodes())?;
-    let workers = start_all(rt, alloc, stations, &gate, orders_of(run))?;
+    let workers = start_all(rt, alloc, stations, &gate, orders_of(request))?;
     if let Some(watch) = watch
-        && run.progress
+        && request.progress
     {
         tell_progress(rt, alloc, &watch, &*gate, err);
     }
@@ -178,14 +178,14 @@ fn run_all<C: Exclusion, R: Threads + Clock, E: Output>(
 }
 
 /// What is ordered of each worker.
-fn orders_of(run: &LiveRun<'_>) -> Orders
-    ensures { result ≡ orders_in (order_of run.now) }
+fn orders_of(request: &LiveRequest<'_>) -> Orders
+    ensures { result ≡ orders_in (request_of request.now) }
 {
     Orders {
-        sections: run.sections,
-        seed: run.seed,
-        turns: run.turns,
-        settle: run.settle,
+        sections: request.sections,
+        seed: request.seed,
+        turns: request.turns,
+        settle: request.settle,
     }
 }
 

@@ -13,10 +13,10 @@ unfoldable pub picture_line : App
 picture_line = line_with picture_app
 
 -- the names of the plan and of the events, where they were given
-abbrev pub names_in : Option (Text × List Row) → Option (Text × Text)
-names_in None = None
-names_in (Some p) = if bytes_eq p.0 (codes "picture") then names_at p.1 else None
+abbrev pub request_in : Option (Text × List Row) → Option (Text × Text)
+request_in None = None
+request_in (Some p) = if bytes_eq p.0 (codes "picture") then names_at p.1 else None
 
 -- what the words ask for, where they are `picture` with its arguments
-unfoldable pub names_asked : List Text → Option (Text × Text)
-names_asked words = asked_of picture_line names_in words
+unfoldable pub request_asked : List Text → Option (Text × Text)
+request_asked words = asked_of picture_line request_in words

@@ -1,6 +1,6 @@
 -- What comes of the words of a picture.
 use Rattle.std.specs.Prelude.{◌≡◌, ◌&&◌, ℕ, Bool, false, Option, None, Result}
-use Rattle.mx_cli.specs.Words as task
+use Rattle.mx_cli.specs.Words as wants
 use Rattle.mx_plan.specs.Text.{Text}
 use Rattle.mx_cli.specs.declared.faults.Stop.{Stop}
 use Rattle.mx_cli.specs.Closed.{Closes}
@@ -11,7 +11,7 @@ use Rattle.mx_picture.specs.Drawn.{Draws}
 
 -- a run ends as a replay of these names does, whatever it prints
 abbrev pub EndsAsReplay : Bool → (Text → Option Telling) → Text × Text → Result ℕ Stop → Type 0
-EndsAsReplay takes_all told names ended = RanOf takes_all None None told (task.replay names) ended
+EndsAsReplay takes_all told names ended = RanOf takes_all None None told (wants.replay names) ended
 
 -- a picture is printed whole and passed on, status 0, where a replay comes to its end; else the line of the replay's
 -- fault is told, status 1, or memory ran out, or an output refused

@@ -3,11 +3,11 @@
 ghost use Rattle.std.specs.Prelude.{IfSome};
 ghost use Rattle.mx_cli.specs.Words.{names_of, texts_of, AreWrong, AskHelp};
 ghost use Rattle.mx_cli.specs.Told.{Helps, Scolds, seen};
-ghost use Rattle.mx_picture.specs.PictureWords.{names_asked, picture_line};
+ghost use Rattle.mx_picture.specs.PictureWords.{request_asked, picture_line};
 ghost use Rattle.mx_picture.specs.Pictures.{Pictures};
 
 use crate::reading::draw;
-use crate::words::asked_names;
+use crate::words::asked;
 use mx_cli::{Names, close, refuse};
 use mx_io::{Output, Source};
 use std::alloc::Global;
@@ -23,7 +23,7 @@ pub fn picture<S: Source, O: Output, E: Output>(
     out: &mut O,
     err: &mut E,
 ) -> u8
-    ensures pictures { IfSome (names_asked (texts_of words.entry.now)) (λ names.
+    ensures pictures { IfSome (request_asked (texts_of words.entry.now)) (λ names.
         Pictures (O.takes_all out.old) (E.takes_all err.old) (S.told source.old) names
         (seen (O.written out.old) (E.written err.old) (O.has_refused out.old) (O.keeps_back out.old))
         (seen (O.written out.new) (E.written err.new) (O.has_refused out.new) (O.keeps_back out.new))
@@ -37,7 +37,7 @@ pub fn picture<S: Source, O: Output, E: Output>(
         (seen (O.written out.new) (E.written err.new) (O.has_refused out.new) (O.keeps_back out.new))
         result }
 {
-    match asked_names(alloc, words) {
+    match asked(alloc, words) {
         Ok(Some(names)) => run_picture(alloc, &names, source, out, err),
         Ok(None) => 2,
         Err(e) => refuse(alloc, &e, out, err),

@@ -2,7 +2,7 @@
 
 ghost use Rattle.std.specs.Prelude.{◌≡◌, Some, None, length, string_bytes, IfErr, IfOk, IfSome, OnOk};
 ghost use Rattle.mx_cli.specs.Words.{names_of};
-ghost use Rattle.mx_cli.specs.Words as task;
+ghost use Rattle.mx_cli.specs.Words as wants;
 ghost use Rattle.mx_commands.specs.Jobs.{on_events, replay_one, report_of_events, run_by};
 ghost use Rattle.mx_commands.specs.Runs.{AllNameNodes};
 ghost use Rattle.mx_commands.specs.Ran.{Ran, RanOf, RanOn};
@@ -29,7 +29,7 @@ pub fn draw<S: Source, O: Output>(
     out: &mut O,
 ) -> Result<u8, Stop>
     ensures ran { RanOf (O.takes_all out.old) None None (S.told source.old)
-        (task.replay (names_of names.now)) result }
+        (wants.replay (names_of names.now)) result }
     ensures drawn { Draws (O.written out.old) (O.written out.new) result }
     ensures stays { O.takes_all out.new ≡ O.takes_all out.old }
 {

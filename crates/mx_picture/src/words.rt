@@ -3,7 +3,7 @@
 ghost use Rattle.std.specs.Prelude.{◌≡◌, [], IfOk, IfErr, option_map};
 ghost use Rattle.clap.specs.Words.{app_of, fault_of, subcommand_of, subcommand_rows_of, HasKind};
 ghost use Rattle.mx_cli.specs.Words.{IsCommand, names_of, texts_of};
-ghost use Rattle.mx_picture.specs.PictureWords.{names_asked, names_in, picture_app, picture_line};
+ghost use Rattle.mx_picture.specs.PictureWords.{request_asked, request_in, picture_app, picture_line};
 
 use crate::help;
 use clap::{ArgMatches, Command, Error};
@@ -20,17 +20,14 @@ fn picture_command<'a>(alloc: Global) -> Result<Command<'a>, AllocError>
 
 /// Of which plan and events the words, of which `picture` is the first, ask for a picture. Their faults
 /// are those of `clap`, and words that ask for help come as such a fault too, with the text to show.
-pub(crate) fn asked_names<'a>(
-    alloc: Global,
-    words: &'a [&'a str],
-) -> Result<Option<Names<'a>>, Error>
+pub(crate) fn asked<'a>(alloc: Global, words: &'a [&'a str]) -> Result<Option<Names<'a>>, Error>
     ensures read { IfOk result (λ _. fault_of picture_line (texts_of words.entry.now) ≡ []) }
     ensures ok { IfOk result (λ names.
-        option_map names_of names ≡ names_asked (texts_of words.entry.now)) }
+        option_map names_of names ≡ request_asked (texts_of words.entry.now)) }
     ensures err { IfErr result (HasKind (fault_of picture_line (texts_of words.entry.now))) }
 {
     let matches = matches_of(alloc, words)?;
-    Ok(names_in(&matches))
+    Ok(request_in(&matches))
 }
 
 /// What is found in the words.
@@ -50,8 +47,8 @@ fn picture_line<'a>(alloc: Global) -> Result<Command<'a>, AllocError>
     line_of(alloc, picture_command(alloc)?)
 }
 
-fn names_in<'a>(matches: &ArgMatches<'a>) -> Option<Names<'a>>
-    ensures { option_map names_of result ≡ names_in (subcommand_rows_of matches.now) }
+fn request_in<'a>(matches: &ArgMatches<'a>) -> Option<Names<'a>>
+    ensures { option_map names_of result ≡ request_in (subcommand_rows_of matches.now) }
 {
     match matches.subcommand() {
         Some((name, inner)) if name == "picture" => names_at(inner),

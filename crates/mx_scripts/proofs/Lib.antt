@@ -3,6 +3,6 @@ pub mod PlayedLemmas
 pub mod ItemLemmas
 pub mod ReadLemmas
 pub mod DrawnLemmas
-pub mod ErrandLemmas
+pub mod PrintedLemmas
 pub mod WordLemmas
 pub mod RefusedLemmas

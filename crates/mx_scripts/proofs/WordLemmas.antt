@@ -7,13 +7,13 @@ use Rattle.clap.specs.Faults.{fault_of}
 use Rattle.mx_cli.specs.Words.{IsReadable}
 use Rattle.clap.proofs.OnLiterals.{clap_on_literals}
 use Rattle.mx_cli.proofs.WordLemmas.{none_asked}
-use Rattle.mx_scripts.specs.Words.{errand_asked, errand_in, file_line}
+use Rattle.mx_scripts.specs.Words.{request_asked, request_in, file_line}
 
 pub line_is_readable : IsReadable file_line
 unfolding clap_on_literals file_line
 line_is_readable = record { plain = refl; free = refl }
 
 -- words that ask for a file are refused only where memory runs out
-pub no_errand_among : (words : List Text) (k : ErrorKind) → IsAmong k (fault_of file_line words) → IsSome (errand_asked words) → ⊥
-unfolding errand_asked
-no_errand_among words k among s = none_asked file_line errand_in words k among s
+pub no_request_among : (words : List Text) (k : ErrorKind) → IsAmong k (fault_of file_line words) → IsSome (request_asked words) → ⊥
+unfolding request_asked
+no_request_among words k among s = none_asked file_line request_in words k among s

@@ -4,11 +4,11 @@ ghost use Rattle.std.specs.Prelude.{◌≡◌, false, IsSome, IfSome};
 ghost use Rattle.mx_cli.specs.Words.{texts_of, AreWrong, AskHelp};
 ghost use Rattle.mx_cli.specs.Told.{Helps, Scolds, seen};
 ghost use Rattle.mx_commands.specs.Ran.{IsRunStatus};
-ghost use Rattle.mx_scripts.specs.Errands.{Draws, HasDone};
-ghost use Rattle.mx_scripts.specs.Words.{errand_asked, errand_of, file_line};
+ghost use Rattle.mx_scripts.specs.Printed.{Draws, HasDone};
+ghost use Rattle.mx_scripts.specs.Words.{request_asked, request_of, file_line};
 
-use crate::errands::{run_draw, run_script, run_walk};
-use crate::words::{Errand, asked};
+use crate::printing::{run_draw, run_script, run_walk};
+use crate::words::{Request, asked};
 use mx_cli::refuse;
 use mx_io::{Output, Source};
 use std::alloc::Global;
@@ -24,14 +24,14 @@ pub fn event_file<S: Source, O: Output, E: Output>(
     out: &mut O,
     err: &mut E,
 ) -> u8
-    ensures prints { IfSome (errand_asked (texts_of words.entry.now)) (λ task.
-        result ≡ 0 → HasDone (S.told source.old) task (O.written out.old) (O.written out.new)) }
-    ensures draws { IfSome (errand_asked (texts_of words.entry.now)) (λ task.
-        Draws (O.takes_all out.old) (E.takes_all err.old) (S.told source.old) task
+    ensures prints { IfSome (request_asked (texts_of words.entry.now)) (λ request.
+        result ≡ 0 → HasDone (S.told source.old) request (O.written out.old) (O.written out.new)) }
+    ensures draws { IfSome (request_asked (texts_of words.entry.now)) (λ request.
+        Draws (O.takes_all out.old) (E.takes_all err.old) (S.told source.old) request
         (O.written out.old) (O.written out.new) (E.written err.old) (E.written err.new) result) }
-    ensures passed { IsSome (errand_asked (texts_of words.entry.now))
+    ensures passed { IsSome (request_asked (texts_of words.entry.now))
         → result ≡ 0 → O.keeps_back out.new ≡ false }
-    ensures status { IsSome (errand_asked (texts_of words.entry.now)) → IsRunStatus result }
+    ensures status { IsSome (request_asked (texts_of words.entry.now)) → IsRunStatus result }
     ensures help { AskHelp file_line (texts_of words.entry.now) → Helps (O.takes_all out.old)
         (seen (O.written out.old) (E.written err.old) (O.has_refused out.old) (O.keeps_back out.old))
         (seen (O.written out.new) (E.written err.new) (O.has_refused out.new) (O.keeps_back out.new))
@@ -42,31 +42,31 @@ pub fn event_file<S: Source, O: Output, E: Output>(
         result }
 {
     match asked(alloc, words) {
-        Ok(Some(errand)) => run_errand(alloc, &errand, source, out, err),
+        Ok(Some(request)) => run_request(alloc, &request, source, out, err),
         Ok(None) => 2,
         Err(e) => refuse(alloc, &e, out, err),
     }
 }
 
 /// Does what is asked for, and tells why there is no file where there is none. Answers the status.
-fn run_errand<S: Source, O: Output, E: Output>(
+fn run_request<S: Source, O: Output, E: Output>(
     alloc: Global,
-    errand: &Errand<'_>,
+    request: &Request<'_>,
     source: &mut S,
     out: &mut O,
     err: &mut E,
 ) -> u8
     ensures prints { result ≡ 0
-        → HasDone (S.told source.old) (errand_of errand.now) (O.written out.old) (O.written out.new) }
+        → HasDone (S.told source.old) (request_of request.now) (O.written out.old) (O.written out.new) }
     ensures draws { Draws (O.takes_all out.old) (E.takes_all err.old) (S.told source.old)
-        (errand_of errand.now) (O.written out.old) (O.written out.new)
+        (request_of request.now) (O.written out.old) (O.written out.new)
         (E.written err.old) (E.written err.new) result }
     ensures passed { result ≡ 0 → O.keeps_back out.new ≡ false }
     ensures status { IsRunStatus result }
 {
-    match errand {
-        Errand::Draw(exploration) => run_draw(alloc, exploration, source, out, err),
-        Errand::Walk(exploration) => run_walk(alloc, exploration, source, out, err),
-        Errand::Script(names) => run_script(alloc, names, source, out, err),
+    match request {
+        Request::Draw(exploration) => run_draw(alloc, exploration, source, out, err),
+        Request::Walk(exploration) => run_walk(alloc, exploration, source, out, err),
+        Request::Script(names) => run_script(alloc, names, source, out, err),
     }
 }

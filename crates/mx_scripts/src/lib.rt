@@ -3,7 +3,6 @@
 
 mod command;
 mod drawing;
-mod errands;
 mod files;
 mod halts;
 mod help;
@@ -11,6 +10,7 @@ mod line_faults;
 mod lines;
 mod mail;
 mod playing;
+mod printing;
 mod scripting;
 mod texts;
 mod walk;
@@ -19,6 +19,6 @@ mod words;
 
 pub use command::event_file;
 pub use drawing::replays_as_explored;
-pub use errands::{run_draw, run_script, run_walk};
 pub use files::reads_back;
-pub use words::Errand;
+pub use printing::{run_draw, run_script, run_walk};
+pub use words::Request;

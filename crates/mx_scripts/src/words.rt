@@ -3,7 +3,7 @@
 ghost use Rattle.std.specs.Prelude.{◌≡◌, [], IfOk, IfErr, option_map};
 ghost use Rattle.clap.specs.Words.{app_of, fault_of, found_of, rows_of, subcommand_rows_of, HasKind};
 ghost use Rattle.mx_cli.specs.Words.{IsCommand, texts_of};
-ghost use Rattle.mx_scripts.specs.Words.{draw_app, draw_in, errand_asked, errand_in, errand_of, file_line, script_app, script_in};
+ghost use Rattle.mx_scripts.specs.Words.{draw_app, draw_in, request_asked, request_in, request_of, file_line, script_app, script_in};
 
 use crate::help;
 use clap::{ArgMatches, Command, Error};
@@ -15,7 +15,7 @@ use std::alloc::{AllocError, Global};
 
 /// Which file of events is asked for.
 #[derive(Clone, Copy, Debug, PartialEq, Eq)]
-pub enum Errand<'a> {
+pub enum Request<'a> {
     /// What `explore` does.
     Draw(Exploration<'a>),
     /// A walk of this plan, seed and number of steps.
@@ -53,18 +53,18 @@ fn file_line<'a>(alloc: Global) -> Result<Command<'a>, AllocError>
 
 /// What the words, of which `draw` or `script` is the first, ask for. Their faults are those of `clap`,
 /// and words that ask for help come as such a fault too, with the text to show.
-pub(crate) fn asked<'a>(alloc: Global, words: &'a [&'a str]) -> Result<Option<Errand<'a>>, Error>
+pub(crate) fn asked<'a>(alloc: Global, words: &'a [&'a str]) -> Result<Option<Request<'a>>, Error>
     ensures read { IfOk result (λ _. fault_of file_line (texts_of words.entry.now) ≡ []) }
-    ensures ok { IfOk result (λ errand.
-        option_map errand_of errand ≡ errand_asked (texts_of words.entry.now)) }
+    ensures ok { IfOk result (λ request.
+        option_map request_of request ≡ request_asked (texts_of words.entry.now)) }
     ensures err { IfErr result (HasKind (fault_of file_line (texts_of words.entry.now))) }
 {
     let matches = matches_in(file_line(alloc)?, words)?;
-    Ok(errand_in(&matches))
+    Ok(request_in(&matches))
 }
 
-fn errand_in<'a>(matches: &ArgMatches<'a>) -> Option<Errand<'a>>
-    ensures { option_map errand_of result ≡ errand_in (subcommand_rows_of matches.now) }
+fn request_in<'a>(matches: &ArgMatches<'a>) -> Option<Request<'a>>
+    ensures { option_map request_of result ≡ request_in (subcommand_rows_of matches.now) }
 {
     match matches.subcommand() {
         Some((name, inner)) if name == "draw" => draw_in(inner),
@@ -73,21 +73,21 @@ fn errand_in<'a>(matches: &ArgMatches<'a>) -> Option<Errand<'a>>
     }
 }
 
-fn draw_in<'a>(matches: &ArgMatches<'a>) -> Option<Errand<'a>>
-    ensures { option_map errand_of result ≡ draw_in (rows_of (found_of matches.now)) }
+fn draw_in<'a>(matches: &ArgMatches<'a>) -> Option<Request<'a>>
+    ensures { option_map request_of result ≡ draw_in (rows_of (found_of matches.now)) }
 {
     let Some(exploration) = exploration_at(matches) else {
         return None;
     };
     if is_given(matches, "walk") {
-        Some(Errand::Walk(exploration))
+        Some(Request::Walk(exploration))
     } else {
-        Some(Errand::Draw(exploration))
+        Some(Request::Draw(exploration))
     }
 }
 
-fn script_in<'a>(matches: &ArgMatches<'a>) -> Option<Errand<'a>>
-    ensures { option_map errand_of result ≡ script_in (rows_of (found_of matches.now)) }
+fn script_in<'a>(matches: &ArgMatches<'a>) -> Option<Request<'a>>
+    ensures { option_map request_of result ≡ script_in (rows_of (found_of matches.now)) }
 {
     let Some(plan) = text_at(matches, "PLAN") else {
         return None;
@@ -95,7 +95,7 @@ fn script_in<'a>(matches: &ArgMatches<'a>) -> Option<Errand<'a>>
     let Some(script) = text_at(matches, "SCRIPT") else {
         return None;
     };
-    Some(Errand::Script(Names {
+    Some(Request::Script(Names {
         plan,
         events: script,
     }))

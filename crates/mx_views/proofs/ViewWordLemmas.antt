@@ -6,7 +6,7 @@ use Rattle.clap.specs.declared.error.kind.ErrorKind.{ErrorKind}
 use Rattle.clap.specs.Faults.{fault_of}
 use Rattle.mx_cli.specs.Words.{IsReadable}
 use Rattle.clap.proofs.OnLiterals.{clap_on_literals}
-use Rattle.mx_views.specs.ViewWords.{view_line, views_asked, views_in}
+use Rattle.mx_views.specs.ViewWords.{view_line, request_asked, request_in}
 use Rattle.mx_cli.proofs.WordLemmas.{none_asked}
 
 pub line_is_readable : IsReadable view_line
@@ -14,6 +14,6 @@ unfolding clap_on_literals view_line
 line_is_readable = record { plain = refl; free = refl }
 
 -- words that ask for a replay are refused only where memory runs out
-pub no_view_among : (words : List Text) (k : ErrorKind) → IsAmong k (fault_of view_line words) → IsSome (views_asked words) → ⊥
-unfolding views_asked
-no_view_among words k among s = none_asked view_line views_in words k among s
+pub no_request_among : (words : List Text) (k : ErrorKind) → IsAmong k (fault_of view_line words) → IsSome (request_asked words) → ⊥
+unfolding request_asked
+no_request_among words k among s = none_asked view_line request_in words k among s

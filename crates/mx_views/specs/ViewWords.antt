@@ -3,7 +3,7 @@ use Rattle.std.specs.Prelude.{Bool, List, Option, Some, None, codes, if◌then�
 use Rattle.std.specs.Str.{bytes_eq}
 use Rattle.clap.specs.Words.{App, Row, Rule, Text, first_of, with_rule}
 use Rattle.mx_cli.specs.Words.{asked_of, flag_rule, is_given, line_with, names_at, names_of, replay_app, text_rule}
-use Rattle.mx_views.specs.declared.words.Wish.{Wish}
+use Rattle.mx_views.specs.declared.words.Request.{Request as Told}
 
 -- `--quiet`
 abbrev pub quiet_rule : Rule
@@ -27,29 +27,29 @@ view_line = line_with view_app
 
 -- the names of the plan and of the events; whether the closing lines alone are to be shown, of which node alone, and
 -- whether as JSON
-pub record Shown : Type 0 where
+pub record Request : Type 0 where
   pub names : Text × Text
   pub is_quiet : Bool
   pub node : Option Text
   pub is_json : Bool
 
-abbrev pub shown : Text × Text → Bool → Option Text → Bool → Shown
-shown names is_quiet node is_json = record { names = names; is_quiet = is_quiet; node = node; is_json = is_json }
+abbrev pub request : Text × Text → Bool → Option Text → Bool → Request
+request names is_quiet node is_json = record { names = names; is_quiet = is_quiet; node = node; is_json = is_json }
 
-abbrev pub shown_by : Wish → Shown
-shown_by wish = shown (names_of wish.names) wish.is_quiet (option_map (λ name. name.now) wish.node) wish.is_json
+abbrev pub request_of : Told → Request
+request_of told = request (names_of told.names) told.is_quiet (option_map (λ name. name.now) told.node) told.is_json
 
 -- what was given for the arguments
-abbrev pub view_of : List Row → Text × Text → Shown
-view_of rows names = shown names (is_given (codes "quiet") rows) (first_of (codes "node") rows) (is_given (codes "json") rows)
+abbrev pub view_of : List Row → Text × Text → Request
+view_of rows names = request names (is_given (codes "quiet") rows) (first_of (codes "node") rows) (is_given (codes "json") rows)
 
-abbrev pub view_in : List Row → Option Shown
+abbrev pub view_in : List Row → Option Request
 view_in rows = option_map (view_of rows) (names_at rows)
 
-abbrev pub views_in : Option (Text × List Row) → Option Shown
-views_in None = None
-views_in (Some p) = if bytes_eq p.0 (codes "replay") then view_in p.1 else None
+abbrev pub request_in : Option (Text × List Row) → Option Request
+request_in None = None
+request_in (Some p) = if bytes_eq p.0 (codes "replay") then view_in p.1 else None
 
 -- what the words ask to show, where they ask for a replay
-unfoldable pub views_asked : List Text → Option Shown
-views_asked words = asked_of view_line views_in words
+unfoldable pub request_asked : List Text → Option Request
+request_asked words = asked_of view_line request_in words

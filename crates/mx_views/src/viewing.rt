@@ -4,12 +4,12 @@ ghost use Rattle.std.specs.Prelude.{◌≡◌, IsSome, IfOk};
 ghost use Rattle.mx_cli.specs.Words.{texts_of, AreWrong, AskHelp};
 ghost use Rattle.mx_cli.specs.Told.{Helps, Scolds, seen};
 ghost use Rattle.mx_commands.specs.Ran.{IsRunStatus};
-ghost use Rattle.mx_views.specs.ViewWords.{views_asked, view_line};
+ghost use Rattle.mx_views.specs.ViewWords.{request_asked, view_line};
 
 use crate::fetching::fetch_run;
 use crate::selection::Selection;
 use crate::showing::show;
-use crate::words::{Wish, asked_wish};
+use crate::words::{Request, asked};
 use mx_cli::{Fault, Stop, close, refuse};
 use mx_commands::start;
 use mx_io::{Output, Source};
@@ -32,7 +32,7 @@ pub fn replay_view<S: Source, O: Output, E: Output>(
     out: &mut O,
     err: &mut E,
 ) -> u8
-    ensures status { IsSome (views_asked (texts_of words.entry.now)) → IsRunStatus result }
+    ensures status { IsSome (request_asked (texts_of words.entry.now)) → IsRunStatus result }
     ensures help { AskHelp view_line (texts_of words.entry.now) → Helps (O.takes_all out.old)
         (seen (O.written out.old) (E.written err.old) (O.has_refused out.old) (O.keeps_back out.old))
         (seen (O.written out.new) (E.written err.new) (O.has_refused out.new) (O.keeps_back out.new))
@@ -42,8 +42,8 @@ pub fn replay_view<S: Source, O: Output, E: Output>(
         (seen (O.written out.new) (E.written err.new) (O.has_refused out.new) (O.keeps_back out.new))
         result }
 {
-    match asked_wish(alloc, words) {
-        Ok(Some(wish)) => view_and_close(alloc, &wish, source, out, err),
+    match asked(alloc, words) {
+        Ok(Some(request)) => view_and_close(alloc, &request, source, out, err),
         Ok(None) => 2,
         Err(e) => refuse(alloc, &e, out, err),
     }
@@ -52,34 +52,34 @@ pub fn replay_view<S: Source, O: Output, E: Output>(
 /// Shows what is asked for, and closes the run. Answers the status.
 fn view_and_close<S: Source, O: Output, E: Output>(
     alloc: Global,
-    wish: &Wish<'_>,
+    request: &Request<'_>,
     source: &mut S,
     out: &mut O,
     err: &mut E,
 ) -> u8
     ensures { IsRunStatus result }
 {
-    let ended = view_run(alloc, wish, source, out);
-    close(alloc, ended, &wish.names, out, err)
+    let ended = view_run(alloc, request, source, out);
+    close(alloc, ended, &request.names, out, err)
 }
 
 /// Reads a plan and its events, and shows what is asked for of their replay.
 fn view_run<S: Source, O: Output>(
     alloc: Global,
-    wish: &Wish<'_>,
+    request: &Request<'_>,
     source: &mut S,
     out: &mut O,
 ) -> Result<u8, Stop>
     ensures zero { IfOk result (λ status. status ≡ 0) }
 {
-    let (plan, events) = fetch_run(alloc, source, &wish.names)?;
-    view_events(alloc, wish, &plan, events.as_slice(), out)
+    let (plan, events) = fetch_run(alloc, source, &request.names)?;
+    view_events(alloc, request, &plan, events.as_slice(), out)
 }
 
 /// Shows what is asked for of the replay of these events.
 fn view_events<O: Output>(
     alloc: Global,
-    wish: &Wish<'_>,
+    request: &Request<'_>,
     plan: &Plan,
     events: &[Event],
     out: &mut O,
@@ -88,9 +88,9 @@ fn view_events<O: Output>(
 {
     let selection = Selection {
         plan,
-        is_quiet: wish.is_quiet,
-        node: node_in(plan, wish.node)?,
-        is_json: wish.is_json,
+        is_quiet: request.is_quiet,
+        node: node_in(plan, request.node)?,
+        is_json: request.is_json,
     };
     show_by_shape(alloc, &selection, events, out)
 }

@@ -3,7 +3,7 @@
 ghost use Rattle.std.specs.Prelude.{◌≡◌, [], IfOk, IfErr, option_map};
 ghost use Rattle.clap.specs.Words.{app_of, fault_of, found_of, rows_of, subcommand_rows_of, HasKind};
 ghost use Rattle.mx_cli.specs.Words.{IsCommand, texts_of};
-ghost use Rattle.mx_views.specs.ViewWords.{shown_by, view_app, view_in, view_line, views_asked, views_in};
+ghost use Rattle.mx_views.specs.ViewWords.{request_of, view_app, view_in, view_line, request_asked, request_in};
 
 use clap::{ArgMatches, Command, Error};
 use mx_cli::{
@@ -14,7 +14,7 @@ use std::alloc::{AllocError, Global};
 /// What is to be shown of a replay: the names of its plan and events, whether the closing lines alone,
 /// of which node alone, and whether as JSON.
 #[derive(Clone, Copy)]
-pub(crate) struct Wish<'a> {
+pub(crate) struct Request<'a> {
     pub(crate) names: Names<'a>,
     pub(crate) is_quiet: bool,
     pub(crate) node: Option<&'a str>,
@@ -34,33 +34,33 @@ fn view_command<'a>(alloc: Global) -> Result<Command<'a>, AllocError>
 
 /// What the words ask to show. Their faults are those of `clap`, and words that ask for help come as
 /// such a fault too, with the text to show.
-pub(crate) fn asked_wish<'a>(alloc: Global, words: &'a [&'a str]) -> Result<Option<Wish<'a>>, Error>
+pub(crate) fn asked<'a>(alloc: Global, words: &'a [&'a str]) -> Result<Option<Request<'a>>, Error>
     ensures read { IfOk result (λ _. fault_of view_line (texts_of words.entry.now) ≡ []) }
-    ensures ok { IfOk result (λ wish.
-        option_map shown_by wish ≡ views_asked (texts_of words.entry.now)) }
+    ensures ok { IfOk result (λ request.
+        option_map request_of request ≡ request_asked (texts_of words.entry.now)) }
     ensures err { IfErr result (HasKind (fault_of view_line (texts_of words.entry.now))) }
 {
     let line = line_of(alloc, view_command(alloc)?)?;
     let matches = matches_in(line, words)?;
-    Ok(wish_in(&matches))
+    Ok(request_in(&matches))
 }
 
-fn wish_in<'a>(matches: &ArgMatches<'a>) -> Option<Wish<'a>>
-    ensures { option_map shown_by result ≡ views_in (subcommand_rows_of matches.now) }
+fn request_in<'a>(matches: &ArgMatches<'a>) -> Option<Request<'a>>
+    ensures { option_map request_of result ≡ request_in (subcommand_rows_of matches.now) }
 {
     match matches.subcommand() {
-        Some((name, inner)) if name == "replay" => wish_of(inner),
+        Some((name, inner)) if name == "replay" => view_in(inner),
         _ => None,
     }
 }
 
-fn wish_of<'a>(matches: &ArgMatches<'a>) -> Option<Wish<'a>>
-    ensures { option_map shown_by result ≡ view_in (rows_of (found_of matches.now)) }
+fn view_in<'a>(matches: &ArgMatches<'a>) -> Option<Request<'a>>
+    ensures { option_map request_of result ≡ view_in (rows_of (found_of matches.now)) }
 {
     let Some(names) = names_at(matches) else {
         return None;
     };
-    Some(Wish {
+    Some(Request {
         names,
         is_quiet: is_given(matches, "quiet"),
         node: text_at(matches, "node"),

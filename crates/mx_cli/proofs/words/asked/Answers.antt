@@ -1,10 +1,10 @@
 use Rattle.std.proofs.Common.{refl}
-use Rattle.mx_cli.specs.Words.{mx_app, task_asked, task_in, texts_of}
+use Rattle.mx_cli.specs.Words.{mx_app, request_asked, request_in, texts_of}
 use Rattle.mx_cli.proofs.WordLemmas.{answered}
 use Rattle.mx_cli.proofs.words.asked.Goals as goal
 
 pub returns-clause-ok : goal.returns-clause-ok
-unfolding task_asked
+unfolding request_asked
 returns-clause-ok c =
     let found = c.in_ok-mx_matches.ensures in
-    answered {app = mx_app} refl task_in (texts_of c.args.words.now) found.read found.found c.request_in.ensures
+    answered {app = mx_app} refl request_in (texts_of c.args.words.now) found.read found.found c.request_in.ensures

@@ -1,6 +1,6 @@
 use Rattle.std.proofs.Common.{◌≡◌, ◌∙◌, Bool, Err, ap}
 use Rattle.std.specs.Bool.{⊤}
-use Rattle.mx_cli.specs.Words.{task_of}
+use Rattle.mx_cli.specs.Words.{request_of}
 use Rattle.mx_io.specs.Outputs.{refused_by}
 use Rattle.mx_cli.specs.Outputs.{stop_of}
 use Rattle.mx_commands.proofs.CommandLemmas.{flushed, not_refused, passed_on, true_not_false, unflushed}
@@ -11,7 +11,7 @@ pub returns-in_err-flush-clause-ran : goal.returns-in_err-flush-clause-ran
 returns-in_err-flush-clause-ran g c =
     let f = c.in_err-flush.field-0.0 in
     let final = unflushed (g.O.Output.takes_all c.args.out.now) (g.O.Output.written c.args.out.now) (g.O.Output.written c.carry_out-ended.new.out) (g.O.Output.written c.flush.new.self)
-    (g.S.Source.told c.args.source.now) (task_of c.args.request.now) c.carry_out-ended.result c.carry_out-ended.ensures.ran c.flush.ensures.same
+    (g.S.Source.told c.args.source.now) (request_of c.args.request.now) c.carry_out-ended.result c.carry_out-ended.ensures.ran c.flush.ensures.same
     (g.O.Output.takes_all c.carry_out-ended.new.out) f c.carry_out-ended.ensures.stays c.in_err-flush.ensures.takes in
     let is : c.from_residual.result ≡ Err (stop_of f) = err_is c.from_residual.result (stop_of f) c.from_residual.ensures.1 in
     rw is final
@@ -19,7 +19,7 @@ returns-in_err-flush-clause-ran g c =
 pub returns-clause-ran : goal.returns-clause-ran
 returns-clause-ran g c =
     flushed (g.O.Output.takes_all c.args.out.now) (g.O.Output.written c.args.out.now) (g.O.Output.written c.carry_out-ended.new.out) (g.O.Output.written c.flush.new.self)
-    (g.S.Source.told c.args.source.now) (task_of c.args.request.now) c.carry_out-ended.result c.carry_out-ended.ensures.ran c.flush.ensures.same
+    (g.S.Source.told c.args.source.now) (request_of c.args.request.now) c.carry_out-ended.result c.carry_out-ended.ensures.ran c.flush.ensures.same
 
 pub returns-then-is_refused-clause-passed : goal.returns-then-is_refused-clause-passed
 returns-then-is_refused-clause-passed g c =

@@ -1,5 +1,5 @@
 use Rattle.std.proofs.Common.{refl, subst}
-use Rattle.mx_cli.specs.Words.{task_of}
+use Rattle.mx_cli.specs.Words.{request_of}
 use Rattle.mx_plan.specs.Text.{Text}
 use Rattle.mx_cli.specs.FaultLines.{fault_line}
 use Rattle.mx_cli.specs.Told.{TellsFault, seen}
@@ -15,7 +15,7 @@ returns-in-Err-Fault-clause-runs g c =
     let passed = rw c.in-Err-Fault.field-0-is at c.in-Err-Fault.ensures.passed in
     let refused = rw c.in-Err-Fault.field-0-is at c.in-Err-Fault.ensures.refused in
     let line = subst (λ (names : Text × Text). TellsFault u (fault_line names f) (g.E.Output.written c.args.err.now) (g.E.Output.written c.tell.new.err) c.tell.result) c.names_in.ensures c.tell.ensures in
-    runs_fault (g.O.Output.takes_all c.args.out.now) u (g.S.Source.told c.args.source.now) (task_of c.args.request.now)
+    runs_fault (g.O.Output.takes_all c.args.out.now) u (g.S.Source.told c.args.source.now) (request_of c.args.request.now)
     (seen (g.O.Output.written c.args.out.now) (g.E.Output.written c.args.err.now) (g.O.Output.has_refused c.args.out.now) (g.O.Output.keeps_back c.args.out.now))
     (seen (g.O.Output.written out) (g.E.Output.written c.tell.new.err) (g.O.Output.has_refused out) (g.O.Output.keeps_back out))
     f c.tell.result line passed refused ran
@@ -24,7 +24,7 @@ pub returns-in-Err-Writer-clause-runs : goal.returns-in-Err-Writer-clause-runs
 returns-in-Err-Writer-clause-runs g c =
     let out = c.carry_out_and_flush.new.out in
     let ran = rw c.in-Err-Writer.field-0-is at c.in-Err-Writer.ensures.ran in
-    runs_refused (g.O.Output.takes_all c.args.out.now) (g.E.Output.takes_all c.args.err.now) (g.S.Source.told c.args.source.now) (task_of c.args.request.now)
+    runs_refused (g.O.Output.takes_all c.args.out.now) (g.E.Output.takes_all c.args.err.now) (g.S.Source.told c.args.source.now) (request_of c.args.request.now)
     (seen (g.O.Output.written c.args.out.now) (g.E.Output.written c.args.err.now) (g.O.Output.has_refused c.args.out.now) (g.O.Output.keeps_back c.args.out.now))
     (seen (g.O.Output.written out) (g.E.Output.written c.args.err.now) (g.O.Output.has_refused out) (g.O.Output.keeps_back out))
     refl ran
@@ -34,7 +34,7 @@ returns-in-Err-Memory-clause-runs g c =
     let out = c.carry_out_and_flush.new.out in
     let ran = rw c.in-Err-Memory.field-0-is at c.in-Err-Memory.ensures.ran in
     let refused = rw c.in-Err-Memory.field-0-is at c.in-Err-Memory.ensures.refused in
-    runs_short (g.O.Output.takes_all c.args.out.now) (g.E.Output.takes_all c.args.err.now) (g.S.Source.told c.args.source.now) (task_of c.args.request.now)
+    runs_short (g.O.Output.takes_all c.args.out.now) (g.E.Output.takes_all c.args.err.now) (g.S.Source.told c.args.source.now) (request_of c.args.request.now)
     (seen (g.O.Output.written c.args.out.now) (g.E.Output.written c.args.err.now) (g.O.Output.has_refused c.args.out.now) (g.O.Output.keeps_back c.args.out.now))
     (seen (g.O.Output.written out) (g.E.Output.written c.tell_memory.new.err) (g.O.Output.has_refused out) (g.O.Output.keeps_back out))
     c.tell_memory.result c.tell_memory.ensures.status c.tell_memory.ensures.told refused ran

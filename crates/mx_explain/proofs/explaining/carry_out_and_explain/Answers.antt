@@ -1,5 +1,5 @@
 use Rattle.std.proofs.Common.{◌≡◌, Err}
-use Rattle.mx_cli.specs.Words.{task_of}
+use Rattle.mx_cli.specs.Words.{request_of}
 use Rattle.mx_commands.proofs.RunLemmas.{err_is}
 use Rattle.mx_explain.proofs.ExplainLemmas.{ran_of_for, ran_unprinted}
 use Rattle.mx_explain.proofs.explaining.carry_out_and_explain.Goals as goal
@@ -7,10 +7,10 @@ use Rattle.mx_explain.proofs.explaining.carry_out_and_explain.Goals as goal
 pub returns-in_err-print_end-clause-ran : goal.returns-in_err-print_end-clause-ran
 returns-in_err-print_end-clause-ran g c =
     let s = c.in_err-print_end.field-0.0 in
-    let final = ran_unprinted (g.O.Output.takes_all c.args.out.now) (g.S.Source.told c.args.source.now) (task_of c.args.request.now) s c.in_err-print_end.ensures.fails in
+    let final = ran_unprinted (g.O.Output.takes_all c.args.out.now) (g.S.Source.told c.args.source.now) (request_of c.args.request.now) s c.in_err-print_end.ensures.fails in
     let is : c.from_residual.result ≡ Err s = err_is c.from_residual.result s c.from_residual.ensures.1 in
     rw is final
 
 pub returns-clause-ran : goal.returns-clause-ran
 returns-clause-ran g c =
-    ran_of_for (g.O.Output.takes_all c.args.out.now) (g.S.Source.told c.args.source.now) (task_of c.args.request.now) c.carry_out-ended.result c.carry_out-ended.ensures.ran
+    ran_of_for (g.O.Output.takes_all c.args.out.now) (g.S.Source.told c.args.source.now) (request_of c.args.request.now) c.carry_out-ended.result c.carry_out-ended.ensures.ran

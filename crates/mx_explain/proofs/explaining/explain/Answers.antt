@@ -1,12 +1,12 @@
 use Rattle.mx_cli.specs.Words.{texts_of}
 use Rattle.mx_cli.specs.Told.{seen}
-use Rattle.mx_explain.proofs.ExplainLemmas.{status_refused, task_refused}
+use Rattle.mx_explain.proofs.ExplainLemmas.{status_refused, request_refused}
 use Rattle.mx_explain.specs.Asked.{explain_line}
 use Rattle.mx_explain.proofs.explaining.explain.Goals as goal
 
 pub returns-in-Err-clause-explains : goal.returns-in-Err-clause-explains
 returns-in-Err-clause-explains g c =
-    task_refused (g.O.Output.takes_all c.args.out.now) (g.E.Output.takes_all c.args.err.now)
+    request_refused (g.O.Output.takes_all c.args.out.now) (g.E.Output.takes_all c.args.err.now)
     (seen (g.O.Output.written c.args.out.now) (g.E.Output.written c.args.err.now) (g.O.Output.has_refused c.args.out.now) (g.O.Output.keeps_back c.args.out.now))
     (seen (g.O.Output.written c.refuse.new.out) (g.E.Output.written c.refuse.new.err) (g.O.Output.has_refused c.refuse.new.out) (g.O.Output.keeps_back c.refuse.new.out))
     c.refuse.result c.in-Err.e (texts_of c.args.words.now) c.in-Err.ensures.err c.refuse.ensures.memory (g.S.Source.told c.args.source.now)

@@ -1,5 +1,5 @@
 use Rattle.std.proofs.Common.{subst, Bool}
-use Rattle.mx_cli.specs.Words.{task_of}
+use Rattle.mx_cli.specs.Words.{request_of}
 use Rattle.mx_plan.specs.Text.{Text}
 use Rattle.mx_cli.specs.Closed.{Closes}
 use Rattle.mx_commands.specs.Jobs.{names_in}
@@ -15,8 +15,8 @@ returns-clause-explains g c =
     let new = g.E.Output.written c.close.new.err in
     let res = c.carry_out_and_explain-ended.result in
     let named = subst (λ (names : Text × Text). Closes (g.O.Output.takes_all c.carry_out_and_explain-ended.new.out && u) names res old new c.close.result) c.names_in.ensures c.close.ensures.closes in
-    let closes = subst (λ (b : Bool). Closes (b && u) (names_in (task_of c.args.request.now)) res old new c.close.result) c.carry_out_and_explain-ended.ensures.stays named in
-    explained t u (g.S.Source.told c.args.source.now) (task_of c.args.request.now) old new c.close.result res
+    let closes = subst (λ (b : Bool). Closes (b && u) (names_in (request_of c.args.request.now)) res old new c.close.result) c.carry_out_and_explain-ended.ensures.stays named in
+    explained t u (g.S.Source.told c.args.source.now) (request_of c.args.request.now) old new c.close.result res
     c.carry_out_and_explain-ended.ensures.zero closes c.carry_out_and_explain-ended.ensures.ran
 
 pub returns-clause-status : goal.returns-clause-status

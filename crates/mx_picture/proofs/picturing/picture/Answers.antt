@@ -1,11 +1,11 @@
 use Rattle.mx_cli.specs.Words.{texts_of}
 use Rattle.mx_cli.specs.Told.{seen}
-use Rattle.mx_picture.proofs.RefusedLemmas.{names_refused}
+use Rattle.mx_picture.proofs.RefusedLemmas.{request_refused}
 use Rattle.mx_picture.specs.PictureWords.{picture_line}
 use Rattle.mx_picture.proofs.picturing.picture.Goals as goal
 
 pub returns-in-Err-clause-pictures : goal.returns-in-Err-clause-pictures
-returns-in-Err-clause-pictures g c = names_refused (g.O.Output.takes_all c.args.out.now) (g.E.Output.takes_all c.args.err.now)
+returns-in-Err-clause-pictures g c = request_refused (g.O.Output.takes_all c.args.out.now) (g.E.Output.takes_all c.args.err.now)
     (seen (g.O.Output.written c.args.out.now) (g.E.Output.written c.args.err.now) (g.O.Output.has_refused c.args.out.now) (g.O.Output.keeps_back c.args.out.now))
     (seen (g.O.Output.written c.refuse.new.out) (g.E.Output.written c.refuse.new.err) (g.O.Output.has_refused c.refuse.new.out) (g.O.Output.keeps_back c.refuse.new.out))
     c.refuse.result c.in-Err.e (texts_of c.args.words.now) c.in-Err.ensures.err c.refuse.ensures.memory (g.S.Source.told c.args.source.now)

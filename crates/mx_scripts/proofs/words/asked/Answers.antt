@@ -2,7 +2,7 @@ use Rattle.std.proofs.Common.{IfErr, rules, sym, subst, ◌∙◌}
 use Rattle.clap.specs.Kinds.{HasKind}
 use Rattle.mx_cli.specs.Words.{texts_of}
 use Rattle.mx_cli.proofs.WordLemmas.{answered, readable, same_faults}
-use Rattle.mx_scripts.specs.Words.{errand_asked, errand_in}
+use Rattle.mx_scripts.specs.Words.{request_asked, request_in}
 use Rattle.mx_scripts.proofs.WordLemmas.{line_is_readable}
 use Rattle.mx_scripts.proofs.words.asked.Goals as goal
 
@@ -13,10 +13,10 @@ pub returns-clause-read : goal.returns-clause-read
 returns-clause-read c = sym (same_faults (c.in_ok-file_line.ensures) (texts_of c.args.words.now)) ∙ c.in_ok-matches.ensures.read
 
 pub returns-clause-ok : goal.returns-clause-ok
-unfolding errand_asked
+unfolding request_asked
 returns-clause-ok c =
     let found = c.in_ok-matches.ensures in
-    answered (c.in_ok-file_line.ensures) errand_in (texts_of c.args.words.now) found.read found.found c.errand_in.ensures
+    answered (c.in_ok-file_line.ensures) request_in (texts_of c.args.words.now) found.read found.found c.request_in.ensures
 
 pub returns-in_err-matches-clause-err : goal.returns-in_err-matches-clause-err
 returns-in_err-matches-clause-err c =

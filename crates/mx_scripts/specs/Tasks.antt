@@ -1,9 +1,0 @@
--- What `draw` and `script` have to do.
-use Rattle.std.specs.Prelude.{ℕ}
-use Rattle.mx_plan.specs.Text.{Text}
-
--- of a plan, a seed and a number of steps: what `explore` does; a walk. Of a plan: what a script says
-pub data Task : Type 0 where
-  draw : Text → ℕ → ℕ → Task
-  walk : Text → ℕ → ℕ → Task
-  script : Text × Text → Task
