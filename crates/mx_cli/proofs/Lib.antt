@@ -2,3 +2,5 @@ pub mod WordLemmas
 pub mod LiveWordLemmas
 pub mod OutputLemmas
 pub mod RefusedLemmas
+pub mod ClosedLemmas
+pub mod ReadLemmas

@@ -1,19 +1,9 @@
--- What the matches of the words of `live` say.
-use Rattle.std.proofs.Common.{List, refl, IsSome}
-use Rattle.clap.specs.Words.{Text}
-use Rattle.clap.specs.Kinds.{IsAmong}
-use Rattle.clap.specs.declared.error.kind.ErrorKind.{ErrorKind}
-use Rattle.clap.specs.Faults.{fault_of}
-use Rattle.mx_cli.specs.Words.{IsReadable}
+-- The command line of `live` can be read.
+use Rattle.std.proofs.Common.{refl}
 use Rattle.clap.proofs.OnLiterals.{clap_on_literals}
-use Rattle.mx_cli.specs.LiveWords.{live_line, request_asked, request_in}
-use Rattle.mx_cli.proofs.WordLemmas.{none_asked}
+use Rattle.mx_cli.specs.LiveWords.{live_line}
+use Rattle.mx_cli.specs.Words.{IsReadable}
 
 pub line_is_readable : IsReadable live_line
 unfolding clap_on_literals live_line
 line_is_readable = record { plain = refl; free = refl }
-
--- words that ask for a run are refused only where memory runs out
-pub no_request_among : (words : List Text) (k : ErrorKind) → IsAmong k (fault_of live_line words) → IsSome (request_asked words) → ⊥
-unfolding request_asked
-no_request_among words k among s = none_asked live_line request_in words k among s

@@ -25,6 +25,12 @@ Appends-keeps (Some x) None c bs p q = absurd p
 Appends-keeps (Some x) (Some y) None bs p q = absurd q
 Appends-keeps (Some x) (Some y) (Some z) bs p q = q ∙ p
 
+pub keeps_on : (a b c : Held) → Keeps a b → Keeps b c → Keeps a c
+keeps_on None b c p q = tt
+keeps_on (Some x) None c p q = absurd p
+keeps_on (Some x) (Some y) None p q = absurd q
+keeps_on (Some x) (Some y) (Some z) p q = q ∙ p
+
 pub Keeps-refl : (a : Held) → Keeps a a
 Keeps-refl None = tt
 Keeps-refl (Some x) = refl

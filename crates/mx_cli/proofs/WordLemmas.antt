@@ -20,7 +20,7 @@ use Rattle.clap.proofs.WalkLemmas.{one_text-rows}
 use Rattle.clap.proofs.ValueTestLemmas.{Accepts-accepts, accepts-Accepts}
 use Rattle.clap.specs.Faults.{fault_of, is_simple_and_free}
 use Rattle.clap.proofs.OnLiterals.{clap_on_literals}
-use Rattle.mx_cli.specs.Words.{AddsArgMade, AddsBothMade, AddsMade, IsArgument, IsCommand, IsReadable, asked_of, mx_app, needed, number_at, number_of, request_asked, request_in, where_none}
+use Rattle.mx_cli.specs.Words.{AddsArgMade, AddsBothMade, AddsMade, IsArgument, IsCommand, IsReadable, asked_of, mx_app, needed, number_at, number_of, where_none}
 
 -- ---- numbers
 
@@ -139,7 +139,3 @@ none_among (x ∷ xs) k o among s = let bad : false ≡ true = s in cc
 -- words that ask for something are refused only where memory runs out
 pub none_asked : {X : Type 0} (line : App) (read : Option (Text × List Row) → Option X) (words : List Text) (k : ErrorKind) → IsAmong k (fault_of line words) → IsSome (asked_of line read words) → ⊥
 none_asked line read words k among s = none_among (fault_of line words) k (read (subcommand_of line words)) among s
-
-pub no_request_among : (words : List Text) (k : ErrorKind) → IsAmong k (fault_of mx_app words) → IsSome (request_asked words) → ⊥
-unfolding request_asked
-no_request_among words k among s = none_asked mx_app request_in words k among s

@@ -1,5 +1,6 @@
 -- What is read of a source, and why it is refused.
-use Rattle.std.specs.Prelude.{◌≡◌, ◌⊎◌, ℕ, Bool, List, Option, Some, None, Result, Ok, Err, Vec, IfOk, codes}
+use Rattle.std.specs.Prelude.{◌≡◌, ◌⊎◌, ◌&&◌, ◌==◌, ℕ, Bool, List, Option, Some, None, Result, Ok, Err, Vec, IfOk, IfSome, codes, if◌then◌else◌, option_map}
+use Rattle.std.specs.List.{after_first, before_first}
 use Rattle.std.specs.Option.{option_map_or}
 use Rattle.std.specs.Str.{bytes_eq}
 use Rattle.std.specs.declared.alloc.Global.{Global}
@@ -11,14 +12,31 @@ use Rattle.mx_plan.specs.declared.faults.PlanFault.TheVariants as plan_fault
 use Rattle.mx_cli.specs.declared.faults.Fault.{Fault}
 use Rattle.mx_cli.specs.declared.faults.Fault.TheVariants.{CannotRead, BadText}
 use Rattle.mx_cli.specs.declared.faults.Named.{Named}
-use Rattle.mx_cli.specs.declared.faults.Named.TheVariants.{Plan}
+use Rattle.mx_cli.specs.declared.faults.Named.TheVariants.{Plan, Events}
 use Rattle.mx_cli.specs.declared.faults.Stop.{Stop}
 use Rattle.mx_cli.specs.declared.faults.Stop.TheVariants as stop
+use Rattle.mx_cli.specs.declared.planning.PlanAndText.{PlanAndText}
 use Rattle.mx_io.specs.Told.{Telling}
 
 -- the name of standard input
 abbrev pub is_dash : Text → Bool
 is_dash name = bytes_eq name (codes "-")
+
+-- where one text is both, the plan is what comes before its first line feed
+abbrev pub line_of : Telling → Telling
+line_of = option_map (λ bytes. before_first (λ b. b == 10) bytes)
+
+-- and what comes with it is what follows
+abbrev pub rest_of : Telling → Telling
+rest_of = option_map (λ bytes. after_first (λ b. b == 10) bytes)
+
+-- what is told of the plan of two names
+abbrev pub plan_told : (Text → Option Telling) → Text × Text → Option Telling
+plan_told told names = if is_dash names.0 && is_dash names.1 then option_map line_of (told names.0) else told names.0
+
+-- what is told of the text that comes with it
+abbrev pub text_told : (Text → Option Telling) → Text × Text → Option Telling
+text_told told names = if is_dash names.0 && is_dash names.1 then option_map rest_of (told names.0) else told names.1
 
 -- the bytes that a source tells of a name
 abbrev pub Fetches : Named → Telling → Result (Vec ℕ Global) Stop → Type 0
@@ -48,3 +66,14 @@ Reads None (Err end) = (end ≡ stop.Fault (CannotRead Plan)) ⊎ (end ≡ stop.
 Reads (Some bytes) (Ok p) = IsRead bytes (Ok p)
 Reads (Some bytes) (Err end) =
     (end ≡ stop.Memory) ⊎ ((fault : PlanFault) × IsRead bytes (Err fault) × (end ≡ refusal_of fault))
+
+-- the plan was read, where the source tells of it
+abbrev pub IsPlanOf : Option Telling → Fields → Type 0
+IsPlanOf told p = IfSome told (λ telling. Reads telling (Ok p))
+
+-- a plan was read and the text that comes with it was fetched; or the plan was not read; or it was, and the text was not fetched
+abbrev pub ReadsBoth : Option Telling → Option Telling → Result PlanAndText Stop → Type 0
+ReadsBoth plan text (Ok both) = IsPlanOf plan both.plan × IfSome text (λ telling. telling ≡ Some both.text.items)
+ReadsBoth plan text (Err end) =
+    IfSome plan (λ telling. Reads telling (Err end))
+    ⊎ ((p : Fields) × IsPlanOf plan p × IfSome text (λ telling. Fetches Events telling (Err end)))

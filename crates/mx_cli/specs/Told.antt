@@ -34,6 +34,11 @@ abbrev pub Scolds : Seen → Seen → ℕ → Type 0
 Scolds old new status =
     Keeps old.out new.out × ((status ≡ 2) ⊎ ((status ≡ 5) × MayTell old.err new.err))
 
+-- nothing is written, status 2; or memory ran out, status 5
+abbrev pub Declines : Seen → Seen → ℕ → Type 0
+Declines old new status =
+    Keeps old.out new.out × (((status ≡ 2) × Keeps old.err new.err) ⊎ ((status ≡ 5) × MayTell old.err new.err))
+
 -- ---- faults
 
 -- the line of a fault was written, or memory ran out, or the output refused

@@ -1,5 +1,5 @@
 -- What the words of a command line ask for, as `clap` reads them.
-use Rattle.std.specs.Prelude.{◌≡◌, ◌≢◌, ◌⊎◌, ℕ, Bool, List, [], ◌∷◌, Option, Some, None, true, false, codes, map, if◌then◌else◌, option_map, option_and_then, Result, Ok, Err}
+use Rattle.std.specs.Prelude.{◌≡◌, ◌≢◌, ◌⊎◌, ◌||◌, ℕ, Bool, List, [], ◌∷◌, Option, Some, None, true, false, codes, map, if◌then◌else◌, option_map, option_and_then, Result, Ok, Err}
 use Rattle.std.specs.declared.alloc.AllocError.{AllocError}
 use Rattle.std.specs.Borrow.{Bor}
 use Rattle.std.specs.Option.{option_map_or}
@@ -74,13 +74,33 @@ steps_rule = needed (number_rule (codes "steps") MOST_EVENTS)
 abbrev pub check_app : App
 check_app = with_rule (new_app (codes "check")) plan_rule
 
--- `replay PLAN EVENTS`
-abbrev pub replay_app : App
-replay_app = with_rule (with_rule (new_app (codes "replay")) plan_rule) events_rule
+-- `--quiet`
+abbrev pub quiet_rule : Rule
+quiet_rule = flag_rule (codes "quiet")
 
--- `explore PLAN --seed S --steps K`
+-- `--node NAME`
+abbrev pub node_rule : Rule
+node_rule = text_rule (codes "node")
+
+-- `--json`
+abbrev pub json_rule : Rule
+json_rule = flag_rule (codes "json")
+
+-- `--count`
+abbrev pub count_rule : Rule
+count_rule = flag_rule (codes "count")
+
+-- `replay PLAN EVENTS`, and perhaps `--quiet`, `--node NAME` and `--json`
+abbrev pub replay_app : App
+replay_app =
+    let named = with_rule (with_rule (new_app (codes "replay")) plan_rule) events_rule in
+    with_rule (with_rule (with_rule named quiet_rule) node_rule) json_rule
+
+-- `explore PLAN --seed S --steps K`, and perhaps `--count`
 abbrev pub explore_app : App
-explore_app = with_rule (with_rule (with_rule (new_app (codes "explore")) plan_rule) seed_rule) steps_rule
+explore_app =
+    let drawn = with_rule (with_rule (with_rule (new_app (codes "explore")) plan_rule) seed_rule) steps_rule in
+    with_rule drawn count_rule
 
 abbrev pub mx_start : App
 mx_start = let a = new_app (codes "mx") in record a { top = record a.top { no_binary_name = true; subcommand_required = true; disable_help_subcommand = true; has_version = true } }
@@ -109,9 +129,23 @@ pub record IsReadable (line : App) : Type 0 where
   pub plain : is_simple line ≡ true
   pub free : is_simple_and_free line ≡ true
 
+-- the command line with a command that it lists, and whose words are read by a command line of their own
+abbrev pub with_listed : App → Text → App
+with_listed line name = with_subcommand line (new_app name).top
+
+-- the command line with all commands that have one of their own
+abbrev pub with_others : App → App
+with_others line =
+    let drawn = with_listed (with_listed (with_listed line (codes "live")) (codes "draw")) (codes "script") in
+    with_listed (with_listed (with_listed drawn (codes "picture")) (codes "count")) (codes "explain")
+
+-- the commands whose words are read by the whole command line
+abbrev pub with_read : App → App
+with_read line = with_subcommand (with_subcommand (with_subcommand line check_app.top) replay_app.top) explore_app.top
+
 -- the whole command line
 unfoldable pub mx_app : App
-mx_app = with_subcommand (with_subcommand (with_subcommand mx_start check_app.top) replay_app.top) explore_app.top
+mx_app = with_others (with_read mx_start)
 
 abbrev pub texts_of : List (Bor Text) → List Text
 texts_of = map (λ word. word.now)
@@ -149,6 +183,10 @@ number_at id rows = option_and_then number_of (one_of id rows)
 abbrev pub is_given : Text → List Row → Bool
 is_given id rows = option_map_or (λ text. bytes_eq text (codes "true")) (first_of id rows) false
 
+-- a replay is to be shown otherwise: by its closing lines, by the lines of one node, or as JSON
+abbrev pub is_view : List Row → Bool
+is_view rows = is_given (codes "quiet") rows || option_map_or (λ _. true) (first_of (codes "node") rows) false || is_given (codes "json") rows
+
 -- the names that were given for a plan and its events
 abbrev pub names_at : List Row → Option (Text × Text)
 names_at rows = option_and_then (λ plan. option_map (λ events. (plan, events)) (first_of (codes "EVENTS") rows)) (first_of (codes "PLAN") rows)
@@ -162,11 +200,14 @@ exploration_at rows = option_and_then (λ plan. option_and_then (λ seed. option
 abbrev pub check_in : List Row → Option Request
 check_in rows = option_map check (first_of (codes "PLAN") rows)
 
+-- a replay, but not one with `--quiet`, `--node` or `--json`
 abbrev pub replay_in : List Row → Option Request
-replay_in rows = option_map replay (names_at rows)
+replay_in rows = if is_view rows then None else option_map replay (names_at rows)
 
+-- an exploration, but not one with `--count`
 abbrev pub explore_in : List Row → Option Request
-explore_in rows = option_map (λ e. explore e.0 e.1.0 e.1.1) (exploration_at rows)
+explore_in rows =
+    if is_given (codes "count") rows then None else option_map (λ e. explore e.0 e.1.0 e.1.1) (exploration_at rows)
 
 -- the command that was met, and what was given for it
 abbrev pub request_in : Option (Text × List Row) → Option Request
@@ -188,6 +229,10 @@ asked_of line read words = where_none (fault_of line words) (read (subcommand_of
 -- what the words ask for, where they are a command
 unfoldable pub request_asked : List Text → Option Request
 request_asked words = asked_of mx_app request_in words
+
+-- the words have no fault, and ask for nothing that the command line reads
+abbrev pub AskNothing : List Text → Type 0
+AskNothing words = (fault_of mx_app words ≡ []) × (request_asked words ≡ None)
 
 -- ---- words that are no command
 

@@ -1,9 +1,9 @@
 //! The end of a command: what the output kept back is passed on, and a fault is told.
 
-ghost use Rattle.std.specs.Prelude.{◌≡◌, ◌↔◌, ◌&&◌, Err, IsTrue, false};
+ghost use Rattle.std.specs.Prelude.{◌≡◌, ◌↔◌, ◌&&◌, Err, IfOk, IsTrue, false};
 ghost use Rattle.std.specs.Io.KnownBytes.{Keeps};
 ghost use Rattle.mx_cli.specs.Words.{names_of};
-ghost use Rattle.mx_cli.specs.Closed.{Closes};
+ghost use Rattle.mx_cli.specs.Closed.{Closes, IsRunStatus};
 
 use crate::faults::Stop;
 use crate::telling::{tell, tell_memory};
@@ -11,7 +11,7 @@ use crate::words::Names;
 use mx_io::{Output, OutputFault};
 use std::alloc::Global;
 
-/// Passes on what the output kept back, tells why the run ended early where it did, and answers the
+/// Passes on what the output kept back, tells why the run ended early where it did, and returns the
 /// status: that of the run, 1 after a fault or where an output refused, 5 where memory ran out. An
 /// output that has refused is asked for nothing more.
 pub fn close<O: Output, E: Output>(
@@ -23,6 +23,7 @@ pub fn close<O: Output, E: Output>(
 ) -> u8
     ensures closes { Closes (O.takes_all out.old && E.takes_all err.old) (names_of names.now) ended
         (E.written err.old) (E.written err.new) result }
+    ensures status { IfOk ended (λ own. own ≡ 0) → IsRunStatus result }
     ensures held { Keeps (O.written out.old) (O.written out.new) }
     ensures passed { result ≡ 0 → O.keeps_back out.new ≡ false }
 {
@@ -36,7 +37,7 @@ pub fn close<O: Output, E: Output>(
     }
 }
 
-/// Tells why a run ended early, where it did, and answers the status.
+/// Tells why a run ended early, where it did, and returns the status.
 fn tell_end<E: Output>(alloc: Global, ended: Result<u8, Stop>, names: &Names<'_>, err: &mut E) -> u8
     ensures { Closes (E.takes_all err.old) (names_of names.now) ended
         (E.written err.old) (E.written err.new) result }

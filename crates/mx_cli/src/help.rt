@@ -15,19 +15,11 @@ pub(crate) const REPLAY: &str =
 pub(crate) const EXPLORE: &str =
     "Lets events drawn from a seed happen, and judges what came of them";
 
-pub(crate) const LIVE: &str =
-    "Runs each node in a thread of its own, and prints what their gathered journal has";
+/// What help says of a command that another program has.
+pub(crate) const LISTED: &str = "It is one of the commands of the whole program.";
 
 pub(crate) const MX_EXAMPLE: &str =
-    "More commands, each with a page of its own (`mx explain --help`):
-  explain  Tells what is wrong in a plan and its events, where it stands, and what was expected
-  draw     Prints events drawn from a seed, as a file that `replay` reads
-  script   Prints the events of a script, as a file that `replay` reads
-  picture  Prints a picture of what comes of events
-  count    Counts letters, refusals and waits
-  live     Runs each node in a thread of its own
-
-Example: three nodes by the algorithm of Ricart and Agrawala, and the events of one section.
+    "Example: three nodes by the algorithm of Ricart and Agrawala, and the events of one section.
 
   plan.json    {\"algorithm\":\"ricart\",\"nodes\":[\"a\",\"b\",\"c\"],\"registers\":[\"count\"],\"sections\":10}
   events.json  [[\"ask\",\"a\"],[\"deliver\",0],[\"deliver\",1],[\"deliver\",2],[\"deliver\",3],[\"enter\",\"a\"],[\"leave\",\"a\"]]

@@ -2,6 +2,7 @@
 //! plan from a source, and tells what was asked for wrongly, what is at fault, or that memory ran out.
 #![tactic(auto)]
 
+mod about;
 mod arguments;
 mod closing;
 mod fault_lines;
@@ -14,13 +15,14 @@ mod splitting;
 mod telling;
 mod words;
 
+pub use about::{ABOUT_COUNT, ABOUT_DRAW, ABOUT_EXPLAIN, ABOUT_PICTURE, ABOUT_SCRIPT};
 pub use arguments::{events_arg, file_arg, flag_arg, plan_arg, seed_arg, steps_arg, text_arg};
 pub use closing::{close, is_refused};
 pub use fault_lines::FaultLine;
 pub use faults::{Fault, Named, Stop};
 pub use line::{bare_command, command_line, line_of, matches_in};
 pub use live_words::{LiveRequest, asked_live};
-pub use planning::{fetch, fetch_plan, plan_in};
+pub use planning::{PlanAndText, fetch, fetch_both, fetch_plan, plan_in};
 pub use splitting::{are_dashes, split_line};
 pub use telling::{put_line, refuse, tell, tell_memory};
 pub use words::{

@@ -5,6 +5,7 @@ ghost use Rattle.clap.specs.Words.{app_of, fault_of, found_of, rows_of, subcomma
 ghost use Rattle.mx_cli.specs.Words.{IsArgument, IsCommand, texts_of};
 ghost use Rattle.mx_cli.specs.LiveWords.{live_app, live_in, live_line, request_asked, request_in, request_of, progress_rule, sections_rule, settle_in, settle_rule, turns_rule};
 
+use crate::about::ABOUT_LIVE;
 use crate::arguments::{flag_arg, number_arg, seed_arg};
 use crate::help;
 use crate::line::{line_of, matches_in, plan_command, with_arg};
@@ -58,7 +59,7 @@ fn progress_arg<'a>(alloc: Global) -> Arg<'a>
 fn live_command<'a>(alloc: Global) -> Result<Command<'a>, AllocError>
     ensures { IfOk result (IsCommand live_app) }
 {
-    let begun = plan_command(alloc, "live", help::LIVE, help::LIVE_EXAMPLE);
+    let begun = plan_command(alloc, "live", ABOUT_LIVE, help::LIVE_EXAMPLE);
     let with_sections = with_arg(begun, sections_arg(alloc));
     let with_seed = with_arg(with_sections, seed_arg(alloc));
     let with_turns = with_arg(with_seed, turns_arg(alloc));

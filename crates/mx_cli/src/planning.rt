@@ -1,13 +1,23 @@
 //! Fetching what a command is about, and reading its plan.
 
-ghost use Rattle.std.specs.Prelude.{◌≡◌, Bool, Some, IfSome};
+ghost use Rattle.std.specs.Prelude.{◌≡◌, Bool, Some, IfSome, option_map};
 ghost use Rattle.mx_cli.specs.Outputs.{refused_after};
-ghost use Rattle.mx_cli.specs.Reading.{Reads, Fetches};
+ghost use Rattle.mx_cli.specs.Reading.{Reads, ReadsBoth, Fetches, line_of, plan_told, rest_of, text_told};
+ghost use Rattle.mx_cli.specs.Words.{names_of};
 
 use crate::faults::{Fault, Named, Stop};
+use crate::splitting::{are_dashes, split_line};
+use crate::words::Names;
 use mx_io::{Source, SourceFault};
 use mx_plan::{Plan, read_plan};
 use std::alloc::Global;
+
+/// A plan, and the bytes that come with it: its events, or a script.
+#[derive(Drop)]
+pub struct PlanAndText {
+    pub plan: Plan,
+    pub text: Vec<u8>,
+}
 
 /// The bytes of a name.
 pub fn fetch<S: Source>(
@@ -46,4 +56,59 @@ pub fn plan_in(alloc: Global, text: &[u8]) -> Result<Plan, Stop>
         Ok(plan) => Ok(plan),
         Err(fault) => Err(Stop::from(fault)),
     }
+}
+
+/// The plan of the first of two names, and the bytes of the second. Where both are standard input, its
+/// first line is the plan, and the rest is what comes with it. A plan that is refused comes before a
+/// second name that can't be read.
+pub fn fetch_both<S: Source>(
+    alloc: Global,
+    source: &mut S,
+    names: &Names<'_>,
+) -> Result<PlanAndText, Stop>
+    ensures read { ReadsBoth (plan_told (S.told source.old) (names_of names.now))
+        (text_told (S.told source.old) (names_of names.now)) result }
+    ensures taken { (before : Bool) → refused_after result before ≡ before }
+{
+    if are_dashes(names) {
+        fetch_one(alloc, source, names.plan)
+    } else {
+        fetch_two(alloc, source, names)
+    }
+}
+
+/// The plan and the bytes of one name.
+fn fetch_one<S: Source>(alloc: Global, source: &mut S, name: &str) -> Result<PlanAndText, Stop>
+    ensures read { ReadsBoth (option_map line_of (S.told source.old name.now))
+        (option_map rest_of (S.told source.old name.now)) result }
+    ensures taken { (before : Bool) → refused_after result before ≡ before }
+{
+    let one = fetch(alloc, source, name, Named::Plan)?;
+    both_in(alloc, one.as_slice())
+}
+
+/// The plan in the first line of a text, and the bytes that follow it.
+fn both_in(alloc: Global, bytes: &[u8]) -> Result<PlanAndText, Stop>
+    ensures read { ReadsBoth (Some (line_of (Some bytes.now))) (Some (rest_of (Some bytes.now))) result }
+    ensures taken { (before : Bool) → refused_after result before ≡ before }
+{
+    let (line, rest) = split_line(bytes);
+    let plan = plan_in(alloc, line)?;
+    let text = Vec::from_slice(alloc, rest)?;
+    Ok(PlanAndText { plan, text })
+}
+
+/// The plan of one name, and the bytes of another.
+fn fetch_two<S: Source>(
+    alloc: Global,
+    source: &mut S,
+    names: &Names<'_>,
+) -> Result<PlanAndText, Stop>
+    ensures read { ReadsBoth (S.told source.old names.now.plan.now)
+        (S.told source.old names.now.events.now) result }
+    ensures taken { (before : Bool) → refused_after result before ≡ before }
+{
+    let plan = fetch_plan(alloc, source, names.plan)?;
+    let text = fetch(alloc, source, names.events, Named::Events)?;
+    Ok(PlanAndText { plan, text })
 }

@@ -16,7 +16,7 @@ use mx_io::{Output, OutputFault};
 use std::alloc::Global;
 use std::fmt::Display;
 
-/// Writes the help that the words of a command line ask for, or why they are refused, and answers the
+/// Writes the help that the words of a command line ask for, or why they are refused, and returns the
 /// status.
 pub fn refuse<O: Output, E: Output>(alloc: Global, e: &clap::Error, out: &mut O, err: &mut E) -> u8
     ensures memory { kind_of e.now ≡ ErrorKind.OutOfMemory → (result ≡ 5)
@@ -40,7 +40,7 @@ pub fn refuse<O: Output, E: Output>(alloc: Global, e: &clap::Error, out: &mut O,
     }
 }
 
-/// Writes the line of a fault, and answers the status.
+/// Writes the line of a fault, and returns the status.
 pub fn tell<E: Output>(alloc: Global, fault: Fault, names: &Names<'_>, err: &mut E) -> u8
     ensures { TellsFault (E.takes_all err.old) (fault_line (names_of names.now) fault)
         (E.written err.old) (E.written err.new) result }
@@ -56,7 +56,7 @@ pub fn tell<E: Output>(alloc: Global, fault: Fault, names: &Names<'_>, err: &mut
     }
 }
 
-/// Writes that memory ran out, where that can be written, and answers the status of that.
+/// Writes that memory ran out, where that can be written, and returns the status of that.
 pub fn tell_memory<E: Output>(err: &mut E) -> u8
     ensures status { result ≡ 5 }
     ensures told { MayTell (E.written err.old) (E.written err.new) }

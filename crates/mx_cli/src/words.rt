@@ -1,14 +1,17 @@
 //! The command line.
 
 ghost use Rattle.std.specs.Prelude.{◌≡◌, [], Some, IfOk, IfErr, option_map};
-ghost use Rattle.clap.specs.Words.{app_of, fault_of, first_of, found_of, rows_of, subcommand_of, subcommand_rows_of, HasKind};
-ghost use Rattle.mx_cli.specs.Words.{IsCommand, check_app, explore_app, mx_app, mx_start, replay_app};
-ghost use Rattle.mx_cli.specs.Words.{check_in, exploration_at, explore_in, explored, is_given, names_at, names_of, number_at, replay_in};
+ghost use Rattle.clap.specs.Words.{App, app_of, fault_of, first_of, found_of, rows_of, subcommand_of, subcommand_rows_of, HasKind};
+ghost use Rattle.mx_cli.specs.Words.{IsCommand, check_app, explore_app, mx_app, mx_start, replay_app, with_listed, with_others, with_read};
+ghost use Rattle.mx_cli.specs.Words.{check_in, exploration_at, explore_in, explored, is_given, is_view, names_at, names_of, number_at, replay_in};
 ghost use Rattle.mx_cli.specs.Words.{request_asked, request_in, request_of, texts_of};
 
-use crate::arguments::{events_arg, seed_arg, steps_arg};
+use crate::about::{
+    ABOUT_COUNT, ABOUT_DRAW, ABOUT_EXPLAIN, ABOUT_LIVE, ABOUT_PICTURE, ABOUT_SCRIPT,
+};
+use crate::arguments::{events_arg, flag_arg, seed_arg, steps_arg, text_arg};
 use crate::help;
-use crate::line::{command_line, matches_in, plan_command, with_arg, with_made};
+use crate::line::{bare_command, command_line, matches_in, plan_command, with_arg, with_made};
 use clap::{ArgMatches, Command, Error};
 use std::alloc::{AllocError, Global};
 
@@ -42,30 +45,83 @@ fn check_command<'a>(alloc: Global) -> Result<Command<'a>, AllocError>
     plan_command(alloc, "check", help::CHECK, help::CHECK_EXAMPLE)
 }
 
-/// `replay PLAN EVENTS`.
+/// `replay PLAN EVENTS`, which may have `--quiet`, `--node NAME` and `--json`.
 pub fn replay_command<'a>(alloc: Global) -> Result<Command<'a>, AllocError>
     ensures { IfOk result (IsCommand replay_app) }
 {
     let begun = plan_command(alloc, "replay", help::REPLAY, help::REPLAY_EXAMPLE);
-    with_arg(begun, events_arg(alloc))
+    let with_events = with_arg(begun, events_arg(alloc));
+    let quiet = flag_arg(alloc, "quiet", "Prints the closing lines alone");
+    let with_quiet = with_arg(with_events, quiet);
+    let node = text_arg(
+        alloc,
+        "node",
+        "Prints the lines of the node of this name alone",
+    );
+    let with_node = with_arg(with_quiet, node);
+    let json = flag_arg(
+        alloc,
+        "json",
+        "Prints an object of JSON in place of each line",
+    );
+    with_arg(with_node, json)
 }
 
-/// `explore PLAN --seed S --steps K`.
+/// `explore PLAN --seed S --steps K`, which may have `--count`.
 pub fn explore_command<'a>(alloc: Global) -> Result<Command<'a>, AllocError>
     ensures { IfOk result (IsCommand explore_app) }
 {
     let begun = plan_command(alloc, "explore", help::EXPLORE, help::EXPLORE_EXAMPLE);
     let with_seed = with_arg(begun, seed_arg(alloc));
-    with_arg(with_seed, steps_arg(alloc))
+    let with_steps = with_arg(with_seed, steps_arg(alloc));
+    let count = flag_arg(alloc, "count", "Prints the counts of `mx count` too");
+    with_arg(with_steps, count)
 }
 
-/// The commands that are read.
+/// The whole command line.
 fn mx_command<'a>(alloc: Global) -> Result<Command<'a>, AllocError>
     ensures { IfOk result (λ command. app_of command ≡ mx_app) }
+{
+    with_others(alloc, read_command(alloc))
+}
+
+/// The command line with the commands that it reads.
+fn read_command<'a>(alloc: Global) -> Result<Command<'a>, AllocError>
+    ensures { IfOk result (λ command. app_of command ≡ with_read mx_start) }
 {
     let with_check = with_made(mx_line(alloc), check_command(alloc));
     let with_replay = with_made(with_check, replay_command(alloc));
     with_made(with_replay, explore_command(alloc))
+}
+
+/// The command line with those that have a command line of their own too, so that help lists them and a
+/// mistyped word finds them.
+fn with_others<'a>(
+    alloc: Global,
+    line: Result<Command<'a>, AllocError>,
+) -> Result<Command<'a>, AllocError>
+    ensures { (app : App) → IfOk line.entry (λ command. app_of command ≡ app)
+        → IfOk result (λ command. app_of command ≡ with_others app) }
+{
+    let with_live = with_listed(alloc, line, "live", ABOUT_LIVE);
+    let with_draw = with_listed(alloc, with_live, "draw", ABOUT_DRAW);
+    let with_script = with_listed(alloc, with_draw, "script", ABOUT_SCRIPT);
+    let with_picture = with_listed(alloc, with_script, "picture", ABOUT_PICTURE);
+    let with_count = with_listed(alloc, with_picture, "count", ABOUT_COUNT);
+    with_listed(alloc, with_count, "explain", ABOUT_EXPLAIN)
+}
+
+/// The command line with a command of this name, none of whose arguments is read.
+fn with_listed<'a>(
+    alloc: Global,
+    line: Result<Command<'a>, AllocError>,
+    name: &'a str,
+    about: &'a str,
+) -> Result<Command<'a>, AllocError>
+    ensures { (app : App) → IfOk line.entry (λ command. app_of command ≡ app)
+        → IfOk result (λ command. app_of command ≡ with_listed app name.now) }
+{
+    with_made(line, Ok(bare_command(alloc, name, about, help::LISTED)))
 }
 
 /// The command line of `mx` with its example, before it has a subcommand.
@@ -129,13 +185,26 @@ fn check_in<'a>(matches: &ArgMatches<'a>) -> Option<Request<'a>>
 fn replay_in<'a>(matches: &ArgMatches<'a>) -> Option<Request<'a>>
     ensures { option_map request_of result ≡ replay_in (rows_of (found_of matches.now)) }
 {
+    if is_view(matches) {
+        return None;
+    }
     names_at(matches).map(Request::Replay)
 }
 
 fn explore_in<'a>(matches: &ArgMatches<'a>) -> Option<Request<'a>>
     ensures { option_map request_of result ≡ explore_in (rows_of (found_of matches.now)) }
 {
+    if is_given(matches, "count") {
+        return None;
+    }
     exploration_at(matches).map(Request::Explore)
+}
+
+/// Whether a replay is to be shown by its closing lines, by the lines of one node, or as JSON.
+fn is_view(matches: &ArgMatches<'_>) -> bool
+    ensures { result ≡ is_view (rows_of (found_of matches.now)) }
+{
+    is_given(matches, "quiet") || text_at(matches, "node").is_some() || is_given(matches, "json")
 }
 
 /// The names that were given for a plan and its events.

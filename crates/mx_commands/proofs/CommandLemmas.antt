@@ -1,15 +1,9 @@
 -- What a command leaves, from what its parts leave.
-use Rattle.std.proofs.Common.{◌≡◌, ◌∙◌, ◌⊎◌, ℕ, Bool, true, false, List, [], Option, Some, None, Result, Ok, Err, ap, subst, sym, refl, inl, inr, IsSome}
+use Rattle.std.proofs.Common.{◌≡◌, ◌∙◌, ◌⊎◌, ℕ, Bool, true, false, [], Option, Some, None, Result, Ok, Err, ap, subst, sym, refl, inl, inr}
 use Rattle.std.specs.Prelude.{◌&&◌, IfSome, IsTrue}
 use Rattle.std.specs.Io.KnownBytes.{Appends, Keeps}
 use Rattle.std.specs.List.{concat}
-use Rattle.clap.specs.Words.{kind_of}
-use Rattle.clap.specs.Faults.{fault_of}
-use Rattle.clap.specs.Kinds.{HasKind}
-use Rattle.clap.specs.declared.error.Error.{Error}
-use Rattle.clap.specs.declared.error.kind.ErrorKind.TheVariants.{OutOfMemory}
-use Rattle.mx_cli.specs.Words.{Request, mx_app, request_asked}
-use Rattle.mx_cli.proofs.WordLemmas.{no_request_among}
+use Rattle.mx_cli.specs.Words.{Request}
 use Rattle.mx_plan.specs.Text.{Text}
 use Rattle.mx_cli.specs.declared.faults.Fault.{Fault}
 use Rattle.mx_cli.specs.declared.faults.Stop.{Stop}
@@ -22,25 +16,20 @@ use Rattle.mx_io.specs.Outputs.{Held}
 use Rattle.mx_cli.specs.Outputs.{AppendsSome, IsPassedOn, refused_after, stop_of}
 use Rattle.mx_commands.specs.Runs.{Report}
 use Rattle.mx_commands.specs.Jobs.{HoldsOfReport, Job, job_of, names_in}
-use Rattle.mx_commands.specs.Ran.{EndsEarly, FailsAtOnce, IsRunStatus, Prints, Ran, RanOf, Runs, end_text, status_of}
+use Rattle.mx_cli.specs.Closed.{IsRunStatus}
+use Rattle.mx_commands.specs.Ran.{EndsEarly, FailsAtOnce, Prints, Ran, RanOf, Runs, end_text, status_of}
 use Rattle.mx_cli.specs.Told.{MayTell, Seen, TellsFault}
 use Rattle.mx_commands.proofs.JobLemmas.{of_jobs}
-use Rattle.mx_cli.proofs.OutputLemmas.{Appends-keeps, Appends-nil, Keeps-refl, all_some, some_keeps}
+use Rattle.mx_cli.proofs.OutputLemmas.{Appends-keeps, Appends-nil, Keeps-refl, all_some, keeps_on, some_keeps}
 use Rattle.mx_commands.proofs.RunLemmas.{is_false, refused_not_memory}
 
 -- ---- the flush
 
-ran_keeps : (t : Bool) (a b c : Held) (r : Report) (res : Result ℕ Stop) → Ran t a b r res → Keeps b c → Ran t a c r res
+pub ran_keeps : (t : Bool) (a b c : Held) (r : Report) (res : Result ℕ Stop) → Ran t a b r res → Keeps b c → Ran t a c r res
 ran_keeps t a b c r (Ok v) h same = (h.0, Appends-keeps a b c (concat r.texts) h.1 same)
 ran_keeps t a b c r (Err (stop.Fault f)) h same = (h.0, Appends-keeps a b c (concat r.texts) h.1 same)
 ran_keeps t a b c r (Err stop.Writer) h same = (h.0, some_keeps a b c r.texts h.1 same)
 ran_keeps t a b c r (Err stop.Memory) h same = some_keeps a b c r.texts h same
-
-keeps_on : (a b c : Held) → Keeps a b → Keeps b c → Keeps a c
-keeps_on None b c p q = tt
-keeps_on (Some x) None c p q = absurd p
-keeps_on (Some x) (Some y) None p q = absurd q
-keeps_on (Some x) (Some y) (Some z) p q = q ∙ p
 
 ran_some : (t : Bool) (a b : Held) (r : Report) (res : Result ℕ Stop) → Ran t a b r res → AppendsSome a b r.texts
 ran_some t a b r (Ok v) h = all_some a b r.texts h.1
@@ -160,27 +149,12 @@ told_status u line c d status (inr (inr h)) = inr (inl h.0)
 
 -- ---- words that were refused
 
-short_at_once : (takes : Bool) (told : Text → Option Telling) (request : Request) (old new : Seen) (status : ℕ) (o : Option Job) → FailsAtOnce takes old new status
+at_once : (takes : Bool) (request : Request) (old new : Seen) (status : ℕ) (o : Option Job) → FailsAtOnce takes old new status
     → IfSome o (λ job. FailsAtOnce takes old new status ⊎ HoldsOfReport job (λ r. Prints takes (names_in request) r old new status))
-short_at_once takes told request old new status None h = tt
-short_at_once takes told request old new status (Some job) h = inl h
+at_once takes request old new status None h = tt
+at_once takes request old new status (Some job) h = inl h
 
-module _ (t u : Bool) (old new : Seen) (status : ℕ) (e : Error) (words : List Text) (kinds : HasKind (fault_of mx_app words) e)
-    (memory : kind_of e ≡ OutOfMemory → (status ≡ 5) × Keeps old.out new.out × MayTell old.err new.err × (new.refused ≡ old.refused)) where
-  short : kind_of e ≡ OutOfMemory → FailsAtOnce (t && u) old new status
-  short out = let m = memory out in (m.1, inl (m.0, m.2, m.3))
-
-  refused_request : (h : (kind_of e ≡ OutOfMemory) ⊎ (IsSome (request_asked words) → ⊥)) (told : Text → Option Telling) (w : Option Request) → w ≡ request_asked words
-      → IfSome w (λ request. Runs (t && u) told request old new status)
-  refused_request h told None is = tt
-  refused_request (inl out) told (Some request) is = short_at_once (t && u) told request old new status (job_of told request) (short out)
-  refused_request (inr none) told (Some request) is = absurd (none (subst IsSome is refl))
-
-  asks_nothing : (kind_of e ≡ OutOfMemory) ⊎ (IsSome (request_asked words) → ⊥)
-  asks_nothing = elim kinds [ inl out ↦ inl out | inr among ↦ inr (no_request_among words (kind_of e) among) ]
-
-  pub request_refused : (told : Text → Option Telling) → IfSome (request_asked words) (λ request. Runs (t && u) told request old new status)
-  request_refused told = refused_request asks_nothing told (request_asked words) refl
-
-  pub status_refused : IsSome (request_asked words) → IsRunStatus status
-  status_refused asks = elim asks_nothing [ inl out ↦ inr (inr (memory out).0) | inr none ↦ absurd (none asks) ]
+-- where memory ran out, a command may have ended so
+pub short_runs : (takes : Bool) (told : Text → Option Telling) (request : Request) (old new : Seen) (status : ℕ)
+    → (status ≡ 5) × Keeps old.out new.out × MayTell old.err new.err × (new.refused ≡ old.refused) → Runs takes told request old new status
+short_runs takes told request old new status m = at_once takes request old new status (job_of told request) (m.1, inl (m.0, m.2, m.3))

@@ -1,11 +1,8 @@
 -- Runs of jobs: of what a source tells.
-use Rattle.std.proofs.Common.{◌≡◌, ◌⊎◌, ℕ, Bool, true, false, List, Option, Some, None, Result, Ok, Err, Vec, ap, subst, sym, refl, inl, inr}
-use Rattle.std.specs.Prelude.{◌==◌, ◌&&◌, IfSome, option_map}
-use Rattle.std.specs.List.{after_first, before_first}
+use Rattle.std.proofs.Common.{◌≡◌, ◌⊎◌, ℕ, Bool, Option, Some, None, Result, Ok, Err, ap, subst, sym, refl, inl, inr}
+use Rattle.std.specs.Prelude.{IfSome, option_map}
 use Rattle.std.specs.Option.{option_map_or}
 use Rattle.std.specs.Io.KnownBytes.{Keeps}
-use Rattle.std.specs.declared.alloc.Global.{Global}
-use Rattle.mx_cli.specs.Words as wants
 use Rattle.mx_plan.specs.Text.{Text}
 use Rattle.mx_plan.specs.Fields.{Fields}
 use Rattle.mx_plan.specs.declared.faults.PlanFault.{PlanFault}
@@ -17,10 +14,11 @@ use Rattle.mx_cli.specs.declared.faults.Stop.{Stop}
 use Rattle.mx_cli.specs.declared.faults.Stop.TheVariants as stop
 use Rattle.mx_io.specs.Told.{Telling}
 use Rattle.mx_commands.specs.Runs.{Report, ends_with, whole}
-use Rattle.mx_commands.specs.Jobs.{HoldsOfPlan, HoldsOfReport, Job, on_events, on_plan, replay_one, replay_two, report_of, report_of_events, where_read}
-use Rattle.mx_cli.specs.Reading.{fault_of, Fetches, is_dash, Reads, refusal_of}
+use Rattle.mx_commands.specs.Jobs.{HoldsOfPlan, HoldsOfReport, Job, on_events, on_plan, replay_of, report_of, report_of_events, where_read}
+use Rattle.mx_cli.specs.Reading.{fault_of, Fetches, IsPlanOf, Reads, ReadsBoth, refusal_of}
+use Rattle.mx_cli.specs.declared.planning.PlanAndText.{PlanAndText}
 use Rattle.mx_io.specs.Outputs.{Held}
-use Rattle.mx_commands.specs.Ran.{EndsEarly, Ran, RanOn, RanOf}
+use Rattle.mx_commands.specs.Ran.{EndsEarly, Ran, RanOn}
 use Rattle.mx_cli.proofs.OutputLemmas.{Appends-nil, none_some, Keeps-refl}
 
 -- a run that ends before any event
@@ -55,14 +53,6 @@ events_unfetched t a p s (Some None) (inl other) =
 events_unfetched t a p s (Some None) (inr memory) =
     subst (λ (x : Stop). Ran t a a (ends_with (Some (CannotRead named.Events))) (Err x)) (sym memory) (ran_out t a (ends_with (Some (CannotRead named.Events))))
 events_unfetched t a p s (Some (Some bs)) h = subst (λ (x : Stop). Ran t a a (report_of_events bs p) (Err x)) (sym h) (ran_out t a (report_of_events bs p))
-
--- the events were fetched
-pub events_fetched : (t : Bool) (a b : Held) (p : Fields) (v : Vec ℕ Global) (res : Result ℕ Stop) (o : Option Telling)
-    → IfSome o (λ x. Fetches named.Events x (Ok v)) → Ran t a b (report_of_events v.items p) res
-    → IfSome o (λ x. Ran t a b (on_events p x) res)
-events_fetched t a b p v res None h ran = tt
-events_fetched t a b p v res (Some None) h ran = absurd h
-events_fetched t a b p v res (Some (Some bs)) h ran = subst (λ (l : List ℕ). Ran t a b (report_of_events l p) res) h ran
 
 -- ---- a plan
 
@@ -103,40 +93,22 @@ module _ (t : Bool) (a : Held) (o : Option Telling) (text : Fields → Text) whe
 
 -- ---- a replay
 
-module _ (told : Text → Option Telling) (names : Text × Text) (t : Bool) (a b : Held) (res : Result ℕ Stop) where
-  -- one source
-  pub by_one : (is_dash names.0 && is_dash names.1) ≡ true → IfSome (told names.0) (λ x. RanOn t a b (replay_one x) res) → RanOf t a b told (wants.replay names) res
-  by_one both h = rw both (if_mapped (told names.0) replay_one _ h)
+module _ (t : Bool) (a : Held) (plan text : Option Telling) where
+  planned_ran : (b : Held) (p : Fields) (res : Result ℕ Stop) → IsPlanOf plan p → IfSome text (λ y. Ran t a b (on_events p y) res)
+      → IfSome (option_map (replay_of text) plan) (λ job. RanOn t a b job res)
+  planned_ran b p res read ran =
+      if_mapped plan (replay_of text) _ (if_some plan _ _ (λ x is. plan_read t a b x (replay_of text x).report p res is (if_mapped text (on_events p) _ ran)) read)
 
-  -- two sources
-  pub by_two : (is_dash names.0 && is_dash names.1) ≡ false → IfSome (told names.0) (λ x. RanOn t a b (replay_two (told names.1) x) res) → RanOf t a b told (wants.replay names) res
-  by_two other h = rw other (if_mapped (told names.0) (replay_two (told names.1)) _ h)
+  -- the plan was not read, or its events were not fetched
+  pub both_unread : (s : Stop) → ReadsBoth plan text (Err s) → IfSome (option_map (replay_of text) plan) (λ job. RanOn t a a job (Err s))
+  both_unread s (inl unread) = if_mapped plan (replay_of text) _ (if_some plan _ _ (λ x is. plan_unread t a x (replay_of text x).report s is) unread)
+  both_unread s (inr unfetched) = planned_ran a unfetched.0 (Err s) unfetched.1 (events_unfetched t a unfetched.0 s text unfetched.2)
 
--- one source was not fetched
-pub one_unfetched : (t : Bool) (a : Held) (s : Stop) (x : Telling) → Fetches named.Plan x (Err s) → RanOn t a a (replay_one x) (Err s)
-one_unfetched t a s None h = plan_unread t a None (replay_one None).report s h
-one_unfetched t a s (Some bytes) h = inl (subst (λ (x : Stop). EndsEarly t (Err x)) (sym h) tt, Keeps-refl a)
-
-pub one_fetched : (t : Bool) (a b : Held) (v : Vec ℕ Global) (res : Result ℕ Stop) (x : Telling) → Fetches named.Plan x (Ok v) → RanOn t a b (replay_one (Some v.items)) res
-    → RanOn t a b (replay_one x) res
-one_fetched t a b v res None h ran = absurd h
-one_fetched t a b v res (Some bytes) h ran = subst (λ (l : List ℕ). RanOn t a b (replay_one (Some l)) res) h ran
-
--- its plan was not read, or was
-pub line_unread : (t : Bool) (a : Held) (bytes : List ℕ) (s : Stop) → Reads (Some (before_first (λ b. b == 10) bytes)) (Err s) → RanOn t a a (replay_one (Some bytes)) (Err s)
-line_unread t a bytes s h = plan_unread t a (replay_one (Some bytes)).plan (replay_one (Some bytes)).report s h
-
-pub line_read : (t : Bool) (a b : Held) (bytes : List ℕ) (p : Fields) (res : Result ℕ Stop) → Reads (Some (before_first (λ b. b == 10) bytes)) (Ok p)
-    → Ran t a b (report_of_events (after_first (λ b. b == 10) bytes) p) res → RanOn t a b (replay_one (Some bytes)) res
-line_read t a b bytes p res read ran = plan_read t a b (replay_one (Some bytes)).plan (replay_one (Some bytes)).report p res read ran
-
--- of two sources the plan was not read, or was
-pub two_unread : (t : Bool) (a : Held) (events : Option Telling) (s : Stop) (x : Telling) → Reads x (Err s) → RanOn t a a (replay_two events x) (Err s)
-two_unread t a events s x read = plan_unread t a x (replay_two events x).report s read
-
-pub two_read : (t : Bool) (a b : Held) (events : Option Telling) (p : Fields) (res : Result ℕ Stop) (x : Telling) → Reads x (Ok p)
-    → IfSome events (λ y. Ran t a b (on_events p y) res) → RanOn t a b (replay_two events x) res
-two_read t a b events p res x read ran = plan_read t a b x (replay_two events x).report p res read (if_mapped events (on_events p) _ ran)
+  -- both were read, and the events happened
+  pub both_read : (b : Held) (both : PlanAndText) (res : Result ℕ Stop) → ReadsBoth plan text (Ok both) → Ran t a b (report_of_events both.text.items both.plan) res
+      → IfSome (option_map (replay_of text) plan) (λ job. RanOn t a b job res)
+  both_read b both res read ran =
+      planned_ran b both.plan res read.0 (if_some text _ _ (λ y is. subst (λ (x : Telling). Ran t a b (on_events both.plan x) res) (sym is) ran) read.1)
 
 -- ---- what holds of a report
 

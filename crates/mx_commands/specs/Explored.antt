@@ -57,7 +57,7 @@ summary_by p es (Ricart count) = summary_text (length es) (after_drawn ricart_co
 summary_by p es (Maekawa family) = summary_text (length es) (after_drawn maekawa_core (at_rest maekawa_core p family) es)
 summary_by p es (Raymond tree) = summary_text (length es) (after_drawn raymond_core (at_rest raymond_core p tree) es)
 
--- the schedule of a seed, of so many steps over the nodes and registers of the plan
+-- the schedule of a seed, of a number of steps over the nodes and registers of the plan
 abbrev pub schedule_of : Fields → ℕ → ℕ → List Event
 schedule_of p seed steps = drawn_list steps (length p.nodes) (length p.registers) (generator_of seed)
 

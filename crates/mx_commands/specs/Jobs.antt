@@ -1,6 +1,5 @@
 -- What the words ask for, over what a source tells: the plan, and the report of a plan.
-use Rattle.std.specs.Prelude.{ℕ, List, Option, Some, None, Result, Ok, Err, if◌then◌else◌, ◌==◌, ◌&&◌, IfSome, option_map}
-use Rattle.std.specs.List.{before_first, after_first}
+use Rattle.std.specs.Prelude.{ℕ, List, Option, Some, None, Result, Ok, Err, IfSome, option_map}
 use Rattle.mx_cli.specs.Words.{Request, check, replay, explore}
 use Rattle.mx_ricart.specs.Step.{ricart_core}
 use Rattle.mx_maekawa.specs.Step.{maekawa_core}
@@ -16,7 +15,7 @@ use Rattle.mx_texts.specs.LetterTexts.{ricart_text, maekawa_text, raymond_text}
 use Rattle.mx_texts.specs.PlanTexts.{plan_text}
 use Rattle.mx_cli.specs.declared.faults.Fault.TheVariants.{CannotRead}
 use Rattle.mx_cli.specs.declared.faults.Named.TheVariants.{Plan, Events}
-use Rattle.mx_cli.specs.Reading.{fault_of, is_dash, IsRead}
+use Rattle.mx_cli.specs.Reading.{fault_of, IsRead, plan_told, text_told}
 use Rattle.mx_commands.specs.Explored.{explored_text}
 use Rattle.mx_commands.specs.Runs.{Report, at_rest, ends_with, run_from, whole}
 use Rattle.mx_io.specs.Told.{Telling}
@@ -53,24 +52,15 @@ pub record Job : Type 0 where
 abbrev pub on_plan : (Fields → Text) → Telling → Job
 on_plan text plan = record { plan = plan; report = λ p. Some (whole (text p)) }
 
--- a replay of one source: the plan is what stands before the first line feed, the events are what follows it
-abbrev pub replay_one : Telling → Job
-replay_one one = record {
-  plan = option_map (λ bytes. before_first (λ b. b == 10) bytes) one;
-  report = λ p. Some (on_events p (option_map (λ bytes. after_first (λ b. b == 10) bytes) one));
-}
-
--- a replay of two sources
-abbrev pub replay_two : Option Telling → Telling → Job
-replay_two events plan = record { plan = plan; report = λ p. option_map (on_events p) events }
+-- a replay of a plan, and of what is told of its events
+abbrev pub replay_of : Option Telling → Telling → Job
+replay_of events plan = record { plan = plan; report = λ p. option_map (on_events p) events }
 
 -- the job of what the words ask for, where the source tells enough
 abbrev pub job_of : (Text → Option Telling) → Request → Option Job
 job_of told (check name) = option_map (on_plan plan_text) (told name)
 job_of told (explore name seed steps) = option_map (on_plan (λ p. explored_text p seed steps)) (told name)
-job_of told (replay names) =
-    if is_dash names.0 && is_dash names.1 then option_map replay_one (told names.0)
-    else option_map (replay_two (told names.1)) (told names.0)
+job_of told (replay names) = option_map (replay_of (text_told told names)) (plan_told told names)
 
 -- the names of the plan and of the events, as the lines of faults have them
 abbrev pub names_in : Request → Text × Text

@@ -73,10 +73,6 @@ abbrev pub verdict_status : Verdict → ℕ
 verdict_status Sound = 0
 verdict_status (Broken k clause) = 4
 
--- the statuses of a command on a plan: the verdict of a cluster's trace is never broken
-abbrev pub IsRunStatus : ℕ → Type 0
-IsRunStatus status = (status ≡ 0) ⊎ (status ≡ 1) ⊎ (status ≡ 5)
-
 -- ---- on the way
 
 -- the texts of a report were written, and the run ended as the report does, or earlier

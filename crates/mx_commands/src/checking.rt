@@ -13,7 +13,7 @@ use mx_plan::Plan;
 use mx_texts::add_plan;
 use std::alloc::Global;
 
-/// Reads a plan, and prints what it says. Answers the status.
+/// Reads a plan, and prints what it says. Returns the status.
 pub(crate) fn check<S: Source, O: Output>(
     alloc: Global,
     name: &str,

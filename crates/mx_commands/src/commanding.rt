@@ -1,11 +1,12 @@
 //! The command: from words, named bytes and two outputs to a status.
 
 ghost use Rattle.std.specs.Prelude.{◌≡◌, ◌&&◌, Err, IsSome, IfSome, IfOk};
-ghost use Rattle.mx_cli.specs.Words.{texts_of, names_of, request_asked, request_of, AreWrong, AskHelp, mx_app};
+ghost use Rattle.mx_cli.specs.Words.{texts_of, names_of, request_asked, request_of, AreWrong, AskHelp, AskNothing, mx_app};
 ghost use Rattle.mx_cli.specs.Outputs.{IsPassedOn, refused_after};
 ghost use Rattle.mx_commands.specs.Jobs.{names_in};
-ghost use Rattle.mx_commands.specs.Ran.{RanOf, Runs, IsRunStatus};
-ghost use Rattle.mx_cli.specs.Told.{Helps, Scolds, seen};
+ghost use Rattle.mx_cli.specs.Closed.{IsRunStatus};
+ghost use Rattle.mx_commands.specs.Ran.{RanOf, Runs};
+ghost use Rattle.mx_cli.specs.Told.{Declines, Helps, Scolds, seen};
 
 use crate::checking::check;
 use crate::exploring::explore;
@@ -14,7 +15,7 @@ use mx_cli::{Names, Request, Stop, asked, is_refused, refuse, tell, tell_memory}
 use mx_io::{Output, Source};
 use std::alloc::Global;
 
-/// Runs the words of a command line, without the program's name, and answers the status: 0 where
+/// Runs the words of a command line, without the program's name, and returns the status: 0 where
 /// all went well, or help or the version was asked for, 1 where a plan, its events, a file or an
 /// output is at fault, 2 where the words are no command, 4 where the verdict is that the trace is
 /// broken, 5 where memory ran out.
@@ -36,6 +37,10 @@ pub fn command<S: Source, O: Output, E: Output>(
         (seen (O.written out.new) (E.written err.new) (O.has_refused out.new) (O.keeps_back out.new))
         result }
     ensures wrong { AreWrong mx_app (texts_of words.entry.now) → Scolds
+        (seen (O.written out.old) (E.written err.old) (O.has_refused out.old) (O.keeps_back out.old))
+        (seen (O.written out.new) (E.written err.new) (O.has_refused out.new) (O.keeps_back out.new))
+        result }
+    ensures other { AskNothing (texts_of words.entry.now) → Declines
         (seen (O.written out.old) (E.written err.old) (O.has_refused out.old) (O.keeps_back out.old))
         (seen (O.written out.new) (E.written err.new) (O.has_refused out.new) (O.keeps_back out.new))
         result }
@@ -105,7 +110,7 @@ fn carry_out_and_flush<S: Source, O: Output>(
     ended
 }
 
-/// Carries out what was asked for, and answers the status. What the output keeps back is not passed on.
+/// Carries out what was asked for, and returns the status. What the output keeps back is not passed on.
 pub fn carry_out<S: Source, O: Output>(
     alloc: Global,
     request: &Request<'_>,

@@ -26,7 +26,7 @@ use mx_texts::ExploredLine;
 use std::alloc::{AllocError, Global};
 
 /// Reads a plan, draws a schedule of this many steps, does its events, and prints the counts
-/// and the verdict. Answers the status.
+/// and the verdict. Returns the status.
 pub(crate) fn explore<S: Source, O: Output>(
     alloc: Global,
     exploration: &Exploration<'_>,

@@ -1,16 +1,16 @@
 //! `replay`: the plan is read, then the events, and they happen one after another.
 
-ghost use Rattle.std.specs.Prelude.{◌≡◌, length, Some, IfOk, IfSome};
+ghost use Rattle.std.specs.Prelude.{◌≡◌, length, IfOk};
 ghost use Rattle.mx_cli.specs.Words.{names_of};
 ghost use Rattle.mx_cli.specs.Words as wants;
 ghost use Rattle.mx_cli.specs.Outputs.{refused_after};
-ghost use Rattle.mx_commands.specs.Jobs.{on_events, report_of_events};
+ghost use Rattle.mx_commands.specs.Jobs.{report_of_events};
 ghost use Rattle.mx_commands.specs.Jobs as job;
-ghost use Rattle.mx_commands.specs.Ran.{Ran, RanOf, RanOn};
+ghost use Rattle.mx_commands.specs.Ran.{Ran, RanOf};
 ghost use Rattle.mx_commands.specs.Runs.{AllNameNodes};
 
 use crate::running::{run, start};
-use mx_cli::{Named, Names, Stop, are_dashes, fetch, fetch_plan, plan_in, split_line};
+use mx_cli::{Names, Stop, fetch_both};
 use mx_io::{Output, Source};
 use mx_maekawa::Maekawa;
 use mx_network::Event;
@@ -19,7 +19,7 @@ use mx_raymond::Raymond;
 use mx_ricart::Ricart;
 use std::alloc::Global;
 
-/// Reads the plan, then the events, and replays them. Answers the status.
+/// Reads the plan, then the events, and replays them. Returns the status.
 pub(crate) fn replay<S: Source, O: Output>(
     alloc: Global,
     names: &Names<'_>,
@@ -32,43 +32,8 @@ pub(crate) fn replay<S: Source, O: Output>(
     ensures zero { IfOk result (λ status. status ≡ 0) }
     ensures stays { O.takes_all out.new ≡ O.takes_all out.old }
 {
-    if are_dashes(names) {
-        let one = fetch(alloc, source, names.plan, Named::Plan)?;
-        return replay_one(alloc, one.as_slice(), out);
-    }
-    let plan = fetch_plan(alloc, source, names.plan)?;
-    replay_named(alloc, &plan, source, names.events, out)
-}
-
-/// A replay of the events of a name.
-fn replay_named<S: Source, O: Output>(
-    alloc: Global,
-    plan: &Plan,
-    source: &mut S,
-    name: &str,
-    out: &mut O,
-) -> Result<u8, Stop>
-    ensures ran { IfSome (S.told source.old name.now) (λ telling.
-        Ran (O.takes_all out.old) (O.written out.old) (O.written out.new) (on_events plan.now telling) result) }
-    ensures refused { O.has_refused out.new ≡ refused_after result (O.has_refused out.old) }
-    ensures zero { IfOk result (λ status. status ≡ 0) }
-    ensures stays { O.takes_all out.new ≡ O.takes_all out.old }
-{
-    let events = fetch(alloc, source, name, Named::Events)?;
-    replay_events(alloc, plan, events.as_slice(), out)
-}
-
-/// A replay of one text: its first line is the plan, and what follows is the events.
-fn replay_one<O: Output>(alloc: Global, bytes: &[u8], out: &mut O) -> Result<u8, Stop>
-    ensures ran { RanOn (O.takes_all out.old) (O.written out.old) (O.written out.new)
-        (job.replay_one (Some bytes.now)) result }
-    ensures refused { O.has_refused out.new ≡ refused_after result (O.has_refused out.old) }
-    ensures zero { IfOk result (λ status. status ≡ 0) }
-    ensures stays { O.takes_all out.new ≡ O.takes_all out.old }
-{
-    let (line, rest) = split_line(bytes);
-    let plan = plan_in(alloc, line)?;
-    replay_events(alloc, &plan, rest, out)
+    let both = fetch_both(alloc, source, names)?;
+    replay_events(alloc, &both.plan, both.text.as_slice(), out)
 }
 
 /// Reads the events and replays them, by the plan's algorithm.

@@ -34,7 +34,7 @@ pub fn start<C: Exclusion>(
     )
 }
 
-/// Runs events from a cluster on. Answers the status.
+/// Runs events from a cluster on. Returns the status.
 pub(crate) fn run<C: Exclusion, O: Output>(
     alloc: Global,
     plan: &Plan,
@@ -55,7 +55,7 @@ where
     run_events(alloc, plan, &mut cluster, events, out)
 }
 
-/// Each event in turn, and its text in one piece; then the closing lines. Answers the status.
+/// Each event in turn, and its text in one piece; then the closing lines. Returns the status.
 fn run_events<C: Exclusion, O: Output>(
     alloc: Global,
     plan: &Plan,
@@ -121,7 +121,7 @@ where
     }
 }
 
-/// Appends the closing lines, and answers the verdict.
+/// Appends the closing lines, and returns the verdict.
 fn add_closing<C: Exclusion>(
     plan: &Plan,
     cluster: &Cluster<C>,

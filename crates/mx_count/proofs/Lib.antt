@@ -2,5 +2,4 @@ pub mod CountLemmas
 pub mod CountedLemmas
 pub mod ListedLemmas
 pub mod CountWordLemmas
-pub mod ClosedLemmas
 pub mod PrintedLemmas

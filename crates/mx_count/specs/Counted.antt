@@ -26,24 +26,34 @@ abbrev pub first_text : Course → ℕ → ℕ → ℕ → Text
 first_text Given events sections parcels = head_text events sections parcels
 first_text Drawn events sections parcels = explored_line events sections parcels
 
--- the counts of a cluster after so many events, and the verdict, which is sound
-abbrev pub counts_text : {S M : Type 0} → (M → Text) → List Text → Course → ℕ → ClusterState S M → Text
+-- the counts of a cluster after this many events, and the verdict, which is sound
+abbrev pub counts_text : {S M : Type 0} → (M → Text) → List Text → Course → ℕ → ClusterState S M
+    → Text
 counts_text kind_text names course events g =
     let sections = count_by is_entry g.trace in
-    first_text course events sections (length g.sent) ++ tallies_text kind_text names g sections ++ verdict_line Sound
+    first_text course events sections (length g.sent) ++ tallies_text kind_text names g sections
+    ++ verdict_line Sound
 
 -- events lead from one cluster to another: those that were given all happen, and of those that were drawn the ones that can
-abbrev pub Leads : {H S M : Type 0} → Course → Core H S M → ClusterState S M → List Event → ClusterState S M → Type 0
+abbrev pub Leads : {H S M : Type 0} → Course → Core H S M → ClusterState S M → List Event
+    → ClusterState S M → Type 0
 Leads Given core g es new = RunsTo core g es new
 Leads Drawn core g es new = after_drawn core g es ≡ new
 
 -- the counts of a cluster to which these events lead were appended to a text
-abbrev pub AddsCounts : {H S M : Type 0} → Core H S M → (M → Text) → List Text → Course → List Event → ClusterState S M → Text → Text → Type 0
+abbrev pub AddsCounts : {H S M : Type 0} → Core H S M → (M → Text) → List Text → Course → List Event
+    → ClusterState S M → Text → Text → Type 0
 AddsCounts {H} {S} {M} core kind_text names course es start old new =
-    (g : ClusterState S M) × Leads course core start es g × (new ≡ old ++ counts_text kind_text names course (length es) g)
+    (g : ClusterState S M) × Leads course core start es g
+    × (new ≡ old ++ counts_text kind_text names course (length es) g)
 
 -- the same of events that lead from the cluster of a plan, at rest, by its algorithm
 abbrev pub AddsCountsBy : Course → Fields → List Event → Text → Text → Shape → Type 0
-AddsCountsBy course p es old new (Ricart count) = AddsCounts ricart_core ricart_kind ricart_names course es (at_rest ricart_core p count) old new
-AddsCountsBy course p es old new (Maekawa family) = AddsCounts maekawa_core maekawa_kind maekawa_names course es (at_rest maekawa_core p family) old new
-AddsCountsBy course p es old new (Raymond tree) = AddsCounts raymond_core raymond_kind raymond_names course es (at_rest raymond_core p tree) old new
+AddsCountsBy course p es old new (Ricart count) =
+    AddsCounts ricart_core ricart_kind ricart_names course es (at_rest ricart_core p count) old new
+AddsCountsBy course p es old new (Maekawa family) =
+    AddsCounts maekawa_core maekawa_kind maekawa_names course es
+    (at_rest maekawa_core p family) old new
+AddsCountsBy course p es old new (Raymond tree) =
+    AddsCounts raymond_core raymond_kind raymond_names course es
+    (at_rest raymond_core p tree) old new

@@ -20,7 +20,8 @@ tally_line name count = name ++ codes " " ++ decimal count ++ line_feed
 
 -- a line for each name, of how many parcels count under it
 abbrev pub parcels_text : {M : Type 0} → (M → Text) → List (ℕ × ℕ × Parcel M) → List Text → Text
-parcels_text kind_text sent = each_text (λ name. tally_line name (count_by (is_under kind_text name) sent))
+parcels_text kind_text sent =
+    each_text (λ name. tally_line name (count_by (is_under kind_text name) sent))
 
 abbrev pub is_entry_under : Text → Entry → Bool
 is_entry_under name entry = is_refused_under name entry.outcome
@@ -62,7 +63,8 @@ longest_wait (e ∷ es) = max (wait_from e.outcome es) (longest_wait es)
 -- ---- shares
 
 abbrev pub share_line : ℕ → ℕ → Text
-share_line whole tenths = codes "letters for each section " ++ decimal whole ++ codes "." ++ decimal tenths ++ line_feed
+share_line whole tenths =
+    codes "letters for each section " ++ decimal whole ++ codes "." ++ decimal tenths ++ line_feed
 
 -- the letters for each section, cut after one decimal, where there is a section
 abbrev pub share_text : ℕ → ℕ → Text
@@ -74,10 +76,13 @@ share_text letters sections =
 
 abbrev pub head_text : ℕ → ℕ → ℕ → Text
 head_text events sections parcels =
-    tally_line (codes "events") events ++ tally_line (codes "sections") sections ++ tally_line (codes "parcels") parcels
+    tally_line (codes "events") events ++ tally_line (codes "sections") sections
+    ++ tally_line (codes "parcels") parcels
 
--- what is counted of a cluster of which so many sections were entered, by the names of its parcels
+-- what is counted of a cluster of which this many sections were entered, by the names of its parcels
 abbrev pub tallies_text : {S M : Type 0} → (M → Text) → List Text → ClusterState S M → ℕ → Text
 tallies_text kind_text names g sections =
-    parcels_text kind_text g.sent names ++ share_text (count_by (is_under kind_text (codes "letters")) g.sent) sections
-    ++ refusals_text g.trace refusal_names ++ tally_line (codes "longest wait") (longest_wait g.trace)
+    parcels_text kind_text g.sent names
+    ++ share_text (count_by (is_under kind_text (codes "letters")) g.sent) sections
+    ++ refusals_text g.trace refusal_names
+    ++ tally_line (codes "longest wait") (longest_wait g.trace)

@@ -38,30 +38,42 @@ module _ {M : Type 0} (kind_text : M → Text) (name : Text) where
   is_kind from to (parcel.Guard letter) =
       if nat_eq from to then bytes_eq name (codes "own")
       else (bytes_eq name (codes "letters") || bytes_eq name (kind_text letter))
-  is_kind from to (parcel.Want ranges) = bytes_eq name (codes "gossip") || bytes_eq name (codes "want")
-  is_kind from to (parcel.Base base) = bytes_eq name (codes "gossip") || bytes_eq name (codes "base")
-  is_kind from to (parcel.Records records) = bytes_eq name (codes "gossip") || bytes_eq name (codes "records")
+  is_kind from to (parcel.Want ranges) =
+      bytes_eq name (codes "gossip") || bytes_eq name (codes "want")
+  is_kind from to (parcel.Base base) =
+      bytes_eq name (codes "gossip") || bytes_eq name (codes "base")
+  is_kind from to (parcel.Records records) =
+      bytes_eq name (codes "gossip") || bytes_eq name (codes "records")
 
   abbrev pub is_under : ℕ × ℕ × Parcel M → Bool
   is_under x = is_kind x.0 x.1 x.2
 
 -- a refusal counts under `refused` and under its cause
 abbrev pub is_refused_under : Text → Outcome → Bool
-is_refused_under name (Refused cause) = bytes_eq name (codes "refused") || bytes_eq name (cause_words cause)
+is_refused_under name (Refused cause) =
+    bytes_eq name (codes "refused") || bytes_eq name (cause_words cause)
 is_refused_under name _ = false
 
 -- the names under which the parcels of each algorithm are counted, in the order of their lines
 abbrev pub ricart_names : List Text
-ricart_names = codes "letters" ∷ codes "request" ∷ codes "reply" ∷ codes "own" ∷ codes "gossip" ∷ codes "want" ∷ codes "base" ∷ codes "records" ∷ []
+ricart_names =
+    codes "letters" ∷ codes "request" ∷ codes "reply" ∷ codes "own" ∷ codes "gossip" ∷ codes "want"
+    ∷ codes "base" ∷ codes "records" ∷ []
 
 abbrev pub maekawa_names : List Text
-maekawa_names = codes "letters" ∷ codes "request" ∷ codes "locked" ∷ codes "failed" ∷ codes "inquire" ∷ codes "relinquish" ∷ codes "release" ∷ codes "own" ∷ codes "gossip" ∷ codes "want" ∷ codes "base" ∷ codes "records" ∷ []
+maekawa_names =
+    codes "letters" ∷ codes "request" ∷ codes "locked" ∷ codes "failed" ∷ codes "inquire"
+    ∷ codes "relinquish" ∷ codes "release" ∷ codes "own" ∷ codes "gossip" ∷ codes "want"
+    ∷ codes "base" ∷ codes "records" ∷ []
 
 abbrev pub raymond_names : List Text
-raymond_names = codes "letters" ∷ codes "request" ∷ codes "privilege" ∷ codes "got" ∷ codes "own" ∷ codes "gossip" ∷ codes "want" ∷ codes "base" ∷ codes "records" ∷ []
+raymond_names =
+    codes "letters" ∷ codes "request" ∷ codes "privilege" ∷ codes "got" ∷ codes "own"
+    ∷ codes "gossip" ∷ codes "want" ∷ codes "base" ∷ codes "records" ∷ []
 
 -- those under which refusals are counted
 abbrev pub refusal_names : List Text
 refusal_names =
-    codes "refused" ∷ codes "not idle" ∷ codes "stamps spent" ∷ codes "not waiting" ∷ codes "not granted" ∷ codes "numbers spent"
+    codes "refused" ∷ codes "not idle" ∷ codes "stamps spent" ∷ codes "not waiting"
+    ∷ codes "not granted" ∷ codes "numbers spent"
     ∷ codes "not inside" ∷ codes "no register" ∷ codes "gap" ∷ codes "full" ∷ codes "below" ∷ []

@@ -1,12 +1,10 @@
 -- What is printed of a plan and of events that a text lists, or that were drawn.
-use Rattle.std.specs.Prelude.{◌≡◌, ◌==◌, List, [], Option, Some, None, Ok, IfSome}
+use Rattle.std.specs.Prelude.{◌≡◌, List, [], Option, Some, None, Ok, IfSome}
 use Rattle.std.specs.Io.KnownBytes.{Appends}
-use Rattle.std.specs.List.{after_first, before_first}
 use Rattle.mx_events.specs.declared.event.Event.{Event}
 use Rattle.mx_plan.specs.Text.{Text}
 use Rattle.mx_plan.specs.Fields.{Fields}
 use Rattle.mx_plan.specs.Events.{events_at}
-use Rattle.mx_cli.specs.Reading.{Reads}
 use Rattle.mx_io.specs.Outputs.{Held}
 use Rattle.mx_io.specs.Told.{Telling}
 use Rattle.mx_count.specs.Counted.{AddsCountsBy}
@@ -15,7 +13,8 @@ use Rattle.mx_count.specs.declared.running.Course.TheVariants.{Given}
 
 -- the counts of a cluster to which the events lead were printed, by the plan's algorithm, and nothing else
 abbrev pub PrintsCountsOf : Course → Fields → List Event → Held → Held → Type 0
-PrintsCountsOf course p es old new = (text : Text) × AddsCountsBy course p es [] text p.shape × Appends old new text
+PrintsCountsOf course p es old new =
+    (text : Text) × AddsCountsBy course p es [] text p.shape × Appends old new text
 
 -- these events of the plan were read
 abbrev pub Lists : Fields → Telling → List Event → Type 0
@@ -28,13 +27,5 @@ AreEventsOf told p es = IfSome told (λ telling. Lists p telling es)
 
 -- the counts of the events that a text lists were printed
 abbrev pub PrintsListed : Fields → Text → Held → Held → Type 0
-PrintsListed p bytes old new = (es : List Event) × (events_at p bytes ≡ Ok es) × PrintsCountsOf Given p es old new
-
--- the counts of the events that are told were printed
-abbrev pub PrintsTold : Fields → Option Telling → Held → Held → Type 0
-PrintsTold p told old new = (es : List Event) × AreEventsOf told p es × PrintsCountsOf Given p es old new
-
--- the same of one text: its first line is the plan, and what follows is the events
-abbrev pub PrintsSplit : Text → Held → Held → Type 0
-PrintsSplit one old new =
-    (p : Fields) × Reads (Some (before_first (λ b. b == 10) one)) (Ok p) × PrintsListed p (after_first (λ b. b == 10) one) old new
+PrintsListed p bytes old new =
+    (es : List Event) × (events_at p bytes ≡ Ok es) × PrintsCountsOf Given p es old new

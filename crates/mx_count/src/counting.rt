@@ -3,19 +3,19 @@
 ghost use Rattle.std.specs.Prelude.{◌≡◌, IsSome, IfSome, IfOk};
 ghost use Rattle.mx_cli.specs.Words.{names_of, texts_of, AreWrong, AskHelp};
 ghost use Rattle.mx_cli.specs.Told.{Helps, Scolds, seen};
-ghost use Rattle.mx_commands.specs.Ran.{IsRunStatus};
+ghost use Rattle.mx_cli.specs.Closed.{IsRunStatus};
 ghost use Rattle.mx_count.specs.CountWords.{request_asked, request_of, count_line};
 ghost use Rattle.mx_count.specs.CountWords as wants;
 ghost use Rattle.mx_count.specs.Printed.{PrintsCounts};
 
-use crate::printing::{count_named, count_schedule, count_split};
+use crate::printing::{count_listed, count_schedule};
 use crate::words::{Request, asked};
-use mx_cli::{Exploration, Named, Names, Stop, are_dashes, close, fetch, fetch_plan, refuse};
+use mx_cli::{Exploration, Names, Stop, close, fetch_both, fetch_plan, refuse};
 use mx_io::{Output, Source};
 use std::alloc::Global;
 
 /// Runs the words of a command line of which the first is `count`, or `explore` with `--count`, without
-/// the program's name, and answers the status: 0 where all went well, or help was asked for, 1 where the
+/// the program's name, and returns the status: 0 where all went well, or help was asked for, 1 where the
 /// plan, its events, a file or an output is at fault, 2 where the words are not those of the command, 5
 /// where memory ran out.
 pub fn count<S: Source, O: Output, E: Output>(
@@ -26,15 +26,20 @@ pub fn count<S: Source, O: Output, E: Output>(
     err: &mut E,
 ) -> u8
     ensures printed { IfSome (request_asked (texts_of words.entry.now)) (λ request.
-        result ≡ 0 → PrintsCounts (S.told source.old) request (O.written out.old) (O.written out.new)) }
+        result ≡ 0
+        → PrintsCounts (S.told source.old) request (O.written out.old) (O.written out.new)) }
     ensures status { IsSome (request_asked (texts_of words.entry.now)) → IsRunStatus result }
     ensures help { AskHelp count_line (texts_of words.entry.now) → Helps (O.takes_all out.old)
-        (seen (O.written out.old) (E.written err.old) (O.has_refused out.old) (O.keeps_back out.old))
-        (seen (O.written out.new) (E.written err.new) (O.has_refused out.new) (O.keeps_back out.new))
+        (seen (O.written out.old) (E.written err.old) (O.has_refused out.old)
+        (O.keeps_back out.old))
+        (seen (O.written out.new) (E.written err.new) (O.has_refused out.new)
+        (O.keeps_back out.new))
         result }
     ensures wrong { AreWrong count_line (texts_of words.entry.now) → Scolds
-        (seen (O.written out.old) (E.written err.old) (O.has_refused out.old) (O.keeps_back out.old))
-        (seen (O.written out.new) (E.written err.new) (O.has_refused out.new) (O.keeps_back out.new))
+        (seen (O.written out.old) (E.written err.old) (O.has_refused out.old)
+        (O.keeps_back out.old))
+        (seen (O.written out.new) (E.written err.new) (O.has_refused out.new)
+        (O.keeps_back out.new))
         result }
 {
     match asked(alloc, words) {
@@ -44,7 +49,7 @@ pub fn count<S: Source, O: Output, E: Output>(
     }
 }
 
-/// Counts what is asked for, and closes the run. Answers the status.
+/// Counts what is asked for, and closes the run. Returns the status.
 fn count_and_close<S: Source, O: Output, E: Output>(
     alloc: Global,
     request: &Request<'_>,
@@ -60,7 +65,7 @@ fn count_and_close<S: Source, O: Output, E: Output>(
     close(alloc, ended, &request.names(), out, err)
 }
 
-/// Counts what is asked for. Answers the status.
+/// Counts what is asked for. Returns the status.
 fn count_request<S: Source, O: Output>(
     alloc: Global,
     request: &Request<'_>,
@@ -84,16 +89,13 @@ fn count_given<S: Source, O: Output>(
     source: &mut S,
     out: &mut O,
 ) -> Result<u8, Stop>
-    ensures printed { IfOk result (λ _. PrintsCounts (S.told source.old) (wants.given (names_of names.now))
+    ensures printed { IfOk result (λ _.
+        PrintsCounts (S.told source.old) (wants.given (names_of names.now))
         (O.written out.old) (O.written out.new)) }
     ensures zero { IfOk result (λ status. status ≡ 0) }
 {
-    if are_dashes(names) {
-        let one = fetch(alloc, source, names.plan, Named::Plan)?;
-        return count_split(alloc, one.as_slice(), out);
-    }
-    let plan = fetch_plan(alloc, source, names.plan)?;
-    count_named(alloc, &plan, source, names.events, out)
+    let both = fetch_both(alloc, source, names)?;
+    count_listed(alloc, &both.plan, both.text.as_slice(), out)
 }
 
 /// Reads a plan, draws a schedule of this many steps, and prints what is counted of it.

@@ -1,8 +1,5 @@
 //! The texts of help.
 
-pub(crate) const COUNT: &str =
-    "Counts the letters of each kind, the refusals by cause, and the longest wait";
-
 pub(crate) const COUNT_EXAMPLE: &str =
     "Example: what the events of one section cost, in a cluster of three nodes.
 

@@ -14,5 +14,4 @@ mod waits;
 mod words;
 
 pub use counting::count;
-pub use printing::{count_named, count_schedule, count_split};
 pub use running::Course;

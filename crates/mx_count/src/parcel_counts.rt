@@ -20,7 +20,8 @@ pub(crate) fn add_parcel_counts<C: Exclusion>(
 where
     C::Msg: Kinded,
     ensures { OnOk result (string_bytes text.new
-        ≡ string_bytes text.old ++ parcels_text C.Msg.kind_text cluster.now.sent (map (λ name. name.now) names.now)) }
+        ≡ string_bytes text.old
+        ++ parcels_text C.Msg.kind_text cluster.now.sent (map (λ name. name.now) names.now)) }
 {
     for name in names {
         text.write(TallyLine {
@@ -49,7 +50,8 @@ fn count_parcel<C: Exclusion>(cluster: &Cluster<C>, number: u64, name: &str) -> 
 where
     C::Msg: Kinded,
     requires { number < length cluster.now.sent }
-    ensures { result + count_by (is_under C.Msg.kind_text name.now) (drop (number + 1) cluster.now.sent)
+    ensures { result + count_by (is_under C.Msg.kind_text name.now)
+        (drop (number + 1) cluster.now.sent)
         ≡ count_by (is_under C.Msg.kind_text name.now) (drop number cluster.now.sent) }
 {
     match cluster.parcel(number) {

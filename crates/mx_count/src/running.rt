@@ -31,7 +31,7 @@ pub enum Course {
     Drawn,
 }
 
-/// The events happen, by the plan's algorithm; then what is counted of them, and the verdict. Answers
+/// The events happen, by the plan's algorithm; then what is counted of them, and the verdict. Returns
 /// the status.
 pub(crate) fn add_counts_of(
     alloc: Global,
@@ -66,7 +66,7 @@ pub(crate) fn add_counts_of(
     }
 }
 
-/// The events happen; then what is counted of them, and the verdict. Answers the status.
+/// The events happen; then what is counted of them, and the verdict. Returns the status.
 fn add_counts_after<C: Exclusion>(
     mut cluster: Cluster<C>,
     events: &[Event],

@@ -3,12 +3,12 @@
 ghost use Rattle.std.specs.Prelude.{◌≡◌, [], IfOk, IfErr, option_map};
 ghost use Rattle.clap.specs.Words.{app_of, fault_of, found_of, rows_of, subcommand_of, subcommand_rows_of, HasKind};
 ghost use Rattle.mx_cli.specs.Words.{IsCommand, line_with, texts_of};
-ghost use Rattle.mx_count.specs.CountWords.{count_app, count_line, drawn_app, drawn_in, given_in, request_asked, request_in, request_of};
+ghost use Rattle.mx_count.specs.CountWords.{count_app, count_line, drawn_in, given_in, request_asked, request_in, request_of};
 
 use crate::help;
 use clap::{ArgMatches, Command, Error};
 use mx_cli::{
-    Exploration, Names, bare_command, events_arg, exploration_at, explore_command, flag_arg,
+    ABOUT_COUNT, Exploration, Names, bare_command, events_arg, exploration_at, explore_command,
     line_of, matches_in, names_at, plan_arg,
 };
 use std::alloc::{AllocError, Global};
@@ -38,23 +38,16 @@ impl<'a> Request<'a> {
 fn count_command<'a>(alloc: Global) -> Result<Command<'a>, AllocError>
     ensures { IfOk result (IsCommand count_app) }
 {
-    let begun = bare_command(alloc, "count", help::COUNT, help::COUNT_EXAMPLE);
+    let begun = bare_command(alloc, "count", ABOUT_COUNT, help::COUNT_EXAMPLE);
     let with_plan = begun.arg(plan_arg(alloc))?;
     with_plan.arg(events_arg(alloc))
-}
-
-fn drawn_command<'a>(alloc: Global) -> Result<Command<'a>, AllocError>
-    ensures { IfOk result (IsCommand drawn_app) }
-{
-    let help = "Prints the counts of `mx count` too";
-    explore_command(alloc)?.arg(flag_arg(alloc, "count", help))
 }
 
 /// The commands that are read.
 fn count_line<'a>(alloc: Global) -> Result<Command<'a>, AllocError>
     ensures { IfOk result (λ command. app_of command ≡ count_line) }
 {
-    counted_line(alloc)?.subcommand(drawn_command(alloc)?)
+    counted_line(alloc)?.subcommand(explore_command(alloc)?)
 }
 
 /// The command line of `count` alone.

@@ -1,12 +1,7 @@
 -- How an explanation ends, from how the check or the replay ends.
-use Rattle.std.proofs.Common.{◌≡◌, ◌∙◌, ◌⊎◌, ℕ, Bool, true, false, List, [], Option, Some, None, Result, Ok, Err, ap, subst, sym, refl, inl, inr, IsSome}
+use Rattle.std.proofs.Common.{◌≡◌, ◌∙◌, ◌⊎◌, ℕ, Bool, true, false, [], Option, Some, None, Result, Ok, Err, ap, subst, sym, refl, inl, inr}
 use Rattle.std.specs.Prelude.{◌&&◌, IfSome, IfOk}
 use Rattle.std.specs.Io.KnownBytes.{Appends, Keeps}
-use Rattle.clap.specs.Words.{kind_of}
-use Rattle.clap.specs.Faults.{fault_of}
-use Rattle.clap.specs.Kinds.{HasKind}
-use Rattle.clap.specs.declared.error.Error.{Error}
-use Rattle.clap.specs.declared.error.kind.ErrorKind.TheVariants.{OutOfMemory}
 use Rattle.mx_cli.specs.Words.{Request}
 use Rattle.mx_plan.specs.Text.{Text}
 use Rattle.mx_cli.specs.declared.faults.Fault.{Fault}
@@ -19,14 +14,12 @@ use Rattle.mx_io.specs.Outputs.{Held}
 use Rattle.mx_cli.specs.Outputs.{stop_of}
 use Rattle.mx_commands.specs.Runs.{Report}
 use Rattle.mx_commands.specs.Jobs.{HoldsOfReport, Job, job_of, names_in}
-use Rattle.mx_commands.specs.Ran.{EndsEarly, IsRunStatus, Ran, RanOf, end_text, status_of}
-use Rattle.mx_cli.specs.Told.{MayTell, Seen}
+use Rattle.mx_commands.specs.Ran.{EndsEarly, Ran, RanOf, end_text, status_of}
+use Rattle.mx_cli.specs.Told.{MayTell}
 use Rattle.mx_cli.specs.Closed.{Closes, FallsShort}
 use Rattle.mx_commands.proofs.JobLemmas.{of_jobs}
 use Rattle.mx_cli.proofs.OutputLemmas.{Appends-keeps, Appends-nil}
-use Rattle.mx_explain.specs.Asked.{explain_line, request_asked}
 use Rattle.mx_explain.specs.Explained.{EndsAs, Explains, FailsToPrint}
-use Rattle.mx_explain.proofs.AskedLemmas.{no_request_among}
 
 -- ---- a run of which nobody reads what it prints
 
@@ -104,40 +97,11 @@ module _ (t u : Bool) (told : Text → Option Telling) (request : Request) (old 
       (λ r. FallsShort (t && u) old new status ⊎ EndsAs (names_in request) r old new status)
       (λ x. closed_early res x.0 closes) (λ r. closed_ran r res zero closes) h
 
-short_status : (t : Bool) (old new : Held) (status : ℕ) → FallsShort t old new status → IsRunStatus status
-short_status t old new status (inl h) = inr (inr h.0)
-short_status t old new status (inr h) = inr (inl h.0)
-
-pub closed_status : (t : Bool) (names : Text × Text) (old new : Held) (status : ℕ) (res : Result ℕ Stop) → IfOk res (λ v. v ≡ 0) → Closes t names res old new status → IsRunStatus status
-closed_status t names old new status (Ok v) zero (inl h) = inl (h.0 ∙ zero)
-closed_status t names old new status (Ok v) zero (inr h) = short_status t old new status h
-closed_status t names old new status (Err (stop.Fault f)) zero (inl h) = inr (inl h.0)
-closed_status t names old new status (Err (stop.Fault f)) zero (inr h) = short_status t old new status h
-closed_status t names old new status (Err stop.Writer) zero h = inr (inl h.0)
-closed_status t names old new status (Err stop.Memory) zero h = short_status t old new status h
-
--- ---- words that were refused
-
-module _ (t u : Bool) (old new : Seen) (status : ℕ) (e : Error) (words : List Text) (kinds : HasKind (fault_of explain_line words) e)
-    (memory : kind_of e ≡ OutOfMemory → (status ≡ 5) × Keeps old.out new.out × MayTell old.err new.err × (new.refused ≡ old.refused)) where
-  short : kind_of e ≡ OutOfMemory → FallsShort (t && u) old.err new.err status
-  short out = let m = memory out in inl (m.0, m.2)
-
-  refused_request : (h : (kind_of e ≡ OutOfMemory) ⊎ (IsSome (request_asked words) → ⊥)) (told : Text → Option Telling) (w : Option Request) → w ≡ request_asked words
-      → IfSome w (λ request. Explains (t && u) told request old.err new.err status)
-  refused_request h told None is = tt
-  refused_request (inl out) told (Some request) is = some_early (job_of told request) (FallsShort (t && u) old.err new.err status)
-      (λ r. FallsShort (t && u) old.err new.err status ⊎ EndsAs (names_in request) r old.err new.err status) (short out)
-  refused_request (inr none) told (Some request) is = absurd (none (subst IsSome is refl))
-
-  asks_nothing : (kind_of e ≡ OutOfMemory) ⊎ (IsSome (request_asked words) → ⊥)
-  asks_nothing = elim kinds [ inl out ↦ inl out | inr among ↦ inr (no_request_among words (kind_of e) among) ]
-
-  pub request_refused : (told : Text → Option Telling) → IfSome (request_asked words) (λ request. Explains (t && u) told request old.err new.err status)
-  request_refused told = refused_request asks_nothing told (request_asked words) refl
-
-  pub status_refused : IsSome (request_asked words) → IsRunStatus status
-  status_refused asks = elim asks_nothing [ inl out ↦ inr (inr (memory out).0) | inr none ↦ absurd (none asks) ]
+-- where memory ran out, an explanation may have ended so
+pub short_explains : (takes : Bool) (told : Text → Option Telling) (request : Request) (old new : Held) (status : ℕ) → (status ≡ 5) × MayTell old new
+    → Explains takes told request old new status
+short_explains takes told request old new status m = some_early (job_of told request) (FallsShort takes old new status)
+    (λ r. FallsShort takes old new status ⊎ EndsAs (names_in request) r old new status) (inl m)
 
 -- ---- an explanation that is not printed
 

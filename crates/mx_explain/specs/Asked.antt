@@ -23,7 +23,9 @@ request_on plan (Some events) = replay (plan, events)
 
 -- what was given for the arguments
 abbrev pub explain_in : List Row → Option Request
-explain_in rows = option_map (λ plan. request_on plan (first_of (codes "EVENTS") rows)) (first_of (codes "PLAN") rows)
+explain_in rows =
+    option_map (λ plan. request_on plan (first_of (codes "EVENTS") rows))
+    (first_of (codes "PLAN") rows)
 
 abbrev pub request_in : Option (Text × List Row) → Option Request
 request_in None = None

@@ -19,8 +19,10 @@ pub record EndsAs (names : Text × Text) (r : Report) (old new : Held) (status :
 
 -- an explanation of this task, over what a source tells: it ends as the task's report, or falls short
 abbrev pub Explains : Bool → (Text → Option Telling) → Request → Held → Held → ℕ → Type 0
-Explains takes_all told request old new status = IfSome (job_of told request) (λ job. FallsShort takes_all old new status
-    ⊎ HoldsOfReport job (λ r. FallsShort takes_all old new status ⊎ EndsAs (names_in request) r old new status))
+Explains takes_all told request old new status =
+    IfSome (job_of told request) (λ job. FallsShort takes_all old new status
+    ⊎ HoldsOfReport job
+    (λ r. FallsShort takes_all old new status ⊎ EndsAs (names_in request) r old new status))
 
 -- why an explanation is not printed: memory ran out, or the output refused, which one that takes all bytes never does
 abbrev pub FailsToPrint : Bool → Stop → Type 0

@@ -7,7 +7,7 @@ ghost use Rattle.mx_explain.specs.Asked.{events_rule, explain_app, explain_in, e
 
 use crate::help;
 use clap::{Arg, ArgMatches, Command, Error};
-use mx_cli::{Names, Request, bare_command, line_of, matches_in, plan_arg, text_at};
+use mx_cli::{ABOUT_EXPLAIN, Names, Request, bare_command, line_of, matches_in, plan_arg, text_at};
 use std::alloc::{AllocError, Global};
 
 fn events_arg<'a>(alloc: Global) -> Arg<'a>
@@ -19,7 +19,7 @@ fn events_arg<'a>(alloc: Global) -> Arg<'a>
 fn explain_command<'a>(alloc: Global) -> Result<Command<'a>, AllocError>
     ensures { IfOk result (IsCommand explain_app) }
 {
-    let begun = bare_command(alloc, "explain", help::ABOUT, help::EXAMPLE);
+    let begun = bare_command(alloc, "explain", ABOUT_EXPLAIN, help::EXAMPLE);
     let with_plan = begun.arg(plan_arg(alloc))?;
     with_plan.arg(events_arg(alloc))
 }

@@ -3,7 +3,8 @@
 ghost use Rattle.std.specs.Prelude.{◌≡◌, ◌&&◌, IsSome, IfSome, IfOk, IfErr, None, true, false};
 ghost use Rattle.mx_cli.specs.Words.{AreWrong, AskHelp, request_of, texts_of};
 ghost use Rattle.mx_cli.specs.Told.{Helps, Scolds, seen};
-ghost use Rattle.mx_commands.specs.Ran.{IsRunStatus, RanOf};
+ghost use Rattle.mx_cli.specs.Closed.{IsRunStatus};
+ghost use Rattle.mx_commands.specs.Ran.{RanOf};
 ghost use Rattle.mx_explain.specs.Asked.{explain_line, request_asked};
 ghost use Rattle.mx_explain.specs.Explained.{Explains, FailsToPrint};
 
@@ -35,7 +36,7 @@ impl Output for Nowhere {
 }
 
 /// Runs the words of a command line of which `explain` is the first, without the program's name, and
-/// answers the status: that of the check or of the replay that is explained, 0, 1 or 5; 0 where help
+/// returns the status: that of the check or of the replay that is explained, 0, 1 or 5; 0 where help
 /// was asked for, 1 where an output refused, 2 where the words are not those of `explain`.
 pub fn explain<S: Source + Reasons, O: Output, E: Output>(
     alloc: Global,
@@ -84,7 +85,7 @@ fn explain_request<S: Source + Reasons, O: Output, E: Output>(
 }
 
 /// Carries out what is to be explained, while nobody reads what it prints, and prints what is wrong.
-/// Answers how it ended.
+/// Returns how it ended.
 fn carry_out_and_explain<S: Source + Reasons, O: Output>(
     alloc: Global,
     request: &Request<'_>,

@@ -2,7 +2,7 @@
 
 use crate::parcels::explain_parcel;
 use crate::reasons::Reasons;
-use mx_cli::{Fault, Names, Request, split_line};
+use mx_cli::{Fault, Names, Request, are_dashes, split_line};
 use mx_diagnosis::{Page, Unreadable, explain_event_text, explain_plan_text};
 use mx_io::{Source, SourceFault};
 use mx_plan::{PlanFault, ShapeFault};
@@ -16,9 +16,7 @@ pub(crate) fn explain_files<'a, S: Source + Reasons>(
     source: &mut S,
 ) -> Result<(), AllocError> {
     match request {
-        Request::Replay(names) if names.plan == "-" && names.events == "-" => {
-            explain_one(page, names, fault, source)
-        }
+        Request::Replay(names) if are_dashes(names) => { explain_one(page, names, fault, source) }
         Request::Replay(names) => explain_two(page, names, fault, source),
         Request::Check(plan) => explain_alone(page, plan, fault, source),
         Request::Explore(_) => Ok(()),

@@ -1,8 +1,5 @@
 //! The texts of help.
 
-pub(crate) const ABOUT: &str =
-    "Tells what is wrong in a plan and its events, where it stands, and what was expected";
-
 pub(crate) const EXAMPLE: &str =
     "Example: a plan with a letter too few, and an event of a node that isn't there.
 

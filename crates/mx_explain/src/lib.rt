@@ -1,4 +1,4 @@
-//! `mx explain`: what is wrong in a plan and its events, where it stands, and what was expected there.
+//! `mx explain`: what is wrong in a plan and its events, where it is, and what was expected there.
 #![tactic(auto)]
 
 mod asking;

@@ -3,7 +3,7 @@
 use std::io;
 use std::io::{ErrorKind, Read};
 
-/// A reader of which so many reads are made at the most. Those that a signal interrupts count too,
+/// A reader of which a given number of reads are made at most. Those that a signal interrupts count too,
 /// so that whatever comes from outside, reading ends.
 #[derive(Drop)]
 pub(crate) struct Counted<R: Read + Drop> {

@@ -14,7 +14,7 @@ pub fn given_words<R: Env + AllocGlobal>(rt: &R) -> io::Result<Vec<String>> {
     Ok(words)
 }
 
-/// The same words, borrowed.
+/// The words, borrowed.
 pub fn as_slices<'a>(alloc: Global, given: &'a [String]) -> Result<Vec<&'a str>, AllocError> {
     let mut words = Vec::new(alloc);
     for word in given {

@@ -8,7 +8,7 @@ use Rattle.mx_plan.specs.Fields.{Fields}
 use Rattle.mx_cli.specs.LiveWords.{LiveRequest}
 use Rattle.mx_cli.specs.declared.faults.Stop.{Stop}
 use Rattle.mx_cli.specs.declared.faults.Stop.TheVariants as stop
-use Rattle.mx_cli.specs.Reading.{Reads}
+use Rattle.mx_cli.specs.Reading.{IsPlanOf, Reads}
 use Rattle.mx_io.specs.Outputs.{Held}
 use Rattle.mx_cli.specs.Outputs.{refused_after}
 use Rattle.mx_io.specs.Told.{Telling}
@@ -17,7 +17,7 @@ use Rattle.mx_live.specs.Halts.{Fails, RanInVain, halt_of_stop}
 use Rattle.mx_live.specs.Workers.{orders_in}
 use Rattle.mx_live.specs.Shown.{live_text}
 use Rattle.mx_live.specs.Together.{AreSerial, ComeOf, HaveSections}
-use Rattle.mx_live.specs.Lives.{Ends, Fits, Halts, IsPlanOf, IsSilent}
+use Rattle.mx_live.specs.Lives.{Ends, Fits, Halts, IsSilent}
 
 same_held : (held : Held) → Keeps held held
 same_held None = tt

@@ -3,5 +3,4 @@ pub mod StationLemmas
 pub mod WorkerLemmas
 pub mod SectionLemmas
 pub mod AlgorithmLemmas
-pub mod RefusedLemmas
 pub mod HaltLemmas

@@ -37,7 +37,8 @@ HaltsIn ended halt = ((halt ≡ TurnsSpent) × IsNotYet ended) ⊎ (halt ≡ Gat
 
 -- threads ran and were not all done: one made all its turns, or the gate was shut; or memory ran out
 abbrev pub RanInVain : Fields → Orders → Halt → Type 0
-RanInVain p orders halt = ((halt ≡ TurnsSpent) × SpendsTurns p orders) ⊎ (halt ≡ GateShut) ⊎ (halt ≡ Memory)
+RanInVain p orders halt =
+    ((halt ≡ TurnsSpent) × SpendsTurns p orders) ⊎ (halt ≡ GateShut) ⊎ (halt ≡ Memory)
 
 -- an output failed to take what was printed, which one that takes all does only for want of memory
 abbrev pub Fails : Bool → Halt → Type 0

@@ -15,9 +15,12 @@ value_line name value = name ++ codes "=" ++ decimal value ++ line_feed
 
 -- a line for each register, with its value in the journal
 abbrev pub value_lines : Fields → JournalState → Text
-value_lines p journal = texts_from (λ register name. value_line name (register_in register journal).value) 0 p.registers
+value_lines p journal =
+    texts_from (λ register name. value_line name (register_in register journal).value) 0 p.registers
 
 -- how many receipts there are, up to which number the journal has no gap, and what it shows
 abbrev pub live_text : Fields → ℕ → JournalState → Text
 live_text p receipts journal =
-    count_line (codes "receipts") receipts ++ count_line (codes "gapless") (first_missing (suc journal.base.upto) journal.records - 1) ++ value_lines p journal
+    count_line (codes "receipts") receipts
+    ++ count_line (codes "gapless") (first_missing (suc journal.base.upto) journal.records - 1)
+    ++ value_lines p journal

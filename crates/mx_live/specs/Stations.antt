@@ -43,11 +43,13 @@ module _ {H S M : Type 0} (core : Core H S M) (shape : H) (p : Fields) (table : 
   pub record IsAtRest (s : Station core) : Type 0 where
     pub here : s.table ≡ table
     pub nodes : s.nodes ≡ length p.nodes
-    pub me : s.me ≡ fresh s.me.node (start_of core shape s.me.node p.origin p.sections (length p.registers))
+    pub me : s.me
+        ≡ fresh s.me.node (start_of core shape s.me.node p.origin p.sections (length p.registers))
     pub empty : s.waiting ≡ []
 
 -- the stations of a new table
-abbrev pub AreAtRest : {H S M : Type 0} (core : Core H S M) → H → Fields → List (Station core) → Type 0
+abbrev pub AreAtRest : {H S M : Type 0} (core : Core H S M) → H → Fields → List (Station core)
+    → Type 0
 AreAtRest core shape p stations = (table : TableId) × AreAll (IsAtRest core shape p table) stations
 
 -- a station at rest, by the algorithm of this shape

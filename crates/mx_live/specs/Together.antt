@@ -33,17 +33,21 @@ pub record AreSerial (receipts : List Receipt) (journal : JournalState) : Type 0
   -- so it covers the numbers up to how many there are, and no others
   pub covers : (n : ℕ) → Covers n journal ↔ ((1 ≤ n) × (n ≤ length receipts))
   -- each value read is what the writes of the receipts before, in order, and the receipt's own first writes leave
-  pub reads : (k : ℕ) (r : Receipt) (x : Read) → slice_get receipts k ≡ Some r → IsIn x r.reads.items → IsSerialRead (writes_to k (map record_of receipts)) r.writes.items x
+  pub reads : (k : ℕ) (r : Receipt) (x : Read) → slice_get receipts k ≡ Some r
+      → IsIn x r.reads.items → IsSerialRead (writes_to k (map record_of receipts)) r.writes.items x
   -- and each register of the journal has what the writes of all receipts, in order, leave
-  pub shows : (count : ℕ) → count ≤ 32 → AreApplied (writes_to (length receipts) (map record_of receipts)) (registers_in count journal)
+  pub shows : (count : ℕ) → count ≤ 32
+      → AreApplied (writes_to (length receipts) (map record_of receipts))
+      (registers_in count journal)
 
--- each of so many nodes has so many sections among the receipts
+-- each of these nodes has this many sections among the receipts
 abbrev pub HaveSections : ℕ → ℕ → List Receipt → Type 0
-HaveSections nodes sections receipts = (i : ℕ) → i < nodes → sections ≤ count_by (λ (r : Receipt). r.node == i) receipts
+HaveSections nodes sections receipts =
+    (i : ℕ) → i < nodes → sections ≤ count_by (λ (r : Receipt). r.node == i) receipts
 
 module _ {H S M : Type 0} (core : Core H S M) (shape : H) (p : Fields) (orders : Orders) where
-  -- From a station of the plan at rest, a worker has led to this one: in at most so many turns, with so many sections, and it
-  -- settled after each so many of them.
+  -- From a station of the plan at rest, a worker has led to this one: in at most the turns ordered, with the sections
+  -- ordered, and it settled each time as many more of them were there as `settle` says.
   pub record HasWorked (table : TableId) (t : Station core) : Type 0 where
     pub from : Station core
     pub rest : IsAtRest core shape p table from
@@ -60,9 +64,12 @@ module _ {H S M : Type 0} (core : Core H S M) (shape : H) (p : Fields) (orders :
 
 -- the same, by the algorithm of this shape
 abbrev pub GatheredBy : Shape → Fields → Orders → List Receipt → JournalState → Type 0
-GatheredBy (planned.Ricart count) p orders receipts journal = AreGathered ricart_core count p orders receipts journal
-GatheredBy (planned.Maekawa family) p orders receipts journal = AreGathered maekawa_core family p orders receipts journal
-GatheredBy (planned.Raymond tree) p orders receipts journal = AreGathered raymond_core tree p orders receipts journal
+GatheredBy (planned.Ricart count) p orders receipts journal =
+    AreGathered ricart_core count p orders receipts journal
+GatheredBy (planned.Maekawa family) p orders receipts journal =
+    AreGathered maekawa_core family p orders receipts journal
+GatheredBy (planned.Raymond tree) p orders receipts journal =
+    AreGathered raymond_core tree p orders receipts journal
 
 -- by the plan's own
 abbrev pub ComeOf : Fields → Orders → List Receipt → JournalState → Type 0

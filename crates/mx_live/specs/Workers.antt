@@ -17,24 +17,35 @@ use Rattle.mx_live.specs.Stations.{AreAll, Rests, receipts_in}
 
 -- what the words order of each worker
 abbrev pub orders_in : LiveRequest → Orders
-orders_in request = record { sections = request.sections; seed = request.seed; turns = request.turns; settle = request.settle }
+orders_in request =
+    record {
+      sections = request.sections;
+      seed = request.seed;
+      turns = request.turns;
+      settle = request.settle;
+    }
 
 -- the weather of the links to node i, by the seed plus i, wrapping: of 256 parcels they lose 16 and repeat 16
 abbrev pub weather_of : ℕ → ℕ → Climate
 weather_of seed i = record { words = generator_of ((seed + i) % 2 ^ 64); lost = 16; doubled = 16 }
 
--- a worker of the first register, which settles as ordered, leads from one station to the other in at most so many turns
+-- a worker of the first register, which settles as ordered, leads from one station to the other in at most the turns ordered
 abbrev pub Leads : Orders → AnyStation → AnyStation → Type 0
-Leads orders (any.Ricart s) (any.Ricart t) = WorksAtMost ricart_core 0 orders.settle orders.turns s t
-Leads orders (any.Maekawa s) (any.Maekawa t) = WorksAtMost maekawa_core 0 orders.settle orders.turns s t
-Leads orders (any.Raymond s) (any.Raymond t) = WorksAtMost raymond_core 0 orders.settle orders.turns s t
+Leads orders (any.Ricart s) (any.Ricart t) =
+    WorksAtMost ricart_core 0 orders.settle orders.turns s t
+Leads orders (any.Maekawa s) (any.Maekawa t) =
+    WorksAtMost maekawa_core 0 orders.settle orders.turns s t
+Leads orders (any.Raymond s) (any.Raymond t) =
+    WorksAtMost raymond_core 0 orders.settle orders.turns s t
 Leads orders _ _ = ⊥
 
--- the same, in exactly so many turns
+-- it does so in exactly the turns ordered
 abbrev pub Spends : Orders → AnyStation → AnyStation → Type 0
 Spends orders (any.Ricart s) (any.Ricart t) = WorksFor ricart_core 0 orders.settle orders.turns s t
-Spends orders (any.Maekawa s) (any.Maekawa t) = WorksFor maekawa_core 0 orders.settle orders.turns s t
-Spends orders (any.Raymond s) (any.Raymond t) = WorksFor raymond_core 0 orders.settle orders.turns s t
+Spends orders (any.Maekawa s) (any.Maekawa t) =
+    WorksFor maekawa_core 0 orders.settle orders.turns s t
+Spends orders (any.Raymond s) (any.Raymond t) =
+    WorksFor raymond_core 0 orders.settle orders.turns s t
 Spends orders _ _ = ⊥
 
 -- what a worker left of a station: it worked as ordered, has its sections where it is done, and has made all its turns where it is not
@@ -44,12 +55,14 @@ pub record IsLeft (orders : Orders) (from : AnyStation) (ended : AnyStation × W
   pub spent : (n : ℕ) → ended.1 ≡ NotYet n → Spends orders from ended.0
 
 -- a worker at this station, with these orders, is one of the plan's, with the orders that were given
-pub record Promises (p : Fields) (table : TableId) (orders : Orders) (at : AnyStation) (told : Orders) : Type 0 where
+pub record Promises (p : Fields) (table : TableId) (orders : Orders) (at : AnyStation)
+    (told : Orders) : Type 0 where
   pub rests : Rests p table at
   pub obeys : told ≡ orders
 
 -- what a worker left of a station of the plan, which was at rest before
-pub record WasLeft (p : Fields) (table : TableId) (orders : Orders) (ended : AnyStation × Worked) : Type 0 where
+pub record WasLeft (p : Fields) (table : TableId) (orders : Orders)
+    (ended : AnyStation × Worked) : Type 0 where
   pub from : AnyStation
   pub rests : Rests p table from
   pub left : IsLeft orders from ended
@@ -67,7 +80,9 @@ AreDone p orders ended = (table : TableId) × AreAll (λ one. IsDone p table ord
 
 -- some worker says that it is not done
 abbrev pub IsNotYet : List (AnyStation × Worked) → Type 0
-IsNotYet ended = (k : ℕ) × (n : ℕ) × (one : AnyStation × Worked) × (slice_get ended k ≡ Some one) × (one.1 ≡ NotYet n)
+IsNotYet ended =
+    (k : ℕ) × (n : ℕ) × (one : AnyStation × Worked) × (slice_get ended k ≡ Some one)
+    × (one.1 ≡ NotYet n)
 
 -- a worker made all its turns, from a station at rest
 pub record SpendsTurns (p : Fields) (orders : Orders) : Type 0 where

@@ -1,4 +1,4 @@
-//! Stations of any algorithm, in one type, so that all that is about threads stands once.
+//! Stations of any algorithm, in one type, so that all that is about threads is written once.
 
 use mx_maekawa::Maekawa;
 use mx_raymond::Raymond;

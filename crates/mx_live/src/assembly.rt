@@ -33,7 +33,7 @@ fn bit_of(node: NodeId) -> u64 {
 }
 
 impl Assembly {
-    /// The gate of so many nodes, at which each may look so often whether all have arrived.
+    /// The gate of this many nodes, at which each may look this often whether all have arrived.
     pub fn new(nodes: u8, looks: u64) -> Assembly
         requires { nodes < 22 }
     {

@@ -97,7 +97,8 @@ pub(crate) fn all_maekawa(
     requires { AreAll (λ one. algorithm_of one.0 ≡ maekawa) left.items }
     ensures { (p : Fields) (table : TableId) (orders : TheOrders)
         → AreAll (λ one. IsDone p table orders one.0) left.items
-        → IfOk result (λ all. AreAll (λ s. IsDone p table orders (AnyStation.Maekawa s)) all.items) }
+        → IfOk result
+        (λ all. AreAll (λ s. IsDone p table orders (AnyStation.Maekawa s)) all.items) }
 {
     let mut stations = Vec::new(alloc);
     for one in left {
@@ -144,7 +145,8 @@ pub(crate) fn all_raymond(
     requires { AreAll (λ one. algorithm_of one.0 ≡ raymond) left.items }
     ensures { (p : Fields) (table : TableId) (orders : TheOrders)
         → AreAll (λ one. IsDone p table orders one.0) left.items
-        → IfOk result (λ all. AreAll (λ s. IsDone p table orders (AnyStation.Raymond s)) all.items) }
+        → IfOk result
+        (λ all. AreAll (λ s. IsDone p table orders (AnyStation.Raymond s)) all.items) }
 {
     let mut stations = Vec::new(alloc);
     for one in left {

@@ -109,7 +109,7 @@ fn fault_line<'a>(fault: Fault, plan: &'a str) -> FaultLine<'a>
     FaultLine { fault, names }
 }
 
-/// Tells why a run has no journal, and answers the status. A writer that refuses is told nothing.
+/// Tells why a run has no journal, and returns the status. A writer that refuses is told nothing.
 pub fn tell<E: Output>(alloc: Global, halt: Halt, plan: &str, err: &mut E) -> u8
     ensures { (result ≡ halt_status halt) ⊎ (result ≡ 5) }
 {

@@ -4,11 +4,12 @@ ghost use Rattle.std.specs.Prelude.{◌≡◌, Option, false, length, IfErr, IfS
 ghost use Rattle.std.specs.Io.KnownBytes.{Appends};
 ghost use Rattle.mx_cli.specs.Words.{texts_of, AreWrong, AskHelp};
 ghost use Rattle.mx_cli.specs.LiveWords.{request_asked, request_of, live_line};
-ghost use Rattle.mx_cli.specs.Told.{Helps, Scolds, seen};
+ghost use Rattle.mx_cli.specs.Told.{Declines, Helps, Scolds, seen};
 ghost use Rattle.mx_io.specs.Told.{Telling};
 ghost use Rattle.mx_live.specs.Halts.{Fails};
 ghost use Rattle.mx_live.specs.Shown.{live_text};
-ghost use Rattle.mx_live.specs.Lives.{AskNothing, Declines, Ends, IsPlanOf, Lives};
+ghost use Rattle.mx_cli.specs.Reading.{IsPlanOf};
+ghost use Rattle.mx_live.specs.Lives.{AskNothing, Ends, Lives};
 
 use crate::halts::{Halt, tell};
 use crate::running::live_by_shape;
@@ -22,7 +23,7 @@ use std::rt::Clock;
 use std::thread::Threads;
 
 /// Runs the words of a command line of which `live` is the first, without the program's name, and
-/// answers the status: 0 where all went well, or help was asked for, 1 where the plan, its file or
+/// returns the status: 0 where all went well, or help was asked for, 1 where the plan, its file or
 /// an output is at fault or the plan allows too few sections, 2 where the words are not those of
 /// `live`, 3 where turns were spent or the gate was shut, 5 where memory ran out or a thread could
 /// not be started.
@@ -63,7 +64,7 @@ pub fn live<R: Threads + Clock, S: Source, O: Output, E: Output>(
     }
 }
 
-/// Runs what is asked for, and tells why there is no journal where there is none. Answers the
+/// Runs what is asked for, and tells why there is no journal where there is none. Returns the
 /// status.
 fn run_live<R: Threads + Clock, S: Source, O: Output, E: Output>(
     rt: &R,
@@ -73,7 +74,8 @@ fn run_live<R: Threads + Clock, S: Source, O: Output, E: Output>(
     out: &mut O,
     err: &mut E,
 ) -> u8
-    ensures { Lives (O.takes_all out.old) (S.told source.old request.now.plan.now) (request_of request.now)
+    ensures { Lives (O.takes_all out.old) (S.told source.old request.now.plan.now)
+        (request_of request.now)
         (O.written out.old) (O.written out.new) (O.keeps_back out.new) result }
 {
     match live_and_show(rt, alloc, request, source, out, err) {
@@ -91,7 +93,8 @@ fn live_and_show<R: Threads + Clock, S: Source, O: Output, E: Output>(
     out: &mut O,
     err: &mut E,
 ) -> Result<(), Halt>
-    ensures { Ends (O.takes_all out.old) (S.told source.old request.now.plan.now) (request_of request.now)
+    ensures { Ends (O.takes_all out.old) (S.told source.old request.now.plan.now)
+        (request_of request.now)
         (O.written out.old) (O.written out.new) (O.keeps_back out.new) result }
 {
     let plan = fetch_plan(alloc, source, request.plan)?;

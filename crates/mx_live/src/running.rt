@@ -211,7 +211,7 @@ fn watch_over<C: Exclusion>(stations: &[Station<C>]) -> Result<Option<Watch<C>>,
     }
 }
 
-/// The gate of so many nodes.
+/// The gate of this many nodes.
 fn shared_gate(alloc: Global, nodes: u8) -> Result<Arc<Assembly, Global>, AllocError>
     requires { nodes ≤ 21 }
 {

@@ -85,7 +85,7 @@ fn work_any(station: AnyStation, gate: &Assembly, orders: Orders) -> Ended
     }
 }
 
-/// Does the work at a station, under links of its own seed. It settles after each so many sections
+/// Does the work at a station, under links of its own seed. It settles after as many sections
 /// of its own as the orders say, with 0 never.
 fn work_at<C: Exclusion>(
     station: Station<C>,

@@ -1,16 +1,10 @@
 -- What was drawn and is not added to.
-use Rattle.std.proofs.Common.{◌∙◌, ℕ, Some, None, Result, Ok, Err}
+use Rattle.std.proofs.Common.{ℕ, Result, Ok, Err}
 use Rattle.std.specs.Io.KnownBytes.{Keeps}
 use Rattle.mx_cli.specs.declared.faults.Stop.{Stop}
 use Rattle.mx_io.specs.Outputs.{Held}
-use Rattle.mx_cli.proofs.OutputLemmas.{Appends-keeps}
+use Rattle.mx_cli.proofs.OutputLemmas.{Appends-keeps, keeps_on}
 use Rattle.mx_picture.specs.Drawn.{Draws}
-
-keeps_on : (a b d : Held) → Keeps a b → Keeps b d → Keeps a d
-keeps_on None b d p q = tt
-keeps_on (Some x) None d p q = absurd p
-keeps_on (Some x) (Some y) None p q = absurd q
-keeps_on (Some x) (Some y) (Some z) p q = q ∙ p
 
 -- what was drawn stays where nothing is added
 pub drawn_kept : (a b d : Held) (r : Result ℕ Stop) → Draws a b r → Keeps b d → Draws a d r

@@ -19,5 +19,6 @@ IsWhole picture = (inner : Text) × (picture ≡ inner ++ (codes "</svg>" ++ lin
 
 -- a whole picture was added to what was printed, or nothing was
 abbrev pub Draws : Held → Held → Result ℕ Stop → Type 0
-Draws old new (Ok status) = (status ≡ 0) × ((picture : Text) × IsWhole picture × Appends old new picture)
+Draws old new (Ok status) =
+    (status ≡ 0) × ((picture : Text) × IsWhole picture × Appends old new picture)
 Draws old new (Err end) = Keeps old new

@@ -18,4 +18,5 @@ EndsAsReplay takes_all told names ended = RanOf takes_all None None told (wants.
 abbrev pub Pictures : Bool → Bool → (Text → Option Telling) → Text × Text → Seen → Seen → ℕ → Type 0
 Pictures takes_out takes_err told names old new status =
     (ended : Result ℕ Stop) × EndsAsReplay takes_out told names ended × Draws old.out new.out ended
-    × Closes (takes_out && takes_err) names ended old.err new.err status × (status ≡ 0 → new.kept_back ≡ false)
+    × Closes (takes_out && takes_err) names ended old.err new.err status
+    × (status ≡ 0 → new.kept_back ≡ false)

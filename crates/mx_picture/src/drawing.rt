@@ -67,8 +67,10 @@ where
     C::Msg: Letter + Inked,
     requires members { length cluster.members ≡ length plan.now.nodes }
     requires named { AllNameNodes (length plan.now.nodes) events.now }
-    ensures ok { OnOk result ((run_from C.core C.Msg.letter_text plan.now 0 cluster events.now).end ≡ None) }
-    ensures err { IfErr result (StopsAs (run_from C.core C.Msg.letter_text plan.now 0 cluster events.now)) }
+    ensures ok { OnOk result
+        ((run_from C.core C.Msg.letter_text plan.now 0 cluster events.now).end ≡ None) }
+    ensures err { IfErr result
+        (StopsAs (run_from C.core C.Msg.letter_text plan.now 0 cluster events.now)) }
 {
     draw_events(plan, &mut cluster, events, drawing)
 }
@@ -84,8 +86,10 @@ where
     C::Msg: Letter + Inked,
     requires members { length cluster.old.members ≡ length plan.now.nodes }
     requires named { AllNameNodes (length plan.now.nodes) events.now }
-    ensures ok { OnOk result ((run_from C.core C.Msg.letter_text plan.now 0 cluster.old events.now).end ≡ None) }
-    ensures err { IfErr result (StopsAs (run_from C.core C.Msg.letter_text plan.now 0 cluster.old events.now)) }
+    ensures ok { OnOk result
+        ((run_from C.core C.Msg.letter_text plan.now 0 cluster.old events.now).end ≡ None) }
+    ensures err { IfErr result
+        (StopsAs (run_from C.core C.Msg.letter_text plan.now 0 cluster.old events.now)) }
 {
     for (index, event) in events.iter().enumerate() {
         draw_event(plan, index as u64, event, cluster, drawing)?;
@@ -255,7 +259,8 @@ fn step<C: Exclusion>(event: &Event, cluster: &mut Cluster<C>) -> Result<(), Ste
     requires named { NamesNodes (length cluster.old.members) event.now }
     ensures ok { OnOk result (step_of C.core cluster.old event.now ≡ Ok cluster.new) }
     ensures no_node { (result ≡ Err StepFault.NoNode) → ⊥ }
-    ensures no_parcel { (result ≡ Err StepFault.NoParcel) → step_of C.core cluster.old event.now ≡ Err StepFault.NoParcel }
+    ensures no_parcel { (result ≡ Err StepFault.NoParcel)
+        → step_of C.core cluster.old event.now ≡ Err StepFault.NoParcel }
 {
     cluster.advance(*event)
 }

@@ -1,8 +1,5 @@
 //! The texts of help.
 
-pub(crate) const PICTURE: &str =
-    "Prints a picture of what comes of events: an SVG in which time goes down";
-
 pub(crate) const PICTURE_EXAMPLE: &str =
     "Example: the events of one section, in a cluster of three nodes.
 

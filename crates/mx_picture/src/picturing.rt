@@ -13,7 +13,7 @@ use mx_io::{Output, Source};
 use std::alloc::Global;
 
 /// Runs the words of a command line of which `picture` is the first, without the program's name: reads a
-/// plan and its events, and prints a picture of what comes of them. Answers the status: 0 where all went
+/// plan and its events, and prints a picture of what comes of them. Returns the status: 0 where all went
 /// well, or help was asked for, 1 where the plan, its events, a file or an output is at fault, 2 where the
 /// words are not those of `picture`, 5 where memory ran out.
 pub fn picture<S: Source, O: Output, E: Output>(
@@ -25,16 +25,22 @@ pub fn picture<S: Source, O: Output, E: Output>(
 ) -> u8
     ensures pictures { IfSome (request_asked (texts_of words.entry.now)) (λ names.
         Pictures (O.takes_all out.old) (E.takes_all err.old) (S.told source.old) names
-        (seen (O.written out.old) (E.written err.old) (O.has_refused out.old) (O.keeps_back out.old))
-        (seen (O.written out.new) (E.written err.new) (O.has_refused out.new) (O.keeps_back out.new))
+        (seen (O.written out.old) (E.written err.old) (O.has_refused out.old)
+        (O.keeps_back out.old))
+        (seen (O.written out.new) (E.written err.new) (O.has_refused out.new)
+        (O.keeps_back out.new))
         result) }
     ensures help { AskHelp picture_line (texts_of words.entry.now) → Helps (O.takes_all out.old)
-        (seen (O.written out.old) (E.written err.old) (O.has_refused out.old) (O.keeps_back out.old))
-        (seen (O.written out.new) (E.written err.new) (O.has_refused out.new) (O.keeps_back out.new))
+        (seen (O.written out.old) (E.written err.old) (O.has_refused out.old)
+        (O.keeps_back out.old))
+        (seen (O.written out.new) (E.written err.new) (O.has_refused out.new)
+        (O.keeps_back out.new))
         result }
     ensures wrong { AreWrong picture_line (texts_of words.entry.now) → Scolds
-        (seen (O.written out.old) (E.written err.old) (O.has_refused out.old) (O.keeps_back out.old))
-        (seen (O.written out.new) (E.written err.new) (O.has_refused out.new) (O.keeps_back out.new))
+        (seen (O.written out.old) (E.written err.old) (O.has_refused out.old)
+        (O.keeps_back out.old))
+        (seen (O.written out.new) (E.written err.new) (O.has_refused out.new)
+        (O.keeps_back out.new))
         result }
 {
     match asked(alloc, words) {
@@ -51,9 +57,12 @@ fn run_picture<S: Source, O: Output, E: Output>(
     out: &mut O,
     err: &mut E,
 ) -> u8
-    ensures { Pictures (O.takes_all out.old) (E.takes_all err.old) (S.told source.old) (names_of names.now)
-        (seen (O.written out.old) (E.written err.old) (O.has_refused out.old) (O.keeps_back out.old))
-        (seen (O.written out.new) (E.written err.new) (O.has_refused out.new) (O.keeps_back out.new))
+    ensures { Pictures (O.takes_all out.old) (E.takes_all err.old) (S.told source.old)
+        (names_of names.now)
+        (seen (O.written out.old) (E.written err.old) (O.has_refused out.old)
+        (O.keeps_back out.old))
+        (seen (O.written out.new) (E.written err.new) (O.has_refused out.new)
+        (O.keeps_back out.new))
         result }
 {
     let ended = draw(alloc, names, source, out);

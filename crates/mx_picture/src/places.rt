@@ -13,14 +13,14 @@ const ROW: u64 = 13;
 /// How many rows a picture may have.
 pub(crate) const MOST_ROWS: u64 = 1_000_000_000_000;
 
-/// Where the line of a node stands.
+/// Where the line of a node is.
 pub(crate) fn x_of(node: NodeId) -> u64
     ensures { result ≡ 180 * node }
 {
     LANE * u64::from(node.get())
 }
 
-/// How far so many rows reach down.
+/// How far a number of rows reach down.
 pub(crate) fn y_of(rows: u64) -> u64
     requires { rows ≤ 1000000000000 }
     ensures { result ≡ 13 * rows }

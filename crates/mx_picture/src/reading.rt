@@ -1,17 +1,17 @@
 //! The plan is read, then the events, as `replay` does it; then they are drawn.
 
-ghost use Rattle.std.specs.Prelude.{◌≡◌, Some, None, length, string_bytes, IfErr, IfOk, IfSome, OnOk};
+ghost use Rattle.std.specs.Prelude.{◌≡◌, None, length, string_bytes, IfErr, IfOk, OnOk};
 ghost use Rattle.mx_cli.specs.Words.{names_of};
 ghost use Rattle.mx_cli.specs.Words as wants;
-ghost use Rattle.mx_commands.specs.Jobs.{on_events, replay_one, report_of_events, run_by};
+ghost use Rattle.mx_commands.specs.Jobs.{report_of_events, run_by};
 ghost use Rattle.mx_commands.specs.Runs.{AllNameNodes};
-ghost use Rattle.mx_commands.specs.Ran.{Ran, RanOf, RanOn};
+ghost use Rattle.mx_commands.specs.Ran.{Ran, RanOf};
 ghost use Rattle.mx_picture.specs.Drawn.{Draws, IsWhole, StopsAs};
 
 use crate::drawing::{Drawing, draw_run, go_on};
 use crate::page::add_page;
 use crate::part::Part;
-use mx_cli::{Named, Names, Stop, are_dashes, fetch, fetch_plan, plan_in, split_line};
+use mx_cli::{Names, Stop, fetch_both};
 use mx_commands::start;
 use mx_io::{Output, Source};
 use mx_maekawa::Maekawa;
@@ -21,7 +21,7 @@ use mx_raymond::Raymond;
 use mx_ricart::Ricart;
 use std::alloc::{AllocError, Global};
 
-/// Reads the plan, then the events, and prints their picture. Answers the status.
+/// Reads the plan, then the events, and prints their picture. Returns the status.
 pub fn draw<S: Source, O: Output>(
     alloc: Global,
     names: &Names<'_>,
@@ -33,40 +33,8 @@ pub fn draw<S: Source, O: Output>(
     ensures drawn { Draws (O.written out.old) (O.written out.new) result }
     ensures stays { O.takes_all out.new ≡ O.takes_all out.old }
 {
-    if are_dashes(names) {
-        let one = fetch(alloc, source, names.plan, Named::Plan)?;
-        return draw_one(alloc, one.as_slice(), out);
-    }
-    let plan = fetch_plan(alloc, source, names.plan)?;
-    draw_named(alloc, &plan, source, names.events, out)
-}
-
-/// The picture of the events of a name.
-fn draw_named<S: Source, O: Output>(
-    alloc: Global,
-    plan: &Plan,
-    source: &mut S,
-    name: &str,
-    out: &mut O,
-) -> Result<u8, Stop>
-    ensures ran { IfSome (S.told source.old name.now) (λ telling.
-        Ran (O.takes_all out.old) None None (on_events plan.now telling) result) }
-    ensures drawn { Draws (O.written out.old) (O.written out.new) result }
-    ensures stays { O.takes_all out.new ≡ O.takes_all out.old }
-{
-    let events = fetch(alloc, source, name, Named::Events)?;
-    draw_text(alloc, plan, events.as_slice(), out)
-}
-
-/// The picture of one text: its first line is the plan, and what follows is the events.
-fn draw_one<O: Output>(alloc: Global, bytes: &[u8], out: &mut O) -> Result<u8, Stop>
-    ensures ran { RanOn (O.takes_all out.old) None None (replay_one (Some bytes.now)) result }
-    ensures drawn { Draws (O.written out.old) (O.written out.new) result }
-    ensures stays { O.takes_all out.new ≡ O.takes_all out.old }
-{
-    let (line, rest) = split_line(bytes);
-    let plan = plan_in(alloc, line)?;
-    draw_text(alloc, &plan, rest, out)
+    let both = fetch_both(alloc, source, names)?;
+    draw_text(alloc, &both.plan, both.text.as_slice(), out)
 }
 
 /// Reads the events and prints their picture.

@@ -280,7 +280,7 @@ impl Sheet {
         )
     }
 
-    /// Notes that a parcel is delivered, and answers what was known of it.
+    /// Notes that a parcel is delivered, and returns what was known of it.
     fn deliver(&mut self, index: usize) -> Trip
         requires { index < length self.old.trips.items }
         ensures { result.row ≤ self.new.row }

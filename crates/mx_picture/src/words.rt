@@ -7,13 +7,15 @@ ghost use Rattle.mx_picture.specs.PictureWords.{request_asked, request_in, pictu
 
 use crate::help;
 use clap::{ArgMatches, Command, Error};
-use mx_cli::{Names, bare_command, events_arg, line_of, matches_in, names_at, plan_arg};
+use mx_cli::{
+    ABOUT_PICTURE, Names, bare_command, events_arg, line_of, matches_in, names_at, plan_arg,
+};
 use std::alloc::{AllocError, Global};
 
 fn picture_command<'a>(alloc: Global) -> Result<Command<'a>, AllocError>
     ensures { IfOk result (IsCommand picture_app) }
 {
-    let begun = bare_command(alloc, "picture", help::PICTURE, help::PICTURE_EXAMPLE);
+    let begun = bare_command(alloc, "picture", ABOUT_PICTURE, help::PICTURE_EXAMPLE);
     let with_plan = begun.arg(plan_arg(alloc))?;
     with_plan.arg(events_arg(alloc))
 }

@@ -1,4 +1,4 @@
-//! `mx` with the commands `check`, `replay` and `explore` alone, which stands on fewer crates than the whole
+//! `mx` with the commands `check`, `replay` and `explore` alone, which needs fewer crates than the whole
 //! program: it hands the words, the files and the streams of the process to `command`.
 #![tactic(auto)]
 
@@ -9,7 +9,7 @@ use std::io::{BufWriter, Write};
 use std::process::ExitCode;
 use std::rt::{Env, Files};
 
-/// Runs a command line over the files of the process and two outputs. Answers the status.
+/// Runs a command line over the files of the process and two outputs. Returns the status.
 fn carry_out<R: Files + Input + AllocGlobal, O: Output, E: Output>(
     rt: &R,
     words: &[&str],

@@ -1,19 +1,9 @@
--- What the matches of the words of `draw` and `script` say.
-use Rattle.std.proofs.Common.{List, refl, IsSome}
-use Rattle.clap.specs.Words.{Text}
-use Rattle.clap.specs.Kinds.{IsAmong}
-use Rattle.clap.specs.declared.error.kind.ErrorKind.{ErrorKind}
-use Rattle.clap.specs.Faults.{fault_of}
-use Rattle.mx_cli.specs.Words.{IsReadable}
+-- The command line of `draw` and `script` can be read.
+use Rattle.std.proofs.Common.{refl}
 use Rattle.clap.proofs.OnLiterals.{clap_on_literals}
-use Rattle.mx_cli.proofs.WordLemmas.{none_asked}
-use Rattle.mx_scripts.specs.Words.{request_asked, request_in, file_line}
+use Rattle.mx_cli.specs.Words.{IsReadable}
+use Rattle.mx_scripts.specs.Words.{file_line}
 
 pub line_is_readable : IsReadable file_line
 unfolding clap_on_literals file_line
 line_is_readable = record { plain = refl; free = refl }
-
--- words that ask for a file are refused only where memory runs out
-pub no_request_among : (words : List Text) (k : ErrorKind) → IsAmong k (fault_of file_line words) → IsSome (request_asked words) → ⊥
-unfolding request_asked
-no_request_among words k among s = none_asked file_line request_in words k among s

@@ -16,9 +16,12 @@ use Rattle.mx_scripts.specs.Played.{events_of}
 
 -- what happens of a schedule in the cluster of a plan: each drawn event at its place among the parcels sent
 abbrev pub placed_in : Fields → List Event → Shape → List Event
-placed_in p es (Ricart count) = events_of (after_drawn ricart_core (at_rest ricart_core p count) es).trace
-placed_in p es (Maekawa family) = events_of (after_drawn maekawa_core (at_rest maekawa_core p family) es).trace
-placed_in p es (Raymond tree) = events_of (after_drawn raymond_core (at_rest raymond_core p tree) es).trace
+placed_in p es (Ricart count) =
+    events_of (after_drawn ricart_core (at_rest ricart_core p count) es).trace
+placed_in p es (Maekawa family) =
+    events_of (after_drawn maekawa_core (at_rest maekawa_core p family) es).trace
+placed_in p es (Raymond tree) =
+    events_of (after_drawn raymond_core (at_rest raymond_core p tree) es).trace
 
 -- the schedule of a seed, placed in the cluster of a plan
 abbrev pub placed_schedule : Fields → ℕ → ℕ → List Event
@@ -26,18 +29,24 @@ placed_schedule p seed steps = placed_in p (schedule_of p seed steps) p.shape
 
 -- how many parcels are sent in it
 abbrev pub parcels_in : Fields → List Event → Shape → ℕ
-parcels_in p es (Ricart count) = length (after_drawn ricart_core (at_rest ricart_core p count) es).sent
-parcels_in p es (Maekawa family) = length (after_drawn maekawa_core (at_rest maekawa_core p family) es).sent
-parcels_in p es (Raymond tree) = length (after_drawn raymond_core (at_rest raymond_core p tree) es).sent
+parcels_in p es (Ricart count) =
+    length (after_drawn ricart_core (at_rest ricart_core p count) es).sent
+parcels_in p es (Maekawa family) =
+    length (after_drawn maekawa_core (at_rest maekawa_core p family) es).sent
+parcels_in p es (Raymond tree) =
+    length (after_drawn raymond_core (at_rest raymond_core p tree) es).sent
 
 -- these events lead to the same cluster as the drawn ones
 abbrev pub LeadsAs : Fields → List Event → List Event → Shape → Type 0
 LeadsAs p drawn es (Ricart count) =
-    RunsTo ricart_core (at_rest ricart_core p count) es (after_drawn ricart_core (at_rest ricart_core p count) drawn)
+    RunsTo ricart_core (at_rest ricart_core p count) es
+    (after_drawn ricart_core (at_rest ricart_core p count) drawn)
 LeadsAs p drawn es (Maekawa family) =
-    RunsTo maekawa_core (at_rest maekawa_core p family) es (after_drawn maekawa_core (at_rest maekawa_core p family) drawn)
+    RunsTo maekawa_core (at_rest maekawa_core p family) es
+    (after_drawn maekawa_core (at_rest maekawa_core p family) drawn)
 LeadsAs p drawn es (Raymond tree) =
-    RunsTo raymond_core (at_rest raymond_core p tree) es (after_drawn raymond_core (at_rest raymond_core p tree) drawn)
+    RunsTo raymond_core (at_rest raymond_core p tree) es
+    (after_drawn raymond_core (at_rest raymond_core p tree) drawn)
 
 -- the file of what `explore` does from a seed
 abbrev pub drawn_file : Fields → ℕ → ℕ → Text

@@ -16,7 +16,7 @@ quoted word = codes "\"" ++ word ++ codes "\""
 abbrev pub of_node : Text → Text → Text
 of_node word name = quoted word ++ codes "," ++ quoted name
 
--- what stands between the brackets of an event
+-- what is between the brackets of an event
 abbrev pub items_text : Fields → Event → Text
 items_text p (Ask node) = of_node (word_of kind.Ask) (name_of p node)
 items_text p (Enter node) = of_node (word_of kind.Enter) (name_of p node)
@@ -39,7 +39,7 @@ items_text p (Deliver k) = quoted (word_of kind.Deliver) ++ codes "," ++ decimal
 abbrev pub item_text : Fields → Event → Text
 item_text p event = codes "[" ++ items_text p event ++ codes "]"
 
--- a further event stands on a line of its own
+-- a further event has a line of its own
 abbrev pub next_text : Fields → Event → Text
 next_text p event = codes "," ++ line_feed ++ item_text p event
 
@@ -47,4 +47,5 @@ next_text p event = codes "," ++ line_feed ++ item_text p event
 abbrev pub file_text : Fields → List Event → Text
 file_text p [] = codes "[]" ++ line_feed
 file_text p (e ∷ es) =
-    codes "[" ++ line_feed ++ item_text p e ++ each_text (next_text p) es ++ line_feed ++ codes "]" ++ line_feed
+    codes "[" ++ line_feed ++ item_text p e ++ each_text (next_text p) es ++ line_feed ++ codes "]"
+    ++ line_feed

@@ -25,18 +25,22 @@ abbrev pub AreOver : ℕ → ℕ → List Event → Type 0
 AreOver nodes registers es = (e : Event) → IsIn e es → IsDrawn nodes registers e
 
 -- the events of the trace lead from the start to the cluster, and name its nodes and registers
-pub record IsPlayed {H S M : Type 0} (core : Core H S M) (nodes registers : ℕ) (start g : ClusterState S M) : Type 0 where
+pub record IsPlayed {H S M : Type 0} (core : Core H S M) (nodes registers : ℕ)
+    (start g : ClusterState S M) : Type 0 where
   pub runs : RunsTo core start (events_of g.trace) g
   pub over : AreOver nodes registers (events_of g.trace)
 
 -- events over these nodes and registers lead from one cluster to another
-abbrev pub Plays : {H S M : Type 0} → Core H S M → ℕ → ℕ → ClusterState S M → ClusterState S M → Type 0
+abbrev pub Plays : {H S M : Type 0} → Core H S M → ℕ → ℕ → ClusterState S M → ClusterState S M
+    → Type 0
 Plays {H} {S} {M} core nodes registers old new =
-    (start : ClusterState S M) → IsPlayed core nodes registers start old → IsPlayed core nodes registers start new
+    (start : ClusterState S M) → IsPlayed core nodes registers start old
+    → IsPlayed core nodes registers start new
 
 -- the text is a file of events over the names of the plan that lead from the start to some cluster: each parcel that is
 -- delivered was sent
-pub record IsFileOf {H S M : Type 0} (core : Core H S M) (p : Fields) (start : ClusterState S M) (text : Text) : Type 0 where
+pub record IsFileOf {H S M : Type 0} (core : Core H S M) (p : Fields) (start : ClusterState S M)
+    (text : Text) : Type 0 where
   pub events : List Event
   pub is : text ≡ file_text p events
   pub over : AreOver (length p.nodes) (length p.registers) events

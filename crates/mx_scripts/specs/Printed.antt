@@ -1,7 +1,6 @@
 -- What comes of the words of `draw` and `script`.
-use Rattle.std.specs.Prelude.{◌==◌, ◌&&◌, ⊤, ℕ, Bool, Option, Result, Ok, if◌then◌else◌, IfSome, option_map}
+use Rattle.std.specs.Prelude.{◌&&◌, ⊤, ℕ, Bool, Option, Result, IfSome, option_map}
 use Rattle.std.specs.Io.KnownBytes.{Appends}
-use Rattle.std.specs.List.{before_first}
 use Rattle.mx_plan.specs.Text.{Text}
 use Rattle.mx_plan.specs.Fields.{Fields}
 use Rattle.mx_cli.specs.declared.faults.Stop.{Stop}
@@ -9,27 +8,17 @@ use Rattle.mx_io.specs.Told.{Telling}
 use Rattle.mx_cli.specs.Closed.{Closes}
 use Rattle.mx_io.specs.Outputs.{Held}
 use Rattle.mx_commands.specs.Jobs.{Job, on_plan}
-use Rattle.mx_cli.specs.Reading.{is_dash, Reads}
+use Rattle.mx_cli.specs.Reading.{IsPlanOf, plan_told}
 use Rattle.mx_commands.specs.Ran.{RanOn}
 use Rattle.mx_scripts.specs.Drawn.{drawn_file}
 use Rattle.mx_scripts.specs.Played.{IsEventFile}
 use Rattle.mx_scripts.specs.Requests.{Request, draw, walk, script}
 
--- what is told of the plan of two names: where both are one text, what stands before its first line feed
-abbrev pub files_of : (Text → Option Telling) → Text × Text → Option Telling
-files_of told names =
-    if is_dash names.0 && is_dash names.1 then option_map (λ one. option_map (λ bytes. before_first (λ b. b == 10) bytes) one) (told names.0)
-    else told names.0
-
 -- what is told of the plan
-abbrev pub plan_told : (Text → Option Telling) → Request → Option Telling
-plan_told told (draw name seed steps) = told name
-plan_told told (walk name seed steps) = told name
-plan_told told (script names) = files_of told names
-
--- the plan was read, where the source tells of it
-abbrev pub IsPlanOf : Option Telling → Fields → Type 0
-IsPlanOf told p = IfSome told (λ telling. Reads telling (Ok p))
+abbrev pub told_of_plan : (Text → Option Telling) → Request → Option Telling
+told_of_plan told (draw name seed steps) = told name
+told_of_plan told (walk name seed steps) = told name
+told_of_plan told (script names) = plan_told told names
 
 -- some file of events over the plan's names was printed, which can happen in its cluster
 abbrev pub PrintsEvents : Fields → Held → Held → Type 0
@@ -43,7 +32,8 @@ Prints (script names) p old new = PrintsEvents p old new
 
 -- the plan was read, and the file that was asked for was printed
 abbrev pub HasDone : (Text → Option Telling) → Request → Held → Held → Type 0
-HasDone told request old new = (p : Fields) × IsPlanOf (plan_told told request) p × Prints request p old new
+HasDone told request old new =
+    (p : Fields) × IsPlanOf (told_of_plan told request) p × Prints request p old new
 
 -- to print the placed schedule of the seed, of what a source tells of the plan
 abbrev pub draw_job : (Text → Option Telling) → Text → ℕ → ℕ → Option Job
@@ -57,7 +47,8 @@ DrawsPlan takes_out takes_err name job out out' err err' status =
     × Closes (takes_out && takes_err) (name, name) ended err err' status
 
 -- the same, where `draw` is asked for without a walk
-abbrev pub Draws : Bool → Bool → (Text → Option Telling) → Request → Held → Held → Held → Held → ℕ → Type 0
+abbrev pub Draws : Bool → Bool → (Text → Option Telling) → Request → Held → Held → Held → Held → ℕ
+    → Type 0
 Draws takes_out takes_err told (draw name seed steps) out out' err err' status =
     DrawsPlan takes_out takes_err name (draw_job told name seed steps) out out' err err' status
 Draws takes_out takes_err told _ out out' err err' status = ⊤

@@ -37,4 +37,5 @@ line_fault_text Memory = codes "out of memory"
 
 -- the line of a fault in the k-th line of a script
 abbrev pub script_line : ℕ → LineFault → Text
-script_line k fault = codes "mx: script: line " ++ decimal k ++ codes ": " ++ line_fault_text fault ++ line_feed
+script_line k fault =
+    codes "mx: script: line " ++ decimal k ++ codes ": " ++ line_fault_text fault ++ line_feed

@@ -16,7 +16,9 @@ script_rule = file_rule (codes "SCRIPT")
 
 -- `draw PLAN --seed S --steps K`, and perhaps `--walk`
 abbrev pub draw_app : App
-draw_app = with_rule (with_rule (with_rule (with_rule (new_app (codes "draw")) plan_rule) seed_rule) steps_rule) walk_rule
+draw_app = with_rule
+    (with_rule
+    (with_rule (with_rule (new_app (codes "draw")) plan_rule) seed_rule) steps_rule) walk_rule
 
 -- `script PLAN SCRIPT`
 abbrev pub script_app : App
@@ -42,7 +44,9 @@ draw_in rows = option_map (drawing (is_given (codes "walk") rows)) (exploration_
 
 abbrev pub script_in : List Row → Option Request
 script_in rows =
-    option_and_then (λ plan. option_map (λ text. script (plan, text)) (first_of (codes "SCRIPT") rows)) (first_of (codes "PLAN") rows)
+    option_and_then
+    (λ plan. option_map (λ text. script (plan, text)) (first_of (codes "SCRIPT") rows))
+    (first_of (codes "PLAN") rows)
 
 -- the command that was met, and what was given for it
 abbrev pub request_in : Option (Text × List Row) → Option Request

@@ -3,7 +3,7 @@
 ghost use Rattle.std.specs.Prelude.{◌≡◌, false, IsSome, IfSome};
 ghost use Rattle.mx_cli.specs.Words.{texts_of, AreWrong, AskHelp};
 ghost use Rattle.mx_cli.specs.Told.{Helps, Scolds, seen};
-ghost use Rattle.mx_commands.specs.Ran.{IsRunStatus};
+ghost use Rattle.mx_cli.specs.Closed.{IsRunStatus};
 ghost use Rattle.mx_scripts.specs.Printed.{Draws, HasDone};
 ghost use Rattle.mx_scripts.specs.Words.{request_asked, request_of, file_line};
 
@@ -14,7 +14,7 @@ use mx_io::{Output, Source};
 use std::alloc::Global;
 
 /// Runs the words of a command line of which `draw` or `script` is the first, without the program's
-/// name, and answers the status: 0 where a file of events was printed, or help was asked for, 1 where a
+/// name, and returns the status: 0 where a file of events was printed, or help was asked for, 1 where a
 /// plan, a script, a file or an output is at fault, 2 where the words are no such command, 5 where
 /// memory ran out.
 pub fn event_file<S: Source, O: Output, E: Output>(
@@ -33,12 +33,16 @@ pub fn event_file<S: Source, O: Output, E: Output>(
         → result ≡ 0 → O.keeps_back out.new ≡ false }
     ensures status { IsSome (request_asked (texts_of words.entry.now)) → IsRunStatus result }
     ensures help { AskHelp file_line (texts_of words.entry.now) → Helps (O.takes_all out.old)
-        (seen (O.written out.old) (E.written err.old) (O.has_refused out.old) (O.keeps_back out.old))
-        (seen (O.written out.new) (E.written err.new) (O.has_refused out.new) (O.keeps_back out.new))
+        (seen (O.written out.old) (E.written err.old) (O.has_refused out.old)
+        (O.keeps_back out.old))
+        (seen (O.written out.new) (E.written err.new) (O.has_refused out.new)
+        (O.keeps_back out.new))
         result }
     ensures wrong { AreWrong file_line (texts_of words.entry.now) → Scolds
-        (seen (O.written out.old) (E.written err.old) (O.has_refused out.old) (O.keeps_back out.old))
-        (seen (O.written out.new) (E.written err.new) (O.has_refused out.new) (O.keeps_back out.new))
+        (seen (O.written out.old) (E.written err.old) (O.has_refused out.old)
+        (O.keeps_back out.old))
+        (seen (O.written out.new) (E.written err.new) (O.has_refused out.new)
+        (O.keeps_back out.new))
         result }
 {
     match asked(alloc, words) {
@@ -48,7 +52,7 @@ pub fn event_file<S: Source, O: Output, E: Output>(
     }
 }
 
-/// Does what is asked for, and tells why there is no file where there is none. Answers the status.
+/// Does what is asked for, and tells why there is no file where there is none. Returns the status.
 fn run_request<S: Source, O: Output, E: Output>(
     alloc: Global,
     request: &Request<'_>,
@@ -57,7 +61,8 @@ fn run_request<S: Source, O: Output, E: Output>(
     err: &mut E,
 ) -> u8
     ensures prints { result ≡ 0
-        → HasDone (S.told source.old) (request_of request.now) (O.written out.old) (O.written out.new) }
+        → HasDone (S.told source.old) (request_of request.now) (O.written out.old)
+        (O.written out.new) }
     ensures draws { Draws (O.takes_all out.old) (E.takes_all err.old) (S.told source.old)
         (request_of request.now) (O.written out.old) (O.written out.new)
         (E.written err.old) (E.written err.new) result }

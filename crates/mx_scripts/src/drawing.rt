@@ -25,9 +25,9 @@ use mx_ricart::Ricart;
 use mx_stamps::MOST_EVENTS;
 use std::alloc::{AllocError, Global};
 
-/// Prints the file of the events that `explore` does from a seed: the schedule of so many steps, each
+/// Prints the file of the events that `explore` does from a seed: the schedule of this many steps, each
 /// delivery at its place among the parcels sent, and without the deliveries before any was sent. A
-/// replay of that file does the same to the cluster. Answers the status.
+/// replay of that file does the same to the cluster. Returns the status.
 pub(crate) fn draw_schedule<O: Output>(
     alloc: Global,
     plan: &Plan,
@@ -66,7 +66,8 @@ fn add_placed(
     text: &mut String,
 ) -> Result<(), AllocError>
     ensures { OnOk result (string_bytes text.new
-        ≡ string_bytes text.old ++ file_text plan.now (placed_in plan.now events.now plan.now.shape)) }
+        ≡ string_bytes text.old
+        ++ file_text plan.now (placed_in plan.now events.now plan.now.shape)) }
 {
     match plan.shape() {
         Shape::Ricart(count) => add_happened(

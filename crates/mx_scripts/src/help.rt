@@ -1,9 +1,5 @@
 //! The texts of help.
 
-pub(crate) const DRAW: &str = "Prints events drawn from a seed, as a file that `replay` reads";
-
-pub(crate) const SCRIPT: &str = "Prints the events of a script, as a file that `replay` reads";
-
 pub(crate) const DRAW_EXAMPLE: &str =
     "Example: a walk of a hundred steps from the seed 1, kept and then replayed.
 

@@ -1,11 +1,9 @@
 //! `draw` and `script`: from names, named bytes and two outputs to a status.
 
-ghost use Rattle.std.specs.Prelude.{◌≡◌, ◌⊎◌, ◌==◌, ◌&&◌, true, false, IfSome, IfOk, Some, Ok};
+ghost use Rattle.std.specs.Prelude.{◌≡◌, ◌⊎◌, false, IfSome, IfOk};
 ghost use Rattle.mx_cli.specs.Words.{names_of};
-ghost use Rattle.std.specs.List.{before_first};
-ghost use Rattle.mx_cli.specs.Reading.{is_dash, Reads};
-ghost use Rattle.mx_commands.specs.Ran.{IsRunStatus, RanOn};
-ghost use Rattle.mx_plan.specs.Fields.{Fields};
+ghost use Rattle.mx_cli.specs.Closed.{IsRunStatus};
+ghost use Rattle.mx_commands.specs.Ran.{RanOn};
 ghost use Rattle.mx_scripts.specs.Printed.{DrawsPlan, HasDone, PrintsEvents, draw_job};
 ghost use Rattle.mx_scripts.specs.Requests as wants;
 
@@ -15,16 +13,13 @@ use crate::line_faults::{LineFault, ScriptLine};
 use crate::scripting::script_file;
 use crate::texts::text_in;
 use crate::walking::walk_file;
-use mx_cli::{
-    Exploration, Named, Names, Stop, are_dashes, close, fetch, fetch_plan, plan_in, put_line,
-    split_line, tell_memory,
-};
+use mx_cli::{Exploration, Names, Stop, close, fetch_both, fetch_plan, put_line, tell_memory};
 use mx_commands::print;
 use mx_io::{Output, OutputFault, Source};
 use mx_plan::Plan;
 use std::alloc::Global;
 
-/// Prints what `explore` does, or tells why not. Answers the status.
+/// Prints what `explore` does, or tells why not. Returns the status.
 pub fn run_draw<S: Source, O: Output, E: Output>(
     alloc: Global,
     exploration: &Exploration<'_>,
@@ -47,7 +42,7 @@ pub fn run_draw<S: Source, O: Output, E: Output>(
     close(alloc, ended, &names, out, err)
 }
 
-/// Prints a walk, or tells why not. Answers the status.
+/// Prints a walk, or tells why not. Returns the status.
 pub fn run_walk<S: Source, O: Output, E: Output>(
     alloc: Global,
     exploration: &Exploration<'_>,
@@ -66,7 +61,7 @@ pub fn run_walk<S: Source, O: Output, E: Output>(
     close(alloc, ended, &names, out, err)
 }
 
-/// Prints the events of a script, or tells why not. Answers the status.
+/// Prints the events of a script, or tells why not. Returns the status.
 pub fn run_script<S: Source, O: Output, E: Output>(
     alloc: Global,
     names: &Names<'_>,
@@ -96,7 +91,7 @@ fn plan_alone<'a>(exploration: &Exploration<'a>) -> Names<'a>
     }
 }
 
-/// Tells why a line of a script is refused, and answers the status.
+/// Tells why a line of a script is refused, and returns the status.
 fn tell_line<E: Output>(alloc: Global, number: u64, fault: LineFault, err: &mut E) -> u8
     ensures { (result ≡ 1) ⊎ (result ≡ 5) }
 {
@@ -106,7 +101,7 @@ fn tell_line<E: Output>(alloc: Global, number: u64, fault: LineFault, err: &mut 
     }
 }
 
-/// Prints what `explore` does. Answers the status.
+/// Prints what `explore` does. Returns the status.
 fn draw_file<S: Source, O: Output>(
     alloc: Global,
     exploration: &Exploration<'_>,
@@ -126,7 +121,7 @@ fn draw_file<S: Source, O: Output>(
     draw_schedule(alloc, &plan, exploration.seed, exploration.steps, out)
 }
 
-/// Prints a walk. Answers the status.
+/// Prints a walk. Returns the status.
 fn print_walk<S: Source, O: Output>(
     alloc: Global,
     exploration: &Exploration<'_>,
@@ -142,7 +137,7 @@ fn print_walk<S: Source, O: Output>(
     print_walked(alloc, &plan, exploration.seed, exploration.steps, out)
 }
 
-/// Prints a walk of a plan. Answers the status.
+/// Prints a walk of a plan. Returns the status.
 fn print_walked<O: Output>(
     alloc: Global,
     plan: &Plan,
@@ -158,7 +153,7 @@ fn print_walked<O: Output>(
     print(file.as_bytes(), out)
 }
 
-/// Prints the events of a script. Answers the status.
+/// Prints the events of a script. Returns the status.
 fn print_script<S: Source, O: Output>(
     alloc: Global,
     names: &Names<'_>,
@@ -169,75 +164,11 @@ fn print_script<S: Source, O: Output>(
         (O.written out.old) (O.written out.new)) }
     ensures zero { IfOk result (λ status. status ≡ 0) }
 {
-    if are_dashes(names) {
-        print_one(alloc, names, source, out)
-    } else {
-        print_two(alloc, names, source, out)
-    }
+    let both = fetch_both(alloc, source, names)?;
+    print_events(alloc, &both.plan, both.text.as_slice(), out)
 }
 
-/// Prints the events of a script. The first line of the one text is the plan, and what follows is the
-/// script.
-fn print_one<S: Source, O: Output>(
-    alloc: Global,
-    names: &Names<'_>,
-    source: &mut S,
-    out: &mut O,
-) -> Result<u8, Halt>
-    requires { (is_dash names.now.plan.now && is_dash names.now.events.now) ≡ true }
-    ensures done { IfOk result (λ _. HasDone (S.told source.old) (wants.script (names_of names.now))
-        (O.written out.old) (O.written out.new)) }
-    ensures zero { IfOk result (λ status. status ≡ 0) }
-{
-    let one = fetch(alloc, source, names.plan, Named::Plan)?;
-    print_split(alloc, one.as_slice(), out)
-}
-
-/// Prints the events of a script, which stands below the line of its plan. Answers the status.
-fn print_split<O: Output>(alloc: Global, one: &[u8], out: &mut O) -> Result<u8, Halt>
-    ensures done { IfOk result (λ _. (p : Fields)
-        × Reads (Some (before_first (λ b. b == 10) one.now)) (Ok p)
-        × PrintsEvents p (O.written out.old) (O.written out.new)) }
-    ensures zero { IfOk result (λ status. status ≡ 0) }
-{
-    let (line, script) = split_line(one);
-    let plan = plan_in(alloc, line)?;
-    print_events(alloc, &plan, script, out)
-}
-
-/// Prints the events of a script. The plan is a text of its own.
-fn print_two<S: Source, O: Output>(
-    alloc: Global,
-    names: &Names<'_>,
-    source: &mut S,
-    out: &mut O,
-) -> Result<u8, Halt>
-    requires { (is_dash names.now.plan.now && is_dash names.now.events.now) ≡ false }
-    ensures done { IfOk result (λ _. HasDone (S.told source.old) (wants.script (names_of names.now))
-        (O.written out.old) (O.written out.new)) }
-    ensures zero { IfOk result (λ status. status ≡ 0) }
-{
-    let plan = fetch_plan(alloc, source, names.plan)?;
-    print_fetched(alloc, &plan, names.events, source, out)
-}
-
-/// Prints the events of the script of a name. Answers the status.
-fn print_fetched<S: Source, O: Output>(
-    alloc: Global,
-    plan: &Plan,
-    name: &str,
-    source: &mut S,
-    out: &mut O,
-) -> Result<u8, Halt>
-    ensures done { IfOk result (λ _.
-        PrintsEvents plan.now (O.written out.old) (O.written out.new)) }
-    ensures zero { IfOk result (λ status. status ≡ 0) }
-{
-    let script = fetch(alloc, source, name, Named::Events)?;
-    print_events(alloc, plan, script.as_slice(), out)
-}
-
-/// Prints the events of the bytes of a script. Answers the status.
+/// Prints the events of the bytes of a script. Returns the status.
 fn print_events<O: Output>(
     alloc: Global,
     plan: &Plan,

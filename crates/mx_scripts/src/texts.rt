@@ -12,7 +12,7 @@ pub(crate) fn text_in(bytes: &[u8]) -> Result<&str, Halt> {
     }
 }
 
-/// The number of the line in which a byte stands, counted from 1.
+/// The number of the line that a byte is in, counted from 1.
 fn line_at(bytes: &[u8], place: usize) -> u64 {
     let feeds = bytes.iter().take(place).filter(|b| **b == b'\n').count();
     (feeds as u64).saturating_add(1)

@@ -15,7 +15,7 @@ use mx_raymond::Raymond;
 use mx_ricart::Ricart;
 use std::alloc::{AllocError, Global};
 
-/// The file of a walk of so many steps, by the plan's algorithm.
+/// The file of a walk of this many steps, by the plan's algorithm.
 pub(crate) fn walk_file(
     alloc: Global,
     plan: &Plan,

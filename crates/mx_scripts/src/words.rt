@@ -8,8 +8,8 @@ ghost use Rattle.mx_scripts.specs.Words.{draw_app, draw_in, request_asked, reque
 use crate::help;
 use clap::{ArgMatches, Command, Error};
 use mx_cli::{
-    Exploration, Names, bare_command, exploration_at, file_arg, flag_arg, is_given, line_of,
-    matches_in, plan_arg, seed_arg, steps_arg, text_at,
+    ABOUT_DRAW, ABOUT_SCRIPT, Exploration, Names, bare_command, exploration_at, file_arg, flag_arg,
+    is_given, line_of, matches_in, plan_arg, seed_arg, steps_arg, text_at,
 };
 use std::alloc::{AllocError, Global};
 
@@ -27,7 +27,7 @@ pub enum Request<'a> {
 fn draw_command<'a>(alloc: Global) -> Result<Command<'a>, AllocError>
     ensures { IfOk result (IsCommand draw_app) }
 {
-    let begun = bare_command(alloc, "draw", help::DRAW, help::DRAW_EXAMPLE);
+    let begun = bare_command(alloc, "draw", ABOUT_DRAW, help::DRAW_EXAMPLE);
     let with_plan = begun.arg(plan_arg(alloc))?;
     let with_seed = with_plan.arg(seed_arg(alloc))?;
     let with_steps = with_seed.arg(steps_arg(alloc))?;
@@ -38,7 +38,7 @@ fn draw_command<'a>(alloc: Global) -> Result<Command<'a>, AllocError>
 fn script_command<'a>(alloc: Global) -> Result<Command<'a>, AllocError>
     ensures { IfOk result (IsCommand script_app) }
 {
-    let begun = bare_command(alloc, "script", help::SCRIPT, help::SCRIPT_EXAMPLE);
+    let begun = bare_command(alloc, "script", ABOUT_SCRIPT, help::SCRIPT_EXAMPLE);
     let with_plan = begun.arg(plan_arg(alloc))?;
     let help = "The file of the script, or - for standard input";
     with_plan.arg(file_arg(alloc, "SCRIPT", help))

@@ -1,2 +1,1 @@
 pub mod ViewWordLemmas
-pub mod ClosedLemmas

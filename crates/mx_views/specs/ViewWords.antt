@@ -1,29 +1,13 @@
 -- What the words of `replay` with `--quiet`, `--node` or `--json` ask for, as `clap` reads them.
 use Rattle.std.specs.Prelude.{Bool, List, Option, Some, None, codes, if◌then◌else◌, option_map}
 use Rattle.std.specs.Str.{bytes_eq}
-use Rattle.clap.specs.Words.{App, Row, Rule, Text, first_of, with_rule}
-use Rattle.mx_cli.specs.Words.{asked_of, flag_rule, is_given, line_with, names_at, names_of, replay_app, text_rule}
+use Rattle.clap.specs.Words.{App, Row, Text, first_of}
+use Rattle.mx_cli.specs.Words.{asked_of, is_given, line_with, names_at, names_of, replay_app}
 use Rattle.mx_views.specs.declared.words.Request.{Request as Told}
-
--- `--quiet`
-abbrev pub quiet_rule : Rule
-quiet_rule = flag_rule (codes "quiet")
-
--- `--node NAME`
-abbrev pub node_rule : Rule
-node_rule = text_rule (codes "node")
-
--- `--json`
-abbrev pub json_rule : Rule
-json_rule = flag_rule (codes "json")
-
--- `replay PLAN EVENTS`, and perhaps `--quiet`, `--node NAME` and `--json`
-abbrev pub view_app : App
-view_app = with_rule (with_rule (with_rule replay_app quiet_rule) node_rule) json_rule
 
 -- the whole command line
 unfoldable pub view_line : App
-view_line = line_with view_app
+view_line = line_with replay_app
 
 -- the names of the plan and of the events; whether the closing lines alone are to be shown, of which node alone, and
 -- whether as JSON
@@ -34,14 +18,19 @@ pub record Request : Type 0 where
   pub is_json : Bool
 
 abbrev pub request : Text × Text → Bool → Option Text → Bool → Request
-request names is_quiet node is_json = record { names = names; is_quiet = is_quiet; node = node; is_json = is_json }
+request names is_quiet node is_json =
+    record { names = names; is_quiet = is_quiet; node = node; is_json = is_json }
 
 abbrev pub request_of : Told → Request
-request_of told = request (names_of told.names) told.is_quiet (option_map (λ name. name.now) told.node) told.is_json
+request_of told =
+    request (names_of told.names) told.is_quiet
+    (option_map (λ name. name.now) told.node) told.is_json
 
 -- what was given for the arguments
 abbrev pub view_of : List Row → Text × Text → Request
-view_of rows names = request names (is_given (codes "quiet") rows) (first_of (codes "node") rows) (is_given (codes "json") rows)
+view_of rows names =
+    request names (is_given (codes "quiet") rows) (first_of (codes "node") rows)
+    (is_given (codes "json") rows)
 
 abbrev pub view_in : List Row → Option Request
 view_in rows = option_map (view_of rows) (names_at rows)

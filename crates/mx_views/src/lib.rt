@@ -3,7 +3,6 @@
 
 mod closing_lines;
 mod event_json;
-mod fetching;
 mod json;
 mod letter_json;
 mod node_json;

@@ -30,7 +30,7 @@ fn add_name(plan: &Plan, node: NodeId, text: &mut String) -> Result<(), AllocErr
     text.push('"')
 }
 
-/// Appends where a node stands, without its name.
+/// Appends the phase of a node and what its journal has, without its name.
 fn add_member<C: Exclusion>(
     plan: &Plan,
     member: &Member<C>,

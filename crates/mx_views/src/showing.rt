@@ -15,7 +15,7 @@ use mx_nodelaws::Exclusion;
 use mx_texts::{EventLine, add_parcel_line};
 use std::alloc::{AllocError, Global};
 
-/// Each event in turn, and its lines in one piece; then the closing lines. Answers the status.
+/// Each event in turn, and its lines in one piece; then the closing lines. Returns the status.
 pub(crate) fn show<C: Exclusion, O: Output>(
     alloc: Global,
     selection: &Selection<'_>,
@@ -51,7 +51,7 @@ where
     Ok(())
 }
 
-/// The closing lines. Answers the status.
+/// The closing lines. Returns the status.
 fn show_closing<C: Exclusion, O: Output>(
     alloc: Global,
     selection: &Selection<'_>,

@@ -3,26 +3,25 @@
 ghost use Rattle.std.specs.Prelude.{◌≡◌, IsSome, IfOk};
 ghost use Rattle.mx_cli.specs.Words.{texts_of, AreWrong, AskHelp};
 ghost use Rattle.mx_cli.specs.Told.{Helps, Scolds, seen};
-ghost use Rattle.mx_commands.specs.Ran.{IsRunStatus};
+ghost use Rattle.mx_cli.specs.Closed.{IsRunStatus};
 ghost use Rattle.mx_views.specs.ViewWords.{request_asked, view_line};
 
-use crate::fetching::fetch_run;
 use crate::selection::Selection;
 use crate::showing::show;
 use crate::words::{Request, asked};
-use mx_cli::{Fault, Stop, close, refuse};
+use mx_cli::{Fault, Stop, close, fetch_both, refuse};
 use mx_commands::start;
 use mx_io::{Output, Source};
 use mx_maekawa::Maekawa;
 use mx_network::Event;
-use mx_plan::{Place, Plan, PlanFault, Shape};
+use mx_plan::{Place, Plan, PlanFault, Shape, read_events};
 use mx_raymond::Raymond;
 use mx_ricart::Ricart;
 use mx_stamps::NodeId;
 use std::alloc::Global;
 
 /// Runs the words of a command line of which `replay` is the first, with `--quiet`, `--node` or `--json`,
-/// without the program's name, and answers the status: 0 where all went well, or help was asked for, 1
+/// without the program's name, and returns the status: 0 where all went well, or help was asked for, 1
 /// where the plan, its events, the node, a file or an output is at fault, 2 where the words are not those
 /// of the command, 5 where memory ran out.
 pub fn replay_view<S: Source, O: Output, E: Output>(
@@ -34,12 +33,16 @@ pub fn replay_view<S: Source, O: Output, E: Output>(
 ) -> u8
     ensures status { IsSome (request_asked (texts_of words.entry.now)) → IsRunStatus result }
     ensures help { AskHelp view_line (texts_of words.entry.now) → Helps (O.takes_all out.old)
-        (seen (O.written out.old) (E.written err.old) (O.has_refused out.old) (O.keeps_back out.old))
-        (seen (O.written out.new) (E.written err.new) (O.has_refused out.new) (O.keeps_back out.new))
+        (seen (O.written out.old) (E.written err.old) (O.has_refused out.old)
+        (O.keeps_back out.old))
+        (seen (O.written out.new) (E.written err.new) (O.has_refused out.new)
+        (O.keeps_back out.new))
         result }
     ensures wrong { AreWrong view_line (texts_of words.entry.now) → Scolds
-        (seen (O.written out.old) (E.written err.old) (O.has_refused out.old) (O.keeps_back out.old))
-        (seen (O.written out.new) (E.written err.new) (O.has_refused out.new) (O.keeps_back out.new))
+        (seen (O.written out.old) (E.written err.old) (O.has_refused out.old)
+        (O.keeps_back out.old))
+        (seen (O.written out.new) (E.written err.new) (O.has_refused out.new)
+        (O.keeps_back out.new))
         result }
 {
     match asked(alloc, words) {
@@ -49,7 +52,7 @@ pub fn replay_view<S: Source, O: Output, E: Output>(
     }
 }
 
-/// Shows what is asked for, and closes the run. Answers the status.
+/// Shows what is asked for, and closes the run. Returns the status.
 fn view_and_close<S: Source, O: Output, E: Output>(
     alloc: Global,
     request: &Request<'_>,
@@ -72,8 +75,9 @@ fn view_run<S: Source, O: Output>(
 ) -> Result<u8, Stop>
     ensures zero { IfOk result (λ status. status ≡ 0) }
 {
-    let (plan, events) = fetch_run(alloc, source, &request.names)?;
-    view_events(alloc, request, &plan, events.as_slice(), out)
+    let both = fetch_both(alloc, source, &request.names)?;
+    let events = read_events(alloc, both.text.as_slice(), &both.plan)?;
+    view_events(alloc, request, &both.plan, events.as_slice(), out)
 }
 
 /// Shows what is asked for of the replay of these events.

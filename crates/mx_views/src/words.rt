@@ -1,15 +1,13 @@
 //! The words of `replay` with `--quiet`, `--node` or `--json`.
 
 ghost use Rattle.std.specs.Prelude.{◌≡◌, [], IfOk, IfErr, option_map};
-ghost use Rattle.clap.specs.Words.{app_of, fault_of, found_of, rows_of, subcommand_rows_of, HasKind};
-ghost use Rattle.mx_cli.specs.Words.{IsCommand, texts_of};
-ghost use Rattle.mx_views.specs.ViewWords.{request_of, view_app, view_in, view_line, request_asked, request_in};
+ghost use Rattle.clap.specs.Words.{fault_of, found_of, rows_of, subcommand_rows_of, HasKind};
+ghost use Rattle.mx_cli.specs.Words.{texts_of};
+ghost use Rattle.mx_views.specs.ViewWords.{request_of, view_in, view_line, request_asked, request_in};
 
-use clap::{ArgMatches, Command, Error};
-use mx_cli::{
-    Names, flag_arg, is_given, line_of, matches_in, names_at, replay_command, text_arg, text_at,
-};
-use std::alloc::{AllocError, Global};
+use clap::{ArgMatches, Error};
+use mx_cli::{Names, is_given, line_of, matches_in, names_at, replay_command, text_at};
+use std::alloc::Global;
 
 /// What is to be shown of a replay: the names of its plan and events, whether the closing lines alone,
 /// of which node alone, and whether as JSON.
@@ -21,17 +19,6 @@ pub(crate) struct Request<'a> {
     pub(crate) is_json: bool,
 }
 
-fn view_command<'a>(alloc: Global) -> Result<Command<'a>, AllocError>
-    ensures { IfOk result (IsCommand view_app) }
-{
-    let quiet = "Prints the closing lines alone";
-    let with_quiet = replay_command(alloc)?.arg(flag_arg(alloc, "quiet", quiet))?;
-    let node = "Prints the lines of the node of this name alone";
-    let with_node = with_quiet.arg(text_arg(alloc, "node", node))?;
-    let json = "Prints an object of JSON in place of each line";
-    with_node.arg(flag_arg(alloc, "json", json))
-}
-
 /// What the words ask to show. Their faults are those of `clap`, and words that ask for help come as
 /// such a fault too, with the text to show.
 pub(crate) fn asked<'a>(alloc: Global, words: &'a [&'a str]) -> Result<Option<Request<'a>>, Error>
@@ -40,7 +27,7 @@ pub(crate) fn asked<'a>(alloc: Global, words: &'a [&'a str]) -> Result<Option<Re
         option_map request_of request ≡ request_asked (texts_of words.entry.now)) }
     ensures err { IfErr result (HasKind (fault_of view_line (texts_of words.entry.now))) }
 {
-    let line = line_of(alloc, view_command(alloc)?)?;
+    let line = line_of(alloc, replay_command(alloc)?)?;
     let matches = matches_in(line, words)?;
     Ok(request_in(&matches))
 }

@@ -3,8 +3,16 @@ use Rattle.mx_cli.specs.Words.{request_of}
 use Rattle.mx_plan.specs.Text.{Text}
 use Rattle.mx_cli.specs.FaultLines.{fault_line}
 use Rattle.mx_cli.specs.Told.{TellsFault, seen}
-use Rattle.mx_commands.proofs.CommandLemmas.{runs_fault, runs_refused, runs_short}
+use Rattle.mx_commands.proofs.CommandLemmas.{runs_fault, runs_refused, runs_short, runs_whole}
 use Rattle.mx_commands.proofs.commanding.run_request.Goals as goal
+
+pub returns-in-Ok-clause-runs : goal.returns-in-Ok-clause-runs
+returns-in-Ok-clause-runs g c =
+    let out = c.carry_out_and_flush.new.out in
+    runs_whole (g.O.Output.takes_all c.args.out.now) (g.E.Output.takes_all c.args.err.now) (g.S.Source.told c.args.source.now) (request_of c.args.request.now)
+    (seen (g.O.Output.written c.args.out.now) (g.E.Output.written c.args.err.now) (g.O.Output.has_refused c.args.out.now) (g.O.Output.keeps_back c.args.out.now))
+    (seen (g.O.Output.written out) (g.E.Output.written c.args.err.now) (g.O.Output.has_refused out) (g.O.Output.keeps_back out))
+    c.in-Ok.status c.in-Ok.ensures.zero refl c.in-Ok.ensures.passed c.in-Ok.ensures.ran
 
 pub returns-in-Err-Fault-clause-runs : goal.returns-in-Err-Fault-clause-runs
 returns-in-Err-Fault-clause-runs g c =

@@ -1,12 +1,20 @@
-use Rattle.std.proofs.Common.{◌∙◌, List, Ok, Option, subst, sym, ℕ}
-use Rattle.std.specs.Prelude.{IfSome}
+use Rattle.std.proofs.Common.{◌≡◌, Err, List, subst, ℕ}
+use Rattle.mx_cli.specs.Reading.{plan_told, text_told}
 use Rattle.mx_cli.specs.Words.{names_of}
-use Rattle.mx_io.specs.Told.{Telling}
-use Rattle.mx_cli.specs.Reading.{Reads}
-use Rattle.mx_commands.specs.Jobs.{on_events, replay_two}
-use Rattle.mx_commands.specs.Ran.{Ran, RanOn}
-use Rattle.mx_commands.proofs.JobLemmas.{by_two, in_some, two_read}
+use Rattle.mx_commands.specs.Jobs.{report_of_events}
+use Rattle.mx_commands.specs.Ran.{Ran}
+use Rattle.mx_commands.proofs.JobLemmas.{both_read, both_unread}
+use Rattle.mx_commands.proofs.RunLemmas.{err_is}
 use Rattle.mx_commands.proofs.replaying.replay.Goals as goal
+
+pub returns-in_err-both-clause-ran : goal.returns-in_err-both-clause-ran
+returns-in_err-both-clause-ran g c =
+    let s = c.in_err-both.field-0.0 in
+    let told = g.S.Source.told c.args.source.now in
+    let names = names_of c.args.names.now in
+    let final = both_unread (g.O.Output.takes_all c.args.out.now) (g.O.Output.written c.args.out.now) (plan_told told names) (text_told told names) s c.in_err-both.ensures.read in
+    let is : c.from_residual.result ≡ Err s = err_is c.from_residual.result s c.from_residual.ensures.1 in
+    rw is final
 
 pub returns-clause-ran : goal.returns-clause-ran
 returns-clause-ran g c =
@@ -14,10 +22,8 @@ returns-clause-ran g c =
     let names = names_of c.args.names.now in
     let t = g.O.Output.takes_all c.args.out.now in
     let a = g.O.Output.written c.args.out.now in
-    let b = g.O.Output.written c.replay_named.new.out in
-    let p = c.in_ok-plan.plan in
-    let events = told names.1 in
-    let res = c.replay_named.result in
-    let ran = subst (λ (x : List ℕ → Option Telling). IfSome (x c.args.names.now.events.now) (λ y. Ran t a b (on_events p y) res)) c.fetch_plan.ensures.stays c.replay_named.ensures.ran in
-    by_two told names t a b res (sym c.are_dashes.ensures ∙ c.if-are_dashes.false)
-    (in_some (told names.0) (λ x. Reads x (Ok p)) (λ x. RanOn t a b (replay_two events x) res) (λ x read. two_read t a b events p res x read ran) c.in_ok-plan.ensures.told)
+    let b = g.O.Output.written c.replay_events.new.out in
+    let both = c.in_ok-both.both in
+    let res = c.replay_events.result in
+    let ran = subst (λ (l : List ℕ). Ran t a b (report_of_events l both.plan) res) c.as_slice.ensures.value c.replay_events.ensures.ran in
+    both_read t a (plan_told told names) (text_told told names) b both res c.in_ok-both.ensures.read ran

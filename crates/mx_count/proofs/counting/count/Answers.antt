@@ -1,20 +1,19 @@
+use Rattle.std.proofs.Common.{inr}
 use Rattle.mx_cli.specs.Words.{texts_of}
-use Rattle.mx_cli.specs.Told.{seen}
-use Rattle.mx_count.proofs.ClosedLemmas.{printed_refused, status_refused}
-use Rattle.mx_count.specs.CountWords.{count_line}
+use Rattle.mx_cli.proofs.ClosedLemmas.{not_five}
+use Rattle.mx_cli.proofs.RefusedLemmas.{refused, runs_out}
+use Rattle.mx_count.specs.CountWords.{count_line, request_asked, request_in}
 use Rattle.mx_count.proofs.counting.count.Goals as goal
 
-pub returns-in-Err-clause-status : goal.returns-in-Err-clause-status
-returns-in-Err-clause-status g c = status_refused (g.O.Output.takes_all c.args.out.now)
-    (seen (g.O.Output.written c.args.out.now) (g.E.Output.written c.args.err.now) (g.O.Output.has_refused c.args.out.now) (g.O.Output.keeps_back c.args.out.now))
-    (seen (g.O.Output.written c.refuse.new.out) (g.E.Output.written c.refuse.new.err) (g.O.Output.has_refused c.refuse.new.out) (g.O.Output.keeps_back c.refuse.new.out))
-    c.refuse.result c.in-Err.e (texts_of c.args.words.now) c.in-Err.ensures.err c.refuse.ensures.memory
-
 pub returns-in-Err-clause-printed : goal.returns-in-Err-clause-printed
-returns-in-Err-clause-printed g c = printed_refused (g.O.Output.takes_all c.args.out.now)
-    (seen (g.O.Output.written c.args.out.now) (g.E.Output.written c.args.err.now) (g.O.Output.has_refused c.args.out.now) (g.O.Output.keeps_back c.args.out.now))
-    (seen (g.O.Output.written c.refuse.new.out) (g.E.Output.written c.refuse.new.err) (g.O.Output.has_refused c.refuse.new.out) (g.O.Output.keeps_back c.refuse.new.out))
-    c.refuse.result c.in-Err.e (texts_of c.args.words.now) c.in-Err.ensures.err c.refuse.ensures.memory (g.S.Source.told c.args.source.now)
+unfolding request_asked
+returns-in-Err-clause-printed g c =
+    refused count_line request_in (texts_of c.args.words.now) c.in-Err.e c.in-Err.ensures.err c.refuse.ensures.memory _ (λ m request zero. absurd (not_five c.refuse.result m.0 zero))
+
+pub returns-in-Err-clause-status : goal.returns-in-Err-clause-status
+unfolding request_asked
+returns-in-Err-clause-status g c =
+    λ asks. inr (inr (runs_out count_line request_in (texts_of c.args.words.now) c.in-Err.e c.in-Err.ensures.err c.refuse.ensures.memory asks).0)
 
 pub returns-in-Err-clause-help : goal.returns-in-Err-clause-help
 returns-in-Err-clause-help g c = c.refuse.ensures.help count_line (texts_of c.args.words.now) c.in-Err.ensures.err

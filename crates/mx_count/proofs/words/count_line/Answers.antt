@@ -5,4 +5,4 @@ use Rattle.mx_count.proofs.words.count_line.Goals as goal
 
 pub returns : goal.returns
 unfolding count_line
-returns c = IfOk-weaker c.subcommand.result _ _ (λ line adds. with_command c.in_ok-counted_line.ensures c.in_ok-drawn_command.ensures adds) c.subcommand.ensures
+returns c = IfOk-weaker c.subcommand.result _ _ (λ line adds. with_command c.in_ok-counted_line.ensures c.in_ok-explore_command.ensures adds) c.subcommand.ensures

@@ -4,7 +4,7 @@ use Rattle.mx_plan.specs.Text.{Text}
 use Rattle.mx_cli.specs.Closed.{Closes}
 use Rattle.mx_commands.specs.Jobs.{names_in}
 use Rattle.std.specs.Prelude.{◌&&◌}
-use Rattle.mx_explain.proofs.ExplainLemmas.{closed_status, explained}
+use Rattle.mx_explain.proofs.ExplainLemmas.{explained}
 use Rattle.mx_explain.proofs.explaining.explain_request.Goals as goal
 
 pub returns-clause-explains : goal.returns-clause-explains
@@ -18,6 +18,3 @@ returns-clause-explains g c =
     let closes = subst (λ (b : Bool). Closes (b && u) (names_in (request_of c.args.request.now)) res old new c.close.result) c.carry_out_and_explain-ended.ensures.stays named in
     explained t u (g.S.Source.told c.args.source.now) (request_of c.args.request.now) old new c.close.result res
     c.carry_out_and_explain-ended.ensures.zero closes c.carry_out_and_explain-ended.ensures.ran
-
-pub returns-clause-status : goal.returns-clause-status
-returns-clause-status g c = closed_status _ _ _ _ c.close.result c.carry_out_and_explain-ended.result c.carry_out_and_explain-ended.ensures.zero c.close.ensures.closes

@@ -1,14 +1,13 @@
+use Rattle.std.proofs.Common.{inr}
 use Rattle.mx_cli.specs.Words.{texts_of}
-use Rattle.mx_cli.specs.Told.{seen}
-use Rattle.mx_live.proofs.RefusedLemmas.{nothing_refused, request_refused}
-use Rattle.mx_cli.specs.LiveWords.{live_line}
+use Rattle.mx_cli.specs.LiveWords.{live_line, request_asked, request_in}
+use Rattle.mx_cli.proofs.RefusedLemmas.{faultless, refused}
 use Rattle.mx_live.proofs.living.live.Goals as goal
 
 pub returns-in-Err-clause-lives : goal.returns-in-Err-clause-lives
-returns-in-Err-clause-lives g c = request_refused (g.O.Output.takes_all c.args.out.now)
-    (seen (g.O.Output.written c.args.out.now) (g.E.Output.written c.args.err.now) (g.O.Output.has_refused c.args.out.now) (g.O.Output.keeps_back c.args.out.now))
-    (seen (g.O.Output.written c.refuse.new.out) (g.E.Output.written c.refuse.new.err) (g.O.Output.has_refused c.refuse.new.out) (g.O.Output.keeps_back c.refuse.new.out))
-    c.refuse.result c.in-Err.e (texts_of c.args.words.now) c.in-Err.ensures.err c.refuse.ensures.memory (λ request. g.S.Source.told c.args.source.now request.plan)
+unfolding request_asked
+returns-in-Err-clause-lives g c =
+    refused live_line request_in (texts_of c.args.words.now) c.in-Err.e c.in-Err.ensures.err c.refuse.ensures.memory _ (λ m request. inr (inr m.0))
 
 pub returns-in-Err-clause-help : goal.returns-in-Err-clause-help
 returns-in-Err-clause-help g c = c.refuse.ensures.help live_line (texts_of c.args.words.now) c.in-Err.ensures.err
@@ -17,7 +16,5 @@ pub returns-in-Err-clause-wrong : goal.returns-in-Err-clause-wrong
 returns-in-Err-clause-wrong g c = c.refuse.ensures.wrong live_line (texts_of c.args.words.now) c.in-Err.ensures.err
 
 pub returns-in-Err-clause-other : goal.returns-in-Err-clause-other
-returns-in-Err-clause-other g c = nothing_refused (g.O.Output.takes_all c.args.out.now)
-    (seen (g.O.Output.written c.args.out.now) (g.E.Output.written c.args.err.now) (g.O.Output.has_refused c.args.out.now) (g.O.Output.keeps_back c.args.out.now))
-    (seen (g.O.Output.written c.refuse.new.out) (g.E.Output.written c.refuse.new.err) (g.O.Output.has_refused c.refuse.new.out) (g.O.Output.keeps_back c.refuse.new.out))
-    c.refuse.result c.in-Err.e (texts_of c.args.words.now) c.in-Err.ensures.err c.refuse.ensures.memory
+returns-in-Err-clause-other g c =
+    λ asks. let m = faultless live_line request_in (texts_of c.args.words.now) c.in-Err.e c.in-Err.ensures.err c.refuse.ensures.memory asks.0 in (m.1, inr (m.0, m.2))

@@ -4,7 +4,8 @@ use Rattle.mx_plan.specs.Text.{Text}
 use Rattle.mx_cli.specs.Closed.{Closes}
 use Rattle.mx_scripts.specs.Printed.{draw_job}
 use Rattle.mx_scripts.specs.Requests.{draw}
-use Rattle.mx_scripts.proofs.PrintedLemmas.{closed_done, closed_status, done_keeps, job_kept}
+use Rattle.mx_cli.proofs.ClosedLemmas.{closed_done}
+use Rattle.mx_scripts.proofs.PrintedLemmas.{done_keeps, job_kept}
 use Rattle.mx_scripts.proofs.printing.run_draw.Goals as goal
 
 pub returns-clause-prints : goal.returns-clause-prints
@@ -15,12 +16,6 @@ returns-clause-prints g c =
     (g.O.Output.written c.close.new.out)
     (closed_done takes (names_of c.plan_alone-names.result) (g.E.Output.written c.args.err.now) (g.E.Output.written c.close.new.err) c.close.result c.draw_file-ended.result
     c.draw_file-ended.ensures.done c.close.ensures.closes zero) c.close.ensures.held
-
-pub returns-clause-status : goal.returns-clause-status
-returns-clause-status g c =
-    let takes = g.O.Output.takes_all c.draw_file-ended.new.out && g.E.Output.takes_all c.args.err.now in
-    closed_status takes (names_of c.plan_alone-names.result) (g.E.Output.written c.args.err.now) (g.E.Output.written c.close.new.err) c.close.result c.draw_file-ended.result
-    c.draw_file-ended.ensures.zero c.close.ensures.closes
 
 pub returns-clause-draws : goal.returns-clause-draws
 returns-clause-draws g c =

@@ -1,7 +1,8 @@
 use Rattle.std.proofs.Common.{◌&&◌}
 use Rattle.mx_cli.specs.Words.{names_of}
 use Rattle.mx_scripts.specs.Requests.{walk}
-use Rattle.mx_scripts.proofs.PrintedLemmas.{closed_done, closed_status, done_keeps}
+use Rattle.mx_cli.proofs.ClosedLemmas.{closed_done}
+use Rattle.mx_scripts.proofs.PrintedLemmas.{done_keeps}
 use Rattle.mx_scripts.proofs.printing.run_walk.Goals as goal
 
 pub returns-clause-prints : goal.returns-clause-prints
@@ -12,9 +13,3 @@ returns-clause-prints g c =
     (g.O.Output.written c.close.new.out)
     (closed_done takes (names_of c.plan_alone-names.result) (g.E.Output.written c.args.err.now) (g.E.Output.written c.close.new.err) c.close.result c.print_walk-ended.result
     c.print_walk-ended.ensures.done c.close.ensures.closes zero) c.close.ensures.held
-
-pub returns-clause-status : goal.returns-clause-status
-returns-clause-status g c =
-    let takes = g.O.Output.takes_all c.print_walk-ended.new.out && g.E.Output.takes_all c.args.err.now in
-    closed_status takes (names_of c.plan_alone-names.result) (g.E.Output.written c.args.err.now) (g.E.Output.written c.close.new.err) c.close.result c.print_walk-ended.result
-    c.print_walk-ended.ensures.zero c.close.ensures.closes

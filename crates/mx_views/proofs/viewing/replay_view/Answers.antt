@@ -1,14 +1,13 @@
+use Rattle.std.proofs.Common.{inr}
 use Rattle.mx_cli.specs.Words.{texts_of}
-use Rattle.mx_cli.specs.Told.{seen}
-use Rattle.mx_views.proofs.ClosedLemmas.{status_refused}
-use Rattle.mx_views.specs.ViewWords.{view_line}
+use Rattle.mx_cli.proofs.RefusedLemmas.{runs_out}
+use Rattle.mx_views.specs.ViewWords.{view_line, request_asked, request_in}
 use Rattle.mx_views.proofs.viewing.replay_view.Goals as goal
 
 pub returns-in-Err-clause-status : goal.returns-in-Err-clause-status
-returns-in-Err-clause-status g c = status_refused (g.O.Output.takes_all c.args.out.now)
-    (seen (g.O.Output.written c.args.out.now) (g.E.Output.written c.args.err.now) (g.O.Output.has_refused c.args.out.now) (g.O.Output.keeps_back c.args.out.now))
-    (seen (g.O.Output.written c.refuse.new.out) (g.E.Output.written c.refuse.new.err) (g.O.Output.has_refused c.refuse.new.out) (g.O.Output.keeps_back c.refuse.new.out))
-    c.refuse.result c.in-Err.e (texts_of c.args.words.now) c.in-Err.ensures.err c.refuse.ensures.memory
+unfolding request_asked
+returns-in-Err-clause-status g c =
+    λ asks. inr (inr (runs_out view_line request_in (texts_of c.args.words.now) c.in-Err.e c.in-Err.ensures.err c.refuse.ensures.memory asks).0)
 
 pub returns-in-Err-clause-help : goal.returns-in-Err-clause-help
 returns-in-Err-clause-help g c = c.refuse.ensures.help view_line (texts_of c.args.words.now) c.in-Err.ensures.err

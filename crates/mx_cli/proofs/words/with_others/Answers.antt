@@ -1,0 +1,14 @@
+use Rattle.std.specs.Prelude.{codes}
+use Rattle.mx_cli.specs.Words.{with_listed}
+use Rattle.mx_cli.proofs.words.with_others.Goals as goal
+
+pub returns : goal.returns
+returns c = λ app is.
+    let live = with_listed app (codes "live") in
+    let draw = with_listed live (codes "draw") in
+    let script = with_listed draw (codes "script") in
+    let picture = with_listed script (codes "picture") in
+    let count = with_listed picture (codes "count") in
+    let drawn = c.with_listed-with_draw.ensures live (c.with_listed-with_live.ensures app is) in
+    let pictured = c.with_listed-with_picture.ensures script (c.with_listed-with_script.ensures draw drawn) in
+    c.with_listed.ensures count (c.with_listed-with_count.ensures picture pictured)
