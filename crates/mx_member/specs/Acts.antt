@@ -12,18 +12,23 @@ use Rattle.mx_member.specs.Member.{BringsRecords, MemberState}
 use Rattle.mx_member.specs.Steps.{IsTakeable, LacksItsRecord, ask_of, enter_of, read_of, write_of, leave_of, cancel_of, settle_of, tick_of, want_of, take_of, restart_of}
 
 -- what an act makes of a member
-abbrev pub act_of : {H S M : Type 0} → Core H S M → Act M → MemberState S → Done (MemberState S) Answer (Parcel M)
+abbrev pub act_of : {H S M : Type 0} → Core H S M → Act M → MemberState S →
+    Done (MemberState S) Answer (Parcel M)
 act_of core act.Ask m = answering (ask_of core m) (answer.Asked (ask_of core m).answer)
-act_of core act.Enter m = answering (quietly (enter_of core m)) (answer.Entered (enter_of core m).answer)
-act_of core (act.Read register) m = answering (quietly (read_of core register m)) (answer.Read (read_of core register m).answer)
+act_of core act.Enter m =
+    answering (quietly (enter_of core m)) (answer.Entered (enter_of core m).answer)
+act_of core (act.Read register) m =
+    answering (quietly (read_of core register m)) (answer.Read (read_of core register m).answer)
 act_of core (act.Write register value) m = answering (quietly (write_of core register value m)) (answer.Written (write_of core register value m).answer)
 act_of core act.Leave m = answering (leave_of core m) (answer.Left (leave_of core m).answer)
 act_of core act.Cancel m = answering (cancel_of core m) (answer.Cancelled (cancel_of core m).answer)
-act_of core (act.Settle k) m = answering (quietly (settle_of k m)) (answer.Settled (settle_of k m).answer)
+act_of core (act.Settle k) m =
+    answering (quietly (settle_of k m)) (answer.Settled (settle_of k m).answer)
 act_of core act.Tick m = answering (tick_of core m) answer.Ticked
 act_of core (act.Want to) m = answering (want_of core to m) answer.Wanted
 act_of core (act.Deliver from parcel) m = answering (take_of core from parcel m) answer.Delivered
-act_of core act.Restart m = record { state = restart_of core m; answer = answer.Woken; letters = [] }
+act_of core act.Restart m =
+    record { state = restart_of core m; answer = answer.Woken; letters = [] }
 
 -- the member can do this: a parcel that is delivered is one that it takes
 abbrev pub IsDoable : {S M : Type 0} → Act M → MemberState S → Type 0
@@ -64,7 +69,8 @@ IsRefusal (answer.Cancelled (Err fault)) = Unit {0}
 IsRefusal (answer.Settled (Err fault)) = Unit {0}
 IsRefusal _ = ⊥
 
--- node i of so many may do this: a parcel that it takes was sent to it, a want goes to a node
+-- node i of a given number of nodes may do this: a parcel that it takes was sent to it, a want goes
+-- to a node
 abbrev pub Arrives : {M : Type 0} → ℕ → List (ℕ × ℕ × Parcel M) → ℕ → Act M → Type 0
 Arrives nodes sent i act.Ask = Unit {0}
 Arrives nodes sent i act.Enter = Unit {0}

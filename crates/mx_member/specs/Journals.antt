@@ -13,7 +13,8 @@ pub record IsBaseOf (sections : List Record) (base : BaseState) : Type 0 where
   pub registers : base ≡ base_of base.upto sections
   pub there : IsGapless base.upto sections
 
--- the journal knows of these sections alone: its base is of the first of them, its records are among theirs
+-- the journal knows of these sections alone: its base is of the first of them, its records are
+-- among theirs
 pub record IsJournalOf (sections : List Record) (journal : JournalState) : Type 0 where
   pub base : IsBaseOf sections journal.base
   pub records : IsSubmap journal.records sections

@@ -8,15 +8,16 @@ use Rattle.mx_registers.specs.Based.{registers_in}
 use Rattle.mx_member.specs.declared.parcel.Parcel.{Parcel}
 use Rattle.mx_member.specs.declared.parcel.Parcel.TheVariants.{Guard, Want, Base, Records}
 
--- what never changes in a member: its number, the number of nodes, the greatest section number, and the
--- number of registers
+-- what never changes in a member: its number, the number of nodes, the greatest section number, and
+-- the number of registers
 pub record Setting : Type 0 where
   pub me : ℕ
   pub nodes : ℕ
   pub limit : ℕ
   pub registers : ℕ
 
--- a member: its core, the journal of the sections that it knows, and the draft of the section that it is inside
+-- a member: its core, the journal of the sections that it knows, and the draft of the section that
+-- it is inside
 pub record MemberState (S : Type 0) : Type 0 where
   pub setting : Setting
   pub core : S
@@ -35,10 +36,12 @@ abbrev pub with_core : {S : Type 0} → S → MemberState S → MemberState S
 with_core s m = record { setting = m.setting; core = s; journal = m.journal; draft = m.draft }
 
 abbrev pub with_draft : {S : Type 0} → Drafted → MemberState S → MemberState S
-with_draft draft m = record { setting = m.setting; core = m.core; journal = m.journal; draft = draft }
+with_draft draft m =
+    record { setting = m.setting; core = m.core; journal = m.journal; draft = draft }
 
 abbrev pub with_journal : {S : Type 0} → JournalState → MemberState S → MemberState S
-with_journal journal m = record { setting = m.setting; core = m.core; journal = journal; draft = m.draft }
+with_journal journal m =
+    record { setting = m.setting; core = m.core; journal = journal; draft = m.draft }
 
 -- letters of the core, as parcels
 abbrev pub guarded : {M : Type 0} → List (ℕ × M) → List (ℕ × Parcel M)

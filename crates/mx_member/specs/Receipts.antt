@@ -1,4 +1,5 @@
--- Receipts of sections that were left: all of them, those of one node, and how they stand one behind another.
+-- Receipts of sections that were left: all of them, those of one node, and how they stand one
+-- behind another.
 use Rattle.std.specs.Prelude.{ℕ, suc, ◌≡◌, ◌++◌, List, [], ◌∷◌, Ok, length, nat_eq, if◌then◌else◌}
 use Rattle.mx_stamps.specs.Lists.{IsIn}
 use Rattle.mx_journal.specs.declared.records.Record.{Record}
@@ -19,7 +20,8 @@ closed_by _ = []
 -- the receipts of the sections that were left, the newest first
 abbrev pub receipts_in : List Section → List Receipt
 receipts_in [] = []
-receipts_in (s ∷ ss) = if s.closed then section_receipt (suc (length ss)) s ∷ receipts_in ss else receipts_in ss
+receipts_in (s ∷ ss) =
+    if s.closed then section_receipt (suc (length ss)) s ∷ receipts_in ss else receipts_in ss
 
 -- those of node i among receipts with the newest first, in order
 abbrev pub own_in : ℕ → List Receipt → List Receipt
@@ -36,9 +38,12 @@ abbrev pub records_of : List Receipt → List Record
 records_of [] = []
 records_of (r ∷ rs) = records_of rs ++ record_of r ∷ []
 
--- receipts with the newest first stand one behind another: they bear the numbers from 1 on, and each read of
--- each of them has the value that the writes of those before it and its own first writes leave in the register
+-- receipts with the newest first stand one behind another: they bear the numbers from 1 on, and
+-- each read of each of them has the value that the writes of those before it and its own first
+-- writes leave in the register
 abbrev pub StandInOrder : List Receipt → Type 0
 StandInOrder [] = Unit {0}
 StandInOrder (r ∷ rs) =
-    (r.number ≡ suc (length rs)) × ((x : Read) → IsIn x r.reads.items → IsSerialRead (receipt_writes rs) r.writes.items x) × StandInOrder rs
+    (r.number ≡ suc (length rs))
+    × ((x : Read) → IsIn x r.reads.items → IsSerialRead (receipt_writes rs) r.writes.items x)
+    × StandInOrder rs

@@ -36,39 +36,49 @@ IsNode nodes i o = slice_get nodes i ≡ Some o
 
 -- a node at rest, which left no section yet
 abbrev pub owned_start : {H S M : Type 0} → Core H S M → H → ℕ → ℕ → ℕ → ℕ → Owned S
-owned_start core shape me origin limit registers = record { member = start_of core shape me origin limit registers; receipts = [] }
+owned_start core shape me origin limit registers =
+    record { member = start_of core shape me origin limit registers; receipts = [] }
 
--- what an act makes of a node: the receipt that a leave answers joins its own
+-- what an act makes of a node: the receipt that a leave returns joins those of the node
 abbrev pub owned_after : {H S M : Type 0} → Core H S M → Act M → Owned S → Owned S
-owned_after core a o = record { member = (act_of core a o.member).state; receipts = o.receipts ++ closed_by (act_of core a o.member).answer }
+owned_after core a o =
+    record {
+      member = (act_of core a o.member).state;
+      receipts = o.receipts ++ closed_by (act_of core a o.member).answer;
+    }
 
 -- members from node i on, each with its own of these receipts
 abbrev pub owners_from : {S : Type 0} → ℕ → List Receipt → List (MemberState S) → List (Owned S)
 owners_from i rs [] = []
-owners_from i rs (m ∷ ms) = record { member = m; receipts = own_in i rs } ∷ owners_from (suc i) rs ms
+owners_from i rs (m ∷ ms) =
+    record { member = m; receipts = own_in i rs } ∷ owners_from (suc i) rs ms
 
 -- members, each with the receipts of its own sections that were left
 abbrev pub owners : {S : Type 0} → List Section → List (MemberState S) → List (Owned S)
 owners ss members = owners_from 0 (receipts_in ss) members
 
 -- a sound world in which the nodes' receipts are those of the sections that were left
-pub record IsRun {H S M : Type 0} (core : Core H S M) (Good : World S M → Type 0) (ss : List Section) (nodes : List (Owned S)) (sent : List (ℕ × ℕ × Parcel M)) : Type 0 where
+pub record IsRun {H S M : Type 0} (core : Core H S M) (Good : World S M → Type 0)
+    (ss : List Section) (nodes : List (Owned S)) (sent : List (ℕ × ℕ × Parcel M)) : Type 0 where
   pub sound : IsSound core Good ss (members_of nodes) sent
   -- each node's receipts are those of its own sections that were left, in order
   pub own : (i : ℕ) (o : Owned S) → IsNode nodes i o → o.receipts ≡ own_in i (receipts_in ss)
   -- each section that was left was a node's
   pub placed : (r : Receipt) → IsIn r (receipts_in ss) → r.node < length nodes
   -- each node's journal covers its own receipts
-  pub recorded : (i : ℕ) (o : Owned S) (r : Receipt) → IsNode nodes i o → IsIn r o.receipts → Covers r.number o.member.journal
+  pub recorded : (i : ℕ) (o : Owned S) (r : Receipt) → IsNode nodes i o → IsIn r o.receipts →
+      Covers r.number o.member.journal
 
 -- the same where nobody sees the sections
-pub record IsRunning {H S M : Type 0} (core : Core H S M) (Good : World S M → Type 0) (nodes : List (Owned S)) (sent : List (ℕ × ℕ × Parcel M)) : Type 0 where
+pub record IsRunning {H S M : Type 0} (core : Core H S M) (Good : World S M → Type 0)
+    (nodes : List (Owned S)) (sent : List (ℕ × ℕ × Parcel M)) : Type 0 where
   pub sections : List Section
   pub run : IsRun core Good sections nodes sent
 
 -- and where nobody sees the parcels either
 abbrev pub HaveRun : {H S M : Type 0} → Core H S M → (World S M → Type 0) → List (Owned S) → Type 0
-HaveRun {H} {S} {M} core Good nodes = (sent : List (ℕ × ℕ × Parcel M)) × IsRunning core Good nodes sent
+HaveRun {H} {S} {M} core Good nodes =
+    (sent : List (ℕ × ℕ × Parcel M)) × IsRunning core Good nodes sent
 
 -- these receipts, the newest first, are all that the nodes hold, and stand one behind another
 pub record IsHistory {S : Type 0} (nodes : List (Owned S)) (rs : List Receipt) : Type 0 where
@@ -87,32 +97,50 @@ IsReceiptAt {S} nodes i k r = (o : Owned S) × IsNode nodes i o × (slice_get o.
 
 -- the journal is above those of all nodes
 abbrev pub IsAboveNodes : {S : Type 0} → List (Owned S) → JournalState → Type 0
-IsAboveNodes {S} nodes journal = (i : ℕ) (o : Owned S) → IsNode nodes i o → IsWithin o.member.journal journal
+IsAboveNodes {S} nodes journal =
+    (i : ℕ) (o : Owned S) → IsNode nodes i o → IsWithin o.member.journal journal
 
--- and is the join of all: its base is one of theirs, or none where no node settled anything; its records are theirs
-pub record IsJoinOfNodes {S : Type 0} (nodes : List (Owned S)) (journal : JournalState) : Type 0 where
+-- and is the join of all: its base is one of theirs, or none where no node settled anything; its
+-- records are theirs
+pub record IsJoinOfNodes {S : Type 0} (nodes : List (Owned S))
+    (journal : JournalState) : Type 0 where
   pub above : IsAboveNodes nodes journal
-  pub base : (journal.base ≡ origin) ⊎ ((i : ℕ) × (o : Owned S) × IsNode nodes i o × (journal.base ≡ o.member.journal.base))
-  pub records : (x : Record) → IsIn x journal.records → (i : ℕ) × (o : Owned S) × IsNode nodes i o × IsIn x o.member.journal.records
+  pub base : (journal.base ≡ origin)
+      ⊎ ((i : ℕ) × (o : Owned S) × IsNode nodes i o × (journal.base ≡ o.member.journal.base))
+  pub records : (x : Record) → IsIn x journal.records →
+      (i : ℕ) × (o : Owned S) × IsNode nodes i o × IsIn x o.member.journal.records
 
--- the receipts of all nodes, and a journal, tell of sections that stand one behind another. These are the receipts' records
-pub record IsAccount {S : Type 0} (nodes : List (Owned S)) (sections : List Record) (journal : JournalState) : Type 0 where
+-- the receipts of all nodes, and a journal, tell of sections that stand one behind another. These
+-- are the receipts' records
+pub record IsAccount {S : Type 0} (nodes : List (Owned S)) (sections : List Record)
+    (journal : JournalState) : Type 0 where
   -- each receipt is its node's, and bears one of the numbers from 1 to how many there are
-  pub within : (i k : ℕ) (r : Receipt) → IsReceiptAt nodes i k r → (r.node ≡ i) × (1 ≤ r.number) × (r.number ≤ receipt_count nodes)
+  pub within : (i k : ℕ) (r : Receipt) → IsReceiptAt nodes i k r →
+      (r.node ≡ i) × (1 ≤ r.number) × (r.number ≤ receipt_count nodes)
   -- each of these numbers is borne, at one place alone
-  pub each : (n : ℕ) → 1 ≤ n → n ≤ receipt_count nodes → (i : ℕ) × (k : ℕ) × (r : Receipt) × IsReceiptAt nodes i k r × (r.number ≡ n)
-  pub once : (i k j l : ℕ) (r s : Receipt) → IsReceiptAt nodes i k r → IsReceiptAt nodes j l s → r.number ≡ s.number → (i ≡ j) × (k ≡ l) × (r ≡ s)
+  pub each : (n : ℕ) → 1 ≤ n → n ≤ receipt_count nodes →
+      (i : ℕ) × (k : ℕ) × (r : Receipt) × IsReceiptAt nodes i k r × (r.number ≡ n)
+  pub once : (i k j l : ℕ) (r s : Receipt) → IsReceiptAt nodes i k r → IsReceiptAt nodes j l s →
+      r.number ≡ s.number → (i ≡ j) × (k ≡ l) × (r ≡ s)
   -- a node's later receipts bear greater numbers
-  pub ascends : (i k l : ℕ) (r s : Receipt) → IsReceiptAt nodes i k r → IsReceiptAt nodes i l s → k < l → r.number < s.number
-  -- the sections have these numbers, in order, and at each of them the record of the receipt that bears it
+  pub ascends : (i k l : ℕ) (r s : Receipt) → IsReceiptAt nodes i k r → IsReceiptAt nodes i l s →
+      k < l → r.number < s.number
+  -- the sections have these numbers, in order, and at each of them the record of the receipt that
+  -- bears it
   pub ordered : Ascending 1 sections
   pub keys : (n : ℕ) → IsThere n sections ↔ ((1 ≤ n) × (n ≤ receipt_count nodes))
-  pub records : (i k : ℕ) (r : Receipt) → IsReceiptAt nodes i k r → record_at r.number sections ≡ Some (record_of r)
-  -- the journal is theirs, settled up to its base: it covers these numbers, and has the records above its base
+  pub records : (i k : ℕ) (r : Receipt) → IsReceiptAt nodes i k r →
+      record_at r.number sections ≡ Some (record_of r)
+  -- the journal is theirs, settled up to its base: it covers these numbers, and has the records
+  -- above its base
   pub whole : journal ≡ settled journal.base.upto (unsettled sections)
   pub covers : (n : ℕ) → Covers n journal ↔ ((1 ≤ n) × (n ≤ receipt_count nodes))
-  pub kept : (i k : ℕ) (r : Receipt) → IsReceiptAt nodes i k r → journal.base.upto < r.number → record_at r.number journal.records ≡ Some (record_of r)
-  -- each value read is what the writes of the sections before, in order, and the section's own first ones leave
-  pub reads : (i k n : ℕ) (r : Receipt) (x : Read) → IsReceiptAt nodes i k r → r.number ≡ suc n → IsIn x r.reads.items → IsSerialRead (writes_to n sections) r.writes.items x
+  pub kept : (i k : ℕ) (r : Receipt) → IsReceiptAt nodes i k r → journal.base.upto < r.number →
+      record_at r.number journal.records ≡ Some (record_of r)
+  -- each value read is what the writes of the sections before, in order, and the section's own
+  -- first ones leave
+  pub reads : (i k n : ℕ) (r : Receipt) (x : Read) → IsReceiptAt nodes i k r → r.number ≡ suc n →
+      IsIn x r.reads.items → IsSerialRead (writes_to n sections) r.writes.items x
   -- and each register of the journal what the writes of all sections, in order, leave
-  pub shows : (count : ℕ) → count ≤ 32 → AreApplied (writes_to (receipt_count nodes) sections) (registers_in count journal)
+  pub shows : (count : ℕ) → count ≤ 32 →
+      AreApplied (writes_to (receipt_count nodes) sections) (registers_in count journal)

@@ -34,8 +34,10 @@ use Rattle.mx_member.specs.declared.faults.WriteFault.TheVariants as write
 use Rattle.mx_member.specs.Member.{MemberState, first_gap, with_core, with_draft, with_journal, guarded}
 
 -- a step of the core: draft and journal stay
-abbrev pub core_step : {S A M : Type 0} → MemberState S → Done S A M → Done (MemberState S) A (Parcel M)
-core_step m done = record { state = with_core done.state m; answer = done.answer; letters = guarded done.letters }
+abbrev pub core_step : {S A M : Type 0} → MemberState S → Done S A M →
+    Done (MemberState S) A (Parcel M)
+core_step m done =
+    record { state = with_core done.state m; answer = done.answer; letters = guarded done.letters }
 
 -- a refusal changes nothing
 abbrev pub refusing : {S A F : Type 0} → MemberState S → F → Quiet (MemberState S) (Result A F)
@@ -48,27 +50,35 @@ entered (Err fault) m = m
 
 -- what the sections below n left in a register, where the journal's base is below n
 abbrev pub register_below : ℕ → ℕ → JournalState → Content
-register_below register n journal = after_records register (below n journal.records) (cell_in register journal.base)
+register_below register n journal =
+    after_records register (below n journal.records) (cell_in register journal.base)
 
--- what a register shows inside section n: the draft's last write of it, or else what the sections below n left
+-- what a register shows inside section n: the draft's last write of it, or else what the sections
+-- below n left
 abbrev pub shown_inside : {S : Type 0} → ℕ → ℕ → MemberState S → ℕ
-shown_inside register n m = unwrap_or (last_value register m.draft.writes) (register_below register n m.journal).value
+shown_inside register n m =
+    unwrap_or (last_value register m.draft.writes) (register_below register n m.journal).value
 
--- why a read of a settled section is refused, where the draft has so many reads
+-- why a read of a settled section is refused, where the draft has this many reads
 abbrev pub settled_fault : ℕ → ℕ → ReadFault
 settled_fault reads upto = if nat_le 8 reads then read.Full else read.Settled upto
 
--- a read inside section n, which needs all sections below n, and a base that does not stand for n itself
-abbrev pub read_inside : {S : Type 0} → ℕ → ℕ → MemberState S → Quiet (MemberState S) (Result ℕ ReadFault)
+-- a read inside section n, which needs all sections below n, and a base that is not of n itself
+abbrev pub read_inside : {S : Type 0} → ℕ → ℕ → MemberState S →
+    Quiet (MemberState S) (Result ℕ ReadFault)
 read_inside register n m =
     if nat_le m.setting.registers register then refusing m read.NoRegister
     else (if nat_lt (first_gap m.journal) n then refusing m (read.Gap (first_gap m.journal))
     else (if nat_le 8 (length m.draft.reads) then refusing m read.Full
     else (if nat_le n m.journal.base.upto then refusing m (read.Settled m.journal.base.upto)
-    else record { state = with_draft (with_read register (shown_inside register n m) m.draft) m; answer = Ok (shown_inside register n m) })))
+    else record {
+      state = with_draft (with_read register (shown_inside register n m) m.draft) m;
+      answer = Ok (shown_inside register n m);
+    })))
 
 -- a write inside
-abbrev pub write_inside : {S : Type 0} → ℕ → ℕ → MemberState S → Quiet (MemberState S) (Result (Unit {0}) WriteFault)
+abbrev pub write_inside : {S : Type 0} → ℕ → ℕ → MemberState S →
+    Quiet (MemberState S) (Result (Unit {0}) WriteFault)
 write_inside register value m =
     if nat_le m.setting.registers register then refusing m write.NoRegister
     else (if nat_le 8 (length m.draft.writes) then refusing m write.Full
@@ -87,17 +97,22 @@ records_to i (r ∷ rs) = (i, Records (record { items = r ∷ rs })) ∷ []
 abbrev pub reaches : ℕ → Range → Bool
 reaches k range = nat_le (max range.first 1) (min range.last k)
 
--- the base, where some number that it stands for lies in the ranges, to node i
+-- the base, where some number that it has lies in the ranges, to node i
 abbrev pub base_to : {M : Type 0} → ℕ → List Range → JournalState → List (ℕ × Parcel M)
-base_to i ranges journal = if list_any (reaches journal.base.upto) ranges then (i, Base journal.base) ∷ [] else []
+base_to i ranges journal =
+    if list_any (reaches journal.base.upto) ranges then (i, Base journal.base) ∷ [] else []
 
--- what the journal answers to a want of node i: its base, and then records above it, where there are any
+-- what the journal answers to a want of node i: its base, and then records above it, where there
+-- are any
 abbrev pub answers_to : {M : Type 0} → ℕ → List Range → JournalState → List (ℕ × Parcel M)
-answers_to i ranges journal = base_to i ranges journal ++ records_to i (take 4 (in_ranges ranges journal.records))
+answers_to i ranges journal =
+    base_to i ranges journal ++ records_to i (take 4 (in_ranges ranges journal.records))
 
--- the records can be put: none bears 0, and those above the base agree with the journal and among themselves
+-- the records can be put: none bears 0, and those above the base agree with the journal and among
+-- themselves
 abbrev pub ArePuttable : List Record → JournalState → Type 0
-ArePuttable records journal = IsNumbered records × IsConsistent (journal.records ++ beyond journal.base.upto records)
+ArePuttable records journal =
+    IsNumbered records × IsConsistent (journal.records ++ beyond journal.base.upto records)
 
 -- the journal can take what the parcel brings
 abbrev pub IsAcceptable : {M : Type 0} → Parcel M → JournalState → Type 0
@@ -106,20 +121,26 @@ IsAcceptable (Want ranges) journal = Unit {0}
 IsAcceptable (Base base) journal = journal.base.upto ≡ base.upto → journal.base ≡ base
 IsAcceptable (Records records) journal = ArePuttable records.items journal
 
--- it can't, and n says why: the number of a base that differs; 0 where a record bears 0, else the least number that two differing ones bear
+-- it can't, and n says why: the number of a base that differs; 0 where a record bears 0, else the
+-- least number that two differing ones bear
 abbrev pub IsDisputed : {M : Type 0} → ℕ → Parcel M → JournalState → Type 0
 IsDisputed n (Guard letter) journal = ⊥
 IsDisputed n (Want ranges) journal = ⊥
 IsDisputed n (Base base) journal = (n ≡ base.upto) × AreOpposed journal.base base
 IsDisputed n (Records records) journal =
-    ((n ≡ 0) × IsThere 0 records.items) ⊎ (IsNumbered records.items × IsFirstConflict n (journal.records ++ beyond journal.base.upto records.items))
+    ((n ≡ 0) × IsThere 0 records.items)
+    ⊎ (IsNumbered records.items
+    × IsFirstConflict n (journal.records ++ beyond journal.base.upto records.items))
 
--- the member takes this parcel of that sender: it is no stranger, and the journal can take what it brings
+-- the member takes this parcel of that sender: it is no stranger, and the journal can take what it
+-- brings
 abbrev pub IsTakeable : {S M : Type 0} → ℕ → Parcel M → MemberState S → Type 0
 IsTakeable from parcel m = (from < m.setting.nodes) × IsAcceptable parcel m.journal
 
--- the registers of sections 1 to k come in place of their records, where none of them is missing and no more are settled
-abbrev pub settle_of : {S : Type 0} → ℕ → MemberState S → Quiet (MemberState S) (Result (Unit {0}) SettleFault)
+-- the registers of sections 1 to k come in place of their records, where none of them is missing
+-- and no more are settled
+abbrev pub settle_of : {S : Type 0} → ℕ → MemberState S →
+    Quiet (MemberState S) (Result (Unit {0}) SettleFault)
 settle_of k m =
     if nat_lt k m.journal.base.upto then refusing m (settle.Below m.journal.base.upto)
     else (if nat_le (first_gap m.journal) k then refusing m (settle.Gap (first_gap m.journal))
@@ -132,11 +153,16 @@ module _ {H S M : Type 0} (core : Core H S M) where
   abbrev pub tick_of : MemberState S → Done (MemberState S) (Unit {0}) (Parcel M)
   tick_of m = core_step m (core.tick m.core)
 
-  abbrev pub cancel_of : MemberState S → Done (MemberState S) (Result (Unit {0}) CancelFault) (Parcel M)
+  abbrev pub cancel_of : MemberState S →
+      Done (MemberState S) (Result (Unit {0}) CancelFault) (Parcel M)
   cancel_of m = core_step m (core.cancel m.core)
 
   abbrev pub enter_of : MemberState S → Quiet (MemberState S) (Result ℕ EnterFault)
-  enter_of m = record { state = entered (core.enter m.core).answer (with_core (core.enter m.core).state m); answer = (core.enter m.core).answer }
+  enter_of m =
+      record {
+        state = entered (core.enter m.core).answer (with_core (core.enter m.core).state m);
+        answer = (core.enter m.core).answer;
+      }
 
   abbrev pub read_at : ℕ → MemberState S → Phase → Quiet (MemberState S) (Result ℕ ReadFault)
   read_at register m Idle = refusing m read.NotInside
@@ -146,7 +172,8 @@ module _ {H S M : Type 0} (core : Core H S M) where
   abbrev pub read_of : ℕ → MemberState S → Quiet (MemberState S) (Result ℕ ReadFault)
   read_of register m = read_at register m (core.phase m.core)
 
-  abbrev pub write_at : ℕ → ℕ → MemberState S → Phase → Quiet (MemberState S) (Result (Unit {0}) WriteFault)
+  abbrev pub write_at : ℕ → ℕ → MemberState S → Phase →
+      Quiet (MemberState S) (Result (Unit {0}) WriteFault)
   write_at register value m Idle = refusing m write.NotInside
   write_at register value m Waiting = refusing m write.NotInside
   write_at register value m (Inside n) = write_inside register value m
@@ -154,7 +181,8 @@ module _ {H S M : Type 0} (core : Core H S M) where
   abbrev pub write_of : ℕ → ℕ → MemberState S → Quiet (MemberState S) (Result (Unit {0}) WriteFault)
   write_of register value m = write_at register value m (core.phase m.core)
 
-  -- section n is left: its receipt is the draft's, and its record joins the journal, unless that covers n already
+  -- section n is left: its receipt is the draft's, and its record joins the journal, unless that
+  -- covers n already
   abbrev pub left : ℕ → MemberState S → Done (MemberState S) (Result Receipt LeaveFault) (Parcel M)
   left n m = record {
     state = record {
@@ -171,7 +199,8 @@ module _ {H S M : Type 0} (core : Core H S M) where
   abbrev pub LacksItsRecord : MemberState S → Type 0
   LacksItsRecord m = (n : ℕ) × (core.phase m.core ≡ Inside n) × (Covers n m.journal → ⊥)
 
-  abbrev pub leave_at : MemberState S → Phase → Done (MemberState S) (Result Receipt LeaveFault) (Parcel M)
+  abbrev pub leave_at : MemberState S → Phase →
+      Done (MemberState S) (Result Receipt LeaveFault) (Parcel M)
   leave_at m Idle = record { state = m; answer = Err leave.NotInside; letters = [] }
   leave_at m Waiting = record { state = m; answer = Err leave.NotInside; letters = [] }
   leave_at m (Inside n) = left n m
@@ -181,14 +210,27 @@ module _ {H S M : Type 0} (core : Core H S M) where
 
   -- the node asks another for all that it lacks
   abbrev pub want_of : ℕ → MemberState S → Done (MemberState S) (Unit {0}) (Parcel M)
-  want_of to m = record { state = m; answer = tt; letters = want_to to (take 8 (gaps_in m.setting.limit m.journal)) }
+  want_of to m =
+      record {
+        state = m;
+        answer = tt;
+        letters = want_to to (take 8 (gaps_in m.setting.limit m.journal));
+      }
 
-  -- a parcel that the member takes: a letter goes to the core, a want is answered by base and records where there are any, a base and records join the journal
+  -- a parcel that the member takes: a letter goes to the core, a want is answered by base and
+  -- records where there are any, a base and records join the journal
   abbrev pub take_of : ℕ → Parcel M → MemberState S → Done (MemberState S) (Unit {0}) (Parcel M)
   take_of from (Guard letter) m = core_step m (core.deliver from letter m.core)
-  take_of from (Want ranges) m = record { state = m; answer = tt; letters = answers_to from ranges.items m.journal }
-  take_of from (Base base) m = record { state = with_journal (with_base base m.journal) m; answer = tt; letters = [] }
-  take_of from (Records records) m = record { state = with_journal (with_list records.items m.journal) m; answer = tt; letters = [] }
+  take_of from (Want ranges) m =
+      record { state = m; answer = tt; letters = answers_to from ranges.items m.journal }
+  take_of from (Base base) m =
+      record { state = with_journal (with_base base m.journal) m; answer = tt; letters = [] }
+  take_of from (Records records) m =
+      record {
+        state = with_journal (with_list records.items m.journal) m;
+        answer = tt;
+        letters = [];
+      }
 
   -- a node wakes up again: core and journal stay, the draft is emptied
   abbrev pub restart_of : MemberState S → MemberState S

@@ -1,4 +1,5 @@
--- Whole worlds: members, the parcels ever sent, and the sections so far; and what each of them keeps.
+-- Whole worlds: members, the parcels ever sent, and the sections so far; and what each of them
+-- keeps.
 use Rattle.std.specs.Prelude.{ℕ, suc, ◌≡◌, ◌<◌, ◌≤◌, ◌++◌, false, List, [], ◌∷◌, Some, length, map, slice_get}
 use Rattle.mx_stamps.specs.Lists.{IsIn}
 use Rattle.mx_journal.specs.Records.{Ascending}
@@ -35,13 +36,17 @@ IsDraftOf m n [] = ⊥
 IsDraftOf m n (s ∷ ss) = (s ≡ draft_of m) × (n ≡ suc (length ss)) × AllClosed ss
 
 -- what every world keeps, with the sections so far
-pub record IsSound {H S M : Type 0} (core : Core H S M) (Good : World S M → Type 0) (ss : List Section) (members : List (MemberState S)) (sent : List (ℕ × ℕ × Parcel M)) : Type 0 where
+pub record IsSound {H S M : Type 0} (core : Core H S M) (Good : World S M → Type 0)
+    (ss : List Section) (members : List (MemberState S)) (sent : List (ℕ × ℕ
+    × Parcel M)) : Type 0 where
   pub good : Good (core_part members sent)
   -- the sections bear 1 to the greatest number that a node drew
   pub counted : length ss ≡ greatest_mine core (core_part members sent)
   -- at most the newest is open: it is that of the node inside
-  pub inside : (i n : ℕ) (m : MemberState S) → IsMember members i m → core.phase m.core ≡ Inside n → IsDraftOf m n ss
-  pub nobody : ((i : ℕ) (m : MemberState S) → IsMember members i m → IsInside core m.core → ⊥) → AllClosed ss
+  pub inside : (i n : ℕ) (m : MemberState S) → IsMember members i m → core.phase m.core ≡ Inside n →
+      IsDraftOf m n ss
+  pub nobody : ((i : ℕ) (m : MemberState S) → IsMember members i m → IsInside core m.core → ⊥) →
+      AllClosed ss
   -- each section's reads have the values that the sections before it and its own writes leave
   pub serial : ReadSerially ss
   -- each member knows its number, and how many there are
@@ -50,8 +55,11 @@ pub record IsSound {H S M : Type 0} (core : Core H S M) (Good : World S M → Ty
   -- a base keeps 32 registers
   pub few : (i : ℕ) (m : MemberState S) → IsMember members i m → m.setting.registers ≤ 32
   -- journals, and what parcels bring, are of the section journal
-  pub journals : (i : ℕ) (m : MemberState S) → IsMember members i m → IsJournalOf (section_journal ss) m.journal
-  pub ordered : (i : ℕ) (m : MemberState S) → IsMember members i m → Ascending (suc m.journal.base.upto) m.journal.records
+  pub journals : (i : ℕ) (m : MemberState S) → IsMember members i m →
+      IsJournalOf (section_journal ss) m.journal
+  pub ordered : (i : ℕ) (m : MemberState S) → IsMember members i m →
+      Ascending (suc m.journal.base.upto) m.journal.records
   pub parcels : (a b : ℕ) (p : Parcel M) → IsIn (a, b, p) sent → IsParcelOf (section_journal ss) p
   -- parcels go from nodes to nodes
-  pub between : (a b : ℕ) (p : Parcel M) → IsIn (a, b, p) sent → (a < length members) × (b < length members)
+  pub between : (a b : ℕ) (p : Parcel M) → IsIn (a, b, p) sent →
+      (a < length members) × (b < length members)

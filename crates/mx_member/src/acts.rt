@@ -1,4 +1,4 @@
-//! What a member does, and what it answers.
+//! What a member does, and what comes of it.
 
 ghost use Rattle.std.specs.Prelude.{◌≡◌, [], IfOk, OnErr};
 ghost use Rattle.mx_member.specs.Acts.{IsDoable, NeedsMemory, act_of};
@@ -34,7 +34,7 @@ pub enum Act<M> {
     Restart,
 }
 
-/// What a member answers to an act.
+/// What a member returns of an act.
 #[derive(Drop)]
 pub enum Answer {
     Asked(Result<Stamp, AskFault>),

@@ -12,14 +12,14 @@ pub enum ReadFault {
     #[error("no register")]
     NoRegister,
     /// The journal does not cover this section, which is the first that it does not. Its number is
-    /// below that of the own section.
+    /// below that of the section that is read in.
     #[error("gap {0}")]
     Gap(u64),
     /// The draft holds eight reads already.
     #[error("full")]
     Full,
-    /// The journal's base stands for the sections up to this one, and the own section is among
-    /// them. Only a forged base leads to this.
+    /// The journal's base is of the sections up to this one, and the section that is read in is
+    /// among them. Only a forged base leads to this.
     #[error("settled {0}")]
     Settled(u64),
 }
@@ -74,9 +74,9 @@ pub enum DeliverFault {
     /// The sender is no node of the cluster.
     #[error("stranger")]
     Stranger,
-    /// Two differing records bear this number, which is the least such number; 0 where a record bears
-    /// 0. Or the own base and the one that is delivered are of the sections up to this number, and
-    /// differ. No parcel that a member of the cluster sent leads to this.
+    /// Two differing records bear this number, which is the least such number; 0 where a record
+    /// bears 0. Or the member's base and the one that is delivered are of the sections up to this
+    /// number, and differ. No parcel that a member of the cluster sent leads to this.
     #[error("conflict {0}")]
     Conflict(u64),
     /// There was no memory for the journal to grow.

@@ -25,8 +25,8 @@ use mx_registers::{View, view};
 use mx_stamps::NodeId;
 
 impl<C: Exclusion> Member<C> {
-    /// Asks another node for the sections that are missing, by the least eight ranges of their numbers.
-    /// Nothing is sent where none is missing up to the limit.
+    /// Asks another node for the sections that are missing, by the least eight ranges of their
+    /// numbers. Nothing is sent where none is missing up to the limit.
     pub fn want(&self, to: NodeId, out: &mut Outbox<Parcel<C::Msg>>)
         requires { out.old ≡ [] }
         ensures letters { out.new ≡ (want_of C.core to self.now).letters }
@@ -38,9 +38,9 @@ impl<C: Exclusion> Member<C> {
     }
 
     /// Takes a parcel of a node of the cluster, which may be this one. A letter goes to the core; a
-    /// want is answered by the base, where that stands for some number in its ranges, and by records,
-    /// where there are any; of records the journal takes all or none; a base comes in place of the own
-    /// one, where it is above that.
+    /// want is answered by the base, where that has some number in its ranges, and by records,
+    /// where there are any; of records the journal takes all or none; a base comes in place of the
+    /// member's own one, where it is above that.
     pub fn deliver(
         &mut self,
         from: NodeId,
@@ -64,7 +64,7 @@ impl<C: Exclusion> Member<C> {
         self.receive(from, &parcel, out)
     }
 
-    /// The same of a parcel that stays where it is.
+    /// Takes a parcel as `deliver` does, but leaves it where it is.
     pub fn receive(
         &mut self,
         from: NodeId,
@@ -81,11 +81,12 @@ impl<C: Exclusion> Member<C> {
             ↔ IsTakeable from parcel.now self.old }
         ensures memory { (result ≡ Err DeliverFault.Memory) → BringsRecords parcel.now }
         ensures state { OnOk result (self.new ≡ (take_of C.core from parcel.now self.old).state) }
-        ensures letters { OnOk result (out.new ≡ (take_of C.core from parcel.now self.old).letters) }
+        ensures letters { OnOk result (out.new
+            ≡ (take_of C.core from parcel.now self.old).letters) }
         ensures err { OnErr result (self.new ≡ self.old) }
         ensures quiet { OnErr result (out.new ≡ []) }
     {
-        // that the records of a journal agree is known from this call
+        // for the prover: that the records of a journal agree is known from this call
         let _ = self.journal.is_empty();
         if from.get() >= self.nodes {
             return Err(DeliverFault::Stranger);
@@ -108,15 +109,17 @@ impl<C: Exclusion> Member<C> {
     /// Takes a letter of the core.
     fn hear(&mut self, from: NodeId, letter: C::Msg, out: &mut Outbox<Parcel<C::Msg>>)
         requires { out.old ≡ [] }
-        ensures state { self.new ≡ (core_step self.old (C.core.deliver from letter self.old.core)).state }
-        ensures letters { out.new ≡ (core_step self.old (C.core.deliver from letter self.old.core)).letters }
+        ensures state { self.new
+            ≡ (core_step self.old (C.core.deliver from letter self.old.core)).state }
+        ensures letters { out.new
+            ≡ (core_step self.old (C.core.deliver from letter self.old.core)).letters }
     {
         self.core.deliver(from, letter, &mut self.letters);
         guard_all(&mut self.letters, out);
     }
 
-    /// Answers a want by the base, where it stands for some number in the ranges, and then by the
-    /// records that lie in them, the least four.
+    /// Answers a want by the base, where it has some number in the ranges, and then by the records
+    /// that lie in them, the least four.
     fn answer_want(&self, from: NodeId, ranges: &[Range], out: &mut Outbox<Parcel<C::Msg>>)
         requires { out.old ≡ [] }
         ensures { out.new ≡ answers_to from ranges.now self.now.journal }
@@ -135,7 +138,7 @@ impl<C: Exclusion> Member<C> {
     }
 }
 
-/// Whether the base stands for a number in one of the ranges.
+/// Whether a base of the sections up to this number has a number in one of the ranges.
 fn is_wanted(upto: u64, ranges: &[Range]) -> bool
     ensures { result ≡ list_any (reaches upto) ranges.now }
 {
@@ -144,7 +147,7 @@ fn is_wanted(upto: u64, ranges: &[Range]) -> bool
         .any(|range| range.first.max(1) <= range.last.min(upto))
 }
 
-/// Sends the base, where it stands for a number in one of the ranges.
+/// Sends the base, where it has a number in one of the ranges.
 fn send_base<M: Copy + Default>(
     to: NodeId,
     ranges: &[Range],

@@ -92,7 +92,7 @@ impl<C: Exclusion> Member<C> {
         answer
     }
 
-    /// Enters the section with an empty draft, and answers its number.
+    /// Enters the section with an empty draft, and returns its number.
     pub fn enter(&mut self) -> Result<u64, EnterFault>
         ensures state { self.new ≡ (enter_of C.core self.old).state }
         ensures answer { result ≡ (enter_of C.core self.old).answer }

@@ -17,8 +17,8 @@ use mx_registers::{View, view_below};
 
 impl<C: Exclusion> Member<C> {
     /// Reads a register inside: the value that this section wrote last, or else what the sections
-    /// before left. The read joins the draft. `Gap` names the first section before this one that the
-    /// journal does not cover.
+    /// before left. The read joins the draft. `Gap` names the first section before this one that
+    /// the journal does not cover.
     pub fn read(&mut self, register: u8) -> Result<u64, ReadFault>
         ensures state { self.new ≡ (read_of C.core register self.old).state }
         ensures answer { result ≡ (read_of C.core register self.old).answer }
@@ -108,7 +108,8 @@ impl<C: Exclusion> Member<C> {
         ensures state { self.new ≡ (settle_of upto self.old).state }
         ensures answer { result ≡ (settle_of upto self.old).answer }
     {
-        // the order of the journal, and that its cells are of its base, are known from these calls
+        // for the prover: the order of the journal, and that its cells are of its base, are known
+        // from these calls
         let _ = (self.journal.is_empty(), self.journal.base().upto());
         self.journal.settle(upto)
     }
@@ -138,7 +139,7 @@ fn keep(journal: &mut Journal, shown: &mut View, entry: &Record) -> Result<(), C
     ensures shown { (count : ℕ) → IsViewOf count journal.old shown.old
         → IsViewOf count journal.new shown.new }
 {
-    // the order of the journal is known from this call
+    // for the prover: the order of the journal is known from this call
     let _ = journal.is_empty();
     match journal.put(entry.copy()) {
         Ok(Put::New) => {

@@ -5,7 +5,8 @@ use Rattle.mx_journal.specs.declared.records.Record.{Record}
 use Rattle.mx_journal.specs.declared.receipts.Receipt.{Receipt}
 use Rattle.mx_journal.specs.Drafted.{Drafted, fresh, with_read, with_write, receipt_of, record_of}
 
--- what an event tells of sections: a node enters, reads a value from a register, writes one, leaves, or wakes up again
+-- what an event tells of sections: a node enters, reads a value from a register, writes one,
+-- leaves, or wakes up again
 pub data Mark : Type 0 where
   Came : (node number : ℕ) → Mark
   Got : (node register value : ℕ) → Mark
@@ -13,7 +14,8 @@ pub data Mark : Type 0 where
   Went : (node : ℕ) (receipt : Receipt) → Mark
   Woke : (node : ℕ) → Mark
 
--- a section: the node that entered it, what the node read and wrote in it since it entered or last woke up, and whether it was left
+-- a section: the node that entered it, what the node read and wrote in it since it entered or last
+-- woke up, and whether it was left
 pub record Section : Type 0 where
   pub node : ℕ
   pub draft : Drafted
@@ -33,7 +35,8 @@ abbrev pub at_open : ℕ → (Section → Section) → List Section → List Sec
 at_open i f [] = []
 at_open i f (s ∷ ss) = if nat_eq s.node i && not s.closed then f s ∷ ss else s ∷ at_open i f ss
 
--- the sections after a mark. They are listed with the newest first, so that n - 1 others stand behind the n-th
+-- the sections after a mark. They are listed with the newest first, so that n - 1 others stand
+-- behind the n-th
 abbrev pub after_mark : List Section → Mark → List Section
 after_mark ss (Came i n) = opened i ∷ ss
 after_mark ss (Got i register value) = at_open i (redrafted (with_read register value)) ss

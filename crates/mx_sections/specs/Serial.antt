@@ -19,15 +19,17 @@ IsInNewest i (s ∷ ss) = (s.node ≡ i) × (s.closed ≡ false)
 abbrev pub IsInSection : ℕ → ℕ → List Section → Type 0
 IsInSection i n ss = IsInNewest i ss × (n ≡ length ss)
 
--- what a mark must be after these sections. An entry finds all of them left, and bears the next number.
--- A read is of the node inside, and its value is what all writes so far, in order of entry, leave in the register.
--- A write is of the node inside. A receipt is the newest section's, of the node inside
+-- what a mark must be after these sections. An entry finds all of them left, and bears the next
+-- number. A read is of the node inside, and its value is what all writes so far, in order of entry,
+-- leave in the register. A write is of the node inside. A receipt is the newest section's, of the
+-- node inside
 abbrev pub Fits : List Section → Mark → Type 0
 Fits ss (Came i n) = AllClosed ss × (n ≡ suc (length ss))
 Fits ss (Got i register value) = IsInNewest i ss × (value ≡ applied register (writes_in ss) 0)
 Fits ss (Wrote i register value) = IsInNewest i ss
 Fits [] (Went i receipt) = ⊥
-Fits (s ∷ ss) (Went i receipt) = IsInNewest i (s ∷ ss) × (receipt ≡ section_receipt (suc (length ss)) s)
+Fits (s ∷ ss) (Went i receipt) =
+    IsInNewest i (s ∷ ss) × (receipt ≡ section_receipt (suc (length ss)) s)
 Fits ss (Woke i) = Unit {0}
 
 -- each mark fits what stands before it
@@ -35,15 +37,19 @@ abbrev pub AllFit : List Section → List Mark → Type 0
 AllFit ss [] = Unit {0}
 AllFit ss (m ∷ ms) = Fits ss m × AllFit (after_mark ss m) ms
 
--- the read has the value that the writes before its section and the section's own before it leave in the register
+-- the read has the value that the writes before its section and the section's own before it leave
+-- in the register
 abbrev pub IsSerialRead : List Write → List Write → Read → Type 0
 IsSerialRead before writes read =
-    (read.after ≤ length writes) × (read.value ≡ applied read.register (before ++ take read.after writes) 0)
+    (read.after ≤ length writes)
+    × (read.value ≡ applied read.register (before ++ take read.after writes) 0)
 
 -- each read of each section has such a value
 abbrev pub ReadSerially : List Section → Type 0
 ReadSerially [] = Unit {0}
-ReadSerially (s ∷ ss) = ((x : Read) → IsIn x s.draft.reads → IsSerialRead (writes_in ss) s.draft.writes x) × ReadSerially ss
+ReadSerially (s ∷ ss) =
+    ((x : Read) → IsIn x s.draft.reads → IsSerialRead (writes_in ss) s.draft.writes x)
+    × ReadSerially ss
 
 -- from a moment at which nobody is inside, or this node with this number: entries and leavings
 -- alternate, and each leaving has the node and the number of the entry before it

@@ -1,4 +1,5 @@
--- What is said of a trace alone: exclusion and numbering, its sections, their journal and their order.
+-- What is said of a trace alone: exclusion and numbering, its sections, their journal and their
+-- order.
 use Rattle.std.specs.Prelude.{ℕ, ◌≤◌, List, [], ◌∷◌, ◌++◌, None}
 use Rattle.mx_journal.specs.declared.records.Record.{Record}
 use Rattle.mx_journal.specs.Settled.{IsCovered, JournalState, top_covered}
@@ -12,8 +13,8 @@ use Rattle.mx_sections.specs.declared.outcome.Outcome.{Outcome}
 use Rattle.mx_sections.specs.declared.outcome.Outcome.TheVariants.{Entered, Value, Written, Left, Woken}
 use Rattle.mx_sections.specs.declared.outcome.Entry.{Entry}
 
--- `Entered` counts with Enter, `Value` with Read, `Written` with Write, `Left` with Leave and `Woken` with
--- Restart. Any other pairing counts for nothing
+-- `Entered` counts with Enter, `Value` with Read, `Written` with Write, `Left` with Leave and
+-- `Woken` with Restart. Any other pairing counts for nothing
 abbrev pub mark_of : Event → Outcome → List Mark
 mark_of (Enter i) (Entered n) = Came i n ∷ []
 mark_of (Read i register) (Value value) = Got i register value ∷ []
@@ -48,8 +49,9 @@ journal_of trace = section_journal (sections trace)
 abbrev pub IsSerial : List Entry → Type 0
 IsSerial trace = AllFit [] (marks trace)
 
--- where the journal covers the first k sections and no others, its registers, of which a base keeps 32, are
--- what the writes of these sections leave, applied in order of entry
+-- where the journal covers the first k sections and no others, its registers, of which a base keeps
+-- 32, are what the writes of these sections leave, applied in order of entry
 abbrev pub ShowsInOrder : List Entry → JournalState → Type 0
 ShowsInOrder trace journal =
-    (k count : ℕ) → count ≤ 32 → IsCovered k journal → top_covered journal ≤ k → AreApplied (writes_in (oldest k (sections trace))) (registers_in count journal)
+    (k count : ℕ) → count ≤ 32 → IsCovered k journal → top_covered journal ≤ k →
+    AreApplied (writes_in (oldest k (sections trace))) (registers_in count journal)

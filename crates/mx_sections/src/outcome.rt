@@ -17,12 +17,12 @@ pub enum Cause {
     NumbersSpent,
     NotInside,
     NoRegister,
-    /// The journal does not cover this section, the first that it does not: below the own one, at a
-    /// read, or up to the number that is to be settled.
+    /// The journal does not cover this section, the first that it does not: below the one that is
+    /// read in, or up to the number that is to be settled.
     Gap(u64),
     /// The section has eight reads already, at a read, or eight writes, at a write.
     Full,
-    /// The journal's base stands for more sections already, for those up to this one.
+    /// The journal's base is of more sections already, of those up to this one.
     Below(u64),
 }
 
