@@ -35,6 +35,10 @@ impl Exclusion for Maekawa {
         shape.nodes()
     }
 
+    fn is_same(one: &MaekawaMsg, other: &MaekawaMsg) -> bool {
+        one == other
+    }
+
     fn start(shape: &Quorums, me: NodeId, origin: u64, limit: u64) -> Self {
         let count = shape.nodes();
         let own = shape.set(me);

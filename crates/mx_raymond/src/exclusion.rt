@@ -33,6 +33,10 @@ impl Exclusion for Raymond {
         shape.nodes()
     }
 
+    fn is_same(one: &RaymondMsg, other: &RaymondMsg) -> bool {
+        one == other
+    }
+
     fn start(shape: &Tree, me: NodeId, origin: u64, limit: u64) -> Self {
         Raymond {
             me,

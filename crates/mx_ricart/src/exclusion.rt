@@ -31,6 +31,10 @@ impl Exclusion for Ricart {
         shape.get()
     }
 
+    fn is_same(one: &RicartMsg, other: &RicartMsg) -> bool {
+        one == other
+    }
+
     fn start(shape: &Count, me: NodeId, origin: u64, limit: u64) -> Self {
         Ricart {
             me,
