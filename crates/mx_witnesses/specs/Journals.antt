@@ -25,8 +25,10 @@ journal_in (Some m) = Some m.journal
 abbrev pub journal_at : {S M : Type 0} → ClusterState S M → ℕ → Option JournalState
 journal_at g i = journal_in (slice_get g.members i)
 
--- the trace is that of a run, after which nodes 0 and 1 have these journals; they agree, and j is their join, with these registers
-pub record Merges {H S M : Type 0} (core : Core H S M) (IsShape : H → Type 0) (shape : H) (trace : List Entry) (a b j : JournalState) (registers : List Content) : Type 0 where
+-- the trace is that of a run, after which nodes 0 and 1 have these journals; they agree, and j is
+-- their join, with these registers
+pub record Merges {H S M : Type 0} (core : Core H S M) (IsShape : H → Type 0) (shape : H)
+    (trace : List Entry) (a b j : JournalState) (registers : List Content) : Type 0 where
   pub happens : Happens core IsShape shape trace
   pub of_zero : journal_at happens.after 0 ≡ Some a
   pub of_one : journal_at happens.after 1 ≡ Some b
@@ -36,7 +38,13 @@ pub record Merges {H S M : Type 0} (core : Core H S M) (IsShape : H → Type 0) 
 
 -- a section that read these and wrote this value, both of register 0
 abbrev pub receipt : ℕ → ℕ → List Read → ℕ → Receipt
-receipt number node reads value = record { number = number; node = node; reads = record { items = reads }; writes = record { items = record { register = 0; value = value } ∷ [] } }
+receipt number node reads value =
+    record {
+      number = number;
+      node = node;
+      reads = record { items = reads };
+      writes = record { items = record { register = 0; value = value } ∷ [] };
+    }
 
 -- a read of this value from register 0, before any write
 abbrev pub got : ℕ → Read
@@ -57,7 +65,8 @@ second_part =
     is (event.Read 0 0) (Value 7) ∷ is (event.Write 0 0 9) Written ∷ is (event.Leave 0) (Left (receipt 2 0 (got 7 ∷ []) 9)) ∷
     is (event.Settle 0 1) Settled ∷ []
 
--- node 1 enters section 3, and reads there once it has node 0's base and record; node 0 settles section 2
+-- node 1 enters section 3, and reads there once it has node 0's base and record; node 0 settles
+-- section 2
 abbrev pub third_part : List Entry
 third_part =
     is (event.Ask 1) (Asked (stamp 3 1)) ∷ is (event.Deliver 6) Delivered ∷ is (event.Deliver 7) Delivered ∷
@@ -75,13 +84,22 @@ fourth_part =
 abbrev pub journals_trace : List Entry
 journals_trace = first_part ++ (second_part ++ (third_part ++ fourth_part))
 
--- the base of so many sections, of which this one wrote the value to register 0
+-- the base of a given number of sections, of which this one wrote the value to register 0
 abbrev pub base : ℕ → ℕ → ℕ → BaseState
-base upto value number = record { upto = upto; cells = record { value = value; number = number } ∷ replicate 31 unwritten }
+base upto value number =
+    record {
+      upto = upto;
+      cells = record { value = value; number = number } ∷ replicate 31 unwritten;
+    }
 
 -- the record of a section that wrote the value to register 0
 abbrev pub entry : ℕ → ℕ → ℕ → Record
-entry number node value = record { number = number; node = node; writes = record { items = record { register = 0; value = value } ∷ [] } }
+entry number node value =
+    record {
+      number = number;
+      node = node;
+      writes = record { items = record { register = 0; value = value } ∷ [] };
+    }
 
 -- what node 0 has at the end, what node 1 has, and both together
 abbrev pub zeros_journal : JournalState

@@ -1,5 +1,5 @@
--- A run from a cluster at rest, and one trace of each algorithm: node 0 is in section 1 while node 1
--- waits, and then node 1 enters section 2.
+-- A run from a cluster at rest, and one trace of each algorithm: node 0 is in section 1 while node
+-- 1 waits, and then node 1 enters section 2.
 use Rattle.std.specs.Prelude.{ℕ, ◌≡◌, true, false, List, [], ◌∷◌, map}
 use Rattle.mx_stamps.specs.Lists.{each_below}
 use Rattle.mx_stamps.specs.declared.stamp.Stamp.{Stamp}
@@ -18,13 +18,20 @@ use Rattle.mx_network.specs.Step.{ClusterState, RunsTo}
 
 -- a cluster at rest with origin 0, limit 10 and one register
 abbrev pub at_rest : {H S M : Type 0} → Core H S M → H → ClusterState S M
-at_rest core shape = record { members = each_below (λ i. start_of core shape i 0 10 1) (core.count shape); sent = []; trace = [] }
+at_rest core shape =
+    record {
+      members = each_below (λ i. start_of core shape i 0 10 1)
+          (core.count shape);
+      sent = [];
+      trace = [];
+    }
 
 abbrev pub events_of : List Entry → List Event
 events_of trace = map (λ (e : Entry). e.event) trace
 
 -- over this shape, which is a valid one, the events of the trace come out as it says
-pub record Happens {H S M : Type 0} (core : Core H S M) (IsShape : H → Type 0) (shape : H) (trace : List Entry) : Type 0 where
+pub record Happens {H S M : Type 0} (core : Core H S M) (IsShape : H → Type 0) (shape : H)
+    (trace : List Entry) : Type 0 where
   pub valid : IsShape shape
   pub after : ClusterState S M
   pub run : RunsTo core (at_rest core shape) (events_of trace) after
@@ -35,7 +42,13 @@ stamp number node = record { number = number; node = node }
 
 -- the receipt of section 1 of node 0, which wrote 7
 abbrev pub first_receipt : Receipt
-first_receipt = record { number = 1; node = 0; reads = record { items = [] }; writes = record { items = record { register = 0; value = 7 } ∷ [] } }
+first_receipt =
+    record {
+      number = 1;
+      node = 0;
+      reads = record { items = [] };
+      writes = record { items = record { register = 0; value = 7 } ∷ [] };
+    }
 
 -- an event, and what comes of it
 abbrev pub is : Event → Outcome → Entry
@@ -59,7 +72,13 @@ maekawa_trace =
 
 -- two nodes that are neighbours, of which node 0 has the privilege
 abbrev pub two_nodes : Rooted
-two_nodes = record { count = 2; holder = 0; rows = (false ∷ true ∷ []) ∷ (true ∷ false ∷ []) ∷ []; next = 0 ∷ 0 ∷ [] }
+two_nodes =
+    record {
+      count = 2;
+      holder = 0;
+      rows = (false ∷ true ∷ []) ∷ (true ∷ false ∷ []) ∷ [];
+      next = 0 ∷ 0 ∷ [];
+    }
 
 abbrev pub raymond_trace : List Entry
 raymond_trace =

@@ -1,7 +1,7 @@
-//! Runs that the step tables prove: small clusters, from rest. For each of the three algorithms one in
-//! which a node enters the first section while the other waits, and then that one enters the second;
-//! and one with events of every kind, whose journals are merged. So the definitions that the promise
-//! rests on are met by clusters that do something.
+//! Runs that the step tables prove: small clusters, from rest. For each of the three algorithms one
+//! in which a node enters the first section while the other waits, and then that one enters the
+//! second; and one with events of every kind, whose journals are merged. So the definitions that
+//! the promise rests on are met by clusters that do something.
 #![tactic(auto)]
 
 mod journals;
