@@ -1,5 +1,5 @@
 -- The part of an event: what it tells, and that it may be done.
-use Rattle.std.proofs.Common.{ℕ, ◌<◌, ◌≡◌, List, Option, Some, None, Result, Ok, Err, IsSome, nat_lt, slice_get, length, refl, subst, if◌then◌else◌}
+use Rattle.std.proofs.Common.{ℕ, ◌<◌, ◌≡◌, ◌∙◌, ap, sym, Bool, true, false, List, Option, Some, None, Result, Ok, Err, nat_lt, slice_get, length, refl, subst, if◌then◌else◌}
 use Rattle.mx_stamps.proofs.Lists.{cond_case, in_get}
 use Rattle.mx_journal.proofs.Choices.{lt_true}
 use Rattle.mx_nodelaws.specs.Core.{Core}
@@ -14,7 +14,7 @@ use Rattle.mx_events.specs.declared.event.Event.{Event}
 use Rattle.mx_events.specs.declared.event.Event.TheVariants as event
 use Rattle.mx_network.specs.declared.faults.StepFault.{StepFault}
 use Rattle.mx_network.specs.declared.faults.StepFault.TheVariants.{NoNode, NoParcel}
-use Rattle.mx_network.specs.Step.{answer_of, delivery_of, part_of, IsOfSent}
+use Rattle.mx_network.specs.Step.{answer_of, delivery_of, own_act, own_node, part_of, IsByItself}
 use Rattle.mx_sections.specs.Trace.{mark_of}
 use Rattle.mx_network.proofs.Marks.{entering, reading, writing, leaving}
 
@@ -36,14 +36,38 @@ delivered nodes k sent p None was is = absurd (err_no_ok NoParcel p is)
 delivered {M} nodes k sent p (Some q) was is =
     subst (λ (x : ℕ × Act M). Arrives nodes sent x.0 x.1) (same_Ok (q.1, act.Deliver q.0 q.2) p is) (in_get sent k q was)
 
--- a delivery that has a part is of a parcel that was sent
-of_sent : {M : Type 0} (p : ℕ × Act M) (o : Option (ℕ × ℕ × Parcel M)) → delivery_of o ≡ Ok p → IsSome o
-of_sent p None is = absurd (err_no_ok NoParcel p is)
-of_sent p (Some q) is = refl
+-- the part of what a node does by itself
+module _ {M : Type 0} (nodes : ℕ) (sent : List (ℕ × ℕ × Parcel M)) where
+  abbrev with_act : Act M → Result ℕ StepFault → Result (ℕ × Act M) StepFault
+  with_act a (Ok i) = Ok (i, a)
+  with_act a (Err fault) = Err fault
 
-pub was_sent : {M : Type 0} (nodes : ℕ) (sent : List (ℕ × ℕ × Parcel M)) (e : Event) (p : ℕ × Act M) → part_of nodes sent e ≡ Ok p → IsOfSent sent e
-was_sent nodes sent (event.Deliver k) p is = of_sent p (slice_get sent k) is
-was_sent nodes sent _ p is = tt
+  with_choice : (a : Act M) (b : Bool) (i : ℕ) → with_act a (if b then Ok i else Err NoNode) ≡ if b then Ok (i, a) else Err NoNode
+  with_choice a true i = refl
+  with_choice a false i = refl
+
+  own : (e : Event) → IsByItself e → part_of nodes sent e ≡ with_act (own_act e) (own_node nodes e)
+  own (event.Want i j) is = sym (with_choice (act.Want j) (nat_lt j nodes) i)
+  own (event.Deliver k) is = absurd is
+  own (event.Ask i) is = refl
+  own (event.Enter i) is = refl
+  own (event.Read i register) is = refl
+  own (event.Write i register value) is = refl
+  own (event.Leave i) is = refl
+  own (event.Cancel i) is = refl
+  own (event.Settle i k) is = refl
+  own (event.Tick i) is = refl
+  own (event.Restart i) is = refl
+
+  pub own_part : (e : Event) (i : ℕ) → IsByItself e → Ok i ≡ own_node nodes e → part_of nodes sent e ≡ Ok (i, own_act e)
+  own_part e i is of = own e is ∙ ap (λ r. with_act (own_act e) r) (sym of)
+
+  pub own_fault : (e : Event) (fault : StepFault) → IsByItself e → Err fault ≡ own_node nodes e → part_of nodes sent e ≡ Err fault
+  own_fault e fault is of = own e is ∙ ap (λ r. with_act (own_act e) r) (sym of)
+
+pub no_delivery : (e : Event) → ((k : ℕ) → e ≡ event.Deliver k → ⊥) → IsByItself e
+no_delivery (event.Deliver k) never = never k refl
+no_delivery _ never = tt
 
 -- whatever an event's part is, it may be done
 pub arrives : {M : Type 0} (nodes : ℕ) (sent : List (ℕ × ℕ × Parcel M)) (e : Event) (p : ℕ × Act M) → part_of nodes sent e ≡ Ok p → Arrives nodes sent p.0 p.1

@@ -1,30 +1,22 @@
 -- One event over the parts of a cluster, by whether its node is there.
-use Rattle.std.proofs.Common.{ℕ, zero, suc, ◌<◌, ◌≤◌, ◌≡◌, inl, inr, List, [], ◌∷◌, ◌++◌, Some, None, Result, Ok, Err, IsErrAnd, IfErr, IsOk, OnErr, get_or, slice_get, slice_set, length, refl, sym, ◌∙◌, ap, subst, arith}
+use Rattle.std.proofs.Common.{ℕ, Option, OnOk, zero, suc, ◌<◌, ◌≤◌, ◌≡◌, inl, inr, List, [], ◌∷◌, ◌++◌, Some, None, Result, Ok, Err, IsErrAnd, IfErr, IsOk, OnErr, get_or, slice_get, slice_set, length, refl, sym, ◌∙◌, ap, subst, arith}
 use Rattle.std.proofs.lemmas.Option.{slice_get_cases}
 use Rattle.mx_stamps.specs.Lists.{each_below}
 use Rattle.mx_stamps.proofs.Lists.{set_itself}
 use Rattle.mx_nodelaws.specs.World.{sent_by}
 use Rattle.mx_nodelaws.specs.Core.{Core}
 use Rattle.mx_member.specs.declared.acts.Act.{Act}
+use Rattle.mx_member.specs.declared.acts.Act.TheVariants as act
 use Rattle.mx_member.specs.declared.parcel.Parcel.{Parcel}
 use Rattle.mx_member.specs.Member.{MemberState}
 use Rattle.mx_events.specs.declared.event.Event.{Event}
+use Rattle.mx_events.specs.declared.event.Event.TheVariants as event
 use Rattle.mx_sections.specs.declared.outcome.Outcome.{Outcome}
 use Rattle.mx_sections.specs.declared.outcome.Entry.{Entry}
 use Rattle.mx_network.specs.declared.faults.StepFault.{StepFault}
-use Rattle.mx_network.specs.declared.faults.StepFault.TheVariants.{NoNode, Memory}
-use Rattle.mx_network.specs.Step.{ClusterState, act_in, answer_of, at_member, at_part, grown, part_of, step_of, IsFaultOf}
-
--- the part of an event, by what was found out about it
-pub part_is : {M : Type 0} (n k : ℕ) (xs ys : List (ℕ × ℕ × Parcel M)) (e : Event) (i : ℕ) → n ≡ k → xs ≡ ys → part_of n xs e ≡ Ok (i, act_in xs e) → part_of k ys e ≡ Ok (i, act_in ys e)
-part_is {M} n k xs ys e i same_n same_xs is =
-    subst (λ m. part_of m ys e ≡ Ok (i, act_in ys e)) same_n (subst (λ (l : List (ℕ × ℕ × Parcel M)). part_of n l e ≡ Ok (i, act_in l e)) same_xs is)
-
--- an event that has no part, and what its step is then
-pub without : {H S M : Type 0} (core : Core H S M) (g : ClusterState S M) (e : Event) (n : ℕ) (xs : List (ℕ × ℕ × Parcel M)) (fault : StepFault) → n ≡ length g.members → xs ≡ g.sent → part_of n xs e ≡ Err fault → IsFaultOf (step_of core g e) fault
-without {H} {S} {M} core g e n xs fault same_n same_xs is =
-    inr (ap (λ (r : Result (ℕ × Act M) StepFault). at_part core g e r)
-    (subst (λ (l : List (ℕ × ℕ × Parcel M)). part_of (length g.members) l e ≡ Err fault) same_xs (subst (λ (m : ℕ). part_of m xs e ≡ Err fault) same_n is)))
+use Rattle.mx_network.specs.declared.faults.StepFault.TheVariants.{NoNode, NoParcel, Memory}
+use Rattle.mx_network.proofs.EventParts.{err_no_ok, same_Ok}
+use Rattle.mx_network.specs.Step.{ClusterState, answer_of, at_member, at_part, delivery_of, grown, part_of, step_of, IsFaultOf, IsStep, NotesAct}
 
 -- a place below the length holds something
 pub held : {X : Type 0} (xs : List X) (k : ℕ) → k < length xs → (x : X) × (slice_get xs k ≡ Some x)
@@ -61,13 +53,18 @@ unchanged {S} {M} members sent sent' trace trace' k m m' at a b c =
     ∙ ap (λ (l : List (ℕ × ℕ × Parcel M)). let x : ClusterState S M = record { members = members; sent = l; trace = trace' } in x) b
     ∙ ap (λ (l : List Entry). let x : ClusterState S M = record { members = members; sent = sent; trace = l } in x) c
 
-pub memory_told : {A G : Type 0} (wanted : Result G StepFault) (r : Result A StepFault) → IsErrAnd r (λ f. f ≡ Memory) → IsFaultOf wanted Memory → IfErr r (IsFaultOf wanted)
-memory_told wanted (Ok a) is fault = absurd is
-memory_told wanted (Err f) is fault = subst (λ x. IsFaultOf wanted x) (sym is) fault
+module _ {H S M : Type 0} (core : Core H S M) (g new : ClusterState S M) (e : Event) where
+  -- it happened
+  pub has_happened : step_of core g e ≡ Ok new → IsStep core e g new (Ok tt)
+  has_happened step = record { ok = step; fault = tt; err = tt }
 
-pub fault_told : {A G : Type 0} (wanted : Result G StepFault) (fault : StepFault) (r : Result A StepFault) → IsErrAnd r (λ f. f ≡ fault) → IsFaultOf wanted fault → IfErr r (IsFaultOf wanted)
-fault_told wanted fault (Ok a) is h = absurd is
-fault_told wanted fault (Err f) is h = subst (λ x. IsFaultOf wanted x) (sym is) h
+  -- it has not, for this fault
+  pub has_fault : (fault : StepFault) → IsFaultOf (step_of core g e) fault → new ≡ g → IsStep core e g new (Err fault)
+  has_fault fault is same = record { ok = tt; fault = is; err = same }
+
+  pub has_that_fault : (fault : StepFault) (r : Result (Unit {0}) StepFault) → IsErrAnd r (λ f. f ≡ fault) → IsFaultOf (step_of core g e) fault → new ≡ g → IsStep core e g new r
+  has_that_fault fault (Ok a) told is same = absurd told
+  has_that_fault fault (Err f) told is same = has_fault f (subst (λ x. IsFaultOf (step_of core g e) x) (sym told) is) same
 
 module _ {H S M : Type 0} (core : Core H S M) (g : ClusterState S M) (e : Event) (p : ℕ × Act M) (part : part_of (length g.members) g.sent e ≡ Ok p) where
   -- its node isn't there
@@ -94,3 +91,44 @@ module _ {H S M : Type 0} (core : Core H S M) (g : ClusterState S M) (e : Event)
       ∙ ap (λ l. let x : ClusterState S M = record { members = slice_set g.members p.0 new; sent = l; trace = g.trace ++ record { event = e; outcome = (answer_of core p.1 m).answer } ∷ [] } in Ok x) (sym c)
       ∙ ap (λ q. let x : ClusterState S M = record { members = slice_set g.members p.0 new; sent = sent; trace = g.trace ++ record { event = e; outcome = q } ∷ [] } in Ok x) (sym b)
       ∙ ap (λ t. let x : ClusterState S M = record { members = slice_set g.members p.0 new; sent = sent; trace = t } in Ok x) (sym d)
+
+module _ {H S M : Type 0} (core : Core H S M) (g : ClusterState S M) (e : Event) (new : ClusterState S M) where
+  -- an event that has happened joins the trace
+  abbrev IsNoted : Type 0
+  IsNoted = (o : Outcome) × (new.trace ≡ g.trace ++ record { event = e; outcome = o } ∷ [])
+
+  noted_at : (i : ℕ) (a : Act M) (m : Option (MemberState S)) → at_member core g e i a m ≡ Ok new → IsNoted
+  noted_at i a None step = absurd (err_no_ok NoNode new step)
+  noted_at i a (Some m) step = ((answer_of core a m).answer, ap (λ (x : ClusterState S M). x.trace) (sym (same_Ok (grown g e i (answer_of core a m)) new step)))
+
+  noted_part : (r : Result (ℕ × Act M) StepFault) → at_part core g e r ≡ Ok new → IsNoted
+  noted_part (Err fault) step = absurd (err_no_ok fault new step)
+  noted_part (Ok p) step = noted_at p.0 p.1 (slice_get g.members p.0) step
+
+  pub noted : step_of core g e ≡ Ok new → IsNoted
+  noted step = noted_part (part_of (length g.members) g.sent e) step
+
+-- a node has done its act, its parcels were sent, and the event is noted
+module _ {H S M : Type 0} (core : Core H S M) (g : ClusterState S M) (e : Event) (a : Act M) (m new : MemberState S) (out : List (ℕ × Parcel M)) (sent0 sent : List (ℕ × ℕ × Parcel M)) (trace0 trace : List Entry) where
+  done_at : (i : ℕ) → part_of (length g.members) g.sent e ≡ Ok (i, a) → slice_get g.members i ≡ Some m → sent0 ≡ g.sent → trace0 ≡ g.trace → sent ≡ sent0 ++ sent_by i out → NotesAct core e a m trace0 new out trace →
+      step_of core g e ≡ Ok (record { members = slice_set g.members i new; sent = sent; trace = trace })
+  done_at i part at same_sent same_trace more does =
+      grown_parts core g e (i, a) part m new (answer_of core a m).answer sent trace at does.state refl
+      (more ∙ ap (λ l. l ++ sent_by i out) same_sent ∙ ap (λ l. g.sent ++ sent_by i l) does.letters)
+      (does.noted ∙ ap (λ t. t ++ (record { event = e; outcome = (answer_of core a m).answer }) ∷ []) same_trace)
+
+  pub done : (i j : ℕ) → i ≡ j → part_of (length g.members) g.sent e ≡ Ok (j, a) → slice_get g.members i ≡ Some m → sent0 ≡ g.sent → trace0 ≡ g.trace → sent ≡ sent0 ++ sent_by j out → NotesAct core e a m trace0 new out trace →
+      step_of core g e ≡ Ok (record { members = slice_set g.members i new; sent = sent; trace = trace })
+  done i j same part at same_sent same_trace more does =
+      done_at i (part ∙ ap (λ (k : ℕ). let p : Result (ℕ × Act M) StepFault = Ok (k, a) in p) (sym same)) at same_sent same_trace (more ∙ ap (λ k. sent0 ++ sent_by k out) (sym same)) does
+
+-- the part of a delivery
+pub delivery_part : {M : Type 0} (nodes : ℕ) (sent0 sent : List (ℕ × ℕ × Parcel M)) (k from to : ℕ) (parcel : Parcel M) → sent0 ≡ sent → slice_get sent0 k ≡ Some (from, to, parcel) → part_of nodes sent (event.Deliver k) ≡ Ok (to, act.Deliver from parcel)
+delivery_part {M} nodes sent0 sent k from to parcel same was = ap delivery_of (ap (λ (l : List (ℕ × ℕ × Parcel M)). slice_get l k) (sym same) ∙ was)
+
+pub no_part : {M : Type 0} (nodes : ℕ) (sent0 sent : List (ℕ × ℕ × Parcel M)) (k : ℕ) → sent0 ≡ sent → slice_get sent0 k ≡ None → part_of nodes sent (event.Deliver k) ≡ Err NoParcel
+no_part {M} nodes sent0 sent k same was = ap delivery_of (ap (λ (l : List (ℕ × ℕ × Parcel M)). slice_get l k) (sym same) ∙ was)
+
+-- an event that has no part
+pub without : {H S M : Type 0} (core : Core H S M) (g : ClusterState S M) (e : Event) (fault : StepFault) → part_of (length g.members) g.sent e ≡ Err fault → IsFaultOf (step_of core g e) fault
+without core g e fault part = inr (ap (λ r. at_part core g e r) part)

@@ -5,6 +5,8 @@ use Rattle.mx_nodelaws.specs.World.{World, sent_by}
 use Rattle.mx_nodelaws.specs.Core.{Core, KeepsPhases}
 use Rattle.mx_nodelaws.specs.Laws.{KeepsGood}
 use Rattle.mx_member.specs.declared.acts.Act.{Act}
+use Rattle.mx_member.specs.declared.acts.Act.TheVariants as act
+use Rattle.mx_stamps.proofs.Lists.{in_get}
 use Rattle.mx_member.specs.declared.parcel.Parcel.{Parcel}
 use Rattle.mx_member.specs.Acts.{act_of}
 use Rattle.mx_member.specs.Member.{MemberState}
@@ -13,7 +15,6 @@ use Rattle.mx_member.specs.Told.{told}
 use Rattle.mx_member.specs.Running.{IsRun, owners}
 use Rattle.mx_sections.specs.Serial.{AllFit}
 use Rattle.mx_member.specs.Steps.{start_of}
-use Rattle.mx_member.proofs.ActsKept.{doable}
 use Rattle.mx_member.proofs.Histories.{AllFit-append, after_marks-append}
 use Rattle.mx_member.proofs.Owners.{owners_at_start, owners_kept}
 use Rattle.mx_events.specs.declared.event.Event.{Event}
@@ -22,8 +23,10 @@ use Rattle.mx_network.specs.declared.faults.StepFault.{StepFault}
 use Rattle.mx_network.specs.declared.faults.StepFault.TheVariants.{NoNode}
 use Rattle.mx_network.specs.Kept.{IsKept}
 use Rattle.mx_sections.specs.Trace.{sections, marks}
-use Rattle.mx_network.specs.Step.{ClusterState, answer_of, part_of, grown, at_member, at_part, step_of, IsDoableAt, RunsTo}
+use Rattle.mx_network.specs.Step.{ClusterState, answer_of, part_of, grown, at_member, at_part, step_of, IsStep, RunsTo}
 use Rattle.mx_network.proofs.Marks.{marks-snoc}
+use Rattle.mx_events.specs.declared.event.Event.TheVariants as event
+use Rattle.mx_network.proofs.Happening.{delivery_part}
 use Rattle.mx_network.proofs.KeptSound.{kept_sound}
 use Rattle.mx_network.proofs.EventParts.{arrives, err_no_ok, same_Ok, tells}
 
@@ -63,9 +66,20 @@ module _ {H S M : Type 0} (core : Core H S M) (IsShape : H → Type 0) (Good : W
   result_kept g e new (Ok o) ok err kept = step_kept g e new ok kept
   result_kept g e new (Err f) ok err kept = subst (λ x. IsKept core Good x) (sym err) kept
 
-  -- the node whose event it is can do its act: no parcel that was sent is a stranger's or leads to a conflict
-  pub all_doable : (g : ClusterState S M) (e : Event) → IsKept core Good g → IsDoableAt g e
-  all_doable g e kept p m part at = doable core Good (sections g.trace) g.members g.sent p.0 p.1 m (kept_sound core Good g kept) at (arrives (length g.members) g.sent e p part)
+  pub kept_by : (g : ClusterState S M) (e : Event) (new : ClusterState S M) (r : Result (Unit {0}) StepFault) → IsStep core e g new r → IsKept core Good g → IsKept core Good new
+  kept_by g e new r step kept = result_kept g e new r step.ok step.err kept
+
+  -- a parcel that was sent goes to a node of the cluster
+  arrived : (g : ClusterState S M) (k from to : ℕ) (parcel : Parcel M) → slice_get g.sent k ≡ Some (from, to, parcel) → IsKept core Good g → to < length g.members
+  arrived g k from to parcel was kept = ((kept_sound core Good g kept).between from to parcel (in_get g.sent k (from, to, parcel) was)).1
+
+  -- the part of its delivery
+  pub delivers : (g : ClusterState S M) (k from to : ℕ) (parcel : Parcel M) (sent : List (ℕ × ℕ × Parcel M)) → sent ≡ g.sent → slice_get sent k ≡ Some (from, to, parcel) → IsKept core Good g →
+      (part_of (length g.members) g.sent (event.Deliver k) ≡ Ok (to, act.Deliver from parcel)) × (to < length g.members)
+  delivers g k from to parcel sent same was kept = (
+    delivery_part (length g.members) sent g.sent k from to parcel same was,
+    arrived g k from to parcel (subst (λ (l : List (ℕ × ℕ × Parcel M)). slice_get l k ≡ Some (from, to, parcel)) same was) kept,
+  )
 
   -- a cluster at rest, by its parts
   pub started_parts : (shape : H) (origin limit registers : ℕ) (members : List (MemberState S)) (sent : List (ℕ × ℕ × Parcel M)) (trace : List Entry) → members ≡ each_below (λ i. start_of core shape i origin limit registers) (core.count shape) → sent ≡ [] → trace ≡ [] → IsShape shape → origin < 2 ^ 64 → 0 < limit → limit ≤ 1000000 → registers ≤ 32 → IsKept core Good (record { members = members; sent = sent; trace = trace })

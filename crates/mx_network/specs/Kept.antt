@@ -6,6 +6,7 @@ use Rattle.mx_sections.specs.Trace.{sections, IsSerial}
 use Rattle.mx_network.specs.Step.{ClusterState}
 
 -- the world runs with the sections of the trace, and these stand one behind another
-pub record IsKept {H S M : Type 0} (core : Core H S M) (Good : World S M → Type 0) (g : ClusterState S M) : Type 0 where
+pub record IsKept {H S M : Type 0} (core : Core H S M) (Good : World S M → Type 0)
+    (g : ClusterState S M) : Type 0 where
   pub run : IsRun core Good (sections g.trace) (owners (sections g.trace) g.members) g.sent
   pub serial : IsSerial g.trace

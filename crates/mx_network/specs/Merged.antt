@@ -7,7 +7,8 @@ use Rattle.mx_member.specs.World.{IsMember}
 
 -- the journal is above those of these nodes
 abbrev pub IsAboveAll : {S : Type 0} → List (MemberState S) → List ℕ → JournalState → Type 0
-IsAboveAll {S} members nodes journal = (i : ℕ) (m : MemberState S) → IsIn i nodes → IsMember members i m → IsWithin m.journal journal
+IsAboveAll {S} members nodes journal =
+    (i : ℕ) (m : MemberState S) → IsIn i nodes → IsMember members i m → IsWithin m.journal journal
 
 -- each node is among these
 abbrev pub IsOfAll : {S : Type 0} → List (MemberState S) → List ℕ → Type 0
@@ -15,4 +16,6 @@ IsOfAll members nodes = (i : ℕ) → i < length members → IsIn i nodes
 
 -- the journal is below each that is above an empty one and those of these nodes
 abbrev pub IsBelowEach : {S : Type 0} → List (MemberState S) → List ℕ → JournalState → Type 0
-IsBelowEach members nodes journal = (other : JournalState) → IsWithin (unsettled []) other → IsAboveAll members nodes other → IsWithin journal other
+IsBelowEach members nodes journal =
+    (other : JournalState) → IsWithin (unsettled []) other → IsAboveAll members nodes other →
+    IsWithin journal other

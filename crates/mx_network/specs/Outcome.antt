@@ -12,11 +12,9 @@ use Rattle.mx_member.specs.declared.faults.WriteFault.TheVariants as write
 use Rattle.mx_sections.specs.declared.outcome.Outcome.{Outcome}
 use Rattle.mx_sections.specs.declared.outcome.Outcome.TheVariants.{Asked, Entered, Value, Written, Left, Cancelled, Settled, Sent, Delivered, Woken, Refused}
 use Rattle.mx_sections.specs.declared.outcome.Cause.TheVariants as cause
-use Rattle.mx_network.specs.declared.outcome.Brief.{Brief}
-use Rattle.mx_network.specs.declared.outcome.Brief.TheVariants as brief
 
--- the outcome of an answer, and of the number of parcels that went out with it. In a cluster no read meets its
--- own section settled: what stands here for that is never told
+-- the outcome of an answer, and of the number of parcels that went out with it. In a cluster no
+-- read meets its own section settled: what stands here for that is never told
 abbrev pub outcome_of : Answer → ℕ → Outcome
 outcome_of (answer.Asked (Ok stamp)) sent = Asked stamp
 outcome_of (answer.Asked (Err ask.NotIdle)) sent = Refused cause.NotIdle
@@ -46,16 +44,3 @@ outcome_of answer.Ticked sent = Sent sent
 outcome_of answer.Wanted sent = Sent sent
 outcome_of answer.Delivered sent = Delivered
 outcome_of answer.Woken sent = Woken
-
--- the answer that is told briefly
-abbrev pub answer_by : Brief → Answer
-answer_by (brief.Asked asked) = answer.Asked asked
-answer_by (brief.Entered entered) = answer.Entered entered
-answer_by (brief.Read value) = answer.Read value
-answer_by (brief.Written done) = answer.Written done
-answer_by (brief.Cancelled done) = answer.Cancelled done
-answer_by (brief.Settled done) = answer.Settled done
-answer_by brief.Ticked = answer.Ticked
-answer_by brief.Wanted = answer.Wanted
-answer_by brief.Delivered = answer.Delivered
-answer_by brief.Woken = answer.Woken

@@ -1,5 +1,5 @@
 -- One event of a cluster.
-use Rattle.std.specs.Prelude.{ℕ, Bool, true, false, ◌≡◌, ◌≤◌, ◌⊎◌, List, [], ◌∷◌, ◌++◌, Option, Some, None, Result, Ok, Err, Vec, IsOk, IsSome, slice_get, slice_set, length, nat_lt, if◌then◌else◌}
+use Rattle.std.specs.Prelude.{ℕ, ◌≡◌, ◌≤◌, ◌<◌, ◌⊎◌, IfErr, OnErr, OnOk, List, [], ◌∷◌, ◌++◌, Option, Some, None, Result, Ok, Err, Vec, IsOk, IsSome, slice_get, slice_set, length, nat_lt, if◌then◌else◌}
 use Rattle.std.specs.declared.alloc.Global.{Global}
 use Rattle.mx_nodelaws.specs.World.{Done, answering, sent_by}
 use Rattle.mx_nodelaws.specs.Core.{Core, IsInside}
@@ -7,18 +7,17 @@ use Rattle.mx_nodelaws.specs.declared.phase.Phase.TheVariants.{Inside}
 use Rattle.mx_member.specs.declared.acts.Act.{Act}
 use Rattle.mx_member.specs.declared.acts.Act.TheVariants as act
 use Rattle.mx_member.specs.declared.parcel.Parcel.{Parcel}
-use Rattle.mx_member.specs.Acts.{act_of, IsDoable}
+use Rattle.mx_member.specs.Acts.{act_of}
 use Rattle.mx_member.specs.Member.{MemberState}
 use Rattle.mx_events.specs.declared.event.Event.{Event}
 use Rattle.mx_events.specs.declared.event.Event.TheVariants as event
-use Rattle.mx_network.specs.declared.outcome.Brief.{Brief}
 use Rattle.mx_sections.specs.declared.outcome.Outcome.{Outcome}
 use Rattle.mx_sections.specs.declared.outcome.Cause.{Cause}
 use Rattle.mx_sections.specs.declared.outcome.Cause.TheVariants as cause
 use Rattle.mx_sections.specs.declared.outcome.Entry.{Entry}
 use Rattle.mx_network.specs.declared.faults.StepFault.{StepFault}
 use Rattle.mx_network.specs.declared.faults.StepFault.TheVariants.{NoNode, NoParcel, Memory}
-use Rattle.mx_network.specs.Outcome.{answer_by, outcome_of}
+use Rattle.mx_network.specs.Outcome.{outcome_of}
 
 -- the members, the parcels ever sent, in order, and the trace
 pub record ClusterState (S M : Type 0) : Type 0 where
@@ -26,11 +25,9 @@ pub record ClusterState (S M : Type 0) : Type 0 where
   pub sent : List (ℕ × ℕ × Parcel M)
   pub trace : List Entry
 
-abbrev pub cluster_state_of : {S M : Type 0} → Vec (MemberState S) Global → Vec (ℕ × ℕ × Parcel M) Global → Vec Entry Global → ClusterState S M
-cluster_state_of members sent trace = record { members = members.items; sent = sent.items; trace = trace.items }
-
 -- what an act gives, with its answer as an outcome
-abbrev pub answer_of : {H S M : Type 0} → Core H S M → Act M → MemberState S → Done (MemberState S) Outcome (Parcel M)
+abbrev pub answer_of : {H S M : Type 0} → Core H S M → Act M → MemberState S →
+    Done (MemberState S) Outcome (Parcel M)
 answer_of core a m = answering (act_of core a m) (outcome_of (act_of core a m).answer (length (act_of core a m).letters))
 
 -- a parcel is delivered to its addressee
@@ -39,7 +36,8 @@ delivery_of None = Err NoParcel
 delivery_of (Some p) = Ok (p.1, act.Deliver p.0 p.2)
 
 -- whose event it is, and the act that this node does, in a cluster of this many nodes
-abbrev pub part_of : {M : Type 0} → ℕ → List (ℕ × ℕ × Parcel M) → Event → Result (ℕ × Act M) StepFault
+abbrev pub part_of : {M : Type 0} → ℕ → List (ℕ × ℕ × Parcel M) → Event →
+    Result (ℕ × Act M) StepFault
 part_of nodes sent (event.Ask i) = Ok (i, act.Ask)
 part_of nodes sent (event.Enter i) = Ok (i, act.Enter)
 part_of nodes sent (event.Read i register) = Ok (i, act.Read register)
@@ -52,84 +50,83 @@ part_of nodes sent (event.Want i j) = if nat_lt j nodes then Ok (i, act.Want j) 
 part_of nodes sent (event.Deliver k) = delivery_of (slice_get sent k)
 part_of nodes sent (event.Restart i) = Ok (i, act.Restart)
 
--- the act of a delivery. There is none of a parcel that was not sent; waking up stands in for it
-abbrev pub act_of_delivery : {M : Type 0} → Option (ℕ × ℕ × Parcel M) → Act M
-act_of_delivery None = act.Restart
-act_of_delivery (Some p) = act.Deliver p.0 p.2
+-- the act that a node does by itself. A delivery is none, and waking up stands in for it
+abbrev pub own_act : {M : Type 0} → Event → Act M
+own_act (event.Ask i) = act.Ask
+own_act (event.Enter i) = act.Enter
+own_act (event.Read i register) = act.Read register
+own_act (event.Write i register value) = act.Write register value
+own_act (event.Leave i) = act.Leave
+own_act (event.Cancel i) = act.Cancel
+own_act (event.Settle i k) = act.Settle k
+own_act (event.Tick i) = act.Tick
+own_act (event.Want i j) = act.Want j
+own_act (event.Deliver k) = act.Restart
+own_act (event.Restart i) = act.Restart
 
--- the act of an event, whoever's it is
-abbrev pub act_in : {M : Type 0} → List (ℕ × ℕ × Parcel M) → Event → Act M
-act_in sent (event.Ask i) = act.Ask
-act_in sent (event.Enter i) = act.Enter
-act_in sent (event.Read i register) = act.Read register
-act_in sent (event.Write i register value) = act.Write register value
-act_in sent (event.Leave i) = act.Leave
-act_in sent (event.Cancel i) = act.Cancel
-act_in sent (event.Settle i k) = act.Settle k
-act_in sent (event.Tick i) = act.Tick
-act_in sent (event.Want i j) = act.Want j
-act_in sent (event.Deliver k) = act_of_delivery (slice_get sent k)
-act_in sent (event.Restart i) = act.Restart
+-- the event is no delivery
+abbrev pub IsByItself : Event → Type 0
+IsByItself (event.Deliver k) = ⊥
+IsByItself _ = Unit {0}
 
--- if the event delivers a parcel, that was sent
-abbrev pub IsOfSent : {M : Type 0} → List (ℕ × ℕ × Parcel M) → Event → Type 0
-IsOfSent sent (event.Deliver k) = IsSome (slice_get sent k)
-IsOfSent sent _ = Unit {0}
-
-abbrev pub is_leaving : Event → Bool
-is_leaving (event.Leave i) = true
-is_leaving _ = false
+-- the node that does this by itself, in a cluster of this many nodes. None does a delivery
+abbrev pub own_node : ℕ → Event → Result ℕ StepFault
+own_node nodes (event.Ask i) = Ok i
+own_node nodes (event.Enter i) = Ok i
+own_node nodes (event.Read i register) = Ok i
+own_node nodes (event.Write i register value) = Ok i
+own_node nodes (event.Leave i) = Ok i
+own_node nodes (event.Cancel i) = Ok i
+own_node nodes (event.Settle i k) = Ok i
+own_node nodes (event.Tick i) = Ok i
+own_node nodes (event.Want i j) = if nat_lt j nodes then Ok i else Err NoNode
+own_node nodes (event.Deliver k) = Err NoParcel
+own_node nodes (event.Restart i) = Ok i
 
 -- node i has taken its step: its parcels join those sent, and the event its trace
-abbrev pub grown : {S M : Type 0} → ClusterState S M → Event → ℕ → Done (MemberState S) Outcome (Parcel M) → ClusterState S M
+abbrev pub grown : {S M : Type 0} → ClusterState S M → Event → ℕ →
+    Done (MemberState S) Outcome (Parcel M) → ClusterState S M
 grown g event i done = record {
   members = slice_set g.members i done.state;
   sent = g.sent ++ sent_by i done.letters;
   trace = g.trace ++ (record { event = event; outcome = done.answer }) ∷ [];
 }
 
-abbrev pub at_member : {H S M : Type 0} → Core H S M → ClusterState S M → Event → ℕ → Act M → Option (MemberState S) → Result (ClusterState S M) StepFault
+abbrev pub at_member : {H S M : Type 0} → Core H S M → ClusterState S M → Event → ℕ → Act M →
+    Option (MemberState S) → Result (ClusterState S M) StepFault
 at_member core g event i a None = Err NoNode
 at_member core g event i a (Some m) = Ok (grown g event i (answer_of core a m))
 
-abbrev pub at_part : {H S M : Type 0} → Core H S M → ClusterState S M → Event → Result (ℕ × Act M) StepFault → Result (ClusterState S M) StepFault
+abbrev pub at_part : {H S M : Type 0} → Core H S M → ClusterState S M → Event →
+    Result (ℕ × Act M) StepFault → Result (ClusterState S M) StepFault
 at_part core g event (Err fault) = Err fault
 at_part core g event (Ok p) = at_member core g event p.0 p.1 (slice_get g.members p.0)
 
--- the event joins the trace, with some outcome
-abbrev pub Notes : Event → List Entry → List Entry → Type 0
-Notes event old new = (outcome : Outcome) × (new ≡ old ++ (record { event = event; outcome = outcome }) ∷ [])
-
--- a member has done its act, what it sends is put out, and its answer is told briefly
-pub record DoesAct {H S M : Type 0} (core : Core H S M) (a : Act M) (old new : MemberState S) (brief : Brief) (out : List (ℕ × Parcel M)) : Type 0 where
-  pub state : new ≡ (act_of core a old).state
-  pub answer : answer_by brief ≡ (act_of core a old).answer
-  pub letters : out ≡ (act_of core a old).letters
-
--- a member has done its act, what it sends is put out, and the event joins the trace with its outcome
-pub record NotesAct {H S M : Type 0} (core : Core H S M) (event : Event) (a : Act M) (old : MemberState S) (before : List Entry) (new : MemberState S) (out : List (ℕ × Parcel M)) (trace : List Entry) : Type 0 where
+-- a member has done its act, what it sends is put out, and the event joins the trace with its
+-- outcome
+pub record NotesAct {H S M : Type 0} (core : Core H S M) (event : Event) (a : Act M)
+    (old : MemberState S) (before : List Entry) (new : MemberState S) (out : List (ℕ
+    × Parcel M)) (trace : List Entry) : Type 0 where
   pub state : new ≡ (answer_of core a old).state
   pub letters : out ≡ (answer_of core a old).letters
-  pub noted : trace ≡ before ++ (record { event = event; outcome = (answer_of core a old).answer }) ∷ []
-
--- node i has done its act: its parcels join those sent, and the event the trace
-pub record SendsAct {H S M : Type 0} (core : Core H S M) (i : ℕ) (event : Event) (a : Act M) (old : MemberState S) (parcels : List (ℕ × ℕ × Parcel M)) (trace : List Entry) (new : MemberState S) (parcels' : List (ℕ × ℕ × Parcel M)) (trace' : List Entry) : Type 0 where
-  pub state : new ≡ (answer_of core a old).state
-  pub sent : parcels' ≡ parcels ++ sent_by i (answer_of core a old).letters
-  pub noted : trace' ≡ trace ++ (record { event = event; outcome = (answer_of core a old).answer }) ∷ []
+  pub noted : trace ≡ before
+      ++ (record { event = event; outcome = (answer_of core a old).answer }) ∷ []
 
 -- the cluster after an event, or why there is no such event
-abbrev pub step_of : {H S M : Type 0} → Core H S M → ClusterState S M → Event → Result (ClusterState S M) StepFault
+abbrev pub step_of : {H S M : Type 0} → Core H S M → ClusterState S M → Event →
+    Result (ClusterState S M) StepFault
 step_of core g event = at_part core g event (part_of (length g.members) g.sent event)
-
--- the node whose event it is can do its act
-abbrev pub IsDoableAt : {S M : Type 0} → ClusterState S M → Event → Type 0
-IsDoableAt {S} {M} g event =
-    (p : ℕ × Act M) (m : MemberState S) → part_of (length g.members) g.sent event ≡ Ok p → slice_get g.members p.0 ≡ Some m → IsDoable p.1 m
 
 -- the fault is the one that the step has; where the step has none, it is that memory ran out
 abbrev pub IsFaultOf : {G : Type 0} → Result G StepFault → StepFault → Type 0
 IsFaultOf wanted fault = ((fault ≡ Memory) × IsOk wanted) ⊎ (wanted ≡ Err fault)
+
+-- the event has happened, or the step has this fault, and nothing changed
+pub record IsStep {H S M : Type 0} (core : Core H S M) (event : Event) (old new : ClusterState S M)
+    (r : Result (Unit {0}) StepFault) : Type 0 where
+  pub ok : OnOk r (step_of core old event ≡ Ok new)
+  pub fault : IfErr r (IsFaultOf (step_of core old event))
+  pub err : OnErr r (new ≡ old)
 
 -- the event names a node that the cluster does not have
 abbrev pub NamesNoNode : {S M : Type 0} → ClusterState S M → Event → Type 0
@@ -152,11 +149,13 @@ NamesNoParcel g _ = ⊥
 
 -- node i of the cluster is inside
 abbrev pub IsInsideAt : {H S M : Type 0} → Core H S M → ClusterState S M → ℕ → Type 0
-IsInsideAt {H} {S} core g i = (m : MemberState S) × (slice_get g.members i ≡ Some m) × IsInside core m.core
+IsInsideAt {H} {S} core g i =
+    (m : MemberState S) × (slice_get g.members i ≡ Some m) × IsInside core m.core
 
 -- and is in section n
 abbrev pub IsInsideWith : {H S M : Type 0} → Core H S M → ClusterState S M → ℕ → ℕ → Type 0
-IsInsideWith {H} {S} core g i n = (m : MemberState S) × (slice_get g.members i ≡ Some m) × (core.phase m.core ≡ Inside n)
+IsInsideWith {H} {S} core g i n =
+    (m : MemberState S) × (slice_get g.members i ≡ Some m) × (core.phase m.core ≡ Inside n)
 
 -- the members, and the parcels that were sent, are as before
 pub record IsUnchanged {S M : Type 0} (old new : ClusterState S M) : Type 0 where
@@ -169,6 +168,8 @@ IsSettledRead (event.Read i register) (cause.Below n) = Unit {0}
 IsSettledRead _ _ = ⊥
 
 -- these events, one after another, lead from one cluster to another
-abbrev pub RunsTo : {H S M : Type 0} → Core H S M → ClusterState S M → List Event → ClusterState S M → Type 0
+abbrev pub RunsTo : {H S M : Type 0} → Core H S M → ClusterState S M → List Event →
+    ClusterState S M → Type 0
 RunsTo core g [] new = new ≡ g
-RunsTo {H} {S} {M} core g (e ∷ es) new = (mid : ClusterState S M) × (step_of core g e ≡ Ok mid) × RunsTo core mid es new
+RunsTo {H} {S} {M} core g (e ∷ es) new =
+    (mid : ClusterState S M) × (step_of core g e ≡ Ok mid) × RunsTo core mid es new

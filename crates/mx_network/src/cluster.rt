@@ -16,7 +16,8 @@ ghost use Rattle.mx_sections.specs.Trace.{IsSerial, ShowsInOrder, journal_of, se
 ghost use Rattle.mx_network.specs.Step.{step_of, IsInsideAt, IsInsideWith, IsFaultOf, IsSettledRead, IsUnchanged, NamesNoNode, NamesNoParcel, RunsTo};
 
 use crate::faults::{RunFault, StepFault};
-use crate::parts::{advance, happen, start_members};
+use crate::mail::Mail;
+use crate::parts::{newest, start_members};
 use mx_events::Event;
 use mx_journal::Journal;
 use mx_letters::Outbox;
@@ -31,11 +32,11 @@ use std::marker::Model;
 /// Members, the parcels that they have sent, and the trace of what happened.
 #[derive(Drop)]
 pub struct Cluster<C: Exclusion> {
-    members: Vec<Member<C>>,
-    sent: Vec<(NodeId, NodeId, Parcel<C::Msg>)>,
-    trace: Vec<Entry>,
+    pub(crate) members: Vec<Member<C>>,
+    pub(crate) mail: Mail<C>,
+    pub(crate) trace: Vec<Entry>,
     /// The parcels of the event that happens now. Empty between events.
-    out: Outbox<Parcel<C::Msg>>,
+    pub(crate) out: Outbox<Parcel<C::Msg>>,
     /// Always None. The prover knows from this field that a member's size is bounded.
     size: Option<Member<C>>,
 }
@@ -47,9 +48,18 @@ impl<C: Exclusion> Model for Cluster<C> {
 
     ghost Value = { ClusterState C C.Msg };
 
-    ghost view = { λ c. record { members = c.members.items; sent = c.sent.items; trace = c.trace.items } };
+    ghost view = { λ c. record {
+      members = c.members.items;
+      sent = c.mail.sent;
+      trace = c.trace.items;
+    } };
 
-    ghost invariant = { λ c. (c.out ≡ []) × IsKept C.core C.Good (record { members = c.members.items; sent = c.sent.items; trace = c.trace.items }) };
+    ghost invariant = { λ c. (c.out ≡ [])
+        × IsKept C.core C.Good (record {
+          members = c.members.items;
+          sent = c.mail.sent;
+          trace = c.trace.items;
+        }) };
 }
 
 impl<C: Exclusion> Cluster<C> {
@@ -74,18 +84,20 @@ impl<C: Exclusion> Cluster<C> {
     {
         Ok(Cluster {
             members: start_members(alloc, shape, origin, limit, registers)?,
-            sent: Vec::new(alloc),
+            mail: Mail::new(alloc),
             trace: Vec::new(alloc),
             out: Outbox::new(),
             size: None,
         })
     }
 
-    /// One event. An event that its node refuses has happened too, and stands in the trace, but changes
-    /// no member and sends nothing. `Memory` comes only where the event would else have happened.
+    /// One event. An event that its node refuses has happened too, and stands in the trace, but
+    /// changes no member and sends nothing. `Memory` comes only where the event would else have
+    /// happened.
     pub fn step(&mut self, event: Event) -> Result<Outcome, StepFault>
         ensures ok { OnOk result (step_of C.core self.old event ≡ Ok self.new) }
-        ensures outcome { IfOk result (λ outcome. self.new.trace ≡ self.old.trace ++ (record { event = event; outcome = outcome }) ∷ []) }
+        ensures outcome { IfOk result (λ outcome. self.new.trace ≡ self.old.trace
+            ++ (record { event = event; outcome = outcome }) ∷ []) }
         ensures fault { IfErr result (IsFaultOf (step_of C.core self.old event)) }
         ensures no_node { (result ≡ Err StepFault.NoNode) ↔ NamesNoNode self.old event }
         ensures no_parcel { (result ≡ Err StepFault.NoParcel) ↔ NamesNoParcel self.old event }
@@ -99,16 +111,15 @@ impl<C: Exclusion> Cluster<C> {
         ensures numbered { IsNumbered self.new.trace }
         ensures serial { IsSerial self.new.trace }
     {
-        happen(
-            &mut self.members,
-            &mut self.sent,
-            &mut self.trace,
-            &mut self.out,
-            event,
-        )
+        // for the prover: what a cluster keeps is known from where a field is used
+        let _ = &self.trace;
+        if let Err(fault) = self.happen(event) {
+            return Err(fault);
+        }
+        Ok(newest(&self.trace))
     }
 
-    /// The same as `step`, without the outcome: that is the newest of the trace.
+    /// Does one event, as `step` does. Its outcome is that of the newest item of the trace.
     pub fn advance(&mut self, event: Event) -> Result<(), StepFault>
         ensures ok { OnOk result (step_of C.core self.old event ≡ Ok self.new) }
         ensures fault { IfErr result (IsFaultOf (step_of C.core self.old event)) }
@@ -119,28 +130,25 @@ impl<C: Exclusion> Cluster<C> {
         ensures numbered { IsNumbered self.new.trace }
         ensures serial { IsSerial self.new.trace }
     {
-        advance(
-            &mut self.members,
-            &mut self.sent,
-            &mut self.trace,
-            &mut self.out,
-            event,
-        )
+        // for the prover: what a cluster keeps is known from where a field is used
+        let _ = &self.trace;
+        self.happen(event)
     }
 
-    /// Makes room for so many events and parcels more, so that their lists need not grow step by
-    /// step. Nothing else changes, also where memory is refused.
+    /// Makes room for a given number of events and parcels more, so that their lists need not grow
+    /// step by step. Nothing else changes, also where memory is refused.
     pub fn make_room(&mut self, events: usize) -> Result<(), AllocError>
         ensures { self.new ≡ self.old }
     {
         self.trace.reserve(events)?;
-        self.sent.reserve(events)
+        self.mail.reserve(events)
     }
 
     /// Does these events in order, up to the first that can't happen.
     pub fn run(&mut self, events: &[Event]) -> Result<(), RunFault>
         ensures ok { OnOk result (RunsTo C.core self.old events.now self.new) }
-        ensures err { IfErr result (λ fault. (fault.index < length events.now) × RunsTo C.core self.old (take fault.index events.now) self.new) }
+        ensures err { IfErr result (λ fault. (fault.index < length events.now)
+            × RunsTo C.core self.old (take fault.index events.now) self.new) }
         ensures fault { IfErr result (λ fault. IfSome (slice_get events.now fault.index) (λ event. IsFaultOf (step_of C.core self.new event) fault.fault)) }
         ensures exclusive { IsExclusive self.new.trace }
         ensures numbered { IsNumbered self.new.trace }
@@ -162,7 +170,8 @@ impl<C: Exclusion> Cluster<C> {
     /// A member, where there is one of this number. Its journal knows of this trace's sections
     /// alone, and without gaps it shows their writes in order of entry.
     pub fn member(&self, node: NodeId) -> Option<&Member<C>>
-        ensures value { MatchOption result (slice_get self.now.members node ≡ None) (λ member. slice_get self.now.members node ≡ Some member.now) }
+        ensures value { MatchOption result (slice_get self.now.members node ≡ None)
+            (λ member. slice_get self.now.members node ≡ Some member.now) }
         ensures journal { IfSome result (λ member. IsJournalOf (journal_of self.now.trace) member.now.journal) }
         ensures in_order { IfSome result (λ member. ShowsInOrder self.now.trace member.now.journal) }
     {
@@ -173,29 +182,31 @@ impl<C: Exclusion> Cluster<C> {
     pub fn sent(&self) -> u64
         ensures { result ≡ length self.now.sent }
     {
-        self.sent.as_slice().len() as u64
+        self.mail.len() as u64
     }
 
     /// The parcel of this number, counted from 0: who sent it, to whom, and what it is.
     pub fn parcel(&self, number: u64) -> Option<(NodeId, NodeId, &Parcel<C::Msg>)>
-        ensures { MatchOption result (slice_get self.now.sent number ≡ None) (λ parcel. slice_get self.now.sent number ≡ Some (parcel.0, parcel.1, parcel.2.now)) }
+        ensures { MatchOption result (slice_get self.now.sent number ≡ None)
+            (λ parcel. slice_get self.now.sent number
+            ≡ Some (parcel.0, parcel.1, parcel.2.now)) }
     {
-        let (from, to, parcel) = self.sent.get(number as usize)?;
-        Some((*from, *to, parcel))
+        self.mail.get(number)
     }
 
     /// What happened, in order. At every moment of every run, entries and leavings alternate, each
     /// leaving by the node and with the number of the entry before it; the n-th entry bears the
-    /// number n; each value read is what the sections before and the own writes leave, and each
-    /// receipt is that of its section. At most one node is inside: that of the newest section, while it is
-    /// open. Any two journals agree.
+    /// number n; each value read is what the sections before and its section's own writes leave,
+    /// and each receipt is that of its section. At most one node is inside: that of the newest
+    /// section, while it is open. Any two journals agree.
     pub fn trace(&self) -> &[Entry]
         ensures value { result.now ≡ self.now.trace }
         ensures exclusive { IsExclusive result.now }
         ensures numbered { IsNumbered result.now }
         ensures serial { IsSerial result.now }
         ensures receipts { ReadSerially (sections result.now) }
-        ensures alone { (i j : ℕ) → IsInsideAt C.core self.now i → IsInsideAt C.core self.now j → j ≡ i }
+        ensures alone { (i j : ℕ) → IsInsideAt C.core self.now i → IsInsideAt C.core self.now j →
+            j ≡ i }
         ensures inside { (i n : ℕ) → IsInsideWith C.core self.now i n
             ↔ IsInSection i n (sections result.now) }
         ensures nobody { ((i : ℕ) → IsInsideAt C.core self.now i → ⊥)
@@ -209,10 +220,10 @@ impl<C: Exclusion> Cluster<C> {
         &self.trace
     }
 
-    /// What the journals of these nodes know together: each merged, in turn, into an empty one, which
-    /// gives their least upper bound. They never conflict, so that memory alone can be wanting. A
-    /// node that isn't there adds nothing. Those of all nodes are the journal of the sections, settled
-    /// as far as any node has settled it, and show its registers.
+    /// What the journals of these nodes know together: each merged, in turn, into an empty one,
+    /// which gives their least upper bound. They never conflict, so that memory alone can be
+    /// wanting. A node that isn't there adds nothing. Those of all nodes are the journal of the
+    /// sections, settled as far as any node has settled it, and show its registers.
     pub fn merged(&self, alloc: Global, nodes: &[NodeId]) -> Result<Journal, MergeFault>
         ensures all { IfOk result (λ journal.
             IsAboveAll self.now.members nodes.now journal) }

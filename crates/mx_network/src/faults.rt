@@ -28,7 +28,8 @@ impl From<AllocError> for StepFault {
     }
 }
 
-/// Which event of a run did not happen, counted from 0, and why. The events before it have happened.
+/// Which event of a run did not happen, counted from 0, and why. The events before it have
+/// happened.
 #[derive(Clone, Copy, Debug, PartialEq, Eq, Error)]
 #[error("event {index}: {fault}")]
 pub struct RunFault {

@@ -1,11 +1,12 @@
 //! A cluster of members in one value, for one thread: events, what comes of them, and the trace. It
-//! names no algorithm, so whatever implements `Exclusion` has its theorem: over every list of events
-//! no two nodes are inside together, the n-th section entered bears the number n, any two journals
-//! merge, and a journal without gaps shows the writes of the sections in order of entry.
+//! names no algorithm, so whatever implements `Exclusion` has its theorem: over every list of
+//! events no two nodes are inside together, the n-th section entered bears the number n, any two
+//! journals merge, and a journal without gaps shows the writes of the sections in order of entry.
 #![tactic(auto)]
 
 mod cluster;
 mod faults;
+mod mail;
 mod outcome;
 mod parts;
 

@@ -1,7 +1,8 @@
 //! The outcome that a member's answer stands for.
 
-ghost use Rattle.std.specs.Prelude.{◌≡◌};
-ghost use Rattle.mx_network.specs.Outcome.{answer_by, outcome_of};
+ghost use Rattle.std.specs.Prelude.{ℕ, ◌≡◌};
+ghost use Rattle.mx_member.specs.declared.acts.Answer.TheVariants as answer;
+ghost use Rattle.mx_network.specs.Outcome.{outcome_of};
 
 use mx_journal::SettleFault;
 use mx_member::{ReadFault, WriteFault};
@@ -9,51 +10,79 @@ use mx_nodelaws::{AskFault, CancelFault, EnterFault};
 use mx_sections::{Cause, Outcome};
 use mx_stamps::Stamp;
 
-/// What a member answers to an event other than to leave, whose receipt takes much room.
-pub(crate) enum Brief {
-    Asked(Result<Stamp, AskFault>),
-    Entered(Result<u64, EnterFault>),
-    Read(Result<u64, ReadFault>),
-    Written(Result<(), WriteFault>),
-    Cancelled(Result<(), CancelFault>),
-    Settled(Result<(), SettleFault>),
-    Ticked,
-    Wanted,
-    Delivered,
-    Woken,
+/// What comes of an ask.
+#[inline(always)]
+pub(crate) fn asked(told: Result<Stamp, AskFault>) -> Outcome
+    ensures { (sent : ℕ) → result ≡ outcome_of (answer.Asked told) sent }
+{
+    match told {
+        Ok(stamp) => Outcome::Asked(stamp),
+        Err(AskFault::NotIdle) => Outcome::Refused(Cause::NotIdle),
+        Err(AskFault::StampsSpent) => Outcome::Refused(Cause::StampsSpent),
+    }
 }
 
-/// The outcome that a member's answer stands for, where the member sent this many parcels.
+/// What comes of an entry.
 #[inline(always)]
-pub(crate) fn outcome_from(brief: Brief, sent: u64) -> Outcome
-    ensures { result ≡ outcome_of (answer_by brief) sent }
+pub(crate) fn entered(told: Result<u64, EnterFault>) -> Outcome
+    ensures { (sent : ℕ) → result ≡ outcome_of (answer.Entered told) sent }
 {
-    match brief {
-        Brief::Asked(Ok(stamp)) => Outcome::Asked(stamp),
-        Brief::Asked(Err(AskFault::NotIdle)) => Outcome::Refused(Cause::NotIdle),
-        Brief::Asked(Err(AskFault::StampsSpent)) => Outcome::Refused(Cause::StampsSpent),
-        Brief::Entered(Ok(number)) => Outcome::Entered(number),
-        Brief::Entered(Err(EnterFault::NotWaiting)) => Outcome::Refused(Cause::NotWaiting),
-        Brief::Entered(Err(EnterFault::NotGranted)) => Outcome::Refused(Cause::NotGranted),
-        Brief::Entered(Err(EnterFault::NumbersSpent)) => Outcome::Refused(Cause::NumbersSpent),
-        Brief::Read(Ok(value)) => Outcome::Value(value),
-        Brief::Read(Err(ReadFault::NotInside)) => Outcome::Refused(Cause::NotInside),
-        Brief::Read(Err(ReadFault::NoRegister)) => Outcome::Refused(Cause::NoRegister),
-        Brief::Read(Err(ReadFault::Gap(number))) => Outcome::Refused(Cause::Gap(number)),
-        Brief::Read(Err(ReadFault::Full)) => Outcome::Refused(Cause::Full),
+    match told {
+        Ok(number) => Outcome::Entered(number),
+        Err(EnterFault::NotWaiting) => Outcome::Refused(Cause::NotWaiting),
+        Err(EnterFault::NotGranted) => Outcome::Refused(Cause::NotGranted),
+        Err(EnterFault::NumbersSpent) => Outcome::Refused(Cause::NumbersSpent),
+    }
+}
+
+/// What comes of a read.
+#[inline(always)]
+pub(crate) fn read(told: Result<u64, ReadFault>) -> Outcome
+    ensures { (sent : ℕ) → result ≡ outcome_of (answer.Read told) sent }
+{
+    match told {
+        Ok(value) => Outcome::Value(value),
+        Err(ReadFault::NotInside) => Outcome::Refused(Cause::NotInside),
+        Err(ReadFault::NoRegister) => Outcome::Refused(Cause::NoRegister),
+        Err(ReadFault::Gap(number)) => Outcome::Refused(Cause::Gap(number)),
+        Err(ReadFault::Full) => Outcome::Refused(Cause::Full),
         // no section that a node is inside is settled: `Cluster::step`
-        Brief::Read(Err(ReadFault::Settled(upto))) => Outcome::Refused(Cause::Below(upto)),
-        Brief::Written(Ok(())) => Outcome::Written,
-        Brief::Written(Err(WriteFault::NotInside)) => Outcome::Refused(Cause::NotInside),
-        Brief::Written(Err(WriteFault::NoRegister)) => Outcome::Refused(Cause::NoRegister),
-        Brief::Written(Err(WriteFault::Full)) => Outcome::Refused(Cause::Full),
-        Brief::Cancelled(Ok(())) => Outcome::Cancelled,
-        Brief::Cancelled(Err(CancelFault::NotWaiting)) => Outcome::Refused(Cause::NotWaiting),
-        Brief::Settled(Ok(())) => Outcome::Settled,
-        Brief::Settled(Err(SettleFault::Below(base))) => Outcome::Refused(Cause::Below(base)),
-        Brief::Settled(Err(SettleFault::Gap(number))) => Outcome::Refused(Cause::Gap(number)),
-        Brief::Ticked | Brief::Wanted => Outcome::Sent(sent),
-        Brief::Delivered => Outcome::Delivered,
-        Brief::Woken => Outcome::Woken,
+        Err(ReadFault::Settled(upto)) => Outcome::Refused(Cause::Below(upto)),
+    }
+}
+
+/// What comes of a write.
+#[inline(always)]
+pub(crate) fn written(told: Result<(), WriteFault>) -> Outcome
+    ensures { (sent : ℕ) → result ≡ outcome_of (answer.Written told) sent }
+{
+    match told {
+        Ok(()) => Outcome::Written,
+        Err(WriteFault::NotInside) => Outcome::Refused(Cause::NotInside),
+        Err(WriteFault::NoRegister) => Outcome::Refused(Cause::NoRegister),
+        Err(WriteFault::Full) => Outcome::Refused(Cause::Full),
+    }
+}
+
+/// What comes of giving a request up.
+#[inline(always)]
+pub(crate) fn cancelled(told: Result<(), CancelFault>) -> Outcome
+    ensures { (sent : ℕ) → result ≡ outcome_of (answer.Cancelled told) sent }
+{
+    match told {
+        Ok(()) => Outcome::Cancelled,
+        Err(CancelFault::NotWaiting) => Outcome::Refused(Cause::NotWaiting),
+    }
+}
+
+/// What comes of settling.
+#[inline(always)]
+pub(crate) fn settled(told: Result<(), SettleFault>) -> Outcome
+    ensures { (sent : ℕ) → result ≡ outcome_of (answer.Settled told) sent }
+{
+    match told {
+        Ok(()) => Outcome::Settled,
+        Err(SettleFault::Below(base)) => Outcome::Refused(Cause::Below(base)),
+        Err(SettleFault::Gap(number)) => Outcome::Refused(Cause::Gap(number)),
     }
 }

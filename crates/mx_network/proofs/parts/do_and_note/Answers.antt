@@ -1,37 +1,38 @@
-use Rattle.std.proofs.Common.{ℕ, ◌≡◌, ◌∙◌, true, false, List, OnOk, refl, rules, subst, sym}
-use Rattle.mx_member.specs.declared.acts.Act.{Act}
-use Rattle.mx_member.specs.declared.acts.Act.TheVariants.{Leave}
+use Rattle.std.proofs.Common.{ℕ, ◌≡◌, ◌∙◌, List, [], ◌∷◌, ◌++◌, ap, length, refl, subst, sym}
+use Rattle.mx_nodelaws.specs.Core.{Core}
+use Rattle.mx_member.specs.declared.acts.Answer.{Answer}
+use Rattle.mx_member.specs.declared.acts.Answer.TheVariants as answer
 use Rattle.mx_member.specs.declared.parcel.Parcel.{Parcel}
+use Rattle.mx_member.specs.Acts.{act_of}
+use Rattle.mx_member.specs.Member.{MemberState}
 use Rattle.mx_events.specs.declared.event.Event.{Event}
 use Rattle.mx_events.specs.declared.event.Event.TheVariants as event
-use Rattle.mx_network.specs.Step.{NotesAct, act_in, is_leaving}
+use Rattle.mx_sections.specs.declared.outcome.Entry.{Entry}
+use Rattle.mx_sections.specs.declared.outcome.Outcome.{Outcome}
+use Rattle.mx_sections.specs.declared.outcome.Outcome.TheVariants.{Sent}
+use Rattle.mx_network.specs.Step.{own_act, NotesAct}
 use Rattle.mx_network.proofs.parts.do_and_note.Goals as goal
 
-never : false ≡ true → ⊥
-never e = cc
+-- what an event asks for is done and noted, once it is known which event it is
+noted : {H S M : Type 0} (core : Core H S M) (e is : Event) (old new : MemberState S) (before after : List Entry) (out : List (ℕ × Parcel M)) → e ≡ is → NotesAct core is (own_act is) old before new out after → NotesAct core e (own_act e) old before new out after
+noted core e is old new before after out same done = subst (λ x. NotesAct core x (own_act x) old before new out after) (sym same) done
 
--- the act of a leaving
-leaves : {M : Type 0} (sent : List (ℕ × ℕ × Parcel M)) (e : Event) → is_leaving e ≡ true → Leave ≡ act_in sent e
-leaves sent (event.Leave i) is = refl
-leaves sent _ is = absurd (never is)
+-- the item tells how many were sent
+told : (e is : Event) (before after : List Entry) (n k : ℕ) → e ≡ is → n ≡ k → after ≡ before ++ (record { event = e; outcome = Sent n }) ∷ [] → after ≡ before ++ (record { event = is; outcome = Sent k }) ∷ []
+told e is before after n k same count has = has ∙ ap (λ x. before ++ (record { event = x; outcome = Sent n }) ∷ []) same ∙ ap (λ x. before ++ (record { event = is; outcome = Sent x }) ∷ []) count
 
-pub leave_and_note-requires : goal.leave_and_note-requires
-leave_and_note-requires g c = (search rules, (search rules, (c.requires.empty, c.requires.room)))
+pub returns-in-Tick-clause-ok : goal.returns-in-Tick-clause-ok
+returns-in-Tick-clause-ok g c =
+    noted g.C.Exclusion.core c.args.event.now (event.Tick c.in-Tick.field-0) c.args.member.now _ c.args.trace.now.items _ _ c.in-Tick.is (record {
+      state = c.tick.ensures.state;
+      letters = c.tick.ensures.letters;
+      noted = told _ _ _ _ _ _ c.in-Tick.is (c.len.ensures ∙ ap length c.tick.ensures.letters) c.note-in-Tick.ensures;
+    })
 
-pub act_and_note-requires : goal.act_and_note-requires
-act_and_note-requires g c =
-    (search rules, (search rules, (c.requires.empty, (sym c.is_leaving.ensures ∙ c.if-is_leaving.false, (c.requires.there, (c.requires.doable, c.requires.room))))))
-
-pub returns-then-is_leaving-clause-ok : goal.returns-then-is_leaving-clause-ok
-returns-then-is_leaving-clause-ok g c =
-    subst (λ (a : Act g.row.C-Msg.Denot). OnOk c.leave_and_note.result (NotesAct g.C.Exclusion.core c.args.event a c.args.member.now c.args.trace.now.items c.leave_and_note.new.member c.leave_and_note.new.out c.leave_and_note.new.trace.items))
-    (leaves c.args.sent.now c.args.event (sym c.is_leaving.ensures ∙ c.if-is_leaving.true)) c.leave_and_note.ensures.ok
-
-pub returns-then-is_leaving-clause-err : goal.returns-then-is_leaving-clause-err
-returns-then-is_leaving-clause-err g c = c.leave_and_note.ensures.err
-
-pub returns-else-is_leaving-clause-ok : goal.returns-else-is_leaving-clause-ok
-returns-else-is_leaving-clause-ok g c = c.act_and_note.ensures.ok
-
-pub returns-else-is_leaving-clause-err : goal.returns-else-is_leaving-clause-err
-returns-else-is_leaving-clause-err g c = c.act_and_note.ensures.err
+pub returns-in-Want-clause-ok : goal.returns-in-Want-clause-ok
+returns-in-Want-clause-ok g c =
+    noted g.C.Exclusion.core c.args.event.now (event.Want c.in-Want.field-0 c.in-Want.to) c.args.member.now _ c.args.trace.now.items _ _ c.in-Want.is (record {
+      state = refl;
+      letters = c.want.ensures.letters;
+      noted = told _ _ _ _ _ _ c.in-Want.is (c.len-in-Want.ensures ∙ ap length c.want.ensures.letters) c.note-in-Want.ensures;
+    })

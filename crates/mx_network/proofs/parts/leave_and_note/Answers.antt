@@ -14,6 +14,6 @@ returns-in-Err-NotInside-clause-ok g c =
       state = e.err ∙ sym (ap (λ d. d.state) stays);
       letters = e.quiet ∙ sym (ap (λ d. d.letters) stays);
       noted = c.note-in-Err-NotInside.ensures
-          ∙ ap (λ (o : Outcome). c.args.trace.now.items ++ record { event = c.args.event; outcome = o } ∷ [])
+          ∙ ap (λ (o : Outcome). c.args.trace.now.items ++ record { event = c.args.event.now; outcome = o } ∷ [])
           (sym (ap (λ d. outcome_of d.answer (length d.letters)) stays));
     }

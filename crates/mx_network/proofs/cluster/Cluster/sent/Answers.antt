@@ -1,5 +1,4 @@
-use Rattle.std.proofs.Common.{length, ap}
 use Rattle.mx_network.proofs.cluster.Cluster.sent.Goals as goal
 
 pub returns : goal.returns
-returns g c = rw (← c.self.view_is) (ap length c.as_slice.ensures.value)
+returns g c = rw (← c.self.view_is) c.len.ensures
