@@ -16,7 +16,9 @@ mod telling;
 mod words;
 
 pub use about::{ABOUT_COUNT, ABOUT_DRAW, ABOUT_EXPLAIN, ABOUT_PICTURE, ABOUT_SCRIPT};
-pub use arguments::{events_arg, file_arg, flag_arg, plan_arg, seed_arg, steps_arg, text_arg};
+pub use arguments::{
+    events_arg, file_arg, flag_arg, number_arg, plan_arg, seed_arg, steps_arg, text_arg,
+};
 pub use closing::{close, is_refused};
 pub use fault_lines::FaultLine;
 pub use faults::{Fault, Named, Stop};
@@ -27,5 +29,5 @@ pub use splitting::{are_dashes, split_line};
 pub use telling::{put_line, refuse, tell, tell_memory};
 pub use words::{
     Exploration, Names, Request, asked, exploration_at, explore_command, is_given, names_at,
-    replay_command, text_at,
+    number_at, replay_command, text_at,
 };
