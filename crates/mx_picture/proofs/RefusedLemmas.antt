@@ -9,17 +9,18 @@ use Rattle.mx_cli.proofs.ClosedLemmas.{not_five}
 use Rattle.mx_commands.specs.Jobs.{Job, job_of}
 use Rattle.mx_commands.specs.Ran.{RanOf, RanOn}
 use Rattle.mx_io.specs.Told.{Telling}
-use Rattle.mx_picture.specs.Pictures.{Pictures}
+use Rattle.mx_picture.specs.PictureWords.{Request}
+use Rattle.mx_picture.specs.Pictures.{EndsAsReplay, Pictures}
 
 -- where memory ran out at once, a run ends as a replay may
 of_job : (t : Bool) (o : Option Job) → IfSome o (λ job. RanOn t None None job (Err stop.Memory))
 of_job t None = tt
 of_job t (Some job) = inl (tt, tt)
 
-at_once : (t : Bool) (told : Text → Option Telling) (names : Text × Text) → RanOf t None None told (wants.replay names) (Err stop.Memory)
-at_once t told names = of_job t (job_of told (wants.replay names))
+at_once : (t : Bool) (told : Text → Option Telling) (request : Request) → EndsAsReplay t told request (Err stop.Memory)
+at_once t told request = inl (of_job t (job_of told (wants.replay request.names)))
 
-pub short_pictures : (t u : Bool) (told : Text → Option Telling) (names : Text × Text) (old new : Seen) (status : ℕ)
-    → (status ≡ 5) × Keeps old.out new.out × MayTell old.err new.err × (new.refused ≡ old.refused) → Pictures t u told names old new status
-short_pictures t u told names old new status m =
-    (Err stop.Memory, at_once t told names, m.1, inl (m.0, m.2), λ zero. absurd (not_five status m.0 zero))
+pub short_pictures : (t u : Bool) (told : Text → Option Telling) (request : Request) (old new : Seen) (status : ℕ)
+    → (status ≡ 5) × Keeps old.out new.out × MayTell old.err new.err × (new.refused ≡ old.refused) → Pictures t u told request old new status
+short_pictures t u told request old new status m =
+    (Err stop.Memory, at_once t told request, m.1, inl (m.0, m.2), λ zero. absurd (not_five status m.0 zero))

@@ -14,3 +14,13 @@ blue for requests, green for what grants them, purple for all others, and dashed
 before. One that is never delivered ends in the air, in a row of its own. A blue bar stands where a node
 waits, and a yellow box where it is inside, with the number of the section. `mx replay --help` tells what
 events are, and its faults are those of `picture`; docs/FORMATS.md has all formats.";
+
+pub(crate) const FROM: &str = "Draws the events from this index on, counted from 0";
+
+pub(crate) const TO: &str = "Draws the events up to this index";
+
+pub(crate) const NODE: &str =
+    "Draws the events of the node of this name, and those that send it a parcel or deliver one of its own";
+
+pub(crate) const JOURNALS: &str =
+    "Tells which sections a node's journal has, at each event that changes it";

@@ -12,16 +12,6 @@ pub(crate) struct Part {
 }
 
 impl Part {
-    /// All events of all nodes, without journals.
-    pub(crate) fn whole() -> Self {
-        Part {
-            from: 0,
-            to: u64::MAX,
-            node: None,
-            has_journals: false,
-        }
-    }
-
     /// Whether an event of this index may be shown.
     pub(crate) fn has_index(&self, index: u64) -> bool {
         self.from <= index && index <= self.to

@@ -1,14 +1,14 @@
 //! The command: from words, named bytes and two outputs to a status.
 
 ghost use Rattle.std.specs.Prelude.{IfSome};
-ghost use Rattle.mx_cli.specs.Words.{names_of, texts_of, AreWrong, AskHelp};
+ghost use Rattle.mx_cli.specs.Words.{texts_of, AreWrong, AskHelp};
 ghost use Rattle.mx_cli.specs.Told.{Helps, Scolds, seen};
-ghost use Rattle.mx_picture.specs.PictureWords.{request_asked, picture_line};
+ghost use Rattle.mx_picture.specs.PictureWords.{request_asked, request_of, picture_line};
 ghost use Rattle.mx_picture.specs.Pictures.{Pictures};
 
 use crate::reading::draw;
-use crate::words::asked;
-use mx_cli::{Names, close, refuse};
+use crate::words::{Request, asked};
+use mx_cli::{close, refuse};
 use mx_io::{Output, Source};
 use std::alloc::Global;
 
@@ -23,8 +23,8 @@ pub fn picture<S: Source, O: Output, E: Output>(
     out: &mut O,
     err: &mut E,
 ) -> u8
-    ensures pictures { IfSome (request_asked (texts_of words.entry.now)) (λ names.
-        Pictures (O.takes_all out.old) (E.takes_all err.old) (S.told source.old) names
+    ensures pictures { IfSome (request_asked (texts_of words.entry.now)) (λ request.
+        Pictures (O.takes_all out.old) (E.takes_all err.old) (S.told source.old) request
         (seen (O.written out.old) (E.written err.old) (O.has_refused out.old)
         (O.keeps_back out.old))
         (seen (O.written out.new) (E.written err.new) (O.has_refused out.new)
@@ -44,7 +44,7 @@ pub fn picture<S: Source, O: Output, E: Output>(
         result }
 {
     match asked(alloc, words) {
-        Ok(Some(names)) => run_picture(alloc, &names, source, out, err),
+        Ok(Some(request)) => run_picture(alloc, &request, source, out, err),
         Ok(None) => 2,
         Err(e) => refuse(alloc, &e, out, err),
     }
@@ -52,19 +52,19 @@ pub fn picture<S: Source, O: Output, E: Output>(
 
 fn run_picture<S: Source, O: Output, E: Output>(
     alloc: Global,
-    names: &Names<'_>,
+    request: &Request<'_>,
     source: &mut S,
     out: &mut O,
     err: &mut E,
 ) -> u8
     ensures { Pictures (O.takes_all out.old) (E.takes_all err.old) (S.told source.old)
-        (names_of names.now)
+        (request_of request.now)
         (seen (O.written out.old) (E.written err.old) (O.has_refused out.old)
         (O.keeps_back out.old))
         (seen (O.written out.new) (E.written err.new) (O.has_refused out.new)
         (O.keeps_back out.new))
         result }
 {
-    let ended = draw(alloc, names, source, out);
-    close(alloc, ended, names, out, err)
+    let ended = draw(alloc, request, source, out);
+    close(alloc, ended, &request.names, out, err)
 }

@@ -1,65 +1,100 @@
 //! The plan is read, then the events, as `replay` does it; then they are drawn.
 
-ghost use Rattle.std.specs.Prelude.{◌≡◌, None, length, string_bytes, IfErr, IfOk, OnOk};
-ghost use Rattle.mx_cli.specs.Words.{names_of};
-ghost use Rattle.mx_cli.specs.Words as wants;
+ghost use Rattle.std.specs.Prelude.{◌≡◌, ◌⊎◌, None, length, option_map, string_bytes, IfErr, IfOk, OnOk};
 ghost use Rattle.mx_commands.specs.Jobs.{report_of_events, run_by};
 ghost use Rattle.mx_commands.specs.Runs.{AllNameNodes};
-ghost use Rattle.mx_commands.specs.Ran.{Ran, RanOf};
+ghost use Rattle.mx_commands.specs.Ran.{Ran};
 ghost use Rattle.mx_picture.specs.Drawn.{Draws, IsWhole, StopsAs};
+ghost use Rattle.mx_picture.specs.PictureWords.{request_of};
+ghost use Rattle.mx_picture.specs.Pictures.{EndsAsReplay, IsUnknownNode, LacksNode};
 
 use crate::drawing::{Drawing, draw_run, go_on};
 use crate::page::add_page;
 use crate::part::Part;
-use mx_cli::{Names, Stop, fetch_both};
+use crate::words::Request;
+use mx_cli::{Fault, Stop, fetch_both};
 use mx_commands::start;
 use mx_io::{Output, Source};
 use mx_maekawa::Maekawa;
 use mx_network::Event;
-use mx_plan::{Plan, Shape, read_events};
+use mx_plan::{Place, Plan, PlanFault, Shape, read_events};
 use mx_raymond::Raymond;
 use mx_ricart::Ricart;
+use mx_stamps::NodeId;
 use std::alloc::{AllocError, Global};
 
-/// Reads the plan, then the events, and prints their picture. Returns the status.
+/// Reads the plan, then the events, and prints a picture of the part that is asked for. Returns the status.
 pub fn draw<S: Source, O: Output>(
     alloc: Global,
-    names: &Names<'_>,
+    request: &Request<'_>,
     source: &mut S,
     out: &mut O,
 ) -> Result<u8, Stop>
-    ensures ran { RanOf (O.takes_all out.old) None None (S.told source.old)
-        (wants.replay (names_of names.now)) result }
+    ensures ran { EndsAsReplay (O.takes_all out.old) (S.told source.old)
+        (request_of request.now) result }
     ensures drawn { Draws (O.written out.old) (O.written out.new) result }
     ensures stays { O.takes_all out.new ≡ O.takes_all out.old }
 {
-    let both = fetch_both(alloc, source, names)?;
-    draw_text(alloc, &both.plan, both.text.as_slice(), out)
+    let both = fetch_both(alloc, source, &request.names)?;
+    draw_text(alloc, request, &both.plan, both.text.as_slice(), out)
 }
 
 /// Reads the events and prints their picture.
-fn draw_text<O: Output>(alloc: Global, plan: &Plan, text: &[u8], out: &mut O) -> Result<u8, Stop>
-    ensures ran { Ran (O.takes_all out.old) None None (report_of_events text.now plan.now) result }
+fn draw_text<O: Output>(
+    alloc: Global,
+    request: &Request<'_>,
+    plan: &Plan,
+    text: &[u8],
+    out: &mut O,
+) -> Result<u8, Stop>
+    ensures ran { Ran (O.takes_all out.old) None None (report_of_events text.now plan.now) result
+        ⊎ LacksNode (request_of request.now).node result }
     ensures drawn { Draws (O.written out.old) (O.written out.new) result }
     ensures stays { O.takes_all out.new ≡ O.takes_all out.old }
 {
     let events = read_events(alloc, text, plan)?;
-    let page = page_of(alloc, plan, events.as_slice())?;
+    let part = part_of(plan, request)?;
+    let page = page_of(alloc, plan, &part, events.as_slice())?;
     out.put(page.as_bytes())?;
     Ok(0)
 }
 
-/// The picture of these events.
-fn page_of(alloc: Global, plan: &Plan, events: &[Event]) -> Result<String, Stop>
+/// The part of the events that is asked for.
+fn part_of(plan: &Plan, request: &Request<'_>) -> Result<Part, Stop>
+    ensures err { IfErr result (IsUnknownNode (request_of request.now).node) }
+{
+    let node = node_in(plan, request.node)?;
+    Ok(Part {
+        from: request.from,
+        to: request.to,
+        node,
+        has_journals: request.has_journals,
+    })
+}
+
+/// The node of this name, if one is named.
+fn node_in(plan: &Plan, name: Option<&str>) -> Result<Option<NodeId>, Stop>
+    ensures err { IfErr result (IsUnknownNode (option_map (λ name. name.now) name)) }
+{
+    let Some(name) = name else {
+        return Ok(None);
+    };
+    match plan.node(name) {
+        Some(node) => Ok(Some(node)),
+        None => Err(Stop::Fault(Fault::BadText(PlanFault::UnknownName(Place::Nodes)))),
+    }
+}
+
+/// The picture of a part of these events.
+fn page_of(alloc: Global, plan: &Plan, part: &Part, events: &[Event]) -> Result<String, Stop>
     requires { AllNameNodes (length plan.now.nodes) events.now }
     ensures whole { IfOk result (λ page. IsWhole (string_bytes page)) }
     ensures ok { OnOk result ((run_by plan.now plan.now.shape events.now).end ≡ None) }
     ensures err { IfErr result (StopsAs (run_by plan.now plan.now.shape events.now)) }
 {
-    let part = Part::whole();
-    let mut drawing = Drawing::new(alloc, events, &part)?;
+    let mut drawing = Drawing::new(alloc, events, part)?;
     draw_by_shape(alloc, plan, events, &mut drawing)?;
-    let page = whole_page(alloc, plan, events.len() as u64, &part, &mut drawing)?;
+    let page = whole_page(alloc, plan, events.len() as u64, part, &mut drawing)?;
     Ok(page)
 }
 

@@ -1,31 +1,47 @@
 //! The words of `picture`.
 
 ghost use Rattle.std.specs.Prelude.{◌≡◌, [], IfOk, IfErr, option_map};
-ghost use Rattle.clap.specs.Words.{app_of, fault_of, subcommand_of, subcommand_rows_of, HasKind};
-ghost use Rattle.mx_cli.specs.Words.{IsCommand, names_of, texts_of};
-ghost use Rattle.mx_picture.specs.PictureWords.{request_asked, request_in, picture_app, picture_line};
+ghost use Rattle.clap.specs.Words.{app_of, fault_of, found_of, rows_of, subcommand_of, subcommand_rows_of, HasKind};
+ghost use Rattle.mx_cli.specs.Words.{IsCommand, texts_of};
+ghost use Rattle.mx_picture.specs.PictureWords.{picture_app, picture_in, picture_line, request_asked, request_in, request_of};
 
 use crate::help;
 use clap::{ArgMatches, Command, Error};
 use mx_cli::{
-    ABOUT_PICTURE, Names, bare_command, events_arg, line_of, matches_in, names_at, plan_arg,
+    ABOUT_PICTURE, Names, bare_command, events_arg, flag_arg, is_given, line_of, matches_in,
+    names_at, number_arg, number_at, plan_arg, text_arg, text_at,
 };
 use std::alloc::{AllocError, Global};
+
+/// What is to be drawn: of which plan and events, from which event to which, of which node alone, and
+/// whether with what journals have.
+#[derive(Clone, Copy)]
+pub(crate) struct Request<'a> {
+    pub(crate) names: Names<'a>,
+    pub(crate) from: u64,
+    pub(crate) to: u64,
+    pub(crate) node: Option<&'a str>,
+    pub(crate) has_journals: bool,
+}
 
 fn picture_command<'a>(alloc: Global) -> Result<Command<'a>, AllocError>
     ensures { IfOk result (IsCommand picture_app) }
 {
     let begun = bare_command(alloc, "picture", ABOUT_PICTURE, help::PICTURE_EXAMPLE);
     let with_plan = begun.arg(plan_arg(alloc))?;
-    with_plan.arg(events_arg(alloc))
+    let with_events = with_plan.arg(events_arg(alloc))?;
+    let with_from = with_events.arg(number_arg(alloc, "from", help::FROM, u64::MAX))?;
+    let with_to = with_from.arg(number_arg(alloc, "to", help::TO, u64::MAX))?;
+    let with_node = with_to.arg(text_arg(alloc, "node", help::NODE))?;
+    with_node.arg(flag_arg(alloc, "journals", help::JOURNALS))
 }
 
-/// Of which plan and events the words, of which `picture` is the first, ask for a picture. Their faults
-/// are those of `clap`, and words that ask for help come as such a fault too, with the text to show.
-pub(crate) fn asked<'a>(alloc: Global, words: &'a [&'a str]) -> Result<Option<Names<'a>>, Error>
+/// What picture the words, of which `picture` is the first, ask for. Their faults are those of `clap`, and
+/// words that ask for help come as such a fault too, with the text to show.
+pub(crate) fn asked<'a>(alloc: Global, words: &'a [&'a str]) -> Result<Option<Request<'a>>, Error>
     ensures read { IfOk result (λ _. fault_of picture_line (texts_of words.entry.now) ≡ []) }
-    ensures ok { IfOk result (λ names.
-        option_map names_of names ≡ request_asked (texts_of words.entry.now)) }
+    ensures ok { IfOk result (λ request.
+        option_map request_of request ≡ request_asked (texts_of words.entry.now)) }
     ensures err { IfErr result (HasKind (fault_of picture_line (texts_of words.entry.now))) }
 {
     let matches = matches_of(alloc, words)?;
@@ -49,11 +65,26 @@ fn picture_line<'a>(alloc: Global) -> Result<Command<'a>, AllocError>
     line_of(alloc, picture_command(alloc)?)
 }
 
-fn request_in<'a>(matches: &ArgMatches<'a>) -> Option<Names<'a>>
-    ensures { option_map names_of result ≡ request_in (subcommand_rows_of matches.now) }
+fn request_in<'a>(matches: &ArgMatches<'a>) -> Option<Request<'a>>
+    ensures { option_map request_of result ≡ request_in (subcommand_rows_of matches.now) }
 {
     match matches.subcommand() {
-        Some((name, inner)) if name == "picture" => names_at(inner),
+        Some((name, inner)) if name == "picture" => picture_in(inner),
         _ => None,
     }
+}
+
+fn picture_in<'a>(matches: &ArgMatches<'a>) -> Option<Request<'a>>
+    ensures { option_map request_of result ≡ picture_in (rows_of (found_of matches.now)) }
+{
+    let Some(names) = names_at(matches) else {
+        return None;
+    };
+    Some(Request {
+        names,
+        from: number_at(matches, "from").unwrap_or(0),
+        to: number_at(matches, "to").unwrap_or(u64::MAX),
+        node: text_at(matches, "node"),
+        has_journals: is_given(matches, "journals"),
+    })
 }

@@ -9,7 +9,7 @@ pub returns-in-Err-clause-pictures : goal.returns-in-Err-clause-pictures
 unfolding request_asked
 returns-in-Err-clause-pictures g c =
     refused picture_line request_in (texts_of c.args.words.now) c.in-Err.e c.in-Err.ensures.err c.refuse.ensures.memory _
-    (λ m names. short_pictures (g.O.Output.takes_all c.args.out.now) (g.E.Output.takes_all c.args.err.now) (g.S.Source.told c.args.source.now) names
+    (λ m request. short_pictures (g.O.Output.takes_all c.args.out.now) (g.E.Output.takes_all c.args.err.now) (g.S.Source.told c.args.source.now) request
     (seen (g.O.Output.written c.args.out.now) (g.E.Output.written c.args.err.now) (g.O.Output.has_refused c.args.out.now) (g.O.Output.keeps_back c.args.out.now))
     (seen (g.O.Output.written c.refuse.new.out) (g.E.Output.written c.refuse.new.err) (g.O.Output.has_refused c.refuse.new.out) (g.O.Output.keeps_back c.refuse.new.out))
     c.refuse.result m)

@@ -9,7 +9,7 @@ pub returns : goal.returns
 returns g c =
     let u = g.E.Output.takes_all c.args.err.now in
     let ended = c.draw-ended.result in
-    let closed = subst (λ (t : Bool). Closes (t && u) (names_of c.args.names.now) ended (g.E.Output.written c.args.err.now) (g.E.Output.written c.close.new.err) c.close.result)
+    let closed = subst (λ (t : Bool). Closes (t && u) (names_of c.args.request.now.names) ended (g.E.Output.written c.args.err.now) (g.E.Output.written c.close.new.err) c.close.result)
     c.draw-ended.ensures.stays c.close.ensures.closes in (
       ended,
       c.draw-ended.ensures.ran,
