@@ -140,7 +140,7 @@ where
         drawing.sheet.go_down()
     } else {
         drawing.has_skipped = true;
-        pass_over(before, entry, cluster, drawing)
+        pass_over(index, before, entry, cluster, drawing)
     }
 }
 
@@ -180,8 +180,10 @@ fn concerns<C: Exclusion>(cluster: &Cluster<C>, number: u64, part: &Part) -> boo
     }
 }
 
-/// The newest event, which is not shown, and the parcels from `before` on, which it sent.
+/// The newest event, of this index, which is not shown, and the parcels from `before` on, which it sent.
+/// Behind the part that is drawn no phase changes any more.
 fn pass_over<C: Exclusion>(
+    index: u64,
     before: u64,
     entry: &Entry,
     cluster: &Cluster<C>,
@@ -192,7 +194,10 @@ where
 {
     match happening_of(&entry.event) {
         Happening::Delivery(number) => pass_delivery(cluster, number, &mut drawing.sheet)?,
-        Happening::Act(node) => pass_outcome(node, &entry.outcome, &mut drawing.sheet)?,
+        Happening::Act(node) if index <= drawing.part.to => {
+            pass_outcome(node, &entry.outcome, &mut drawing.sheet)?
+        }
+        Happening::Act(_) => {}
     }
     for _ in before..cluster.sent() {
         drawing.sheet.send(false)?;

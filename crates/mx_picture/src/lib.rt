@@ -18,4 +18,3 @@ mod widths;
 mod words;
 
 pub use picturing::picture;
-pub use reading::draw;

@@ -24,7 +24,7 @@ use mx_stamps::NodeId;
 use std::alloc::{AllocError, Global};
 
 /// Reads the plan, then the events, and prints a picture of the part that is asked for. Returns the status.
-pub fn draw<S: Source, O: Output>(
+pub(crate) fn draw<S: Source, O: Output>(
     alloc: Global,
     request: &Request<'_>,
     source: &mut S,
