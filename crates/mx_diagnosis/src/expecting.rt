@@ -28,19 +28,24 @@ fn say_expected<'a>(
     expected: &'a str,
     nearest: Option<&str>,
 ) -> Result<(), AllocError> {
-    let mut said = Expected {
-        path,
-        found,
-        written: "",
-        expected,
-        nearest,
-    };
     if page.is_full() {
-        return page.say(said);
+        return page.say(Expected {
+            path,
+            found,
+            written: "",
+            expected,
+            nearest,
+        });
     }
     let offset = page.offset(&path)?;
     let word = page.word_at(offset)?;
-    said.written = word.as_str();
+    let said = Expected {
+        path,
+        found,
+        written: word.as_str(),
+        expected,
+        nearest,
+    };
     page.say_at(offset, said)
 }
 

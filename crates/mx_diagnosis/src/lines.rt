@@ -68,16 +68,16 @@ impl Display for Nearest<'_> {
 
 /// What is at a place, and what was expected there.
 #[derive(Clone, Copy)]
-pub(crate) struct Expected<'a, 'w> {
+pub(crate) struct Expected<'a, 'w, 'n> {
     pub(crate) path: Path<'a>,
     pub(crate) found: Option<&'a Value>,
     /// The number that is found, as it is written.
     pub(crate) written: &'w str,
     pub(crate) expected: &'a str,
-    pub(crate) nearest: Option<&'w str>,
+    pub(crate) nearest: Option<&'n str>,
 }
 
-impl Display for Expected<'_, '_> {
+impl Display for Expected<'_, '_, '_> {
     fn fmt<W: fmt::Write>(&self, f: &mut fmt::Formatter<W>) -> fmt::Result {
         let path = self.path;
         let found = Found(self.found, self.written);
