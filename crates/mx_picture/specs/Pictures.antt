@@ -21,8 +21,8 @@ IsUnknownNode (Some name) end = end ≡ stop.Fault (BadText (UnknownName Nodes))
 
 -- a run has no picture since a node was named that the plan does not have
 abbrev pub LacksNode : Option Text → Result ℕ Stop → Type 0
-LacksNode node (Ok status) = ⊥
-LacksNode node (Err end) = IsUnknownNode node end
+LacksNode wanted (Ok status) = ⊥
+LacksNode wanted (Err end) = IsUnknownNode wanted end
 
 -- a run ends as a replay of these names does, whatever it prints, or since there is no such node
 abbrev pub EndsAsReplay : Bool → (Text → Option Telling) → Request → Result ℕ Stop → Type 0

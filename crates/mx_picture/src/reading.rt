@@ -74,7 +74,7 @@ fn part_of(plan: &Plan, request: &Request<'_>) -> Result<Part, Stop>
 
 /// The node of this name, if one is named.
 fn node_in(plan: &Plan, name: Option<&str>) -> Result<Option<NodeId>, Stop>
-    ensures err { IfErr result (IsUnknownNode (option_map (λ name. name.now) name)) }
+    ensures err { IfErr result (IsUnknownNode (option_map (λ text. text.now) name.entry)) }
 {
     let Some(name) = name else {
         return Ok(None);

@@ -9,4 +9,4 @@ invariant_of-self-clause-sent c =
     let trips = c.args.self.now.trips.items in
     let trip = c.index-trip.result.now in
     let above = subst (λ (t : Trip). t.row ≤ row) (sym c.index-trip.ensures) (all_above_at (λ (t : Trip). t.row) row trips c.args.index trip c.requires c.args.self.now.sent) in
-    all_above_set (λ (t : Trip). t.row) row trips c.args.index (record { row = trip.row; delivered = true }) above c.args.self.now.sent
+    all_above_set (λ (t : Trip). t.row) row trips c.args.index (record { row = trip.row; shown = trip.shown; delivered = true }) above c.args.self.now.sent
