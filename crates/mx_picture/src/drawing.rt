@@ -6,18 +6,19 @@ ghost use Rattle.mx_commands.specs.Runs.{AllNameNodes, NamesNodes, run_from};
 ghost use Rattle.mx_commands.specs.Ran.{StopsAt};
 ghost use Rattle.mx_picture.specs.Drawn.{StopsAs};
 
-use crate::inks::{Inked, ink_of};
+use crate::inks::Inked;
 use crate::journals::Known;
 use crate::labels::Spot;
+use crate::parcels::{draw_delivery, draw_sent};
 use crate::part::Part;
+use crate::passing::{Happening, happening_of, is_shown, pass_over, phase_after};
 use crate::sheet::Sheet;
 use mx_cli::{Fault, Stop};
-use mx_member::Parcel;
 use mx_network::{Cluster, Entry, Event, Outcome, StepFault};
 use mx_nodelaws::{Exclusion, Phase};
 use mx_plan::Plan;
 use mx_stamps::NodeId;
-use mx_texts::{EventText, Letter, OutcomeText, add_parcel};
+use mx_texts::{EventText, Letter, OutcomeText};
 use std::alloc::{AllocError, Global};
 use std::collections::HashSet;
 
@@ -26,11 +27,11 @@ use std::collections::HashSet;
 pub(crate) struct Drawing {
     pub(crate) sheet: Sheet,
     /// The parcels that are delivered, now or later.
-    arriving: HashSet<u64>,
+    pub(crate) arriving: HashSet<u64>,
     /// The text that is written next.
-    label: String,
+    pub(crate) label: String,
     /// What is shown of all this, and what it showed of journals.
-    part: Part,
+    pub(crate) part: Part,
     known: Known,
     /// Whether the event before was not shown.
     has_skipped: bool,
@@ -153,98 +154,6 @@ pub(crate) fn go_on(drawing: &mut Drawing) -> Result<(), AllocError> {
     Ok(())
 }
 
-/// Whether the newest event is shown: it is of a node that is shown, or it sends or delivers a parcel
-/// from or to such a node.
-fn is_shown<C: Exclusion>(
-    index: u64,
-    before: u64,
-    entry: &Entry,
-    cluster: &Cluster<C>,
-    part: &Part,
-) -> bool {
-    if !part.has_index(index) {
-        return false;
-    }
-    let is_own = match happening_of(&entry.event) {
-        Happening::Delivery(number) => concerns(cluster, number, part),
-        Happening::Act(node) => part.has_node(node),
-    };
-    is_own || (before..cluster.sent()).any(|number| concerns(cluster, number, part))
-}
-
-/// Whether a parcel is from or to a node that is shown.
-fn concerns<C: Exclusion>(cluster: &Cluster<C>, number: u64, part: &Part) -> bool {
-    match cluster.parcel(number) {
-        Some(parcel) => part.has_node(parcel.0) || part.has_node(parcel.1),
-        None => false,
-    }
-}
-
-/// The newest event, of this index, which is not shown, and the parcels from `before` on, which it sent.
-/// Behind the part that is drawn no phase changes any more.
-fn pass_over<C: Exclusion>(
-    index: u64,
-    before: u64,
-    entry: &Entry,
-    cluster: &Cluster<C>,
-    drawing: &mut Drawing,
-) -> Result<(), AllocError>
-where
-    C::Msg: Letter + Inked,
-{
-    match happening_of(&entry.event) {
-        Happening::Delivery(number) => pass_delivery(cluster, number, &mut drawing.sheet)?,
-        Happening::Act(node) if index <= drawing.part.to => {
-            pass_outcome(node, &entry.outcome, &mut drawing.sheet)?
-        }
-        Happening::Act(_) => {}
-    }
-    for _ in before..cluster.sent() {
-        drawing.sheet.send(false)?;
-    }
-    Ok(())
-}
-
-/// The delivery of a parcel, which is not shown.
-fn pass_delivery<C: Exclusion>(
-    cluster: &Cluster<C>,
-    number: u64,
-    sheet: &mut Sheet,
-) -> Result<(), AllocError>
-where
-    C::Msg: Letter + Inked,
-{
-    let Some(parcel) = cluster.parcel(number) else {
-        return Ok(());
-    };
-    sheet.go_out(number, parcel.0, parcel.1, ink_of(parcel.2))
-}
-
-/// What came of an act that is not shown: another phase, or nothing.
-fn pass_outcome(node: NodeId, outcome: &Outcome, sheet: &mut Sheet) -> Result<(), AllocError> {
-    match phase_after(outcome) {
-        Some(Phase::Inside(number)) => sheet.enter(node, number),
-        Some(phase) => sheet.change(node, phase),
-        None => Ok(()),
-    }
-}
-
-/// The phase to which an outcome leads, if it leads to another.
-fn phase_after(outcome: &Outcome) -> Option<Phase> {
-    match outcome {
-        Outcome::Entered(number) => Some(Phase::Inside(*number)),
-        Outcome::Left(_) | Outcome::Cancelled => Some(Phase::Idle),
-        Outcome::Asked(_) => Some(Phase::Waiting),
-        Outcome::Value(_)
-        | Outcome::Written
-        | Outcome::Sent(_)
-        | Outcome::Settled
-        | Outcome::Delivered
-        | Outcome::Woken
-        | Outcome::Refused(_) => None,
-    }
-}
-
 /// One event, of this index.
 fn happen<C: Exclusion>(index: u64, event: &Event, cluster: &mut Cluster<C>) -> Result<(), Stop>
     requires named { NamesNodes (length cluster.old.members) event.now }
@@ -295,7 +204,7 @@ where
 }
 
 /// Appends to the label what the node's journal has, if that is shown and has changed.
-fn tell_journal<C: Exclusion>(
+pub(crate) fn tell_journal<C: Exclusion>(
     cluster: &Cluster<C>,
     node: NodeId,
     drawing: &mut Drawing,
@@ -308,20 +217,6 @@ fn tell_journal<C: Exclusion>(
             .known
             .add_changed(node, member.journal(), &mut drawing.label),
         None => Ok(()),
-    }
-}
-
-/// What an event is: an act of a node, or the delivery of the parcel of a number.
-#[derive(Clone, Copy)]
-enum Happening {
-    Act(NodeId),
-    Delivery(u64),
-}
-
-fn happening_of(event: &Event) -> Happening {
-    match event {
-        Event::Deliver(number) => Happening::Delivery(*number),
-        _ => Happening::Act(event.node().unwrap_or_default()),
     }
 }
 
@@ -373,98 +268,4 @@ fn draw_outcome(node: NodeId, outcome: &Outcome, sheet: &mut Sheet) -> Result<()
         Some(phase) => sheet.turn(node, phase),
         None => sheet.dot(node),
     }
-}
-
-/// The arrow of a parcel to its delivery.
-fn draw_delivery<C: Exclusion>(
-    plan: &Plan,
-    cluster: &Cluster<C>,
-    number: u64,
-    drawing: &mut Drawing,
-) -> Result<(), AllocError>
-where
-    C::Msg: Letter + Inked,
-{
-    let Some(parcel) = cluster.parcel(number) else {
-        return Ok(());
-    };
-    let spot = if parcel.0.get() <= parcel.1.get() {
-        Spot::Right
-    } else {
-        Spot::Left
-    };
-    tell_parcel(plan, number, parcel.2, &mut drawing.label)?;
-    tell_journal(cluster, parcel.1, drawing)?;
-    drawing
-        .sheet
-        .arrow(number, parcel.0, parcel.1, ink_of(parcel.2))?;
-    drawing.sheet.mark(parcel.1, spot, drawing.label.as_str())
-}
-
-/// The parcels from `before` on, which the present event sent.
-fn draw_sent<C: Exclusion>(
-    plan: &Plan,
-    cluster: &Cluster<C>,
-    before: u64,
-    drawing: &mut Drawing,
-) -> Result<(), AllocError>
-where
-    C::Msg: Letter + Inked,
-{
-    for number in before..cluster.sent() {
-        drawing.sheet.send(true)?;
-        if !drawing.arriving.contains(&number) && concerns(cluster, number, &drawing.part) {
-            draw_loss(plan, cluster, number, drawing)?;
-        }
-    }
-    Ok(())
-}
-
-/// A parcel that ends in the air, in a row of its own.
-fn draw_loss<C: Exclusion>(
-    plan: &Plan,
-    cluster: &Cluster<C>,
-    number: u64,
-    drawing: &mut Drawing,
-) -> Result<(), AllocError>
-where
-    C::Msg: Letter + Inked,
-{
-    let Some(parcel) = cluster.parcel(number) else {
-        return Ok(());
-    };
-    let spot = if parcel.0.get() <= parcel.1.get() {
-        Spot::RightInAir
-    } else {
-        Spot::LeftInAir
-    };
-    tell_loss(plan, number, parcel.2, parcel.1, &mut drawing.label)?;
-    drawing
-        .sheet
-        .lose_below(parcel.0, spot, drawing.label.as_str())
-}
-
-/// Puts the number and the text of a parcel, and to whom it was sent, in place of the label.
-fn tell_loss<M: Letter>(
-    plan: &Plan,
-    number: u64,
-    parcel: &Parcel<M>,
-    to: NodeId,
-    label: &mut String,
-) -> Result<(), AllocError> {
-    tell_parcel(plan, number, parcel, label)?;
-    let name = plan.node_name(to.get()).unwrap_or("");
-    write!(label, " to {name}")
-}
-
-/// Puts the number and the text of a parcel in place of the label.
-fn tell_parcel<M: Letter>(
-    plan: &Plan,
-    number: u64,
-    parcel: &Parcel<M>,
-    label: &mut String,
-) -> Result<(), AllocError> {
-    label.clear();
-    write!(label, "#{number} ")?;
-    add_parcel(plan, parcel, label)
 }

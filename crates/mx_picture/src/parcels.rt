@@ -1,0 +1,107 @@
+//! Parcels that are drawn: as arrows to their delivery, or lost in the air.
+
+use crate::drawing::{Drawing, tell_journal};
+use crate::inks::{Inked, ink_of};
+use crate::labels::Spot;
+use crate::passing::concerns;
+use mx_member::Parcel;
+use mx_network::Cluster;
+use mx_nodelaws::Exclusion;
+use mx_plan::Plan;
+use mx_stamps::NodeId;
+use mx_texts::{Letter, add_parcel};
+use std::alloc::AllocError;
+
+/// The arrow of a parcel to its delivery.
+pub(crate) fn draw_delivery<C: Exclusion>(
+    plan: &Plan,
+    cluster: &Cluster<C>,
+    number: u64,
+    drawing: &mut Drawing,
+) -> Result<(), AllocError>
+where
+    C::Msg: Letter + Inked,
+{
+    let Some(parcel) = cluster.parcel(number) else {
+        return Ok(());
+    };
+    let spot = if parcel.0.get() <= parcel.1.get() {
+        Spot::Right
+    } else {
+        Spot::Left
+    };
+    tell_parcel(plan, number, parcel.2, &mut drawing.label)?;
+    tell_journal(cluster, parcel.1, drawing)?;
+    drawing
+        .sheet
+        .arrow(number, parcel.0, parcel.1, ink_of(parcel.2))?;
+    drawing.sheet.mark(parcel.1, spot, drawing.label.as_str())
+}
+
+/// The parcels from `before` on, which the present event sent.
+pub(crate) fn draw_sent<C: Exclusion>(
+    plan: &Plan,
+    cluster: &Cluster<C>,
+    before: u64,
+    drawing: &mut Drawing,
+) -> Result<(), AllocError>
+where
+    C::Msg: Letter + Inked,
+{
+    for number in before..cluster.sent() {
+        drawing.sheet.send(true)?;
+        if !drawing.arriving.contains(&number) && concerns(cluster, number, &drawing.part) {
+            draw_loss(plan, cluster, number, drawing)?;
+        }
+    }
+    Ok(())
+}
+
+/// A parcel that ends in the air, in a row of its own.
+fn draw_loss<C: Exclusion>(
+    plan: &Plan,
+    cluster: &Cluster<C>,
+    number: u64,
+    drawing: &mut Drawing,
+) -> Result<(), AllocError>
+where
+    C::Msg: Letter + Inked,
+{
+    let Some(parcel) = cluster.parcel(number) else {
+        return Ok(());
+    };
+    let spot = if parcel.0.get() <= parcel.1.get() {
+        Spot::RightInAir
+    } else {
+        Spot::LeftInAir
+    };
+    tell_loss(plan, number, parcel.2, parcel.1, &mut drawing.label)?;
+    drawing
+        .sheet
+        .lose_below(parcel.0, spot, drawing.label.as_str())
+}
+
+/// Puts the number and the text of a parcel, and to whom it was sent, in place of the label.
+fn tell_loss<M: Letter>(
+    plan: &Plan,
+    number: u64,
+    parcel: &Parcel<M>,
+    to: NodeId,
+    label: &mut String,
+) -> Result<(), AllocError> {
+    tell_parcel(plan, number, parcel, label)?;
+    let name = plan.node_name(to.get()).unwrap_or("");
+    write!(label, " to {name}")
+}
+
+/// Puts the number and the text of a parcel in place of the label.
+fn tell_parcel<M: Letter>(
+    plan: &Plan,
+    number: u64,
+    parcel: &Parcel<M>,
+    label: &mut String,
+) -> Result<(), AllocError> {
+    label.clear();
+    write!(label, "#{number} ")?;
+    add_parcel(plan, parcel, label)
+}

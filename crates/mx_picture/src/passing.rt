@@ -1,0 +1,117 @@
+//! Which events of a run are shown, and what those that are not still change.
+
+use crate::drawing::Drawing;
+use crate::inks::{Inked, ink_of};
+use crate::part::Part;
+use crate::sheet::Sheet;
+use mx_network::{Cluster, Entry, Event, Outcome};
+use mx_nodelaws::{Exclusion, Phase};
+use mx_stamps::NodeId;
+use mx_texts::Letter;
+use std::alloc::AllocError;
+
+/// What an event is: an act of a node, or the delivery of the parcel of a number.
+#[derive(Clone, Copy)]
+pub(crate) enum Happening {
+    Act(NodeId),
+    Delivery(u64),
+}
+
+pub(crate) fn happening_of(event: &Event) -> Happening {
+    match event {
+        Event::Deliver(number) => Happening::Delivery(*number),
+        _ => Happening::Act(event.node().unwrap_or_default()),
+    }
+}
+
+/// Whether the newest event is shown: it is of a node that is shown, or it sends or delivers a parcel
+/// from or to such a node.
+pub(crate) fn is_shown<C: Exclusion>(
+    index: u64,
+    before: u64,
+    entry: &Entry,
+    cluster: &Cluster<C>,
+    part: &Part,
+) -> bool {
+    if !part.has_index(index) {
+        return false;
+    }
+    let is_own = match happening_of(&entry.event) {
+        Happening::Delivery(number) => concerns(cluster, number, part),
+        Happening::Act(node) => part.has_node(node),
+    };
+    is_own || (before..cluster.sent()).any(|number| concerns(cluster, number, part))
+}
+
+/// Whether a parcel is from or to a node that is shown.
+pub(crate) fn concerns<C: Exclusion>(cluster: &Cluster<C>, number: u64, part: &Part) -> bool {
+    match cluster.parcel(number) {
+        Some(parcel) => part.has_node(parcel.0) || part.has_node(parcel.1),
+        None => false,
+    }
+}
+
+/// The newest event, of this index, which is not shown, and the parcels from `before` on, which it sent.
+/// Behind the part that is drawn no phase changes any more.
+pub(crate) fn pass_over<C: Exclusion>(
+    index: u64,
+    before: u64,
+    entry: &Entry,
+    cluster: &Cluster<C>,
+    drawing: &mut Drawing,
+) -> Result<(), AllocError>
+where
+    C::Msg: Letter + Inked,
+{
+    match happening_of(&entry.event) {
+        Happening::Delivery(number) => pass_delivery(cluster, number, &mut drawing.sheet)?,
+        Happening::Act(node) if index <= drawing.part.to => {
+            pass_outcome(node, &entry.outcome, &mut drawing.sheet)?
+        }
+        Happening::Act(_) => {}
+    }
+    for _ in before..cluster.sent() {
+        drawing.sheet.send(false)?;
+    }
+    Ok(())
+}
+
+/// The delivery of a parcel, which is not shown.
+fn pass_delivery<C: Exclusion>(
+    cluster: &Cluster<C>,
+    number: u64,
+    sheet: &mut Sheet,
+) -> Result<(), AllocError>
+where
+    C::Msg: Letter + Inked,
+{
+    let Some(parcel) = cluster.parcel(number) else {
+        return Ok(());
+    };
+    sheet.go_out(number, parcel.0, parcel.1, ink_of(parcel.2))
+}
+
+/// What came of an act that is not shown: another phase, or nothing.
+fn pass_outcome(node: NodeId, outcome: &Outcome, sheet: &mut Sheet) -> Result<(), AllocError> {
+    match phase_after(outcome) {
+        Some(Phase::Inside(number)) => sheet.enter(node, number),
+        Some(phase) => sheet.change(node, phase),
+        None => Ok(()),
+    }
+}
+
+/// The phase to which an outcome leads, if it leads to another.
+pub(crate) fn phase_after(outcome: &Outcome) -> Option<Phase> {
+    match outcome {
+        Outcome::Entered(number) => Some(Phase::Inside(*number)),
+        Outcome::Left(_) | Outcome::Cancelled => Some(Phase::Idle),
+        Outcome::Asked(_) => Some(Phase::Waiting),
+        Outcome::Value(_)
+        | Outcome::Written
+        | Outcome::Sent(_)
+        | Outcome::Settled
+        | Outcome::Delivered
+        | Outcome::Woken
+        | Outcome::Refused(_) => None,
+    }
+}
