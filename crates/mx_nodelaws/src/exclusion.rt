@@ -1,6 +1,6 @@
 //! The interface of an exclusion algorithm.
 
-ghost use Rattle.std.specs.Prelude.{◌≡◌, ◌<◌, ◌≤◌, [], IsTrue};
+ghost use Rattle.std.specs.Prelude.{◌≡◌, ◌<◌, ◌≤◌, ◌↔◌, [], IsTrue};
 
 use crate::faults::{AskFault, CancelFault, EnterFault, LeaveFault};
 use crate::phase::Phase;
@@ -14,7 +14,7 @@ pub trait Exclusion: Drop {
     ghost use Rattle.mx_nodelaws.specs.World.{World};
     ghost use Rattle.mx_nodelaws.specs.Core.{Core, KeepsPhases, BearsNumber};
     ghost use Rattle.mx_nodelaws.specs.Laws.{KeepsGood};
-    ghost use Rattle.std.specs.Prelude.{◌≡◌, ◌<◌, ◌≤◌, [], IsTrue};
+    ghost use Rattle.std.specs.Prelude.{◌≡◌, ◌<◌, ◌≤◌, ◌↔◌, [], IsTrue};
 
     /// A letter.
     type Msg: Copy + Default;
@@ -41,7 +41,7 @@ pub trait Exclusion: Drop {
 
     /// Whether both are the same letter, so that what is sent to many can be kept once.
     fn is_same(one: &Self::Msg, other: &Self::Msg) -> bool
-        ensures { IsTrue result → one.now ≡ other.now };
+        ensures { IsTrue result ↔ (one.now ≡ other.now) };
 
     /// A node that has just been started. Its stamps, grants or hops count on from `origin`;
     /// `limit` is the greatest section number.
