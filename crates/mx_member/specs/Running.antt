@@ -1,5 +1,6 @@
 -- Nodes that each hold their own receipts, and what a running world of them keeps.
 use Rattle.std.specs.Prelude.{ℕ, suc, ◌≡◌, ◌<◌, ◌≤◌, ◌↔◌, ◌+◌, ◌++◌, ◌⊎◌, List, [], ◌∷◌, Some, length, map, slice_get}
+use Rattle.mx_stamps.specs.declared.limits.TheConstants.{MOST_REGISTERS}
 use Rattle.mx_stamps.specs.Lists.{IsIn}
 use Rattle.mx_journal.specs.declared.records.Record.{Record}
 use Rattle.mx_journal.specs.declared.receipts.Read.{Read}
@@ -142,5 +143,5 @@ pub record IsAccount {S : Type 0} (nodes : List (Owned S)) (sections : List Reco
   pub reads : (i k n : ℕ) (r : Receipt) (x : Read) → IsReceiptAt nodes i k r → r.number ≡ suc n →
       IsIn x r.reads.items → IsSerialRead (writes_to n sections) r.writes.items x
   -- and each register of the journal what the writes of all sections, in order, leave
-  pub shows : (count : ℕ) → count ≤ 32 →
+  pub shows : (count : ℕ) → count ≤ MOST_REGISTERS →
       AreApplied (writes_to (receipt_count nodes) sections) (registers_in count journal)

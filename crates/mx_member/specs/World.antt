@@ -1,6 +1,7 @@
 -- Whole worlds: members, the parcels ever sent, and the sections so far; and what each of them
 -- keeps.
 use Rattle.std.specs.Prelude.{ℕ, suc, ◌≡◌, ◌<◌, ◌≤◌, ◌++◌, false, List, [], ◌∷◌, Some, length, map, slice_get}
+use Rattle.mx_stamps.specs.declared.limits.TheConstants.{MOST_REGISTERS}
 use Rattle.mx_stamps.specs.Lists.{IsIn}
 use Rattle.mx_journal.specs.Records.{Ascending}
 use Rattle.mx_nodelaws.specs.World.{World}
@@ -52,8 +53,8 @@ pub record IsSound {H S M : Type 0} (core : Core H S M) (Good : World S M → Ty
   -- each member knows its number, and how many there are
   pub named : (i : ℕ) (m : MemberState S) → IsMember members i m → m.setting.me ≡ i
   pub known : (i : ℕ) (m : MemberState S) → IsMember members i m → m.setting.nodes ≡ length members
-  -- a base keeps 32 registers
-  pub few : (i : ℕ) (m : MemberState S) → IsMember members i m → m.setting.registers ≤ 32
+  -- a base keeps the most registers that there may be
+  pub few : (i : ℕ) (m : MemberState S) → IsMember members i m → m.setting.registers ≤ MOST_REGISTERS
   -- journals, and what parcels bring, are of the section journal
   pub journals : (i : ℕ) (m : MemberState S) → IsMember members i m →
       IsJournalOf (section_journal ss) m.journal

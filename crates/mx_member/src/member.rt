@@ -1,6 +1,7 @@
 //! The member itself, and what it passes on to its core.
 
 ghost use Rattle.std.specs.Prelude.{◌≡◌, ◌≤◌, ◌<◌, []};
+ghost use Rattle.mx_stamps.specs.declared.limits.TheConstants.{MOST_REGISTERS, MOST_SECTIONS};
 ghost use Rattle.mx_nodelaws.specs.Core.{BearsNumber};
 ghost use Rattle.mx_member.specs.Steps.{ask_of, cancel_of, enter_of, start_of, tick_of};
 
@@ -33,6 +34,7 @@ pub struct Member<C: Exclusion> {
 
 impl<C: Exclusion> Model for Member<C> {
     ghost use Rattle.std.specs.Prelude.{◌≡◌, ◌≤◌, ◌<◌, [], length};
+    ghost use Rattle.mx_stamps.specs.declared.limits.TheConstants.{MOST_REGISTERS};
     ghost use Rattle.mx_member.specs.Member.{IsViewOf, MemberState};
 
     ghost Value = { MemberState C };
@@ -44,7 +46,7 @@ impl<C: Exclusion> Model for Member<C> {
       draft = m.draft;
     } };
 
-    ghost invariant = { λ m. (m.letters ≡ []) × (0 < m.registers) × (m.registers ≤ 32)
+    ghost invariant = { λ m. (m.letters ≡ []) × (0 < m.registers) × (m.registers ≤ MOST_REGISTERS)
         × (length m.draft.reads ≤ 8) × (length m.draft.writes ≤ 8)
         × IsViewOf m.registers m.journal m.shown };
 }
@@ -62,9 +64,9 @@ impl<C: Exclusion> Member<C> {
     ) -> Self
         requires node { me < C.core.count shape.now }
         requires low { 0 < limit }
-        requires high { limit ≤ 1000000 }
+        requires high { limit ≤ MOST_SECTIONS }
         requires some { 0 < registers }
-        requires few { registers ≤ 32 }
+        requires few { registers ≤ MOST_REGISTERS }
         ensures { result ≡ start_of C.core shape.now me origin limit registers }
     {
         Member {
@@ -142,7 +144,7 @@ impl<C: Exclusion> Member<C> {
     /// The number of the last section that this node entered, 0 before the first.
     pub fn mine(&self) -> u64
         ensures value { result ≡ C.core.mine self.now.core }
-        ensures high { result ≤ 1000000 }
+        ensures high { result ≤ MOST_SECTIONS }
     {
         self.core.mine()
     }

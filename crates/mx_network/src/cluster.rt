@@ -1,6 +1,7 @@
 //! The cluster.
 
 ghost use Rattle.std.specs.Prelude.{◌≡◌, ◌≤◌, ◌<◌, ◌↔◌, ℕ, [], ◌∷◌, ◌++◌, length, OnOk, OnErr, IfOk, IfErr, IfSome, MatchOption, slice_get, take};
+ghost use Rattle.mx_stamps.specs.declared.limits.TheConstants.{MOST_REGISTERS, MOST_SECTIONS};
 ghost use Rattle.mx_stamps.specs.Lists.{each_below};
 ghost use Rattle.mx_journal.specs.Records.{Ascending};
 ghost use Rattle.mx_journal.specs.Settled.{DoAgree, settled, unsettled};
@@ -73,9 +74,9 @@ impl<C: Exclusion> Cluster<C> {
         registers: u8,
     ) -> Result<Self, AllocError>
         requires low { 0 < limit }
-        requires high { limit ≤ 1000000 }
+        requires high { limit ≤ MOST_SECTIONS }
         requires some { 0 < registers }
-        requires few { registers ≤ 32 }
+        requires few { registers ≤ MOST_REGISTERS }
         ensures { IfOk result (λ cluster. cluster ≡ record {
           members = each_below (λ i. start_of C.core shape.now i origin limit registers) (C.core.count shape.now);
           sent = [];
@@ -234,7 +235,7 @@ impl<C: Exclusion> Cluster<C> {
         ensures whole { IsOfAll self.now.members nodes.now → IfOk result (λ journal.
             journal ≡ settled journal.base.upto (unsettled (journal_of self.now.trace))) }
         ensures shown { IsOfAll self.now.members nodes.now → IfOk result (λ journal.
-            (count : ℕ) → count ≤ 32
+            (count : ℕ) → count ≤ MOST_REGISTERS
             → registers_in count journal ≡ registers_of count (journal_of self.now.trace)) }
         ensures in_order { IfOk result (λ journal. ShowsInOrder self.now.trace journal) }
         ensures conflict { (n : ℕ) → (result ≡ Err (MergeFault.Conflict n)) → ⊥ }

@@ -1,6 +1,7 @@
 //! One event of a cluster: a parcel reaches its addressee, or a node does something by itself.
 
 ghost use Rattle.std.specs.Prelude.{◌≡◌, ◌^◌, ◌≤◌, ◌<◌, List, [], ◌∷◌, ◌++◌, length, IfOk, OnErr, OnOk, vec_len, vec_capacity};
+ghost use Rattle.mx_stamps.specs.declared.limits.TheConstants.{MOST_REGISTERS, MOST_SECTIONS};
 ghost use Rattle.mx_stamps.specs.Lists.{each_below};
 ghost use Rattle.mx_letters.specs.declared.outbox.TheConstants.{OUTBOX_ROOM};
 ghost use Rattle.mx_member.specs.Steps.{start_of};
@@ -86,9 +87,9 @@ pub(crate) fn start_members<C: Exclusion>(
     registers: u8,
 ) -> Result<Vec<Member<C>>, AllocError>
     requires low { 0 < limit }
-    requires high { limit ≤ 1000000 }
+    requires high { limit ≤ MOST_SECTIONS }
     requires some { 0 < registers }
-    requires few { registers ≤ 32 }
+    requires few { registers ≤ MOST_REGISTERS }
     ensures members { IfOk result (λ members. members.items
         ≡ each_below (λ i. start_of C.core shape.now i origin limit registers) (C.core.count shape.now)) }
     ensures valid { C.IsShape shape.now }
@@ -107,20 +108,10 @@ pub(crate) fn start_members<C: Exclusion>(
 fn node_of(nodes: usize, event: &Event) -> Result<NodeId, StepFault>
     ensures { result ≡ own_node nodes event.now }
 {
-    match *event {
+    match event {
         Event::Want(_, other) if other.get() as usize >= nodes => Err(StepFault::NoNode),
-        Event::Ask(node)
-        | Event::Enter(node)
-        | Event::Read(node, _)
-        | Event::Write(node, _, _)
-        | Event::Leave(node)
-        | Event::Cancel(node)
-        | Event::Settle(node, _)
-        | Event::Tick(node)
-        | Event::Want(node, _)
-        | Event::Restart(node) => Ok(node),
         // a delivery is its addressee's, which the parcel names
-        Event::Deliver(_) => Err(StepFault::NoParcel),
+        _ => event.node().ok_or(StepFault::NoParcel),
     }
 }
 

@@ -7,11 +7,14 @@ use arrayvec::ArrayVec;
 use mx_stamps::{MOST_NODES, NodeId};
 use std::marker::Model;
 
+/// How many names there may be: each node is in it at most once.
+const MOST_NAMES: usize = MOST_NODES as usize;
+
 /// The nodes that want the privilege from a node: names of its neighbours and its own, each at most
 /// once, the oldest first.
 #[derive(Drop)]
 pub struct Queue {
-    names: ArrayVec<NodeId, 21>,
+    names: ArrayVec<NodeId, MOST_NAMES>,
 }
 
 impl Model for Queue {

@@ -1,6 +1,7 @@
 -- What is said of a trace alone: exclusion and numbering, its sections, their journal and their
 -- order.
 use Rattle.std.specs.Prelude.{ℕ, ◌≤◌, List, [], ◌∷◌, ◌++◌, None}
+use Rattle.mx_stamps.specs.declared.limits.TheConstants.{MOST_REGISTERS}
 use Rattle.mx_journal.specs.declared.records.Record.{Record}
 use Rattle.mx_journal.specs.Settled.{IsCovered, JournalState, top_covered}
 use Rattle.mx_registers.specs.Based.{registers_in}
@@ -50,8 +51,8 @@ abbrev pub IsSerial : List Entry → Type 0
 IsSerial trace = AllFit [] (marks trace)
 
 -- where the journal covers the first k sections and no others, its registers, of which a base keeps
--- 32, are what the writes of these sections leave, applied in order of entry
+-- the most, are what the writes of these sections leave, applied in order of entry
 abbrev pub ShowsInOrder : List Entry → JournalState → Type 0
 ShowsInOrder trace journal =
-    (k count : ℕ) → count ≤ 32 → IsCovered k journal → top_covered journal ≤ k →
+    (k count : ℕ) → count ≤ MOST_REGISTERS → IsCovered k journal → top_covered journal ≤ k →
     AreApplied (writes_in (oldest k (sections trace))) (registers_in count journal)
