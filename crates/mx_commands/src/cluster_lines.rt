@@ -13,7 +13,7 @@ use mx_texts::{Letter, add_member_line, add_parcel_line};
 use std::alloc::AllocError;
 
 /// Appends the line of each node.
-pub(crate) fn add_nodes<C: Exclusion>(
+pub fn add_nodes<C: Exclusion>(
     plan: &Plan,
     cluster: &Cluster<C>,
     text: &mut String,

@@ -10,7 +10,8 @@ mod running;
 mod verdicts;
 
 pub use checking::print;
+pub use cluster_lines::add_nodes;
 pub use commanding::{carry_out, command, names_in};
 pub use exploring::{entries_in, happen};
-pub use running::start;
+pub use running::{add_closing, start, step};
 pub use verdicts::{VerdictLine, verdict_status};

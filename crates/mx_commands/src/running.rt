@@ -86,7 +86,7 @@ where
 }
 
 /// One event, and its text.
-fn step<C: Exclusion>(
+pub fn step<C: Exclusion>(
     plan: &Plan,
     index: u64,
     event: &Event,
@@ -122,7 +122,7 @@ where
 }
 
 /// Appends the closing lines, and returns the verdict.
-fn add_closing<C: Exclusion>(
+pub fn add_closing<C: Exclusion>(
     plan: &Plan,
     cluster: &Cluster<C>,
     text: &mut String,
