@@ -1,5 +1,5 @@
 -- Bytes that are appended in turn.
-use Rattle.std.proofs.Common.{◌∙◌, ℕ, List, [], ◌∷◌, ◌++◌, length, take, ap, sym, refl, append_assoc, append-nil, Some, None, subst, arith}
+use Rattle.std.proofs.Common.{◌∙◌, inl, Bool, Option, IfSome, ℕ, List, [], ◌∷◌, ◌++◌, length, take, ap, sym, refl, append_assoc, append-nil, Some, None, subst, arith}
 use Rattle.std.specs.Io.KnownBytes.{Appends, Keeps}
 use Rattle.std.specs.List.{concat}
 use Rattle.std.proofs.lemmas.List.{take_all}
@@ -8,6 +8,7 @@ use Rattle.mx_stamps.proofs.Lists.{append_nil}
 use Rattle.mx_plan.specs.Text.{Text}
 use Rattle.mx_io.specs.Outputs.{Held}
 use Rattle.mx_cli.specs.Outputs.{AppendsSome}
+use Rattle.mx_cli.specs.Told.{TellsFault}
 
 pub Appends-nil : (a : Held) → Appends a a []
 Appends-nil None = tt
@@ -49,3 +50,8 @@ all_some a b texts p = (length texts, subst (λ (l : List Text). Appends a b (co
 
 pub none_some : (a b : Held) (texts : List Text) → Keeps a b → AppendsSome a b texts
 none_some a b texts p = (0, Appends-keeps a a b [] (Appends-nil a) p)
+
+-- a line that was written whole
+pub told_ok : (o : Option Text) (takes : Bool) (a b : Held) → IfSome o (Appends a b) → IfSome o (λ text. TellsFault takes text a b 1)
+told_ok None takes a b h = tt
+told_ok (Some text) takes a b h = inl (refl, h)

@@ -17,7 +17,7 @@ use Rattle.clap.specs.declared.builder.value_parser.ValueParser.TheVariants.{Uns
 use Rattle.mx_cli.specs.declared.words.Exploration.{Exploration}
 use Rattle.mx_cli.specs.declared.words.Names.{Names}
 use Rattle.mx_cli.specs.declared.words.Request.{Request as Given}
-use Rattle.mx_cli.specs.declared.words.Request.TheVariants.{Check, Replay, Explore}
+use Rattle.mx_cli.specs.declared.words.Request.TheVariants.{Check, Asks, Replay, Explore}
 use Rattle.clap.specs.declared.error.kind.ErrorKind.{ErrorKind}
 use Rattle.clap.specs.declared.error.kind.ErrorKind.TheVariants.{DisplayHelp, DisplayVersion}
 use Rattle.mx_stamps.specs.declared.limits.TheConstants.{MOST_EVENTS}
@@ -70,9 +70,13 @@ seed_rule = needed (number_rule (codes "seed") 18446744073709551615)
 abbrev pub steps_rule : Rule
 steps_rule = needed (number_rule (codes "steps") MOST_EVENTS)
 
--- `check PLAN`
+-- `--asks`
+abbrev pub asks_rule : Rule
+asks_rule = flag_rule (codes "asks")
+
+-- `check PLAN`, and perhaps `--asks`
 abbrev pub check_app : App
-check_app = with_rule (new_app (codes "check")) plan_rule
+check_app = with_rule (with_rule (new_app (codes "check")) plan_rule) asks_rule
 
 -- `--quiet`
 abbrev pub quiet_rule : Rule
@@ -152,9 +156,10 @@ texts_of = map (λ word. word.now)
 
 -- ---- what is asked for
 
--- `check PLAN`; `replay PLAN EVENTS`; `explore PLAN`, with a seed and a number of steps
+-- `check PLAN`, without `--asks` and with it; `replay PLAN EVENTS`; `explore PLAN`, with a seed and a number of steps
 pub data Request : Type 0 where
   check : Text → Request
+  asks : Text → Request
   replay : Text × Text → Request
   explore : Text → ℕ → ℕ → Request
 
@@ -168,6 +173,7 @@ explored exploration = (exploration.plan.now, (exploration.seed, exploration.ste
 
 abbrev pub request_of : Given → Request
 request_of (Check plan) = check plan.now
+request_of (Asks plan) = asks plan.now
 request_of (Replay names) = replay (names_of names)
 request_of (Explore exploration) = explore exploration.plan.now exploration.seed exploration.steps
 
@@ -196,9 +202,13 @@ abbrev pub exploration_at : List Row → Option (Text × (ℕ × ℕ))
 exploration_at rows = option_and_then (λ plan. option_and_then (λ seed. option_map (λ steps. (plan, (seed, steps)))
     (number_at (codes "steps") rows)) (number_at (codes "seed") rows)) (first_of (codes "PLAN") rows)
 
+-- what a plan says, and perhaps whom each of its nodes asks
+abbrev pub checking : Bool → Text → Request
+checking with_asks plan = if with_asks then asks plan else check plan
+
 -- what was given for the arguments of each command
 abbrev pub check_in : List Row → Option Request
-check_in rows = option_map check (first_of (codes "PLAN") rows)
+check_in rows = option_map (checking (is_given (codes "asks") rows)) (first_of (codes "PLAN") rows)
 
 -- a replay, but not one with `--quiet`, `--node` or `--json`
 abbrev pub replay_in : List Row → Option Request

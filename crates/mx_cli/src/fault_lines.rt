@@ -1,10 +1,11 @@
 //! The lines of faults.
 
-ghost use Rattle.std.specs.Prelude.{Some};
-ghost use Rattle.mx_cli.specs.FaultLines.{fault_line};
+ghost use Rattle.std.specs.Prelude.{◌≡◌, Some};
+ghost use Rattle.mx_cli.specs.FaultLines.{fault_line, part_text};
 ghost use Rattle.mx_cli.specs.Words.{names_of};
 
 use crate::faults::{Fault, Named};
+use crate::splitting::are_dashes;
 use crate::words::Names;
 use std::fmt;
 
@@ -27,7 +28,24 @@ impl fmt::Display for FaultLine<'_> {
                 self.names.events
             ),
             Fault::BadText(fault) => writeln!(f, "mx: {fault}"),
+            Fault::NotJson(part) => {
+                let place = part_in(&self.names, part);
+                writeln!(f, "mx: not json: {place}")
+            }
             Fault::NoParcel(k) => writeln!(f, "mx: no parcel: event {k}"),
         }
+    }
+}
+
+/// Where a text stands: its name, or its part of standard input, where that has both.
+fn part_in<'a>(names: &Names<'a>, part: Named) -> &'a str
+    ensures { result.now ≡ part_text (names_of names.now) part }
+{
+    let are_one = are_dashes(names);
+    match part {
+        Named::Plan if are_one => "the first line of standard input",
+        Named::Plan => names.plan,
+        Named::Events if are_one => "the rest of standard input",
+        Named::Events => names.events,
     }
 }

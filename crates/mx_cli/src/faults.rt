@@ -17,6 +17,8 @@ pub enum Fault {
     CannotRead(Named),
     /// The plan, or the events, are refused.
     BadText(PlanFault),
+    /// The text of this name is no JSON.
+    NotJson(Named),
     /// The event of this index delivers a parcel that was not sent.
     NoParcel(u64),
 }

@@ -7,7 +7,7 @@ pub(crate) const VERSION: &str = "0.1.0, proved by Rattle's logic dac8208d650f15
 pub(crate) const MX: &str =
     "Nodes that guard shared registers by distributed mutual exclusion: Ricart and Agrawala, Maekawa, Raymond";
 
-pub(crate) const CHECK: &str = "Prints what a plan says, and whom its nodes ask";
+pub(crate) const CHECK: &str = "Prints what a plan says of its cluster";
 
 pub(crate) const REPLAY: &str =
     "Prints what comes of each event, each parcel that it sends, and where each node stands at the end";
@@ -51,9 +51,12 @@ and Raymond's the edges of a tree and the node that has the privilege at the sta
 
   \"edges\":[[\"a\",\"b\"],[\"b\",\"c\"]],\"holder\":\"a\"
 
-After the line of the plan come, for Maekawa, lines `meet a b: c` of the arbiter that any two nodes
-share, and for Raymond lines `toward a: b` of each node's way to the holder. Where something is wrong,
-`mx explain PLAN` says where it stands and what was expected. docs/FORMATS.md has all formats.";
+The first line printed tells the algorithm, and how many nodes, registers and sections there are. After it
+come, for Maekawa, lines `meet a b: c` of the least arbiter that any two nodes share, and for Raymond lines
+`toward a: b` of each node's way to the holder. With --asks come lines `asks a: b c` of whom each node asks:
+for Ricart and Agrawala all others, for Maekawa its arbiters, itself among them, and for Raymond, at the
+start, its neighbour on the way to the holder, which asks nobody. Where something is wrong, `mx explain PLAN`
+says where it stands and what was expected. docs/FORMATS.md has all formats.";
 
 pub(crate) const REPLAY_EXAMPLE: &str =
     "Example: the events of one section, in a cluster of three nodes.

@@ -10,9 +10,11 @@ mod faults;
 mod help;
 mod line;
 mod live_words;
+mod not_json;
 mod planning;
 mod splitting;
 mod telling;
+mod tips;
 mod words;
 
 pub use about::{ABOUT_COUNT, ABOUT_DRAW, ABOUT_EXPLAIN, ABOUT_PICTURE, ABOUT_SCRIPT};
@@ -24,9 +26,10 @@ pub use fault_lines::FaultLine;
 pub use faults::{Fault, Named, Stop};
 pub use line::{bare_command, command_line, line_of, matches_in};
 pub use live_words::{LiveRequest, asked_live};
+pub use not_json::{fetch_named, naming, stop_named};
 pub use planning::{PlanAndText, fetch, fetch_both, fetch_plan, plan_in};
 pub use splitting::{are_dashes, split_line};
-pub use telling::{put_line, refuse, tell, tell_memory};
+pub use telling::{put_line, refuse, tell, tell_line, tell_memory};
 pub use words::{
     Exploration, Names, Request, asked, exploration_at, explore_command, is_given, names_at,
     number_at, replay_command, text_at,

@@ -10,6 +10,7 @@ ghost use Rattle.mx_cli.specs.Told.{MayTell, Helps, Scolds, TellsFault, seen};
 
 use crate::fault_lines::FaultLine;
 use crate::faults::Fault;
+use crate::tips::with_tip;
 use crate::words::Names;
 use clap::error::ErrorKind;
 use mx_io::{Output, OutputFault};
@@ -49,6 +50,15 @@ pub fn tell<E: Output>(alloc: Global, fault: Fault, names: &Names<'_>, err: &mut
         fault,
         names: *names,
     };
+    tell_line(alloc, line, err)
+}
+
+/// Writes a line of why a run ended, and returns the status.
+pub fn tell_line<E: Output, D: Display + Drop>(alloc: Global, line: D, err: &mut E) -> u8
+    ensures status { (result ≡ 1) ⊎ (result ≡ 5) }
+    ensures told { IfSome (D.output line) (λ text. TellsFault (E.takes_all err.old) text
+        (E.written err.old) (E.written err.new) result) }
+{
     match put_line(alloc, err, line) {
         Ok(()) => 1,
         Err(OutputFault::Refused) => 1,
@@ -83,10 +93,19 @@ fn show<O: Output, E: Output>(alloc: Global, e: &clap::Error, out: &mut O, err: 
 fn scold<E: Output>(alloc: Global, e: &clap::Error, err: &mut E) -> u8
     ensures { (result ≡ 2) ⊎ ((result ≡ 5) × MayTell (E.written err.old) (E.written err.new)) }
 {
-    match put_line(alloc, err, e) {
+    match put_refusal(alloc, e, err) {
         Ok(()) | Err(OutputFault::Refused) => 2,
         Err(OutputFault::Memory) => tell_memory(err),
     }
+}
+
+/// Writes what is wrong with the words, with a tip, or nothing of it.
+fn put_refusal<E: Output>(alloc: Global, e: &clap::Error, err: &mut E) -> Result<(), OutputFault>
+    ensures { OnErr result (Keeps (E.written err.old) (E.written err.new)) }
+{
+    let told = e.to_string(alloc)?;
+    let text = with_tip(alloc, told.as_str())?;
+    err.put(text.as_bytes())
 }
 
 fn put_and_flush<O: Output, D: Display + Drop>(

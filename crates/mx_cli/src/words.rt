@@ -35,14 +35,19 @@ pub struct Exploration<'a> {
 pub enum Request<'a> {
     /// What a plan of this name says.
     Check(&'a str),
+    /// The same, and whom each of its nodes asks.
+    Asks(&'a str),
     Replay(Names<'a>),
     Explore(Exploration<'a>),
 }
 
+/// `check PLAN`, which may have `--asks`.
 fn check_command<'a>(alloc: Global) -> Result<Command<'a>, AllocError>
     ensures { IfOk result (IsCommand check_app) }
 {
-    plan_command(alloc, "check", help::CHECK, help::CHECK_EXAMPLE)
+    let begun = plan_command(alloc, "check", help::CHECK, help::CHECK_EXAMPLE);
+    let asks = flag_arg(alloc, "asks", "Prints whom each node asks too");
+    with_arg(begun, asks)
 }
 
 /// `replay PLAN EVENTS`, which may have `--quiet`, `--node NAME` and `--json`.
@@ -179,7 +184,11 @@ fn check_in<'a>(matches: &ArgMatches<'a>) -> Option<Request<'a>>
     let Some(plan) = text_at(matches, "PLAN") else {
         return None;
     };
-    Some(Request::Check(plan))
+    if is_given(matches, "asks") {
+        Some(Request::Asks(plan))
+    } else {
+        Some(Request::Check(plan))
+    }
 }
 
 fn replay_in<'a>(matches: &ArgMatches<'a>) -> Option<Request<'a>>

@@ -1,6 +1,6 @@
 -- What the words ask for, over what a source tells: the plan, and the report of a plan.
 use Rattle.std.specs.Prelude.{ℕ, List, Option, Some, None, Result, Ok, Err, IfSome, option_map}
-use Rattle.mx_cli.specs.Words.{Request, check, replay, explore}
+use Rattle.mx_cli.specs.Words.{Request, check, asks, replay, explore}
 use Rattle.mx_ricart.specs.Step.{ricart_core}
 use Rattle.mx_maekawa.specs.Step.{maekawa_core}
 use Rattle.mx_raymond.specs.Step.{raymond_core}
@@ -13,6 +13,7 @@ use Rattle.mx_plan.specs.declared.shape.Shape.{Shape}
 use Rattle.mx_plan.specs.declared.shape.Shape.TheVariants.{Ricart, Maekawa, Raymond}
 use Rattle.mx_texts.specs.LetterTexts.{ricart_text, maekawa_text, raymond_text}
 use Rattle.mx_texts.specs.PlanTexts.{plan_text}
+use Rattle.mx_texts.specs.AskTexts.{plan_asks_text}
 use Rattle.mx_cli.specs.declared.faults.Fault.TheVariants.{CannotRead}
 use Rattle.mx_cli.specs.declared.faults.Named.TheVariants.{Plan, Events}
 use Rattle.mx_cli.specs.Reading.{fault_of, IsRead, plan_told, text_told}
@@ -59,12 +60,14 @@ replay_of events plan = record { plan = plan; report = λ p. option_map (on_even
 -- the job of what the words ask for, where the source tells enough
 abbrev pub job_of : (Text → Option Telling) → Request → Option Job
 job_of told (check name) = option_map (on_plan plan_text) (told name)
+job_of told (asks name) = option_map (on_plan plan_asks_text) (told name)
 job_of told (explore name seed steps) = option_map (on_plan (λ p. explored_text p seed steps)) (told name)
 job_of told (replay names) = option_map (replay_of (text_told told names)) (plan_told told names)
 
 -- the names of the plan and of the events, as the lines of faults have them
 abbrev pub names_in : Request → Text × Text
 names_in (check name) = (name, name)
+names_in (asks name) = (name, name)
 names_in (replay names) = names
 names_in (explore name seed steps) = (name, name)
 

@@ -8,7 +8,7 @@ ghost use Rattle.mx_cli.specs.Closed.{IsRunStatus};
 ghost use Rattle.mx_commands.specs.Ran.{RanOf, Runs};
 ghost use Rattle.mx_cli.specs.Told.{Declines, Helps, Scolds, seen};
 
-use crate::checking::check;
+use crate::checking::{check, check_asks};
 use crate::exploring::explore;
 use crate::replaying::replay;
 use mx_cli::{Names, Request, Stop, asked, is_refused, refuse, tell, tell_memory};
@@ -80,6 +80,7 @@ pub fn names_in<'a>(request: &Request<'a>) -> Names<'a>
 {
     match request {
         Request::Check(plan) => Names { plan, events: plan },
+        Request::Asks(plan) => Names { plan, events: plan },
         Request::Replay(names) => *names,
         Request::Explore(exploration) => Names {
             plan: exploration.plan,
@@ -125,6 +126,7 @@ pub fn carry_out<S: Source, O: Output>(
 {
     match request {
         Request::Check(plan) => check(alloc, plan, source, out),
+        Request::Asks(plan) => check_asks(alloc, plan, source, out),
         Request::Replay(names) => replay(alloc, names, source, out),
         Request::Explore(exploration) => explore(alloc, exploration, source, out),
     }

@@ -18,7 +18,7 @@ pub(crate) fn explain_files<'a, S: Source + Reasons>(
     match request {
         Request::Replay(names) if are_dashes(names) => { explain_one(page, names, fault, source) }
         Request::Replay(names) => explain_two(page, names, fault, source),
-        Request::Check(plan) => explain_alone(page, plan, fault, source),
+        Request::Check(plan) | Request::Asks(plan) => explain_alone(page, plan, fault, source),
         Request::Explore(_) => Ok(()),
     }
 }

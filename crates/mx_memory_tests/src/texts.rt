@@ -11,13 +11,14 @@ use mx_member::{Member, Parcel};
 use mx_plan::Plan;
 use mx_ricart::Ricart;
 use mx_stamps::{NodeId, Stamp};
-use mx_texts::{Letter, add_member_line, add_parcel, add_parcel_line, add_plan};
+use mx_texts::{Letter, add_asks, add_member_line, add_parcel, add_parcel_line, add_plan};
 use std::alloc::{AllocError, Global};
 
 /// What is told.
 #[derive(Clone, Copy)]
 enum Told {
     Plan,
+    Asks,
     Member,
     Ricart,
     Maekawa,
@@ -28,11 +29,16 @@ enum Told {
 }
 
 /// Each text, with the name of the call that appends it.
-const TEXTS: [(Told, &str, &str); 8] = [
+const TEXTS: [(Told, &str, &str); 9] = [
     (
         Told::Plan,
         "add_plan",
         "plan maekawa, nodes 3, registers 1, sections 10, origin 0\nmeet a b: b\nmeet a c: a\nmeet b c: c\n",
+    ),
+    (
+        Told::Asks,
+        "add_asks",
+        "asks a: a b\nasks b: b c\nasks c: a c\n",
     ),
     (
         Told::Member,
@@ -95,6 +101,7 @@ fn add(
 ) -> Result<(), AllocError> {
     match told {
         Told::Plan => add_plan(plan, text),
+        Told::Asks => add_asks(plan, text),
         Told::Member => add_member_line(plan, NodeId::default(), member, text),
         Told::Want => add_line(plan, text),
         Told::Base => add_parcel(plan, &base(), text),

@@ -1,5 +1,6 @@
 -- Lines: texts of lists. EventTexts, Words, LetterTexts, LetterWords, ParcelTexts, NodeTexts: each
 -- line of a replay. PlanTexts: the lines of a check, and that of an exploration.
+-- AskTexts: whom nodes ask.
 pub mod Lines
 pub mod EventTexts
 pub mod Words
@@ -8,3 +9,4 @@ pub mod LetterWords
 pub mod ParcelTexts
 pub mod NodeTexts
 pub mod PlanTexts
+pub mod AskTexts

@@ -1,6 +1,7 @@
 //! The printed texts of plans, events, parcels and nodes, each with the bytes that it has.
 #![tactic(auto)]
 
+mod asking;
 mod events;
 mod letters;
 mod nodes;
@@ -10,6 +11,7 @@ mod plans;
 mod standings;
 mod words;
 
+pub use asking::add_asks;
 pub use events::{EventLine, EventText, OutcomeText, name_of, register_name_of};
 pub use letters::Letter;
 pub use nodes::add_member_line;

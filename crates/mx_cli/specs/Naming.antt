@@ -1,0 +1,40 @@
+-- Which of two texts is no JSON.
+use Rattle.std.specs.Prelude.{◌≡◌, ℕ, Option, Result, Ok, Err}
+use Rattle.mx_plan.specs.Text.{Text}
+use Rattle.mx_plan.specs.declared.faults.PlanFault.{PlanFault}
+use Rattle.mx_plan.specs.declared.faults.PlanFault.TheVariants as plan_fault
+use Rattle.mx_cli.specs.declared.faults.Fault.{Fault}
+use Rattle.mx_cli.specs.declared.faults.Fault.TheVariants.{CannotRead, BadText, NotJson, NoParcel}
+use Rattle.mx_cli.specs.declared.faults.Named.{Named}
+use Rattle.mx_cli.specs.declared.faults.Named.TheVariants.{Plan}
+use Rattle.mx_cli.specs.declared.faults.Stop.{Stop}
+use Rattle.mx_cli.specs.declared.faults.Stop.TheVariants as stop
+use Rattle.mx_cli.specs.Reading.{ReadsBoth, plan_told, text_told}
+use Rattle.mx_io.specs.Told.{Telling}
+
+-- the fault of a text of this name
+abbrev pub text_named : Named → PlanFault → Fault
+text_named part plan_fault.NotJson = NotJson part
+text_named part fault = BadText fault
+
+abbrev pub fault_named : Named → Fault → Fault
+fault_named part (CannotRead name) = CannotRead name
+fault_named part (BadText fault) = text_named part fault
+fault_named part (NotJson name) = NotJson name
+fault_named part (NoParcel k) = NoParcel k
+
+abbrev pub stop_named : Named → Stop → Stop
+stop_named part (stop.Fault fault) = stop.Fault (fault_named part fault)
+stop_named part stop.Writer = stop.Writer
+stop_named part stop.Memory = stop.Memory
+
+-- the end of what was done with a text of this name
+abbrev pub naming : Named → Result ℕ Stop → Result ℕ Stop
+naming part (Ok status) = Ok status
+naming part (Err end) = Err (stop_named part end)
+
+-- why a plan and the text that comes with it were not read: a plan that is no JSON is named
+abbrev pub IsUnread : (Text → Option Telling) → Text × Text → Stop → Type 0
+IsUnread told names end =
+    (read : Stop) × ReadsBoth (plan_told told names) (text_told told names) (Err read)
+    × (end ≡ stop_named Plan read)

@@ -1,0 +1,70 @@
+//! Which of two texts is no JSON.
+
+ghost use Rattle.std.specs.Prelude.{◌≡◌, Ok, IfErr, IfOk};
+ghost use Rattle.mx_cli.specs.Naming.{IsUnread, fault_named, naming, stop_named, text_named};
+ghost use Rattle.mx_cli.specs.Reading.{ReadsBoth, plan_told, text_told};
+ghost use Rattle.mx_cli.specs.Words.{names_of};
+
+use crate::faults::{Fault, Named, Stop};
+use crate::planning::{PlanAndText, fetch_both};
+use crate::words::Names;
+use mx_io::Source;
+use mx_plan::PlanFault;
+use std::alloc::Global;
+
+/// The plan and the bytes of two names, as `fetch_both` reads them. A plan that is no JSON is named.
+pub fn fetch_named<S: Source>(
+    alloc: Global,
+    source: &mut S,
+    names: &Names<'_>,
+) -> Result<PlanAndText, Stop>
+    ensures ok { IfOk result (λ both. ReadsBoth (plan_told (S.told source.old) (names_of names.now))
+        (text_told (S.told source.old) (names_of names.now)) (Ok both)) }
+    ensures err { IfErr result (IsUnread (S.told source.old) (names_of names.now)) }
+{
+    match fetch_both(alloc, source, names) {
+        Ok(both) => Ok(both),
+        Err(stop) => Err(stop_named(stop, Named::Plan)),
+    }
+}
+
+/// The end of what was done with a text of this name. One that is no JSON is named.
+pub fn naming(ended: Result<u8, Stop>, part: Named) -> Result<u8, Stop>
+    ensures { result ≡ naming part ended }
+{
+    match ended {
+        Ok(status) => Ok(status),
+        Err(stop) => Err(stop_named(stop, part)),
+    }
+}
+
+/// Why what was done with a text of this name stopped. One that is no JSON is named.
+pub fn stop_named(stop: Stop, part: Named) -> Stop
+    ensures { result ≡ stop_named part stop }
+{
+    match stop {
+        Stop::Fault(fault) => Stop::Fault(fault_named(fault, part)),
+        Stop::Writer => Stop::Writer,
+        Stop::Memory => Stop::Memory,
+    }
+}
+
+fn fault_named(fault: Fault, part: Named) -> Fault
+    ensures { result ≡ fault_named part fault }
+{
+    match fault {
+        Fault::CannotRead(name) => Fault::CannotRead(name),
+        Fault::BadText(fault) => text_named(fault, part),
+        Fault::NotJson(name) => Fault::NotJson(name),
+        Fault::NoParcel(k) => Fault::NoParcel(k),
+    }
+}
+
+fn text_named(fault: PlanFault, part: Named) -> Fault
+    ensures { result ≡ text_named part fault }
+{
+    match fault {
+        PlanFault::NotJson => Fault::NotJson(part),
+        _ => Fault::BadText(fault),
+    }
+}
