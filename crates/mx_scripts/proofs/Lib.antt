@@ -1,3 +1,4 @@
+pub mod FateLemmas
 pub mod FileLemmas
 pub mod PlayedLemmas
 pub mod ItemLemmas

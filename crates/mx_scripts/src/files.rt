@@ -207,7 +207,7 @@ pub(crate) fn file_of(alloc: Global, plan: &Plan, trace: &[Entry]) -> Result<Str
 }
 
 /// Appends the file of the events of a trace.
-pub(crate) fn add_file(plan: &Plan, trace: &[Entry], text: &mut String) -> Result<(), AllocError>
+pub fn add_file(plan: &Plan, trace: &[Entry], text: &mut String) -> Result<(), AllocError>
     ensures { OnOk result (string_bytes text.new
         ≡ string_bytes text.old ++ file_text plan.now (events_of trace.now)) }
 {

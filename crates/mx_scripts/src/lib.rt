@@ -19,6 +19,9 @@ mod words;
 
 pub use command::event_file;
 pub use drawing::replays_as_explored;
-pub use files::reads_back;
+pub use files::{add_file, reads_back};
+pub use line_faults::LineFault;
+pub use lines::{Line, Order, read_line, words_in};
+pub use mail::Mail;
 pub use printing::{run_draw, run_script, run_walk};
 pub use words::Request;

@@ -9,7 +9,7 @@ use std::fmt;
 
 /// Why a line of a script is refused.
 #[derive(Clone, Copy)]
-pub(crate) enum LineFault {
+pub enum LineFault {
     /// It is not in UTF-8.
     NotText,
     /// No line begins with such a word.

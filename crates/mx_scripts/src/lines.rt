@@ -14,7 +14,7 @@ const MOST_TIMES: u64 = MOST_EVENTS as u64;
 
 /// What a line asks for. The parcels under way are those that were neither delivered nor lost.
 #[derive(Clone, Copy)]
-pub(crate) enum Order {
+pub enum Order {
     Happens(Event),
     /// The oldest parcel from the first node to the second that is under way is delivered.
     Arrives(NodeId, NodeId),
@@ -28,13 +28,13 @@ pub(crate) enum Order {
 
 /// A line: what it asks for, and how often.
 #[derive(Clone, Copy)]
-pub(crate) struct Line {
-    pub(crate) times: u64,
-    pub(crate) order: Order,
+pub struct Line {
+    pub times: u64,
+    pub order: Order,
 }
 
 /// Reads a line; none where it has nothing, or a comment alone. A comment begins with `#`.
-pub(crate) fn read_line(alloc: Global, plan: &Plan, text: &str) -> Result<Option<Line>, LineFault>
+pub fn read_line(alloc: Global, plan: &Plan, text: &str) -> Result<Option<Line>, LineFault>
     ensures { IfOk result (λ read. IfSome read (λ line.
         IsOver (length plan.now.nodes) (length plan.now.registers) line.order)) }
 {
@@ -54,7 +54,7 @@ pub(crate) fn read_line(alloc: Global, plan: &Plan, text: &str) -> Result<Option
 }
 
 /// The words before a comment.
-fn words_in<'a>(alloc: Global, text: &'a str) -> Result<Vec<&'a str>, AllocError> {
+pub fn words_in<'a>(alloc: Global, text: &'a str) -> Result<Vec<&'a str>, AllocError> {
     let said = match text.split_once('#') {
         Some((before, _)) => before,
         None => text,
