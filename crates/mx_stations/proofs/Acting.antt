@@ -4,7 +4,7 @@ use Rattle.std.proofs.lemmas.List.{length-map}
 use mathlib.Core.Option.{some}
 use lib.ListN.{get_elem?}
 use Rattle.atomic_table.specs.Table.{Me, keeps, Allows}
-use Rattle.atomic_table.proofs.Lists.{at_set, at_map, set_here, set_else, set_again}
+use Rattle.atomic_table.proofs.Lists.{at_set, at_map, set_here, set_else}
 use Rattle.mx_stamps.specs.Lists.{IsIn}
 use Rattle.mx_stamps.proofs.Lists.{in_left}
 use Rattle.mx_journal.specs.declared.receipts.Receipt.{Receipt}
@@ -21,9 +21,8 @@ use Rattle.mx_member.proofs.CorePart.{map_set}
 use Rattle.mx_member.proofs.Running.{members_count, running_kept}
 use Rattle.mx_member.proofs.RunningTells.{node_can_take}
 use Rattle.mx_stations.specs.Entries.{Node, owned_of}
-use Rattle.mx_stations.specs.Running.{DidAct, GoToNodes, HandFits, Holds, Keeps, MayDo, Shown, Stands, acted, acted_view, sent_of, word_of}
-use Rattle.mx_stations.proofs.Places.{as_slice_at, grows, in_one, moves, only_one, sent_in_world, set_same, within}
-use Rattle.mx_stations.specs.Links.{Links}
+use Rattle.mx_stations.specs.Running.{DidAct, GoToNodes, HandFits, Holds, Keeps, MayDo, Shown, acted, acted_view, sent_of, word_of}
+use Rattle.mx_stations.proofs.Places.{again, as_slice_at, grows, in_one, moves, only_one, sent_in_world, within}
 use Rattle.mx_stations.proofs.Pairs as Pairs
 use Rattle.mx_stations.proofs.Pairs.{links_still}
 
@@ -136,12 +135,7 @@ module _ {H S M : Type 0} (core : Core H S M) (Good : World S M → Type 0) wher
     me.0,
     keeps,
     tt,
-    record {
-      world = h.world;
-      stands = subst (λ (z : List (List (Node S M))). Stands n z h.world) (sym (set_again s.views id me.0 at)) h.stands;
-      shown = subst (λ (z : List ℕ). Shown core Good z h.world) (sym (set_same s.words i)) h.shown;
-      links = subst (λ (z : List ℕ). Links n z s.homes h.world) (sym (set_same s.words i)) h.links;
-    },
+    again (Holds core Good n) s i id me.0 at h,
     (
       refl,
       λ e x in_view held. let here = (h.stands.known id me.0 e at in_view).0 in

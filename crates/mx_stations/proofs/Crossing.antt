@@ -14,7 +14,7 @@ use Rattle.mx_stations.specs.declared.answers.PutOut.TheVariants.{Sent, Full}
 use Rattle.mx_stations.specs.Entries.{Entry}
 use Rattle.mx_stations.specs.Links.{of, slot_at}
 use Rattle.mx_stations.specs.Slides.{claiming, placing, taking, releasing, Claims, HasEmptied, HasUsed, Lifts, placed_view, released_view, IsFilling, IsHolding, KeepsHand}
-use Rattle.mx_stations.specs.Posts.{Delivers, Fetches, FindsNone, KeepsInHand, Post, PutsOut, Waits, post, sent_in, shown, slot_from}
+use Rattle.mx_stations.specs.Posts.{Delivers, Fetches, FindsNone, Post, PutsOut, Waits, post, sent_in, shown, slot_from}
 use Rattle.mx_stations.specs.Turns.{IsFated, fated_hand}
 use Rattle.mx_stations.proofs.Places.{only_one}
 use Rattle.mx_stations.proofs.Posts.{settled}
@@ -144,10 +144,6 @@ module _ {H S M : Type 0} (core : Core H S M) where
 
   pub none_there : (from : ℕ) (s s1 t : P) → (s.me.hand ≡ None) × (s1 ≡ s) → FindsNone from s1 t → FindsNone from s t
   none_there from s s1 t still found = subst (λ (z : P). FindsNone from z t) still.1 found
-
-  -- a parcel was fetched, and memory was refused
-  pub kept_it : (from : ℕ) (s s1 s2 t : P) → (s.me.hand ≡ None) × (s1 ≡ s) → Fetches from s1 s2 → t ≡ s2 → KeepsInHand from s t
-  kept_it from s s1 s2 t still got same = inr (subst (λ (z : P × P). Fetches from z.0 z.1) (λ j. (still.1 j, sym same j)) got)
 
 -- of what was taken the fate is known
 pub got_some : {T P : Type 0} (from : ℕ) (r : Option Fate) (s t : Post T P) → MatchOption r (FindsNone from s t) (λ fate. IsFated from fate s t) → IfSome r (λ fate. fate ≡ Pass) → MatchBool (is_some r) (Fetches from s t) (FindsNone from s t)

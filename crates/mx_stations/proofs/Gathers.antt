@@ -68,10 +68,6 @@ module _ {T P : Type 0} where
   pub below_all : (Q : Post T P → Type 0) (posts : List (Post T P)) (j : ℕ) → Below Q posts j → length posts ≤ j → (k : ℕ) (s : Post T P) → get_elem? posts k ≡ some s → Q s
   below_all Q posts j below long k s at = below k s (let low = within posts k s at in omega arith) at
 
-  pub nodes_of_first : (posts : List (Post T P)) (s : Post T P) → get_elem? posts 0 ≡ some s → nodes_in posts ≡ s.nodes
-  nodes_of_first [] s at = absurd (some-ne-none s (sym at))
-  nodes_of_first (t ∷ posts) s at = ap (λ (z : Post T P). z.nodes) (some-injective t s at)
-
   -- what holds of all stations holds of those that are left, and of the one that is taken
   pub left_of : (Q : Post T P → Type 0) (old left : List (Post T P)) (s : Post T P) → old ≡ left ++ s ∷ [] → ((k : ℕ) (t : Post T P) → get_elem? old k ≡ some t → Q t)
       → ((k : ℕ) (t : Post T P) → get_elem? left k ≡ some t → Q t) × Q s

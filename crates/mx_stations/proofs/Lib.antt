@@ -6,6 +6,7 @@ pub mod Slides
 pub mod Opens
 pub mod Waits
 pub mod Posts
+pub mod Plain
 pub mod Crossing
 pub mod Going
 pub mod Tells

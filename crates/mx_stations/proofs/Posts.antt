@@ -1,5 +1,5 @@
 -- What a station knows of its node before and after an act.
-use Rattle.std.proofs.Common.{◌≡◌, ◌≢◌, inl, inr, ℕ, ◌<◌, List, [], ◌∷◌, ◌++◌, Bool, true, false, MatchBool, MatchOption, Option, Some, None, Result, Ok, Err, OnErr, OnOk, refl, sym, ap, ◌∙◌, subst}
+use Rattle.std.proofs.Common.{◌≡◌, ◌≢◌, inl, inr, ℕ, ◌<◌, List, [], ◌∷◌, ◌++◌, Bool, true, false, MatchBool, MatchOption, Option, Some, None, Result, Ok, Err, OnErr, refl, sym, ap, ◌∙◌, subst}
 use Rattle.atomic_table.specs.Table.{Me}
 use Rattle.atomic_table.specs.Seated.{TableId}
 use Rattle.mx_stamps.specs.Lists.{IsIn}
@@ -19,15 +19,6 @@ use Rattle.mx_stations.proofs.Waits.{waits_after}
 pub on_err : {A E : Type 0} (r : Result A E) (P : Type 0) → P → OnErr r P
 on_err (Ok a) P p = tt
 on_err (Err e) P p = p
-
--- what is so of an answer that is no refusal, and of one that is
-pub on_done : {A E : Type 0} (r : Result A E) (Refused : Result A E → Type 0) (P : Type 0) → ((a : A) → Refused (Ok a) → ⊥) → ((Refused r → ⊥) → P) → OnOk r P
-on_done (Ok a) Refused P none done = done (none a)
-on_done (Err e) Refused P none done = tt
-
-pub on_refused : {A E : Type 0} (r : Result A E) (Refused : Result A E → Type 0) (P : Type 0) → ((e : E) → Refused (Err e)) → (Refused r → P) → OnErr r P
-on_refused (Ok a) Refused P all kept = tt
-on_refused (Err e) Refused P all kept = kept (all e)
 
 pub match_none : {A X : Type 0} (Y : A → Type 0) (o : Option A) → o ≡ None → X → MatchOption o X Y
 match_none Y None e x = x

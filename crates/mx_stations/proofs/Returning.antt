@@ -22,8 +22,9 @@ module _ {T P : Type 0} where
   whatever (x ∷ xs) zero s low = refl
   whatever (x ∷ xs) (suc k) s low = whatever xs k s (omega arith)
 
-  -- one for each that went, and each still at its table
-  pub come_back : (went back : List (Post T P)) → length back ≡ length went → ((k : ℕ) (s : Post T P) → k < length went → KeepsTable (get_or went k s) (get_or back k s)) → OfOneTable went → OfOneTable back
+  -- one for each that went, made of it, and each still at its table
+  pub come_back : (went back : List (Post T P)) → length back ≡ length went → ((k : ℕ) (s : Post T P) → k < length went → (job : Post T P) × (get_or went k s ≡ job) × KeepsTable job (get_or back k s))
+      → OfOneTable went → OfOneTable back
   come_back went back long kept one = (
     one.0,
     one.1,
@@ -32,5 +33,6 @@ module _ {T P : Type 0} where
         let stays = kept k s low in
         let was = one.2 k (get_or went k s) (at_index went k (get_or went k s) low (whatever went k s low)) in
         let same = sym (there back k s is) in
-        (ap (λ (z : Post T P). z.table) same ∙ stays.0 ∙ was.0, ap (λ (z : Post T P). z.nodes) same ∙ stays.1 ∙ was.1),
+        let made = sym stays.1 in
+        (ap (λ (z : Post T P). z.table) same ∙ stays.2.0 ∙ ap (λ (z : Post T P). z.table) made ∙ was.0, ap (λ (z : Post T P). z.nodes) same ∙ stays.2.1 ∙ ap (λ (z : Post T P). z.nodes) made ∙ was.1),
   )

@@ -88,12 +88,3 @@ module _ {H S M : Type 0} (core : Core H S M) (register every : ℕ) where
   -- where it never settles
   pub rounds_never : (s t : Station core) → WorksSettling core register every s t → every ≡ 0 → Works core register s t
   rounds_never s t did zero = never_settled zero did.0 s t did.1
-
-module _ {H S M : Type 0} (core : Core H S M) (register : ℕ) where
-  -- one round more of a worker that never settles
-  pub turns_on : (made : ℕ) (s t u : Station core) → WorksFor core register 0 made s t → TakesTurn core register t u → WorksFor core register 0 (made + 1) s u
-  turns_on made s t u done did = rounds_on core register 0 made t.me.receipts s t u u done refl did (inr ((λ due. due.0 refl), refl))
-
-  -- and what it does is work
-  pub turns_work : (turns : ℕ) (s t : Station core) → WorksAtMost core register 0 turns s t → Works core register s t
-  turns_work turns s t did = rounds_never core register 0 s t (rounds_some core register 0 turns s t did) refl

@@ -5,7 +5,7 @@ use mathlib.Core.Option as maybe
 use lib.ListN.{get_elem?}
 use prog.Atomic.{either}
 use Rattle.atomic_table.specs.Table.{State, Me, Act, keeps, takes, gives, Allows, Valid, stepped, carried_after, rest}
-use Rattle.atomic_table.proofs.Lists.{at_set, set_here, set_else, set_again, exchanged}
+use Rattle.atomic_table.proofs.Lists.{at_set, set_here, set_else, exchanged}
 use Rattle.mx_stamps.specs.Lists.{IsIn}
 use Rattle.mx_nodelaws.specs.World.{World, sent_by}
 use Rattle.mx_nodelaws.specs.Core.{Core}
@@ -17,7 +17,7 @@ use Rattle.mx_stations.specs.Entries.{Idle, Writing, Reading}
 use Rattle.mx_stations.specs.Links.{SlotState, empty, claimed, filled, taken, of, Writes, Reads, word_for, lying, IsClaimed, IsTaken, Lies, WasSent, IsSlot, slot_at}
 use Rattle.mx_stations.specs.Running.{Holds, IsIdle, Shown, sent_of, word_of}
 use Rattle.mx_stations.specs.Slides.{claiming, placing, taking, releasing, TriesClaim, TriesTake, placed_view, released_view, IsFilling, IsHolding, KeepsHand}
-use Rattle.mx_stations.proofs.Places.{within, one_at, sent_in_world, moves, set_same}
+use Rattle.mx_stations.proofs.Places.{within, one_at, sent_in_world, moves, again}
 use Rattle.mx_stations.proofs.Pairs.{links_step, Keeps, of_more, of_other, slot_low}
 
 pub word_read : (ns : List ℕ) (i a : ℕ) → get_elem? ns i ≡ some a → get_or ns i 0 ≡ a
@@ -173,11 +173,6 @@ module _ {H S M : Type 0} (core : Core H S M) (Good : World S M → Type 0) wher
   abbrev Rule : ℕ → State (Option (Parcel M)) (List (Node S M)) → Type 0
   Rule n = Holds core Good n
 
-  -- a try that fails changes nothing
-  again : (n : ℕ) (s : State (Option (Parcel M)) (List (Node S M))) (i id : ℕ) (e : Node S M) → Rule n s → get_elem? s.views id ≡ some (e ∷ []) → Rule n (stepped s i (get_or s.words i 0) id [] (e ∷ []) keeps)
-  again n s i id e h at =
-      subst (λ (z : List ℕ × List (List (Node S M))). Rule n record { words = z.0; homes = s.homes; views = z.1 }) (λ j. (sym (set_same s.words i) j, sym (set_again s.views id (e ∷ []) at) j)) h
-
   -- the sender takes an empty slot
   pub claims : (n slots id b u : ℕ) (e : Node S M) → b < n → u < 4 → e.stage ≡ Idle
       → Allows (Rule n) slots id (e ∷ [], []) (n + slot_at n e.node b u) (λ m. either (eqb m 0) 1 m) (TriesClaim (slot_at n e.node b u) (e ∷ [], []))
@@ -218,7 +213,7 @@ module _ {H S M : Type 0} (core : Core H S M) (Good : World S M → Type 0) wher
         e ∷ [],
         keeps,
         tt,
-        again n s (n + k) id e h at,
+        again (Rule n) s (n + k) id (e ∷ []) at h,
         ((λ hit. absurd (miss hit)), (λ _. (refl, (e, refl, was_used (of k e.placed) (of k fb.0.taken) st l.log (λ z. miss (found_is ∙ z)) (λ w. (quiet_idle k e.stage idle).0 (l.writer.1 w)) l.used)))),
       ))
 
@@ -301,7 +296,7 @@ module _ {H S M : Type 0} (core : Core H S M) (Good : World S M → Type 0) wher
         e ∷ [],
         keeps,
         tt,
-        again n s (n + k) id e h at,
+        again (Rule n) s (n + k) id (e ∷ []) at h,
         ((λ hit. absurd (miss hit)), (λ _. (refl, (e, refl, λ own. ap (λ (z : Node S M). of k z.placed) (one_at h.world b e fa.0 here (ap (λ (z : ℕ). get_elem? h.world z) (sym own) ∙ fa.1)) ∙ l.log ∙ ap (λ (z : List (Parcel M)). of k e.taken ++ z) (none_lies st (λ z. miss (found_is ∙ z))) ∙ append-nil (of k e.taken))))),
       ))
 

@@ -3,7 +3,6 @@ use Rattle.std.proofs.Common.{◌≡◌, ◌≢◌, inl, inr, ℕ, ◌%◌, ◌<
 use mathlib.Core.Option.{some}
 use lib.ListN.{get_elem?}
 use Rattle.atomic_table.specs.Table.{Me, keeps, Allows}
-use Rattle.atomic_table.proofs.Lists.{set_again}
 use Rattle.mx_journal.specs.Settled.{DoAgree}
 use Rattle.mx_nodelaws.specs.World.{World}
 use Rattle.mx_nodelaws.specs.Core.{Core, IsInside}
@@ -16,11 +15,10 @@ use Rattle.mx_stamps.specs.Lists.{IsIn}
 use Rattle.mx_member.specs.Running.{IsNode}
 use Rattle.mx_member.proofs.RunningTells.{nodes_agree, one_node_inside}
 use Rattle.mx_stations.specs.Entries.{Entry, Node, owned_of}
-use Rattle.mx_stations.specs.Links.{Links}
-use Rattle.mx_stations.specs.Running.{Holds, Shown, Stands, all_but_first, only_first, sent_of, status, word_of}
+use Rattle.mx_stations.specs.Running.{Holds, Shown, all_but_first, only_first, sent_of, status, word_of}
 use Rattle.mx_stations.specs.Together.{AtMostOneOdd, HoldsSent, RunTogether, ShowsNode}
 use Rattle.mx_stations.proofs.Acting.{node_at}
-use Rattle.mx_stations.proofs.Places.{one_at, sender_of, set_same}
+use Rattle.mx_stations.proofs.Places.{again, one_at, sender_of}
 use Rattle.mx_stations.proofs.Slides.{some_at, word_read}
 
 -- the word of a node that is not inside is even, and only of one that is inside it is odd
@@ -78,12 +76,7 @@ module _ {H S M : Type 0} (core : Core H S M) (IsShape : H → Type 0) (Good : W
         me.0,
         keeps,
         tt,
-        record {
-          world = h.world;
-          stands = subst (λ (z : List (List (Node S M))). Stands n z h.world) (sym (set_again s.views id me.0 at)) h.stands;
-          shown = subst (λ (z : List ℕ). Shown core Good z h.world) (sym (set_same s.words i)) h.shown;
-          links = subst (λ (z : List ℕ). Links n z s.homes h.world) (sym (set_same s.words i)) h.links;
-        },
+        again (Holds core Good n) s i id me.0 at h,
         (
           refl,
           record {

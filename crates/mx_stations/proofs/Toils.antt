@@ -1,12 +1,11 @@
 -- Lists of a worker's acts and moves, one after another.
-use Rattle.std.proofs.Common.{◌≡◌, inl, inr, ℕ, List, [], ◌∷◌, ◌++◌, Result, Ok, Err, OnOk, OnErr, refl, ap, ◌∙◌, subst}
+use Rattle.std.proofs.Common.{◌≡◌, inl, inr, ℕ, List, [], ◌∷◌, ◌++◌, refl, ap, ◌∙◌, subst}
 use Rattle.atomic_table.specs.Seated.{TableId}
 use Rattle.mx_nodelaws.specs.Core.{Core}
 use Rattle.mx_member.specs.declared.acts.Act.{Act}
 use Rattle.mx_stations.specs.declared.answers.PutOut.{PutOut}
 use Rattle.mx_stations.specs.declared.answers.PutOut.TheVariants.{Sent, Full, Nothing}
 use Rattle.mx_stations.specs.Posts.{Post, PutsOut, does}
-use Rattle.mx_stations.specs.Gathered.{KeepsTable}
 use Rattle.mx_stations.specs.Turns.{Chain, Goes, Moves, Station}
 use Rattle.mx_stations.specs.Works.{IsWorkers, Row, Toils, Works}
 
@@ -35,11 +34,6 @@ module _ {H S M : Type 0} (core : Core H S M) (register : ℕ) where
   pub works_acting : (a : Act M) (s t : Station core) → IsWorkers register s.nodes a → t ≡ does core a s → Works core register s t
   works_acting a s t own did = (t ∷ [], (inr (a, own, did), refl))
 
-  -- an act that may be refused
-  pub works_trying : {A F : Type 0} (a : Act M) (r : Result A F) (s t : Station core) → IsWorkers register s.nodes a → OnOk r (t ≡ does core a s) → OnErr r (t ≡ s) → Works core register s t
-  works_trying a (Ok x) s t own did same = works_acting a s t own did
-  works_trying a (Err e) s t own did same = rests s t same
-
   put_home : (s t : Station core) (r : PutOut) → PutsOut s r t → home_of t ≡ home_of s
   put_home s t Sent did = ap home_of did.6
   put_home s t Full did = ap home_of did.4
@@ -63,11 +57,3 @@ module _ {H S M : Type 0} (core : Core H S M) (register : ℕ) where
 
   pub works_home : (s t : Station core) → Works core register s t → home_of t ≡ home_of s
   works_home s t did = row_home did.0 s t did.1
-
-  -- it stays at its table
-  pub works_kept : (s t : Station core) → Works core register s t → KeepsTable s t
-  works_kept s t did = let same = works_home s t did in (ap (λ (h : TableId × ℕ × ℕ). h.0) same, ap (λ (h : TableId × ℕ × ℕ). h.1) same)
-
-  -- and stays that of its node
-  pub works_node : (s t : Station core) → Works core register s t → t.me.node ≡ s.me.node
-  works_node s t did = ap (λ (h : TableId × ℕ × ℕ). h.2) (works_home s t did)

@@ -1,11 +1,13 @@
 -- What callers see of a station, and what its calls do.
-use Rattle.std.specs.Prelude.{◌≡◌, ◌≢◌, ◌⊎◌, ℕ, ◌<◌, Bool, true, false, List, [], ◌∷◌, ◌++◌, Option, Some, None, take}
+use Rattle.std.specs.Prelude.{◌≡◌, ◌≢◌, ◌⊎◌, ℕ, ◌<◌, Bool, true, false, List, [], ◌∷◌, ◌++◌, Option, Some, None, OnErr, OnOk, take}
 use Rattle.atomic_table.specs.Seated.{TableId}
 use Rattle.mx_stamps.specs.Lists.{IsIn}
 use Rattle.mx_journal.specs.declared.receipts.Receipt.{Receipt}
 use Rattle.mx_nodelaws.specs.Core.{Core}
 use Rattle.mx_member.specs.declared.acts.Act.{Act}
 use Rattle.mx_member.specs.declared.acts.Act.TheVariants.{Deliver}
+use Rattle.mx_member.specs.declared.acts.Answer.{Answer}
+use Rattle.mx_member.specs.declared.acts.Answer.TheVariants as answer
 use Rattle.mx_member.specs.declared.parcel.Parcel.{Parcel}
 use Rattle.mx_member.specs.Acts.{act_of}
 use Rattle.mx_member.specs.Member.{MemberState}
@@ -78,6 +80,28 @@ waiting_after waiting out = take WAITING_ROOM (waiting ++ out)
 abbrev pub left_in : {P : Type 0} → Bool → Option (ℕ × P) → Option (ℕ × P)
 left_in true hand = hand
 left_in false hand = None
+
+-- this is so where the answer is no refusal
+abbrev pub OnDone : Answer → Type 0 → Type 0
+OnDone (answer.Asked r) P = OnOk r P
+OnDone (answer.Entered r) P = OnOk r P
+OnDone (answer.Read r) P = OnOk r P
+OnDone (answer.Written r) P = OnOk r P
+OnDone (answer.Left r) P = OnOk r P
+OnDone (answer.Cancelled r) P = OnOk r P
+OnDone (answer.Settled r) P = OnOk r P
+OnDone _ P = P
+
+-- this is so where it is one
+abbrev pub OnRefusal : Answer → Type 0 → Type 0
+OnRefusal (answer.Asked r) P = OnErr r P
+OnRefusal (answer.Entered r) P = OnErr r P
+OnRefusal (answer.Read r) P = OnErr r P
+OnRefusal (answer.Written r) P = OnErr r P
+OnRefusal (answer.Left r) P = OnErr r P
+OnRefusal (answer.Cancelled r) P = OnErr r P
+OnRefusal (answer.Settled r) P = OnErr r P
+OnRefusal _ P = Unit {0}
 
 module _ {H S M : Type 0} (core : Core H S M) where
   -- one act of the node, with this in hand after it: its receipt, if it returns one, joins its own

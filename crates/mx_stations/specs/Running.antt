@@ -109,6 +109,20 @@ MayDo n hand (act.Want to) = to < n
 MayDo n hand (act.Deliver from p) = hand ≡ Some (from, p)
 MayDo n hand act.Restart = Unit {0}
 
+-- an act that takes no memory, moves no parcel and closes no section; a want goes to one of n nodes
+abbrev pub IsPlain : {M : Type 0} → ℕ → Act M → Type 0
+IsPlain n act.Ask = Unit {0}
+IsPlain n act.Enter = Unit {0}
+IsPlain n (act.Read register) = Unit {0}
+IsPlain n (act.Write register value) = Unit {0}
+IsPlain n act.Leave = ⊥
+IsPlain n act.Cancel = Unit {0}
+IsPlain n (act.Settle k) = Unit {0}
+IsPlain n act.Tick = Unit {0}
+IsPlain n (act.Want to) = to < n
+IsPlain n (act.Deliver from p) = ⊥
+IsPlain n act.Restart = Unit {0}
+
 -- the hand is as it was, or empty
 abbrev pub Keeps : {P : Type 0} → Option (ℕ × P) → Option (ℕ × P) → Type 0
 Keeps before after = (after ≡ before) ⊎ (after ≡ None)
@@ -117,16 +131,7 @@ module _ {T P : Type 0} where
   -- the node after an act: its member, its receipts, what it sent besides, and its hand
   abbrev pub acted : Entry T P → T → List (ℕ × P) → Option (ℕ × P) → List Receipt → Entry T P
   acted e y out hand receipts =
-      record {
-        node = e.node;
-        member = y;
-        receipts = receipts;
-        sent = e.sent ++ out;
-        hand = hand;
-        stage = e.stage;
-        placed = e.placed;
-        taken = e.taken;
-      }
+      record e { member = y; receipts = receipts; sent = e.sent ++ out; hand = hand }
 
   -- the view of a seat with one node, after an act
   abbrev pub acted_view : List (Entry T P) → T → List (ℕ × P) → Option (ℕ × P) → List Receipt

@@ -8,57 +8,18 @@ use Rattle.mx_stamps.specs.Lists.{IsIn}
 
 module _ {T P : Type 0} where
   abbrev pub claiming : ℕ → Entry T P → Entry T P
-  claiming k e =
-      record {
-        node = e.node;
-        member = e.member;
-        sent = e.sent;
-        hand = e.hand;
-        receipts = e.receipts;
-        stage = Writing k;
-        placed = e.placed;
-        taken = e.taken;
-      }
+  claiming k e = record e { stage = Writing k }
 
   abbrev pub placing : ℕ → P → Entry T P → Entry T P
-  placing k p e =
-      record {
-        node = e.node;
-        member = e.member;
-        sent = e.sent;
-        hand = e.hand;
-        receipts = e.receipts;
-        stage = Idle;
-        placed = e.placed ++ (k, p) ∷ [];
-        taken = e.taken;
-      }
+  placing k p e = record e { stage = Idle; placed = e.placed ++ (k, p) ∷ [] }
 
   abbrev pub taking : ℕ → ℕ → P → Entry T P → Entry T P
   taking k from p e =
-      record {
-        node = e.node;
-        member = e.member;
-        sent = e.sent;
-        hand = Some (from, p);
-        receipts = e.receipts;
-        stage = Reading k;
-        placed = e.placed;
-        taken = e.taken ++ (k, p) ∷ [];
-      }
+      record e { hand = Some (from, p); stage = Reading k; taken = e.taken ++ (k, p) ∷ [] }
 
   -- the parcel stays in hand, or is thrown away
   abbrev pub releasing : Option (ℕ × P) → Entry T P → Entry T P
-  releasing hand e =
-      record {
-        node = e.node;
-        member = e.member;
-        sent = e.sent;
-        hand = hand;
-        receipts = e.receipts;
-        stage = Idle;
-        placed = e.placed;
-        taken = e.taken;
-      }
+  releasing hand e = record e { hand = hand; stage = Idle }
 
   -- the slot was empty, and the seat has it
   abbrev pub Claims : ℕ → Me (Option P) (List (Entry T P)) → Me (Option P) (List (Entry T P))

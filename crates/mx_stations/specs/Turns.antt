@@ -60,30 +60,9 @@ module _ {H S M : Type 0} (core : Core H S M) where
 
 -- what a turn tells of a parcel of this fate
 abbrev pub noted_fate : Fate → TurnReport → TurnReport
-noted_fate Pass r = record {
-  taken = r.taken + 1;
-  dropped = r.dropped;
-  twice = r.twice;
-  put = r.put;
-  full = r.full;
-  ticked = r.ticked;
-}
-noted_fate Drop r = record {
-  taken = r.taken + 1;
-  dropped = r.dropped + 1;
-  twice = r.twice;
-  put = r.put;
-  full = r.full;
-  ticked = r.ticked;
-}
-noted_fate Twice r = record {
-  taken = r.taken + 1;
-  dropped = r.dropped;
-  twice = r.twice + 1;
-  put = r.put;
-  full = r.full;
-  ticked = r.ticked;
-}
+noted_fate Pass r = record r { taken = r.taken + 1 }
+noted_fate Drop r = record r { taken = r.taken + 1; dropped = r.dropped + 1 }
+noted_fate Twice r = record r { taken = r.taken + 1; twice = r.twice + 1 }
 
 -- of a try on a link, at which nothing was taken, or a parcel
 abbrev pub noted : Option Fate → TurnReport → TurnReport
@@ -96,22 +75,8 @@ noted_all (x ∷ xs) r = noted_all xs (noted x r)
 
 -- of a try to put a parcel out
 abbrev pub noted_put : PutOut → TurnReport → TurnReport
-noted_put Sent r = record {
-  taken = r.taken;
-  dropped = r.dropped;
-  twice = r.twice;
-  put = r.put + 1;
-  full = r.full;
-  ticked = r.ticked;
-}
-noted_put Full r = record {
-  taken = r.taken;
-  dropped = r.dropped;
-  twice = r.twice;
-  put = r.put;
-  full = r.full + 1;
-  ticked = r.ticked;
-}
+noted_put Sent r = record r { put = r.put + 1 }
+noted_put Full r = record r { full = r.full + 1 }
 noted_put Nothing r = r
 
 abbrev pub noted_puts : List PutOut → TurnReport → TurnReport
@@ -124,14 +89,7 @@ begun true = record { taken = 1; dropped = 0; twice = 0; put = 0; full = 0; tick
 begun false = record { taken = 0; dropped = 0; twice = 0; put = 0; full = 0; ticked = false }
 
 abbrev pub ending : Bool → TurnReport → TurnReport
-ending ticked r = record {
-  taken = r.taken;
-  dropped = r.dropped;
-  twice = r.twice;
-  put = r.put;
-  full = r.full;
-  ticked = ticked;
-}
+ending ticked r = record r { ticked = ticked }
 
 module _ {H S M : Type 0} (core : Core H S M) where
   -- a parcel that is to be delivered twice is delivered a first time

@@ -6,12 +6,11 @@ ghost use Rattle.std.specs.Vec.{vec_capacity, vec_len};
 ghost use Rattle.mx_nodelaws.specs.Core.{IsInside};
 ghost use Rattle.mx_member.specs.Steps.{IsTakeable, ask_of, cancel_of, enter_of, leave_of, read_of, settle_of, write_of};
 ghost use Rattle.mx_member.specs.declared.acts.Act.TheVariants.{Ask, Cancel, Deliver, Enter, Leave, Read, Restart, Settle, Tick, Want, Write};
-ghost use Rattle.mx_member.specs.Acts.{IsDoable, IsRefusal, NeedsMemory, act_of};
-ghost use Rattle.mx_member.specs.Receipts.{closed_by};
+ghost use Rattle.mx_member.specs.Acts.{IsRefusal, act_of};
 ghost use Rattle.mx_member.specs.declared.parcel.Parcel.{Parcel as OneParcel};
 ghost use Rattle.mx_member.specs.Member.{BringsRecords};
-ghost use Rattle.mx_stations.specs.Posts.{DeliversAs, does, left_in};
-ghost use Rattle.mx_stations.specs.Running.{MayDo};
+ghost use Rattle.mx_stations.specs.Posts.{DeliversAs, OnDone, OnRefusal, does, left_in};
+ghost use Rattle.mx_stations.specs.Running.{IsPlain};
 
 use crate::answers::TakeFault;
 use crate::field::act;
@@ -157,13 +156,10 @@ impl<C: Exclusion> Station<C> {
     /// One act that takes no memory, moves no parcel and closes no section, and the one store that
     /// tells it, but none where it is refused.
     fn does(&mut self, act: Act<C::Msg>) -> Answer
-        requires may { MayDo self.old.nodes self.old.me.hand act }
-        requires doable { IsDoable act self.old.me.member }
-        requires receipts { closed_by (act_of C.core act self.old.me.member).answer ≡ [] }
-        requires lean { NeedsMemory C.core act self.old.me.member → ⊥ }
+        requires { IsPlain self.old.nodes act }
         ensures answer { result ≡ (act_of C.core act self.old.me.member).answer }
-        ensures done { (IsRefusal result → ⊥) → self.new ≡ does C.core act self.old }
-        ensures refused { IsRefusal result → self.new ≡ self.old }
+        ensures done { OnDone result (self.new ≡ does C.core act self.old) }
+        ensures refused { OnRefusal result (self.new ≡ self.old) }
     {
         self.out.clear();
         let Ok(answer) = perform(&mut self.member, act, &mut self.out) else {

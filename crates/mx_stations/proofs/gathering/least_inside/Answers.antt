@@ -1,4 +1,4 @@
-use Rattle.std.proofs.Common.{rules, ◌≡◌, ◌<◌, true, false, subst, arith}
+use Rattle.std.proofs.Common.{◌≡◌, ◌<◌, true, false, subst, arith}
 use Rattle.mx_stations.specs.Gathered.{NotInside, nodes_in}
 use Rattle.mx_stations.proofs.Gathers.{each_more}
 use Rattle.mx_stations.proofs.gathering.least_inside.Goals as goal
@@ -24,14 +24,5 @@ returns-clause-none g c =
     let t = c.loop-index-test.false in let count = c.count_of-index-end.ensures.value in
     (λ i low. c.loop-index.invariant i (omega arith))
 
-pub has_inside-requires : goal.has_inside-requires
-has_inside-requires g c = search rules
-
 pub loop-index-init : goal.loop-index-init
 loop-index-init g c = λ j low. absurd (omega arith)
-
-pub returns-clause-some : goal.returns-clause-some
-returns-clause-some g c = tt
-
-pub returns-then-has_inside-clause-none : goal.returns-then-has_inside-clause-none
-returns-then-has_inside-clause-none g c = tt

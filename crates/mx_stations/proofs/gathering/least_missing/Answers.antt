@@ -1,4 +1,4 @@
-use Rattle.std.proofs.Common.{rules, ◌≡◌, ◌<◌, true, false, subst, arith}
+use Rattle.std.proofs.Common.{◌≡◌, ◌<◌, true, false, subst, arith}
 use Rattle.mx_stations.specs.Gathered.{Has, nodes_in}
 use Rattle.mx_stations.proofs.Gathers.{each_more}
 use Rattle.mx_stations.proofs.gathering.least_missing.Goals as goal
@@ -24,14 +24,5 @@ returns-clause-none g c =
     let t = c.loop-index-test.false in let count = c.count_of-index-end.ensures.value in
     (λ i low. c.loop-index.invariant i (omega arith))
 
-pub has-requires : goal.has-requires
-has-requires g c = search rules
-
 pub loop-index-init : goal.loop-index-init
 loop-index-init g c = λ j low. absurd (omega arith)
-
-pub returns-clause-some : goal.returns-clause-some
-returns-clause-some g c = tt
-
-pub returns-then-not-has-clause-none : goal.returns-then-not-has-clause-none
-returns-then-not-has-clause-none g c = tt

@@ -1,4 +1,4 @@
-use Rattle.std.proofs.Common.{rules, ◌≡◌, ◌+◌, List, inr, length, refl, subst, sym}
+use Rattle.std.proofs.Common.{◌≡◌, ◌+◌, List, inr, length, refl, subst, sym}
 use Rattle.mx_stamps.proofs.Choices.{not_both}
 use Rattle.mx_journal.specs.declared.receipts.Receipt.{Receipt}
 use Rattle.mx_journal.specs.Settled.{JournalState}
@@ -17,12 +17,3 @@ returns-then-is_due g c =
 pub returns-else-is_due : goal.returns-else-is_due
 returns-else-is_due g c =
     inr ((λ due. not_both _ (c.is_due.ensures.1 (subst (λ (rs : List Receipt). IsDue c.args.every c.args.before (length rs)) (sym c.receipts.ensures) due)) c.if-is_due.false), refl)
-
-pub receipts-requires : goal.receipts-requires
-receipts-requires g c = search rules
-
-pub journal-requires : goal.journal-requires
-journal-requires g c = search rules
-
-pub settle-requires : goal.settle-requires
-settle-requires g c = search rules

@@ -1,4 +1,4 @@
-use Rattle.std.proofs.Common.{rules, refl}
+use Rattle.std.proofs.Common.{refl}
 use Rattle.mx_member.specs.declared.acts.Act.TheVariants.{Read, Write}
 use Rattle.mx_stations.proofs.Leaving.{none_on, none_trying}
 use Rattle.mx_stations.proofs.working.add_if_due.Goals as goal
@@ -18,12 +18,3 @@ returns-in-Err-Gap g c =
 pub returns-in-Err-NotInside : goal.returns-in-Err-NotInside
 returns-in-Err-NotInside g c =
     none_trying g.C.Exclusion.core c.args.register (Read c.args.register) c.read.result _ _ refl refl c.read.ensures.done c.read.ensures.refused
-
-pub read-requires : goal.read-requires
-read-requires g c = search rules
-
-pub write-requires : goal.write-requires
-write-requires g c = search rules
-
-pub want_next-requires : goal.want_next-requires
-want_next-requires g c = search rules

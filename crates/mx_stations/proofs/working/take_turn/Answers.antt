@@ -1,4 +1,4 @@
-use Rattle.std.proofs.Common.{rules, refl}
+use Rattle.std.proofs.Common.{refl}
 use Rattle.mx_member.specs.declared.acts.Act.TheVariants.{Enter}
 use Rattle.mx_stations.proofs.Leaving.{has_turned, none_on, none_trying}
 use Rattle.mx_stations.proofs.working.take_turn.Goals as goal
@@ -14,21 +14,3 @@ returns g c =
       c.leave_if_due.ensures,
       has_turned core c.turn-report.result _ _ c.turn-report.ensures.turns c.turn-report.ensures.goes c.turn-report.ensures.kept,
     )
-
-pub ask_if_due-requires : goal.ask_if_due-requires
-ask_if_due-requires g c = search rules
-
-pub enter-requires : goal.enter-requires
-enter-requires g c = search rules
-
-pub add_if_due-requires : goal.add_if_due-requires
-add_if_due-requires g c = search rules
-
-pub leave_if_due-requires : goal.leave_if_due-requires
-leave_if_due-requires g c = search rules
-
-pub turn-report-requires : goal.turn-report-requires
-turn-report-requires g c = search rules
-
-pub give_way-requires : goal.give_way-requires
-give_way-requires g c = search rules

@@ -1,10 +1,4 @@
 use Rattle.mx_stations.proofs.station.Station.deliver_first.Goals as goal
 
-pub returns-clause-delivered : goal.returns-clause-delivered
-returns-clause-delivered g c = c.deliver_as.ensures.delivered
-
-pub returns-clause-held : goal.returns-clause-held
-returns-clause-held g c = c.deliver_as.ensures.held
-
-pub returns-clause-memory : goal.returns-clause-memory
-returns-clause-memory g c = c.deliver_as.ensures.memory
+pub returns : goal.returns
+returns g c = let as_told = c.deliver_as.ensures in record { delivered = as_told.delivered; held = as_told.held; memory = as_told.memory }

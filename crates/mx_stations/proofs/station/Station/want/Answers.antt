@@ -1,9 +1,6 @@
-use Rattle.std.proofs.Common.{rules, refl, sym, subst}
-use Rattle.mx_member.specs.Acts.{IsRefusal}
+use Rattle.mx_member.specs.declared.acts.Answer.TheVariants as answer
+use Rattle.mx_stations.proofs.Plain.{done_as}
 use Rattle.mx_stations.proofs.station.Station.want.Goals as goal
 
-pub does-wanted-requires : goal.does-wanted-requires
-does-wanted-requires g c = (search rules, (c.requires, (tt, (refl, λ h. h))))
-
 pub returns : goal.returns
-returns g c = let d = c.does-wanted.ensures in d.done (subst (λ r. IsRefusal r → ⊥) (sym d.answer) (λ h. h))
+returns g c = let d = c.does-wanted.ensures in done_as _ answer.Wanted _ d.answer d.done
