@@ -1,6 +1,6 @@
 -- Runs of jobs: of what a source tells.
 use Rattle.std.proofs.Common.{◌≡◌, ◌⊎◌, ℕ, Bool, Option, Some, None, Result, Ok, Err, ap, subst, sym, refl, inl, inr}
-use Rattle.std.specs.Prelude.{IfSome, option_map}
+use Rattle.std.specs.Prelude.{IfSome, IsErrAnd, option_map}
 use Rattle.std.specs.Option.{option_map_or}
 use Rattle.std.specs.Io.KnownBytes.{Keeps}
 use Rattle.mx_plan.specs.Text.{Text}
@@ -20,6 +20,7 @@ use Rattle.mx_cli.specs.declared.planning.PlanAndText.{PlanAndText}
 use Rattle.mx_io.specs.Outputs.{Held}
 use Rattle.mx_commands.specs.Ran.{EndsEarly, Ran, RanOn}
 use Rattle.mx_cli.proofs.OutputLemmas.{Appends-nil, none_some, Keeps-refl}
+use Rattle.mx_commands.proofs.RunLemmas.{err_is}
 
 -- a run that ends before any event
 pub ran_at_once : (t : Bool) (a : Held) (f : Fault) → Ran t a a (ends_with (Some f)) (Err (stop.Fault f))
@@ -27,6 +28,10 @@ ran_at_once t a f = (refl, Appends-nil a)
 
 pub ran_out : (t : Bool) (a : Held) (r : Report) → Ran t a a r (Err stop.Memory)
 ran_out t a r = none_some a a r.texts (Keeps-refl a)
+
+-- memory ran out at once
+pub ran_short : (t : Bool) (a : Held) (r : Report) (result : Result ℕ Stop) → IsErrAnd result (λ s. s ≡ stop.Memory) → Ran t a a r result
+ran_short t a r result out = subst (λ (res : Result ℕ Stop). Ran t a a r res) (sym (err_is result stop.Memory out)) (ran_out t a r)
 
 -- a text was refused
 ended_ran : (t : Bool) (a : Held) (o : Option Fault) → Ran t a a (ends_with o) (Err (option_map_or stop.Fault o stop.Memory))

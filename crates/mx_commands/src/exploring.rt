@@ -10,18 +10,15 @@ ghost use Rattle.mx_explorer.specs.Place.{place_of};
 ghost use Rattle.mx_network.specs.Step.{step_of};
 ghost use Rattle.mx_commands.specs.Ran.{Ran, RanOf, verdict_status};
 
+use crate::by_shape;
 use crate::checking::print;
-use crate::running::start;
 use crate::verdicts::{VerdictLine, verdict_status};
 use mx_cli::{Exploration, Stop, fetch_plan};
 use mx_explorer::{Verdict, judge, place, schedule};
 use mx_io::{Output, Source};
-use mx_maekawa::Maekawa;
 use mx_network::{Cluster, Entry, Event, Outcome, StepFault};
 use mx_nodelaws::Exclusion;
-use mx_plan::{Plan, Shape};
-use mx_raymond::Raymond;
-use mx_ricart::Ricart;
+use mx_plan::Plan;
 use mx_texts::ExploredLine;
 use std::alloc::{AllocError, Global};
 
@@ -76,23 +73,11 @@ fn add_summary_of(
         ≡ string_bytes text.old ++ summary_by plan.now events.now plan.now.shape) }
     ensures sound { IfOk result (λ verdict. verdict ≡ Verdict.Sound) }
 {
-    match plan.shape() {
-        Shape::Ricart(count) => add_summary_after(
-            start::<Ricart>(alloc, plan, count)?,
-            events,
-            text,
-        ),
-        Shape::Maekawa(sets) => add_summary_after(
-            start::<Maekawa>(alloc, plan, sets)?,
-            events,
-            text,
-        ),
-        Shape::Raymond(tree) => add_summary_after(
-            start::<Raymond>(alloc, plan, tree)?,
-            events,
-            text,
-        ),
-    }
+    by_shape!(
+        alloc,
+        plan,
+        |cluster| add_summary_after(cluster, events, text)
+    )
 }
 
 /// The events happen; then the summary.

@@ -7,6 +7,7 @@ mod commanding;
 mod exploring;
 mod replaying;
 mod running;
+mod shapes;
 mod verdicts;
 
 pub use checking::print;

@@ -9,14 +9,12 @@ ghost use Rattle.mx_commands.specs.Jobs as job;
 ghost use Rattle.mx_commands.specs.Ran.{Ran, RanOf};
 ghost use Rattle.mx_commands.specs.Runs.{AllNameNodes};
 
-use crate::running::{run, start};
+use crate::by_shape;
+use crate::running::run;
 use mx_cli::{Names, Stop, fetch_both};
 use mx_io::{Output, Source};
-use mx_maekawa::Maekawa;
 use mx_network::Event;
-use mx_plan::{Plan, Shape, read_events};
-use mx_raymond::Raymond;
-use mx_ricart::Ricart;
+use mx_plan::{Plan, read_events};
 use std::alloc::Global;
 
 /// Reads the plan, then the events, and replays them. Returns the status.
@@ -62,27 +60,9 @@ fn run_by<O: Output>(alloc: Global, plan: &Plan, events: &[Event], out: &mut O) 
     ensures zero { IfOk result (λ status. status ≡ 0) }
     ensures stays { O.takes_all out.new ≡ O.takes_all out.old }
 {
-    match plan.shape() {
-        Shape::Ricart(count) => run(
-            alloc,
-            plan,
-            start::<Ricart>(alloc, plan, count)?,
-            events,
-            out,
-        ),
-        Shape::Maekawa(sets) => run(
-            alloc,
-            plan,
-            start::<Maekawa>(alloc, plan, sets)?,
-            events,
-            out,
-        ),
-        Shape::Raymond(tree) => run(
-            alloc,
-            plan,
-            start::<Raymond>(alloc, plan, tree)?,
-            events,
-            out,
-        ),
-    }
+    by_shape!(
+        alloc,
+        plan,
+        |cluster| run(alloc, plan, cluster, events, out)
+    )
 }

@@ -1,5 +1,5 @@
 -- What is counted, from what its parts append.
-use Rattle.std.proofs.Common.{◌≡◌, ◌∙◌, ◌++◌, ℕ, List, [], ◌∷◌, Result, Ok, Err, ap, append_assoc, codes, length, map, refl, subst}
+use Rattle.std.proofs.Common.{◌≡◌, ◌∙◌, ◌++◌, ℕ, List, [], ◌∷◌, Result, Ok, Err, ap, append_assoc, codes, length, map, refl}
 use Rattle.std.specs.Prelude.{OnOk}
 use Rattle.std.specs.List.{count_by}
 use Rattle.mx_nodelaws.specs.Core.{Core}
@@ -9,14 +9,12 @@ use Rattle.mx_sections.specs.declared.outcome.Entry.{Entry}
 use Rattle.mx_explorer.specs.declared.verdict.Verdict.{Verdict}
 use Rattle.mx_explorer.specs.declared.verdict.Verdict.TheVariants.{Sound}
 use Rattle.mx_plan.specs.Text.{Text}
-use Rattle.mx_plan.specs.Fields.{Fields}
-use Rattle.mx_plan.specs.declared.shape.Shape.{Shape}
 use Rattle.mx_texts.specs.Lines.{each_text}
 use Rattle.mx_cli.specs.declared.faults.Stop.{Stop}
 use Rattle.mx_commands.specs.Explored.{is_entry}
 use Rattle.mx_commands.specs.VerdictLines.{verdict_line}
 use Rattle.mx_commands.proofs.ExploreLemmas.{with_verdict}
-use Rattle.mx_count.specs.Counted.{AddsCounts, AddsCountsBy, Leads, counts_text, first_text}
+use Rattle.mx_count.specs.Counted.{AddsCounts, Leads, counts_text, first_text}
 use Rattle.mx_count.specs.Counts.{longest_wait, parcels_text, refusals_text, share_text, tallies_text, tally_line}
 use Rattle.mx_count.specs.Kinds.{is_under, refusal_names}
 use Rattle.mx_count.specs.declared.running.Course.{Course}
@@ -70,13 +68,3 @@ pub counted_after : {H S M : Type 0} (core : Core H S M) (kind_text : M → Text
     → Leads course core start es g → OnOk r (new ≡ old ++ counts_text kind_text names course (length es) g) → OnOk r (AddsCounts core kind_text names course es start old new)
 counted_after {H} {S} {M} core kind_text names course es start g old new (Ok status) leads is = (g, leads, is)
 counted_after {H} {S} {M} core kind_text names course es start g old new (Err end) leads is = tt
-
--- counts after events that lead from this cluster, which is the one at the start
-pub counted_from : {H S M : Type 0} (core : Core H S M) (kind_text : M → Text) (names : List Text) (course : Course) (es : List Event) (start g : ClusterState S M) (old new : Text) (r : Result ℕ Stop)
-    → g ≡ start → OnOk r (AddsCounts core kind_text names course es g old new) → OnOk r (AddsCounts core kind_text names course es start old new)
-counted_from {H} {S} {M} core kind_text names course es start g old new r is h = subst (λ (x : ClusterState S M). OnOk r (AddsCounts core kind_text names course es x old new)) is h
-
--- counts by the algorithm of this shape, which is the plan's
-pub counted_by : (course : Course) (p : Fields) (es : List Event) (old new : Text) (r : Result ℕ Stop) (shape : Shape) → shape ≡ p.shape → OnOk r (AddsCountsBy course p es old new shape)
-    → OnOk r (AddsCountsBy course p es old new p.shape)
-counted_by course p es old new r shape is h = subst (λ (s : Shape). OnOk r (AddsCountsBy course p es old new s)) is h

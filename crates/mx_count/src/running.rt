@@ -11,14 +11,11 @@ use crate::parcel_counts::{add_parcel_counts, count_parcels};
 use crate::refusal_counts::add_refusal_counts;
 use crate::waits::longest_wait;
 use mx_cli::{Fault, Stop};
-use mx_commands::{VerdictLine, entries_in, happen, start, verdict_status};
+use mx_commands::{VerdictLine, by_shape, entries_in, happen, verdict_status};
 use mx_explorer::judge;
-use mx_maekawa::Maekawa;
 use mx_network::{Cluster, Event, RunFault, StepFault};
 use mx_nodelaws::Exclusion;
-use mx_plan::{Plan, Shape};
-use mx_raymond::Raymond;
-use mx_ricart::Ricart;
+use mx_plan::Plan;
 use mx_texts::ExploredLine;
 use std::alloc::{AllocError, Global};
 
@@ -44,26 +41,11 @@ pub(crate) fn add_counts_of(
         (string_bytes text.old) (string_bytes text.new) plan.now.shape) }
     ensures zero { IfOk result (λ status. status ≡ 0) }
 {
-    match plan.shape() {
-        Shape::Ricart(count) => add_counts_after(
-            start::<Ricart>(alloc, plan, count)?,
-            events,
-            course,
-            text,
-        ),
-        Shape::Maekawa(sets) => add_counts_after(
-            start::<Maekawa>(alloc, plan, sets)?,
-            events,
-            course,
-            text,
-        ),
-        Shape::Raymond(tree) => add_counts_after(
-            start::<Raymond>(alloc, plan, tree)?,
-            events,
-            course,
-            text,
-        ),
-    }
+    by_shape!(
+        alloc,
+        plan,
+        |cluster| add_counts_after(cluster, events, course, text)
+    )
 }
 
 /// The events happen; then what is counted of them, and the verdict. Returns the status.

@@ -1,14 +1,11 @@
 //! Why an event delivers nothing.
 
-use mx_commands::start;
+use mx_commands::by_shape;
 use mx_diagnosis::Page;
 use mx_events::Event;
-use mx_maekawa::Maekawa;
 use mx_network::{Cluster, RunFault, StepFault};
 use mx_nodelaws::Exclusion;
-use mx_plan::{Plan, Shape, read_events, read_plan};
-use mx_raymond::Raymond;
-use mx_ricart::Ricart;
+use mx_plan::{Plan, read_events, read_plan};
 use std::alloc::{AllocError, Global};
 use std::fmt;
 
@@ -38,11 +35,7 @@ pub(crate) fn explain_parcel(
 
 /// How many parcels the events send, up to the first that can't happen.
 fn parcels_sent(alloc: Global, plan: &Plan, events: &[Event]) -> Result<u64, AllocError> {
-    match plan.shape() {
-        Shape::Ricart(count) => sent_after(start::<Ricart>(alloc, plan, count)?, events),
-        Shape::Maekawa(sets) => sent_after(start::<Maekawa>(alloc, plan, sets)?, events),
-        Shape::Raymond(tree) => sent_after(start::<Raymond>(alloc, plan, tree)?, events),
-    }
+    by_shape!(alloc, plan, |cluster| sent_after(cluster, events))
 }
 
 /// How many parcels are sent once these events happened, up to the first that can't.

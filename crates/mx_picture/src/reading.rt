@@ -13,13 +13,10 @@ use crate::page::add_page;
 use crate::part::Part;
 use crate::words::Request;
 use mx_cli::{Fault, Stop, fetch_both};
-use mx_commands::start;
+use mx_commands::by_shape;
 use mx_io::{Output, Source};
-use mx_maekawa::Maekawa;
 use mx_network::Event;
-use mx_plan::{Place, Plan, PlanFault, Shape, read_events};
-use mx_raymond::Raymond;
-use mx_ricart::Ricart;
+use mx_plan::{Place, Plan, PlanFault, read_events};
 use mx_stamps::NodeId;
 use std::alloc::{AllocError, Global};
 
@@ -126,24 +123,9 @@ fn draw_by_shape(
     ensures ok { OnOk result ((run_by plan.now plan.now.shape events.now).end ≡ None) }
     ensures err { IfErr result (StopsAs (run_by plan.now plan.now.shape events.now)) }
 {
-    match plan.shape() {
-        Shape::Ricart(count) => draw_run(
-            plan,
-            start::<Ricart>(alloc, plan, count)?,
-            events,
-            drawing,
-        ),
-        Shape::Maekawa(sets) => draw_run(
-            plan,
-            start::<Maekawa>(alloc, plan, sets)?,
-            events,
-            drawing,
-        ),
-        Shape::Raymond(tree) => draw_run(
-            plan,
-            start::<Raymond>(alloc, plan, tree)?,
-            events,
-            drawing,
-        ),
-    }
+    by_shape!(
+        alloc,
+        plan,
+        |cluster| draw_run(plan, cluster, events, drawing)
+    )
 }

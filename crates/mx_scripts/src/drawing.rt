@@ -13,15 +13,12 @@ ghost use Rattle.mx_scripts.specs.Played.{events_of};
 
 use crate::files::add_file;
 use mx_cli::Stop;
-use mx_commands::{happen, print, start};
+use mx_commands::{by_shape, happen, print};
 use mx_explorer::schedule;
 use mx_io::Output;
-use mx_maekawa::Maekawa;
 use mx_network::{Cluster, Event};
 use mx_nodelaws::Exclusion;
-use mx_plan::{Plan, Shape};
-use mx_raymond::Raymond;
-use mx_ricart::Ricart;
+use mx_plan::Plan;
 use mx_stamps::MOST_EVENTS;
 use std::alloc::{AllocError, Global};
 
@@ -69,26 +66,11 @@ fn add_placed(
         ≡ string_bytes text.old
         ++ file_text plan.now (placed_in plan.now events.now plan.now.shape)) }
 {
-    match plan.shape() {
-        Shape::Ricart(count) => add_happened(
-            plan,
-            start::<Ricart>(alloc, plan, count)?,
-            events,
-            text,
-        ),
-        Shape::Maekawa(sets) => add_happened(
-            plan,
-            start::<Maekawa>(alloc, plan, sets)?,
-            events,
-            text,
-        ),
-        Shape::Raymond(tree) => add_happened(
-            plan,
-            start::<Raymond>(alloc, plan, tree)?,
-            events,
-            text,
-        ),
-    }
+    by_shape!(
+        alloc,
+        plan,
+        |cluster| add_happened(plan, cluster, events, text)
+    )
 }
 
 /// The drawn events happen in a cluster; then the file of what happened.

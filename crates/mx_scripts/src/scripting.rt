@@ -10,13 +10,10 @@ use crate::halts::Halt;
 use crate::line_faults::LineFault;
 use crate::lines::{Order, read_line};
 use crate::mail::Mail;
-use mx_commands::start;
-use mx_maekawa::Maekawa;
+use mx_commands::by_shape;
 use mx_network::{Cluster, Event};
 use mx_nodelaws::Exclusion;
-use mx_plan::{Plan, Shape};
-use mx_raymond::Raymond;
-use mx_ricart::Ricart;
+use mx_plan::Plan;
 use mx_stamps::{MOST_EVENTS, NodeId};
 use std::alloc::Global;
 
@@ -24,26 +21,11 @@ use std::alloc::Global;
 pub(crate) fn script_file(alloc: Global, plan: &Plan, script: &str) -> Result<String, Halt>
     ensures { IfOk result (λ text. IsEventFile plan.now (string_bytes text) plan.now.shape) }
 {
-    match plan.shape() {
-        Shape::Ricart(count) => file_of_script(
-            alloc,
-            plan,
-            start::<Ricart>(alloc, plan, count)?,
-            script,
-        ),
-        Shape::Maekawa(sets) => file_of_script(
-            alloc,
-            plan,
-            start::<Maekawa>(alloc, plan, sets)?,
-            script,
-        ),
-        Shape::Raymond(tree) => file_of_script(
-            alloc,
-            plan,
-            start::<Raymond>(alloc, plan, tree)?,
-            script,
-        ),
-    }
+    by_shape!(
+        alloc,
+        plan,
+        |cluster| file_of_script(alloc, plan, cluster, script)
+    )
 }
 
 /// The lines happen in a cluster at rest; then the file of what happened.

@@ -6,13 +6,10 @@ ghost use Rattle.mx_scripts.specs.Played.{IsEventFile, IsFileOf, Plays};
 use crate::files::file_of;
 use crate::playing::play;
 use crate::walk::Walk;
-use mx_commands::start;
-use mx_maekawa::Maekawa;
+use mx_commands::by_shape;
 use mx_network::Cluster;
 use mx_nodelaws::Exclusion;
-use mx_plan::{Plan, Shape};
-use mx_raymond::Raymond;
-use mx_ricart::Ricart;
+use mx_plan::Plan;
 use std::alloc::{AllocError, Global};
 
 /// The file of a walk of this many steps, by the plan's algorithm.
@@ -24,29 +21,11 @@ pub(crate) fn walk_file(
 ) -> Result<String, AllocError>
     ensures { IfOk result (λ text. IsEventFile plan.now (string_bytes text) plan.now.shape) }
 {
-    match plan.shape() {
-        Shape::Ricart(count) => file_of_walk(
-            alloc,
-            plan,
-            start::<Ricart>(alloc, plan, count)?,
-            seed,
-            steps,
-        ),
-        Shape::Maekawa(sets) => file_of_walk(
-            alloc,
-            plan,
-            start::<Maekawa>(alloc, plan, sets)?,
-            seed,
-            steps,
-        ),
-        Shape::Raymond(tree) => file_of_walk(
-            alloc,
-            plan,
-            start::<Raymond>(alloc, plan, tree)?,
-            seed,
-            steps,
-        ),
-    }
+    by_shape!(
+        alloc,
+        plan,
+        |cluster| file_of_walk(alloc, plan, cluster, seed, steps)
+    )
 }
 
 /// A walk through a cluster at rest, and the file of what happened.

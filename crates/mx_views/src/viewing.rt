@@ -10,13 +10,10 @@ use crate::selection::Selection;
 use crate::showing::show;
 use crate::words::{Request, asked};
 use mx_cli::{Fault, Stop, close, fetch_both, refuse};
-use mx_commands::start;
+use mx_commands::by_shape;
 use mx_io::{Output, Source};
-use mx_maekawa::Maekawa;
 use mx_network::Event;
-use mx_plan::{Place, Plan, PlanFault, Shape, read_events};
-use mx_raymond::Raymond;
-use mx_ricart::Ricart;
+use mx_plan::{Place, Plan, PlanFault, read_events};
 use mx_stamps::NodeId;
 use std::alloc::Global;
 
@@ -119,27 +116,9 @@ fn show_by_shape<O: Output>(
 ) -> Result<u8, Stop>
     ensures zero { IfOk result (λ status. status ≡ 0) }
 {
-    match selection.plan.shape() {
-        Shape::Ricart(count) => show(
-            alloc,
-            selection,
-            start::<Ricart>(alloc, selection.plan, count)?,
-            events,
-            out,
-        ),
-        Shape::Maekawa(sets) => show(
-            alloc,
-            selection,
-            start::<Maekawa>(alloc, selection.plan, sets)?,
-            events,
-            out,
-        ),
-        Shape::Raymond(tree) => show(
-            alloc,
-            selection,
-            start::<Raymond>(alloc, selection.plan, tree)?,
-            events,
-            out,
-        ),
-    }
+    by_shape!(
+        alloc,
+        selection.plan,
+        |cluster| show(alloc, selection, cluster, events, out)
+    )
 }
