@@ -54,7 +54,7 @@ pub(crate) struct Sheet {
     event: u64,
     index: u64,
     trips: Vec<Trip>,
-    stays: [Stay; 21],
+    stays: [Stay; MOST_NODES as usize],
     ghost short: { row ≤ 1000000000000 },
     ghost present: { event ≤ row },
     ghost sent: { IsTrue (list_all (λ trip. nat_le trip.row row) trips.items) },
@@ -84,7 +84,7 @@ impl Sheet {
             event: 0,
             index: 0,
             trips: Vec::new(alloc),
-            stays: [idle; 21],
+            stays: [idle; MOST_NODES as usize],
         }
     }
 
