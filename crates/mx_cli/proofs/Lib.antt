@@ -1,5 +1,4 @@
 pub mod WordLemmas
-pub mod LiveWordLemmas
 pub mod OutputLemmas
 pub mod RefusedLemmas
 pub mod ClosedLemmas

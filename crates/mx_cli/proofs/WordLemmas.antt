@@ -1,6 +1,6 @@
 -- What the matches of a command line say.
-use Rattle.std.proofs.Common.{◌≡◌, ◌∙◌, ◌<◌, ◌^◌, ℕ, Bool, List, [], Option, Some, None, arith, refl, sym, subst, ap, true, false, ◌∷◌, IsSome, IfOk, IfErr, Result, Ok, Err}
-use Rattle.std.specs.Prelude.{option_and_then}
+use Rattle.std.proofs.Common.{◌≡◌, ◌∙◌, ◌<◌, ◌^◌, ℕ, Bool, List, [], Option, Some, None, arith, refl, sym, subst, ap, true, false, ◌∷◌, IsSome, IfOk, Result, Ok, Err}
+use Rattle.std.specs.Prelude.{option_and_then, option_map}
 use Rattle.std.specs.Str.Parse.{IsNumeral, ParsesUnsigned, digits_value, without_leading_plus}
 use Rattle.clap.specs.declared.parser.matches.ArgMatches.{ArgMatches}
 use Rattle.std.proofs.Common.{ap₂, ◌||◌}
@@ -12,15 +12,14 @@ use Rattle.clap.specs.Words.{AddsArg, AddsSubcommand, App, ReadsOne, Row, Rule, 
 use Rattle.clap.specs.ValueTests.{is_unsigned_in}
 use Rattle.clap.specs.declared.builder.value_parser.ValueParser.TheVariants.{Unsigned}
 use Rattle.clap.specs.Walk.{rows_of}
-use Rattle.clap.specs.Kinds.{FailsBy, HasKind, IsAmong, Kinds}
+use Rattle.clap.specs.Kinds.{FailsBy, IsAmong, Kinds}
 use Rattle.clap.specs.declared.error.Error.{Error}
 use Rattle.clap.specs.declared.error.kind.ErrorKind.{ErrorKind}
 use Rattle.clap.specs.declared.parser.matches.Found.{Found}
 use Rattle.clap.proofs.WalkLemmas.{one_text-rows}
 use Rattle.clap.proofs.ValueTestLemmas.{Accepts-accepts, accepts-Accepts}
 use Rattle.clap.specs.Faults.{fault_of, is_simple_and_free}
-use Rattle.clap.proofs.OnLiterals.{clap_on_literals}
-use Rattle.mx_cli.specs.Words.{AddsArgMade, AddsBothMade, AddsMade, IsArgument, IsCommand, IsReadable, asked_of, mx_app, needed, number_at, number_of, where_none}
+use Rattle.mx_cli.specs.Words.{AddsArgMade, AddsBothMade, AddsMade, Asks, Finds, IsArgument, IsCommand, IsLine, IsReadable, asked_of, line_with, needed, number_at, number_of, where_none}
 
 -- ---- numbers
 
@@ -98,37 +97,28 @@ with_command_made begun made r line app e h = IfOk-weaker r _ _ (λ command adds
 
 -- ---- a parse
 
-pub mx_is_readable : IsReadable mx_app
-unfolding clap_on_literals mx_app
-mx_is_readable = record { plain = refl; free = refl }
+-- what the parse of a command line answers, which is read as this application
+found_in : (line : App) (words : List Text) (r : Result ArgMatches Error) → FailsBy (fault_of line words) r → IfOk r (λ m. subcommand_rows_of m ≡ subcommand_of line words) → Finds line words r
+found_in line words (Ok m) none found = (none, found)
+found_in line words (Err e) kinds found = kinds
 
--- what the parse of a command line answers
 pub parsed : (line : App) (words : List Text) (r : Result ArgMatches Error) → FailsBy (fault_of line words) r → IfOk r (λ m. subcommand_rows_of m ≡ subcommand_of line words)
-    → IfOk r (λ m. fault_of line words ≡ []) × IfOk r (λ m. subcommand_rows_of m ≡ subcommand_of line words) × IfErr r (HasKind (fault_of line words))
-parsed line words (Ok m) none found = (none, found, tt)
-parsed line words (Err e) kinds found = (tt, tt, kinds)
+    → (app : App) → line ≡ app → Finds app words r
+parsed line words r fails found app is = subst (λ (a : App). Finds a words r) is (found_in line words r fails found)
 
--- what a line that is read as this application answers, and what is read of its matches
-module _ {line app : App} (is : line ≡ app) where
-  pub readable : IsReadable app → IsReadable line
-  readable h = record { plain = ap is_simple is ∙ h.plain; free = ap is_simple_and_free is ∙ h.free }
+-- a line that is read as an application that can be read
+pub is_line : (r : Result Command AllocError) (app : App) → IfOk r (λ line. app_of line ≡ app) → IsReadable app → IfOk r (IsLine app)
+is_line r app read h = IfOk-weaker r _ _ (λ line is. record { app = is; readable = record { plain = ap is_simple is ∙ h.plain; free = ap is_simple_and_free is ∙ h.free } }) read
 
-  pub same_faults : (words : List Text) → fault_of line words ≡ fault_of app words
-  same_faults words = ap (λ a. fault_of a words) is
+-- the line with a command alone
+pub is_line_with : (r : Result Command AllocError) {command : App} (app : App) → command ≡ app → IfOk r (λ line. app_of line ≡ line_with command) → IsReadable (line_with app) → IfOk r (IsLine (line_with app))
+is_line_with r app same read h = is_line r (line_with app) (IfOk-weaker r _ _ (λ line is. is ∙ ap line_with same) read) h
 
-  -- what its matches say is what the application says
-  pub found_as : (words : List Text) (r : Result ArgMatches Error) → IfOk r (λ m. subcommand_rows_of m ≡ subcommand_of line words) → IfOk r (λ m. subcommand_rows_of m ≡ subcommand_of app words)
-  found_as words r found = subst (λ a. IfOk r (λ m. subcommand_rows_of m ≡ subcommand_of a words)) is found
-
-  pub read_as : (words : List Text) (r : Result ArgMatches Error) → IfOk r (λ m. fault_of line words ≡ []) → IfOk r (λ m. fault_of app words ≡ [])
-  read_as words r read = subst (λ a. IfOk r (λ m. fault_of a words ≡ [])) is read
-
-  pub fails_as : (words : List Text) (r : Result ArgMatches Error) → IfErr r (HasKind (fault_of line words)) → IfErr r (HasKind (fault_of app words))
-  fails_as words r fails = subst (λ a. IfErr r (HasKind (fault_of a words))) is fails
-
-  pub answered : {X : Type 0} (read : Option (Text × List Row) → Option X) (words : List Text) {rows : Option (Text × List Row)} {o : Option X} → fault_of line words ≡ [] → rows ≡ subcommand_of line words → o ≡ read rows → o ≡ asked_of app read words
-  answered read words none found e =
-      e ∙ ap read (found ∙ ap (λ a. subcommand_of a words) is) ∙ sym (ap (λ kinds. where_none kinds (read (subcommand_of app words))) (sym (same_faults words) ∙ none))
+-- what is read of what was found is what the words ask for
+pub asks : {T X : Type 0} (value : T → X) (line : App) (words : List Text) (read : Option (Text × List Row) → Option X) (matches : ArgMatches) (request : Option T)
+    → Finds line words (Ok matches) → option_map value request ≡ read (subcommand_rows_of matches) → Asks value line words (asked_of line read words) (Ok request)
+asks value line words read matches request found e =
+    (found.0, e ∙ ap read found.1 ∙ sym (ap (λ kinds. where_none kinds (read (subcommand_of line words))) found.0))
 
 -- ---- what an error's kind says of the words
 

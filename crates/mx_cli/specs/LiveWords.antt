@@ -1,10 +1,9 @@
 -- What the words of `live` ask for, as `clap` reads them.
-use Rattle.std.specs.Prelude.{ℕ, Bool, List, Option, Some, None, codes, if◌then◌else◌, option_map, option_and_then, unwrap_or}
-use Rattle.std.specs.Str.{bytes_eq}
+use Rattle.std.specs.Prelude.{ℕ, Bool, List, Option, codes, option_map, option_and_then, unwrap_or}
 use Rattle.clap.specs.Words.{App, Row, Rule, Text, first_of, new_app, with_rule}
 use Rattle.mx_stamps.specs.declared.limits.TheConstants.{MOST_SECTIONS}
 use Rattle.mx_cli.specs.declared.live_words.LiveRequest.{LiveRequest as Given}
-use Rattle.mx_cli.specs.Words.{asked_of, flag_rule, is_given, line_with, needed, number_at, number_rule, plan_rule, seed_rule}
+use Rattle.mx_cli.specs.Words.{asked_of, by_name, flag_rule, is_given, line_with, needed, number_at, number_rule, plan_rule, seed_rule}
 
 -- `--sections M`, a number up to that of the last section that a cluster may have
 abbrev pub sections_rule : Rule
@@ -57,8 +56,7 @@ live_in rows = option_and_then (λ plan. option_and_then (λ sections. option_an
     (number_at (codes "turns") rows)) (number_at (codes "seed") rows)) (number_at (codes "sections") rows)) (first_of (codes "PLAN") rows)
 
 abbrev pub request_in : Option (Text × List Row) → Option LiveRequest
-request_in None = None
-request_in (Some p) = if bytes_eq p.0 (codes "live") then live_in p.1 else None
+request_in met = by_name (codes "live") live_in met
 
 -- what the words ask for, where they are `live` with its arguments
 unfoldable pub request_asked : List Text → Option LiveRequest

@@ -1,9 +1,12 @@
 -- What the two outputs get of help, of refused words, of a fault, and where memory ran out.
-use Rattle.std.specs.Prelude.{◌≡◌, ◌⊎◌, ℕ, Bool, false}
+use Rattle.std.specs.Prelude.{◌≡◌, ◌⊎◌, ℕ, Bool, List, false}
 use Rattle.std.specs.Io.KnownBytes.{Appends, Keeps}
+use Rattle.clap.specs.Words.{App}
 use Rattle.mx_plan.specs.Text.{Text}
 use Rattle.mx_io.specs.Outputs.{Held}
+use Rattle.mx_io.specs.declared.output.Output.{Ghosts as OutputOf}
 use Rattle.mx_cli.specs.FaultLines.{memory_line}
+use Rattle.mx_cli.specs.Words.{AreWrong, AskHelp}
 
 -- what is seen of the outputs: what each holds; whether standard output has refused something, and whether it
 -- keeps something back
@@ -13,12 +16,19 @@ pub record Seen : Type 0 where
   pub refused : Bool
   pub kept_back : Bool
 
-abbrev pub seen : Held → Held → Bool → Bool → Seen
-seen out err refused kept_back = record { out = out; err = err; refused = refused; kept_back = kept_back }
+-- what is seen of two outputs, by what the type of each tells of it
+abbrev pub seen : {A B : Type 0} → OutputOf A → OutputOf B → A → B → Seen
+seen o e out err =
+    record { out = o.written out; err = e.written err; refused = o.has_refused out; kept_back = o.keeps_back out }
 
 -- memory ran out: standard error got that line, or nothing
 abbrev pub MayTell : Held → Held → Type 0
 MayTell old new = Keeps old new ⊎ Appends old new memory_line
+
+-- memory ran out before anything was shown
+abbrev pub RunsOut : Seen → Seen → ℕ → Type 0
+RunsOut old new status =
+    (status ≡ 5) × Keeps old.out new.out × MayTell old.err new.err × (new.refused ≡ old.refused)
 
 -- ---- help, and words that are no command
 
@@ -33,6 +43,11 @@ Helps takes_all old new status =
 abbrev pub Scolds : Seen → Seen → ℕ → Type 0
 Scolds old new status =
     Keeps old.out new.out × ((status ≡ 2) ⊎ ((status ≡ 5) × MayTell old.err new.err))
+
+-- words that ask a command line for help are shown it, and words that are not its own are told so
+abbrev pub Answers : App → List Text → Bool → Seen → Seen → ℕ → Type 0
+Answers line words takes_all old new status =
+    (AskHelp line words → Helps takes_all old new status) × (AreWrong line words → Scolds old new status)
 
 -- nothing is written, status 2; or memory ran out, status 5
 abbrev pub Declines : Seen → Seen → ℕ → Type 0

@@ -1,23 +1,25 @@
 -- What the words of a command line ask for, as `clap` reads them.
-use Rattle.std.specs.Prelude.{◌≡◌, ◌≢◌, ◌⊎◌, ◌||◌, ℕ, Bool, List, [], ◌∷◌, Option, Some, None, true, false, codes, map, if◌then◌else◌, option_map, option_and_then, Result, Ok, Err}
+use Rattle.std.specs.Prelude.{◌≡◌, ◌≢◌, ◌⊎◌, ◌||◌, ℕ, Bool, List, [], ◌∷◌, Option, Some, None, true, false, codes, map, if◌then◌else◌, option_map, option_and_then, Result, Ok, Err, MatchResult}
 use Rattle.std.specs.declared.alloc.AllocError.{AllocError}
 use Rattle.std.specs.Borrow.{Bor}
 use Rattle.std.specs.Option.{option_map_or}
 use Rattle.std.specs.Str.{bytes_eq}
 use Rattle.std.specs.Str.Parse.{digits_value, without_leading_plus}
-use Rattle.clap.specs.Words.{AddsArg, AddsSubcommand, App, Row, Rule, Text, app_of, first_of, is_simple, one_of, new_app, new_rule, rule_of, subcommand_of, with_rule, with_subcommand}
+use Rattle.clap.specs.Words.{AddsArg, AddsSubcommand, App, Row, Rule, Text, app_of, first_of, is_simple, one_of, new_app, new_rule, rule_of, subcommand_of, subcommand_rows_of, with_rule, with_subcommand}
 use Rattle.clap.specs.Faults.{fault_of, is_simple_and_free}
-use Rattle.clap.specs.Kinds.{Kinds, IsAmong}
+use Rattle.clap.specs.Kinds.{HasKind, Kinds, IsAmong}
 use Rattle.clap.specs.ValueTests.{is_unsigned_in}
 use Rattle.clap.specs.declared.builder.arg.Arg.{Arg}
 use Rattle.clap.specs.declared.builder.command.Command.{Command}
 use Rattle.clap.specs.declared.builder.command.Command.TheViews.{out-Command}
 use Rattle.clap.specs.declared.builder.action.ArgAction.TheVariants.{SetTrue}
 use Rattle.clap.specs.declared.builder.value_parser.ValueParser.TheVariants.{Unsigned}
+use Rattle.clap.specs.declared.parser.matches.ArgMatches.{ArgMatches}
 use Rattle.mx_cli.specs.declared.words.Exploration.{Exploration}
 use Rattle.mx_cli.specs.declared.words.Names.{Names}
 use Rattle.mx_cli.specs.declared.words.Request.{Request as Given}
 use Rattle.mx_cli.specs.declared.words.Request.TheVariants.{Check, Asks, Replay, Explore}
+use Rattle.clap.specs.declared.error.Error.{Error}
 use Rattle.clap.specs.declared.error.kind.ErrorKind.{ErrorKind}
 use Rattle.clap.specs.declared.error.kind.ErrorKind.TheVariants.{DisplayHelp, DisplayVersion}
 use Rattle.mx_stamps.specs.declared.limits.TheConstants.{MOST_EVENTS}
@@ -133,6 +135,11 @@ pub record IsReadable (line : App) : Type 0 where
   pub plain : is_simple line ≡ true
   pub free : is_simple_and_free line ≡ true
 
+-- the command line is read as this application, and can be read
+pub record IsLine (read_as : App) (line : Command) : Type 0 where
+  pub app : app_of line ≡ read_as
+  pub readable : IsReadable (app_of line)
+
 -- the command line with a command that it lists, and whose words are read by a command line of their own
 abbrev pub with_listed : App → Text → App
 with_listed line name = with_subcommand line (new_app name).top
@@ -228,6 +235,11 @@ request_in (Some p) =
     else if bytes_eq p.0 (codes "explore") then explore_in p.1
     else None
 
+-- what is read of the subcommand of this name, where it was met
+abbrev pub by_name : {X : Type 0} → Text → (List Row → Option X) → Option (Text × List Row) → Option X
+by_name name read None = None
+by_name name read (Some p) = if bytes_eq p.0 name then read p.1 else None
+
 abbrev pub where_none : {X : Type 0} → Kinds → Option X → Option X
 where_none [] o = o
 where_none (k ∷ ks) o = None
@@ -235,6 +247,18 @@ where_none (k ∷ ks) o = None
 -- what the words ask of a command line, by the subcommand that they name, where nothing is wrong with them
 abbrev pub asked_of : {X : Type 0} → App → (Option (Text × List Row) → Option X) → List Text → Option X
 asked_of line read words = where_none (fault_of line words) (read (subcommand_of line words))
+
+-- the words have no fault, and this is found in them; or they have a fault of this kind, or memory ran out
+abbrev pub Finds : App → List Text → Result ArgMatches Error → Type 0
+Finds line words result =
+    MatchResult result (λ matches. (fault_of line words ≡ []) × (subcommand_rows_of matches ≡ subcommand_of line words))
+    (HasKind (fault_of line words))
+
+-- the words have no fault, and ask for what is wanted; or they have a fault of this kind, or memory ran out
+abbrev pub Asks : {T X : Type 0} → (T → X) → App → List Text → Option X → Result (Option T) Error → Type 0
+Asks value line words wanted result =
+    MatchResult result (λ request. (fault_of line words ≡ []) × (option_map value request ≡ wanted))
+    (HasKind (fault_of line words))
 
 -- what the words ask for, where they are a command
 unfoldable pub request_asked : List Text → Option Request

@@ -1,8 +1,8 @@
 //! The command line that subcommands are added to, and what is found in its words.
 
-ghost use Rattle.std.specs.Prelude.{◌≡◌, [], IfOk, IfErr};
-ghost use Rattle.clap.specs.Words.{app_of, fault_of, new_app, subcommand_of, subcommand_rows_of, with_rule, HasKind};
-ghost use Rattle.mx_cli.specs.Words.{line_with, mx_start, plan_rule, texts_of, AddsArgMade, AddsBothMade, HasNoGlobals, IsCommand, IsReadable};
+ghost use Rattle.std.specs.Prelude.{◌≡◌, IfOk};
+ghost use Rattle.clap.specs.Words.{App, app_of, new_app, with_rule};
+ghost use Rattle.mx_cli.specs.Words.{Finds, line_with, mx_start, plan_rule, texts_of, AddsArgMade, AddsBothMade, HasNoGlobals, IsCommand, IsReadable};
 
 use crate::arguments::plan_arg;
 use crate::help;
@@ -79,10 +79,7 @@ pub fn bare_command<'a>(
 /// help or for the version come as such a fault too, with the text to show.
 pub fn matches_in<'a>(line: Command<'a>, words: &'a [&'a str]) -> Result<ArgMatches<'a>, Error>
     requires { IsReadable (app_of line) }
-    ensures read { IfOk result (λ _. fault_of (app_of line.entry) (texts_of words.entry.now) ≡ []) }
-    ensures found { IfOk result (λ matches.
-        subcommand_rows_of matches ≡ subcommand_of (app_of line.entry) (texts_of words.entry.now)) }
-    ensures err { IfErr result (HasKind (fault_of (app_of line.entry) (texts_of words.entry.now))) }
+    ensures { (app : App) → app_of line.entry ≡ app → Finds app (texts_of words.entry.now) result }
 {
     line.try_get_matches_from(words)
 }

@@ -1,8 +1,8 @@
 //! The words of `live`, which are read apart from those of the other commands.
 
-ghost use Rattle.std.specs.Prelude.{◌≡◌, [], IfOk, IfErr, option_map};
-ghost use Rattle.clap.specs.Words.{app_of, fault_of, found_of, rows_of, subcommand_of, subcommand_rows_of, HasKind};
-ghost use Rattle.mx_cli.specs.Words.{IsArgument, IsCommand, texts_of};
+ghost use Rattle.std.specs.Prelude.{◌≡◌, IfOk, option_map};
+ghost use Rattle.clap.specs.Words.{found_of, rows_of, subcommand_rows_of};
+ghost use Rattle.mx_cli.specs.Words.{Asks, IsArgument, IsCommand, IsLine, texts_of};
 ghost use Rattle.mx_cli.specs.LiveWords.{live_app, live_in, live_line, request_asked, request_in, request_of, progress_rule, sections_rule, settle_in, settle_rule, turns_rule};
 
 use crate::about::ABOUT_LIVE;
@@ -70,27 +70,16 @@ fn live_command<'a>(alloc: Global) -> Result<Command<'a>, AllocError>
 /// What the words, of which `live` is the first, ask for. Their faults are those of `clap`, and words
 /// that ask for help come as such a fault too, with the text to show.
 pub fn asked_live<'a>(alloc: Global, words: &'a [&'a str]) -> Result<Option<LiveRequest<'a>>, Error>
-    ensures read { IfOk result (λ _. fault_of live_line (texts_of words.entry.now) ≡ []) }
-    ensures ok { IfOk result (λ request.
-        option_map request_of request ≡ request_asked (texts_of words.entry.now)) }
-    ensures err { IfErr result (HasKind (fault_of live_line (texts_of words.entry.now))) }
+    ensures { Asks request_of live_line (texts_of words.entry.now)
+        (request_asked (texts_of words.entry.now)) result }
 {
-    Ok(request_in(&live_matches(alloc, words)?))
-}
-
-/// What is found in the words.
-fn live_matches<'a>(alloc: Global, words: &'a [&'a str]) -> Result<ArgMatches<'a>, Error>
-    ensures read { IfOk result (λ _. fault_of live_line (texts_of words.entry.now) ≡ []) }
-    ensures found { IfOk result (λ matches.
-        subcommand_rows_of matches ≡ subcommand_of live_line (texts_of words.entry.now)) }
-    ensures err { IfErr result (HasKind (fault_of live_line (texts_of words.entry.now))) }
-{
-    matches_in(live_command_line(alloc)?, words)
+    let matches = matches_in(live_command_line(alloc)?, words)?;
+    Ok(request_in(&matches))
 }
 
 /// The command line of `mx` with `live` alone.
 fn live_command_line<'a>(alloc: Global) -> Result<Command<'a>, AllocError>
-    ensures { IfOk result (λ line. app_of line ≡ live_line) }
+    ensures { IfOk result (IsLine live_line) }
 {
     line_of(alloc, live_command(alloc)?)
 }

@@ -3,10 +3,10 @@
 ghost use Rattle.std.specs.Prelude.{◌≡◌, ◌⊎◌, List, true, false, IfSome, IfErr, OnOk, OnErr};
 ghost use Rattle.std.specs.Io.KnownBytes.{Appends, Keeps};
 ghost use Rattle.clap.specs.Words.{App, HasKind, Text, fault_of, kind_of};
-ghost use Rattle.mx_cli.specs.Words.{AreWrong, AskHelp, names_of};
+ghost use Rattle.mx_cli.specs.Words.{names_of};
 ghost use Rattle.mx_io.specs.Outputs.{refused_by};
 ghost use Rattle.mx_cli.specs.FaultLines.{fault_line};
-ghost use Rattle.mx_cli.specs.Told.{MayTell, Helps, Scolds, TellsFault, seen};
+ghost use Rattle.mx_cli.specs.Told.{Answers, Helps, MayTell, RunsOut, TellsFault, seen};
 
 use crate::fault_lines::FaultLine;
 use crate::faults::Fault;
@@ -20,19 +20,11 @@ use std::fmt::Display;
 /// Writes the help that the words of a command line ask for, or why they are refused, and returns the
 /// status.
 pub fn refuse<O: Output, E: Output>(alloc: Global, e: &clap::Error, out: &mut O, err: &mut E) -> u8
-    ensures memory { kind_of e.now ≡ ErrorKind.OutOfMemory → (result ≡ 5)
-        × Keeps (O.written out.old) (O.written out.new) × MayTell (E.written err.old) (E.written err.new)
-        × (O.has_refused out.new ≡ O.has_refused out.old) }
-    ensures help { (line : App) (words : List Text) → HasKind (fault_of line words) e.now
-        → AskHelp line words → Helps (O.takes_all out.old)
-        (seen (O.written out.old) (E.written err.old) (O.has_refused out.old) (O.keeps_back out.old))
-        (seen (O.written out.new) (E.written err.new) (O.has_refused out.new) (O.keeps_back out.new))
-        result }
-    ensures wrong { (line : App) (words : List Text) → HasKind (fault_of line words) e.now
-        → AreWrong line words → Scolds
-        (seen (O.written out.old) (E.written err.old) (O.has_refused out.old) (O.keeps_back out.old))
-        (seen (O.written out.new) (E.written err.new) (O.has_refused out.new) (O.keeps_back out.new))
-        result }
+    ensures memory { kind_of e.now ≡ ErrorKind.OutOfMemory → RunsOut
+        (seen O.Output E.Output out.old err.old) (seen O.Output E.Output out.new err.new) result }
+    ensures answers { (line : App) (words : List Text) → HasKind (fault_of line words) e.now
+        → Answers line words (O.takes_all out.old)
+        (seen O.Output E.Output out.old err.old) (seen O.Output E.Output out.new err.new) result }
 {
     match e.kind() {
         ErrorKind::OutOfMemory => tell_memory(err),
@@ -78,9 +70,7 @@ pub fn tell_memory<E: Output>(err: &mut E) -> u8
 /// Writes the help, or the version, that was asked for.
 fn show<O: Output, E: Output>(alloc: Global, e: &clap::Error, out: &mut O, err: &mut E) -> u8
     ensures { Helps (O.takes_all out.old)
-        (seen (O.written out.old) (E.written err.old) (O.has_refused out.old) (O.keeps_back out.old))
-        (seen (O.written out.new) (E.written err.new) (O.has_refused out.new) (O.keeps_back out.new))
-        result }
+        (seen O.Output E.Output out.old err.old) (seen O.Output E.Output out.new err.new) result }
 {
     match put_and_flush(alloc, out, e) {
         Ok(()) => 0,

@@ -1,10 +1,10 @@
 //! The command line.
 
-ghost use Rattle.std.specs.Prelude.{◌≡◌, [], Some, IfOk, IfErr, option_map};
-ghost use Rattle.clap.specs.Words.{App, app_of, fault_of, first_of, found_of, rows_of, subcommand_of, subcommand_rows_of, HasKind};
+ghost use Rattle.std.specs.Prelude.{◌≡◌, Some, IfOk, option_map};
+ghost use Rattle.clap.specs.Words.{App, app_of, first_of, found_of, rows_of, subcommand_rows_of};
 ghost use Rattle.mx_cli.specs.Words.{IsCommand, check_app, explore_app, mx_app, mx_start, replay_app, with_listed, with_others, with_read};
 ghost use Rattle.mx_cli.specs.Words.{check_in, exploration_at, explore_in, explored, is_given, is_view, names_at, names_of, number_at, replay_in};
-ghost use Rattle.mx_cli.specs.Words.{request_asked, request_in, request_of, texts_of};
+ghost use Rattle.mx_cli.specs.Words.{Asks, IsLine, request_asked, request_in, request_of, texts_of};
 
 use crate::about::{
     ABOUT_COUNT, ABOUT_DRAW, ABOUT_EXPLAIN, ABOUT_LIVE, ABOUT_PICTURE, ABOUT_SCRIPT,
@@ -85,7 +85,7 @@ pub fn explore_command<'a>(alloc: Global) -> Result<Command<'a>, AllocError>
 
 /// The whole command line.
 fn mx_command<'a>(alloc: Global) -> Result<Command<'a>, AllocError>
-    ensures { IfOk result (λ command. app_of command ≡ mx_app) }
+    ensures { IfOk result (IsLine mx_app) }
 {
     with_others(alloc, read_command(alloc))
 }
@@ -139,22 +139,11 @@ fn mx_line<'a>(alloc: Global) -> Result<Command<'a>, AllocError>
 /// What the words ask for. Their faults are those of `clap`, and words that ask for help or for the
 /// version come as such a fault too, with the text to show.
 pub fn asked<'a>(alloc: Global, words: &'a [&'a str]) -> Result<Option<Request<'a>>, Error>
-    ensures read { IfOk result (λ _. fault_of mx_app (texts_of words.entry.now) ≡ []) }
-    ensures ok { IfOk result (λ request.
-        option_map request_of request ≡ request_asked (texts_of words.entry.now)) }
-    ensures err { IfErr result (HasKind (fault_of mx_app (texts_of words.entry.now))) }
+    ensures { Asks request_of mx_app (texts_of words.entry.now)
+        (request_asked (texts_of words.entry.now)) result }
 {
-    Ok(request_in(&mx_matches(alloc, words)?))
-}
-
-/// What is found in the words.
-fn mx_matches<'a>(alloc: Global, words: &'a [&'a str]) -> Result<ArgMatches<'a>, Error>
-    ensures read { IfOk result (λ _. fault_of mx_app (texts_of words.entry.now) ≡ []) }
-    ensures found { IfOk result (λ matches.
-        subcommand_rows_of matches ≡ subcommand_of mx_app (texts_of words.entry.now)) }
-    ensures err { IfErr result (HasKind (fault_of mx_app (texts_of words.entry.now))) }
-{
-    matches_in(mx_command(alloc)?, words)
+    let matches = matches_in(mx_command(alloc)?, words)?;
+    Ok(request_in(&matches))
 }
 
 fn request_in<'a>(matches: &ArgMatches<'a>) -> Option<Request<'a>>

@@ -18,7 +18,7 @@ use Rattle.mx_commands.specs.Runs.{Report}
 use Rattle.mx_commands.specs.Jobs.{HoldsOfReport, Job, job_of, names_in}
 use Rattle.mx_cli.specs.Closed.{IsRunStatus}
 use Rattle.mx_commands.specs.Ran.{EndsEarly, FailsAtOnce, Prints, Ran, RanOf, Runs, end_text, status_of}
-use Rattle.mx_cli.specs.Told.{MayTell, Seen, TellsFault}
+use Rattle.mx_cli.specs.Told.{MayTell, RunsOut, Seen, TellsFault}
 use Rattle.mx_commands.proofs.JobLemmas.{of_jobs}
 use Rattle.mx_cli.proofs.OutputLemmas.{Appends-keeps, Appends-nil, Keeps-refl, all_some, keeps_on, some_keeps}
 use Rattle.mx_commands.proofs.RunLemmas.{is_false, refused_not_memory}
@@ -156,5 +156,5 @@ at_once takes request old new status (Some job) h = inl h
 
 -- where memory ran out, a command may have ended so
 pub short_runs : (takes : Bool) (told : Text → Option Telling) (request : Request) (old new : Seen) (status : ℕ)
-    → (status ≡ 5) × Keeps old.out new.out × MayTell old.err new.err × (new.refused ≡ old.refused) → Runs takes told request old new status
+    → RunsOut old new status → Runs takes told request old new status
 short_runs takes told request old new status m = at_once takes request old new status (job_of told request) (m.1, inl (m.0, m.2, m.3))

@@ -1,12 +1,12 @@
 //! The command: from words, named bytes and two outputs to a status.
 
 ghost use Rattle.std.specs.Prelude.{◌≡◌, ◌&&◌, Err, IsSome, IfSome, IfOk};
-ghost use Rattle.mx_cli.specs.Words.{texts_of, names_of, request_asked, request_of, AreWrong, AskHelp, AskNothing, mx_app};
+ghost use Rattle.mx_cli.specs.Words.{texts_of, names_of, request_asked, request_of, AskNothing, mx_app};
 ghost use Rattle.mx_cli.specs.Outputs.{IsPassedOn, refused_after};
 ghost use Rattle.mx_commands.specs.Jobs.{names_in};
 ghost use Rattle.mx_cli.specs.Closed.{IsRunStatus};
 ghost use Rattle.mx_commands.specs.Ran.{RanOf, Runs};
-ghost use Rattle.mx_cli.specs.Told.{Declines, Helps, Scolds, seen};
+ghost use Rattle.mx_cli.specs.Told.{Answers, Declines, seen};
 
 use crate::checking::{check, check_asks};
 use crate::exploring::explore;
@@ -28,22 +28,12 @@ pub fn command<S: Source, O: Output, E: Output>(
 ) -> u8
     ensures runs { IfSome (request_asked (texts_of words.entry.now)) (λ request.
         Runs (O.takes_all out.old && E.takes_all err.old) (S.told source.old) request
-        (seen (O.written out.old) (E.written err.old) (O.has_refused out.old) (O.keeps_back out.old))
-        (seen (O.written out.new) (E.written err.new) (O.has_refused out.new) (O.keeps_back out.new))
-        result) }
+        (seen O.Output E.Output out.old err.old) (seen O.Output E.Output out.new err.new) result) }
     ensures status { IsSome (request_asked (texts_of words.entry.now)) → IsRunStatus result }
-    ensures help { AskHelp mx_app (texts_of words.entry.now) → Helps (O.takes_all out.old)
-        (seen (O.written out.old) (E.written err.old) (O.has_refused out.old) (O.keeps_back out.old))
-        (seen (O.written out.new) (E.written err.new) (O.has_refused out.new) (O.keeps_back out.new))
-        result }
-    ensures wrong { AreWrong mx_app (texts_of words.entry.now) → Scolds
-        (seen (O.written out.old) (E.written err.old) (O.has_refused out.old) (O.keeps_back out.old))
-        (seen (O.written out.new) (E.written err.new) (O.has_refused out.new) (O.keeps_back out.new))
-        result }
+    ensures answers { Answers mx_app (texts_of words.entry.now) (O.takes_all out.old)
+        (seen O.Output E.Output out.old err.old) (seen O.Output E.Output out.new err.new) result }
     ensures other { AskNothing (texts_of words.entry.now) → Declines
-        (seen (O.written out.old) (E.written err.old) (O.has_refused out.old) (O.keeps_back out.old))
-        (seen (O.written out.new) (E.written err.new) (O.has_refused out.new) (O.keeps_back out.new))
-        result }
+        (seen O.Output E.Output out.old err.old) (seen O.Output E.Output out.new err.new) result }
 {
     match asked(alloc, words) {
         Ok(Some(request)) => run_request(alloc, &request, source, out, err),
@@ -61,9 +51,7 @@ fn run_request<S: Source, O: Output, E: Output>(
 ) -> u8
     ensures runs { Runs (O.takes_all out.old && E.takes_all err.old)
         (S.told source.old) (request_of request.now)
-        (seen (O.written out.old) (E.written err.old) (O.has_refused out.old) (O.keeps_back out.old))
-        (seen (O.written out.new) (E.written err.new) (O.has_refused out.new) (O.keeps_back out.new))
-        result }
+        (seen O.Output E.Output out.old err.old) (seen O.Output E.Output out.new err.new) result }
     ensures status { IsRunStatus result }
 {
     match carry_out_and_flush(alloc, request, source, out) {

@@ -1,8 +1,8 @@
 //! `count`: from words, named bytes and two outputs to a status.
 
 ghost use Rattle.std.specs.Prelude.{◌≡◌, IsSome, IfSome, IfOk};
-ghost use Rattle.mx_cli.specs.Words.{names_of, texts_of, AreWrong, AskHelp};
-ghost use Rattle.mx_cli.specs.Told.{Helps, Scolds, seen};
+ghost use Rattle.mx_cli.specs.Words.{names_of, texts_of};
+ghost use Rattle.mx_cli.specs.Told.{Answers, seen};
 ghost use Rattle.mx_cli.specs.Closed.{IsRunStatus};
 ghost use Rattle.mx_count.specs.CountWords.{request_asked, request_of, count_line};
 ghost use Rattle.mx_count.specs.CountWords as wants;
@@ -29,18 +29,8 @@ pub fn count<S: Source, O: Output, E: Output>(
         result ≡ 0
         → PrintsCounts (S.told source.old) request (O.written out.old) (O.written out.new)) }
     ensures status { IsSome (request_asked (texts_of words.entry.now)) → IsRunStatus result }
-    ensures help { AskHelp count_line (texts_of words.entry.now) → Helps (O.takes_all out.old)
-        (seen (O.written out.old) (E.written err.old) (O.has_refused out.old)
-        (O.keeps_back out.old))
-        (seen (O.written out.new) (E.written err.new) (O.has_refused out.new)
-        (O.keeps_back out.new))
-        result }
-    ensures wrong { AreWrong count_line (texts_of words.entry.now) → Scolds
-        (seen (O.written out.old) (E.written err.old) (O.has_refused out.old)
-        (O.keeps_back out.old))
-        (seen (O.written out.new) (E.written err.new) (O.has_refused out.new)
-        (O.keeps_back out.new))
-        result }
+    ensures answers { Answers count_line (texts_of words.entry.now) (O.takes_all out.old)
+        (seen O.Output E.Output out.old err.old) (seen O.Output E.Output out.new err.new) result }
 {
     match asked(alloc, words) {
         Ok(Some(request)) => count_and_close(alloc, &request, source, out, err),

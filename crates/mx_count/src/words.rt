@@ -1,8 +1,8 @@
 //! The words of `count`, and those of `explore` with `--count`.
 
-ghost use Rattle.std.specs.Prelude.{◌≡◌, [], IfOk, IfErr, option_map};
-ghost use Rattle.clap.specs.Words.{app_of, fault_of, found_of, rows_of, subcommand_of, subcommand_rows_of, HasKind};
-ghost use Rattle.mx_cli.specs.Words.{IsCommand, line_with, texts_of};
+ghost use Rattle.std.specs.Prelude.{◌≡◌, IfOk, option_map};
+ghost use Rattle.clap.specs.Words.{app_of, found_of, rows_of, subcommand_rows_of};
+ghost use Rattle.mx_cli.specs.Words.{Asks, IsCommand, IsLine, line_with, texts_of};
 ghost use Rattle.mx_count.specs.CountWords.{count_app, count_line, drawn_in, given_in, request_asked, request_in, request_of};
 
 use crate::help;
@@ -45,7 +45,7 @@ fn count_command<'a>(alloc: Global) -> Result<Command<'a>, AllocError>
 
 /// The commands that are read.
 fn count_line<'a>(alloc: Global) -> Result<Command<'a>, AllocError>
-    ensures { IfOk result (λ command. app_of command ≡ count_line) }
+    ensures { IfOk result (IsLine count_line) }
 {
     counted_line(alloc)?.subcommand(explore_command(alloc)?)
 }
@@ -60,23 +60,11 @@ fn counted_line<'a>(alloc: Global) -> Result<Command<'a>, AllocError>
 /// What the words ask to count. Their faults are those of `clap`, and words that ask for help come as
 /// such a fault too, with the text to show.
 pub(crate) fn asked<'a>(alloc: Global, words: &'a [&'a str]) -> Result<Option<Request<'a>>, Error>
-    ensures read { IfOk result (λ _. fault_of count_line (texts_of words.entry.now) ≡ []) }
-    ensures ok { IfOk result (λ request.
-        option_map request_of request ≡ request_asked (texts_of words.entry.now)) }
-    ensures err { IfErr result (HasKind (fault_of count_line (texts_of words.entry.now))) }
+    ensures { Asks request_of count_line (texts_of words.entry.now)
+        (request_asked (texts_of words.entry.now)) result }
 {
-    let matches = matches_of(alloc, words)?;
+    let matches = matches_in(count_line(alloc)?, words)?;
     Ok(request_in(&matches))
-}
-
-/// What is found in the words.
-fn matches_of<'a>(alloc: Global, words: &'a [&'a str]) -> Result<ArgMatches<'a>, Error>
-    ensures read { IfOk result (λ _. fault_of count_line (texts_of words.entry.now) ≡ []) }
-    ensures found { IfOk result (λ matches.
-        subcommand_rows_of matches ≡ subcommand_of count_line (texts_of words.entry.now)) }
-    ensures err { IfErr result (HasKind (fault_of count_line (texts_of words.entry.now))) }
-{
-    matches_in(count_line(alloc)?, words)
 }
 
 fn request_in<'a>(matches: &ArgMatches<'a>) -> Option<Request<'a>>

@@ -1,8 +1,7 @@
 -- What the words of `explain` ask for, as `clap` reads them: a check or a replay that is to be explained.
-use Rattle.std.specs.Prelude.{List, Option, Some, None, codes, if◌then◌else◌, option_map}
-use Rattle.std.specs.Str.{bytes_eq}
+use Rattle.std.specs.Prelude.{List, Option, Some, None, codes, option_map}
 use Rattle.clap.specs.Words.{App, Row, Rule, Text, first_of, new_app, new_rule, with_rule}
-use Rattle.mx_cli.specs.Words.{Request, asked_of, check, line_with, plan_rule, replay}
+use Rattle.mx_cli.specs.Words.{Request, asked_of, by_name, check, line_with, plan_rule, replay}
 
 -- `[EVENTS]`
 abbrev pub events_rule : Rule
@@ -28,8 +27,7 @@ explain_in rows =
     (first_of (codes "PLAN") rows)
 
 abbrev pub request_in : Option (Text × List Row) → Option Request
-request_in None = None
-request_in (Some p) = if bytes_eq p.0 (codes "explain") then explain_in p.1 else None
+request_in met = by_name (codes "explain") explain_in met
 
 -- what the words ask for, where they are `explain` with its arguments
 unfoldable pub request_asked : List Text → Option Request

@@ -1,8 +1,8 @@
 //! The words of `explain`, which are read apart from those of the other commands.
 
-ghost use Rattle.std.specs.Prelude.{◌≡◌, [], IfOk, IfErr, option_map};
-ghost use Rattle.clap.specs.Words.{app_of, fault_of, found_of, rows_of, subcommand_rows_of, HasKind};
-ghost use Rattle.mx_cli.specs.Words.{IsArgument, IsCommand, request_of, texts_of};
+ghost use Rattle.std.specs.Prelude.{◌≡◌, IfOk, option_map};
+ghost use Rattle.clap.specs.Words.{found_of, rows_of, subcommand_rows_of};
+ghost use Rattle.mx_cli.specs.Words.{Asks, IsArgument, IsCommand, IsLine, request_of, texts_of};
 ghost use Rattle.mx_explain.specs.Asked.{events_rule, explain_app, explain_in, explain_line, request_asked, request_in};
 
 use crate::help;
@@ -24,15 +24,19 @@ fn explain_command<'a>(alloc: Global) -> Result<Command<'a>, AllocError>
     with_plan.arg(events_arg(alloc))
 }
 
+/// The command line that is read.
+fn explain_line<'a>(alloc: Global) -> Result<Command<'a>, AllocError>
+    ensures { IfOk result (IsLine explain_line) }
+{
+    line_of(alloc, explain_command(alloc)?)
+}
+
 /// The check or the replay that the words, of which `explain` is the first, ask to have explained.
 pub(crate) fn asked<'a>(alloc: Global, words: &'a [&'a str]) -> Result<Option<Request<'a>>, Error>
-    ensures read { IfOk result (λ _. fault_of explain_line (texts_of words.entry.now) ≡ []) }
-    ensures ok { IfOk result (λ request.
-        option_map request_of request ≡ request_asked (texts_of words.entry.now)) }
-    ensures err { IfErr result (HasKind (fault_of explain_line (texts_of words.entry.now))) }
+    ensures { Asks request_of explain_line (texts_of words.entry.now)
+        (request_asked (texts_of words.entry.now)) result }
 {
-    let line = line_of(alloc, explain_command(alloc)?)?;
-    let matches = matches_in(line, words)?;
+    let matches = matches_in(explain_line(alloc)?, words)?;
     Ok(request_in(&matches))
 }
 

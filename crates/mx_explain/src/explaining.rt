@@ -1,8 +1,8 @@
 //! `explain`: from words, named bytes and two outputs to a status.
 
 ghost use Rattle.std.specs.Prelude.{◌≡◌, ◌&&◌, IsSome, IfSome, IfOk, IfErr, None, true, false};
-ghost use Rattle.mx_cli.specs.Words.{AreWrong, AskHelp, request_of, texts_of};
-ghost use Rattle.mx_cli.specs.Told.{Helps, Scolds, seen};
+ghost use Rattle.mx_cli.specs.Words.{request_of, texts_of};
+ghost use Rattle.mx_cli.specs.Told.{Answers, seen};
 ghost use Rattle.mx_cli.specs.Closed.{IsRunStatus};
 ghost use Rattle.mx_commands.specs.Ran.{RanOf};
 ghost use Rattle.mx_explain.specs.Asked.{explain_line, request_asked};
@@ -49,18 +49,8 @@ pub fn explain<S: Source + Reasons, O: Output, E: Output>(
         Explains (O.takes_all out.old && E.takes_all err.old) (S.told source.old) request
         (E.written err.old) (E.written err.new) result) }
     ensures status { IsSome (request_asked (texts_of words.entry.now)) → IsRunStatus result }
-    ensures help { AskHelp explain_line (texts_of words.entry.now) → Helps (O.takes_all out.old)
-        (seen (O.written out.old) (E.written err.old)
-        (O.has_refused out.old) (O.keeps_back out.old))
-        (seen (O.written out.new) (E.written err.new)
-        (O.has_refused out.new) (O.keeps_back out.new))
-        result }
-    ensures wrong { AreWrong explain_line (texts_of words.entry.now) → Scolds
-        (seen (O.written out.old) (E.written err.old)
-        (O.has_refused out.old) (O.keeps_back out.old))
-        (seen (O.written out.new) (E.written err.new)
-        (O.has_refused out.new) (O.keeps_back out.new))
-        result }
+    ensures answers { Answers explain_line (texts_of words.entry.now) (O.takes_all out.old)
+        (seen O.Output E.Output out.old err.old) (seen O.Output E.Output out.new err.new) result }
 {
     match asked(alloc, words) {
         Ok(Some(request)) => explain_request(alloc, &request, source, out, err),

@@ -2,9 +2,9 @@
 
 ghost use Rattle.std.specs.Prelude.{◌≡◌, Option, false, length, IfErr, IfSome, OnOk};
 ghost use Rattle.std.specs.Io.KnownBytes.{Appends};
-ghost use Rattle.mx_cli.specs.Words.{texts_of, AreWrong, AskHelp};
+ghost use Rattle.mx_cli.specs.Words.{texts_of};
 ghost use Rattle.mx_cli.specs.LiveWords.{request_asked, request_of, live_line};
-ghost use Rattle.mx_cli.specs.Told.{Declines, Helps, Scolds, seen};
+ghost use Rattle.mx_cli.specs.Told.{Answers, Declines, seen};
 ghost use Rattle.mx_io.specs.Told.{Telling};
 ghost use Rattle.mx_live.specs.Halts.{Fails};
 ghost use Rattle.mx_live.specs.Shown.{live_text};
@@ -38,24 +38,10 @@ pub fn live<R: Threads + Clock, S: Source, O: Output, E: Output>(
     ensures lives { IfSome (request_asked (texts_of words.entry.now)) (λ request.
         Lives (O.takes_all out.old) (S.told source.old request.plan) request
         (O.written out.old) (O.written out.new) (O.keeps_back out.new) result) }
-    ensures help { AskHelp live_line (texts_of words.entry.now) → Helps (O.takes_all out.old)
-        (seen (O.written out.old) (E.written err.old)
-        (O.has_refused out.old) (O.keeps_back out.old))
-        (seen (O.written out.new) (E.written err.new)
-        (O.has_refused out.new) (O.keeps_back out.new))
-        result }
-    ensures wrong { AreWrong live_line (texts_of words.entry.now) → Scolds
-        (seen (O.written out.old) (E.written err.old)
-        (O.has_refused out.old) (O.keeps_back out.old))
-        (seen (O.written out.new) (E.written err.new)
-        (O.has_refused out.new) (O.keeps_back out.new))
-        result }
+    ensures answers { Answers live_line (texts_of words.entry.now) (O.takes_all out.old)
+        (seen O.Output E.Output out.old err.old) (seen O.Output E.Output out.new err.new) result }
     ensures other { AskNothing (texts_of words.entry.now) → Declines
-        (seen (O.written out.old) (E.written err.old)
-        (O.has_refused out.old) (O.keeps_back out.old))
-        (seen (O.written out.new) (E.written err.new)
-        (O.has_refused out.new) (O.keeps_back out.new))
-        result }
+        (seen O.Output E.Output out.old err.old) (seen O.Output E.Output out.new err.new) result }
 {
     match asked_live(alloc, words) {
         Ok(Some(request)) => run_live(rt, alloc, &request, source, out, err),

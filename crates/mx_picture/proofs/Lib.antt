@@ -1,5 +1,4 @@
 mod EndLemmas
 mod SheetLemmas
-mod PictureWordLemmas
 mod RefusedLemmas
 mod KeptLemmas

@@ -1,10 +1,9 @@
 -- Words of a picture that were refused.
 use Rattle.std.proofs.Common.{◌≡◌, inl, ℕ, Bool, Option, Some, None, Err, IfSome}
-use Rattle.std.specs.Io.KnownBytes.{Keeps}
 use Rattle.mx_plan.specs.Text.{Text}
 use Rattle.mx_cli.specs.Words as wants
 use Rattle.mx_cli.specs.declared.faults.Stop.TheVariants as stop
-use Rattle.mx_cli.specs.Told.{MayTell, Seen}
+use Rattle.mx_cli.specs.Told.{RunsOut, Seen}
 use Rattle.mx_cli.proofs.ClosedLemmas.{not_five}
 use Rattle.mx_commands.specs.Jobs.{Job, job_of}
 use Rattle.mx_commands.specs.Ran.{RanOf, RanOn}
@@ -21,6 +20,6 @@ at_once : (t : Bool) (told : Text → Option Telling) (request : Request) → En
 at_once t told request = inl (of_job t (job_of told (wants.replay request.names)))
 
 pub short_pictures : (t u : Bool) (told : Text → Option Telling) (request : Request) (old new : Seen) (status : ℕ)
-    → (status ≡ 5) × Keeps old.out new.out × MayTell old.err new.err × (new.refused ≡ old.refused) → Pictures t u told request old new status
+    → RunsOut old new status → Pictures t u told request old new status
 short_pictures t u told request old new status m =
     (Err stop.Memory, at_once t told request, m.1, inl (m.0, m.2), λ zero. absurd (not_five status m.0 zero))

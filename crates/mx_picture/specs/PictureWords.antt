@@ -1,8 +1,7 @@
 -- What the words of `picture` ask for, as `clap` reads them.
-use Rattle.std.specs.Prelude.{ℕ, Bool, List, Option, Some, None, codes, if◌then◌else◌, option_map, unwrap_or}
-use Rattle.std.specs.Str.{bytes_eq}
+use Rattle.std.specs.Prelude.{ℕ, Bool, List, Option, codes, option_map, unwrap_or}
 use Rattle.clap.specs.Words.{App, Row, Rule, Text, first_of, new_app, with_rule}
-use Rattle.mx_cli.specs.Words.{asked_of, events_rule, flag_rule, is_given, line_with, names_at, names_of, node_rule, number_at, number_rule, plan_rule}
+use Rattle.mx_cli.specs.Words.{asked_of, by_name, events_rule, flag_rule, is_given, line_with, names_at, names_of, node_rule, number_at, number_rule, plan_rule}
 use Rattle.mx_picture.specs.declared.words.Request.{Request as Told}
 
 -- `--from K`, a number of 64 bits
@@ -56,8 +55,7 @@ abbrev pub picture_in : List Row → Option Request
 picture_in rows = option_map (part_of rows) (names_at rows)
 
 abbrev pub request_in : Option (Text × List Row) → Option Request
-request_in None = None
-request_in (Some p) = if bytes_eq p.0 (codes "picture") then picture_in p.1 else None
+request_in met = by_name (codes "picture") picture_in met
 
 -- what the words ask for, where they are `picture` with its arguments
 unfoldable pub request_asked : List Text → Option Request

@@ -1,8 +1,8 @@
 //! The command: from words, named bytes and two outputs to a status.
 
 ghost use Rattle.std.specs.Prelude.{IfSome};
-ghost use Rattle.mx_cli.specs.Words.{texts_of, AreWrong, AskHelp};
-ghost use Rattle.mx_cli.specs.Told.{Helps, Scolds, seen};
+ghost use Rattle.mx_cli.specs.Words.{texts_of};
+ghost use Rattle.mx_cli.specs.Told.{Answers, seen};
 ghost use Rattle.mx_picture.specs.PictureWords.{request_asked, request_of, picture_line};
 ghost use Rattle.mx_picture.specs.Pictures.{Pictures};
 
@@ -25,23 +25,9 @@ pub fn picture<S: Source, O: Output, E: Output>(
 ) -> u8
     ensures pictures { IfSome (request_asked (texts_of words.entry.now)) (λ request.
         Pictures (O.takes_all out.old) (E.takes_all err.old) (S.told source.old) request
-        (seen (O.written out.old) (E.written err.old) (O.has_refused out.old)
-        (O.keeps_back out.old))
-        (seen (O.written out.new) (E.written err.new) (O.has_refused out.new)
-        (O.keeps_back out.new))
-        result) }
-    ensures help { AskHelp picture_line (texts_of words.entry.now) → Helps (O.takes_all out.old)
-        (seen (O.written out.old) (E.written err.old) (O.has_refused out.old)
-        (O.keeps_back out.old))
-        (seen (O.written out.new) (E.written err.new) (O.has_refused out.new)
-        (O.keeps_back out.new))
-        result }
-    ensures wrong { AreWrong picture_line (texts_of words.entry.now) → Scolds
-        (seen (O.written out.old) (E.written err.old) (O.has_refused out.old)
-        (O.keeps_back out.old))
-        (seen (O.written out.new) (E.written err.new) (O.has_refused out.new)
-        (O.keeps_back out.new))
-        result }
+        (seen O.Output E.Output out.old err.old) (seen O.Output E.Output out.new err.new) result) }
+    ensures answers { Answers picture_line (texts_of words.entry.now) (O.takes_all out.old)
+        (seen O.Output E.Output out.old err.old) (seen O.Output E.Output out.new err.new) result }
 {
     match asked(alloc, words) {
         Ok(Some(request)) => run_picture(alloc, &request, source, out, err),
@@ -59,11 +45,7 @@ fn run_picture<S: Source, O: Output, E: Output>(
 ) -> u8
     ensures { Pictures (O.takes_all out.old) (E.takes_all err.old) (S.told source.old)
         (request_of request.now)
-        (seen (O.written out.old) (E.written err.old) (O.has_refused out.old)
-        (O.keeps_back out.old))
-        (seen (O.written out.new) (E.written err.new) (O.has_refused out.new)
-        (O.keeps_back out.new))
-        result }
+        (seen O.Output E.Output out.old err.old) (seen O.Output E.Output out.new err.new) result }
 {
     let ended = draw(alloc, request, source, out);
     close(alloc, ended, &request.names, out, err)

@@ -1,8 +1,8 @@
 //! The words of `picture`.
 
-ghost use Rattle.std.specs.Prelude.{◌≡◌, [], IfOk, IfErr, option_map};
-ghost use Rattle.clap.specs.Words.{app_of, fault_of, found_of, rows_of, subcommand_of, subcommand_rows_of, HasKind};
-ghost use Rattle.mx_cli.specs.Words.{IsCommand, texts_of};
+ghost use Rattle.std.specs.Prelude.{◌≡◌, IfOk, option_map};
+ghost use Rattle.clap.specs.Words.{found_of, rows_of, subcommand_rows_of};
+ghost use Rattle.mx_cli.specs.Words.{Asks, IsCommand, IsLine, texts_of};
 ghost use Rattle.mx_picture.specs.PictureWords.{picture_app, picture_in, picture_line, request_asked, request_in, request_of};
 
 use crate::help;
@@ -39,28 +39,16 @@ fn picture_command<'a>(alloc: Global) -> Result<Command<'a>, AllocError>
 /// What picture the words, of which `picture` is the first, ask for. Their faults are those of `clap`, and
 /// words that ask for help come as such a fault too, with the text to show.
 pub(crate) fn asked<'a>(alloc: Global, words: &'a [&'a str]) -> Result<Option<Request<'a>>, Error>
-    ensures read { IfOk result (λ _. fault_of picture_line (texts_of words.entry.now) ≡ []) }
-    ensures ok { IfOk result (λ request.
-        option_map request_of request ≡ request_asked (texts_of words.entry.now)) }
-    ensures err { IfErr result (HasKind (fault_of picture_line (texts_of words.entry.now))) }
+    ensures { Asks request_of picture_line (texts_of words.entry.now)
+        (request_asked (texts_of words.entry.now)) result }
 {
-    let matches = matches_of(alloc, words)?;
+    let matches = matches_in(picture_line(alloc)?, words)?;
     Ok(request_in(&matches))
-}
-
-/// What is found in the words.
-fn matches_of<'a>(alloc: Global, words: &'a [&'a str]) -> Result<ArgMatches<'a>, Error>
-    ensures read { IfOk result (λ _. fault_of picture_line (texts_of words.entry.now) ≡ []) }
-    ensures found { IfOk result (λ matches.
-        subcommand_rows_of matches ≡ subcommand_of picture_line (texts_of words.entry.now)) }
-    ensures err { IfErr result (HasKind (fault_of picture_line (texts_of words.entry.now))) }
-{
-    matches_in(picture_line(alloc)?, words)
 }
 
 /// The commands that are read.
 fn picture_line<'a>(alloc: Global) -> Result<Command<'a>, AllocError>
-    ensures { IfOk result (λ command. app_of command ≡ picture_line) }
+    ensures { IfOk result (IsLine picture_line) }
 {
     line_of(alloc, picture_command(alloc)?)
 }

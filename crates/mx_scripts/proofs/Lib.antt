@@ -5,5 +5,4 @@ pub mod ItemLemmas
 pub mod ReadLemmas
 pub mod DrawnLemmas
 pub mod PrintedLemmas
-pub mod WordLemmas
 pub mod RefusedLemmas

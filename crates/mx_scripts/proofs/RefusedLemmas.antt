@@ -3,7 +3,7 @@ use Rattle.std.proofs.Common.{◌≡◌, inl, ℕ, Bool, Option, Some, None, Err
 use Rattle.std.specs.Io.KnownBytes.{Keeps}
 use Rattle.mx_plan.specs.Text.{Text}
 use Rattle.mx_cli.specs.declared.faults.Stop.TheVariants as stop
-use Rattle.mx_cli.specs.Told.{MayTell, Seen}
+use Rattle.mx_cli.specs.Told.{RunsOut, Seen}
 use Rattle.mx_commands.specs.Jobs.{Job}
 use Rattle.mx_commands.specs.Ran.{RanOn}
 use Rattle.mx_io.specs.Outputs.{Held}
@@ -17,7 +17,7 @@ at_once t a b None same = tt
 at_once t a b (Some job) same = inl (tt, same)
 
 pub short_draws : (t u : Bool) (told : Text → Option Telling) (request : Request) (old new : Seen) (status : ℕ)
-    → (status ≡ 5) × Keeps old.out new.out × MayTell old.err new.err × (new.refused ≡ old.refused) → Draws t u told request old.out new.out old.err new.err status
+    → RunsOut old new status → Draws t u told request old.out new.out old.err new.err status
 short_draws t u told (draw name seed steps) old new status m = (Err stop.Memory, at_once t old.out new.out (draw_job told name seed steps) m.1, inl (m.0, m.2))
 short_draws t u told (walk name seed steps) old new status m = tt
 short_draws t u told (script names) old new status m = tt

@@ -1,8 +1,8 @@
 //! `draw` and `script`: from words, named bytes and two outputs to a status.
 
 ghost use Rattle.std.specs.Prelude.{◌≡◌, false, IsSome, IfSome};
-ghost use Rattle.mx_cli.specs.Words.{texts_of, AreWrong, AskHelp};
-ghost use Rattle.mx_cli.specs.Told.{Helps, Scolds, seen};
+ghost use Rattle.mx_cli.specs.Words.{texts_of};
+ghost use Rattle.mx_cli.specs.Told.{Answers, seen};
 ghost use Rattle.mx_cli.specs.Closed.{IsRunStatus};
 ghost use Rattle.mx_scripts.specs.Printed.{Draws, HasDone};
 ghost use Rattle.mx_scripts.specs.Words.{request_asked, request_of, file_line};
@@ -32,18 +32,8 @@ pub fn event_file<S: Source, O: Output, E: Output>(
     ensures passed { IsSome (request_asked (texts_of words.entry.now))
         → result ≡ 0 → O.keeps_back out.new ≡ false }
     ensures status { IsSome (request_asked (texts_of words.entry.now)) → IsRunStatus result }
-    ensures help { AskHelp file_line (texts_of words.entry.now) → Helps (O.takes_all out.old)
-        (seen (O.written out.old) (E.written err.old) (O.has_refused out.old)
-        (O.keeps_back out.old))
-        (seen (O.written out.new) (E.written err.new) (O.has_refused out.new)
-        (O.keeps_back out.new))
-        result }
-    ensures wrong { AreWrong file_line (texts_of words.entry.now) → Scolds
-        (seen (O.written out.old) (E.written err.old) (O.has_refused out.old)
-        (O.keeps_back out.old))
-        (seen (O.written out.new) (E.written err.new) (O.has_refused out.new)
-        (O.keeps_back out.new))
-        result }
+    ensures answers { Answers file_line (texts_of words.entry.now) (O.takes_all out.old)
+        (seen O.Output E.Output out.old err.old) (seen O.Output E.Output out.new err.new) result }
 {
     match asked(alloc, words) {
         Ok(Some(request)) => run_request(alloc, &request, source, out, err),

@@ -1,8 +1,8 @@
 //! The words of `draw` and `script`, which are read apart from those of the other commands.
 
-ghost use Rattle.std.specs.Prelude.{◌≡◌, [], IfOk, IfErr, option_map};
-ghost use Rattle.clap.specs.Words.{app_of, fault_of, found_of, rows_of, subcommand_rows_of, HasKind};
-ghost use Rattle.mx_cli.specs.Words.{IsCommand, texts_of};
+ghost use Rattle.std.specs.Prelude.{◌≡◌, IfOk, option_map};
+ghost use Rattle.clap.specs.Words.{found_of, rows_of, subcommand_rows_of};
+ghost use Rattle.mx_cli.specs.Words.{Asks, IsCommand, IsLine, texts_of};
 ghost use Rattle.mx_scripts.specs.Words.{draw_app, draw_in, request_asked, request_in, request_of, file_line, script_app, script_in};
 
 use crate::help;
@@ -46,7 +46,7 @@ fn script_command<'a>(alloc: Global) -> Result<Command<'a>, AllocError>
 
 /// The commands that are read.
 fn file_line<'a>(alloc: Global) -> Result<Command<'a>, AllocError>
-    ensures { IfOk result (λ command. app_of command ≡ file_line) }
+    ensures { IfOk result (IsLine file_line) }
 {
     line_of(alloc, draw_command(alloc)?)?.subcommand(script_command(alloc)?)
 }
@@ -54,10 +54,8 @@ fn file_line<'a>(alloc: Global) -> Result<Command<'a>, AllocError>
 /// What the words, of which `draw` or `script` is the first, ask for. Their faults are those of `clap`,
 /// and words that ask for help come as such a fault too, with the text to show.
 pub(crate) fn asked<'a>(alloc: Global, words: &'a [&'a str]) -> Result<Option<Request<'a>>, Error>
-    ensures read { IfOk result (λ _. fault_of file_line (texts_of words.entry.now) ≡ []) }
-    ensures ok { IfOk result (λ request.
-        option_map request_of request ≡ request_asked (texts_of words.entry.now)) }
-    ensures err { IfErr result (HasKind (fault_of file_line (texts_of words.entry.now))) }
+    ensures { Asks request_of file_line (texts_of words.entry.now)
+        (request_asked (texts_of words.entry.now)) result }
 {
     let matches = matches_in(file_line(alloc)?, words)?;
     Ok(request_in(&matches))

@@ -1,8 +1,7 @@
 -- What the words of `replay` with `--quiet`, `--node` or `--json` ask for, as `clap` reads them.
-use Rattle.std.specs.Prelude.{Bool, List, Option, Some, None, codes, if◌then◌else◌, option_map}
-use Rattle.std.specs.Str.{bytes_eq}
+use Rattle.std.specs.Prelude.{Bool, List, Option, codes, option_map}
 use Rattle.clap.specs.Words.{App, Row, Text, first_of}
-use Rattle.mx_cli.specs.Words.{asked_of, is_given, line_with, names_at, names_of, replay_app}
+use Rattle.mx_cli.specs.Words.{asked_of, by_name, is_given, line_with, names_at, names_of, replay_app}
 use Rattle.mx_views.specs.declared.words.Request.{Request as Told}
 
 -- the whole command line
@@ -36,8 +35,7 @@ abbrev pub view_in : List Row → Option Request
 view_in rows = option_map (view_of rows) (names_at rows)
 
 abbrev pub request_in : Option (Text × List Row) → Option Request
-request_in None = None
-request_in (Some p) = if bytes_eq p.0 (codes "replay") then view_in p.1 else None
+request_in met = by_name (codes "replay") view_in met
 
 -- what the words ask to show, where they ask for a replay
 unfoldable pub request_asked : List Text → Option Request

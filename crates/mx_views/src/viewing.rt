@@ -1,8 +1,8 @@
 //! `replay` with `--quiet`, `--node` or `--json`: from words, named bytes and two outputs to a status.
 
 ghost use Rattle.std.specs.Prelude.{◌≡◌, IsSome, IfOk};
-ghost use Rattle.mx_cli.specs.Words.{texts_of, AreWrong, AskHelp};
-ghost use Rattle.mx_cli.specs.Told.{Helps, Scolds, seen};
+ghost use Rattle.mx_cli.specs.Words.{texts_of};
+ghost use Rattle.mx_cli.specs.Told.{Answers, seen};
 ghost use Rattle.mx_cli.specs.Closed.{IsRunStatus};
 ghost use Rattle.mx_views.specs.ViewWords.{request_asked, view_line};
 
@@ -29,38 +29,17 @@ pub fn replay_view<S: Source, O: Output, E: Output>(
     err: &mut E,
 ) -> u8
     ensures status { IsSome (request_asked (texts_of words.entry.now)) → IsRunStatus result }
-    ensures help { AskHelp view_line (texts_of words.entry.now) → Helps (O.takes_all out.old)
-        (seen (O.written out.old) (E.written err.old) (O.has_refused out.old)
-        (O.keeps_back out.old))
-        (seen (O.written out.new) (E.written err.new) (O.has_refused out.new)
-        (O.keeps_back out.new))
-        result }
-    ensures wrong { AreWrong view_line (texts_of words.entry.now) → Scolds
-        (seen (O.written out.old) (E.written err.old) (O.has_refused out.old)
-        (O.keeps_back out.old))
-        (seen (O.written out.new) (E.written err.new) (O.has_refused out.new)
-        (O.keeps_back out.new))
-        result }
+    ensures answers { Answers view_line (texts_of words.entry.now) (O.takes_all out.old)
+        (seen O.Output E.Output out.old err.old) (seen O.Output E.Output out.new err.new) result }
 {
     match asked(alloc, words) {
-        Ok(Some(request)) => view_and_close(alloc, &request, source, out, err),
+        Ok(Some(request)) => {
+            let ended = view_run(alloc, &request, source, out);
+            close(alloc, ended, &request.names, out, err)
+        }
         Ok(None) => 2,
         Err(e) => refuse(alloc, &e, out, err),
     }
-}
-
-/// Shows what is asked for, and closes the run. Returns the status.
-fn view_and_close<S: Source, O: Output, E: Output>(
-    alloc: Global,
-    request: &Request<'_>,
-    source: &mut S,
-    out: &mut O,
-    err: &mut E,
-) -> u8
-    ensures { IsRunStatus result }
-{
-    let ended = view_run(alloc, request, source, out);
-    close(alloc, ended, &request.names, out, err)
 }
 
 /// Reads a plan and its events, and shows what is asked for of their replay.

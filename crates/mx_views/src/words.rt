@@ -1,13 +1,13 @@
 //! The words of `replay` with `--quiet`, `--node` or `--json`.
 
-ghost use Rattle.std.specs.Prelude.{◌≡◌, [], IfOk, IfErr, option_map};
-ghost use Rattle.clap.specs.Words.{fault_of, found_of, rows_of, subcommand_rows_of, HasKind};
-ghost use Rattle.mx_cli.specs.Words.{texts_of};
+ghost use Rattle.std.specs.Prelude.{◌≡◌, IfOk, option_map};
+ghost use Rattle.clap.specs.Words.{found_of, rows_of, subcommand_rows_of};
+ghost use Rattle.mx_cli.specs.Words.{Asks, IsLine, texts_of};
 ghost use Rattle.mx_views.specs.ViewWords.{request_of, view_in, view_line, request_asked, request_in};
 
-use clap::{ArgMatches, Error};
+use clap::{ArgMatches, Command, Error};
 use mx_cli::{Names, is_given, line_of, matches_in, names_at, replay_command, text_at};
-use std::alloc::Global;
+use std::alloc::{AllocError, Global};
 
 /// What is to be shown of a replay: the names of its plan and events, whether the closing lines alone,
 /// of which node alone, and whether as JSON.
@@ -22,14 +22,18 @@ pub(crate) struct Request<'a> {
 /// What the words ask to show. Their faults are those of `clap`, and words that ask for help come as
 /// such a fault too, with the text to show.
 pub(crate) fn asked<'a>(alloc: Global, words: &'a [&'a str]) -> Result<Option<Request<'a>>, Error>
-    ensures read { IfOk result (λ _. fault_of view_line (texts_of words.entry.now) ≡ []) }
-    ensures ok { IfOk result (λ request.
-        option_map request_of request ≡ request_asked (texts_of words.entry.now)) }
-    ensures err { IfErr result (HasKind (fault_of view_line (texts_of words.entry.now))) }
+    ensures { Asks request_of view_line (texts_of words.entry.now)
+        (request_asked (texts_of words.entry.now)) result }
 {
-    let line = line_of(alloc, replay_command(alloc)?)?;
-    let matches = matches_in(line, words)?;
+    let matches = matches_in(view_line(alloc)?, words)?;
     Ok(request_in(&matches))
+}
+
+/// The command line that is read, which has `replay` alone.
+fn view_line<'a>(alloc: Global) -> Result<Command<'a>, AllocError>
+    ensures { IfOk result (IsLine view_line) }
+{
+    line_of(alloc, replay_command(alloc)?)
 }
 
 fn request_in<'a>(matches: &ArgMatches<'a>) -> Option<Request<'a>>

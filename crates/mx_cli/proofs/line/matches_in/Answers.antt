@@ -5,8 +5,7 @@ use Rattle.mx_cli.proofs.WordLemmas.{parsed}
 use Rattle.mx_cli.proofs.line.matches_in.Goals as goal
 
 pub returns : goal.returns
-returns c =
+returns c = λ app is.
     let parse = c.try_get_matches_from in
     let found = IfOk-weaker parse.result _ _ (λ m h. (h c.requires.plain).1) parse.ensures.matches in
-    let r = parsed (app_of c.args.line) (texts_of c.args.words.now) parse.result (parse.ensures.kinds c.requires.free) found in
-    record { read = r.0; found = r.1; err = r.2 }
+    parsed (app_of c.args.line) (texts_of c.args.words.now) parse.result (parse.ensures.kinds c.requires.free) found app is

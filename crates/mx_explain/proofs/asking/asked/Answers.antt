@@ -1,27 +1,10 @@
-use Rattle.std.proofs.Common.{IfErr, ap, rules, sym, subst, ◌∙◌}
-use Rattle.clap.specs.Kinds.{HasKind}
-use Rattle.mx_cli.specs.Words.{line_with, texts_of}
-use Rattle.mx_cli.proofs.WordLemmas.{answered, readable, same_faults}
+use Rattle.mx_cli.specs.Words.{request_of, texts_of}
+use Rattle.mx_cli.proofs.WordLemmas.{asks}
 use Rattle.mx_explain.specs.Asked.{explain_line, request_asked, request_in}
-use Rattle.mx_explain.proofs.AskedLemmas.{line_is_readable}
 use Rattle.mx_explain.proofs.asking.asked.Goals as goal
 
-pub matches_in-requires : goal.matches_in-requires
-unfolding explain_line
-matches_in-requires c = readable (c.in_ok-line.ensures ∙ ap line_with c.in_ok-explain_command.ensures.app) line_is_readable
-
-pub returns-clause-read : goal.returns-clause-read
-unfolding explain_line
-returns-clause-read c = sym (same_faults (c.in_ok-line.ensures ∙ ap line_with c.in_ok-explain_command.ensures.app) (texts_of c.args.words.now)) ∙ c.in_ok-matches.ensures.read
-
-pub returns-clause-ok : goal.returns-clause-ok
-unfolding explain_line request_asked
-returns-clause-ok c =
-    let found = c.in_ok-matches.ensures in
-    answered (c.in_ok-line.ensures ∙ ap line_with c.in_ok-explain_command.ensures.app) request_in (texts_of c.args.words.now) found.read found.found c.request_in.ensures
-
-pub returns-in_err-matches-clause-err : goal.returns-in_err-matches-clause-err
-unfolding explain_line
-returns-in_err-matches-clause-err c =
-    let same = same_faults (c.in_ok-line.ensures ∙ ap line_with c.in_ok-explain_command.ensures.app) (texts_of c.args.words.now) in
-    subst (λ kinds. IfErr c.from_residual-in_err-matches.result (HasKind kinds)) same (search rules)
+pub returns : goal.returns
+unfolding request_asked
+returns c =
+    let found = c.in_ok-matches.ensures explain_line c.in_ok-explain_line.ensures.app in
+    asks request_of explain_line (texts_of c.args.words.now) request_in c.in_ok-matches.matches c.request_in.result found c.request_in.ensures

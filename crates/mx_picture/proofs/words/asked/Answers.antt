@@ -1,11 +1,10 @@
-use Rattle.std.proofs.Common.{refl}
 use Rattle.mx_cli.specs.Words.{texts_of}
-use Rattle.mx_cli.proofs.WordLemmas.{answered}
-use Rattle.mx_picture.specs.PictureWords.{request_asked, request_in, picture_line}
+use Rattle.mx_cli.proofs.WordLemmas.{asks}
+use Rattle.mx_picture.specs.PictureWords.{picture_line, request_asked, request_in, request_of}
 use Rattle.mx_picture.proofs.words.asked.Goals as goal
 
-pub returns-clause-ok : goal.returns-clause-ok
+pub returns : goal.returns
 unfolding request_asked
-returns-clause-ok c =
-    let found = c.in_ok-matches.ensures in
-    answered {line = picture_line} refl request_in (texts_of c.args.words.now) found.read found.found c.request_in.ensures
+returns c =
+    let found = c.in_ok-matches.ensures picture_line c.in_ok-picture_line.ensures.app in
+    asks request_of picture_line (texts_of c.args.words.now) request_in c.in_ok-matches.matches c.request_in.result found c.request_in.ensures

@@ -1,24 +1,10 @@
-use Rattle.std.proofs.Common.{IfErr, rules, sym, subst, ◌∙◌}
-use Rattle.clap.specs.Kinds.{HasKind}
 use Rattle.mx_cli.specs.Words.{texts_of}
-use Rattle.mx_cli.proofs.WordLemmas.{answered, readable, same_faults}
-use Rattle.mx_scripts.specs.Words.{request_asked, request_in}
-use Rattle.mx_scripts.proofs.WordLemmas.{line_is_readable}
+use Rattle.mx_cli.proofs.WordLemmas.{asks}
+use Rattle.mx_scripts.specs.Words.{file_line, request_asked, request_in, request_of}
 use Rattle.mx_scripts.proofs.words.asked.Goals as goal
 
-pub matches_in-requires : goal.matches_in-requires
-matches_in-requires c = readable (c.in_ok-file_line.ensures) line_is_readable
-
-pub returns-clause-read : goal.returns-clause-read
-returns-clause-read c = sym (same_faults (c.in_ok-file_line.ensures) (texts_of c.args.words.now)) ∙ c.in_ok-matches.ensures.read
-
-pub returns-clause-ok : goal.returns-clause-ok
+pub returns : goal.returns
 unfolding request_asked
-returns-clause-ok c =
-    let found = c.in_ok-matches.ensures in
-    answered (c.in_ok-file_line.ensures) request_in (texts_of c.args.words.now) found.read found.found c.request_in.ensures
-
-pub returns-in_err-matches-clause-err : goal.returns-in_err-matches-clause-err
-returns-in_err-matches-clause-err c =
-    let same = same_faults (c.in_ok-file_line.ensures) (texts_of c.args.words.now) in
-    subst (λ kinds. IfErr c.from_residual-in_err-matches.result (HasKind kinds)) same (search rules)
+returns c =
+    let found = c.in_ok-matches.ensures file_line c.in_ok-file_line.ensures.app in
+    asks request_of file_line (texts_of c.args.words.now) request_in c.in_ok-matches.matches c.request_in.result found c.request_in.ensures
