@@ -9,23 +9,25 @@ use mx_stamps::MOST_EVENTS;
 use serde_json::Value;
 use std::alloc::AllocError;
 
-/// What an item of an event is.
+/// What an item of an event is, or a word of a script.
 #[derive(Clone, Copy)]
-enum Wanted {
+pub(crate) enum Wanted {
     Node,
     Register,
     Number,
+    /// The number of a parcel, or `all`, which a script alone has.
+    Parcel,
 }
 
 /// What follows the word of an event.
 #[derive(Clone, Copy)]
-struct Form {
-    items: &'static [Wanted],
-    expected: &'static str,
+pub(crate) struct Form {
+    pub(crate) items: &'static [Wanted],
+    pub(crate) expected: &'static str,
 }
 
 /// The form of the events of a kind.
-fn form_of(kind: EventKind) -> Form {
+pub(crate) fn form_of(kind: EventKind) -> Form {
     match kind {
         EventKind::Ask
         | EventKind::Enter
@@ -156,7 +158,7 @@ fn explain_argument<'a>(
         Wanted::Register => {
             expect_word(page, path, found, known.registers, "a register of the plan")
         }
-        Wanted::Number => {
+        Wanted::Number | Wanted::Parcel => {
             let expected = "a whole number of 64 bits without a sign";
             expect_number(page, path, found, 0, u64::MAX, expected)
         }

@@ -28,6 +28,9 @@ fn say_expected<'a>(
     expected: &'a str,
     nearest: Option<&str>,
 ) -> Result<(), AllocError> {
+    if found.is_none() && page.is_begin() {
+        return Ok(());
+    }
     if page.is_full() {
         return page.say(Expected {
             path,

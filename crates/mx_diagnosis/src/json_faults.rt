@@ -4,6 +4,7 @@ use crate::page::Page;
 use crate::places::{LineColumn, offset_of, place_of};
 use crate::scan::{Scan, is_of_word, scanned};
 use crate::shown::write_shown;
+use crate::whole::whole_before;
 use serde_json::{Error, Value};
 use std::alloc::{AllocError, Global};
 use std::fmt;
@@ -29,6 +30,8 @@ pub(crate) struct Part<'a> {
     pub(crate) above: usize,
     /// As deep its brackets may nest.
     pub(crate) nesting: usize,
+    /// Whether it is to be an object, and not an array.
+    pub(crate) is_object: bool,
 }
 
 impl<'a> Part<'a> {
@@ -43,24 +46,62 @@ impl<'a> Part<'a> {
     }
 }
 
-/// The value of a text, or a line of where it is not JSON.
+/// The value of a text, which the page looks at from now on; where it is not JSON a line of that, and what
+/// is before the place. A byte order mark is told, and then passed over.
 pub(crate) fn value_in(page: &mut Page<'_>, part: Part<'_>) -> Result<Option<Value>, AllocError> {
+    match part.text.strip_prefix(&MARK) {
+        Some(text) => {
+            let _ = say_at(page, &part, 0, "a byte order mark stands here")?;
+            let behind = Part {
+                text,
+                above: part.above,
+                nesting: part.nesting,
+                is_object: part.is_object,
+            };
+            value_behind_mark(page, behind)
+        }
+        None => value_behind_mark(page, part),
+    }
+}
+
+fn value_behind_mark(page: &mut Page<'_>, part: Part<'_>) -> Result<Option<Value>, AllocError> {
     match Value::from_slice(page.alloc, part.text) {
-        Ok(value) => Ok(Some(value)),
+        Ok(value) => {
+            page.look_at(part.text, part.above)?;
+            Ok(Some(value))
+        }
         Err(e) if e.is_memory() => Err(AllocError),
         Err(e) => {
-            say_no_json(page, &part, &e)?;
-            Ok(None)
+            let stop = say_no_json(page, &part, &e)?;
+            value_before(page, &part, stop)
         }
     }
 }
 
-/// Says why a text is not JSON. The reader's place may lie behind the token that does not fit.
-fn say_no_json(page: &mut Page<'_>, part: &Part<'_>, e: &Error) -> Result<(), AllocError> {
-    let offset = offset_of(part.text, e.line(), e.column().max(1));
-    if part.text.starts_with(&MARK) {
-        return say_at(page, part, 0, "a byte order mark stands here");
+/// The value of what stands whole before a place, if there is some.
+fn value_before(
+    page: &mut Page<'_>,
+    part: &Part<'_>,
+    stop: usize,
+) -> Result<Option<Value>, AllocError> {
+    let (before, _) = part.split_at(stop);
+    let Some(text) = whole_before(page.alloc, before, part.is_object)? else {
+        return Ok(None);
+    };
+    match Value::from_slice(page.alloc, text.as_slice()) {
+        Ok(value) => {
+            page.look_at_begin(text.as_slice(), part.above)?;
+            Ok(Some(value))
+        }
+        Err(e) if e.is_memory() => Err(AllocError),
+        Err(_) => Ok(None),
     }
+}
+
+/// Says why a text is not JSON, and at which byte. The reader's place may lie behind the token that does not
+/// fit.
+fn say_no_json(page: &mut Page<'_>, part: &Part<'_>, e: &Error) -> Result<usize, AllocError> {
+    let offset = offset_of(part.text, e.line(), e.column().max(1));
     if str::from_utf8(part.text).is_err() {
         return say_at(page, part, offset, "bytes that are not UTF-8 stand here");
     }
@@ -90,10 +131,13 @@ fn say_refused(
     part: &Part<'_>,
     offset: usize,
     is_cut: bool,
-) -> Result<(), AllocError> {
+) -> Result<usize, AllocError> {
     let scan = scanned(page.alloc, part.text)?;
     match scan.first_within(DEEPEST) {
-        Some(bracket) if bracket <= offset => page.say(TooDeep(part.place(bracket))),
+        Some(bracket) if bracket <= offset => {
+            page.say(TooDeep(part.place(bracket)))?;
+            Ok(bracket)
+        }
         _ => say_expected(page, part, &scan, offset, is_cut),
     }
 }
@@ -106,7 +150,7 @@ fn say_expected(
     scan: &Scan,
     offset: usize,
     is_cut: bool,
-) -> Result<(), AllocError> {
+) -> Result<usize, AllocError> {
     match scan.misfit() {
         Some(misfit) if misfit <= offset => say_misfit(page, part, misfit, scan.expected()),
         None if is_cut => say_cut(page, part, scan),
@@ -123,7 +167,7 @@ fn say_before(
     scan: &Scan,
     offset: usize,
     misfit: usize,
-) -> Result<(), AllocError> {
+) -> Result<usize, AllocError> {
     if is_value(page.alloc, part.text.get(offset..misfit).unwrap_or(&[]))? {
         return say_misfit(page, part, misfit, scan.expected());
     }
@@ -141,7 +185,7 @@ fn is_value(alloc: Global, text: &[u8]) -> Result<bool, AllocError> {
 
 /// Says what is wrong with the token at a place, up to which all tokens fit: it is a text, a number
 /// or a word that is none of JSON.
-fn say_unread(page: &mut Page<'_>, part: &Part<'_>, offset: usize) -> Result<(), AllocError> {
+fn say_unread(page: &mut Page<'_>, part: &Part<'_>, offset: usize) -> Result<usize, AllocError> {
     let (before, rest) = part.split_at(offset);
     match rest {
         [b'"', ..] => say_misfit(page, part, offset, TEXT),
@@ -159,28 +203,27 @@ fn say_misfit(
     part: &Part<'_>,
     offset: usize,
     expected: &'static str,
-) -> Result<(), AllocError> {
+) -> Result<usize, AllocError> {
     page.say(Misfit {
         place: part.place(offset),
         expected,
         rest: rest_of_line(part, offset),
-    })
+    })?;
+    Ok(offset)
 }
 
 /// Says that a text ends too early, and what is still open.
-fn say_cut(page: &mut Page<'_>, part: &Part<'_>, scan: &Scan) -> Result<(), AllocError> {
-    let place = part.place(part.text.len());
-    match scan.opened() {
-        Some(offset) => page.say(Cut {
-            place,
-            opened: part.place(offset),
-            missing: Missing(deep_in(part, scan)),
-        }),
-        None => page.say(NoJson {
-            place,
-            said: "the text ends here, expected a value",
-        }),
-    }
+fn say_cut(page: &mut Page<'_>, part: &Part<'_>, scan: &Scan) -> Result<usize, AllocError> {
+    let end = part.text.len();
+    let Some(offset) = scan.opened() else {
+        return say_at(page, part, end, "the text ends here, expected a value");
+    };
+    page.say(Cut {
+        place: part.place(end),
+        opened: part.place(offset),
+        missing: Missing(deep_in(part, scan)),
+    })?;
+    Ok(end)
 }
 
 /// Where a bracket first opens within more than there may be.
@@ -198,17 +241,18 @@ fn rest_of_line<'a>(part: &Part<'a>, offset: usize) -> &'a str {
     }
 }
 
-/// Says why a text is not JSON, by what is at a place.
+/// Says why a text is not JSON, by what is at a place. Returns the place.
 fn say_at(
     page: &mut Page<'_>,
     part: &Part<'_>,
     offset: usize,
     said: &'static str,
-) -> Result<(), AllocError> {
+) -> Result<usize, AllocError> {
     page.say(NoJson {
         place: part.place(offset),
         said,
-    })
+    })?;
+    Ok(offset)
 }
 
 /// A text is not JSON.

@@ -38,13 +38,24 @@ impl Display for Found<'_> {
             None => f.write_str("nothing"),
             Some(Value::Object(_)) => f.write_str("an object"),
             Some(Value::Array(items)) => write!(f, "an array of {}", items.len()),
-            Some(Value::String(text)) if text.len() > MOST_BYTES => {
-                write!(f, "a text of {} bytes", text.len())
-            }
-            Some(Value::String(text)) => write!(f, "{text:?}"),
+            Some(Value::String(text)) => write!(f, "{}", Quoted(text.as_str())),
             Some(Value::Number(_)) if is_short(self.1) => f.write_str(self.1),
             Some(value) => write!(f, "{value}"),
         }
+    }
+}
+
+/// A text, in short.
+#[derive(Clone, Copy)]
+pub(crate) struct Quoted<'a>(pub(crate) &'a str);
+
+impl Display for Quoted<'_> {
+    fn fmt<W: fmt::Write>(&self, f: &mut fmt::Formatter<W>) -> fmt::Result {
+        let text = self.0;
+        if text.len() > MOST_BYTES {
+            return write!(f, "a text of {} bytes", text.len());
+        }
+        write!(f, "{text:?}")
     }
 }
 
@@ -55,7 +66,7 @@ fn is_short(text: &str) -> bool {
 
 /// The name that is nearest to what is at a place, where one is near.
 #[derive(Clone, Copy)]
-struct Nearest<'a>(Option<&'a str>);
+pub(crate) struct Nearest<'a>(pub(crate) Option<&'a str>);
 
 impl Display for Nearest<'_> {
     fn fmt<W: fmt::Write>(&self, f: &mut fmt::Formatter<W>) -> fmt::Result {

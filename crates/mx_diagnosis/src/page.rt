@@ -2,7 +2,7 @@
 
 use crate::finding::offset_at;
 use crate::lines::Path;
-use crate::places::{LineColumn, place_of};
+use crate::places::{LineColumn, offset_of, place_of};
 use crate::scan::is_of_word;
 use crate::shown::Shown;
 use std::alloc::{AllocError, Global};
@@ -22,6 +22,8 @@ pub struct Page<'a> {
     /// The text that is looked at, and how many lines of the file are above it.
     source: Vec<u8>,
     above: usize,
+    /// Whether it is the begin of a text, of which more can't be told.
+    is_begin: bool,
 }
 
 impl<'a> Page<'a> {
@@ -33,6 +35,7 @@ impl<'a> Page<'a> {
             lines: 0,
             source: Vec::new(alloc),
             above: 0,
+            is_begin: false,
         }
     }
 
@@ -59,7 +62,25 @@ impl<'a> Page<'a> {
     pub(crate) fn look_at(&mut self, text: &[u8], above: usize) -> Result<(), AllocError> {
         self.source = Vec::from_slice(self.alloc, text)?;
         self.above = above;
+        self.is_begin = false;
         Ok(())
+    }
+
+    /// Looks at the begin of a text of the file, behind which more stands than can be told.
+    pub(crate) fn look_at_begin(&mut self, text: &[u8], above: usize) -> Result<(), AllocError> {
+        self.look_at(text, above)?;
+        self.is_begin = true;
+        Ok(())
+    }
+
+    /// Whether what is not there may stand behind what is looked at.
+    pub(crate) fn is_begin(&self) -> bool {
+        self.is_begin
+    }
+
+    /// A copy of the text that is looked at.
+    pub(crate) fn copied(&self) -> Result<Vec<u8>, AllocError> {
+        Vec::from_slice(self.alloc, self.source.as_slice())
     }
 
     /// Adds a line of what is at a path of the text. It begins with a space.
@@ -79,6 +100,16 @@ impl<'a> Page<'a> {
     /// space.
     pub fn say_of_parcel<D: Display + Drop>(&mut self, k: u64, line: D) -> Result<(), AllocError> {
         self.say_of(&Path::Inner("events", k as usize, 1), line)
+    }
+
+    /// Adds a line of what the line of this number of the text asks for, counted from 1. It begins with a space.
+    pub fn say_of_line<D: Display + Drop>(
+        &mut self,
+        number: u64,
+        line: D,
+    ) -> Result<(), AllocError> {
+        let offset = offset_of(self.source.as_slice(), number as usize, 1);
+        self.say_at(offset, line)
     }
 
     /// Adds a line of what is at a byte of the text. It begins with a space.

@@ -10,8 +10,13 @@ use std::alloc::{AllocError, Global};
 use std::collections::BTreeSet;
 use std::fmt;
 
-/// Warns of each member whose key comes earlier in the same object.
-pub(crate) fn warn_of_repeated(page: &mut Page<'_>, text: &[u8]) -> Result<(), AllocError> {
+/// Warns of each member of the text that is looked at whose key comes earlier in the same object.
+pub(crate) fn warn_of_repeated(page: &mut Page<'_>) -> Result<(), AllocError> {
+    let text = page.copied()?;
+    warn_of_members(page, text.as_slice())
+}
+
+fn warn_of_members(page: &mut Page<'_>, text: &[u8]) -> Result<(), AllocError> {
     let scan = scanned(page.alloc, text)?;
     let mut seen = BTreeSet::new(page.alloc);
     for member in scan.members() {

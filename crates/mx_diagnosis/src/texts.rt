@@ -5,6 +5,7 @@ use crate::json_faults::{Part, value_in};
 use crate::page::Page;
 use crate::plan_faults::explain_plan;
 use crate::repeated::warn_of_repeated;
+use crate::shape_alone::shape_fault_alone;
 use crate::shape_faults::explain_shape_fault;
 use crate::values::names_at;
 use mx_plan::ShapeFault;
@@ -23,12 +24,12 @@ pub fn explain_plan_text(
         text,
         above: 0,
         nesting: 4,
+        is_object: true,
     };
     let Some(plan) = value_in(page, part)? else {
         return Ok(None);
     };
-    page.look_at(text, 0)?;
-    explain_read_plan(page, &plan, text, fault)?;
+    explain_read_plan(page, &plan, fault)?;
     Ok(Some(plan))
 }
 
@@ -36,14 +37,26 @@ pub fn explain_plan_text(
 fn explain_read_plan(
     page: &mut Page<'_>,
     plan: &Value,
-    text: &[u8],
     fault: Option<ShapeFault>,
 ) -> Result<(), AllocError> {
     explain_plan(page, plan)?;
-    if let Some(fault) = fault {
+    if let Some(fault) = shape_fault_of(page, plan, fault)? {
         explain_shape_fault(page, plan, fault)?;
     }
-    warn_of_repeated(page, text)
+    warn_of_repeated(page)
+}
+
+/// Why the nodes of a plan have no shape: by this fault, with which it was read, or else by the members that
+/// say it.
+fn shape_fault_of(
+    page: &Page<'_>,
+    plan: &Value,
+    fault: Option<ShapeFault>,
+) -> Result<Option<ShapeFault>, AllocError> {
+    match fault {
+        Some(fault) => Ok(Some(fault)),
+        None => shape_fault_alone(page.alloc, plan),
+    }
 }
 
 /// Says what is wrong in events that begin below a number of lines of their file, by the names of
@@ -58,12 +71,10 @@ pub fn explain_event_text(
         text,
         above,
         nesting: 2,
+        is_object: false,
     };
     match value_in(page, part)? {
-        Some(events) => {
-            page.look_at(text, above)?;
-            explain_read_events(page, plan, &events)
-        }
+        Some(events) => explain_read_events(page, plan, &events),
         None => Ok(()),
     }
 }
