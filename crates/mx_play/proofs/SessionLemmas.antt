@@ -1,0 +1,249 @@
+-- What lines make of a session.
+use Rattle.std.proofs.Common.{◌≡◌, ◌≤◌, ◌∙◌, ℕ, zero, suc, List, [], ◌∷◌, ◌++◌, Result, Ok, Err, OnOk, IfOk, OnErr, length, take, refl, sym, ap, subst, append_assoc, inl, inr}
+use Rattle.std.specs.Prelude.{MatchOption, Option, Some, None, slice_index_or, ◌-◌}
+use Rattle.std.specs.Bool.{⊤}
+use Rattle.mx_stamps.proofs.Lists.{append_nil}
+use Rattle.mx_nodelaws.specs.Core.{Core}
+use Rattle.mx_events.specs.declared.event.Event.{Event}
+use Rattle.mx_events.specs.declared.event.Event.TheVariants as event
+use Rattle.mx_network.specs.Step.{ClusterState}
+use Rattle.mx_explorer.specs.Drawn.{IsDrawn}
+use Rattle.std.specs.Io.KnownBytes.{Appends}
+use Rattle.mx_plan.specs.Text.{Text}
+use Rattle.mx_plan.specs.Fields.{Fields}
+use Rattle.mx_io.specs.Outputs.{Held}
+use Rattle.mx_cli.proofs.OutputLemmas.{Appends-nil, Appends-trans}
+use Rattle.mx_commands.specs.Runs.{NamesNodes, at_rest, closing_text}
+use Rattle.mx_commands.proofs.RunLemmas.{members_at_rest}
+use Rattle.mx_scripts.specs.declared.line_faults.LineFault.{LineFault}
+use Rattle.mx_play.specs.Moments.{Brings, CanLead, Leads, Makes, MomentState, first_moment, shown}
+use Rattle.mx_play.specs.Sessions.{Adds, Comes, Extends, HasTalked, HasTurned, IsDone, IsPlayed, IsSession, IsTakenBack, Loses, SaysTurn, SessionState, Talks, Turn, at_start, events_in, rests, state}
+use Rattle.mx_play.specs.declared.happening.Happening.{Happening}
+use Rattle.mx_play.specs.declared.happening.Happening.TheVariants.{Happens, IsLost}
+use Rattle.mx_play.proofs.MomentLemmas.{leads_append, leads_members, leads_one, leads_prefix, leads_runs, makes_append, makes_leads, makes_one}
+
+-- the events that a line of a script asks for are of the nodes of the plan
+pub drawn_names : (nodes registers : ℕ) (e : Event) → IsDrawn nodes registers e → NamesNodes nodes e
+drawn_names nodes registers (event.Ask i) h = h
+drawn_names nodes registers (event.Enter i) h = h
+drawn_names nodes registers (event.Read i register) h = h.0
+drawn_names nodes registers (event.Write i register value) h = h.0
+drawn_names nodes registers (event.Leave i) h = h
+drawn_names nodes registers (event.Cancel i) h = h
+drawn_names nodes registers (event.Tick i) h = h
+drawn_names nodes registers (event.Want i j) h = h
+drawn_names nodes registers (event.Settle i upto) h = h
+drawn_names nodes registers (event.Restart i) h = h
+drawn_names nodes registers (event.Deliver k) h = tt
+
+take_first : {X : Type 0} (xs ys : List X) → take (length xs) (xs ++ ys) ≡ xs
+take_first [] ys = refl
+take_first {X} (x ∷ xs) ys = ap (λ (l : List X). x ∷ l) (take_first xs ys)
+
+same_state : {S M : Type 0} (a b : MomentState S M) (d e : List Happening) (m n : List ℕ) → a ≡ b → d ≡ e → m ≡ n → state a d m ≡ state b e n
+same_state a b d e m n x y z = rw (x, y, z) refl
+
+-- whatever it is that an error leaves
+pub on_err : {T E : Type 0} (r : Result T E) (X : Type 0) → X → OnErr r X
+on_err (Ok u) X x = tt
+on_err (Err fault) X x = x
+
+-- ---- the list goes on
+
+pub extends_not : (d : List Happening) → Extends d d
+extends_not d = record { more = []; is = sym (append_nil d) }
+
+pub extends_same : (d e : List Happening) → e ≡ d → Extends d e
+extends_same d e same = record { more = []; is = same ∙ sym (append_nil d) }
+
+pub extends_more : (d e f : List Happening) → Extends d e → Extends e f → Extends d f
+extends_more d e f x y = record {
+  more = x.more ++ y.more;
+  is = y.is ∙ ap (λ (l : List Happening). l ++ y.more) x.is ∙ append_assoc d x.more y.more;
+}
+
+module _ {H S M : Type 0} (core : Core H S M) (letter_text : Fields → M → Text) (p : Fields) where
+  abbrev A : MomentState S M → MomentState S M → List Happening → List Happening → Text → Text → Type 0
+  A = Adds core letter_text p
+
+  pub adds_not : (m : MomentState S M) (d : List Happening) (t : Text) → A m m d d t t
+  adds_not m d t = record {
+    more = [];
+    made = [];
+    makes = (refl, refl);
+    listed = sym (append_nil d);
+    printed = sym (append_nil t);
+  }
+
+  pub adds_more : (a b c : MomentState S M) (d d' d'' : List Happening) (t t' t'' : Text) → A a b d d' t t' → A b c d' d'' t' t'' → A a c d d'' t t''
+  adds_more a b c d d' d'' t t' t'' x y = record {
+    more = x.more ++ y.more;
+    made = x.made ++ y.made;
+    makes = makes_append core letter_text p x.more y.more a b c x.made y.made x.makes y.makes;
+    listed = y.listed ∙ ap (λ (l : List Happening). l ++ y.more) x.listed ∙ append_assoc d x.more y.more;
+    printed = y.printed ∙ ap (λ (l : Text). l ++ y.made) x.printed ∙ append_assoc t x.made y.made;
+  }
+
+  pub adds_extends : (a b : MomentState S M) (d d' : List Happening) (t t' : Text) → A a b d d' t t' → Extends d d'
+  adds_extends a b d d' t t' x = record { more = x.more; is = x.listed }
+
+  pub adds_members : (a b : MomentState S M) (d d' : List Happening) (t t' : Text) → A a b d d' t t' → length b.cluster.members ≡ length a.cluster.members
+  adds_members a b d d' t t' x = leads_members core x.more a b (makes_leads core letter_text p x.more a b x.made x.makes)
+
+  pub adds_one : (h : Happening) (a b : MomentState S M) (d d' : List Happening) (t t' : Text) → Brings core a h b → d' ≡ d ++ h ∷ []
+      → t' ≡ t ++ shown core letter_text p a h b → A a b d d' t t'
+  adds_one h a b d d' t t' brings listed printed = record {
+    more = h ∷ [];
+    made = shown core letter_text p a h b;
+    makes = makes_one core letter_text p h a b brings;
+    listed = listed;
+    printed = printed;
+  }
+
+  -- a mail that was asked has not changed
+  pub adds_from : (r : Result ⊤ LineFault) (a a' b : MomentState S M) (d d' : List Happening) (t t' : Text) → a' ≡ a → OnOk r (A a' b d d' t t') → OnOk r (A a b d d' t t')
+  adds_from r a a' b d d' t t' same x = subst (λ (m : MomentState S M). OnOk r (A m b d d' t t')) same x
+
+  pub loss_adds : (r : Result ⊤ LineFault) (a b : MomentState S M) (d d' : List Happening) (t : Text) → OnOk r (Loses core a b d d') → OnOk r (A a b d d' t t)
+  loss_adds (Ok u) a b d d' t x = adds_one (IsLost x.parcel) a b d d' t t x.brings x.listed (sym (append_nil t))
+  loss_adds (Err fault) a b d d' t x = tt
+
+  module _ (shape : H) where
+    abbrev first : MomentState S M
+    first = first_moment core p shape
+
+    abbrev G : SessionState S M → Type 0
+    G = IsSession core p shape
+
+    -- ---- the session is what its list makes
+
+    pub session_start : (s : SessionState S M) → s ≡ at_start core p shape → core.count shape ≡ length p.nodes → G s
+    session_start s is count = record {
+      leads = subst (λ (x : SessionState S M). Leads core first x.done x.now) (sym is) refl;
+      members = members_at_rest core p shape (length p.nodes) s.now.cluster (ap (λ (x : SessionState S M). x.now.cluster) is) count;
+    }
+
+    pub session_back : (a c : SessionState S M) → G a → Leads core first c.done c.now → G c
+    session_back a c g leads = record {
+      leads = leads;
+      members = leads_members core c.done first c.now leads ∙ sym (leads_members core a.done first a.now g.leads) ∙ g.members;
+    }
+
+    pub session_adds : (a : SessionState S M) (b : MomentState S M) (d' : List Happening) (marks : List ℕ) (t t' : Text) → G a → A a.now b a.done d' t t' → G (state b d' marks)
+    session_adds a b d' marks t t' g x =
+        session_back a (state b d' marks) g
+        (subst (λ (l : List Happening). Leads core first l b) (sym x.listed)
+        (leads_append core a.done x.more first a.now b g.leads (makes_leads core letter_text p x.more a.now b x.made x.makes)))
+
+    pub line_done : (a : SessionState S M) (b : MomentState S M) (d' : List Happening) (marks : List ℕ) (before : ℕ) (t t' : Text) → A a.now b a.done d' t t' → t ≡ []
+        → before ≡ length a.done → marks ≡ a.marks ++ before ∷ [] → IsDone core letter_text p a (state b d' marks) t'
+    line_done a b d' marks before t t' x empty here is = record {
+      more = x.more;
+      makes = subst (λ (l : Text). Makes core letter_text p a.now x.more b l) (sym (x.printed ∙ ap (λ (l : Text). l ++ x.made) empty)) x.makes;
+      done = x.listed;
+      marks = is ∙ ap (λ (n : ℕ). a.marks ++ n ∷ []) here;
+    }
+
+    module _ (a : SessionState S M) (d' : List Happening) (n : ℕ) (g : G a) (x : Extends a.done d') (here : n ≡ length a.done) where
+      before_it : take n d' ≡ a.done
+      before_it = ap (λ (k : ℕ). take k d') here ∙ ap (λ (l : List Happening). take (length a.done) l) x.is ∙ take_first a.done x.more
+
+      -- what was there before can happen again
+      pub can_undo : CanLead core first (take n d')
+      can_undo = subst (λ (l : List Happening). CanLead core first l) (sym before_it) (a.now, g.leads)
+
+      -- and then all is as before
+      pub is_undone : (c : MomentState S M) (e : List Happening) (marks : List ℕ) → Leads core first (take n d') c → e ≡ take n d' → marks ≡ a.marks → state c e marks ≡ a
+      is_undone c e marks leads listed same =
+          let again : Leads core first a.done c = subst (λ (l : List Happening). Leads core first l c) before_it leads in
+          same_state c a.now e a.done marks a.marks (leads_one core a.done first c a.now again g.leads) (listed ∙ before_it) same
+
+    pub can_take_back : (n : ℕ) (a : SessionState S M) → G a → CanLead core first (take n a.done)
+    can_take_back n a g = leads_prefix core n a.done first a.now g.leads
+
+    pub same_holds : (a b : SessionState S M) → b ≡ a → G a → G b
+    same_holds a b same g = subst (λ (s : SessionState S M). G s) (sym same) g
+
+    abbrev W : SessionState S M → SessionState S M → Held → Held → Type 0
+    W = HasTalked core letter_text p shape
+
+    talks_on : (ts us : List Turn) (a b c : SessionState S M) (t s : Text) → Talks core letter_text p shape a ts b t → Talks core letter_text p shape b us c s
+        → Talks core letter_text p shape a (ts ++ us) c (t ++ s)
+    talks_on [] us a b c t s x y =
+        subst (λ (m : SessionState S M). Talks core letter_text p shape m us c (t ++ s)) x.0
+        (subst (λ (r : Text). Talks core letter_text p shape b us c (r ++ s)) (sym x.1) y)
+    talks_on (u ∷ ts) us a b c t s x y =
+        let mid : SessionState S M = x.0 in
+        let one : Text = x.1 in
+        let rest : Text = x.2 in
+        (mid, one, rest ++ s, x.3, ap (λ (l : Text). l ++ s) x.4 ∙ append_assoc one rest s, talks_on ts us mid b c rest s x.5 y)
+
+    pub talked_not : (s : SessionState S M) (o : Held) → W s s o o
+    talked_not s o = record { turns = []; text = []; talks = (refl, refl); printed = Appends-nil o }
+
+    pub talked_on : (a b c : SessionState S M) (o o' o'' : Held) → W a b o o' → W b c o' o'' → W a c o o''
+    talked_on a b c o o' o'' x y = record {
+      turns = x.turns ++ y.turns;
+      text = x.text ++ y.text;
+      talks = talks_on x.turns y.turns a b c x.text y.text x.talks y.talks;
+      printed = Appends-trans o o' o'' x.text y.text x.printed y.printed;
+    }
+
+    pub turn_talks : (a b : SessionState S M) (o o' : Held) → SaysTurn core letter_text p shape a b o o' → W a b o o'
+    turn_talks a b o o' x = record {
+      turns = x.turned.turn ∷ [];
+      text = x.text;
+      talks = (b, x.text, [], x.turned.comes, sym (append_nil x.text), (refl, refl));
+      printed = x.printed;
+    }
+
+    pub whole_session : (s last : SessionState S M) (o o' o'' : Held) → s ≡ at_start core p shape → W s last o o' → G last
+        → Appends o' o'' (closing_text core letter_text p last.now.cluster) → IsPlayed core letter_text p shape o o''
+    whole_session s last o o' o'' is x g closes = record {
+      turns = x.turns;
+      last = last;
+      text = x.text;
+      talks = subst (λ (q : SessionState S M). Talks core letter_text p shape q x.turns last x.text) is x.talks;
+      replays = leads_runs core last.done first last.now g.leads;
+      printed = Appends-trans o o' o'' x.text (closing_text core letter_text p last.now.cluster) x.printed closes;
+    }
+
+    -- a line that is empty or at fault
+    pub says_nothing : (s : SessionState S M) (o : Held) → SaysTurn core letter_text p shape s s o o
+    says_nothing s o = record {
+      text = [];
+      turned = record { turn = rests; comes = record { same = refl; printed = refl } };
+      printed = Appends-nil o;
+    }
+
+    pub whole_on_ok : {T E : Type 0} (r : Result T E) (s mid last : SessionState S M) (o o1 o2 o3 : Held) → s ≡ at_start core p shape → W s mid o o1 → W mid last o1 o2 → G last
+        → IfOk r (λ _. Appends o2 o3 (closing_text core letter_text p last.now.cluster)) → IfOk r (λ _. IsPlayed core letter_text p shape o o3)
+    whole_on_ok (Ok t) s mid last o o1 o2 o3 is x y g closes = whole_session s last o o2 o3 is (talked_on s mid last o o1 o2 x y) g closes
+    whole_on_ok (Err e) s mid last o o1 o2 o3 is x y g closes = tt
+
+    -- a line that was done or taken back, or one at fault
+    pub turned_by : {K E : Type 0} (r : Result (Option K) E) (t : Turn) (a b : SessionState S M) (text : Text)
+        → IfOk r (λ fault. MatchOption fault (Comes core letter_text p shape t a b text) (λ _. Comes core letter_text p shape rests a b text))
+        → IfOk r (λ _. HasTurned core letter_text p shape a b text)
+    turned_by (Ok None) t a b text x = record { turn = t; comes = x }
+    turned_by (Ok (Some k)) t a b text x = record { turn = rests; comes = x }
+    turned_by (Err e) t a b text x = tt
+
+    pub turned_silently : {K E : Type 0} (r : Result (Option K) E) (t : Turn) (a b : SessionState S M) (text : Text) → text ≡ []
+        → IfOk r (λ fault. MatchOption fault (Comes core letter_text p shape t a b []) (λ _. Comes core letter_text p shape rests a b []))
+        → IfOk r (λ _. HasTurned core letter_text p shape a b text)
+    turned_silently r t a b text empty x = subst (λ (l : Text). IfOk r (λ _. HasTurned core letter_text p shape a b l)) (sym empty) (turned_by r t a b [] x)
+
+    -- the last lines were taken back
+    pub is_taken_back : (a : SessionState S M) (lines left before count : ℕ) (marks marks' : List ℕ) (c : MomentState S M) (e : List Happening) → lines ≡ length a.marks → count ≤ lines
+        → left ≡ lines - count → before ≡ slice_index_or a.marks left (length a.done) → marks ≡ take left a.marks → marks' ≡ marks → Leads core first (take before a.done) c → e ≡ take before a.done
+        → IsTakenBack core letter_text p shape count a (state c e marks') []
+    is_taken_back a lines left before count marks marks' c e all few is at_mark cut same leads listed =
+        let there : left ≡ length a.marks - count = is ∙ ap (λ (n : ℕ). n - count) all in
+        record {
+          few = subst (λ (n : ℕ). count ≤ n) all few;
+          marks = same ∙ cut ∙ ap (λ (n : ℕ). take n a.marks) there;
+          done = listed ∙ ap (λ (n : ℕ). take n a.done) (at_mark ∙ ap (λ (n : ℕ). slice_index_or a.marks n (length a.done)) there);
+          leads = subst (λ (l : List Happening). Leads core first l c) (sym listed) leads;
+          silent = refl;
+        }

@@ -1,0 +1,25 @@
+use Rattle.std.proofs.Common.{ℕ, rules, string_bytes, subst, sym}
+use Rattle.mx_commands.specs.Runs.{NamesNodes}
+use Rattle.mx_play.specs.Sessions.{Extends}
+use Rattle.mx_play.specs.declared.happening.Happening.TheVariants.{Happens}
+use Rattle.mx_play.proofs.SessionLemmas.{adds_one, extends_not, extends_same, on_err}
+use Rattle.mx_play.proofs.orders.happen.Goals as goal
+
+pub happen-requires : goal.happen-requires
+happen-requires g c = (search rules, subst (λ (n : ℕ). NamesNodes n c.args.event.now) (sym c.requires.members) c.requires.named)
+
+pub returns-clause-ok : goal.returns-clause-ok
+returns-clause-ok g c =
+    adds_one g.C.Exclusion.core g.C.Msg.Letter.letter_text c.args.plan.now (Happens c.args.event.now) c.args.moment.now c.happen.new.self
+    c.args.done.now.items c.push.new.self.items (string_bytes c.args.text.now) (string_bytes c.happen.new.text)
+    c.in_ok-happen.ensures.brings c.in_ok-push.ensures.items c.in_ok-happen.ensures.text
+
+pub cluster-requires : goal.cluster-requires
+cluster-requires g c = (search rules, search rules)
+
+pub returns-in_err-happen-clause-err : goal.returns-in_err-happen-clause-err
+returns-in_err-happen-clause-err g c = on_err c.from_residual.result (Extends c.args.done.now.items c.args.done.now.items) (extends_not c.args.done.now.items)
+
+pub returns-in_err-push-clause-err : goal.returns-in_err-push-clause-err
+returns-in_err-push-clause-err g c =
+    on_err c.from_residual-in_err-push.result (Extends c.args.done.now.items c.push.new.self.items) (extends_same c.args.done.now.items c.push.new.self.items c.in_err-push.ensures.items)

@@ -1,0 +1,179 @@
+-- What the lines of a session made, and what is shown of it.
+use Rattle.std.specs.Prelude.{ℕ, ◌≡◌, ◌≤◌, ◌-◌, ◌==◌, ◌&&◌, Bool, true, List, [], ◌∷◌, ◌++◌, Option, Some, None, length, take, drop, slice_get, slice_index_or, if◌then◌else◌}
+use Rattle.std.specs.Option.{option_map_or}
+use Rattle.std.specs.Io.KnownBytes.{Appends}
+use Rattle.mx_nodelaws.specs.Core.{Core}
+use Rattle.mx_member.specs.declared.parcel.Parcel.{Parcel}
+use Rattle.mx_events.specs.declared.event.Event.{Event}
+use Rattle.mx_network.specs.Step.{ClusterState, RunsTo}
+use Rattle.mx_plan.specs.Text.{Text}
+use Rattle.mx_plan.specs.Fields.{Fields}
+use Rattle.mx_texts.specs.Lines.{texts_from}
+use Rattle.mx_texts.specs.NodeTexts.{member_line, node_lines}
+use Rattle.mx_texts.specs.ParcelTexts.{parcel_line}
+use Rattle.mx_io.specs.Outputs.{Held}
+use Rattle.mx_commands.specs.Runs.{closing_text}
+use Rattle.mx_scripts.specs.Fates.{is_under_way}
+use Rattle.mx_scripts.specs.Files.{file_text}
+use Rattle.mx_scripts.specs.Played.{events_of}
+use Rattle.mx_play.specs.Help.{words_text}
+use Rattle.mx_play.specs.Moments.{Brings, Leads, Makes, MomentState, first_moment}
+use Rattle.mx_play.specs.declared.happening.Happening.{Happening}
+use Rattle.mx_play.specs.declared.happening.Happening.TheVariants.{Happens, IsLost}
+
+-- the cluster and its parcels as they are now; what happened, in order; and for each line that was done, the oldest
+-- first, how much had happened before it
+pub record SessionState (S M : Type 0) : Type 0 where
+  pub now : MomentState S M
+  pub done : List Happening
+  pub marks : List ℕ
+
+abbrev pub state : {S M : Type 0} → MomentState S M → List Happening → List ℕ → SessionState S M
+state now done marks = record { now = now; done = done; marks = marks }
+
+-- before any line
+abbrev pub at_start : {H S M : Type 0} → Core H S M → Fields → H → SessionState S M
+at_start core p shape = record { now = first_moment core p shape; done = []; marks = [] }
+
+-- the events among what happened
+abbrev pub events_in : List Happening → List Event
+events_in [] = []
+events_in (Happens e ∷ hs) = e ∷ events_in hs
+events_in (IsLost k ∷ hs) = events_in hs
+
+-- the cluster and its parcels are those to which what happened leads, and the cluster has the nodes of the plan
+pub record IsSession {H S M : Type 0} (core : Core H S M) (p : Fields) (shape : H)
+    (s : SessionState S M) : Type 0 where
+  pub leads : Leads core (first_moment core p shape) s.done s.now
+  pub members : length s.now.cluster.members ≡ length p.nodes
+
+-- a list of what happened went on
+pub record Extends (old new : List Happening) : Type 0 where
+  pub more : List Happening
+  pub is : new ≡ old ++ more
+
+-- a parcel was lost, which joined the list of what happened
+pub record Loses {H S M : Type 0} (core : Core H S M) (old new : MomentState S M)
+    (done done' : List Happening) : Type 0 where
+  pub parcel : ℕ
+  pub brings : Brings core old (IsLost parcel) new
+  pub listed : done' ≡ done ++ IsLost parcel ∷ []
+
+-- ---- what is shown
+
+-- the parcel goes to this node, where one is named
+abbrev pub is_to : Option ℕ → ℕ → Bool
+is_to None addressee = true
+is_to (Some node) addressee = addressee == node
+
+module _ {H S M : Type 0} (core : Core H S M) (letter_text : Fields → M → Text) (p : Fields) where
+  -- the line of a parcel, where it is under way to the node that is named
+  abbrev pub waiting_line : Option ℕ → MomentState S M → ℕ → ℕ × ℕ × Parcel M → Text
+  waiting_line to now k parcel =
+      if is_under_way now.fates k && is_to to parcel.1 then parcel_line letter_text p k parcel
+      else []
+
+  -- the lines of the parcels under way, the oldest first
+  abbrev pub waiting_lines : Option ℕ → MomentState S M → Text
+  waiting_lines to now = texts_from (waiting_line to now) 0 now.cluster.sent
+
+  -- the line of the node that is named, or of each
+  abbrev pub standing_lines : Option ℕ → ClusterState S M → Text
+  standing_lines None g = node_lines core p g.members
+  standing_lines (Some node) g =
+      option_map_or (member_line core p node) (slice_get g.members node) []
+
+  -- ---- the lines of a session
+
+  -- more happened, which joined the list of what happened, and was printed behind a text
+  pub record Adds (old new : MomentState S M) (done done' : List Happening) (text text' : Text)
+      : Type 0 where
+    pub more : List Happening
+    pub made : Text
+    pub makes : Makes core letter_text p old more new made
+    pub listed : done' ≡ done ++ more
+    pub printed : text' ≡ text ++ made
+
+  -- the events and losses of a line of a script happened, and were printed
+  pub record IsDone (old new : SessionState S M) (text : Text) : Type 0 where
+    pub more : List Happening
+    pub makes : Makes core letter_text p old.now more new.now text
+    pub done : new.done ≡ old.done ++ more
+    pub marks : new.marks ≡ old.marks ++ length old.done ∷ []
+
+  -- the last `count` lines never happened: what is left is what had happened before them, and the cluster and its
+  -- parcels are those to which that leads
+  pub record IsTakenBack (shape : H) (count : ℕ) (old new : SessionState S M) (text : Text)
+      : Type 0 where
+    pub few : count ≤ length old.marks
+    pub marks : new.marks ≡ take (length old.marks - count) old.marks
+    pub done : new.done
+        ≡ take (slice_index_or old.marks (length old.marks - count) (length old.done)) old.done
+    pub leads : Leads core (first_moment core p shape) new.done new.now
+    pub silent : text ≡ []
+
+  -- nothing changed, and this was printed
+  pub record IsShown (what : Text) (old new : SessionState S M) (text : Text) : Type 0 where
+    pub same : new ≡ old
+    pub printed : text ≡ what
+
+-- what a line comes to: a line of a script is done; the last lines are taken back; all nodes or one are shown; the
+-- events are shown as a file; the words are shown; or nothing is done, as of a line that is empty or at fault
+pub data Turn : Type 0 where
+  does : Turn
+  takes_back : ℕ → Turn
+  shows : Option ℕ → Turn
+  lists : Turn
+  helps : Turn
+  rests : Turn
+
+module _ {H S M : Type 0} (core : Core H S M) (letter_text : Fields → M → Text) (p : Fields)
+    (shape : H) where
+  abbrev pub Comes : Turn → SessionState S M → SessionState S M → Text → Type 0
+  Comes does old new text = IsDone core letter_text p old new text
+  Comes (takes_back count) old new text =
+      IsTakenBack core letter_text p shape count old new text
+  Comes (shows to) old new text =
+      IsShown core letter_text p
+      (standing_lines core letter_text p to old.now.cluster
+      ++ waiting_lines core letter_text p to old.now) old new text
+  Comes lists old new text =
+      IsShown core letter_text p (file_text p (events_of old.now.cluster.trace)) old new text
+  Comes helps old new text = IsShown core letter_text p words_text old new text
+  Comes rests old new text = IsShown core letter_text p [] old new text
+
+  -- these turns, one after another, and what was printed of them
+  abbrev pub Talks : SessionState S M → List Turn → SessionState S M → Text → Type 0
+  Talks old [] new text = (new ≡ old) × (text ≡ [])
+  Talks old (t ∷ ts) new text =
+      (mid : SessionState S M) × (first rest : Text) × Comes t old mid first
+      × (text ≡ first ++ rest) × Talks mid ts new rest
+
+  -- some turns were taken, and what an output got is what was printed of them
+  pub record HasTalked (old new : SessionState S M) (out out' : Held) : Type 0 where
+    pub turns : List Turn
+    pub text : Text
+    pub talks : Talks old turns new text
+    pub printed : Appends out out' text
+
+  -- a whole session: some turns from the start, and then the closing lines of the cluster to which the events lead
+  -- that are left
+  pub record IsPlayed (out out' : Held) : Type 0 where
+    pub turns : List Turn
+    pub last : SessionState S M
+    pub text : Text
+    pub talks : Talks (at_start core p shape) turns last text
+    pub replays : RunsTo core (at_start core p shape).now.cluster (events_in last.done)
+        last.now.cluster
+    pub printed : Appends out out' (text ++ closing_text core letter_text p last.now.cluster)
+
+  -- some turn was taken, and what was printed of it
+  pub record HasTurned (old new : SessionState S M) (text : Text) : Type 0 where
+    pub turn : Turn
+    pub comes : Comes turn old new text
+
+  -- and an output got what was printed of it
+  pub record SaysTurn (old new : SessionState S M) (out out' : Held) : Type 0 where
+    pub text : Text
+    pub turned : HasTurned old new text
+    pub printed : Appends out out' text

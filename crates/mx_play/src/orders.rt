@@ -1,0 +1,178 @@
+//! What a line of a script makes.
+
+ghost use Rattle.std.specs.Prelude.{◌≡◌, length, string_bytes, OnErr, OnOk};
+ghost use Rattle.mx_commands.specs.Runs.{NamesNodes};
+ghost use Rattle.mx_scripts.specs.Scripts.{IsOver};
+ghost use Rattle.mx_play.specs.Sessions.{Adds, Extends, Loses};
+
+use crate::happening::Happening;
+use crate::moment::Moment;
+use mx_network::Event;
+use mx_nodelaws::Exclusion;
+use mx_plan::Plan;
+use mx_scripts::{Line, LineFault, Order};
+use mx_stamps::{MOST_EVENTS, NodeId};
+use mx_texts::Letter;
+use std::alloc::Global;
+
+/// What a line asks for, as often as it asks. What happened joins the list, and the texts of the events
+/// are added.
+pub(crate) fn repeat<C: Exclusion>(
+    alloc: Global,
+    plan: &Plan,
+    line: &Line,
+    moment: &mut Moment<C>,
+    done: &mut Vec<Happening>,
+    text: &mut String,
+) -> Result<(), LineFault>
+where
+    C::Msg: Letter,
+    requires members { length moment.old.cluster.members ≡ length plan.now.nodes }
+    requires over { IsOver (length plan.now.nodes) (length plan.now.registers) line.now.order }
+    ensures ok { OnOk result (Adds C.core C.Msg.letter_text plan.now moment.old moment.new
+        done.old.items done.new.items (string_bytes text.old) (string_bytes text.new)) }
+    ensures err { OnErr result (Extends done.old.items done.new.items) }
+{
+    for _ in 0..line.times {
+        obey(alloc, plan, &line.order, moment, done, text)?;
+    }
+    Ok(())
+}
+
+/// What an order asks for, once.
+fn obey<C: Exclusion>(
+    alloc: Global,
+    plan: &Plan,
+    order: &Order,
+    moment: &mut Moment<C>,
+    done: &mut Vec<Happening>,
+    text: &mut String,
+) -> Result<(), LineFault>
+where
+    C::Msg: Letter,
+    requires members { length moment.old.cluster.members ≡ length plan.now.nodes }
+    requires over { IsOver (length plan.now.nodes) (length plan.now.registers) order.now }
+    ensures ok { OnOk result (Adds C.core C.Msg.letter_text plan.now moment.old moment.new
+        done.old.items done.new.items (string_bytes text.old) (string_bytes text.new)) }
+    ensures err { OnErr result (Extends done.old.items done.new.items) }
+{
+    match order {
+        Order::Happens(event) => happen(alloc, plan, event, moment, done, text),
+        Order::AllArrive => all_arrive(alloc, plan, moment, done, text),
+        Order::Arrives(from, to) => {
+            let number = moment.oldest_between(*from, *to);
+            arrive(
+                alloc,
+                plan,
+                number,
+                LineFault::NotUnderWay,
+                moment,
+                done,
+                text,
+            )
+        }
+        Order::ArrivesAgain(from, to) => {
+            let number = moment.last_between(*from, *to);
+            arrive(
+                alloc,
+                plan,
+                number,
+                LineFault::NotDelivered,
+                moment,
+                done,
+                text,
+            )
+        }
+        Order::IsLost(from, to) => lose(*from, *to, moment, done),
+    }
+}
+
+/// An event of the nodes of the plan happens, where there may be one more.
+fn happen<C: Exclusion>(
+    alloc: Global,
+    plan: &Plan,
+    event: &Event,
+    moment: &mut Moment<C>,
+    done: &mut Vec<Happening>,
+    text: &mut String,
+) -> Result<(), LineFault>
+where
+    C::Msg: Letter,
+    requires members { length moment.old.cluster.members ≡ length plan.now.nodes }
+    requires named { NamesNodes (length plan.now.nodes) event.now }
+    ensures ok { OnOk result (Adds C.core C.Msg.letter_text plan.now moment.old moment.new
+        done.old.items done.new.items (string_bytes text.old) (string_bytes text.new)) }
+    ensures err { OnErr result (Extends done.old.items done.new.items) }
+{
+    if moment.cluster().trace().len() >= MOST_EVENTS {
+        return Err(LineFault::TooMany);
+    }
+    moment.happen(alloc, plan, event, text)?;
+    done.push(Happening::Happens(*event))?;
+    Ok(())
+}
+
+/// A parcel is delivered, where there is one.
+fn arrive<C: Exclusion>(
+    alloc: Global,
+    plan: &Plan,
+    number: Option<u64>,
+    fault: LineFault,
+    moment: &mut Moment<C>,
+    done: &mut Vec<Happening>,
+    text: &mut String,
+) -> Result<(), LineFault>
+where
+    C::Msg: Letter,
+    requires members { length moment.old.cluster.members ≡ length plan.now.nodes }
+    ensures ok { OnOk result (Adds C.core C.Msg.letter_text plan.now moment.old moment.new
+        done.old.items done.new.items (string_bytes text.old) (string_bytes text.new)) }
+    ensures err { OnErr result (Extends done.old.items done.new.items) }
+{
+    match number {
+        Some(number) => happen(alloc, plan, &Event::Deliver(number), moment, done, text),
+        None => Err(fault),
+    }
+}
+
+/// All parcels under way are delivered, the oldest first, until none is left.
+fn all_arrive<C: Exclusion>(
+    alloc: Global,
+    plan: &Plan,
+    moment: &mut Moment<C>,
+    done: &mut Vec<Happening>,
+    text: &mut String,
+) -> Result<(), LineFault>
+where
+    C::Msg: Letter,
+    requires members { length moment.old.cluster.members ≡ length plan.now.nodes }
+    ensures ok { OnOk result (Adds C.core C.Msg.letter_text plan.now moment.old moment.new
+        done.old.items done.new.items (string_bytes text.old) (string_bytes text.new)) }
+    ensures err { OnErr result (Extends done.old.items done.new.items) }
+{
+    for _ in 0..MOST_EVENTS {
+        let Some(number) = moment.oldest() else {
+            return Ok(());
+        };
+        happen(alloc, plan, &Event::Deliver(number), moment, done, text)?;
+    }
+    Ok(())
+}
+
+/// The oldest parcel under way from one node to another is lost.
+fn lose<C: Exclusion>(
+    from: NodeId,
+    to: NodeId,
+    moment: &mut Moment<C>,
+    done: &mut Vec<Happening>,
+) -> Result<(), LineFault>
+    ensures ok { OnOk result (Loses C.core moment.old moment.new done.old.items done.new.items) }
+    ensures err { OnErr result (Extends done.old.items done.new.items) }
+{
+    let Some(number) = moment.oldest_between(from, to) else {
+        return Err(LineFault::NotUnderWay);
+    };
+    moment.lose(number);
+    done.push(Happening::IsLost(number))?;
+    Ok(())
+}
