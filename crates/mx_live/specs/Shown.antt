@@ -7,11 +7,15 @@ use Rattle.mx_plan.specs.Fields.{Fields}
 use Rattle.mx_texts.specs.Lines.{texts_from}
 use Rattle.mx_texts.specs.NodeTexts.{register_in}
 
+-- a name, what stands behind it, and a number
+abbrev pub number_line : Text → Text → ℕ → Text
+number_line name sign number = name ++ sign ++ decimal number ++ line_feed
+
 abbrev pub count_line : Text → ℕ → Text
-count_line name count = name ++ codes " " ++ decimal count ++ line_feed
+count_line name count = number_line name (codes " ") count
 
 abbrev pub value_line : Text → ℕ → Text
-value_line name value = name ++ codes "=" ++ decimal value ++ line_feed
+value_line name value = number_line name (codes "=") value
 
 -- a line for each register, with its value in the journal
 abbrev pub value_lines : Fields → JournalState → Text

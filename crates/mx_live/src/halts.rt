@@ -59,10 +59,7 @@ impl From<OutputFault> for Halt {
     ghost from_gives = { λ fault halt. halt ≡ halt_of_put fault };
 
     fn from(fault: OutputFault) -> Halt {
-        match fault {
-            OutputFault::Refused => Halt::Writer,
-            OutputFault::Memory => Halt::Memory,
-        }
+        Halt::from(Stop::from(fault))
     }
 }
 

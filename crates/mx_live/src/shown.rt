@@ -2,7 +2,7 @@
 
 ghost use Rattle.std.specs.Prelude.{◌≡◌, ◌++◌, Some, codes, string_bytes, OnOk};
 ghost use Rattle.mx_texts.specs.EventTexts.{register_name_of};
-ghost use Rattle.mx_live.specs.Shown.{count_line, live_text, value_line, value_lines};
+ghost use Rattle.mx_live.specs.Shown.{live_text, number_line, value_lines};
 
 use mx_journal::Journal;
 use mx_plan::Plan;
@@ -10,33 +10,19 @@ use mx_registers::view;
 use std::alloc::AllocError;
 use std::fmt;
 
-/// The name of a count, and the count.
+/// A name, what stands behind it, and a number.
 #[derive(Clone, Copy)]
-struct CountLine<'a> {
+struct NumberLine<'a> {
     name: &'a str,
-    count: u64,
+    sign: &'a str,
+    number: u64,
 }
 
-impl fmt::Display for CountLine<'_> {
-    ghost output = { λ l. Some (count_line l.name.now l.count) };
+impl fmt::Display for NumberLine<'_> {
+    ghost output = { λ l. Some (number_line l.name.now l.sign.now l.number) };
 
     fn fmt<W: fmt::Write>(&self, f: &mut fmt::Formatter<W>) -> fmt::Result {
-        writeln!(f, "{} {}", self.name, self.count)
-    }
-}
-
-/// The name of a register and its value.
-#[derive(Clone, Copy)]
-struct ValueLine<'a> {
-    name: &'a str,
-    value: u64,
-}
-
-impl fmt::Display for ValueLine<'_> {
-    ghost output = { λ l. Some (value_line l.name.now l.value) };
-
-    fn fmt<W: fmt::Write>(&self, f: &mut fmt::Formatter<W>) -> fmt::Result {
-        writeln!(f, "{}={}", self.name, self.value)
+        writeln!(f, "{}{}{}", self.name, self.sign, self.number)
     }
 }
 
@@ -50,13 +36,15 @@ pub fn add_journal(
     ensures { OnOk result (string_bytes text.new
         ≡ string_bytes text.old ++ live_text plan.now receipts journal.now) }
 {
-    text.write(CountLine {
+    text.write(NumberLine {
         name: "receipts",
-        count: receipts,
+        sign: " ",
+        number: receipts,
     })?;
-    text.write(CountLine {
+    text.write(NumberLine {
         name: "gapless",
-        count: journal.gapless_to(),
+        sign: " ",
+        number: journal.gapless_to(),
     })?;
     add_values(plan, journal, text)
 }
@@ -68,9 +56,10 @@ fn add_values(plan: &Plan, journal: &Journal, text: &mut String) -> Result<(), A
 {
     let shown = view(journal, plan.registers());
     for register in 0..plan.registers() {
-        text.write(ValueLine {
+        text.write(NumberLine {
             name: name_of(plan, register),
-            value: shown.value(register).unwrap_or(0),
+            sign: "=",
+            number: shown.value(register).unwrap_or(0),
         })?;
     }
     Ok(())
