@@ -1,6 +1,7 @@
 -- What the stations of a live run have together.
 use Rattle.std.specs.Prelude.{◌≡◌, ◌↔◌, ℕ, suc, ◌≤◌, ◌<◌, List, Some, map, length, slice_get, ◌==◌}
 use Rattle.std.specs.List.{count_by}
+use Rattle.mx_stamps.specs.declared.limits.TheConstants.{MOST_REGISTERS}
 use Rattle.mx_stamps.specs.Lists.{IsIn}
 use Rattle.mx_journal.specs.declared.receipts.Read.{Read}
 use Rattle.mx_journal.specs.declared.receipts.Receipt.{Receipt}
@@ -36,7 +37,7 @@ pub record AreSerial (receipts : List Receipt) (journal : JournalState) : Type 0
   pub reads : (k : ℕ) (r : Receipt) (x : Read) → slice_get receipts k ≡ Some r
       → IsIn x r.reads.items → IsSerialRead (writes_to k (map record_of receipts)) r.writes.items x
   -- and each register of the journal has what the writes of all receipts, in order, leave
-  pub shows : (count : ℕ) → count ≤ 32
+  pub shows : (count : ℕ) → count ≤ MOST_REGISTERS
       → AreApplied (writes_to (length receipts) (map record_of receipts))
       (registers_in count journal)
 

@@ -4,6 +4,7 @@ ghost use Rattle.std.specs.Prelude.{All, ◌≡◌, ◌≤◌, length, IfErr, If
 ghost use Rattle.atomic_table.specs.Seated.{TableId};
 ghost use Rattle.mx_plan.specs.Fields.{Fields};
 ghost use Rattle.mx_stations.specs.Gathered.{IsGathered, IsWhole, OfOneTable};
+ghost use Rattle.mx_stamps.specs.declared.limits.TheConstants.{MOST_NODES};
 ghost use Rattle.mx_live.specs.declared.threads.Orders.{Orders as TheOrders};
 ghost use Rattle.mx_live.specs.Halts.{HaltsIn, RanInVain};
 ghost use Rattle.mx_live.specs.Stations.{AreAll, AreAtRest, AreReady};
@@ -213,7 +214,7 @@ fn watch_over<C: Exclusion>(stations: &[Station<C>]) -> Result<Option<Watch<C>>,
 
 /// The gate of this many nodes.
 fn shared_gate(alloc: Global, nodes: u8) -> Result<Arc<Assembly, Global>, AllocError>
-    requires { nodes ≤ 21 }
+    requires { nodes ≤ MOST_NODES }
 {
     let gate = Arc::new(alloc, Assembly::new(nodes, MOST_LOOKS))?;
     Ok(gate)
