@@ -18,7 +18,7 @@ use Rattle.clap.specs.declared.parser.matches.ArgMatches.{ArgMatches}
 use Rattle.mx_cli.specs.declared.words.Exploration.{Exploration}
 use Rattle.mx_cli.specs.declared.words.Names.{Names}
 use Rattle.mx_cli.specs.declared.words.Request.{Request as Given}
-use Rattle.mx_cli.specs.declared.words.Request.TheVariants.{Check, Asks, Replay, Explore}
+use Rattle.mx_cli.specs.declared.words.Request.TheVariants as given
 use Rattle.clap.specs.declared.error.Error.{Error}
 use Rattle.clap.specs.declared.error.kind.ErrorKind.{ErrorKind}
 use Rattle.clap.specs.declared.error.kind.ErrorKind.TheVariants.{DisplayHelp, DisplayVersion}
@@ -179,10 +179,10 @@ abbrev pub explored : Exploration → Text × (ℕ × ℕ)
 explored exploration = (exploration.plan.now, (exploration.seed, exploration.steps))
 
 abbrev pub request_of : Given → Request
-request_of (Check plan) = check plan.now
-request_of (Asks plan) = asks plan.now
-request_of (Replay names) = replay (names_of names)
-request_of (Explore exploration) = explore exploration.plan.now exploration.seed exploration.steps
+request_of (given.Check plan) = check plan.now
+request_of (given.Asks plan) = asks plan.now
+request_of (given.Replay names) = replay (names_of names)
+request_of (given.Explore exploration) = explore exploration.plan.now exploration.seed exploration.steps
 
 -- the number that a text writes, where it is one of 64 bits
 abbrev pub number_of : Text → Option ℕ
