@@ -10,7 +10,7 @@ ghost use Rattle.mx_count.specs.Printed.{PrintsCounts};
 
 use crate::printing::{count_listed, count_schedule};
 use crate::words::{Request, asked};
-use mx_cli::{Exploration, Names, Stop, close, fetch_both, fetch_plan, refuse};
+use mx_cli::{Exploration, Named, Names, Stop, close, fetch_named, fetch_plan, naming, refuse};
 use mx_io::{Output, Source};
 use std::alloc::Global;
 
@@ -84,8 +84,9 @@ fn count_given<S: Source, O: Output>(
         (O.written out.old) (O.written out.new)) }
     ensures zero { IfOk result (λ status. status ≡ 0) }
 {
-    let both = fetch_both(alloc, source, names)?;
-    count_listed(alloc, &both.plan, both.text.as_slice(), out)
+    let both = fetch_named(alloc, source, names)?;
+    let ended = count_listed(alloc, &both.plan, both.text.as_slice(), out);
+    naming(ended, Named::Events)
 }
 
 /// Reads a plan, draws a schedule of this many steps, and prints what is counted of it.
