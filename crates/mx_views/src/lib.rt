@@ -3,6 +3,7 @@
 
 mod closing_lines;
 mod event_json;
+mod halts;
 mod json;
 mod letter_json;
 mod node_json;

@@ -6,14 +6,16 @@ ghost use Rattle.mx_cli.specs.Told.{Answers, seen};
 ghost use Rattle.mx_cli.specs.Closed.{IsRunStatus};
 ghost use Rattle.mx_views.specs.ViewWords.{request_asked, view_line};
 
+use crate::halts::{Halt, Stranger};
 use crate::selection::Selection;
 use crate::showing::show;
 use crate::words::{Request, asked};
-use mx_cli::{Fault, Stop, close, fetch_both, refuse};
+use mx_cli::{Named, Stop, close, fetch_named, refuse, stop_named, tell_line};
 use mx_commands::by_shape;
+use mx_diagnosis::told_of_node;
 use mx_io::{Output, Source};
 use mx_network::Event;
-use mx_plan::{Place, Plan, PlanFault, read_events};
+use mx_plan::{Plan, read_events};
 use mx_stamps::NodeId;
 use std::alloc::Global;
 
@@ -33,12 +35,26 @@ pub fn replay_view<S: Source, O: Output, E: Output>(
         (seen O.Output E.Output out.old err.old) (seen O.Output E.Output out.new err.new) result }
 {
     match asked(alloc, words) {
-        Ok(Some(request)) => {
-            let ended = view_run(alloc, &request, source, out);
-            close(alloc, ended, &request.names, out, err)
-        }
+        Ok(Some(request)) => view_and_close(alloc, &request, source, out, err),
         Ok(None) => 2,
         Err(e) => refuse(alloc, &e, out, err),
+    }
+}
+
+/// Shows what is asked for, and closes the run. Returns the status.
+fn view_and_close<S: Source, O: Output, E: Output>(
+    alloc: Global,
+    request: &Request<'_>,
+    source: &mut S,
+    out: &mut O,
+    err: &mut E,
+) -> u8
+    ensures { IsRunStatus result }
+{
+    match view_run(alloc, request, source, out) {
+        Ok(status) => close(alloc, Ok(status), &request.names, out, err),
+        Err(Halt::Stop(stop)) => close(alloc, Err(stop), &request.names, out, err),
+        Err(Halt::NoNode(stranger)) => tell_line(alloc, stranger, err),
     }
 }
 
@@ -48,12 +64,20 @@ fn view_run<S: Source, O: Output>(
     request: &Request<'_>,
     source: &mut S,
     out: &mut O,
-) -> Result<u8, Stop>
+) -> Result<u8, Halt>
     ensures zero { IfOk result (λ status. status ≡ 0) }
 {
-    let both = fetch_both(alloc, source, &request.names)?;
-    let events = read_events(alloc, both.text.as_slice(), &both.plan)?;
+    let both = fetch_named(alloc, source, &request.names)?;
+    let events = events_in(alloc, both.text.as_slice(), &both.plan)?;
     view_events(alloc, request, &both.plan, events.as_slice(), out)
+}
+
+/// The events that a text lists. One that is no JSON is named.
+fn events_in(alloc: Global, text: &[u8], plan: &Plan) -> Result<Vec<Event>, Stop> {
+    match read_events(alloc, text, plan) {
+        Ok(events) => Ok(events),
+        Err(fault) => Err(stop_named(Stop::from(fault), Named::Events)),
+    }
 }
 
 /// Shows what is asked for of the replay of these events.
@@ -63,26 +87,27 @@ fn view_events<O: Output>(
     plan: &Plan,
     events: &[Event],
     out: &mut O,
-) -> Result<u8, Stop>
+) -> Result<u8, Halt>
     ensures zero { IfOk result (λ status. status ≡ 0) }
 {
     let selection = Selection {
         plan,
         is_quiet: request.is_quiet,
-        node: node_in(plan, request.node)?,
+        node: node_in(alloc, plan, request.node)?,
         is_json: request.is_json,
     };
-    show_by_shape(alloc, &selection, events, out)
+    let status = show_by_shape(alloc, &selection, events, out)?;
+    Ok(status)
 }
 
 /// The node of this name, where one is named.
-fn node_in(plan: &Plan, name: Option<&str>) -> Result<Option<NodeId>, Stop> {
+fn node_in(alloc: Global, plan: &Plan, name: Option<&str>) -> Result<Option<NodeId>, Halt> {
     let Some(name) = name else {
         return Ok(None);
     };
     match plan.node(name) {
         Some(node) => Ok(Some(node)),
-        None => Err(Stop::Fault(Fault::BadText(PlanFault::UnknownName(Place::Nodes)))),
+        None => Err(Halt::NoNode(Stranger(told_of_node(alloc, plan, name)?))),
     }
 }
 
