@@ -1,0 +1,19 @@
+use Rattle.std.proofs.Common.{◌≡◌, ◌∙◌, ◌++◌, Bool, false, [], if◌then◌else◌, string_bytes, subst, sym}
+use Rattle.std.specs.Prelude.{◌&&◌}
+use Rattle.mx_stamps.proofs.Lists.{append_nil}
+use Rattle.mx_plan.specs.Text.{Text}
+use Rattle.mx_texts.specs.ParcelTexts.{parcel_line}
+use Rattle.mx_scripts.specs.Fates.{is_under_way}
+use Rattle.mx_play.specs.Sessions.{is_to}
+use Rattle.mx_play.proofs.showing.add_parcel.Goals as goal
+
+not_shown : (b : Bool) (line text : Text) → b ≡ false → text ≡ text ++ (if b then line else [])
+not_shown b line text is = subst (λ (q : Bool). text ≡ text ++ (if q then line else [])) (sym is) (sym (append_nil text))
+
+pub returns : goal.returns
+returns g c =
+    let m = c.args.moment.now in
+    let parcel = c.args.parcel in
+    not_shown (is_under_way m.fates c.args.number && is_to c.args.to.now parcel.1)
+    (parcel_line g.C.Msg.Letter.letter_text c.args.plan.now c.args.number (parcel.0, parcel.1, parcel.2.now))
+    (string_bytes c.args.text.now) (sym c.is_waiting.ensures ∙ c.if-is_waiting.false)

@@ -1,0 +1,129 @@
+//! What a line comes to.
+
+ghost use Rattle.std.specs.Prelude.{◌≡◌, [], IfOk, MatchOption, OnOk, length, slice_index_or, string_bytes, take};
+ghost use Rattle.mx_scripts.specs.Scripts.{IsOver};
+ghost use Rattle.mx_play.specs.Moments.{CanLead, Leads, first_moment};
+ghost use Rattle.mx_play.specs.Sessions.{Comes, IsSession, state};
+ghost use Rattle.mx_play.specs.Sessions as turn;
+
+use crate::faults::Complaint;
+use crate::moment::go_back;
+use crate::orders::repeat;
+use crate::session::Session;
+use mx_nodelaws::Exclusion;
+use mx_plan::Plan;
+use mx_scripts::{Line, LineFault};
+use mx_texts::Letter;
+use std::alloc::{AllocError, Global};
+
+/// A line of a script happens, and its events are printed; or nothing happens.
+fn do_line<C: Exclusion>(
+    alloc: Global,
+    plan: &Plan,
+    shape: &C::Shape,
+    line: &Line,
+    session: &mut Session<C>,
+    text: &mut String,
+) -> Result<Option<Complaint>, AllocError>
+where
+    C::Msg: Letter,
+    requires is { IsSession C.core plan.now shape.now
+        (state session.old.moment session.old.done.items session.old.marks.items) }
+    requires over { IsOver (length plan.now.nodes) (length plan.now.registers) line.now.order }
+    requires empty { string_bytes text.old ≡ [] }
+    ensures turned { IfOk result (λ fault. MatchOption fault
+        (Comes C.core C.Msg.letter_text plan.now shape.now turn.does
+        (state session.old.moment session.old.done.items session.old.marks.items)
+        (state session.new.moment session.new.done.items session.new.marks.items) (string_bytes text.new))
+        (λ _. Comes C.core C.Msg.letter_text plan.now shape.now turn.rests
+        (state session.old.moment session.old.done.items session.old.marks.items)
+        (state session.new.moment session.new.done.items session.new.marks.items) (string_bytes text.new))) }
+    ensures is { IfOk result (λ _. IsSession C.core plan.now shape.now
+        (state session.new.moment session.new.done.items session.new.marks.items)) }
+{
+    let before = session.done.len();
+    match repeat(
+        alloc,
+        plan,
+        line,
+        &mut session.moment,
+        &mut session.done,
+        text,
+    ) {
+        Ok(()) => {
+            session.marks.push(before)?;
+            Ok(None)
+        }
+        Err(LineFault::Memory) => Err(AllocError),
+        Err(fault) => {
+            take_to(alloc, plan, shape, before, session)?;
+            text.clear();
+            Ok(Some(Complaint::Line(fault)))
+        }
+    }
+}
+
+/// The last lines never happened; or nothing changes, where there are fewer.
+fn take_back<C: Exclusion>(
+    alloc: Global,
+    plan: &Plan,
+    shape: &C::Shape,
+    count: u64,
+    session: &mut Session<C>,
+) -> Result<Option<Complaint>, AllocError>
+where
+    C::Msg: Letter,
+    requires is { IsSession C.core plan.now shape.now
+        (state session.old.moment session.old.done.items session.old.marks.items) }
+    ensures turned { IfOk result (λ fault. MatchOption fault
+        (Comes C.core C.Msg.letter_text plan.now shape.now (turn.takes_back count)
+        (state session.old.moment session.old.done.items session.old.marks.items)
+        (state session.new.moment session.new.done.items session.new.marks.items) [])
+        (λ _. Comes C.core C.Msg.letter_text plan.now shape.now turn.rests
+        (state session.old.moment session.old.done.items session.old.marks.items)
+        (state session.new.moment session.new.done.items session.new.marks.items) [])) }
+    ensures is { IfOk result (λ _. IsSession C.core plan.now shape.now
+        (state session.new.moment session.new.done.items session.new.marks.items)) }
+{
+    let lines = session.marks.len();
+    if count > lines as u64 {
+        return Ok(Some(Complaint::TooFew(lines)));
+    }
+    let left = lines - count as usize;
+    let before = mark_at(session.marks.as_slice(), left, session.done.len());
+    session.marks.truncate(left);
+    take_to(alloc, plan, shape, before, session)?;
+    Ok(None)
+}
+
+/// What happened beyond this much never happened.
+fn take_to<C: Exclusion>(
+    alloc: Global,
+    plan: &Plan,
+    shape: &C::Shape,
+    count: usize,
+    session: &mut Session<C>,
+) -> Result<(), AllocError>
+    requires { CanLead C.core (first_moment C.core plan.now shape.now)
+        (take count session.old.done.items) }
+    ensures leads { OnOk result (Leads C.core (first_moment C.core plan.now shape.now)
+        (take count session.old.done.items) session.new.moment) }
+    ensures listed { session.new.done.items ≡ take count session.old.done.items }
+    ensures marks { session.new.marks.items ≡ session.old.marks.items }
+{
+    go_back(
+        alloc,
+        plan,
+        shape,
+        count,
+        &mut session.moment,
+        &mut session.done,
+    )
+}
+
+/// How much had happened before the line of this number, counted from 0; or all, where there is none.
+fn mark_at(marks: &[usize], line: usize, all: usize) -> usize
+    ensures { result ≡ slice_index_or marks.now line all }
+{
+    if line < marks.len() { marks[line] } else { all }
+}

@@ -1,0 +1,62 @@
+//! The texts of help.
+
+ghost use Rattle.std.specs.Prelude.{◌≡◌, ◌++◌, OnOk, string_bytes};
+ghost use Rattle.mx_play.specs.Help.{words_text};
+
+use std::alloc::AllocError;
+
+/// Appends a line for each word of a session.
+#[tactic(auto, unfolding(crate::specs::Help::words_text))]
+pub(crate) fn add_words(text: &mut String) -> Result<(), AllocError>
+    ensures { OnOk result (string_bytes text.new ≡ string_bytes text.old ++ words_text) }
+{
+    text.push_str(WORDS)
+}
+
+/// A line for each word of a session.
+const WORDS: &str = "ask N         node N asks to enter\n\
+    enter N       node N enters, where it may\n\
+    read N R      node N, inside, reads register R\n\
+    write N R V   node N, inside, writes the number V to register R\n\
+    leave N       node N leaves\n\
+    cancel N      node N gives its request up\n\
+    tick N        node N sends again what may be lost\n\
+    want N M      node N asks node M for records that it lacks\n\
+    settle N K    node N settles the sections up to K\n\
+    restart N     node N starts again, and keeps its journal\n\
+    deliver K     parcel K arrives\n\
+    deliver N M   the oldest parcel under way from N to M arrives\n\
+    deliver all   all that are under way arrive, and those that they bring about\n\
+    lose N M      the oldest parcel under way from N to M is lost\n\
+    again N M     the parcel from N to M that arrived last arrives once more\n\
+    times T ..    what follows, T times\n\
+    show          each node, and the parcels under way\n\
+    show N        node N, and the parcels under way to it\n\
+    undo          the last line that was done never happened\n\
+    undo K        the last K lines that were done never happened\n\
+    events        the events so far, as a file that `mx replay` reads\n\
+    help          these words\n\
+    end           the closing lines and the verdict, and the end\n";
+
+pub(crate) const ABOUT_PLAY: &str =
+    "Reads lines of a script one at a time, and prints what comes of each before it reads the next";
+
+pub(crate) const PLAY_EXAMPLE: &str =
+    "Example: node a enters; then the last two lines never happened.
+
+  plan.json    {\"algorithm\":\"ricart\",\"nodes\":[\"a\",\"b\",\"c\"],\"registers\":[\"count\"],\"sections\":1000}
+
+  mx play plan.json
+  ask a
+  deliver all
+  show a
+  enter a
+  undo 2
+  end
+
+A line is that of a script, as `mx script --help` tells them, and what is printed of it is what `mx replay`
+prints of its events. `show` tells where each node stands, and which parcels are under way, `show N` that of
+one node. `undo` takes the last line back that did something, `undo K` the last K. `events` prints the events
+so far, as a file that `mx replay` reads, and `help` all words. A line at fault is told on standard error, and
+changes nothing. `end`, or the end of standard input, prints the closing lines and the verdict. Where a script
+is named its lines come first.";

@@ -1,0 +1,171 @@
+//! What is shown of a session.
+
+ghost use Rattle.std.specs.Prelude.{◌≡◌, ◌+◌, ◌<◌, ◌++◌, ◌&&◌, drop, length, string_bytes, OnOk, Some};
+ghost use Rattle.mx_texts.specs.Lines.{texts_from};
+ghost use Rattle.mx_scripts.specs.Fates.{is_under_way};
+ghost use Rattle.mx_scripts.specs.Files.{file_text};
+ghost use Rattle.mx_scripts.specs.Played.{events_of};
+ghost use Rattle.mx_play.specs.Sessions.{is_to, standing_lines, waiting_line, waiting_lines};
+
+use crate::moment::Moment;
+use mx_commands::add_nodes;
+use mx_member::Parcel;
+use mx_network::Cluster;
+use mx_nodelaws::Exclusion;
+use mx_plan::Plan;
+use mx_scripts::add_file;
+use mx_stamps::NodeId;
+use mx_texts::{Letter, add_member_line, add_parcel_line};
+use std::alloc::AllocError;
+
+/// Appends the line of each node, or of one, and those of the parcels under way to it.
+pub(crate) fn show<C: Exclusion>(
+    plan: &Plan,
+    to: &Option<NodeId>,
+    moment: &Moment<C>,
+    text: &mut String,
+) -> Result<(), AllocError>
+where
+    C::Msg: Letter,
+    requires { length moment.now.cluster.members ≡ length plan.now.nodes }
+    ensures { OnOk result (string_bytes text.new ≡ string_bytes text.old
+        ++ (standing_lines C.core C.Msg.letter_text plan.now to.now moment.now.cluster
+        ++ waiting_lines C.core C.Msg.letter_text plan.now to.now moment.now)) }
+{
+    add_standing(plan, to, moment.cluster(), text)?;
+    add_waiting(plan, to, moment, text)
+}
+
+/// Appends the events of a cluster as a file.
+pub(crate) fn add_events<C: Exclusion>(
+    plan: &Plan,
+    moment: &Moment<C>,
+    text: &mut String,
+) -> Result<(), AllocError>
+    ensures { OnOk result (string_bytes text.new ≡ string_bytes text.old
+        ++ file_text plan.now (events_of moment.now.cluster.trace)) }
+{
+    add_file(plan, moment.cluster().trace(), text)
+}
+
+/// Appends the line of each node, or of one.
+fn add_standing<C: Exclusion>(
+    plan: &Plan,
+    to: &Option<NodeId>,
+    cluster: &Cluster<C>,
+    text: &mut String,
+) -> Result<(), AllocError>
+where
+    C::Msg: Letter,
+    requires { length cluster.now.members ≡ length plan.now.nodes }
+    ensures { OnOk result (string_bytes text.new ≡ string_bytes text.old
+        ++ standing_lines C.core C.Msg.letter_text plan.now to.now cluster.now) }
+{
+    match to {
+        Some(node) => add_one(plan, *node, cluster, text),
+        None => add_nodes(plan, cluster, text),
+    }
+}
+
+/// Appends the line of a node.
+fn add_one<C: Exclusion>(
+    plan: &Plan,
+    node: NodeId,
+    cluster: &Cluster<C>,
+    text: &mut String,
+) -> Result<(), AllocError>
+where
+    C::Msg: Letter,
+    ensures { OnOk result (string_bytes text.new ≡ string_bytes text.old
+        ++ standing_lines C.core C.Msg.letter_text plan.now (Some node) cluster.now) }
+{
+    match cluster.member(node) {
+        Some(member) => add_member_line(plan, node, member, text),
+        None => Ok(()),
+    }
+}
+
+/// Appends the lines of the parcels under way, the oldest first.
+fn add_waiting<C: Exclusion>(
+    plan: &Plan,
+    to: &Option<NodeId>,
+    moment: &Moment<C>,
+    text: &mut String,
+) -> Result<(), AllocError>
+where
+    C::Msg: Letter,
+    ensures { OnOk result (string_bytes text.new ≡ string_bytes text.old
+        ++ waiting_lines C.core C.Msg.letter_text plan.now to.now moment.now) }
+{
+    for number in 0..moment.cluster().sent() {
+        add_if_waiting(plan, to, moment, number, text)?;
+    }
+    Ok(())
+}
+
+/// Appends the line of a parcel, where it is under way.
+fn add_if_waiting<C: Exclusion>(
+    plan: &Plan,
+    to: &Option<NodeId>,
+    moment: &Moment<C>,
+    number: u64,
+    text: &mut String,
+) -> Result<(), AllocError>
+where
+    C::Msg: Letter,
+    requires { number < length moment.now.cluster.sent }
+    ensures { OnOk result (string_bytes text.old
+        ++ texts_from (waiting_line C.core C.Msg.letter_text plan.now to.now moment.now)
+        number (drop number moment.now.cluster.sent)
+        ≡ string_bytes text.new
+        ++ texts_from (waiting_line C.core C.Msg.letter_text plan.now to.now moment.now)
+        (number + 1) (drop (number + 1) moment.now.cluster.sent)) }
+{
+    match moment.cluster().parcel(number) {
+        Some(parcel) => add_parcel(plan, to, moment, number, parcel, text),
+        None => unreachable!(),
+    }
+}
+
+/// Appends the line of a parcel that was sent, where it is under way.
+fn add_parcel<C: Exclusion>(
+    plan: &Plan,
+    to: &Option<NodeId>,
+    moment: &Moment<C>,
+    number: u64,
+    parcel: (NodeId, NodeId, &Parcel<C::Msg>),
+    text: &mut String,
+) -> Result<(), AllocError>
+where
+    C::Msg: Letter,
+    ensures { OnOk result (string_bytes text.new ≡ string_bytes text.old
+        ++ waiting_line C.core C.Msg.letter_text plan.now to.now moment.now
+        number (parcel.entry.0, parcel.entry.1, parcel.entry.2.now)) }
+{
+    if is_waiting(to, moment, number, parcel.1) {
+        return add_parcel_line(plan, number, parcel.0, parcel.1, parcel.2, text);
+    }
+    Ok(())
+}
+
+/// Whether a parcel is under way to the node that is named, where one is.
+fn is_waiting<C: Exclusion>(
+    to: &Option<NodeId>,
+    moment: &Moment<C>,
+    number: u64,
+    addressee: NodeId,
+) -> bool
+    ensures { result ≡ (is_under_way moment.now.fates number && is_to to.now addressee) }
+{
+    moment.is_under_way(number) && is_to(to, addressee)
+}
+
+/// Whether a parcel goes to the node that is named, where one is.
+fn is_to(to: &Option<NodeId>, addressee: NodeId) -> bool
+    ensures { result ≡ is_to to.now addressee }
+{
+    match to {
+        Some(node) => addressee == *node,
+        None => true,
+    }
+}
