@@ -148,7 +148,8 @@ with_listed line name = with_subcommand line (new_app name).top
 abbrev pub with_others : App → App
 with_others line =
     let drawn = with_listed (with_listed (with_listed line (codes "live")) (codes "draw")) (codes "script") in
-    with_listed (with_listed (with_listed drawn (codes "picture")) (codes "count")) (codes "explain")
+    let shown = with_listed (with_listed drawn (codes "play")) (codes "picture") in
+    with_listed (with_listed shown (codes "count")) (codes "explain")
 
 -- the commands whose words are read by the whole command line
 abbrev pub with_read : App → App

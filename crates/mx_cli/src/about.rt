@@ -7,6 +7,9 @@ pub const ABOUT_DRAW: &str = "Prints events drawn from a seed, as a file that `r
 
 pub const ABOUT_SCRIPT: &str = "Prints the events of a script, as a file that `replay` reads";
 
+pub const ABOUT_PLAY: &str =
+    "Reads lines of a script, does each at once, and prints what came of it";
+
 pub const ABOUT_PICTURE: &str =
     "Prints a picture of what comes of events: an SVG in which time goes down";
 

@@ -26,8 +26,12 @@ pub(crate) const MX_EXAMPLE: &str =
 
   mx check plan.json
   mx replay plan.json events.json
+  mx explain plan.json events.json
   mx picture plan.json events.json > picture.svg
   mx count plan.json events.json
+  mx play plan.json
+  mx draw plan.json --seed 1 --steps 100 > drawn.json
+  mx script plan.json script.txt > scripted.json
   mx explore plan.json --seed 1 --steps 1000
   mx live plan.json --sections 3 --seed 1 --turns 10000000
 

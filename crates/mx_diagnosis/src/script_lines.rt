@@ -1,15 +1,16 @@
-//! What is wrong in a line of a script, by itself.
+//! What is wrong in a line of a script or of a session, by itself.
 
 use crate::event_faults::{Form, Known, Wanted, form_of};
 use crate::nearest::nearest;
 use crate::script_words::{Word, words_in};
+use crate::session_words::{LISTED_IN_SESSION, WORDS_OF_SESSION, session_form};
 use crate::values::is_among;
 use crate::wrong_words::WrongWord;
 use mx_events::EventKind;
 use mx_stamps::MOST_EVENTS;
 use std::alloc::{AllocError, Global};
 
-/// The words with which a line may begin.
+/// The words with which a line of a script may begin.
 const WORDS: [&str; 14] = [
     "ask", "enter", "read", "write", "leave", "cancel", "settle", "tick", "want", "deliver",
     "restart", "lose", "again", "times",
@@ -32,34 +33,56 @@ const DELIVERY: Form = Form {
 
 const REPEATED: &str = "a number and a line behind the word";
 
-/// How a line is looked at: by which names, and whether words that were meant are looked for.
+/// How a line is looked at: by which names, whether it is one of a session, and whether words that were
+/// meant are looked for.
 #[derive(Clone, Copy)]
 struct Reader<'a> {
     alloc: Global,
     known: Known<'a>,
+    is_session: bool,
     asks_nearest: bool,
 }
 
-/// What is wrong in a line, by the names that are known; with the words that were meant, if these are
-/// asked for. Where no nodes are known, names of nodes are not looked at; so too with registers.
+/// What is wrong in a line of a script, by the names that are known; with the words that were meant, if
+/// these are asked for. Where no nodes are known, names of nodes are not looked at; so too with registers.
 pub(crate) fn wrong_words<'a>(
     alloc: Global,
     known: Known<'a>,
     line: &'a str,
     asks_nearest: bool,
 ) -> Result<Vec<WrongWord<'a>>, AllocError> {
-    let words = words_in(alloc, line)?;
-    let mut found = Vec::new(alloc);
     let reader = Reader {
         alloc,
         known,
+        is_session: false,
         asks_nearest,
     };
-    reader.read_line(words.as_slice(), &mut found)?;
-    Ok(found)
+    reader.wrong_in(line)
+}
+
+/// What is wrong in a line of a session, by the names that are known, with the words that were meant.
+pub(crate) fn wrong_words_of_session<'a>(
+    alloc: Global,
+    known: Known<'a>,
+    line: &'a str,
+) -> Result<Vec<WrongWord<'a>>, AllocError> {
+    let reader = Reader {
+        alloc,
+        known,
+        is_session: true,
+        asks_nearest: true,
+    };
+    reader.wrong_in(line)
 }
 
 impl<'a> Reader<'a> {
+    fn wrong_in(&self, line: &'a str) -> Result<Vec<WrongWord<'a>>, AllocError> {
+        let words = words_in(self.alloc, line)?;
+        let mut found = Vec::new(self.alloc);
+        self.read_line(words.as_slice(), &mut found)?;
+        Ok(found)
+    }
+
     /// A line without words asks for nothing.
     fn read_line(
         &self,
@@ -70,9 +93,26 @@ impl<'a> Reader<'a> {
             Some((first, behind)) if first.text == "times" => {
                 self.read_times(first, behind, found)
             }
+            Some((first, behind)) if self.is_session => self.read_wish(first, behind, found),
             Some((first, behind)) => self.read_order(first, behind, found),
             None => Ok(()),
         }
+    }
+
+    /// A word of a session, and what it asks for.
+    fn read_wish(
+        &self,
+        first: &Word<'a>,
+        arguments: &[Word<'a>],
+        found: &mut Vec<WrongWord<'a>>,
+    ) -> Result<(), AllocError> {
+        if let Some(form) = session_form(first.text, arguments.len()) {
+            return self.read_form(form, first, arguments, found);
+        }
+        if is_among(first.text, &WORDS) {
+            return self.read_order(first, arguments, found);
+        }
+        self.expect_among(first, &WORDS_OF_SESSION, LISTED_IN_SESSION, found)
     }
 
     /// A number, and a line that is done so often.
@@ -107,6 +147,17 @@ impl<'a> Reader<'a> {
         let Some(form) = form_for(first.text, arguments.len()) else {
             return self.expect_among(first, &WORDS, LISTED, found);
         };
+        self.read_form(form, first, arguments, found)
+    }
+
+    /// A word, and what follows it where it is of this form.
+    fn read_form(
+        &self,
+        form: Form,
+        first: &Word<'a>,
+        arguments: &[Word<'a>],
+        found: &mut Vec<WrongWord<'a>>,
+    ) -> Result<(), AllocError> {
         if form.items.len() != arguments.len() {
             return add(
                 found,

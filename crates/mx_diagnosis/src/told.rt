@@ -3,8 +3,9 @@
 use crate::event_faults::Known;
 use crate::lines::{Nearest, Quoted};
 use crate::nearest::nearest;
-use crate::script_lines::wrong_words;
+use crate::script_lines::{wrong_words, wrong_words_of_session};
 use crate::shown::Shown;
+use crate::wrong_words::WrongWord;
 use mx_plan::Plan;
 use std::alloc::{AllocError, Global};
 use std::fmt;
@@ -19,6 +20,23 @@ pub fn told_of_line(alloc: Global, plan: &Plan, line: &str) -> Result<String, Al
         registers: registers.as_slice(),
     };
     let wrong = wrong_words(alloc, known, line, true)?;
+    told_of_first(alloc, wrong.as_slice(), line)
+}
+
+/// As `told_of_line`, of a line of a session: one of a script, or `show`, `undo`, `events`, `help` or `end`.
+pub fn told_of_session_line(alloc: Global, plan: &Plan, line: &str) -> Result<String, AllocError> {
+    let nodes = nodes_of(alloc, plan)?;
+    let registers = registers_of(alloc, plan)?;
+    let known = Known {
+        nodes: nodes.as_slice(),
+        registers: registers.as_slice(),
+    };
+    let wrong = wrong_words_of_session(alloc, known, line)?;
+    told_of_first(alloc, wrong.as_slice(), line)
+}
+
+/// The first wrong word of a line, or else the line.
+fn told_of_first(alloc: Global, wrong: &[WrongWord<'_>], line: &str) -> Result<String, AllocError> {
     let mut told = String::new(alloc);
     match wrong.first() {
         Some(word) => told.write(*word)?,

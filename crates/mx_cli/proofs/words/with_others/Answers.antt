@@ -7,8 +7,10 @@ returns c = λ app is.
     let live = with_listed app (codes "live") in
     let draw = with_listed live (codes "draw") in
     let script = with_listed draw (codes "script") in
-    let picture = with_listed script (codes "picture") in
+    let play = with_listed script (codes "play") in
+    let picture = with_listed play (codes "picture") in
     let count = with_listed picture (codes "count") in
     let drawn = c.with_listed-with_draw.ensures live (c.with_listed-with_live.ensures app is) in
-    let pictured = c.with_listed-with_picture.ensures script (c.with_listed-with_script.ensures draw drawn) in
+    let played = c.with_listed-with_play.ensures script (c.with_listed-with_script.ensures draw drawn) in
+    let pictured = c.with_listed-with_picture.ensures play played in
     c.with_listed.ensures count (c.with_listed-with_count.ensures picture pictured)
