@@ -6,3 +6,4 @@ pub mod ReadLemmas
 pub mod DrawnLemmas
 pub mod PrintedLemmas
 pub mod RefusedLemmas
+pub mod EndedLemmas

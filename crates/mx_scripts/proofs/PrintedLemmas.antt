@@ -6,7 +6,7 @@ use Rattle.mx_plan.specs.Text.{Text}
 use Rattle.mx_plan.specs.Fields.{Fields}
 use Rattle.mx_cli.specs.declared.faults.Stop.{Stop}
 use Rattle.mx_commands.specs.Jobs.{Job}
-use Rattle.mx_cli.specs.Reading.{IsPlanOf, plan_told}
+use Rattle.mx_cli.specs.Reading.{IsPlanOf}
 use Rattle.mx_io.specs.Outputs.{Held}
 use Rattle.mx_commands.specs.Ran.{EndsEarly, Ran, RanOn}
 use Rattle.mx_commands.specs.Runs.{whole}
@@ -56,9 +56,3 @@ pub walk_done : {E : Type 0} (told : Text → Option Telling) (name : Text) (see
     → IfOk r (λ _. PrintsEvents p a b) → IfOk r (λ _. HasDone told (walk name seed steps) a b)
 walk_done told name seed steps p a b (Ok status) read prints = (p, read, prints)
 walk_done told name seed steps p a b (Err end) read prints = tt
-
--- the events of a script were printed
-pub script_done : {E : Type 0} (told : Text → Option Telling) (names : Text × Text) (p : Fields) (a b : Held) (r : Result ℕ E) → IsPlanOf (plan_told told names) p
-    → IfOk r (λ _. PrintsEvents p a b) → IfOk r (λ _. HasDone told (script names) a b)
-script_done told names p a b (Ok status) read prints = (p, read, prints)
-script_done told names p a b (Err end) read prints = tt

@@ -1,5 +1,5 @@
 -- What comes of words of `draw` and `script` that were refused.
-use Rattle.std.proofs.Common.{◌≡◌, inl, ℕ, Bool, Option, Some, None, Err, IfSome}
+use Rattle.std.proofs.Common.{inl, ℕ, Bool, Option, Some, None, Err, IfSome}
 use Rattle.std.specs.Io.KnownBytes.{Keeps}
 use Rattle.mx_plan.specs.Text.{Text}
 use Rattle.mx_cli.specs.declared.faults.Stop.TheVariants as stop

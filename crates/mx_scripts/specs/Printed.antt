@@ -12,6 +12,7 @@ use Rattle.mx_cli.specs.Reading.{IsPlanOf, plan_told}
 use Rattle.mx_commands.specs.Ran.{RanOn}
 use Rattle.mx_scripts.specs.Drawn.{drawn_file}
 use Rattle.mx_scripts.specs.Played.{IsEventFile}
+use Rattle.mx_scripts.specs.Ended.{ScriptsOf}
 use Rattle.mx_scripts.specs.Requests.{Request, draw, walk, script}
 
 -- what is told of the plan
@@ -45,6 +46,12 @@ abbrev pub DrawsPlan : Bool → Bool → Text → Option Job → Held → Held �
 DrawsPlan takes_out takes_err name job out out' err err' status =
     (ended : Result ℕ Stop) × IfSome job (λ j. RanOn takes_out out out' j ended)
     × Closes (takes_out && takes_err) (name, name) ended err err' status
+
+-- a script ends so, where one is asked for
+abbrev pub Scripts : Bool → Bool → (Text → Option Telling) → Request → Held → Held → ℕ → Type 0
+Scripts takes_out takes_err told (script names) err err' status =
+    ScriptsOf takes_out takes_err told names err err' status
+Scripts takes_out takes_err told _ err err' status = ⊤
 
 -- the same, where `draw` is asked for without a walk
 abbrev pub Draws : Bool → Bool → (Text → Option Telling) → Request → Held → Held → Held → Held → ℕ

@@ -35,7 +35,8 @@ line_fault_text NotDelivered = codes "no such parcel delivered"
 line_fault_text TooMany = codes "more than 1000000"
 line_fault_text Memory = codes "out of memory"
 
--- the line of a fault in the k-th line of a script
-abbrev pub script_line : ℕ → LineFault → Text
-script_line k fault =
-    codes "mx: script: line " ++ decimal k ++ codes ": " ++ line_fault_text fault ++ line_feed
+-- the line of a fault in the k-th line of a script, with what is told of its words
+abbrev pub script_line : ℕ → LineFault → Text → Text
+script_line k fault told =
+    codes "mx: script: line " ++ decimal k ++ codes ": " ++ line_fault_text fault ++ told
+    ++ line_feed

@@ -4,7 +4,7 @@ ghost use Rattle.std.specs.Prelude.{◌≡◌, false, IsSome, IfSome};
 ghost use Rattle.mx_cli.specs.Words.{texts_of};
 ghost use Rattle.mx_cli.specs.Told.{Answers, seen};
 ghost use Rattle.mx_cli.specs.Closed.{IsRunStatus};
-ghost use Rattle.mx_scripts.specs.Printed.{Draws, HasDone};
+ghost use Rattle.mx_scripts.specs.Printed.{Draws, HasDone, Scripts};
 ghost use Rattle.mx_scripts.specs.Words.{request_asked, request_of, file_line};
 
 use crate::printing::{run_draw, run_script, run_walk};
@@ -29,6 +29,9 @@ pub fn event_file<S: Source, O: Output, E: Output>(
     ensures draws { IfSome (request_asked (texts_of words.entry.now)) (λ request.
         Draws (O.takes_all out.old) (E.takes_all err.old) (S.told source.old) request
         (O.written out.old) (O.written out.new) (E.written err.old) (E.written err.new) result) }
+    ensures scripts { IfSome (request_asked (texts_of words.entry.now)) (λ request.
+        Scripts (O.takes_all out.old) (E.takes_all err.old) (S.told source.old) request
+        (E.written err.old) (E.written err.new) result) }
     ensures passed { IsSome (request_asked (texts_of words.entry.now))
         → result ≡ 0 → O.keeps_back out.new ≡ false }
     ensures status { IsSome (request_asked (texts_of words.entry.now)) → IsRunStatus result }
@@ -56,6 +59,8 @@ fn run_request<S: Source, O: Output, E: Output>(
     ensures draws { Draws (O.takes_all out.old) (E.takes_all err.old) (S.told source.old)
         (request_of request.now) (O.written out.old) (O.written out.new)
         (E.written err.old) (E.written err.new) result }
+    ensures scripts { Scripts (O.takes_all out.old) (E.takes_all err.old) (S.told source.old)
+        (request_of request.now) (E.written err.old) (E.written err.new) result }
     ensures passed { result ≡ 0 → O.keeps_back out.new ≡ false }
     ensures status { IsRunStatus result }
 {

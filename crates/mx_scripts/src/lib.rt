@@ -3,6 +3,7 @@
 
 mod command;
 mod drawing;
+mod ending;
 mod files;
 mod halts;
 mod help;
@@ -19,8 +20,10 @@ mod words;
 
 pub use command::event_file;
 pub use drawing::replays_as_explored;
+pub use ending::{close_script, file_of_names};
 pub use files::{add_file, reads_back};
-pub use line_faults::LineFault;
+pub use halts::Halt;
+pub use line_faults::{BadLine, LineFault};
 pub use lines::{Line, Order, read_line, words_in};
 pub use mail::Mail;
 pub use printing::{run_draw, run_script, run_walk};

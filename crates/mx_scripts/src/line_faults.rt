@@ -1,6 +1,6 @@
 //! Why a line of a script is refused.
 
-ghost use Rattle.std.specs.Prelude.{◌≡◌, Some};
+ghost use Rattle.std.specs.Prelude.{◌≡◌, Some, string_bytes};
 ghost use Rattle.mx_scripts.specs.Scripts.{fault_of_step, line_fault_text, script_line};
 
 use mx_network::StepFault;
@@ -91,17 +91,22 @@ impl fmt::Display for LineFault {
     }
 }
 
-/// The line of a fault in the line of this number of a script, counted from 1.
-#[derive(Clone, Copy)]
-pub(crate) struct ScriptLine {
-    pub(crate) number: u64,
-    pub(crate) fault: LineFault,
+/// A line of a script that is refused: its number, counted from 1, why, and what is told of its words.
+#[derive(Drop)]
+pub struct BadLine {
+    pub number: u64,
+    pub fault: LineFault,
+    pub told: String,
 }
 
-impl fmt::Display for ScriptLine {
-    ghost output = { λ l. Some (script_line l.number l.fault) };
+impl fmt::Display for BadLine {
+    ghost output = { λ l. Some (script_line l.number l.fault (string_bytes l.told)) };
 
     fn fmt<W: fmt::Write>(&self, f: &mut fmt::Formatter<W>) -> fmt::Result {
-        writeln!(f, "mx: script: line {}: {}", self.number, self.fault)
+        writeln!(
+            f,
+            "mx: script: line {}: {}{}",
+            self.number, self.fault, self.told
+        )
     }
 }

@@ -1,21 +1,21 @@
 //! `draw` and `script`: from names, named bytes and two outputs to a status.
 
-ghost use Rattle.std.specs.Prelude.{◌≡◌, ◌⊎◌, false, IfSome, IfOk};
+ghost use Rattle.std.specs.Prelude.{◌≡◌, false, string_bytes, IfErr, IfSome, IfOk};
+ghost use Rattle.std.specs.Io.KnownBytes.{Appends};
 ghost use Rattle.mx_cli.specs.Words.{names_of};
 ghost use Rattle.mx_cli.specs.Closed.{IsRunStatus};
 ghost use Rattle.mx_commands.specs.Ran.{RanOn};
 ghost use Rattle.mx_scripts.specs.Printed.{DrawsPlan, HasDone, PrintsEvents, draw_job};
+ghost use Rattle.mx_scripts.specs.Ended.{EndsScript, IsPrintHalt, ScriptsOf};
 ghost use Rattle.mx_scripts.specs.Requests as wants;
 
 use crate::drawing::draw_schedule;
+use crate::ending::{close_script, file_of_names};
 use crate::halts::Halt;
-use crate::line_faults::{LineFault, ScriptLine};
-use crate::scripting::script_file;
-use crate::texts::text_in;
 use crate::walking::walk_file;
-use mx_cli::{Exploration, Names, Stop, close, fetch_both, fetch_plan, put_line, tell_memory};
+use mx_cli::{Exploration, Names, Stop, close, fetch_plan};
 use mx_commands::print;
-use mx_io::{Output, OutputFault, Source};
+use mx_io::{Output, Source};
 use mx_plan::Plan;
 use std::alloc::Global;
 
@@ -71,14 +71,13 @@ pub fn run_script<S: Source, O: Output, E: Output>(
 ) -> u8
     ensures prints { result ≡ 0 → HasDone (S.told source.old) (wants.script (names_of names.now))
         (O.written out.old) (O.written out.new) }
+    ensures ends { ScriptsOf (O.takes_all out.old) (E.takes_all err.old) (S.told source.old)
+        (names_of names.now) (E.written err.old) (E.written err.new) result }
     ensures passed { result ≡ 0 → O.keeps_back out.new ≡ false }
     ensures status { IsRunStatus result }
 {
-    match print_script(alloc, names, source, out) {
-        Ok(status) => close(alloc, Ok(status), names, out, err),
-        Err(Halt::Stop(stop)) => close(alloc, Err(stop), names, out, err),
-        Err(Halt::AtLine(number, fault)) => tell_line(alloc, number, fault, err),
-    }
+    let ended = print_script(alloc, names, source, out);
+    close_script(alloc, ended, names, out, err)
 }
 
 /// The names that the lines of faults have, where there is a plan alone.
@@ -88,16 +87,6 @@ fn plan_alone<'a>(exploration: &Exploration<'a>) -> Names<'a>
     Names {
         plan: exploration.plan,
         events: exploration.plan,
-    }
-}
-
-/// Tells why a line of a script is refused, and returns the status.
-fn tell_line<E: Output>(alloc: Global, number: u64, fault: LineFault, err: &mut E) -> u8
-    ensures { (result ≡ 1) ⊎ (result ≡ 5) }
-{
-    match put_line(alloc, err, ScriptLine { number, fault }) {
-        Ok(()) | Err(OutputFault::Refused) => 1,
-        Err(OutputFault::Memory) => tell_memory(err),
     }
 }
 
@@ -162,24 +151,26 @@ fn print_script<S: Source, O: Output>(
 ) -> Result<u8, Halt>
     ensures done { IfOk result (λ _. HasDone (S.told source.old) (wants.script (names_of names.now))
         (O.written out.old) (O.written out.new)) }
+    ensures ends { EndsScript (O.takes_all out.old) (S.told source.old) (names_of names.now) result }
     ensures zero { IfOk result (λ status. status ≡ 0) }
+    ensures stays { O.takes_all out.new ≡ O.takes_all out.old }
 {
-    let both = fetch_both(alloc, source, names)?;
-    print_events(alloc, &both.plan, both.text.as_slice(), out)
+    match file_of_names(alloc, names, source) {
+        Ok(file) => print_file(&file, out),
+        Err(halt) => Err(halt),
+    }
 }
 
-/// Prints the events of the bytes of a script. Returns the status.
-fn print_events<O: Output>(
-    alloc: Global,
-    plan: &Plan,
-    script: &[u8],
-    out: &mut O,
-) -> Result<u8, Halt>
+/// Prints a file. Returns the status.
+fn print_file<O: Output>(file: &String, out: &mut O) -> Result<u8, Halt>
     ensures done { IfOk result (λ _.
-        PrintsEvents plan.now (O.written out.old) (O.written out.new)) }
+        Appends (O.written out.old) (O.written out.new) (string_bytes file.now)) }
     ensures zero { IfOk result (λ status. status ≡ 0) }
+    ensures err { IfErr result (IsPrintHalt (O.takes_all out.old)) }
+    ensures stays { O.takes_all out.new ≡ O.takes_all out.old }
 {
-    let file = script_file(alloc, plan, text_in(script)?)?;
-    let status = print(file.as_bytes(), out)?;
-    Ok(status)
+    match print(file.as_bytes(), out) {
+        Ok(status) => Ok(status),
+        Err(stop) => Err(Halt::Stop(stop)),
+    }
 }

@@ -72,7 +72,7 @@ fn each_line<C: Exclusion>(
     for line in script.lines() {
         number = number.saturating_add(1);
         if let Err(fault) = one_line(alloc, plan, line, cluster, mail) {
-            return Err(Halt::at_line(number, fault));
+            return Err(Halt::at_line(alloc, plan, number, fault, line));
         }
     }
     Ok(())

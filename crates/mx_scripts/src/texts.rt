@@ -1,14 +1,19 @@
 //! The text of a script.
 
 use crate::halts::Halt;
-use crate::line_faults::LineFault;
+use crate::line_faults::{BadLine, LineFault};
+use std::alloc::Global;
 use std::str;
 
 /// The text that bytes are. Where they are not in UTF-8, the line of the first that is not is at fault.
-pub(crate) fn text_in(bytes: &[u8]) -> Result<&str, Halt> {
+pub(crate) fn text_in(alloc: Global, bytes: &[u8]) -> Result<&str, Halt> {
     match str::from_utf8(bytes) {
         Ok(text) => Ok(text),
-        Err(e) => Err(Halt::AtLine(line_at(bytes, e.valid_up_to()), LineFault::NotText)),
+        Err(e) => Err(Halt::AtLine(BadLine {
+            number: line_at(bytes, e.valid_up_to()),
+            fault: LineFault::NotText,
+            told: String::new(alloc),
+        })),
     }
 }
 

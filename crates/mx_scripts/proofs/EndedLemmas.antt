@@ -1,0 +1,94 @@
+-- How a script ends.
+use Rattle.std.proofs.Common.{◌≡◌, ◌∙◌, ℕ, Bool, true, false, Option, Some, None, Result, Ok, Err, IfErr, IfOk, refl, subst, inl, inr}
+use Rattle.std.specs.Prelude.{◌&&◌}
+use Rattle.std.specs.Io.KnownBytes.{Appends}
+use Rattle.mx_stamps.proofs.Lists.{append_nil}
+use Rattle.mx_plan.specs.Text.{Text}
+use Rattle.mx_plan.specs.Fields.{Fields}
+use Rattle.mx_cli.specs.declared.faults.Fault.{Fault}
+use Rattle.mx_cli.specs.declared.faults.Stop.{Stop}
+use Rattle.mx_cli.specs.declared.faults.Stop.TheVariants as stop
+use Rattle.mx_cli.specs.Reading.{IsPlanOf, plan_told}
+use Rattle.mx_cli.specs.Told.{MayTell, TellsFault}
+use Rattle.mx_cli.proofs.ClosedLemmas.{closed_done, not_five, not_one}
+use Rattle.mx_io.specs.Outputs.{Held}
+use Rattle.mx_io.specs.Told.{Telling}
+use Rattle.mx_commands.specs.Ran.{Ran}
+use Rattle.mx_commands.specs.Runs.{whole}
+use Rattle.mx_scripts.specs.declared.halts.Halt.{Halt}
+use Rattle.mx_scripts.specs.declared.halts.Halt.TheVariants as halt
+use Rattle.mx_scripts.specs.Ended.{ClosesScript, EndsScript, IsFileOfNames, IsHalt, IsLineHalt, IsPrintHalt, ScriptsOf}
+use Rattle.mx_scripts.specs.Played.{IsEventFile}
+use Rattle.mx_scripts.specs.Printed.{HasDone, Scripts}
+use Rattle.mx_scripts.specs.Requests.{Request, draw, walk, script}
+
+-- ---- a file, or none
+
+module _ (told : Text → Option Telling) (names : Text × Text) where
+  -- a file of the plan that was read
+  pub file_read : {T E : Type 0} (bytes : T → Text) (p : Fields) (r : Result T E) → IsPlanOf (plan_told told names) p → IfOk r (λ t. IsEventFile p (bytes t) p.shape)
+      → IfOk r (λ t. IsFileOfNames told names (bytes t))
+  file_read bytes p (Ok t) read h = (p, read, h)
+  file_read bytes p (Err e) read h = tt
+
+  -- the lines of a plan that was read give none
+  pub line_halts : {T : Type 0} (p : Fields) (r : Result T Halt) → IsPlanOf (plan_told told names) p → IfErr r IsLineHalt → IfErr r (IsHalt told names)
+  line_halts p (Ok t) read h = tt
+  line_halts p (Err (halt.Stop end)) read h = inl h
+  line_halts p (Err (halt.AtLine line)) read h = (p, read)
+
+  -- the file was printed
+  pub file_done : {E : Type 0} (text : Text) (a b : Held) (r : Result ℕ E) → IsFileOfNames told names text → IfOk r (λ _. Appends a b text)
+      → IfOk r (λ _. HasDone told (script names) a b)
+  file_done text a b (Ok status) file h = (file.0, file.1, (text, file.2, h))
+  file_done text a b (Err e) file h = tt
+
+  -- and so the script has ended
+  pub file_ends : (takes : Bool) (text : Text) (r : Result ℕ Halt) → IsFileOfNames told names text → IfOk r (λ status. status ≡ 0) → IfErr r (IsPrintHalt takes)
+      → EndsScript takes told names r
+  file_ends takes text (Ok status) file zero fails = (zero, (text, file))
+  file_ends takes text (Err h) file zero fails = inr fails
+
+-- ---- a file is printed
+
+pub printed_whole : (takes : Bool) (a b : Held) (text file : Text) (status : ℕ) → text ≡ file → Ran takes a b (whole text) (Ok status) → Appends a b file
+printed_whole takes a b text file status is h = subst (λ (x : Text). Appends a b x) (append_nil text ∙ is) h.1
+
+pub print_halts : (takes : Bool) (a b : Held) (text : Text) (s : Stop) → Ran takes a b (whole text) (Err s) → IsPrintHalt takes (halt.Stop s)
+print_halts takes a b text (stop.Fault fault) h = absurd (let bad : ◌≡◌ {A = Option Fault} None (Some fault) = h.0 in cc)
+print_halts takes a b text stop.Writer h = inr (refl, h.0)
+print_halts takes a b text stop.Memory h = inl refl
+
+-- ---- how it is closed
+
+and_right : (t u : Bool) → u ≡ false → (t && u) ≡ false
+and_right true u e = e
+and_right false u e = refl
+
+-- a fault is told, where another output may have refused too
+pub tells_both : (t u : Bool) (text : Text) (a b : Held) (status : ℕ) → TellsFault u text a b status → TellsFault (t && u) text a b status
+tells_both t u text a b status (inl h) = inl h
+tells_both t u text a b status (inr (inl h)) = inr (inl h)
+tells_both t u text a b status (inr (inr h)) = inr (inr (h.0, and_right t u h.1, h.2))
+
+told_not_zero : (takes : Bool) (text : Text) (a b : Held) (status : ℕ) → TellsFault takes text a b status → status ≡ 0 → ⊥
+told_not_zero takes text a b status (inl h) zero = not_one status h.0 zero
+told_not_zero takes text a b status (inr (inl h)) zero = not_five status h.0 zero
+told_not_zero takes text a b status (inr (inr h)) zero = not_one status h.0 zero
+
+-- a script that is closed with status 0 has done what it had to do
+pub script_closed_done : {D : Type 0} (takes : Bool) (names : Text × Text) (a b : Held) (status : ℕ) (ended : Result ℕ Halt) → IfOk ended (λ _. D)
+    → ClosesScript takes names ended a b status → status ≡ 0 → D
+script_closed_done takes names a b status (Ok own) done h zero = closed_done takes names a b status (Ok own) done h zero
+script_closed_done takes names a b status (Err (halt.Stop end)) done h zero = closed_done takes names a b status (Err end) tt h zero
+script_closed_done takes names a b status (Err (halt.AtLine line)) done h zero = absurd (told_not_zero takes _ a b status h zero)
+
+-- ---- where memory ran out
+
+pub short_script : (t u : Bool) (told : Text → Option Telling) (names : Text × Text) (a b : Held) (status : ℕ) → (status ≡ 5) × MayTell a b → ScriptsOf t u told names a b status
+short_script t u told names a b status m = (Err (halt.Stop stop.Memory), inl (inl refl), inl m)
+
+pub short_scripts : (t u : Bool) (told : Text → Option Telling) (request : Request) (a b : Held) (status : ℕ) → (status ≡ 5) × MayTell a b → Scripts t u told request a b status
+short_scripts t u told (draw name seed steps) a b status m = tt
+short_scripts t u told (walk name seed steps) a b status m = tt
+short_scripts t u told (script names) a b status m = short_script t u told names a b status m

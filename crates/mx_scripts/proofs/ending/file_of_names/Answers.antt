@@ -1,0 +1,15 @@
+use Rattle.std.proofs.Common.{inr, string_bytes}
+use Rattle.mx_cli.specs.Words.{names_of}
+use Rattle.mx_scripts.proofs.EndedLemmas.{file_read, line_halts}
+use Rattle.mx_scripts.proofs.ending.file_of_names.Goals as goal
+
+pub returns-in-Ok-clause-ok : goal.returns-in-Ok-clause-ok
+returns-in-Ok-clause-ok g c =
+    file_read (g.S.Source.told c.args.source.now) (names_of c.args.names.now) string_bytes c.in-Ok.both.plan c.file_of_bytes.result c.in-Ok.ensures.ok.0 c.file_of_bytes.ensures.ok
+
+pub returns-in-Ok-clause-err : goal.returns-in-Ok-clause-err
+returns-in-Ok-clause-err g c =
+    line_halts (g.S.Source.told c.args.source.now) (names_of c.args.names.now) c.in-Ok.both.plan c.file_of_bytes.result c.in-Ok.ensures.ok.0 c.file_of_bytes.ensures.err
+
+pub returns-in-Err-clause-err : goal.returns-in-Err-clause-err
+returns-in-Err-clause-err g c = inr c.in-Err.ensures.err

@@ -1,0 +1,91 @@
+//! How a script ends, and how that is told.
+
+ghost use Rattle.std.specs.Prelude.{◌≡◌, ◌⊎◌, ◌&&◌, false, string_bytes, IfErr, IfOk};
+ghost use Rattle.std.specs.Io.KnownBytes.{Keeps};
+ghost use Rattle.mx_cli.specs.Closed.{IsRunStatus};
+ghost use Rattle.mx_cli.specs.Told.{TellsFault};
+ghost use Rattle.mx_cli.specs.Words.{names_of};
+ghost use Rattle.mx_scripts.specs.Ended.{ClosesScript, IsFileOfNames, IsHalt, IsLineHalt};
+ghost use Rattle.mx_scripts.specs.Played.{IsEventFile};
+ghost use Rattle.mx_scripts.specs.Scripts.{script_line};
+
+use crate::halts::Halt;
+use crate::line_faults::BadLine;
+use crate::scripting::script_file;
+use crate::texts::text_in;
+use mx_cli::{Names, Stop, close, fetch_named, tell_line, tell_memory};
+use mx_io::{Output, OutputFault, Source};
+use mx_plan::Plan;
+use std::alloc::Global;
+
+/// The file of the events of a script, or why there is none.
+pub fn file_of_names<S: Source>(
+    alloc: Global,
+    names: &Names<'_>,
+    source: &mut S,
+) -> Result<String, Halt>
+    ensures ok { IfOk result (λ text.
+        IsFileOfNames (S.told source.old) (names_of names.now) (string_bytes text)) }
+    ensures err { IfErr result (IsHalt (S.told source.old) (names_of names.now)) }
+{
+    match fetch_named(alloc, source, names) {
+        Ok(both) => file_of_bytes(alloc, &both.plan, both.text.as_slice()),
+        Err(stop) => Err(Halt::Stop(stop)),
+    }
+}
+
+/// The file of the events that the bytes of a script ask for. Where no line is refused, only memory can be
+/// at fault.
+fn file_of_bytes(alloc: Global, plan: &Plan, script: &[u8]) -> Result<String, Halt>
+    ensures ok { IfOk result (λ text. IsEventFile plan.now (string_bytes text) plan.now.shape) }
+    ensures err { IfErr result IsLineHalt }
+{
+    match file_of_text(alloc, plan, script) {
+        Ok(file) => Ok(file),
+        Err(Halt::AtLine(line)) => Err(Halt::AtLine(line)),
+        Err(Halt::Stop(_)) => Err(Halt::Stop(Stop::Memory)),
+    }
+}
+
+fn file_of_text(alloc: Global, plan: &Plan, script: &[u8]) -> Result<String, Halt>
+    ensures { IfOk result (λ text. IsEventFile plan.now (string_bytes text) plan.now.shape) }
+{
+    script_file(alloc, plan, text_in(alloc, script)?)
+}
+
+/// Passes on what the output kept back, tells why there is no file where there is none, and returns the
+/// status: that of the end, 1 after a fault or where an output refused, 5 where memory ran out.
+pub fn close_script<O: Output, E: Output>(
+    alloc: Global,
+    ended: Result<u8, Halt>,
+    names: &Names<'_>,
+    out: &mut O,
+    err: &mut E,
+) -> u8
+    ensures closes { ClosesScript (O.takes_all out.old && E.takes_all err.old) (names_of names.now)
+        ended (E.written err.old) (E.written err.new) result }
+    ensures status { IfOk ended (λ own. own ≡ 0) → IsRunStatus result }
+    ensures held { Keeps (O.written out.old) (O.written out.new) }
+    ensures passed { result ≡ 0 → O.keeps_back out.new ≡ false }
+{
+    match ended {
+        Ok(status) => close(alloc, Ok(status), names, out, err),
+        Err(Halt::Stop(stop)) => close(alloc, Err(stop), names, out, err),
+        Err(Halt::AtLine(line)) => tell_bad_line(alloc, line, out, err),
+    }
+}
+
+/// Passes on what the output kept back, tells why a line is refused, and returns the status.
+fn tell_bad_line<O: Output, E: Output>(alloc: Global, line: BadLine, out: &mut O, err: &mut E) -> u8
+    ensures told { TellsFault (O.takes_all out.old && E.takes_all err.old)
+        (script_line line.number line.fault (string_bytes line.told))
+        (E.written err.old) (E.written err.new) result }
+    ensures status { (result ≡ 1) ⊎ (result ≡ 5) }
+    ensures held { Keeps (O.written out.old) (O.written out.new) }
+{
+    match out.flush() {
+        Ok(()) => tell_line(alloc, line, err),
+        Err(OutputFault::Refused) => 1,
+        Err(OutputFault::Memory) => tell_memory(err),
+    }
+}
