@@ -19,7 +19,11 @@ use Rattle.mx_cli.specs.Told.{MayTell}
 use Rattle.mx_cli.specs.Closed.{Closes, FallsShort}
 use Rattle.mx_commands.proofs.JobLemmas.{of_jobs}
 use Rattle.mx_cli.proofs.OutputLemmas.{Appends-keeps, Appends-nil}
-use Rattle.mx_explain.specs.Explained.{EndsAs, Explains, FailsToPrint}
+use Rattle.mx_scripts.specs.declared.halts.Halt.TheVariants as halt
+use Rattle.mx_scripts.specs.Ended.{EndsScript, IsFileOfNames, IsPrintHalt}
+use Rattle.mx_scripts.proofs.EndedLemmas.{short_script}
+use Rattle.mx_explain.specs.Asked.{Matter, run, script}
+use Rattle.mx_explain.specs.Explained.{EndsAs, Explains, ExplainsMatter, FailsToPrint}
 
 -- ---- a run of which nobody reads what it prints
 
@@ -115,3 +119,20 @@ put_fails t output_fault.Memory takes = inl refl
 
 pub runs_out : (t : Bool) → FailsToPrint t stop.Memory
 runs_out t = inl refl
+
+-- ---- a script
+
+-- where memory ran out, an explanation of whatever is asked for may have ended so
+pub short_matter : (t u : Bool) (told : Text → Option Telling) (matter : Matter) (old new : Held) (status : ℕ) → (status ≡ 5) × MayTell old new
+    → ExplainsMatter t u told matter old new status
+short_matter t u told (run request) old new status m = short_explains (t && u) told request old new status m
+short_matter t u told (script names) old new status m = short_script t u told names old new status m
+
+-- an explanation that is not printed
+pub fails_halts : (t : Bool) (s : Stop) → FailsToPrint t s → IsPrintHalt t (halt.Stop s)
+fails_halts t s (inl h) = inl (ap halt.Stop h)
+fails_halts t s (inr h) = inr (ap halt.Stop h.0, h.1)
+
+-- a script whose file nobody reads
+pub file_is_there : (told : Text → Option Telling) (names : Text × Text) (takes : Bool) (text : Text) → IsFileOfNames told names text → EndsScript takes told names (Ok 0)
+file_is_there told names takes text file = (refl, (text, file))

@@ -1,34 +1,54 @@
--- What the words of `explain` ask for, as `clap` reads them: a check or a replay that is to be explained.
-use Rattle.std.specs.Prelude.{List, Option, Some, None, codes, option_map}
+-- What the words of `explain` ask for, as `clap` reads them: a check, a replay or a script that is to be explained.
+use Rattle.std.specs.Prelude.{Bool, List, Option, Some, None, codes, if◌then◌else◌, option_map}
 use Rattle.clap.specs.Words.{App, Row, Rule, Text, first_of, new_app, new_rule, with_rule}
-use Rattle.mx_cli.specs.Words.{Request, asked_of, by_name, check, line_with, plan_rule, replay}
+use Rattle.mx_cli.specs.Words.{Request, asked_of, by_name, check, flag_rule, is_given, line_with, names_of, plan_rule, replay, request_of}
+use Rattle.mx_explain.specs.declared.asking.Matter.{Matter as Given}
+use Rattle.mx_explain.specs.declared.asking.Matter.TheVariants as given
 
 -- `[EVENTS]`
 abbrev pub events_rule : Rule
 events_rule = new_rule (codes "EVENTS")
 
--- `explain PLAN [EVENTS]`
+-- `--script`
+abbrev pub script_rule : Rule
+script_rule = flag_rule (codes "script")
+
+-- `explain PLAN [EVENTS]`, and perhaps `--script`
 abbrev pub explain_app : App
-explain_app = with_rule (with_rule (new_app (codes "explain")) plan_rule) events_rule
+explain_app = with_rule (with_rule (with_rule (new_app (codes "explain")) plan_rule) events_rule) script_rule
 
 -- the whole command line
 unfoldable pub explain_line : App
 explain_line = line_with explain_app
 
--- a replay where events are named, else a check
-abbrev pub request_on : Text → Option Text → Request
-request_on plan None = check plan
-request_on plan (Some events) = replay (plan, events)
+-- a check or a replay; or the script of a plan
+pub data Matter : Type 0 where
+  run : Request → Matter
+  script : Text × Text → Matter
+
+abbrev pub matter_of : Given → Matter
+matter_of (given.Run request) = run (request_of request)
+matter_of (given.Script names) = script (names_of names)
+
+-- a script where that is asked for, else a replay
+abbrev pub matter_with : Bool → Text × Text → Matter
+matter_with is_script names = if is_script then script names else run (replay names)
+
+-- a second file is named, else it is a check
+abbrev pub matter_on : Bool → Text → Option Text → Matter
+matter_on is_script plan None = run (check plan)
+matter_on is_script plan (Some events) = matter_with is_script (plan, events)
 
 -- what was given for the arguments
-abbrev pub explain_in : List Row → Option Request
+abbrev pub explain_in : List Row → Option Matter
 explain_in rows =
-    option_map (λ plan. request_on plan (first_of (codes "EVENTS") rows))
+    option_map
+    (λ plan. matter_on (is_given (codes "script") rows) plan (first_of (codes "EVENTS") rows))
     (first_of (codes "PLAN") rows)
 
-abbrev pub request_in : Option (Text × List Row) → Option Request
+abbrev pub request_in : Option (Text × List Row) → Option Matter
 request_in met = by_name (codes "explain") explain_in met
 
 -- what the words ask for, where they are `explain` with its arguments
-unfoldable pub request_asked : List Text → Option Request
+unfoldable pub request_asked : List Text → Option Matter
 request_asked words = asked_of explain_line request_in words

@@ -1,5 +1,5 @@
--- With which status an explanation ends, and what standard error gets: those of the check or of the replay.
-use Rattle.std.specs.Prelude.{◌≡◌, ◌⊎◌, ℕ, Bool, false, Option, IfSome}
+-- With which status an explanation ends, and what standard error gets: those of the check, of the replay or of the script.
+use Rattle.std.specs.Prelude.{◌≡◌, ◌⊎◌, ◌&&◌, ℕ, Bool, false, Option, IfSome}
 use Rattle.std.specs.Io.KnownBytes.{Appends}
 use Rattle.mx_cli.specs.Words.{Request}
 use Rattle.mx_plan.specs.Text.{Text}
@@ -11,6 +11,8 @@ use Rattle.mx_commands.specs.Runs.{Report}
 use Rattle.mx_commands.specs.Jobs.{HoldsOfReport, job_of, names_in}
 use Rattle.mx_commands.specs.Ran.{end_text, status_of}
 use Rattle.mx_cli.specs.Closed.{FallsShort}
+use Rattle.mx_scripts.specs.Ended.{ScriptsOf}
+use Rattle.mx_explain.specs.Asked.{Matter, run, script}
 
 -- the status of this report, and the line of its fault
 pub record EndsAs (names : Text × Text) (r : Report) (old new : Held) (status : ℕ) : Type 0 where
@@ -23,6 +25,13 @@ Explains takes_all told request old new status =
     IfSome (job_of told request) (λ job. FallsShort takes_all old new status
     ⊎ HoldsOfReport job
     (λ r. FallsShort takes_all old new status ⊎ EndsAs (names_in request) r old new status))
+
+-- an explanation of what the words ask for: of a script it ends as `script` does
+abbrev pub ExplainsMatter : Bool → Bool → (Text → Option Telling) → Matter → Held → Held → ℕ → Type 0
+ExplainsMatter takes_out takes_err told (run request) old new status =
+    Explains (takes_out && takes_err) told request old new status
+ExplainsMatter takes_out takes_err told (script names) old new status =
+    ScriptsOf takes_out takes_err told names old new status
 
 -- why an explanation is not printed: memory ran out, or the output refused, which one that takes all bytes never does
 abbrev pub FailsToPrint : Bool → Stop → Type 0

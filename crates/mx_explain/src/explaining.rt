@@ -5,12 +5,13 @@ ghost use Rattle.mx_cli.specs.Words.{request_of, texts_of};
 ghost use Rattle.mx_cli.specs.Told.{Answers, seen};
 ghost use Rattle.mx_cli.specs.Closed.{IsRunStatus};
 ghost use Rattle.mx_commands.specs.Ran.{RanOf};
-ghost use Rattle.mx_explain.specs.Asked.{explain_line, request_asked};
-ghost use Rattle.mx_explain.specs.Explained.{Explains, FailsToPrint};
+ghost use Rattle.mx_explain.specs.Asked.{explain_line, matter_of, request_asked};
+ghost use Rattle.mx_explain.specs.Explained.{Explains, ExplainsMatter, FailsToPrint};
 
-use crate::asking::asked;
+use crate::asking::{Matter, asked};
 use crate::files::explain_files;
 use crate::reasons::Reasons;
+use crate::scripts::explain_script;
 use mx_cli::{Fault, Request, Stop, close, refuse};
 use mx_commands::{carry_out, names_in};
 use mx_diagnosis::Page;
@@ -36,8 +37,8 @@ impl Output for Nowhere {
 }
 
 /// Runs the words of a command line of which `explain` is the first, without the program's name, and
-/// returns the status: that of the check or of the replay that is explained, 0, 1 or 5; 0 where help
-/// was asked for, 1 where an output refused, 2 where the words are not those of `explain`.
+/// returns the status: that of the check, of the replay or of the script that is explained, 0, 1 or 5; 0
+/// where help was asked for, 1 where an output refused, 2 where the words are not those of `explain`.
 pub fn explain<S: Source + Reasons, O: Output, E: Output>(
     alloc: Global,
     words: &[&str],
@@ -45,17 +46,34 @@ pub fn explain<S: Source + Reasons, O: Output, E: Output>(
     out: &mut O,
     err: &mut E,
 ) -> u8
-    ensures explains { IfSome (request_asked (texts_of words.entry.now)) (λ request.
-        Explains (O.takes_all out.old && E.takes_all err.old) (S.told source.old) request
+    ensures explains { IfSome (request_asked (texts_of words.entry.now)) (λ matter.
+        ExplainsMatter (O.takes_all out.old) (E.takes_all err.old) (S.told source.old) matter
         (E.written err.old) (E.written err.new) result) }
     ensures status { IsSome (request_asked (texts_of words.entry.now)) → IsRunStatus result }
     ensures answers { Answers explain_line (texts_of words.entry.now) (O.takes_all out.old)
         (seen O.Output E.Output out.old err.old) (seen O.Output E.Output out.new err.new) result }
 {
     match asked(alloc, words) {
-        Ok(Some(request)) => explain_request(alloc, &request, source, out, err),
+        Ok(Some(matter)) => explain_matter(alloc, &matter, source, out, err),
         Ok(None) => 2,
         Err(e) => refuse(alloc, &e, out, err),
+    }
+}
+
+fn explain_matter<S: Source + Reasons, O: Output, E: Output>(
+    alloc: Global,
+    matter: &Matter<'_>,
+    source: &mut S,
+    out: &mut O,
+    err: &mut E,
+) -> u8
+    ensures explains { ExplainsMatter (O.takes_all out.old) (E.takes_all err.old)
+        (S.told source.old) (matter_of matter.now) (E.written err.old) (E.written err.new) result }
+    ensures status { IsRunStatus result }
+{
+    match matter {
+        Matter::Run(request) => explain_request(alloc, request, source, out, err),
+        Matter::Script(names) => explain_script(alloc, names, source, out, err),
     }
 }
 
@@ -123,6 +141,14 @@ fn print_explanation<S: Source + Reasons, O: Output>(
     ensures stays { O.takes_all out.new ≡ O.takes_all out.old }
 {
     let page = page_of(alloc, request, fault, source)?;
+    put_page(&page, out)
+}
+
+/// Prints all that was said.
+pub(crate) fn put_page<O: Output>(page: &Page<'_>, out: &mut O) -> Result<(), Stop>
+    ensures fails { IfErr result (FailsToPrint (O.takes_all out.old)) }
+    ensures stays { O.takes_all out.new ≡ O.takes_all out.old }
+{
     out.put(page.text().as_bytes())?;
     Ok(())
 }

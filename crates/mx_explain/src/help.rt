@@ -14,8 +14,10 @@ prints
   events.json:1:29: events[2][0]: \"entr\" stands here, expected ask, enter, read, write, leave, cancel, settle, tick, want, deliver or restart; the nearest is \"enter\"
   events.json:1:50: events[3][1]: \"b\" stands here, expected a node of the plan; the nearest is \"b1\"
 
-Without EVENTS the plan alone is looked at. A line names the file, the line and the column, and then, if the
-text is JSON, the place in it, with items counted from 0. Warnings are of what does no harm: members that nobody
-reads, that stand twice, or that are for another algorithm. Of each file the first 20 lines are shown. Standard
-error gets the line of the fault that `mx check PLAN` names, or `mx replay PLAN EVENTS`, and the status is theirs
-too. A name - is standard input; where both are -, its first line is the plan and the rest is the events.";
+Without EVENTS the plan alone is looked at. With --script a script comes in place of events, as `mx script`
+reads it: `mx explain --script plan.json lost.txt`. A line names the file, the line and the column, and then, if
+the text is JSON, the place in it, with items counted from 0. Warnings are of what does no harm: members that
+nobody reads, that stand twice, or that are for another algorithm. Of each file the first 20 lines are shown.
+Standard error gets the line of the fault that `mx check PLAN` names, `mx replay PLAN EVENTS` or `mx script PLAN
+SCRIPT`, and the status is theirs too. A name - is standard input; where both are -, its first line is the plan
+and the rest is what comes with it.";

@@ -1,4 +1,4 @@
-//! `mx explain`: what is wrong in a plan and its events, where it is, and what was expected there.
+//! `mx explain`: what is wrong in a plan and its events or its script, where it is, and what was expected there.
 #![tactic(auto)]
 
 mod asking;
@@ -7,6 +7,8 @@ mod files;
 mod help;
 mod parcels;
 mod reasons;
+mod refused_lines;
+mod scripts;
 
 pub use explaining::explain;
 pub use reasons::Reasons;

@@ -1,18 +1,10 @@
 use Rattle.std.proofs.Common.{◌≡◌, Err}
 use Rattle.mx_cli.specs.declared.faults.Stop.TheVariants as stop
-use Rattle.mx_cli.specs.Outputs.{stop_of}
 use Rattle.mx_commands.proofs.RunLemmas.{err_is}
-use Rattle.mx_explain.proofs.ExplainLemmas.{put_fails, runs_out}
+use Rattle.mx_explain.proofs.ExplainLemmas.{runs_out}
 use Rattle.mx_explain.proofs.explaining.print_explanation.Goals as goal
 
 pub returns-in_err-page-clause-fails : goal.returns-in_err-page-clause-fails
 returns-in_err-page-clause-fails g c =
     let is : c.from_residual.result ≡ Err stop.Memory = err_is c.from_residual.result stop.Memory c.from_residual.ensures.1 in
     rw is (runs_out (g.O.Output.takes_all c.args.out.now))
-
-pub returns-in_err-put-clause-fails : goal.returns-in_err-put-clause-fails
-returns-in_err-put-clause-fails g c =
-    let f = c.in_err-put.field-0.0 in
-    let final = put_fails (g.O.Output.takes_all c.args.out.now) f c.in_err-put.ensures.takes in
-    let is : c.from_residual-in_err-put.result ≡ Err (stop_of f) = err_is c.from_residual-in_err-put.result (stop_of f) c.from_residual-in_err-put.ensures.1 in
-    rw is final
