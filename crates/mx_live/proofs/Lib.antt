@@ -2,5 +2,4 @@ pub mod ShownLemmas
 pub mod StationLemmas
 pub mod WorkerLemmas
 pub mod SectionLemmas
-pub mod AlgorithmLemmas
 pub mod HaltLemmas

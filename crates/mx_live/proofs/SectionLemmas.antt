@@ -12,12 +12,13 @@ use Rattle.mx_journal.specs.Settled.{JournalState}
 use Rattle.atomic_table.specs.Seated.{TableId}
 use Rattle.mx_nodelaws.specs.Core.{Core}
 use Rattle.mx_plan.specs.Fields.{Fields}
+use Rattle.mx_plan.specs.declared.shape.Shape.{Shape}
 use Rattle.mx_stations.specs.Gathered.{Has, IsGathered, IsWhole, OfOneTable, nodes_in, receipts_of}
 use Rattle.mx_stations.specs.Posts.{Post}
 use Rattle.mx_stations.specs.Turns.{Station}
 use Rattle.mx_stations.proofs.Rounding.{rounds_kept, rounds_some}
 use Rattle.mx_live.specs.declared.threads.Orders.{Orders}
-use Rattle.mx_live.specs.Together.{AreGathered, AreSerial, HasWorked, HaveSections}
+use Rattle.mx_live.specs.Together.{AreGathered, AreSerial, ComeOf, GatheredBy, HasWorked, HaveSections}
 use Rattle.mx_live.specs.Stations.{AreAll}
 use Rattle.mx_live.proofs.StationLemmas.{first_so, so_at}
 
@@ -85,3 +86,7 @@ module _ {T P : Type 0} where
   pub serial : (posts : List (Post T P)) (journal : JournalState) (receipts : List Receipt) → IsGathered posts journal receipts → AreSerial receipts journal
   serial posts journal receipts g =
       record { numbered = g.numbered; records = g.records; covers = g.covers; reads = g.reads; shows = g.shows }
+
+-- what is gathered by the algorithm of a shape, where that is the plan's
+pub come_by : (shape : Shape) (p : Fields) (orders : Orders) (receipts : List Receipt) (journal : JournalState) → p.shape ≡ shape → GatheredBy shape p orders receipts journal → ComeOf p orders receipts journal
+come_by shape p orders receipts journal is come = subst (λ (s : Shape). GatheredBy s p orders receipts journal) (sym is) come

@@ -16,38 +16,38 @@ use Rattle.mx_stations.specs.Entries.{Entry}
 use Rattle.mx_stations.specs.Opened.{AreFresh}
 use Rattle.mx_stations.specs.Running.{fresh}
 use Rattle.mx_stations.specs.Turns.{Station}
-use Rattle.mx_live.specs.declared.any_station.AnyStation.{AnyStation}
 use Rattle.mx_live.specs.declared.halts.Halt.{Halt}
 use Rattle.mx_live.specs.declared.threads.Orders.{Orders}
-use Rattle.mx_live.specs.Halts.{HaltsIn, RanInVain}
+use Rattle.mx_live.specs.Halts.{EndInVain, HaltsIn}
 use Rattle.mx_live.specs.Stations.{AreAll, AreAtRest}
-use Rattle.mx_live.specs.Workers.{IsDone, IsLeft, IsNotYet, Promises, SpendsTurns, WasLeft}
+use Rattle.mx_live.specs.Together.{HasWorked}
+use Rattle.mx_live.specs.Workers.{IsLeft, IsNotYet, Promises, SpendsIn, WasLeft}
 use Rattle.mx_live.proofs.StationLemmas.{so_there}
 
-module _ (p : Fields) (table : TableId) (orders : Orders) where
+module _ {H S M : Type 0} (core : Core H S M) (shape : H) (p : Fields) (table : TableId) (orders : Orders) where
   -- what a worker left, by its promise
-  pub left_as : (at : AnyStation) (told : Orders) (ended : AnyStation × Worked) → Promises p table orders at told → IsLeft told at ended → WasLeft p table orders ended
+  pub left_as : (at : Station core) (told : Orders) (ended : Station core × Worked) → Promises core shape p table orders at told → IsLeft core told at ended → WasLeft core shape p table orders ended
   left_as at told ended promised l =
-      record { from = at; rests = promised.rests; left = subst (λ (o : Orders). IsLeft o at ended) promised.obeys l }
+      record { from = at; rests = promised.rests; left = subst (λ (o : Orders). IsLeft core o at ended) promised.obeys l }
 
   -- where each worker is done, each station has its sections
-  pub all_done : (ended : List (AnyStation × Worked)) → AreAll (WasLeft p table orders) ended → All (λ one. one.1 ≡ Done) ended → AreAll (λ one. IsDone p table orders one.0) ended
+  pub all_done : (ended : List (Station core × Worked)) → AreAll (WasLeft core shape p table orders) ended → All (λ one. one.1 ≡ Done) ended → AreAll (λ one. HasWorked core shape p orders table one.0) ended
   all_done ended all done =
       record {
         each = λ k d low.
             let was = all.each k d low in
-            record { from = was.from; rests = was.rests; works = was.left.works; done = was.left.done (done k d low) };
+            record { from = was.from; rest = was.rests; works = was.left.works; done = was.left.done (done k d low) };
       }
 
-  one_spent : (ended : List (AnyStation × Worked)) → AreAll (WasLeft p table orders) ended → IsNotYet ended → SpendsTurns p orders
+  one_spent : (ended : List (Station core × Worked)) → AreAll (WasLeft core shape p table orders) ended → IsNotYet ended → SpendsIn core shape p orders
   one_spent ended all some =
       let was = so_there ended some.0 some.2 some.3 all in
       record { table = table; from = was.from; to = some.2.0; rests = was.rests; spends = was.left.spent some.1 some.4 }
 
   -- why these are not done
-  pub ran_in_vain : (ended : List (AnyStation × Worked)) (halt : Halt) → AreAll (WasLeft p table orders) ended → HaltsIn ended halt → RanInVain p orders halt
-  ran_in_vain ended halt all (inl spent) = inl (spent.0, one_spent ended all spent.1)
-  ran_in_vain ended halt all (inr shut) = inr (inl shut)
+  pub end_in_vain : (ended : List (Station core × Worked)) (halt : Halt) → AreAll (WasLeft core shape p table orders) ended → HaltsIn ended halt → EndInVain (SpendsIn core shape p orders) halt
+  end_in_vain ended halt all (inl spent) = inl (spent.0, one_spent ended all spent.1)
+  end_in_vain ended halt all (inr shut) = inr (inl shut)
 
 module _ {T : Type 0} where
   get_or_itself : (l : List T) (k : ℕ) (d : T) → k < length l → get_or l k d ≡ get_or l k (get_or l k d)

@@ -8,7 +8,6 @@ use Rattle.mx_io.specs.declared.output.OutputFault.{OutputFault}
 use Rattle.mx_io.specs.declared.output.OutputFault.TheVariants as output_fault
 use Rattle.mx_cli.specs.FaultLines.{fault_line, memory_line}
 use Rattle.mx_stations.specs.declared.working.Worked.{Worked}
-use Rattle.mx_live.specs.declared.any_station.AnyStation.{AnyStation}
 use Rattle.mx_live.specs.declared.halts.Halt.{Halt}
 use Rattle.mx_live.specs.declared.halts.Halt.TheVariants.{Plan, TooFewSections, TurnsSpent, GateShut, Writer, Memory}
 use Rattle.mx_live.specs.declared.threads.Orders.{Orders}
@@ -32,13 +31,16 @@ halt_status Writer = 1
 halt_status Memory = 5
 
 -- why some of these workers are not done: one says that its turns are spent, or the gate was shut
-abbrev pub HaltsIn : List (AnyStation × Worked) → Halt → Type 0
-HaltsIn ended halt = ((halt ≡ TurnsSpent) × IsNotYet ended) ⊎ (halt ≡ GateShut)
+abbrev pub HaltsIn : {X : Type 0} → List (X × Worked) → Halt → Type 0
+HaltsIn {X} ended halt = ((halt ≡ TurnsSpent) × IsNotYet ended) ⊎ (halt ≡ GateShut)
+
+-- threads end in vain: turns are spent, and so it is, or the gate was shut; or memory ran out
+abbrev pub EndInVain : Type 0 → Halt → Type 0
+EndInVain Spent halt = ((halt ≡ TurnsSpent) × Spent) ⊎ (halt ≡ GateShut) ⊎ (halt ≡ Memory)
 
 -- threads ran and were not all done: one made all its turns, or the gate was shut; or memory ran out
 abbrev pub RanInVain : Fields → Orders → Halt → Type 0
-RanInVain p orders halt =
-    ((halt ≡ TurnsSpent) × SpendsTurns p orders) ⊎ (halt ≡ GateShut) ⊎ (halt ≡ Memory)
+RanInVain p orders halt = EndInVain (SpendsTurns p orders) halt
 
 -- an output failed to take what was printed, which one that takes all does only for want of memory
 abbrev pub Fails : Bool → Halt → Type 0

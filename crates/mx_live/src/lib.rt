@@ -2,9 +2,7 @@
 //! sections of its own; then their journals are gathered.
 #![tactic(auto)]
 
-mod any_station;
 mod assembly;
-mod by_algorithm;
 mod halts;
 mod living;
 mod progress;

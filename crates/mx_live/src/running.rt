@@ -6,17 +6,13 @@ ghost use Rattle.mx_plan.specs.Fields.{Fields};
 ghost use Rattle.mx_stations.specs.Gathered.{IsGathered, IsWhole, OfOneTable};
 ghost use Rattle.mx_stamps.specs.declared.limits.TheConstants.{MOST_NODES};
 ghost use Rattle.mx_live.specs.declared.threads.Orders.{Orders as TheOrders};
-ghost use Rattle.mx_live.specs.Halts.{HaltsIn, RanInVain};
-ghost use Rattle.mx_live.specs.Stations.{AreAll, AreAtRest, AreReady};
-ghost use Rattle.mx_live.specs.Together.{AreSerial, ComeOf, HaveSections};
-ghost use Rattle.mx_live.specs.Workers.{AreDone, IsDone, WasLeft, orders_in};
+ghost use Rattle.mx_live.specs.Halts.{EndInVain, HaltsIn, RanInVain};
+ghost use Rattle.mx_live.specs.Stations.{AreAll, AreAtRest, IsAtRest};
+ghost use Rattle.mx_live.specs.Together.{AreGathered, AreSerial, ComeOf, HasWorked, HaveSections};
+ghost use Rattle.mx_live.specs.Workers.{AreLeft, SpendsIn, WasLeft, orders_in};
 ghost use Rattle.mx_cli.specs.LiveWords.{request_of};
 
-use crate::any_station::AnyStation;
 use crate::assembly::{Assembly, MOST_LOOKS};
-use crate::by_algorithm::{
-    all_maekawa, all_raymond, all_ricart, any_maekawa, any_raymond, any_ricart,
-};
 use crate::halts::Halt;
 use crate::progress::tell_progress;
 use crate::threads::{Ended, Orders, join_all, start_all};
@@ -25,9 +21,8 @@ use mx_io::Output;
 use mx_maekawa::Maekawa;
 use mx_nodelaws::Exclusion;
 use mx_plan::{Plan, Shape};
-use mx_quorums::Quorums;
-use mx_raymond::{Raymond, Tree};
-use mx_ricart::{Count, Ricart};
+use mx_raymond::Raymond;
+use mx_ricart::Ricart;
 use mx_stations::{Field, Gathered, Station, Watch, Worked, gather};
 use std::alloc::{AllocError, Global};
 use std::rt::Clock;
@@ -50,88 +45,48 @@ pub fn live_by_shape<R: Threads + Clock, E: Output>(
     ensures err { IfErr result (RanInVain plan.now (orders_in (request_of request.now))) }
 {
     match plan.shape() {
-        Shape::Ricart(shape) => live_ricart(rt, alloc, plan, shape, request, err),
-        Shape::Maekawa(shape) => live_maekawa(rt, alloc, plan, shape, request, err),
-        Shape::Raymond(shape) => live_raymond(rt, alloc, plan, shape, request, err),
+        Shape::Ricart(shape) => {
+            let stations = stations_in::<Ricart>(alloc, plan, shape)?;
+            live_at(rt, alloc, plan, stations, request, err)
+        }
+        Shape::Maekawa(shape) => {
+            let stations = stations_in::<Maekawa>(alloc, plan, shape)?;
+            live_at(rt, alloc, plan, stations, request, err)
+        }
+        Shape::Raymond(shape) => {
+            let stations = stations_in::<Raymond>(alloc, plan, shape)?;
+            live_at(rt, alloc, plan, stations, request, err)
+        }
     }
 }
 
-/// Runs the nodes of the algorithm of Ricart and Agrawala.
-fn live_ricart<R: Threads + Clock, E: Output>(
+/// Runs the nodes of a plan, from its stations.
+fn live_at<C: Exclusion + Send + 'static, R: Threads + Clock, E: Output>(
     rt: &R,
     alloc: Global,
     plan: &Plan,
-    shape: &Count,
+    stations: Vec<Station<C>>,
     request: &LiveRequest<'_>,
     err: &mut E,
 ) -> Result<Gathered, Halt>
-    requires count { ⟦<Ricart as Exclusion>⟧.core.count shape.now ≡ length plan.now.nodes }
-    requires shape { plan.now.shape ≡ Shape.Ricart shape.now }
+where
+    C::Msg: Send + 'static,
+    C::Shape: Send + 'static,
+    requires { (shape : C.Shape) × AreAtRest C.core shape plan.now stations.items }
     ensures serial { IfOk result (λ all. AreSerial all.receipts.items all.journal) }
     ensures sections { IfOk result (λ all.
         HaveSections (length plan.now.nodes) request.now.sections all.receipts.items) }
-    ensures come { IfOk result (λ all.
-        ComeOf plan.now (orders_in (request_of request.now)) all.receipts.items all.journal) }
-    ensures err { IfErr result (RanInVain plan.now (orders_in (request_of request.now))) }
+    ensures come { (shape : C.Shape) → AreAtRest C.core shape plan.now stations.items
+        → IfOk result (λ all. AreGathered C.core shape plan.now
+        (orders_in (request_of request.now)) all.receipts.items all.journal) }
+    ensures err { (shape : C.Shape) → AreAtRest C.core shape plan.now stations.items
+        → IfErr result (EndInVain
+        (SpendsIn C.core shape plan.now (orders_in (request_of request.now)))) }
 {
-    let stations = stations_in::<Ricart>(alloc, plan, shape)?;
-    let watch = watch_over(stations.as_slice())?;
-    let any = any_ricart(alloc, stations)?;
-    let left = run_all(rt, alloc, plan, any, watch, request, err)?;
-    let own = all_ricart(alloc, left)?;
-    gather_all(alloc, own)
-}
-
-/// Runs the nodes of the algorithm of Maekawa.
-fn live_maekawa<R: Threads + Clock, E: Output>(
-    rt: &R,
-    alloc: Global,
-    plan: &Plan,
-    shape: &Quorums,
-    request: &LiveRequest<'_>,
-    err: &mut E,
-) -> Result<Gathered, Halt>
-    requires count { ⟦<Maekawa as Exclusion>⟧.core.count shape.now ≡ length plan.now.nodes }
-    requires shape { plan.now.shape ≡ Shape.Maekawa shape.now }
-    ensures serial { IfOk result (λ all. AreSerial all.receipts.items all.journal) }
-    ensures sections { IfOk result (λ all.
-        HaveSections (length plan.now.nodes) request.now.sections all.receipts.items) }
-    ensures come { IfOk result (λ all.
-        ComeOf plan.now (orders_in (request_of request.now)) all.receipts.items all.journal) }
-    ensures err { IfErr result (RanInVain plan.now (orders_in (request_of request.now))) }
-{
-    let stations = stations_in::<Maekawa>(alloc, plan, shape)?;
-    let watch = watch_over(stations.as_slice())?;
-    let any = any_maekawa(alloc, stations)?;
-    let left = run_all(rt, alloc, plan, any, watch, request, err)?;
-    let own = all_maekawa(alloc, left)?;
-    gather_all(alloc, own)
-}
-
-/// Runs the nodes of the algorithm of Raymond.
-fn live_raymond<R: Threads + Clock, E: Output>(
-    rt: &R,
-    alloc: Global,
-    plan: &Plan,
-    shape: &Tree,
-    request: &LiveRequest<'_>,
-    err: &mut E,
-) -> Result<Gathered, Halt>
-    requires count { ⟦<Raymond as Exclusion>⟧.core.count shape.now ≡ length plan.now.nodes }
-    requires shape { plan.now.shape ≡ Shape.Raymond shape.now }
-    ensures serial { IfOk result (λ all. AreSerial all.receipts.items all.journal) }
-    ensures sections { IfOk result (λ all.
-        HaveSections (length plan.now.nodes) request.now.sections all.receipts.items) }
-    ensures come { IfOk result (λ all.
-        ComeOf plan.now (orders_in (request_of request.now)) all.receipts.items all.journal) }
-    ensures err { IfErr result (RanInVain plan.now (orders_in (request_of request.now))) }
-{
-    let stations = stations_in::<Raymond>(alloc, plan, shape)?;
-    let watch = watch_over(stations.as_slice())?;
-    let any = any_raymond(alloc, stations)?;
-    let left = run_all(rt, alloc, plan, any, watch, request, err)?;
-    let own = all_raymond(alloc, left)?;
-    gather_all(alloc, own)
+    match run_all(rt, alloc, plan, stations, request, err) {
+        Ok(left) => finish(alloc, left),
+        Err(AllocError) => Err(Halt::Memory),
+    }
 }
 
 /// The stations of a plan.
@@ -152,21 +107,24 @@ fn stations_in<C: Exclusion>(
     )
 }
 
-/// Runs each station in a thread of its own, until all are done. Where one is not, tells why.
-fn run_all<C: Exclusion, R: Threads + Clock, E: Output>(
+/// Runs each station in a thread of its own, until all threads have ended.
+fn run_all<C: Exclusion + Send + 'static, R: Threads + Clock, E: Output>(
     rt: &R,
     alloc: Global,
     plan: &Plan,
-    stations: Vec<AnyStation>,
-    watch: Option<Watch<C>>,
+    stations: Vec<Station<C>>,
     request: &LiveRequest<'_>,
     err: &mut E,
-) -> Result<Vec<Ended>, Halt>
-    requires { AreReady plan.now stations.items }
-    ensures done { IfOk result (λ left.
-        AreDone plan.now (orders_in (request_of request.now)) left.items) }
-    ensures err { IfErr result (RanInVain plan.now (orders_in (request_of request.now))) }
+) -> Result<Vec<Ended<C>>, AllocError>
+where
+    C::Msg: Send + 'static,
+    C::Shape: Send + 'static,
+    ensures { (shape : C.Shape) (table : TableId)
+        → AreAll (IsAtRest C.core shape plan.now table) stations.items
+        → IfOk result (λ left. AreAll (WasLeft C.core shape plan.now table
+        (orders_in (request_of request.now))) left.items) }
 {
+    let watch = watch_over(stations.as_slice())?;
     let gate = shared_gate(alloc, plan.nodes())?;
     let workers = start_all(rt, alloc, stations, &gate, orders_of(request))?;
     if let Some(watch) = watch
@@ -174,8 +132,7 @@ fn run_all<C: Exclusion, R: Threads + Clock, E: Output>(
     {
         tell_progress(rt, alloc, &watch, &*gate, err);
     }
-    let left = join_all(rt, workers)?;
-    finished(left)
+    join_all(rt, workers)
 }
 
 /// What is ordered of each worker.
@@ -190,18 +147,42 @@ fn orders_of(request: &LiveRequest<'_>) -> Orders
     }
 }
 
-/// What was left, where each worker is done. Else why not.
-fn finished(left: Vec<Ended>) -> Result<Vec<Ended>, Halt>
-    ensures done { (p : Fields) (table : TableId) (orders : TheOrders)
-        → AreAll (WasLeft p table orders) left.items
-        → IfOk result (λ all. AreAll (λ one. IsDone p table orders one.0) all.items) }
-    ensures err { (p : Fields) (table : TableId) (orders : TheOrders)
-        → AreAll (WasLeft p table orders) left.items → IfErr result (RanInVain p orders) }
+/// What the stations that were left have together, where each worker is done. Else why not.
+fn finish<C: Exclusion>(alloc: Global, left: Vec<Ended<C>>) -> Result<Gathered, Halt>
+    requires { AreLeft C.core left.items }
+    ensures serial { IfOk result (λ all. AreSerial all.receipts.items all.journal) }
+    ensures come { (shape : C.Shape) (p : Fields) (table : TableId) (orders : TheOrders)
+        → AreAll (WasLeft C.core shape p table orders) left.items
+        → IfOk result (λ all.
+        HaveSections (length p.nodes) orders.sections all.receipts.items
+        × AreGathered C.core shape p orders all.receipts.items all.journal) }
+    ensures err { (shape : C.Shape) (p : Fields) (table : TableId) (orders : TheOrders)
+        → AreAll (WasLeft C.core shape p table orders) left.items
+        → IfErr result (EndInVain (SpendsIn C.core shape p orders)) }
 {
     match first_halt(left.as_slice()) {
         Some(halt) => Err(halt),
-        None => Ok(left),
+        None => match stations_of(alloc, left) {
+            Ok(stations) => gather_all(alloc, stations),
+            Err(AllocError) => Err(Halt::Memory),
+        },
     }
+}
+
+/// The stations that were left.
+fn stations_of<C: Exclusion>(
+    alloc: Global,
+    left: Vec<Ended<C>>,
+) -> Result<Vec<Station<C>>, AllocError>
+    ensures { (shape : C.Shape) (p : Fields) (table : TableId) (orders : TheOrders)
+        → AreAll (λ one. HasWorked C.core shape p orders table one.0) left.items
+        → IfOk result (λ all. AreAll (HasWorked C.core shape p orders table) all.items) }
+{
+    let mut stations = Vec::new(alloc);
+    for one in left {
+        stations.push(one.0)?;
+    }
+    Ok(stations)
 }
 
 /// A watch over the nodes, where there are any.
@@ -221,7 +202,7 @@ fn shared_gate(alloc: Global, nodes: u8) -> Result<Arc<Assembly, Global>, AllocE
 }
 
 /// Why the least node that is not done is not.
-fn first_halt(left: &[Ended]) -> Option<Halt>
+fn first_halt<S>(left: &[(S, Worked)]) -> Option<Halt>
     ensures some { IfSome result (HaltsIn left.now) }
     ensures none { IfNone result (All (λ one. one.1 ≡ Worked.Done) left.now) }
 {

@@ -6,10 +6,9 @@ ghost use Rattle.mx_plan.specs.Fields.{Fields};
 ghost use Rattle.mx_stations.specs.Gathered.{KeepsTable};
 ghost use Rattle.mx_stations.specs.Works.{Works, WorksAtMost, WorksFor, WorksSettling};
 ghost use Rattle.mx_live.specs.declared.threads.Orders.{Orders as TheOrders};
-ghost use Rattle.mx_live.specs.Stations.{AreAll, Rests};
+ghost use Rattle.mx_live.specs.Stations.{AreAll, IsAtRest};
 ghost use Rattle.mx_live.specs.Workers.{IsLeft, Promises, WasLeft, weather_of};
 
-use crate::any_station::AnyStation;
 use crate::assembly::Assembly;
 use mx_explorer::Weather;
 use mx_nodelaws::Exclusion;
@@ -37,61 +36,37 @@ pub(crate) struct Orders {
 }
 
 /// What a worker leaves.
-pub(crate) type Ended = (AnyStation, Worked);
+pub(crate) type Ended<C> = (Station<C>, Worked);
 
 /// The promise of a worker: it leads from this station to the one that it leaves, as it was
 /// ordered.
 #[derive(Drop)]
-pub(crate) struct WorkAt {
-    at: Snapshot<AnyStation>,
+pub(crate) struct WorkAt<S> {
+    at: Snapshot<S>,
     orders: Orders,
 }
 
-impl Promise<Ended> for WorkAt {
+impl<C: Exclusion> Promise<Ended<C>> for WorkAt<Station<C>> {
     ghost use Rattle.mx_live.specs.Workers.{IsLeft};
 
-    ghost kept_by = { λ p ended. IsLeft p.orders p.at.value ended };
+    ghost kept_by = { λ p ended. IsLeft C.core p.orders p.at.value ended };
 }
 
 /// A thread that works at a station.
-pub(crate) type Worker = PromisedHandle<Ended, WorkAt>;
+pub(crate) type Worker<C> = PromisedHandle<Ended<C>, WorkAt<Station<C>>>;
 
 /// Does the work at a station, and notes its end at the gate.
-fn do_work(station: AnyStation, gate: &Assembly, orders: Orders) -> Ended
-    ensures { IsLeft orders station result }
+fn do_work<C: Exclusion>(station: Station<C>, gate: &Assembly, orders: Orders) -> Ended<C>
+    ensures { IsLeft C.core orders station result }
 {
-    let ended = work_any(station, gate, orders);
+    let ended = work_at(station, gate, orders);
     gate.note_end();
     ended
 }
 
-/// Does the work at a station, whichever algorithm its node runs.
-fn work_any(station: AnyStation, gate: &Assembly, orders: Orders) -> Ended
-    ensures { IsLeft orders station result }
-{
-    match station {
-        AnyStation::Ricart(station) => {
-            let (left, worked) = work_at(station, gate, orders);
-            (AnyStation::Ricart(left), worked)
-        }
-        AnyStation::Maekawa(station) => {
-            let (left, worked) = work_at(station, gate, orders);
-            (AnyStation::Maekawa(left), worked)
-        }
-        AnyStation::Raymond(station) => {
-            let (left, worked) = work_at(station, gate, orders);
-            (AnyStation::Raymond(left), worked)
-        }
-    }
-}
-
 /// Does the work at a station, under links of its own seed. It settles after as many sections
 /// of its own as the orders say, with 0 never.
-fn work_at<C: Exclusion>(
-    station: Station<C>,
-    gate: &Assembly,
-    orders: Orders,
-) -> (Station<C>, Worked)
+fn work_at<C: Exclusion>(station: Station<C>, gate: &Assembly, orders: Orders) -> Ended<C>
     ensures works { WorksSettling C.core 0 orders.settle station result.0 }
     ensures never { orders.settle ≡ 0 → Works C.core 0 station result.0 }
     ensures most { WorksAtMost C.core 0 orders.settle orders.turns station result.0 }
@@ -116,26 +91,16 @@ fn weather_at(seed: u64, node: NodeId) -> Weather
     Weather::of(own, LOST, DOUBLED)
 }
 
-/// Starts a thread for a station, with a share of the gate.
-fn start<R: Threads>(
-    rt: &R,
-    station: AnyStation,
-    shared: &Arc<Assembly, Global>,
-    orders: Orders,
-) -> Result<Worker, AllocError>
-    ensures at { IfOk result (λ worker. worker.promise.at.value ≡ station) }
-    ensures told { IfOk result (λ worker. worker.promise.orders ≡ orders) }
-{
-    spawn(rt, station, Arc::try_clone(shared)?, orders)
-}
-
 /// Starts a thread for a station.
-fn spawn<R: Threads>(
+fn start<C: Exclusion + Send + 'static, R: Threads>(
     rt: &R,
-    station: AnyStation,
+    station: Station<C>,
     gate: Arc<Assembly, Global>,
     orders: Orders,
-) -> Result<Worker, AllocError>
+) -> Result<Worker<C>, AllocError>
+where
+    C::Msg: Send + 'static,
+    C::Shape: Send + 'static,
     ensures at { IfOk result (λ worker. worker.promise.at.value ≡ station) }
     ensures told { IfOk result (λ worker. worker.promise.orders ≡ orders) }
 {
@@ -146,8 +111,8 @@ fn spawn<R: Threads>(
     let started = thread::spawn_with(
         rt,
         promise,
-        move || -> Ended
-            ensures { IsLeft orders station result }
+        move || -> Ended<C>
+            ensures { IsLeft C.core orders station result }
         { do_work(station, &*gate, orders) },
     );
     match started {
@@ -156,38 +121,47 @@ fn spawn<R: Threads>(
     }
 }
 
-/// Starts a thread for a station, beside those that were started.
-fn start_one<R: Threads>(
+/// Starts a thread for a station, with a share of the gate, beside those that were started.
+fn start_one<C: Exclusion + Send + 'static, R: Threads>(
     rt: &R,
-    workers: &mut Vec<Worker>,
-    station: AnyStation,
+    workers: &mut Vec<Worker<C>>,
+    station: Station<C>,
     gate: &Arc<Assembly, Global>,
     orders: Orders,
 ) -> Result<(), AllocError>
-    ensures { (p : Fields) (table : TableId) → Rests p table station
-        → AreAll (λ worker. Promises p table orders
+where
+    C::Msg: Send + 'static,
+    C::Shape: Send + 'static,
+    ensures { (shape : C.Shape) (p : Fields) (table : TableId)
+        → IsAtRest C.core shape p table station
+        → AreAll (λ worker. Promises C.core shape p table orders
         worker.promise.at.value worker.promise.orders) workers.old.items
-        → OnOk result (AreAll (λ worker. Promises p table orders
+        → OnOk result (AreAll (λ worker. Promises C.core shape p table orders
         worker.promise.at.value worker.promise.orders) workers.new.items) }
 {
     workers.reserve(1)?;
-    let worker = start(rt, station, gate, orders)?;
+    let share = Arc::try_clone(gate)?;
+    let worker = start(rt, station, share, orders)?;
     workers.push_reserved(worker);
     Ok(())
 }
 
 /// Starts a thread for each station, until one can't be started.
-fn start_each<R: Threads>(
+fn start_each<C: Exclusion + Send + 'static, R: Threads>(
     rt: &R,
-    workers: &mut Vec<Worker>,
-    stations: Vec<AnyStation>,
+    workers: &mut Vec<Worker<C>>,
+    stations: Vec<Station<C>>,
     gate: &Arc<Assembly, Global>,
     orders: Orders,
 ) -> Result<(), AllocError>
-    ensures { (p : Fields) (table : TableId) → AreAll (Rests p table) stations.items
-        → AreAll (λ worker. Promises p table orders
+where
+    C::Msg: Send + 'static,
+    C::Shape: Send + 'static,
+    ensures { (shape : C.Shape) (p : Fields) (table : TableId)
+        → AreAll (IsAtRest C.core shape p table) stations.items
+        → AreAll (λ worker. Promises C.core shape p table orders
         worker.promise.at.value worker.promise.orders) workers.old.items
-        → OnOk result (AreAll (λ worker. Promises p table orders
+        → OnOk result (AreAll (λ worker. Promises C.core shape p table orders
         worker.promise.at.value worker.promise.orders) workers.new.items) }
 {
     for station in stations {
@@ -198,15 +172,19 @@ fn start_each<R: Threads>(
 
 /// Starts a thread for each station. Where one can't be started the gate is shut, and those that
 /// were started are joined.
-pub(crate) fn start_all<R: Threads>(
+pub(crate) fn start_all<C: Exclusion + Send + 'static, R: Threads>(
     rt: &R,
     alloc: Global,
-    stations: Vec<AnyStation>,
+    stations: Vec<Station<C>>,
     gate: &Arc<Assembly, Global>,
     orders: Orders,
-) -> Result<Vec<Worker>, AllocError>
-    ensures { (p : Fields) (table : TableId) → AreAll (Rests p table) stations.items
-        → IfOk result (λ all. AreAll (λ worker. Promises p table orders
+) -> Result<Vec<Worker<C>>, AllocError>
+where
+    C::Msg: Send + 'static,
+    C::Shape: Send + 'static,
+    ensures { (shape : C.Shape) (p : Fields) (table : TableId)
+        → AreAll (IsAtRest C.core shape p table) stations.items
+        → IfOk result (λ all. AreAll (λ worker. Promises C.core shape p table orders
         worker.promise.at.value worker.promise.orders) all.items) }
 {
     let mut workers = Vec::new(alloc);
@@ -221,18 +199,21 @@ pub(crate) fn start_all<R: Threads>(
 }
 
 /// Joins threads whose work is of no use any more.
-fn join_each<R: Threads>(rt: &R, workers: Vec<Worker>) {
+fn join_each<C: Exclusion, R: Threads>(rt: &R, workers: Vec<Worker<C>>) {
     for worker in workers {
         drop(worker.join(rt));
     }
 }
 
 /// Joins all threads. Where memory runs out what they leave is dropped.
-pub(crate) fn join_all<R: Threads>(rt: &R, workers: Vec<Worker>) -> Result<Vec<Ended>, AllocError>
-    ensures { (p : Fields) (table : TableId) (orders : TheOrders)
-        → AreAll (λ worker. Promises p table orders
+pub(crate) fn join_all<C: Exclusion, R: Threads>(
+    rt: &R,
+    workers: Vec<Worker<C>>,
+) -> Result<Vec<Ended<C>>, AllocError>
+    ensures { (shape : C.Shape) (p : Fields) (table : TableId) (orders : TheOrders)
+        → AreAll (λ worker. Promises C.core shape p table orders
         worker.promise.at.value worker.promise.orders) workers.items
-        → IfOk result (λ all. AreAll (WasLeft p table orders) all.items) }
+        → IfOk result (λ all. AreAll (WasLeft C.core shape p table orders) all.items) }
 {
     match thread::join_promised(rt, workers) {
         Ok(ended) => Ok(ended),

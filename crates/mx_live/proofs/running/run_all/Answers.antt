@@ -1,22 +1,26 @@
-use Rattle.std.proofs.Common.{IfErr, subst}
-use Rattle.std.proofs.lemmas.Result.{IfOk-weaker}
+use Rattle.std.proofs.Common.{IfOk, subst}
 use Rattle.mx_live.specs.declared.threads.Orders.{Orders}
-use Rattle.mx_live.specs.Halts.{RanInVain}
 use Rattle.mx_live.specs.Stations.{AreAll}
-use Rattle.mx_live.specs.Workers.{IsDone}
+use Rattle.mx_live.specs.Workers.{WasLeft}
 use Rattle.mx_live.proofs.running.run_all.Goals as goal
 
-pub returns-clause-done : goal.returns-clause-done
-returns-clause-done g c =
-    let p = c.args.plan.now in
-    let at = c.requires in
-    let left = c.in_ok-left.ensures p at.0 c.orders_of.result (c.in_ok-workers.ensures p at.0 at.1) in
-    IfOk-weaker c.finished.result _ _ (λ all done. (at.0, subst (λ (o : Orders). AreAll (λ one. IsDone p at.0 o one.0) all.items) c.orders_of.ensures done))
-    (c.finished.ensures.done p at.0 c.orders_of.result left)
+pub start_all-requires-send-C : goal.start_all-requires-send-C
+start_all-requires-send-C g c κs within = record { owned = c.type_bounds.send-C.owned; leaving = c.type_bounds.send-C.leaving }
 
-pub returns-clause-err : goal.returns-clause-err
-returns-clause-err g c =
+pub start_all-requires-send-C-Msg : goal.start_all-requires-send-C-Msg
+start_all-requires-send-C-Msg g c κs within = record { owned = c.type_bounds.send-C-Msg.owned; leaving = c.type_bounds.send-C-Msg.leaving }
+
+pub start_all-requires-send-C-Shape : goal.start_all-requires-send-C-Shape
+start_all-requires-send-C-Shape g c κs within = record { owned = c.type_bounds.send-C-Shape.owned; leaving = c.type_bounds.send-C-Shape.leaving }
+
+pub returns : goal.returns
+returns g c = λ shape table rest.
     let p = c.args.plan.now in
-    let at = c.requires in
-    let left = c.in_ok-left.ensures p at.0 c.orders_of.result (c.in_ok-workers.ensures p at.0 at.1) in
-    subst (λ (o : Orders). IfErr c.finished.result (RanInVain p o)) c.orders_of.ensures (c.finished.ensures.err p at.0 c.orders_of.result left)
+    subst (λ (o : Orders). IfOk c.join_all.result (λ all. AreAll (WasLeft g.C.Exclusion.core shape p table o) all.items)) c.orders_of.ensures
+    (c.join_all.ensures shape p table c.orders_of.result (c.in_ok-workers.ensures shape p table rest))
+
+pub start_all-requires-after_bounds : goal.start_all-requires-after_bounds
+start_all-requires-after_bounds g c κs within = search (c.requires-raw)
+
+pub join_all-requires : goal.join_all-requires
+join_all-requires g c = search (c.requires-raw)

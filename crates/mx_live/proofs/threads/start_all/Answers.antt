@@ -3,4 +3,19 @@ use Rattle.mx_live.proofs.StationLemmas.{none_so}
 use Rattle.mx_live.proofs.threads.start_all.Goals as goal
 
 pub returns-in-Ok : goal.returns-in-Ok
-returns-in-Ok g c = λ p table all. c.in-Ok.ensures p table all (none_so _ (search rules))
+returns-in-Ok g c = λ shape p table all. c.in-Ok.ensures shape p table all (none_so _ (search rules))
+
+pub start_each-requires-send-C : goal.start_each-requires-send-C
+start_each-requires-send-C g c κs within = c.type_bounds.send-C
+
+pub start_each-requires-send-C-Msg : goal.start_each-requires-send-C-Msg
+start_each-requires-send-C-Msg g c κs within = c.type_bounds.send-C-Msg
+
+pub start_each-requires-send-C-Shape : goal.start_each-requires-send-C-Shape
+start_each-requires-send-C-Shape g c κs within = c.type_bounds.send-C-Shape
+
+pub start_each-requires-after_bounds : goal.start_each-requires-after_bounds
+start_each-requires-after_bounds g c κs within = search (c.requires-raw)
+
+pub join_each-requires : goal.join_each-requires
+join_each-requires g c = search (c.requires-raw)

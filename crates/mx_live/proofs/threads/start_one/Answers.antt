@@ -1,10 +1,22 @@
 use Rattle.std.proofs.Common.{subst, sym}
-use Rattle.mx_live.specs.Stations.{Rests}
+use Rattle.mx_live.specs.Stations.{IsAtRest}
 use Rattle.mx_live.proofs.StationLemmas.{pushed_so}
 use Rattle.mx_live.proofs.threads.start_one.Goals as goal
 
 pub returns : goal.returns
-returns g c = λ p table rests all.
+returns g c = λ shape p table rests all.
     let promised = c.in_ok-worker.ensures in
     pushed_so _ _ _ _ c.reserve.ensures.items c.push_reserved.ensures.items all
-    (record { rests = subst (Rests p table) (sym promised.at) rests; obeys = promised.told })
+    (record { rests = subst (IsAtRest g.C.Exclusion.core shape p table) (sym promised.at) rests; obeys = promised.told })
+
+pub start-requires-send-C : goal.start-requires-send-C
+start-requires-send-C g c κs within = c.type_bounds.send-C
+
+pub start-requires-send-C-Msg : goal.start-requires-send-C-Msg
+start-requires-send-C-Msg g c κs within = c.type_bounds.send-C-Msg
+
+pub start-requires-send-C-Shape : goal.start-requires-send-C-Shape
+start-requires-send-C-Shape g c κs within = c.type_bounds.send-C-Shape
+
+pub start-requires-after_bounds : goal.start-requires-after_bounds
+start-requires-after_bounds g c κs within = search (c.requires-raw)
