@@ -164,13 +164,15 @@ fn count_on<C: Exclusion>(station: Station<C>, gate: &Assembly, by_calls: bool) 
     }
 }
 
-/// Gives each station to a thread of its own, and has them back when all threads have ended. A type
-/// parameter would have to be one that threads may own.
-fn ricart_in_threads<R: Threads + Sync>(
+/// Gives each station to a thread of its own, and has them back when all threads have ended.
+fn in_threads<C: Exclusion + Send, R: Threads + Sync>(
     rt: &R,
-    stations: Vec<Station<Ricart>>,
+    stations: Vec<Station<C>>,
     by_calls: bool,
-) -> Result<Vec<Station<Ricart>>, AllocError>
+) -> Result<Vec<Station<C>>, AllocError>
+where
+    C::Msg: Send,
+    C::Shape: Send,
     requires { OfOneTable stations.items }
     ensures { IfOk result (λ all. OfOneTable all.items) }
 {
@@ -178,47 +180,7 @@ fn ricart_in_threads<R: Threads + Sync>(
     let back = thread::map_vec(
         rt,
         stations,
-        &|station: Station<Ricart>| -> Station<Ricart>
-            ensures { KeepsTable station result }
-        { count_on(station, &gate, by_calls) },
-    )?;
-    Ok(back)
-}
-
-/// Gives each station by Maekawa's algorithm to a thread of its own.
-fn maekawa_in_threads<R: Threads + Sync>(
-    rt: &R,
-    stations: Vec<Station<Maekawa>>,
-    by_calls: bool,
-) -> Result<Vec<Station<Maekawa>>, AllocError>
-    requires { OfOneTable stations.items }
-    ensures { IfOk result (λ all. OfOneTable all.items) }
-{
-    let gate = Assembly::new(5, 100_000_000);
-    let back = thread::map_vec(
-        rt,
-        stations,
-        &|station: Station<Maekawa>| -> Station<Maekawa>
-            ensures { KeepsTable station result }
-        { count_on(station, &gate, by_calls) },
-    )?;
-    Ok(back)
-}
-
-/// Gives each station by Raymond's algorithm to a thread of its own.
-fn raymond_in_threads<R: Threads + Sync>(
-    rt: &R,
-    stations: Vec<Station<Raymond>>,
-    by_calls: bool,
-) -> Result<Vec<Station<Raymond>>, AllocError>
-    requires { OfOneTable stations.items }
-    ensures { IfOk result (λ all. OfOneTable all.items) }
-{
-    let gate = Assembly::new(5, 100_000_000);
-    let back = thread::map_vec(
-        rt,
-        stations,
-        &|station: Station<Raymond>| -> Station<Raymond>
+        &|station: Station<C>| -> Station<C>
             ensures { KeepsTable station result }
         { count_on(station, &gate, by_calls) },
     )?;
@@ -254,7 +216,7 @@ fn is_counted_by_ricart<R: Threads + Sync>(
 ) -> Result<bool, Fail> {
     let shape = Count::of(5).ok_or("count")?;
     let stations = Field::<Ricart>::stations(alloc, &shape, 0, 1000, 1)?;
-    Ok(is_counted(alloc, ricart_in_threads(rt, stations, by_calls)?))
+    Ok(is_counted(alloc, in_threads(rt, stations, by_calls)?))
 }
 
 #[test]
@@ -273,7 +235,7 @@ fn is_counted_by_maekawa<R: Threads + Sync>(
 ) -> Result<bool, Fail> {
     let shape = Quorums::grid(1, 5)?;
     let stations = Field::<Maekawa>::stations(alloc, &shape, 0, 1000, 1)?;
-    Ok(is_counted(alloc, maekawa_in_threads(rt, stations, by_calls)?))
+    Ok(is_counted(alloc, in_threads(rt, stations, by_calls)?))
 }
 
 #[test]
@@ -292,7 +254,7 @@ fn is_counted_by_raymond<R: Threads + Sync>(
 ) -> Result<bool, Fail> {
     let shape = Tree::of(5, &[(0, 1), (1, 2), (2, 3), (3, 4)], 0)?;
     let stations = Field::<Raymond>::stations(alloc, &shape, 0, 1000, 1)?;
-    Ok(is_counted(alloc, raymond_in_threads(rt, stations, by_calls)?))
+    Ok(is_counted(alloc, in_threads(rt, stations, by_calls)?))
 }
 
 #[test]

@@ -1,6 +1,6 @@
 use Rattle.std.proofs.Common.{◌≡◌, length, arith}
 use Rattle.mx_stations.proofs.Returning.{come_back}
-use Rattle.mx_tests.proofs.settled_stations.ricart_in_threads.Goals as goal
+use Rattle.mx_tests.proofs.settled_stations.in_threads.Goals as goal
 
 pub returns : goal.returns
 returns g c =
