@@ -1,2 +1,3 @@
 pub mod MomentLemmas
 pub mod SessionLemmas
+pub mod PlayedLemmas

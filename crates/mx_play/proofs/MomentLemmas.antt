@@ -3,8 +3,7 @@ use Rattle.std.proofs.Common.{◌≡◌, ◌≤◌, ◌<◌, ◌∙◌, ℕ, zer
 use Rattle.std.proofs.lemmas.List.{drop_all}
 use Rattle.mx_stamps.proofs.Lists.{append_nil}
 use Rattle.mx_nodelaws.specs.Core.{Core}
-use Rattle.mx_events.specs.declared.event.Event.{Event}
-use Rattle.mx_network.specs.Step.{ClusterState, RunsTo, step_of}
+use Rattle.mx_network.specs.Step.{ClusterState, RunsTo}
 use Rattle.mx_plan.specs.Text.{Text}
 use Rattle.mx_plan.specs.Fields.{Fields}
 use Rattle.mx_scripts.specs.Fates.{Fates, noted}

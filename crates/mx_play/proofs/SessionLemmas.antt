@@ -1,25 +1,24 @@
 -- What lines make of a session.
-use Rattle.std.proofs.Common.{◌≡◌, ◌≤◌, ◌∙◌, ℕ, zero, suc, List, [], ◌∷◌, ◌++◌, Result, Ok, Err, OnOk, IfOk, OnErr, length, take, refl, sym, ap, subst, append_assoc, inl, inr}
+use Rattle.std.proofs.Common.{◌≡◌, ◌≤◌, ◌∙◌, ℕ, List, [], ◌∷◌, ◌++◌, Result, Ok, Err, OnOk, IfOk, OnErr, length, take, refl, sym, ap, subst, append_assoc}
 use Rattle.std.specs.Prelude.{MatchOption, Option, Some, None, slice_index_or, ◌-◌}
 use Rattle.std.specs.Bool.{⊤}
 use Rattle.mx_stamps.proofs.Lists.{append_nil}
 use Rattle.mx_nodelaws.specs.Core.{Core}
 use Rattle.mx_events.specs.declared.event.Event.{Event}
 use Rattle.mx_events.specs.declared.event.Event.TheVariants as event
-use Rattle.mx_network.specs.Step.{ClusterState}
 use Rattle.mx_explorer.specs.Drawn.{IsDrawn}
 use Rattle.std.specs.Io.KnownBytes.{Appends}
 use Rattle.mx_plan.specs.Text.{Text}
 use Rattle.mx_plan.specs.Fields.{Fields}
 use Rattle.mx_io.specs.Outputs.{Held}
 use Rattle.mx_cli.proofs.OutputLemmas.{Appends-nil, Appends-trans}
-use Rattle.mx_commands.specs.Runs.{NamesNodes, at_rest, closing_text}
+use Rattle.mx_commands.specs.Runs.{NamesNodes, closing_text}
 use Rattle.mx_commands.proofs.RunLemmas.{members_at_rest}
 use Rattle.mx_scripts.specs.declared.line_faults.LineFault.{LineFault}
 use Rattle.mx_play.specs.Moments.{Brings, CanLead, Leads, Makes, MomentState, first_moment, shown}
-use Rattle.mx_play.specs.Sessions.{Adds, Comes, Extends, HasTalked, HasTurned, IsDone, IsPlayed, IsSession, IsTakenBack, Loses, SaysTurn, SessionState, Talks, Turn, at_start, events_in, rests, state}
+use Rattle.mx_play.specs.Sessions.{Adds, Comes, Extends, HasTalked, HasTurned, IsDone, IsPlayed, IsSession, IsTakenBack, Loses, SaysTurn, SessionState, Talks, Turn, at_start, rests, state}
 use Rattle.mx_play.specs.declared.happening.Happening.{Happening}
-use Rattle.mx_play.specs.declared.happening.Happening.TheVariants.{Happens, IsLost}
+use Rattle.mx_play.specs.declared.happening.Happening.TheVariants.{IsLost}
 use Rattle.mx_play.proofs.MomentLemmas.{leads_append, leads_members, leads_one, leads_prefix, leads_runs, makes_append, makes_leads, makes_one}
 
 -- the events that a line of a script asks for are of the nodes of the plan
@@ -208,18 +207,10 @@ module _ {H S M : Type 0} (core : Core H S M) (letter_text : Fields → M → Te
       printed = Appends-trans o o' o'' x.text (closing_text core letter_text p last.now.cluster) x.printed closes;
     }
 
-    -- a line that is empty or at fault
-    pub says_nothing : (s : SessionState S M) (o : Held) → SaysTurn core letter_text p shape s s o o
-    says_nothing s o = record {
-      text = [];
-      turned = record { turn = rests; comes = record { same = refl; printed = refl } };
-      printed = Appends-nil o;
-    }
-
-    pub whole_on_ok : {T E : Type 0} (r : Result T E) (s mid last : SessionState S M) (o o1 o2 o3 : Held) → s ≡ at_start core p shape → W s mid o o1 → W mid last o1 o2 → G last
-        → IfOk r (λ _. Appends o2 o3 (closing_text core letter_text p last.now.cluster)) → IfOk r (λ _. IsPlayed core letter_text p shape o o3)
-    whole_on_ok (Ok t) s mid last o o1 o2 o3 is x y g closes = whole_session s last o o2 o3 is (talked_on s mid last o o1 o2 x y) g closes
-    whole_on_ok (Err e) s mid last o o1 o2 o3 is x y g closes = tt
+    pub whole_on_ok : {T E : Type 0} (r : Result T E) (s last : SessionState S M) (o o' o'' : Held) → s ≡ at_start core p shape → W s last o o' → G last
+        → IfOk r (λ _. Appends o' o'' (closing_text core letter_text p last.now.cluster)) → IfOk r (λ _. IsPlayed core letter_text p shape o o'')
+    whole_on_ok (Ok t) s last o o' o'' is x g closes = whole_session s last o o' o'' is x g closes
+    whole_on_ok (Err e) s last o o' o'' is x g closes = tt
 
     -- a line that was done or taken back, or one at fault
     pub turned_by : {K E : Type 0} (r : Result (Option K) E) (t : Turn) (a b : SessionState S M) (text : Text)

@@ -1,5 +1,5 @@
 -- A cluster with what has become of its parcels, and what happens to both.
-use Rattle.std.specs.Prelude.{ℕ, ◌≡◌, List, [], ◌∷◌, ◌++◌, Ok, length}
+use Rattle.std.specs.Prelude.{◌≡◌, List, [], ◌∷◌, ◌++◌, Ok, length}
 use Rattle.mx_nodelaws.specs.Core.{Core}
 use Rattle.mx_network.specs.Step.{ClusterState, step_of}
 use Rattle.mx_plan.specs.Text.{Text}

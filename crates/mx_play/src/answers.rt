@@ -3,18 +3,62 @@
 ghost use Rattle.std.specs.Prelude.{◌≡◌, [], IfOk, MatchOption, OnOk, length, slice_index_or, string_bytes, take};
 ghost use Rattle.mx_scripts.specs.Scripts.{IsOver};
 ghost use Rattle.mx_play.specs.Moments.{CanLead, Leads, first_moment};
-ghost use Rattle.mx_play.specs.Sessions.{Comes, IsSession, state};
+ghost use Rattle.mx_play.specs.Sessions.{Comes, HasTurned, IsSession, state};
 ghost use Rattle.mx_play.specs.Sessions as turn;
+ghost use Rattle.mx_play.specs.Wishes.{IsWish};
 
 use crate::faults::Complaint;
+use crate::help::add_words;
 use crate::moment::go_back;
 use crate::orders::repeat;
-use crate::session::Session;
+use crate::session::{Session, list_session, show_session};
+use crate::wishes::Wish;
 use mx_nodelaws::Exclusion;
 use mx_plan::Plan;
 use mx_scripts::{Line, LineFault};
 use mx_texts::Letter;
 use std::alloc::{AllocError, Global};
+
+/// Does what a line asks for, and adds what is printed of it. Where it can't be done, nothing changes,
+/// and nothing is printed.
+pub(crate) fn answer<C: Exclusion>(
+    alloc: Global,
+    plan: &Plan,
+    shape: &C::Shape,
+    wish: &Wish,
+    session: &mut Session<C>,
+    text: &mut String,
+) -> Result<Option<Complaint>, AllocError>
+where
+    C::Msg: Letter,
+    requires is { IsSession C.core plan.now shape.now
+        (state session.old.moment session.old.done.items session.old.marks.items) }
+    requires over { IsWish (length plan.now.nodes) (length plan.now.registers) wish.now }
+    requires empty { string_bytes text.old ≡ [] }
+    ensures turned { IfOk result (λ _. HasTurned C.core C.Msg.letter_text plan.now shape.now
+        (state session.old.moment session.old.done.items session.old.marks.items)
+        (state session.new.moment session.new.done.items session.new.marks.items) (string_bytes text.new)) }
+    ensures is { IfOk result (λ _. IsSession C.core plan.now shape.now
+        (state session.new.moment session.new.done.items session.new.marks.items)) }
+{
+    match wish {
+        Wish::Does(line) => do_line(alloc, plan, shape, line, session, text),
+        Wish::Undo(count) => take_back(alloc, plan, shape, *count, session),
+        Wish::Show(to) => {
+            show_session(plan, to, session, text)?;
+            Ok(None)
+        }
+        Wish::Events => {
+            list_session(plan, session, text)?;
+            Ok(None)
+        }
+        Wish::Help => {
+            add_words(text)?;
+            Ok(None)
+        }
+        Wish::End | Wish::Nothing => Ok(None),
+    }
+}
 
 /// A line of a script happens, and its events are printed; or nothing happens.
 fn do_line<C: Exclusion>(

@@ -38,25 +38,22 @@ const WORDS: &str = "ask N         node N asks to enter\n\
     help          these words\n\
     end           the closing lines and the verdict, and the end\n";
 
-pub(crate) const ABOUT_PLAY: &str =
-    "Reads lines of a script one at a time, and prints what comes of each before it reads the next";
-
 pub(crate) const PLAY_EXAMPLE: &str =
-    "Example: node a enters; then the last two lines never happened.
+    "Example: node a enters, and then the last two lines never happened.
 
-  plan.json    {\"algorithm\":\"ricart\",\"nodes\":[\"a\",\"b\",\"c\"],\"registers\":[\"count\"],\"sections\":1000}
+  plan.json    {\"algorithm\":\"ricart\",\"nodes\":[\"a\",\"b\",\"c\"],\"registers\":[\"count\"],\"sections\":10}
 
   mx play plan.json
   ask a
   deliver all
-  show a
   enter a
+  show a
   undo 2
   end
 
-A line is that of a script, as `mx script --help` tells them, and what is printed of it is what `mx replay`
-prints of its events. `show` tells where each node stands, and which parcels are under way, `show N` that of
-one node. `undo` takes the last line back that did something, `undo K` the last K. `events` prints the events
-so far, as a file that `mx replay` reads, and `help` all words. A line at fault is told on standard error, and
-changes nothing. `end`, or the end of standard input, prints the closing lines and the verdict. Where a script
-is named its lines come first.";
+A line of standard input is one of a script, as `mx script --help` tells them, and what is printed of it is what
+`mx replay` prints of its events. `show` prints the line of each node, and of each parcel under way; `show N` those
+of node N. `undo` takes back the last line that did something, `undo K` the last K. `events` prints the events so
+far, as a file that `mx replay` reads, and `help` the words. What is wrong in a line is told on standard error, and
+nothing changes. `end`, or the end of standard input, prints the closing lines and the verdict. Where a script is
+named, its lines come first. Where the plan is -, it is the first line of standard input.";

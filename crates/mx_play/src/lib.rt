@@ -2,13 +2,21 @@
 #![tactic(auto)]
 
 mod answers;
+mod command;
 mod faults;
 mod happening;
 mod help;
 mod moment;
 mod orders;
+mod playing;
+mod reading;
 mod session;
 mod showing;
+mod starting;
+mod talking;
 mod wishes;
+mod words;
 
+pub use command::play;
 pub use happening::Happening;
+pub use reading::{Given, Lines, Typed};

@@ -1,12 +1,18 @@
 //! A session: what its lines made.
 
-ghost use Rattle.std.specs.Prelude.{◌≡◌, IfOk};
-ghost use Rattle.mx_play.specs.Sessions.{at_start, state};
+ghost use Rattle.std.specs.Prelude.{◌≡◌, ◌++◌, length, string_bytes, IfOk, OnOk};
+ghost use Rattle.mx_commands.specs.Runs.{closing_text};
+ghost use Rattle.mx_scripts.specs.Files.{file_text};
+ghost use Rattle.mx_scripts.specs.Played.{events_of};
+ghost use Rattle.mx_play.specs.Sessions.{at_start, standing_lines, state, waiting_lines};
 
 use crate::happening::Happening;
 use crate::moment::Moment;
+use crate::showing::{add_end, add_events, show};
 use mx_nodelaws::Exclusion;
 use mx_plan::Plan;
+use mx_stamps::NodeId;
+use mx_texts::Letter;
 use std::alloc::{AllocError, Global};
 
 /// A cluster and its parcels as they are now, and what happened by which lines.
@@ -33,4 +39,49 @@ pub(crate) fn begin<C: Exclusion>(
         done: Vec::new(alloc),
         marks: Vec::new(alloc),
     })
+}
+
+/// Appends the line of each node, or of one, and those of the parcels under way to it.
+pub(crate) fn show_session<C: Exclusion>(
+    plan: &Plan,
+    to: &Option<NodeId>,
+    session: &Session<C>,
+    text: &mut String,
+) -> Result<(), AllocError>
+where
+    C::Msg: Letter,
+    requires { length session.now.moment.cluster.members ≡ length plan.now.nodes }
+    ensures { OnOk result (string_bytes text.new ≡ string_bytes text.old
+        ++ (standing_lines C.core C.Msg.letter_text plan.now to.now session.now.moment.cluster
+        ++ waiting_lines C.core C.Msg.letter_text plan.now to.now session.now.moment)) }
+{
+    show(plan, to, &session.moment, text)
+}
+
+/// Appends the events as a file.
+pub(crate) fn list_session<C: Exclusion>(
+    plan: &Plan,
+    session: &Session<C>,
+    text: &mut String,
+) -> Result<(), AllocError>
+    ensures { OnOk result (string_bytes text.new ≡ string_bytes text.old
+        ++ file_text plan.now (events_of session.now.moment.cluster.trace)) }
+{
+    add_events(plan, &session.moment, text)
+}
+
+/// Appends the closing lines and the verdict. Returns the status.
+pub(crate) fn end_session<C: Exclusion>(
+    plan: &Plan,
+    session: &Session<C>,
+    text: &mut String,
+) -> Result<u8, AllocError>
+where
+    C::Msg: Letter,
+    requires { length session.now.moment.cluster.members ≡ length plan.now.nodes }
+    ensures text { OnOk result (string_bytes text.new ≡ string_bytes text.old
+        ++ closing_text C.core C.Msg.letter_text plan.now session.now.moment.cluster) }
+    ensures zero { IfOk result (λ status. status ≡ 0) }
+{
+    add_end(plan, &session.moment, text)
 }

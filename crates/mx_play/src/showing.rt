@@ -1,14 +1,15 @@
 //! What is shown of a session.
 
-ghost use Rattle.std.specs.Prelude.{◌≡◌, ◌+◌, ◌<◌, ◌++◌, ◌&&◌, drop, length, string_bytes, OnOk, Some};
+ghost use Rattle.std.specs.Prelude.{◌≡◌, ◌+◌, ◌<◌, ◌++◌, ◌&&◌, drop, length, string_bytes, IfOk, OnOk, Some};
 ghost use Rattle.mx_texts.specs.Lines.{texts_from};
+ghost use Rattle.mx_commands.specs.Runs.{closing_text};
 ghost use Rattle.mx_scripts.specs.Fates.{is_under_way};
 ghost use Rattle.mx_scripts.specs.Files.{file_text};
 ghost use Rattle.mx_scripts.specs.Played.{events_of};
 ghost use Rattle.mx_play.specs.Sessions.{is_to, standing_lines, waiting_line, waiting_lines};
 
 use crate::moment::Moment;
-use mx_commands::add_nodes;
+use mx_commands::{add_closing, add_nodes, verdict_status};
 use mx_member::Parcel;
 use mx_network::Cluster;
 use mx_nodelaws::Exclusion;
@@ -46,6 +47,23 @@ pub(crate) fn add_events<C: Exclusion>(
         ++ file_text plan.now (events_of moment.now.cluster.trace)) }
 {
     add_file(plan, moment.cluster().trace(), text)
+}
+
+/// Appends the closing lines and the verdict. Returns the status.
+pub(crate) fn add_end<C: Exclusion>(
+    plan: &Plan,
+    moment: &Moment<C>,
+    text: &mut String,
+) -> Result<u8, AllocError>
+where
+    C::Msg: Letter,
+    requires { length moment.now.cluster.members ≡ length plan.now.nodes }
+    ensures text { OnOk result (string_bytes text.new ≡ string_bytes text.old
+        ++ closing_text C.core C.Msg.letter_text plan.now moment.now.cluster) }
+    ensures zero { IfOk result (λ status. status ≡ 0) }
+{
+    let verdict = add_closing(plan, moment.cluster(), text)?;
+    Ok(verdict_status(verdict))
 }
 
 /// Appends the line of each node, or of one.

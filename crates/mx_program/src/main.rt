@@ -11,6 +11,7 @@ use mx_explain::explain;
 use mx_io::{Output, Stream, Streams, as_slices, given_words, status_of};
 use mx_live::live;
 use mx_picture::picture;
+use mx_play::{Typed, play};
 use mx_scripts::event_file;
 use mx_views::replay_view;
 use std::io;
@@ -35,6 +36,7 @@ fn carry_out<R: Files + Clock + Input + AllocGlobal + Threads, O: Output, E: Out
         "explore" if has_word(words, "--count") => count(alloc, words, &mut source, out, err),
         "live" => live(rt, alloc, words, &mut source, out, err),
         "picture" => picture(alloc, words, &mut source, out, err),
+        "play" => play(alloc, words, &mut source, &mut Typed::new(rt.reader()), out, err),
         "replay" if is_view(words) => replay_view(alloc, words, &mut source, out, err),
         _ => command(alloc, words, &mut source, out, err),
     }

@@ -1,4 +1,4 @@
-use Rattle.std.proofs.Common.{◌≡◌, ◌∙◌, Ok, ap, length, rules, string_bytes, subst, sym}
+use Rattle.std.proofs.Common.{◌∙◌, ap, length, rules, string_bytes, subst, sym}
 use Rattle.mx_play.specs.Moments.{MomentState}
 use Rattle.mx_play.specs.Sessions.{Adds, Extends}
 use Rattle.mx_play.proofs.SessionLemmas.{adds_extends, adds_members, adds_more, adds_not, extends_more, on_err}

@@ -1,4 +1,4 @@
-use Rattle.std.proofs.Common.{◌≡◌, ◌∙◌, ap, rules, slice_get, string_bytes, sym}
+use Rattle.std.proofs.Common.{◌∙◌, ap, rules, slice_get, string_bytes, sym}
 use Rattle.mx_network.specs.Step.{ClusterState}
 use Rattle.mx_texts.proofs.Places.{is_there, place_written}
 use Rattle.mx_play.specs.Sessions.{waiting_line}

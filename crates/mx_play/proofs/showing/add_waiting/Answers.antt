@@ -1,4 +1,4 @@
-use Rattle.std.proofs.Common.{◌≡◌, ◌∙◌, ◌<◌, ◌≤◌, ◌+◌, ℕ, ap, arith, length, rules, string_bytes, subst, sym}
+use Rattle.std.proofs.Common.{◌≡◌, ◌∙◌, ◌<◌, ◌≤◌, ℕ, ap, arith, length, rules, string_bytes, subst, sym}
 use Rattle.mx_network.specs.Step.{ClusterState}
 use Rattle.mx_texts.proofs.Places.{place_end}
 use Rattle.mx_play.specs.Sessions.{waiting_line}

@@ -1,0 +1,38 @@
+-- Sessions that were played, of what was read.
+use Rattle.std.proofs.Common.{◌≡◌, ◌++◌, Result, IfOk, subst}
+use Rattle.std.specs.Io.KnownBytes.{Keeps}
+use Rattle.mx_nodelaws.specs.Core.{Core}
+use Rattle.mx_ricart.specs.Step.{ricart_core}
+use Rattle.mx_maekawa.specs.Step.{maekawa_core}
+use Rattle.mx_raymond.specs.Step.{raymond_core}
+use Rattle.mx_plan.specs.Text.{Text}
+use Rattle.mx_plan.specs.Fields.{Fields}
+use Rattle.mx_plan.specs.declared.shape.Shape.{Shape}
+use Rattle.mx_plan.specs.declared.shape.Shape.TheVariants.{Ricart, Maekawa, Raymond}
+use Rattle.mx_texts.specs.LetterTexts.{ricart_text, maekawa_text, raymond_text}
+use Rattle.mx_cli.proofs.OutputLemmas.{Appends-keeps}
+use Rattle.mx_commands.specs.Runs.{closing_text}
+use Rattle.mx_io.specs.Outputs.{Held}
+use Rattle.mx_play.specs.Played.{IsPlayedBy}
+use Rattle.mx_play.specs.Sessions.{IsPlayed}
+
+module _ {H S M : Type 0} (core : Core H S M) (letter_text : Fields → M → Text) (p : Fields) (shape : H) (a b c : Held) where
+  played_keeps : IsPlayed core letter_text p shape a b → Keeps b c → IsPlayed core letter_text p shape a c
+  played_keeps x same = record {
+    turns = x.turns;
+    last = x.last;
+    text = x.text;
+    talks = x.talks;
+    replays = x.replays;
+    printed = Appends-keeps a b c (x.text ++ closing_text core letter_text p x.last.now.cluster) x.printed same;
+  }
+
+pub by_keeps : (p : Fields) (a b c : Held) (shape : Shape) → IsPlayedBy p a b shape → Keeps b c → IsPlayedBy p a c shape
+by_keeps p a b c (Ricart count) = played_keeps ricart_core ricart_text p count a b c
+by_keeps p a b c (Maekawa family) = played_keeps maekawa_core maekawa_text p family a b c
+by_keeps p a b c (Raymond tree) = played_keeps raymond_core (λ _. raymond_text) p tree a b c
+
+-- by the algorithm of the plan
+pub of_shape : {T E : Type 0} (r : Result T E) (p : Fields) (a b : Held) (shape : Shape) → shape ≡ p.shape → IfOk r (λ _. IsPlayedBy p a b shape)
+    → IfOk r (λ _. IsPlayedBy p a b p.shape)
+of_shape r p a b shape is x = subst (λ (s : Shape). IfOk r (λ _. IsPlayedBy p a b s)) is x

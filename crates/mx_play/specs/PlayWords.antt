@@ -1,0 +1,36 @@
+-- What the words of `play` ask for, as `clap` reads them.
+use Rattle.std.specs.Prelude.{List, Option, codes, option_map}
+use Rattle.clap.specs.Words.{App, Row, Rule, Text, first_of, new_app, new_rule, with_rule}
+use Rattle.mx_cli.specs.Words.{asked_of, by_name, line_with, plan_rule}
+use Rattle.mx_play.specs.declared.words.Request.{Request as Told}
+
+-- a script may be named
+abbrev pub script_rule : Rule
+script_rule = new_rule (codes "SCRIPT")
+
+-- `play PLAN`, and perhaps `SCRIPT`
+abbrev pub play_app : App
+play_app = with_rule (with_rule (new_app (codes "play")) plan_rule) script_rule
+
+-- the whole command line
+unfoldable pub play_line : App
+play_line = line_with play_app
+
+-- the names of a plan, and perhaps of a script whose lines come first
+abbrev pub Request : Type 0
+Request = Text × Option Text
+
+abbrev pub request_of : Told → Request
+request_of told = (told.plan.now, option_map (λ name. name.now) told.script)
+
+-- what was given for the arguments
+abbrev pub play_in : List Row → Option Request
+play_in rows =
+    option_map (λ plan. (plan, first_of (codes "SCRIPT") rows)) (first_of (codes "PLAN") rows)
+
+abbrev pub request_in : Option (Text × List Row) → Option Request
+request_in met = by_name (codes "play") play_in met
+
+-- what the words ask for, where they are `play` with its arguments
+unfoldable pub request_asked : List Text → Option Request
+request_asked words = asked_of play_line request_in words

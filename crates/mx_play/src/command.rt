@@ -1,0 +1,83 @@
+//! `play`: from words, named bytes, lines and two outputs to a status.
+
+ghost use Rattle.std.specs.Prelude.{◌≡◌, false, IsSome, IfSome};
+ghost use Rattle.mx_cli.specs.Words.{texts_of};
+ghost use Rattle.mx_cli.specs.Told.{Answers, seen};
+ghost use Rattle.mx_cli.specs.Closed.{IsRunStatus};
+ghost use Rattle.mx_play.specs.PlayWords.{play_line, request_asked, request_of};
+ghost use Rattle.mx_play.specs.Played.{HasPlayed, IsPlayedBy};
+
+use crate::playing::play_by;
+use crate::reading::Lines;
+use crate::starting::fetch_start;
+use crate::words::{Request, asked};
+use mx_cli::{Names, PlanAndText, close, refuse};
+use mx_io::{Output, Source};
+use std::alloc::Global;
+
+/// Runs the words of a command line of which `play` is the first, without the program's name, over the
+/// lines that come, and returns the status: 0 where the session came to its end, or help was asked for, 1
+/// where the plan, a file or an output is at fault, 2 where the words are not those of the command, 5
+/// where memory ran out.
+pub fn play<S: Source, L: Lines, O: Output, E: Output>(
+    alloc: Global,
+    words: &[&str],
+    source: &mut S,
+    lines: &mut L,
+    out: &mut O,
+    err: &mut E,
+) -> u8
+    ensures played { IfSome (request_asked (texts_of words.entry.now)) (λ request.
+        result ≡ 0 → HasPlayed (S.told source.old) request
+        (O.written out.old) (O.written out.new)) }
+    ensures passed { IsSome (request_asked (texts_of words.entry.now))
+        → result ≡ 0 → O.keeps_back out.new ≡ false }
+    ensures status { IsSome (request_asked (texts_of words.entry.now)) → IsRunStatus result }
+    ensures answers { Answers play_line (texts_of words.entry.now) (O.takes_all out.old)
+        (seen O.Output E.Output out.old err.old) (seen O.Output E.Output out.new err.new) result }
+{
+    match asked(alloc, words) {
+        Ok(Some(request)) => play_request(alloc, &request, source, lines, out, err),
+        Ok(None) => 2,
+        Err(e) => refuse(alloc, &e, out, err),
+    }
+}
+
+/// Plays what is asked for, or tells why there is no session. Returns the status.
+fn play_request<S: Source, L: Lines, O: Output, E: Output>(
+    alloc: Global,
+    request: &Request<'_>,
+    source: &mut S,
+    lines: &mut L,
+    out: &mut O,
+    err: &mut E,
+) -> u8
+    ensures played { result ≡ 0 → HasPlayed (S.told source.old) (request_of request.now)
+        (O.written out.old) (O.written out.new) }
+    ensures passed { result ≡ 0 → O.keeps_back out.new ≡ false }
+    ensures status { IsRunStatus result }
+{
+    match fetch_start(alloc, request, source, lines) {
+        Ok(start) => play_and_close(alloc, request.plan, &start, lines, out, err),
+        Err(stop) => close(alloc, Err(stop), &request.names(), out, err),
+    }
+}
+
+/// Plays a session over a plan of this name, and closes the run. Returns the status.
+fn play_and_close<L: Lines, O: Output, E: Output>(
+    alloc: Global,
+    plan: &str,
+    start: &PlanAndText,
+    lines: &mut L,
+    out: &mut O,
+    err: &mut E,
+) -> u8
+    ensures played { result ≡ 0 → IsPlayedBy start.now.plan
+        (O.written out.old) (O.written out.new) start.now.plan.shape }
+    ensures passed { result ≡ 0 → O.keeps_back out.new ≡ false }
+    ensures status { IsRunStatus result }
+{
+    let names = Names { plan, events: "-" };
+    let ended = play_by(alloc, &start.plan, start.text.as_slice(), lines, out, err);
+    close(alloc, ended, &names, out, err)
+}

@@ -1,0 +1,139 @@
+//! Where the lines of a session come from.
+
+use mx_cli::split_line;
+use std::alloc::AllocError;
+use std::io::{ErrorKind, Read};
+
+/// A longer line is at fault.
+const MOST_BYTES: usize = 65_536;
+
+/// How many bytes are read at once, where so many are there.
+const MOST_AHEAD: usize = 4096;
+
+/// A line with more bytes than this, or at which signals interrupt more reads, can't be read.
+const MOST_STEPS: u64 = 268_435_456;
+
+/// What comes of asking for a line.
+#[derive(Clone, Copy)]
+pub enum Given {
+    Line,
+    /// The line has more than 65,536 bytes, and was passed over.
+    TooLong,
+    End,
+    /// There may be lines, but they can't be read.
+    Unreadable,
+}
+
+/// Where lines come from.
+pub trait Lines {
+    /// Puts the next line, without its line feed, in the place of `line`. The last line needs none.
+    fn next(&mut self, line: &mut Vec<u8>) -> Result<Given, AllocError>;
+}
+
+/// The lines of a text.
+#[derive(Clone, Copy)]
+pub(crate) struct Listed<'a> {
+    pub(crate) rest: &'a [u8],
+}
+
+impl Lines for Listed<'_> {
+    fn next(&mut self, line: &mut Vec<u8>) -> Result<Given, AllocError> {
+        line.clear();
+        if self.rest.is_empty() {
+            return Ok(Given::End);
+        }
+        let (first, rest) = split_line(self.rest);
+        self.rest = rest;
+        if first.len() > MOST_BYTES {
+            return Ok(Given::TooLong);
+        }
+        line.extend_from_slice(first)?;
+        Ok(Given::Line)
+    }
+}
+
+/// The lines that are typed, or come through a pipe. What is there is read, and nothing more is waited for
+/// than the end of the line that is asked for.
+#[derive(Drop)]
+pub struct Typed<R: Read + Drop> {
+    reader: R,
+    /// What was read; the bytes from `next` to `end` have not been asked for.
+    ahead: [u8; MOST_AHEAD],
+    next: usize,
+    end: usize,
+}
+
+/// What comes of asking for a byte.
+#[derive(Clone, Copy)]
+enum Got {
+    Byte(u8),
+    End,
+    /// A signal interrupted the read.
+    Nothing,
+    Failure,
+}
+
+impl<R: Read + Drop> Typed<R> {
+    /// The lines of a reader, from its first byte on.
+    pub fn new(reader: R) -> Self {
+        Typed {
+            reader,
+            ahead: [0; MOST_AHEAD],
+            next: 0,
+            end: 0,
+        }
+    }
+
+    fn byte(&mut self) -> Got {
+        if self.next < self.end {
+            return self.take();
+        }
+        match self.reader.read(&mut self.ahead) {
+            Ok(0) => Got::End,
+            Ok(count) => {
+                self.next = 0;
+                self.end = count;
+                self.take()
+            }
+            Err(e) => match e.kind() {
+                ErrorKind::Interrupted => Got::Nothing,
+                _ => Got::Failure,
+            },
+        }
+    }
+
+    /// The next byte of what was read.
+    fn take(&mut self) -> Got {
+        let place = self.next;
+        if place < MOST_AHEAD {
+            self.next = place + 1;
+            Got::Byte(self.ahead[place])
+        } else {
+            Got::Failure
+        }
+    }
+}
+
+impl<R: Read + Drop> Lines for Typed<R> {
+    fn next(&mut self, line: &mut Vec<u8>) -> Result<Given, AllocError> {
+        line.clear();
+        let mut is_long = false;
+        for _ in 0..MOST_STEPS {
+            match self.byte() {
+                Got::Byte(b'\n') => return Ok(line_of(is_long)),
+                Got::Byte(_) if line.len() >= MOST_BYTES => is_long = true,
+                Got::Byte(byte) => line.push(byte)?,
+                Got::End if line.is_empty() => return Ok(Given::End),
+                Got::End => return Ok(line_of(is_long)),
+                Got::Nothing => {}
+                Got::Failure => return Ok(Given::Unreadable),
+            }
+        }
+        Ok(Given::Unreadable)
+    }
+}
+
+/// What a line is, by whether it was longer than any may be.
+fn line_of(is_long: bool) -> Given {
+    if is_long { Given::TooLong } else { Given::Line }
+}

@@ -1,0 +1,239 @@
+//! A session: its lines are read, answered and printed, one after another.
+
+ghost use Rattle.std.specs.Prelude.{◌≡◌, [], false, length, string_bytes, IfOk, OnOk};
+ghost use Rattle.std.specs.Io.KnownBytes.{Appends};
+ghost use Rattle.mx_commands.specs.Runs.{closing_text};
+ghost use Rattle.mx_play.specs.Sessions.{HasTalked, HasTurned, IsSession, SaysTurn, state};
+ghost use Rattle.mx_play.specs.Wishes.{IsHeard};
+
+use crate::answers::answer;
+use crate::faults::{Complaint, ComplaintLine};
+use crate::reading::{Given, Lines};
+use crate::session::{Session, end_session};
+use crate::wishes::{Wish, read_wish};
+use mx_cli::{Fault, Named, Stop, put_line};
+use mx_io::Output;
+use mx_nodelaws::Exclusion;
+use mx_plan::Plan;
+use mx_scripts::LineFault;
+use mx_texts::Letter;
+use std::alloc::{AllocError, Global};
+
+/// What is heard of a line.
+#[derive(Clone, Copy)]
+pub(crate) enum Heard {
+    Wish(Wish),
+    Fault(Complaint),
+    /// There are no more lines.
+    Silence,
+}
+
+/// The lines are answered, the first of which has this number, until there are no more, or one ends the
+/// session. Returns the number of the next line, where the session may go on.
+pub(crate) fn talk<C: Exclusion, L: Lines, O: Output, E: Output>(
+    alloc: Global,
+    plan: &Plan,
+    shape: &C::Shape,
+    first: u64,
+    lines: &mut L,
+    session: &mut Session<C>,
+    out: &mut O,
+    err: &mut E,
+) -> Result<Option<u64>, Stop>
+where
+    C::Msg: Letter,
+    requires { IsSession C.core plan.now shape.now
+        (state session.old.moment session.old.done.items session.old.marks.items) }
+    ensures talked { IfOk result (λ _. HasTalked C.core C.Msg.letter_text plan.now shape.now
+        (state session.old.moment session.old.done.items session.old.marks.items)
+        (state session.new.moment session.new.done.items session.new.marks.items)
+        (O.written out.old) (O.written out.new)) }
+    ensures is { IfOk result (λ _. IsSession C.core plan.now shape.now
+        (state session.new.moment session.new.done.items session.new.marks.items)) }
+{
+    let mut line = Vec::new(alloc);
+    for number in first..u64::MAX {
+        let heard = turn(
+            alloc, plan, shape, number, lines, &mut line, session, out, err,
+        )?;
+        if is_end(&heard) {
+            return Ok(next_of(&heard, number));
+        }
+    }
+    Ok(None)
+}
+
+/// Reads the line of this number, which is put in the place of the one before, answers it, and tells what
+/// is wrong with it. Returns what was heard.
+fn turn<C: Exclusion, L: Lines, O: Output, E: Output>(
+    alloc: Global,
+    plan: &Plan,
+    shape: &C::Shape,
+    number: u64,
+    lines: &mut L,
+    line: &mut Vec<u8>,
+    session: &mut Session<C>,
+    out: &mut O,
+    err: &mut E,
+) -> Result<Heard, Stop>
+where
+    C::Msg: Letter,
+    requires { IsSession C.core plan.now shape.now
+        (state session.old.moment session.old.done.items session.old.marks.items) }
+    ensures says { IfOk result (λ _. SaysTurn C.core C.Msg.letter_text plan.now shape.now
+        (state session.old.moment session.old.done.items session.old.marks.items)
+        (state session.new.moment session.new.done.items session.new.marks.items)
+        (O.written out.old) (O.written out.new)) }
+    ensures is { IfOk result (λ _. IsSession C.core plan.now shape.now
+        (state session.new.moment session.new.done.items session.new.marks.items)) }
+{
+    let heard = hear(alloc, plan, lines, line)?;
+    let complaint = reply(alloc, plan, shape, &heard, session, out)?;
+    complain(alloc, plan, number, &complaint, line.as_slice(), err)?;
+    Ok(heard)
+}
+
+/// Reads a line, which is put in the place of the one before.
+fn hear<L: Lines>(
+    alloc: Global,
+    plan: &Plan,
+    lines: &mut L,
+    line: &mut Vec<u8>,
+) -> Result<Heard, Stop>
+    ensures { IfOk result (IsHeard (length plan.now.nodes) (length plan.now.registers)) }
+{
+    match lines.next(line)? {
+        Given::Line => heard_in(alloc, plan, line.as_slice()),
+        Given::TooLong => Ok(Heard::Fault(Complaint::TooLong)),
+        Given::End => Ok(Heard::Silence),
+        Given::Unreadable => Err(Stop::Fault(Fault::CannotRead(Named::Events))),
+    }
+}
+
+/// What a line asks for.
+fn heard_in(alloc: Global, plan: &Plan, line: &[u8]) -> Result<Heard, Stop>
+    ensures { IfOk result (IsHeard (length plan.now.nodes) (length plan.now.registers)) }
+{
+    match read_wish(alloc, plan, line) {
+        Ok(wish) => Ok(Heard::Wish(wish)),
+        Err(LineFault::Memory) => Err(Stop::Memory),
+        Err(fault) => Ok(Heard::Fault(Complaint::Line(fault))),
+    }
+}
+
+/// Whether the lines end here.
+fn is_end(heard: &Heard) -> bool {
+    matches!(heard, Heard::Silence | Heard::Wish(Wish::End))
+}
+
+/// The number of the next line, where the lines have ended here, but not the session.
+fn next_of(heard: &Heard, number: u64) -> Option<u64> {
+    match heard {
+        Heard::Silence => Some(number),
+        _ => None,
+    }
+}
+
+/// Does what was heard, prints what came of it, and passes that on before anything else is read.
+fn reply<C: Exclusion, O: Output>(
+    alloc: Global,
+    plan: &Plan,
+    shape: &C::Shape,
+    heard: &Heard,
+    session: &mut Session<C>,
+    out: &mut O,
+) -> Result<Option<Complaint>, Stop>
+where
+    C::Msg: Letter,
+    requires is { IsSession C.core plan.now shape.now
+        (state session.old.moment session.old.done.items session.old.marks.items) }
+    requires heard { IsHeard (length plan.now.nodes) (length plan.now.registers) heard.now }
+    ensures says { IfOk result (λ _. SaysTurn C.core C.Msg.letter_text plan.now shape.now
+        (state session.old.moment session.old.done.items session.old.marks.items)
+        (state session.new.moment session.new.done.items session.new.marks.items)
+        (O.written out.old) (O.written out.new)) }
+    ensures is { IfOk result (λ _. IsSession C.core plan.now shape.now
+        (state session.new.moment session.new.done.items session.new.marks.items)) }
+    ensures passed { IfOk result (λ _. O.keeps_back out.new ≡ false) }
+{
+    let mut text = String::new(alloc);
+    let complaint = respond(alloc, plan, shape, heard, session, &mut text)?;
+    say(text.as_str(), out)?;
+    Ok(complaint)
+}
+
+/// Does what was heard, and adds what is to be printed of it.
+fn respond<C: Exclusion>(
+    alloc: Global,
+    plan: &Plan,
+    shape: &C::Shape,
+    heard: &Heard,
+    session: &mut Session<C>,
+    text: &mut String,
+) -> Result<Option<Complaint>, AllocError>
+where
+    C::Msg: Letter,
+    requires is { IsSession C.core plan.now shape.now
+        (state session.old.moment session.old.done.items session.old.marks.items) }
+    requires heard { IsHeard (length plan.now.nodes) (length plan.now.registers) heard.now }
+    requires empty { string_bytes text.old ≡ [] }
+    ensures turned { IfOk result (λ _. HasTurned C.core C.Msg.letter_text plan.now shape.now
+        (state session.old.moment session.old.done.items session.old.marks.items)
+        (state session.new.moment session.new.done.items session.new.marks.items) (string_bytes text.new)) }
+    ensures is { IfOk result (λ _. IsSession C.core plan.now shape.now
+        (state session.new.moment session.new.done.items session.new.marks.items)) }
+{
+    match heard {
+        Heard::Wish(wish) => answer(alloc, plan, shape, wish, session, text),
+        Heard::Fault(complaint) => Ok(Some(*complaint)),
+        Heard::Silence => Ok(None),
+    }
+}
+
+/// Prints a text, and passes it on.
+fn say<O: Output>(text: &str, out: &mut O) -> Result<(), Stop>
+    ensures said { OnOk result (Appends (O.written out.old) (O.written out.new) text.now) }
+    ensures passed { OnOk result (O.keeps_back out.new ≡ false) }
+{
+    out.put(text.as_bytes())?;
+    out.flush()?;
+    Ok(())
+}
+
+/// Tells what is wrong with the line of this number, where something is.
+fn complain<E: Output>(
+    alloc: Global,
+    plan: &Plan,
+    number: u64,
+    complaint: &Option<Complaint>,
+    line: &[u8],
+    err: &mut E,
+) -> Result<(), Stop> {
+    let Some(complaint) = complaint else {
+        return Ok(());
+    };
+    let told = ComplaintLine::of(alloc, plan, number, *complaint, line)?;
+    put_line(alloc, err, told)?;
+    err.flush()?;
+    Ok(())
+}
+
+/// Prints the closing lines and the verdict. Returns the status.
+pub(crate) fn finish<C: Exclusion, O: Output>(
+    alloc: Global,
+    plan: &Plan,
+    session: &Session<C>,
+    out: &mut O,
+) -> Result<u8, Stop>
+where
+    C::Msg: Letter,
+    requires { length session.now.moment.cluster.members ≡ length plan.now.nodes }
+    ensures closes { IfOk result (λ _. Appends (O.written out.old) (O.written out.new)
+        (closing_text C.core C.Msg.letter_text plan.now session.now.moment.cluster)) }
+    ensures zero { IfOk result (λ status. status ≡ 0) }
+{
+    let mut text = String::new(alloc);
+    let status = end_session(plan, session, &mut text)?;
+    out.put(text.as_bytes())?;
+    Ok(status)
+}
