@@ -22,7 +22,8 @@ def measured(words, printed, wanted=0, program=PROGRAM, environment=TUNABLES):
     """What one run was charged with; it has to end with this status, and its output goes to this file."""
     with open(printed, "w") as out:
         begun = time.monotonic()
-        child = subprocess.Popen([program, *words], stdout=out, stderr=subprocess.DEVNULL, env=environment)
+        streams = {"stdin": subprocess.DEVNULL, "stdout": out, "stderr": subprocess.DEVNULL}
+        child = subprocess.Popen([program, *words], **streams, env=environment)
         _, status, usage = os.wait4(child.pid, 0)
         took = time.monotonic() - begun
     if os.waitstatus_to_exitcode(status) != wanted:
