@@ -36,7 +36,14 @@ fn carry_out<R: Files + Clock + Input + AllocGlobal + Threads, O: Output, E: Out
         "explore" if has_word(words, "--count") => count(alloc, words, &mut source, out, err),
         "live" => live(rt, alloc, words, &mut source, out, err),
         "picture" => picture(alloc, words, &mut source, out, err),
-        "play" => play(alloc, words, &mut source, &mut Typed::new(rt.reader()), out, err),
+        "play" => play(
+            alloc,
+            words,
+            &mut source,
+            &mut Typed::new(rt.reader()),
+            out,
+            err,
+        ),
         "replay" if is_view(words) => replay_view(alloc, words, &mut source, out, err),
         _ => command(alloc, words, &mut source, out, err),
     }
