@@ -1,5 +1,6 @@
-//! Three nodes in one value, for one thread, by Raymond's algorithm. Each goes through one section, in
-//! which it adds 1 to a register. The caller is the network: here each parcel arrives once, in order.
+//! Three nodes in one value, for one thread, by Raymond's algorithm. Each goes through one section,
+//! in which it adds 1 to a register. The caller is the network: here each parcel arrives once, in
+//! order.
 #![tactic(auto)]
 
 use anyhow::{Result, bail};

@@ -13,13 +13,15 @@ abbrev pub FallsShort : Bool → Held → Held → ℕ → Type 0
 FallsShort takes_all old new status =
     ((status ≡ 5) × MayTell old new) ⊎ ((status ≡ 1) × (takes_all ≡ false) × Keeps old new)
 
--- the statuses of a command on a plan: all went well; a fault, or an output that refused; memory ran out
+-- the statuses of a command on a plan: all went well; a fault, or an output that refused; memory
+-- ran out
 abbrev pub IsRunStatus : ℕ → Type 0
 IsRunStatus status = (status ≡ 0) ⊎ (status ≡ 1) ⊎ (status ≡ 5)
 
 -- a run that ended so is closed: by its own end, unless it falls short
 abbrev pub Closes : Bool → Text × Text → Result ℕ Stop → Held → Held → ℕ → Type 0
-Closes takes_all names (Ok own) old new status = ((status ≡ own) × Keeps old new) ⊎ FallsShort takes_all old new status
+Closes takes_all names (Ok own) old new status =
+    ((status ≡ own) × Keeps old new) ⊎ FallsShort takes_all old new status
 Closes takes_all names (Err (stop.Fault fault)) old new status =
     ((status ≡ 1) × Appends old new (fault_line names fault)) ⊎ FallsShort takes_all old new status
 Closes takes_all names (Err stop.Writer) old new status = (status ≡ 1) × Keeps old new

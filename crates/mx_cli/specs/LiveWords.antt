@@ -23,14 +23,18 @@ progress_rule = flag_rule (codes "progress")
 
 -- `live PLAN --sections M --seed S --turns T`, and perhaps `--settle N` and `--progress`
 abbrev pub live_app : App
-live_app = with_rule (with_rule (with_rule (with_rule (with_rule (with_rule (new_app (codes "live")) plan_rule) sections_rule) seed_rule) turns_rule) settle_rule) progress_rule
+live_app =
+    let named = with_rule (new_app (codes "live")) plan_rule in
+    let bounded = with_rule (with_rule (with_rule named sections_rule) seed_rule) turns_rule in
+    with_rule (with_rule bounded settle_rule) progress_rule
 
 -- the whole command line
 unfoldable pub live_line : App
 live_line = line_with live_app
 
--- the name of the plan, how many sections each node is to have, the seed, how many turns each may take, after how many
--- of its sections it settles its journal (0 for never), and whether progress is to be told
+-- the name of the plan, how many sections each node is to have, the seed, how many turns each may
+-- take, after how many of its sections it settles its journal (0 for never), and whether progress
+-- is to be told
 pub record LiveRequest : Type 0 where
   pub plan : Text
   pub sections : ℕ
@@ -41,7 +45,14 @@ pub record LiveRequest : Type 0 where
 
 abbrev pub live_request : Text → ℕ → ℕ → ℕ → Bool → ℕ → LiveRequest
 live_request plan sections seed settle progress turns =
-    record { plan = plan; sections = sections; seed = seed; turns = turns; settle = settle; progress = progress }
+    record {
+      plan = plan;
+      sections = sections;
+      seed = seed;
+      turns = turns;
+      settle = settle;
+      progress = progress;
+    }
 
 abbrev pub request_of : Given → LiveRequest
 request_of run = live_request run.plan.now run.sections run.seed run.settle run.progress run.turns
@@ -52,8 +63,11 @@ settle_in rows = unwrap_or (number_at (codes "settle") rows) 0
 
 -- what was given for the arguments
 abbrev pub live_in : List Row → Option LiveRequest
-live_in rows = option_and_then (λ plan. option_and_then (λ sections. option_and_then (λ seed. option_map (live_request plan sections seed (settle_in rows) (is_given (codes "progress") rows))
-    (number_at (codes "turns") rows)) (number_at (codes "seed") rows)) (number_at (codes "sections") rows)) (first_of (codes "PLAN") rows)
+live_in rows =
+    option_and_then (λ plan. option_and_then (λ sections. option_and_then (λ seed. option_map
+    (live_request plan sections seed (settle_in rows) (is_given (codes "progress") rows))
+    (number_at (codes "turns") rows)) (number_at (codes "seed") rows))
+    (number_at (codes "sections") rows)) (first_of (codes "PLAN") rows)
 
 abbrev pub request_in : Option (Text × List Row) → Option LiveRequest
 request_in met = by_name (codes "live") live_in met

@@ -32,11 +32,13 @@ rest_of = option_map (λ bytes. after_first (λ b. b == 10) bytes)
 
 -- what is told of the plan of two names
 abbrev pub plan_told : (Text → Option Telling) → Text × Text → Option Telling
-plan_told told names = if is_dash names.0 && is_dash names.1 then option_map line_of (told names.0) else told names.0
+plan_told told names =
+    if is_dash names.0 && is_dash names.1 then option_map line_of (told names.0) else told names.0
 
 -- what is told of the text that comes with it
 abbrev pub text_told : (Text → Option Telling) → Text × Text → Option Telling
-text_told told names = if is_dash names.0 && is_dash names.1 then option_map rest_of (told names.0) else told names.1
+text_told told names =
+    if is_dash names.0 && is_dash names.1 then option_map rest_of (told names.0) else told names.1
 
 -- the bytes that a source tells of a name
 abbrev pub Fetches : Named → Telling → Result (Vec ℕ Global) Stop → Type 0
@@ -50,7 +52,8 @@ abbrev pub fault_of : PlanFault → Option Fault
 fault_of plan_fault.Memory = None
 fault_of fault = Some (BadText fault)
 
--- an outcome of the bytes of a plan by the rules of plans; where it is a plan, that keeps what every plan keeps
+-- an outcome of the bytes of a plan by the rules of plans; where it is a plan, that keeps what
+-- every plan keeps
 pub record IsRead (bytes : List ℕ) (planned : Result Fields PlanFault) : Type 0 where
   pub outcome : IsOutcome (draft_at bytes) planned
   pub valid : IfOk planned IsPlan
@@ -65,15 +68,18 @@ Reads None (Ok p) = ⊥
 Reads None (Err end) = (end ≡ stop.Fault (CannotRead Plan)) ⊎ (end ≡ stop.Memory)
 Reads (Some bytes) (Ok p) = IsRead bytes (Ok p)
 Reads (Some bytes) (Err end) =
-    (end ≡ stop.Memory) ⊎ ((fault : PlanFault) × IsRead bytes (Err fault) × (end ≡ refusal_of fault))
+    (end ≡ stop.Memory) ⊎ ((fault : PlanFault) × IsRead bytes (Err fault)
+    × (end ≡ refusal_of fault))
 
 -- the plan was read, where the source tells of it
 abbrev pub IsPlanOf : Option Telling → Fields → Type 0
 IsPlanOf told p = IfSome told (λ telling. Reads telling (Ok p))
 
--- a plan was read and the text that comes with it was fetched; or the plan was not read; or it was, and the text was not fetched
+-- a plan was read and the text that comes with it was fetched; or the plan was not read; or it was,
+-- and the text was not fetched
 abbrev pub ReadsBoth : Option Telling → Option Telling → Result PlanAndText Stop → Type 0
-ReadsBoth plan text (Ok both) = IsPlanOf plan both.plan × IfSome text (λ telling. telling ≡ Some both.text.items)
+ReadsBoth plan text (Ok both) =
+    IsPlanOf plan both.plan × IfSome text (λ telling. telling ≡ Some both.text.items)
 ReadsBoth plan text (Err end) =
     IfSome plan (λ telling. Reads telling (Err end))
     ⊎ ((p : Fields) × IsPlanOf plan p × IfSome text (λ telling. Fetches Events telling (Err end)))

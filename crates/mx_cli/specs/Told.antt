@@ -8,8 +8,8 @@ use Rattle.mx_io.specs.declared.output.Output.{Ghosts as OutputOf}
 use Rattle.mx_cli.specs.FaultLines.{memory_line}
 use Rattle.mx_cli.specs.Words.{AreWrong, AskHelp}
 
--- what is seen of the outputs: what each holds; whether standard output has refused something, and whether it
--- keeps something back
+-- what is seen of the outputs: what each holds; whether standard output has refused something, and
+-- whether it keeps something back
 pub record Seen : Type 0 where
   pub out : Held
   pub err : Held
@@ -19,7 +19,12 @@ pub record Seen : Type 0 where
 -- what is seen of two outputs, by what the type of each tells of it
 abbrev pub seen : {A B : Type 0} → OutputOf A → OutputOf B → A → B → Seen
 seen o e out err =
-    record { out = o.written out; err = e.written err; refused = o.has_refused out; kept_back = o.keeps_back out }
+    record {
+      out = o.written out;
+      err = e.written err;
+      refused = o.has_refused out;
+      kept_back = o.keeps_back out;
+    }
 
 -- memory ran out: standard error got that line, or nothing
 abbrev pub MayTell : Held → Held → Type 0
@@ -32,7 +37,8 @@ RunsOut old new status =
 
 -- ---- help, and words that are no command
 
--- what is shown goes to standard output, and is passed on; to standard error goes nothing, or that memory ran out
+-- what is shown goes to standard output, and is passed on; to standard error goes nothing, or that
+-- memory ran out
 abbrev pub Helps : Bool → Seen → Seen → ℕ → Type 0
 Helps takes_all old new status =
     ((status ≡ 0) × Keeps old.err new.err × (new.kept_back ≡ false))
@@ -47,12 +53,14 @@ Scolds old new status =
 -- words that ask a command line for help are shown it, and words that are not its own are told so
 abbrev pub Answers : App → List Text → Bool → Seen → Seen → ℕ → Type 0
 Answers line words takes_all old new status =
-    (AskHelp line words → Helps takes_all old new status) × (AreWrong line words → Scolds old new status)
+    (AskHelp line words → Helps takes_all old new status)
+    × (AreWrong line words → Scolds old new status)
 
 -- nothing is written, status 2; or memory ran out, status 5
 abbrev pub Declines : Seen → Seen → ℕ → Type 0
 Declines old new status =
-    Keeps old.out new.out × (((status ≡ 2) × Keeps old.err new.err) ⊎ ((status ≡ 5) × MayTell old.err new.err))
+    Keeps old.out new.out × (((status ≡ 2) × Keeps old.err new.err)
+    ⊎ ((status ≡ 5) × MayTell old.err new.err))
 
 -- ---- faults
 

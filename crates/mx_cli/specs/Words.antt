@@ -105,11 +105,21 @@ replay_app =
 -- `explore PLAN --seed S --steps K`, and perhaps `--count`
 abbrev pub explore_app : App
 explore_app =
-    let drawn = with_rule (with_rule (with_rule (new_app (codes "explore")) plan_rule) seed_rule) steps_rule in
+    let named = with_rule (new_app (codes "explore")) plan_rule in
+    let drawn = with_rule (with_rule named seed_rule) steps_rule in
     with_rule drawn count_rule
 
 abbrev pub mx_start : App
-mx_start = let a = new_app (codes "mx") in record a { top = record a.top { no_binary_name = true; subcommand_required = true; disable_help_subcommand = true; has_version = true } }
+mx_start =
+    let a = new_app (codes "mx") in
+    record a {
+      top = record a.top {
+        no_binary_name = true;
+        subcommand_required = true;
+        disable_help_subcommand = true;
+        has_version = true;
+      };
+    }
 
 -- the command line with this subcommand alone
 abbrev pub line_with : App → App
@@ -130,7 +140,8 @@ abbrev pub AddsArgMade : Result Command AllocError → Arg → Command → Type 
 AddsArgMade (Ok before) argument after = AddsArg before argument after
 AddsArgMade (Err e) argument after = ⊥
 
--- what the words of the command line ask for, and what is wrong with them, follows from the words alone
+-- what the words of the command line ask for, and what is wrong with them, follows from the words
+-- alone
 pub record IsReadable (line : App) : Type 0 where
   pub plain : is_simple line ≡ true
   pub free : is_simple_and_free line ≡ true
@@ -140,20 +151,24 @@ pub record IsLine (read_as : App) (line : Command) : Type 0 where
   pub app : app_of line ≡ read_as
   pub readable : IsReadable (app_of line)
 
--- the command line with a command that it lists, and whose words are read by a command line of their own
+-- the command line with a command that it lists, and whose words are read by a command line of
+-- their own
 abbrev pub with_listed : App → Text → App
 with_listed line name = with_subcommand line (new_app name).top
 
 -- the command line with all commands that have one of their own
 abbrev pub with_others : App → App
 with_others line =
-    let drawn = with_listed (with_listed (with_listed line (codes "live")) (codes "draw")) (codes "script") in
+    let live = with_listed line (codes "live") in
+    let drawn = with_listed (with_listed live (codes "draw")) (codes "script") in
     let shown = with_listed (with_listed drawn (codes "play")) (codes "picture") in
     with_listed (with_listed shown (codes "count")) (codes "explain")
 
 -- the commands whose words are read by the whole command line
 abbrev pub with_read : App → App
-with_read line = with_subcommand (with_subcommand (with_subcommand line check_app.top) replay_app.top) explore_app.top
+with_read line =
+    let replayed = with_subcommand (with_subcommand line check_app.top) replay_app.top in
+    with_subcommand replayed explore_app.top
 
 -- the whole command line
 unfoldable pub mx_app : App
@@ -164,7 +179,8 @@ texts_of = map (λ word. word.now)
 
 -- ---- what is asked for
 
--- `check PLAN`, without `--asks` and with it; `replay PLAN EVENTS`; `explore PLAN`, with a seed and a number of steps
+-- `check PLAN`, without `--asks` and with it; `replay PLAN EVENTS`; `explore PLAN`, with a seed and
+-- a number of steps
 pub data Request : Type 0 where
   check : Text → Request
   asks : Text → Request
@@ -183,12 +199,14 @@ abbrev pub request_of : Given → Request
 request_of (given.Check plan) = check plan.now
 request_of (given.Asks plan) = asks plan.now
 request_of (given.Replay names) = replay (names_of names)
-request_of (given.Explore exploration) = explore exploration.plan.now exploration.seed exploration.steps
+request_of (given.Explore exploration) =
+    explore exploration.plan.now exploration.seed exploration.steps
 
 -- the number that a text writes, where it is one of 64 bits
 abbrev pub number_of : Text → Option ℕ
 number_of text =
-    if is_unsigned_in 0 18446744073709551615 text then Some (digits_value 10 (without_leading_plus text)) else None
+    if is_unsigned_in 0 18446744073709551615 text
+    then Some (digits_value 10 (without_leading_plus text)) else None
 
 abbrev pub number_at : Text → List Row → Option ℕ
 number_at id rows = option_and_then number_of (one_of id rows)
@@ -199,16 +217,23 @@ is_given id rows = option_map_or (λ text. bytes_eq text (codes "true")) (first_
 
 -- a replay is to be shown otherwise: by its closing lines, by the lines of one node, or as JSON
 abbrev pub is_view : List Row → Bool
-is_view rows = is_given (codes "quiet") rows || option_map_or (λ _. true) (first_of (codes "node") rows) false || is_given (codes "json") rows
+is_view rows =
+    is_given (codes "quiet") rows
+    || option_map_or (λ _. true) (first_of (codes "node") rows) false
+    || is_given (codes "json") rows
 
 -- the names that were given for a plan and its events
 abbrev pub names_at : List Row → Option (Text × Text)
-names_at rows = option_and_then (λ plan. option_map (λ events. (plan, events)) (first_of (codes "EVENTS") rows)) (first_of (codes "PLAN") rows)
+names_at rows =
+    option_and_then (λ plan. option_map (λ events. (plan, events))
+    (first_of (codes "EVENTS") rows)) (first_of (codes "PLAN") rows)
 
 -- the plan, the seed and the number of steps that were given
 abbrev pub exploration_at : List Row → Option (Text × (ℕ × ℕ))
-exploration_at rows = option_and_then (λ plan. option_and_then (λ seed. option_map (λ steps. (plan, (seed, steps)))
-    (number_at (codes "steps") rows)) (number_at (codes "seed") rows)) (first_of (codes "PLAN") rows)
+exploration_at rows =
+    option_and_then (λ plan. option_and_then (λ seed. option_map (λ steps. (plan, (seed, steps)))
+    (number_at (codes "steps") rows)) (number_at (codes "seed") rows))
+    (first_of (codes "PLAN") rows)
 
 -- what a plan says, and perhaps whom each of its nodes asks
 abbrev pub checking : Bool → Text → Request
@@ -225,7 +250,8 @@ replay_in rows = if is_view rows then None else option_map replay (names_at rows
 -- an exploration, but not one with `--count`
 abbrev pub explore_in : List Row → Option Request
 explore_in rows =
-    if is_given (codes "count") rows then None else option_map (λ e. explore e.0 e.1.0 e.1.1) (exploration_at rows)
+    if is_given (codes "count") rows then None
+    else option_map (λ e. explore e.0 e.1.0 e.1.1) (exploration_at rows)
 
 -- the command that was met, and what was given for it
 abbrev pub request_in : Option (Text × List Row) → Option Request
@@ -237,7 +263,8 @@ request_in (Some p) =
     else None
 
 -- what is read of the subcommand of this name, where it was met
-abbrev pub by_name : {X : Type 0} → Text → (List Row → Option X) → Option (Text × List Row) → Option X
+abbrev pub by_name : {X : Type 0} → Text → (List Row → Option X) → Option (Text × List Row)
+    → Option X
 by_name name read None = None
 by_name name read (Some p) = if bytes_eq p.0 name then read p.1 else None
 
@@ -245,18 +272,24 @@ abbrev pub where_none : {X : Type 0} → Kinds → Option X → Option X
 where_none [] o = o
 where_none (k ∷ ks) o = None
 
--- what the words ask of a command line, by the subcommand that they name, where nothing is wrong with them
-abbrev pub asked_of : {X : Type 0} → App → (Option (Text × List Row) → Option X) → List Text → Option X
+-- what the words ask of a command line, by the subcommand that they name, where nothing is wrong
+-- with them
+abbrev pub asked_of : {X : Type 0} → App → (Option (Text × List Row) → Option X) → List Text
+    → Option X
 asked_of line read words = where_none (fault_of line words) (read (subcommand_of line words))
 
--- the words have no fault, and this is found in them; or they have a fault of this kind, or memory ran out
+-- the words have no fault, and this is found in them; or they have a fault of this kind, or memory
+-- ran out
 abbrev pub Finds : App → List Text → Result ArgMatches Error → Type 0
 Finds line words result =
-    MatchResult result (λ matches. (fault_of line words ≡ []) × (subcommand_rows_of matches ≡ subcommand_of line words))
+    MatchResult result (λ matches. (fault_of line words ≡ [])
+    × (subcommand_rows_of matches ≡ subcommand_of line words))
     (HasKind (fault_of line words))
 
--- the words have no fault, and ask for what is wanted; or they have a fault of this kind, or memory ran out
-abbrev pub Asks : {T X : Type 0} → (T → X) → App → List Text → Option X → Result (Option T) Error → Type 0
+-- the words have no fault, and ask for what is wanted; or they have a fault of this kind, or memory
+-- ran out
+abbrev pub Asks : {T X : Type 0} → (T → X) → App → List Text → Option X → Result (Option T) Error
+    → Type 0
 Asks value line words wanted result =
     MatchResult result (λ request. (fault_of line words ≡ []) × (option_map value request ≡ wanted))
     (HasKind (fault_of line words))

@@ -1,4 +1,5 @@
-//! What each command does that has a command line of its own, as the help of `mx` and its own say it.
+//! What each command does that has a command line of its own, as the help of `mx` and its own say
+//! it.
 
 pub const ABOUT_LIVE: &str =
     "Runs each node in a thread of its own, and prints what their gathered journal has";

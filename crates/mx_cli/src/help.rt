@@ -1,7 +1,7 @@
 //! The texts of help, and the version.
 
-/// What `mx --version` prints after the name: the version, and the logic that it is proved by, which
-/// several kits have.
+/// What `mx --version` prints after the name: the version, and the logic that it is proved by,
+/// which several kits have.
 pub(crate) const VERSION: &str = "0.1.0, proved by Rattle's logic dac8208d650f15bf";
 
 pub(crate) const MX: &str =

@@ -1,5 +1,6 @@
-//! What every command does before and after its own work: it reads the words of its command line, fetches its
-//! plan from a source, and tells what was asked for wrongly, what is at fault, or that memory ran out.
+//! What every command does before and after its own work: it reads the words of its command line,
+//! fetches its plan from a source, and tells what was asked for wrongly, what is at fault, or that
+//! memory ran out.
 #![tactic(auto)]
 
 mod about;

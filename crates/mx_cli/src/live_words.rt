@@ -67,8 +67,8 @@ fn live_command<'a>(alloc: Global) -> Result<Command<'a>, AllocError>
     with_arg(with_settle, progress_arg(alloc))
 }
 
-/// What the words, of which `live` is the first, ask for. Their faults are those of `clap`, and words
-/// that ask for help come as such a fault too, with the text to show.
+/// What the words, of which `live` is the first, ask for. Their faults are those of `clap`, and
+/// words that ask for help come as such a fault too, with the text to show.
 pub fn asked_live<'a>(alloc: Global, words: &'a [&'a str]) -> Result<Option<LiveRequest<'a>>, Error>
     ensures { Asks request_of live_line (texts_of words.entry.now)
         (request_asked (texts_of words.entry.now)) result }

@@ -12,7 +12,8 @@ use mx_io::Source;
 use mx_plan::PlanFault;
 use std::alloc::Global;
 
-/// The plan and the bytes of two names, as `fetch_both` reads them. A plan that is no JSON is named.
+/// The plan and the bytes of two names, as `fetch_both` reads them. A plan that is no JSON is
+/// named.
 pub fn fetch_named<S: Source>(
     alloc: Global,
     source: &mut S,

@@ -58,9 +58,9 @@ pub fn plan_in(alloc: Global, text: &[u8]) -> Result<Plan, Stop>
     }
 }
 
-/// The plan of the first of two names, and the bytes of the second. Where both are standard input, its
-/// first line is the plan, and the rest is what comes with it. A plan that is refused comes before a
-/// second name that can't be read.
+/// The plan of the first of two names, and the bytes of the second. Where both are standard input,
+/// its first line is the plan, and the rest is what comes with it. A plan that is refused comes
+/// before a second name that can't be read.
 pub fn fetch_both<S: Source>(
     alloc: Global,
     source: &mut S,
@@ -89,7 +89,8 @@ fn fetch_one<S: Source>(alloc: Global, source: &mut S, name: &str) -> Result<Pla
 
 /// The plan in the first line of a text, and the bytes that follow it.
 fn both_in(alloc: Global, bytes: &[u8]) -> Result<PlanAndText, Stop>
-    ensures read { ReadsBoth (Some (line_of (Some bytes.now))) (Some (rest_of (Some bytes.now))) result }
+    ensures read { ReadsBoth (Some (line_of (Some bytes.now)))
+        (Some (rest_of (Some bytes.now))) result }
     ensures taken { (before : Bool) → refused_after result before ≡ before }
 {
     let (line, rest) = split_line(bytes);

@@ -17,8 +17,8 @@ use mx_io::{Output, OutputFault};
 use std::alloc::Global;
 use std::fmt::Display;
 
-/// Writes the help that the words of a command line ask for, or why they are refused, and returns the
-/// status.
+/// Writes the help that the words of a command line ask for, or why they are refused, and returns
+/// the status.
 pub fn refuse<O: Output, E: Output>(alloc: Global, e: &clap::Error, out: &mut O, err: &mut E) -> u8
     ensures memory { kind_of e.now ≡ ErrorKind.OutOfMemory → RunsOut
         (seen O.Output E.Output out.old err.old) (seen O.Output E.Output out.new err.new) result }
@@ -103,7 +103,8 @@ fn put_and_flush<O: Output, D: Display + Drop>(
     out: &mut O,
     line: D,
 ) -> Result<(), OutputFault>
-    ensures takes { IfErr result (λ fault. O.takes_all out.old ≡ true → fault ≡ OutputFault.Memory) }
+    ensures takes { IfErr result (λ fault.
+        O.takes_all out.old ≡ true → fault ≡ OutputFault.Memory) }
     ensures refused { O.has_refused out.new ≡ refused_by result (O.has_refused out.old) }
     ensures passed { OnOk result (O.keeps_back out.new ≡ false) }
 {
@@ -117,9 +118,11 @@ pub fn put_line<O: Output, D: Display + Drop>(
     out: &mut O,
     line: D,
 ) -> Result<(), OutputFault>
-    ensures ok { OnOk result (IfSome (D.output line) (Appends (O.written out.old) (O.written out.new))) }
+    ensures ok { OnOk result (IfSome (D.output line)
+        (Appends (O.written out.old) (O.written out.new))) }
     ensures err { OnErr result (Keeps (O.written out.old) (O.written out.new)) }
-    ensures takes { IfErr result (λ fault. O.takes_all out.old ≡ true → fault ≡ OutputFault.Memory) }
+    ensures takes { IfErr result (λ fault.
+        O.takes_all out.old ≡ true → fault ≡ OutputFault.Memory) }
     ensures refused { O.has_refused out.new ≡ refused_by result (O.has_refused out.old) }
     ensures stays { O.takes_all out.new ≡ O.takes_all out.old }
 {

@@ -2,7 +2,8 @@
 
 use std::alloc::{AllocError, Global};
 
-/// The options of the command line without a command, and of each command that has some, but `--help`.
+/// The options of the command line without a command, and of each command that has some, but
+/// `--help`.
 const OPTIONS: [(&str, &[&str]); 8] = [
     ("<COMMAND>", &["--version"]),
     ("check", &["--asks"]),
@@ -17,8 +18,8 @@ const OPTIONS: [(&str, &[&str]); 8] = [
     ),
 ];
 
-/// What is told of refused words, with a tip of ours in place of the one that takes a mistyped option for
-/// a value. Where there is none of ours, it stays as it is.
+/// What is told of refused words, with a tip of ours in place of the one that takes a mistyped
+/// option for a value. Where there is none of ours, it stays as it is.
 pub(crate) fn with_tip(alloc: Global, told: &str) -> Result<String, AllocError> {
     let mut text = String::new(alloc);
     let Some((fault, usage)) = told.split_once("\n\nUsage: mx ") else {

@@ -99,8 +99,8 @@ fn read_command<'a>(alloc: Global) -> Result<Command<'a>, AllocError>
     with_made(with_replay, explore_command(alloc))
 }
 
-/// The command line with those that have a command line of their own too, so that help lists them and a
-/// mistyped word finds them.
+/// The command line with those that have a command line of their own too, so that help lists them
+/// and a mistyped word finds them.
 fn with_others<'a>(
     alloc: Global,
     line: Result<Command<'a>, AllocError>,
@@ -158,7 +158,8 @@ fn request_in<'a>(matches: &ArgMatches<'a>) -> Option<Request<'a>>
 
 /// What the command of this name asks for.
 fn request_of<'a>(name: &str, matches: &ArgMatches<'a>) -> Option<Request<'a>>
-    ensures { option_map request_of result ≡ request_in (Some (name.now, rows_of (found_of matches.now))) }
+    ensures { option_map request_of result
+        ≡ request_in (Some (name.now, rows_of (found_of matches.now))) }
 {
     match name {
         "check" => check_in(matches),

@@ -37,7 +37,8 @@ or_stay g (Ok new) = new
 or_stay g (Err fault) = g
 
 module _ {H S M : Type 0} (core : Core H S M) where
-  -- a drawn event happens, by its place among the parcels sent; a delivery before any was sent is passed over
+  -- a drawn event happens, by its place among the parcels sent; a delivery before any was sent is
+  -- passed over
   abbrev pub after_placed : ClusterState S M → Option Event → ClusterState S M
   after_placed g None = g
   after_placed g (Some e) = or_stay g (step_of core g e)
@@ -49,17 +50,22 @@ module _ {H S M : Type 0} (core : Core H S M) where
 
 -- the counts and the verdict, which is sound
 abbrev pub summary_text : {S M : Type 0} → ℕ → ClusterState S M → Text
-summary_text steps g = explored_line steps (count_by is_entry g.trace) (length g.sent) ++ verdict_line Sound
+summary_text steps g =
+    explored_line steps (count_by is_entry g.trace) (length g.sent) ++ verdict_line Sound
 
 -- the text of a schedule that happens in the cluster of a plan, by its algorithm
 abbrev pub summary_by : Fields → List Event → Shape → Text
-summary_by p es (Ricart count) = summary_text (length es) (after_drawn ricart_core (at_rest ricart_core p count) es)
-summary_by p es (Maekawa family) = summary_text (length es) (after_drawn maekawa_core (at_rest maekawa_core p family) es)
-summary_by p es (Raymond tree) = summary_text (length es) (after_drawn raymond_core (at_rest raymond_core p tree) es)
+summary_by p es (Ricart count) =
+    summary_text (length es) (after_drawn ricart_core (at_rest ricart_core p count) es)
+summary_by p es (Maekawa family) =
+    summary_text (length es) (after_drawn maekawa_core (at_rest maekawa_core p family) es)
+summary_by p es (Raymond tree) =
+    summary_text (length es) (after_drawn raymond_core (at_rest raymond_core p tree) es)
 
 -- the schedule of a seed, of a number of steps over the nodes and registers of the plan
 abbrev pub schedule_of : Fields → ℕ → ℕ → List Event
-schedule_of p seed steps = drawn_list steps (length p.nodes) (length p.registers) (generator_of seed)
+schedule_of p seed steps =
+    drawn_list steps (length p.nodes) (length p.registers) (generator_of seed)
 
 abbrev pub explored_text : Fields → ℕ → ℕ → Text
 explored_text p seed steps = summary_by p (schedule_of p seed steps) p.shape

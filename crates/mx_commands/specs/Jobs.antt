@@ -27,7 +27,8 @@ use Rattle.mx_io.specs.Told.{Telling}
 abbrev pub run_by : Fields → Shape → List Event → Report
 run_by p (Ricart count) = run_from ricart_core ricart_text p 0 (at_rest ricart_core p count)
 run_by p (Maekawa family) = run_from maekawa_core maekawa_text p 0 (at_rest maekawa_core p family)
-run_by p (Raymond tree) = run_from raymond_core (λ _. raymond_text) p 0 (at_rest raymond_core p tree)
+run_by p (Raymond tree) =
+    run_from raymond_core (λ _. raymond_text) p 0 (at_rest raymond_core p tree)
 
 -- go on with what was read
 abbrev pub where_read : {T : Type 0} → Result T PlanFault → (T → Report) → Report
@@ -61,7 +62,8 @@ replay_of events plan = record { plan = plan; report = λ p. option_map (on_even
 abbrev pub job_of : (Text → Option Telling) → Request → Option Job
 job_of told (check name) = option_map (on_plan plan_text) (told name)
 job_of told (asks name) = option_map (on_plan plan_asks_text) (told name)
-job_of told (explore name seed steps) = option_map (on_plan (λ p. explored_text p seed steps)) (told name)
+job_of told (explore name seed steps) =
+    option_map (on_plan (λ p. explored_text p seed steps)) (told name)
 job_of told (replay names) = option_map (replay_of (text_told told names)) (plan_told told names)
 
 -- the names of the plan and of the events, as the lines of faults have them
@@ -78,8 +80,8 @@ abbrev pub report_of : (Fields → Option Report) → Result Fields PlanFault �
 report_of report (Ok p) = report p
 report_of report (Err fault) = Some (ends_with (fault_of fault))
 
--- this holds of what is reported: the plan can't be read, or there is an outcome of its bytes, and it holds of that
--- outcome's report
+-- this holds of what is reported: the plan can't be read, or there is an outcome of its bytes, and
+-- it holds of that outcome's report
 abbrev pub HoldsOfPlan : (Fields → Option Report) → Telling → (Report → Type 0) → Type 0
 HoldsOfPlan report None P = P (ends_with (Some (CannotRead Plan)))
 HoldsOfPlan report (Some bytes) P =

@@ -31,7 +31,8 @@ end_text names None = []
 end_text names (Some fault) = fault_line names fault
 
 -- the report was printed whole, and passed on
-pub record PrintsWhole (names : Text × Text) (r : Report) (old new : Seen) (status : ℕ) : Type 0 where
+pub record PrintsWhole (names : Text × Text) (r : Report) (old new : Seen)
+    (status : ℕ) : Type 0 where
   pub status_is : status ≡ status_of r.end
   pub lines : Appends old.out new.out (concat r.texts)
   pub fault : Appends old.err new.err (end_text names r.end)
@@ -54,15 +55,18 @@ pub record IsRefused (takes_all : Bool) (r : Report) (old new : Seen) (status : 
 -- a run of this report, by outputs that both take all bytes or not
 abbrev pub Prints : Bool → Text × Text → Report → Seen → Seen → ℕ → Type 0
 Prints takes_all names r old new status =
-    PrintsWhole names r old new status ⊎ RunsOut r old new status ⊎ IsRefused takes_all r old new status
+    PrintsWhole names r old new status ⊎ RunsOut r old new status
+    ⊎ IsRefused takes_all r old new status
 
--- memory ran out before there was a report; and where standard output then refused too, that decides
+-- memory ran out before there was a report; and where standard output then refused too, that
+-- decides
 abbrev pub FailsAtOnce : Bool → Seen → Seen → ℕ → Type 0
 FailsAtOnce takes_all old new status = Keeps old.out new.out
     × (((status ≡ 5) × MayTell old.err new.err × (new.refused ≡ old.refused))
     ⊎ ((status ≡ 1) × (takes_all ≡ false) × Keeps old.err new.err))
 
--- what the words ask for, of what a source tells: a run of its report, or memory ran out before there was one
+-- what the words ask for, of what a source tells: a run of its report, or memory ran out before
+-- there was one
 abbrev pub Runs : Bool → (Text → Option Telling) → Request → Seen → Seen → ℕ → Type 0
 Runs takes_all told request old new status = IfSome (job_of told request) (λ job.
     FailsAtOnce takes_all old new status
@@ -78,7 +82,8 @@ verdict_status (Broken k clause) = 4
 -- the texts of a report were written, and the run ended as the report does, or earlier
 abbrev pub Ran : Bool → Held → Held → Report → Result ℕ Stop → Type 0
 Ran takes_all old new r (Ok status) = (r.end ≡ None) × Appends old new (concat r.texts)
-Ran takes_all old new r (Err (stop.Fault fault)) = (r.end ≡ Some fault) × Appends old new (concat r.texts)
+Ran takes_all old new r (Err (stop.Fault fault)) =
+    (r.end ≡ Some fault) × Appends old new (concat r.texts)
 Ran takes_all old new r (Err stop.Writer) = (takes_all ≡ false) × AppendsSome old new r.texts
 Ran takes_all old new r (Err stop.Memory) = AppendsSome old new r.texts
 
@@ -92,11 +97,14 @@ EndsEarly takes_all (Err stop.Memory) = ⊤
 -- the texts of a job's report were written, or the run ended before there was one
 abbrev pub RanOn : Bool → Held → Held → Job → Result ℕ Stop → Type 0
 RanOn takes_all old new job result =
-    (EndsEarly takes_all result × Keeps old new) ⊎ HoldsOfReport job (λ r. Ran takes_all old new r result)
+    (EndsEarly takes_all result × Keeps old new)
+    ⊎ HoldsOfReport job (λ r. Ran takes_all old new r result)
 
 abbrev pub RanOf : Bool → Held → Held → (Text → Option Telling) → Request → Result ℕ Stop → Type 0
-RanOf takes_all old new told request result = IfSome (job_of told request) (λ job. RanOn takes_all old new job result)
+RanOf takes_all old new told request result =
+    IfSome (job_of told request) (λ job. RanOn takes_all old new job result)
 
 -- an event did not happen: there is no such parcel, or memory ran out
 abbrev pub StopsAt : {G : Type 0} → ℕ → Result G StepFault → Stop → Type 0
-StopsAt k wanted end = (end ≡ stop.Memory) ⊎ ((end ≡ stop.Fault (NoParcel k)) × (wanted ≡ Err step_fault.NoParcel))
+StopsAt k wanted end =
+    (end ≡ stop.Memory) ⊎ ((end ≡ stop.Fault (NoParcel k)) × (wanted ≡ Err step_fault.NoParcel))

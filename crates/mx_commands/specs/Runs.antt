@@ -59,7 +59,8 @@ event_lines p = texts_from (λ k e. event_line p k e.event e.outcome)
 -- the cluster of a plan, at rest
 abbrev pub at_rest : {H S M : Type 0} → Core H S M → Fields → H → ClusterState S M
 at_rest core p shape = record {
-  members = each_below (λ i. start_of core shape i p.origin p.sections (length p.registers)) (core.count shape);
+  members = each_below (λ i. start_of core shape i p.origin p.sections (length p.registers))
+      (core.count shape);
   sent = [];
   trace = [];
 }
@@ -73,7 +74,8 @@ module _ {H S M : Type 0} (core : Core H S M) (letter_text : Fields → M → Te
 
   -- the text of one event, and then the rest; or there is no such parcel, since the events that are
   -- read name nodes of the plan
-  abbrev pub stepped : ℕ → ClusterState S M → Result (ClusterState S M) StepFault → (ClusterState S M → Report) → Report
+  abbrev pub stepped : ℕ → ClusterState S M → Result (ClusterState S M) StepFault
+      → (ClusterState S M → Report) → Report
   stepped k old (Ok new) rest = after_texts (text_of k old new ∷ []) (rest new)
   stepped k old (Err fault) rest = ends_with (Some (NoParcel k))
 

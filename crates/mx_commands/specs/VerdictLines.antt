@@ -13,4 +13,5 @@ clause_text Read = codes "read"
 
 abbrev pub verdict_line : Verdict → Text
 verdict_line Sound = codes "verdict sound" ++ line_feed
-verdict_line (Broken k clause) = codes "verdict broken at " ++ decimal k ++ codes ": " ++ clause_text clause ++ line_feed
+verdict_line (Broken k clause) =
+    codes "verdict broken at " ++ decimal k ++ codes ": " ++ clause_text clause ++ line_feed

@@ -40,7 +40,8 @@ fn add_member<C: Exclusion>(
     ensures { OnOk result (string_bytes text.old
         ++ texts_from (member_line C.core plan.now) index (drop index cluster.now.members)
         ≡ string_bytes text.new
-        ++ texts_from (member_line C.core plan.now) (index + 1) (drop (index + 1) cluster.now.members)) }
+        ++ texts_from (member_line C.core plan.now) (index + 1)
+        (drop (index + 1) cluster.now.members)) }
 {
     let node = NodeId::of(index).unwrap();
     match cluster.member(node) {
@@ -81,7 +82,8 @@ where
     ensures { OnOk result (string_bytes text.old
         ++ parcel_lines C.Msg.letter_text plan.now number (drop number cluster.now.sent)
         ≡ string_bytes text.new
-        ++ parcel_lines C.Msg.letter_text plan.now (number + 1) (drop (number + 1) cluster.now.sent)) }
+        ++ parcel_lines C.Msg.letter_text plan.now (number + 1)
+        (drop (number + 1) cluster.now.sent)) }
 {
     match cluster.parcel(number) {
         Some(parcel) => add_parcel_line(plan, number, parcel.0, parcel.1, parcel.2, text),

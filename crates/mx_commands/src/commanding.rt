@@ -99,7 +99,8 @@ fn carry_out_and_flush<S: Source, O: Output>(
     ended
 }
 
-/// Carries out what was asked for, and returns the status. What the output keeps back is not passed on.
+/// Carries out what was asked for, and returns the status. What the output keeps back is not passed
+/// on.
 pub fn carry_out<S: Source, O: Output>(
     alloc: Global,
     request: &Request<'_>,

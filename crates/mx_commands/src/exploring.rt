@@ -107,7 +107,8 @@ pub fn happen<C: Exclusion>(cluster: &mut Cluster<C>, events: &[Event]) -> Resul
 
 /// One drawn event. A delivery without any parcel to deliver is passed over.
 fn step<C: Exclusion>(cluster: &mut Cluster<C>, event: &Event) -> Result<(), AllocError>
-    ensures { OnOk result (after_placed C.core cluster.old (place_of event.now (length cluster.old.sent))
+    ensures { OnOk result (after_placed C.core cluster.old
+        (place_of event.now (length cluster.old.sent))
         ≡ cluster.new) }
 {
     let Some(placed) = place(*event, cluster.sent()) else {

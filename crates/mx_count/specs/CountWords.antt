@@ -14,7 +14,8 @@ count_app = with_rule (with_rule (new_app (codes "count")) plan_rule) events_rul
 unfoldable pub count_line : App
 count_line = with_subcommand (line_with count_app) explore_app.top
 
--- what is to be counted: what comes of the events of these names, or of those of a seed and a number of steps
+-- what is to be counted: what comes of the events of these names, or of those of a seed and a
+-- number of steps
 pub data Request : Type 0 where
   given : Text × Text → Request
   drawn : Text → ℕ → ℕ → Request

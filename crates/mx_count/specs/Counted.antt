@@ -34,7 +34,8 @@ counts_text kind_text names course events g =
     first_text course events sections (length g.sent) ++ tallies_text kind_text names g sections
     ++ verdict_line Sound
 
--- events lead from one cluster to another: those that were given all happen, and of those that were drawn the ones that can
+-- events lead from one cluster to another: those that were given all happen, and of those that were
+-- drawn the ones that can
 abbrev pub Leads : {H S M : Type 0} → Course → Core H S M → ClusterState S M → List Event
     → ClusterState S M → Type 0
 Leads Given core g es new = RunsTo core g es new

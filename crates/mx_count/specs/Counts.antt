@@ -79,7 +79,8 @@ head_text events sections parcels =
     tally_line (codes "events") events ++ tally_line (codes "sections") sections
     ++ tally_line (codes "parcels") parcels
 
--- what is counted of a cluster of which this many sections were entered, by the names of its parcels
+-- what is counted of a cluster of which this many sections were entered, by the names of its
+-- parcels
 abbrev pub tallies_text : {S M : Type 0} → (M → Text) → List Text → ClusterState S M → ℕ → Text
 tallies_text kind_text names g sections =
     parcels_text kind_text g.sent names

@@ -31,8 +31,8 @@ raymond_kind (raymond.Request r) = codes "request"
 raymond_kind (raymond.Privilege hop last) = codes "privilege"
 raymond_kind (raymond.Got hop) = codes "got"
 
--- a letter counts under `letters` and under its kind, unless a node sent it to itself; a parcel of gossip counts
--- under `gossip` and under its kind
+-- a letter counts under `letters` and under its kind, unless a node sent it to itself; a parcel of
+-- gossip counts under `gossip` and under its kind
 module _ {M : Type 0} (kind_text : M → Text) (name : Text) where
   abbrev pub is_kind : ℕ → ℕ → Parcel M → Bool
   is_kind from to (parcel.Guard letter) =

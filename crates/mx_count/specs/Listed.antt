@@ -11,7 +11,8 @@ use Rattle.mx_count.specs.Counted.{AddsCountsBy}
 use Rattle.mx_count.specs.declared.running.Course.{Course}
 use Rattle.mx_count.specs.declared.running.Course.TheVariants.{Given}
 
--- the counts of a cluster to which the events lead were printed, by the plan's algorithm, and nothing else
+-- the counts of a cluster to which the events lead were printed, by the plan's algorithm, and
+-- nothing else
 abbrev pub PrintsCountsOf : Course → Fields → List Event → Held → Held → Type 0
 PrintsCountsOf course p es old new =
     (text : Text) × AddsCountsBy course p es [] text p.shape × Appends old new text

@@ -12,7 +12,8 @@ use Rattle.mx_count.specs.declared.running.Course.{Course}
 use Rattle.mx_count.specs.declared.running.Course.TheVariants.{Given, Drawn}
 use Rattle.mx_count.specs.CountWords.{Request, given, drawn}
 
--- the plan and the events that the words ask for: those that the source tells of, or the schedule of the seed
+-- the plan and the events that the words ask for: those that the source tells of, or the schedule
+-- of the seed
 abbrev pub IsRunOf : (Text → Option Telling) → Request → Fields → List Event → Type 0
 IsRunOf told (given names) p es =
     IsPlanOf (plan_told told names) p × AreEventsOf (text_told told names) p es

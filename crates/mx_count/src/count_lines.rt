@@ -20,8 +20,8 @@ impl fmt::Display for TallyLine<'_> {
     }
 }
 
-/// How many letters there are for each section entered, of which there is at least one; cut after one
-/// decimal.
+/// How many letters there are for each section entered, of which there is at least one; cut after
+/// one decimal.
 #[derive(Clone, Copy)]
 pub(crate) struct ShareLine {
     pub(crate) whole: u64,

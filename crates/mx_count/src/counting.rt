@@ -14,10 +14,10 @@ use mx_cli::{Exploration, Named, Names, Stop, close, fetch_named, fetch_plan, na
 use mx_io::{Output, Source};
 use std::alloc::Global;
 
-/// Runs the words of a command line of which the first is `count`, or `explore` with `--count`, without
-/// the program's name, and returns the status: 0 where all went well, or help was asked for, 1 where the
-/// plan, its events, a file or an output is at fault, 2 where the words are not those of the command, 5
-/// where memory ran out.
+/// Runs the words of a command line of which the first is `count`, or `explore` with `--count`,
+/// without the program's name, and returns the status: 0 where all went well, or help was asked
+/// for, 1 where the plan, its events, a file or an output is at fault, 2 where the words are not
+/// those of the command, 5 where memory ran out.
 pub fn count<S: Source, O: Output, E: Output>(
     alloc: Global,
     words: &[&str],

@@ -128,8 +128,8 @@ pub(crate) fn refusal_names() -> &'static [&'static str]
     ]
 }
 
-/// Whether a parcel is counted under a name. A letter that a node sends to itself is one of its own, and
-/// counts under that alone.
+/// Whether a parcel is counted under a name. A letter that a node sends to itself is one of its
+/// own, and counts under that alone.
 pub(crate) fn is_under<M: Kinded>(name: &str, from: NodeId, to: NodeId, parcel: &Parcel<M>) -> bool
     ensures { result ≡ is_under M.kind_text name.now (from, to, parcel.now) }
 {

@@ -28,8 +28,8 @@ pub enum Course {
     Drawn,
 }
 
-/// The events happen, by the plan's algorithm; then what is counted of them, and the verdict. Returns
-/// the status.
+/// The events happen, by the plan's algorithm; then what is counted of them, and the verdict.
+/// Returns the status.
 pub(crate) fn add_counts_of(
     alloc: Global,
     plan: &Plan,

@@ -17,8 +17,8 @@ pub(crate) fn longest_wait(trace: &[Entry]) -> u64
     longest
 }
 
-/// The events from an asking, of this outcome, to the end of its wait, where this comes after it; 0 for
-/// every other outcome.
+/// The events from an asking, of this outcome, to the end of its wait, where this comes after it; 0
+/// for every other outcome.
 fn wait_from(outcome: &Outcome, rest: &[Entry]) -> u64
     ensures { result ≡ wait_from outcome.now rest.now }
 {

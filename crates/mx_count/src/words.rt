@@ -57,8 +57,8 @@ fn counted_line<'a>(alloc: Global) -> Result<Command<'a>, AllocError>
     line_of(alloc, count_command(alloc)?)
 }
 
-/// What the words ask to count. Their faults are those of `clap`, and words that ask for help come as
-/// such a fault too, with the text to show.
+/// What the words ask to count. Their faults are those of `clap`, and words that ask for help come
+/// as such a fault too, with the text to show.
 pub(crate) fn asked<'a>(alloc: Global, words: &'a [&'a str]) -> Result<Option<Request<'a>>, Error>
     ensures { Asks request_of count_line (texts_of words.entry.now)
         (request_asked (texts_of words.entry.now)) result }

@@ -32,7 +32,8 @@ impl<'a> Steps<'a> {
     }
 }
 
-/// The steps of a path. `events` and `the plan` are the whole value, and a dot is between the keys of a member.
+/// The steps of a path. `events` and `the plan` are the whole value, and a dot is between the keys
+/// of a member.
 fn steps_of<'a>(path: &Path<'a>) -> Steps<'a> {
     match path {
         Path::Member(member) => steps_to(member, Step::None, Step::None),
@@ -147,8 +148,8 @@ impl Finder<'_> {
     }
 }
 
-/// Where the value at a path begins, or the innermost one on the way to it that is there. Keys that are
-/// written with escapes are not found.
+/// Where the value at a path begins, or the innermost one on the way to it that is there. Keys that
+/// are written with escapes are not found.
 pub(crate) fn offset_at(alloc: Global, text: &[u8], path: &Path<'_>) -> Result<usize, AllocError> {
     let mut finder = Finder {
         steps: steps_of(path),

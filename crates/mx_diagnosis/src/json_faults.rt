@@ -46,8 +46,8 @@ impl<'a> Part<'a> {
     }
 }
 
-/// The value of a text, which the page looks at from now on; where it is not JSON a line of that, and what
-/// is before the place. A byte order mark is told, and then passed over.
+/// The value of a text, which the page looks at from now on; where it is not JSON a line of that,
+/// and what is before the place. A byte order mark is told, and then passed over.
 pub(crate) fn value_in(page: &mut Page<'_>, part: Part<'_>) -> Result<Option<Value>, AllocError> {
     match part.text.strip_prefix(&MARK) {
         Some(text) => {
@@ -98,8 +98,8 @@ fn value_before(
     }
 }
 
-/// Says why a text is not JSON, and at which byte. The reader's place may lie behind the token that does not
-/// fit.
+/// Says why a text is not JSON, and at which byte. The reader's place may lie behind the token that
+/// does not fit.
 fn say_no_json(page: &mut Page<'_>, part: &Part<'_>, e: &Error) -> Result<usize, AllocError> {
     let offset = offset_of(part.text, e.line(), e.column().max(1));
     if str::from_utf8(part.text).is_err() {

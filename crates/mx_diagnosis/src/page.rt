@@ -57,8 +57,8 @@ impl<'a> Page<'a> {
         })
     }
 
-    /// Looks at a text of the file, which has this many lines above it. It takes a copy, so that lines can
-    /// tell where in it they are of.
+    /// Looks at a text of the file, which has this many lines above it. It takes a copy, so that
+    /// lines can tell where in it they are of.
     pub(crate) fn look_at(&mut self, text: &[u8], above: usize) -> Result<(), AllocError> {
         self.source = Vec::from_slice(self.alloc, text)?;
         self.above = above;
@@ -96,13 +96,14 @@ impl<'a> Page<'a> {
         self.say_at(offset, line)
     }
 
-    /// Adds a line of the parcel that the event of this number, counted from 0, delivers. It begins with a
-    /// space.
+    /// Adds a line of the parcel that the event of this number, counted from 0, delivers. It begins
+    /// with a space.
     pub fn say_of_parcel<D: Display + Drop>(&mut self, k: u64, line: D) -> Result<(), AllocError> {
         self.say_of(&Path::Inner("events", k as usize, 1), line)
     }
 
-    /// Adds a line of what the line of this number of the text asks for, counted from 1. It begins with a space.
+    /// Adds a line of what the line of this number of the text asks for, counted from 1. It begins
+    /// with a space.
     pub fn say_of_line<D: Display + Drop>(
         &mut self,
         number: u64,

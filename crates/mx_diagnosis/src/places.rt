@@ -59,7 +59,8 @@ pub(crate) fn place_of(text: &[u8], offset: usize) -> LineColumn {
     place
 }
 
-/// The byte of a line and of a column in bytes, both counted from 1, or the end of the text if there is none.
+/// The byte of a line and of a column in bytes, both counted from 1, or the end of the text if
+/// there is none.
 pub(crate) fn offset_of(text: &[u8], line: usize, column: usize) -> usize {
     let (mut at, mut begins) = (1usize, 0usize);
     for (offset, byte) in text.iter().enumerate() {

@@ -8,8 +8,8 @@ use mx_stamps::{MOST_NODES, MOST_REGISTERS};
 use serde_json::Value;
 use std::alloc::AllocError;
 
-/// Says what is wrong in a script that begins below a number of lines of its file, by the names of the plan
-/// where that is JSON.
+/// Says what is wrong in a script that begins below a number of lines of its file, by the names of
+/// the plan where that is JSON.
 pub fn explain_script_text(
     page: &mut Page<'_>,
     plan: Option<&Value>,

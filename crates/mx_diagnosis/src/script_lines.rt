@@ -33,8 +33,8 @@ const DELIVERY: Form = Form {
 
 const REPEATED: &str = "a number and a line behind the word";
 
-/// How a line is looked at: by which names, whether it is one of a session, and whether words that were
-/// meant are looked for.
+/// How a line is looked at: by which names, whether it is one of a session, and whether words that
+/// were meant are looked for.
 #[derive(Clone, Copy)]
 struct Reader<'a> {
     alloc: Global,
@@ -43,8 +43,9 @@ struct Reader<'a> {
     asks_nearest: bool,
 }
 
-/// What is wrong in a line of a script, by the names that are known; with the words that were meant, if
-/// these are asked for. Where no nodes are known, names of nodes are not looked at; so too with registers.
+/// What is wrong in a line of a script, by the names that are known; with the words that were
+/// meant, if these are asked for. Where no nodes are known, names of nodes are not looked at; so
+/// too with registers.
 pub(crate) fn wrong_words<'a>(
     alloc: Global,
     known: Known<'a>,
@@ -60,7 +61,8 @@ pub(crate) fn wrong_words<'a>(
     reader.wrong_in(line)
 }
 
-/// What is wrong in a line of a session, by the names that are known, with the words that were meant.
+/// What is wrong in a line of a session, by the names that are known, with the words that were
+/// meant.
 pub(crate) fn wrong_words_of_session<'a>(
     alloc: Global,
     known: Known<'a>,

@@ -46,8 +46,8 @@ fn explain_read_plan(
     warn_of_repeated(page)
 }
 
-/// Why the nodes of a plan have no shape: by this fault, with which it was read, or else by the members that
-/// say it.
+/// Why the nodes of a plan have no shape: by this fault, with which it was read, or else by the
+/// members that say it.
 fn shape_fault_of(
     page: &Page<'_>,
     plan: &Value,

@@ -10,8 +10,8 @@ use mx_plan::Plan;
 use std::alloc::{AllocError, Global};
 use std::fmt;
 
-/// What is to be told of a line of a script, of which it is a fault that it is not as it should be: a word
-/// and what was expected there; where all words are as they should be, the line.
+/// What is to be told of a line of a script, of which it is a fault that it is not as it should be:
+/// a word and what was expected there; where all words are as they should be, the line.
 pub fn told_of_line(alloc: Global, plan: &Plan, line: &str) -> Result<String, AllocError> {
     let nodes = nodes_of(alloc, plan)?;
     let registers = registers_of(alloc, plan)?;
@@ -23,7 +23,8 @@ pub fn told_of_line(alloc: Global, plan: &Plan, line: &str) -> Result<String, Al
     told_of_first(alloc, wrong.as_slice(), line)
 }
 
-/// As `told_of_line`, of a line of a session: one of a script, or `show`, `undo`, `events`, `help` or `end`.
+/// As `told_of_line`, of a line of a session: one of a script, or `show`, `undo`, `events`, `help`
+/// or `end`.
 pub fn told_of_session_line(alloc: Global, plan: &Plan, line: &str) -> Result<String, AllocError> {
     let nodes = nodes_of(alloc, plan)?;
     let registers = registers_of(alloc, plan)?;

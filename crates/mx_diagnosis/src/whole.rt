@@ -14,8 +14,8 @@ enum Whole {
     Ended(usize),
 }
 
-/// The begin of a text as a value: an object with the members that are whole, or an array with the items,
-/// each before a comma. None where the text does not begin so.
+/// The begin of a text as a value: an object with the members that are whole, or an array with the
+/// items, each before a comma. None where the text does not begin so.
 pub(crate) fn whole_before(
     alloc: Global,
     text: &[u8],

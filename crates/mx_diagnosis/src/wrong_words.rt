@@ -5,8 +5,8 @@ use crate::script_words::Word;
 use std::fmt;
 use std::fmt::Display;
 
-/// A word that is wrong in a line, or behind which are not as many as there should be, what was expected,
-/// and which word was meant.
+/// A word that is wrong in a line, or behind which are not as many as there should be, what was
+/// expected, and which word was meant.
 #[derive(Clone, Copy)]
 pub(crate) struct WrongWord<'a> {
     pub(crate) word: Word<'a>,

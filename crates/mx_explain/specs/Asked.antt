@@ -1,4 +1,5 @@
--- What the words of `explain` ask for, as `clap` reads them: a check, a replay or a script that is to be explained.
+-- What the words of `explain` ask for, as `clap` reads them: a check, a replay or a script that is
+-- to be explained.
 use Rattle.std.specs.Prelude.{Bool, List, Option, Some, None, codes, if◌then◌else◌, option_map}
 use Rattle.clap.specs.Words.{App, Row, Rule, Text, first_of, new_app, new_rule, with_rule}
 use Rattle.mx_cli.specs.Words.{Request, asked_of, by_name, check, flag_rule, is_given, line_with, names_of, plan_rule, replay, request_of}
@@ -15,7 +16,8 @@ script_rule = flag_rule (codes "script")
 
 -- `explain PLAN [EVENTS]`, and perhaps `--script`
 abbrev pub explain_app : App
-explain_app = with_rule (with_rule (with_rule (new_app (codes "explain")) plan_rule) events_rule) script_rule
+explain_app =
+    with_rule (with_rule (with_rule (new_app (codes "explain")) plan_rule) events_rule) script_rule
 
 -- the whole command line
 unfoldable pub explain_line : App

@@ -1,4 +1,5 @@
--- With which status an explanation ends, and what standard error gets: those of the check, of the replay or of the script.
+-- With which status an explanation ends, and what standard error gets: those of the check, of the
+-- replay or of the script.
 use Rattle.std.specs.Prelude.{◌≡◌, ◌⊎◌, ◌&&◌, ℕ, Bool, false, Option, IfSome}
 use Rattle.std.specs.Io.KnownBytes.{Appends}
 use Rattle.mx_cli.specs.Words.{Request}
@@ -19,7 +20,8 @@ pub record EndsAs (names : Text × Text) (r : Report) (old new : Held) (status :
   pub status_is : status ≡ status_of r.end
   pub fault : Appends old new (end_text names r.end)
 
--- an explanation of this task, over what a source tells: it ends as the task's report, or falls short
+-- an explanation of this task, over what a source tells: it ends as the task's report, or falls
+-- short
 abbrev pub Explains : Bool → (Text → Option Telling) → Request → Held → Held → ℕ → Type 0
 Explains takes_all told request old new status =
     IfSome (job_of told request) (λ job. FallsShort takes_all old new status
@@ -27,12 +29,14 @@ Explains takes_all told request old new status =
     (λ r. FallsShort takes_all old new status ⊎ EndsAs (names_in request) r old new status))
 
 -- an explanation of what the words ask for: of a script it ends as `script` does
-abbrev pub ExplainsMatter : Bool → Bool → (Text → Option Telling) → Matter → Held → Held → ℕ → Type 0
+abbrev pub ExplainsMatter : Bool → Bool → (Text → Option Telling) → Matter → Held → Held → ℕ
+    → Type 0
 ExplainsMatter takes_out takes_err told (run request) old new status =
     Explains (takes_out && takes_err) told request old new status
 ExplainsMatter takes_out takes_err told (script names) old new status =
     ScriptsOf takes_out takes_err told names old new status
 
--- why an explanation is not printed: memory ran out, or the output refused, which one that takes all bytes never does
+-- why an explanation is not printed: memory ran out, or the output refused, which one that takes
+-- all bytes never does
 abbrev pub FailsToPrint : Bool → Stop → Type 0
 FailsToPrint takes_all end = (end ≡ Memory) ⊎ ((end ≡ Writer) × (takes_all ≡ false))

@@ -36,9 +36,10 @@ impl Output for Nowhere {
     }
 }
 
-/// Runs the words of a command line of which `explain` is the first, without the program's name, and
-/// returns the status: that of the check, of the replay or of the script that is explained, 0, 1 or 5; 0
-/// where help was asked for, 1 where an output refused, 2 where the words are not those of `explain`.
+/// Runs the words of a command line of which `explain` is the first, without the program's name,
+/// and returns the status: that of the check, of the replay or of the script that is explained, 0,
+/// 1 or 5; 0 where help was asked for, 1 where an output refused, 2 where the words are not those
+/// of `explain`.
 pub fn explain<S: Source + Reasons, O: Output, E: Output>(
     alloc: Global,
     words: &[&str],
@@ -92,8 +93,8 @@ fn explain_request<S: Source + Reasons, O: Output, E: Output>(
     close(alloc, ended, &names_in(request), out, err)
 }
 
-/// Carries out what is to be explained, while nobody reads what it prints, and prints what is wrong.
-/// Returns how it ended.
+/// Carries out what is to be explained, while nobody reads what it prints, and prints what is
+/// wrong. Returns how it ended.
 fn carry_out_and_explain<S: Source + Reasons, O: Output>(
     alloc: Global,
     request: &Request<'_>,
@@ -111,7 +112,8 @@ fn carry_out_and_explain<S: Source + Reasons, O: Output>(
     ended
 }
 
-/// Prints what is wrong in files that were read with this end. Where memory ran out that is nothing.
+/// Prints what is wrong in files that were read with this end. Where memory ran out that is
+/// nothing.
 fn print_end<S: Source + Reasons, O: Output>(
     alloc: Global,
     request: &Request<'_>,

@@ -37,8 +37,8 @@ pub(crate) fn explain_files<'a, S: Source + Reasons>(
     }
 }
 
-/// Says what is wrong in the plan of a script that has no shape for this fault, or has one, and in the
-/// script, of which this line is refused.
+/// Says what is wrong in the plan of a script that has no shape for this fault, or has one, and in
+/// the script, of which this line is refused.
 pub(crate) fn explain_scripts<'a, S: Source + Reasons>(
     page: &mut Page<'a>,
     names: &Names<'a>,

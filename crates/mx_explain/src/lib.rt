@@ -1,4 +1,5 @@
-//! `mx explain`: what is wrong in a plan and its events or its script, where it is, and what was expected there.
+//! `mx explain`: what is wrong in a plan and its events or its script, where it is, and what was
+//! expected there.
 #![tactic(auto)]
 
 mod asking;

@@ -9,8 +9,8 @@ use mx_plan::{Plan, read_events, read_plan};
 use std::alloc::{AllocError, Global};
 use std::fmt;
 
-/// Says how many parcels were sent before the k-th event, which delivers one that was not. Both texts
-/// were read before, so that only memory can be at fault.
+/// Says how many parcels were sent before the k-th event, which delivers one that was not. Both
+/// texts were read before, so that only memory can be at fault.
 pub(crate) fn explain_parcel(
     page: &mut Page<'_>,
     plan: &[u8],

@@ -38,7 +38,8 @@ fn end_and_explain<S: Source + Reasons, O: Output>(
     source: &mut S,
     out: &mut O,
 ) -> Result<u8, Halt>
-    ensures ends { EndsScript (O.takes_all out.old) (S.told source.old) (names_of names.now) result }
+    ensures ends { EndsScript (O.takes_all out.old) (S.told source.old)
+        (names_of names.now) result }
     ensures zero { IfOk result (λ status. status ≡ 0) }
     ensures stays { O.takes_all out.new ≡ O.takes_all out.old }
 {
@@ -51,7 +52,8 @@ fn end_and_explain<S: Source + Reasons, O: Output>(
 
 /// How a script ends whose file nobody reads.
 fn end_of<S: Source>(alloc: Global, names: &Names<'_>, source: &mut S) -> Result<u8, Halt>
-    ensures ends { (takes : Bool) → EndsScript takes (S.told source.old) (names_of names.now) result }
+    ensures ends { (takes : Bool) → EndsScript takes (S.told source.old)
+        (names_of names.now) result }
     ensures zero { IfOk result (λ status. status ≡ 0) }
 {
     match file_of_names(alloc, names, source) {
@@ -60,7 +62,8 @@ fn end_of<S: Source>(alloc: Global, names: &Names<'_>, source: &mut S) -> Result
     }
 }
 
-/// Prints what is wrong in files that were read with this end. Where memory ran out that is nothing.
+/// Prints what is wrong in files that were read with this end. Where memory ran out that is
+/// nothing.
 fn print_end<S: Source + Reasons, O: Output>(
     alloc: Global,
     names: &Names<'_>,
@@ -81,8 +84,8 @@ fn print_end<S: Source + Reasons, O: Output>(
     }
 }
 
-/// Prints what is wrong in files that are read with this fault, or of which this line is refused, or that
-/// nothing is.
+/// Prints what is wrong in files that are read with this fault, or of which this line is refused,
+/// or that nothing is.
 fn print_wrong<S: Source + Reasons, O: Output>(
     alloc: Global,
     names: &Names<'_>,

@@ -3,8 +3,8 @@
 use std::io;
 use std::io::{ErrorKind, Read};
 
-/// A reader of which a given number of reads are made at most. Those that a signal interrupts count too,
-/// so that whatever comes from outside, reading ends.
+/// A reader of which a given number of reads are made at most. Those that a signal interrupts count
+/// too, so that whatever comes from outside, reading ends.
 #[derive(Drop)]
 pub(crate) struct Counted<R: Read + Drop> {
     pub(crate) inner: R,

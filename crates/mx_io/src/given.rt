@@ -7,8 +7,8 @@ use std::io::{ErrorKind, Write};
 use std::rt::Env;
 use std::{env, io};
 
-/// The words of the command line, without the program's name. An `Err` means that memory ran out, or
-/// that a word is not UTF-8.
+/// The words of the command line, without the program's name. An `Err` means that memory ran out,
+/// or that a word is not UTF-8.
 pub fn given_words<R: Env + AllocGlobal>(rt: &R) -> io::Result<Vec<String>> {
     let words = env::args(rt)?.skip(1).collect(rt.alloc())?;
     Ok(words)
@@ -23,8 +23,8 @@ pub fn as_slices<'a>(alloc: Global, given: &'a [String]) -> Result<Vec<&'a str>,
     Ok(words)
 }
 
-/// The status of a command; where its words could not be had, standard error is told why, and the status
-/// is 5 for want of memory, else 2.
+/// The status of a command; where its words could not be had, standard error is told why, and the
+/// status is 5 for want of memory, else 2.
 pub fn status_of<E: Write + Drop>(ended: io::Result<u8>, err: E) -> u8 {
     match ended {
         Ok(status) => status,

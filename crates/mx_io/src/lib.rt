@@ -1,5 +1,5 @@
-//! Where the commands take named bytes from and where their texts go; and the words, the files and the streams
-//! of the process, as the programs take them.
+//! Where the commands take named bytes from and where their texts go; and the words, the files and
+//! the streams of the process, as the programs take them.
 #![tactic(auto)]
 
 mod counted;

@@ -44,7 +44,8 @@ pub trait Output {
         ensures ok { OnOk result (Appends (written self.old) (written self.new) text.now) }
         ensures err { OnErr result (Keeps (written self.old) (written self.new)) }
         ensures refused { has_refused self.new ≡ refused_by result (has_refused self.old) }
-        ensures takes { IfErr result (λ fault. takes_all self.old ≡ true → fault ≡ OutputFault.Memory) }
+        ensures takes { IfErr result (λ fault.
+            takes_all self.old ≡ true → fault ≡ OutputFault.Memory) }
         ensures stays { takes_all self.new ≡ takes_all self.old };
 
     /// Passes on what it still keeps back.
@@ -52,7 +53,8 @@ pub trait Output {
         ensures same { Keeps (written self.old) (written self.new) }
         ensures passed { OnOk result (keeps_back self.new ≡ false) }
         ensures refused { has_refused self.new ≡ refused_by result (has_refused self.old) }
-        ensures takes { IfErr result (λ fault. takes_all self.old ≡ true → fault ≡ OutputFault.Memory) }
+        ensures takes { IfErr result (λ fault.
+            takes_all self.old ≡ true → fault ≡ OutputFault.Memory) }
         ensures stays { takes_all self.new ≡ takes_all self.old };
 }
 

@@ -38,7 +38,8 @@ HaltsIn {X} ended halt = ((halt ≡ TurnsSpent) × IsNotYet ended) ⊎ (halt ≡
 abbrev pub EndInVain : Type 0 → Halt → Type 0
 EndInVain Spent halt = ((halt ≡ TurnsSpent) × Spent) ⊎ (halt ≡ GateShut) ⊎ (halt ≡ Memory)
 
--- threads ran and were not all done: one made all its turns, or the gate was shut; or memory ran out
+-- threads ran and were not all done: one made all its turns, or the gate was shut; or memory ran
+-- out
 abbrev pub RanInVain : Fields → Orders → Halt → Type 0
 RanInVain p orders halt = EndInVain (SpendsTurns p orders) halt
 

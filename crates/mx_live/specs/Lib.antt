@@ -1,5 +1,5 @@
--- Stations: the stations of a plan. Workers: what workers are told, promise and leave. Together: what all have together.
--- Shown: what a live run prints. Halts: why one ends without a journal.
+-- Stations: the stations of a plan. Workers: what workers are told, promise and leave. Together:
+-- what all have together. Shown: what a live run prints. Halts: why one ends without a journal.
 -- Lives: what comes of the words of a live run.
 pub mod Stations
 pub mod Workers

@@ -22,8 +22,9 @@ use Rattle.mx_live.specs.Workers.{SpendsTurns, orders_in}
 abbrev pub Fits : LiveRequest → Fields → Type 0
 Fits request p = length p.nodes * request.sections ≤ p.sections
 
--- what was printed is what some receipts and their journal show: they were gathered from the stations of the plan, which
--- began at its origin and were worked at as ordered, and each node has its sections
+-- what was printed is what some receipts and their journal show: they were gathered from the
+-- stations of the plan, which began at its origin and were worked at as ordered, and each node has
+-- its sections
 abbrev pub Shows : Option Telling → LiveRequest → Held → Held → Type 0
 Shows told request old new =
     (p : Fields) × (receipts : List Receipt) × (journal : JournalState)
@@ -31,9 +32,9 @@ Shows told request old new =
     × AreSerial receipts journal × HaveSections (length p.nodes) request.sections receipts
     × Appends old new (live_text p (length receipts) journal)
 
--- why the run has no journal: the plan can't be read or is refused; else it has too few sections; else threads ran in vain:
--- a worker made all its turns, or the gate was shut. An output that takes all is no reason, and want of memory may always be
--- one
+-- why the run has no journal: the plan can't be read or is refused; else it has too few sections;
+-- else threads ran in vain: a worker made all its turns, or the gate was shut. An output that takes
+-- all is no reason, and want of memory may always be one
 abbrev pub Halts : Bool → Option Telling → LiveRequest → Halt → Type 0
 Halts takes told request (Plan fault) =
     IfSome told (λ telling. Reads telling (Err (stop.Fault fault)))
@@ -45,7 +46,8 @@ Halts takes told request GateShut = (p : Fields) × IsPlanOf told p × Fits requ
 Halts takes told request Writer = takes ≢ true
 Halts takes told request Memory = Unit {0}
 
--- where the run has no journal, and neither memory nor an output failed on the way, nothing was printed
+-- where the run has no journal, and neither memory nor an output failed on the way, nothing was
+-- printed
 abbrev pub IsSilent : Halt → Held → Held → Type 0
 IsSilent (Plan fault) old new = Keeps old new
 IsSilent TooFewSections old new = Keeps old new
@@ -62,7 +64,8 @@ Ends takes told request old new kept_back (Ok done) =
 Ends takes told request old new kept_back (Err halt) =
     Halts takes told request halt × IsSilent halt old new
 
--- the run printed a journal and passed it on, status 0; or it has none, with the status of why; or memory ran out, status 5
+-- the run printed a journal and passed it on, status 0; or it has none, with the status of why; or
+-- memory ran out, status 5
 abbrev pub Lives : Bool → Option Telling → LiveRequest → Held → Held → Bool → ℕ → Type 0
 Lives takes told request old new kept_back status =
     ((status ≡ 0) × Shows told request old new × (kept_back ≡ false))

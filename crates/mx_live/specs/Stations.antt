@@ -13,8 +13,8 @@ pub record AreAll {X : Type 0} (IsSo : X → Type 0) (xs : List X) : Type 0 wher
   pub each : All IsSo xs
 
 module _ {H S M : Type 0} (core : Core H S M) (shape : H) (p : Fields) (table : TableId) where
-  -- A station of this table at rest: its node did nothing yet, no parcel waits in it, and its member was started with the
-  -- plan's origin, last section number and registers.
+  -- A station of this table at rest: its node did nothing yet, no parcel waits in it, and its
+  -- member was started with the plan's origin, last section number and registers.
   pub record IsAtRest (s : Station core) : Type 0 where
     pub here : s.table ≡ table
     pub nodes : s.nodes ≡ length p.nodes

@@ -28,12 +28,13 @@ use Rattle.mx_live.specs.Stations.{AreAll, IsAtRest}
 pub record AreSerial (receipts : List Receipt) (journal : JournalState) : Type 0 where
   -- the receipts bear 1, 2, 3 and so on
   pub numbered : (k : ℕ) (r : Receipt) → slice_get receipts k ≡ Some r → r.number ≡ suc k
-  -- the journal has their records, in order, and nothing else, but that those up to its base are settled: the base has
-  -- the registers after them
+  -- the journal has their records, in order, and nothing else, but that those up to its base are
+  -- settled: the base has the registers after them
   pub records : journal ≡ settled journal.base.upto (unsettled (map record_of receipts))
   -- so it covers the numbers up to how many there are, and no others
   pub covers : (n : ℕ) → Covers n journal ↔ ((1 ≤ n) × (n ≤ length receipts))
-  -- each value read is what the writes of the receipts before, in order, and the receipt's own first writes leave
+  -- each value read is what the writes of the receipts before, in order, and the receipt's own
+  -- first writes leave
   pub reads : (k : ℕ) (r : Receipt) (x : Read) → slice_get receipts k ≡ Some r
       → IsIn x r.reads.items → IsSerialRead (writes_to k (map record_of receipts)) r.writes.items x
   -- and each register of the journal has what the writes of all receipts, in order, leave
@@ -47,15 +48,17 @@ HaveSections nodes sections receipts =
     (i : ℕ) → i < nodes → sections ≤ count_by (λ (r : Receipt). r.node == i) receipts
 
 module _ {H S M : Type 0} (core : Core H S M) (shape : H) (p : Fields) (orders : Orders) where
-  -- From a station of the plan at rest, a worker has led to this one: in at most the turns ordered, with the sections
-  -- ordered, and it settled each time as many more of them were there as `settle` says.
+  -- From a station of the plan at rest, a worker has led to this one: in at most the turns ordered,
+  -- with the sections ordered, and it settled each time as many more of them were there as `settle`
+  -- says.
   pub record HasWorked (table : TableId) (t : Station core) : Type 0 where
     pub from : Station core
     pub rest : IsAtRest core shape p table from
     pub works : WorksAtMost core 0 orders.settle orders.turns from t
     pub done : orders.sections ≤ length t.me.receipts
 
-  -- Receipts and journal were gathered from the stations of one table, one of each node, at each of which a worker has worked.
+  -- Receipts and journal were gathered from the stations of one table, one of each node, at each of
+  -- which a worker has worked.
   pub record AreGathered (receipts : List Receipt) (journal : JournalState) : Type 0 where
     pub table : TableId
     pub stations : List (Station core)

@@ -27,12 +27,14 @@ orders_in request =
       settle = request.settle;
     }
 
--- the weather of the links to node i, by the seed plus i, wrapping: of 256 parcels they lose 16 and repeat 16
+-- the weather of the links to node i, by the seed plus i, wrapping: of 256 parcels they lose 16 and
+-- repeat 16
 abbrev pub weather_of : ℕ → ℕ → Climate
 weather_of seed i = record { words = generator_of ((seed + i) % 2 ^ 64); lost = 16; doubled = 16 }
 
--- What a worker of the first register left of a station: in at most the turns ordered it led from one to the other, and it
--- settled as ordered. It has its sections where it is done, and made all its turns where it is not.
+-- What a worker of the first register left of a station: in at most the turns ordered it led from
+-- one to the other, and it settled as ordered. It has its sections where it is done, and made all
+-- its turns where it is not.
 pub record IsLeft {H S M : Type 0} (core : Core H S M) (orders : Orders) (from : Station core)
     (ended : Station core × Worked) : Type 0 where
   pub works : WorksAtMost core 0 orders.settle orders.turns from ended.0
@@ -41,7 +43,8 @@ pub record IsLeft {H S M : Type 0} (core : Core H S M) (orders : Orders) (from :
       → WorksFor core 0 orders.settle orders.turns from ended.0
 
 module _ {H S M : Type 0} (core : Core H S M) (shape : H) (p : Fields) where
-  -- a worker at this station, with these orders, is one of the plan's, with the orders that were given
+  -- a worker at this station, with these orders, is one of the plan's, with the orders that were
+  -- given
   pub record Promises (table : TableId) (orders : Orders) (at : Station core) (told : Orders)
       : Type 0 where
     pub rests : IsAtRest core shape p table at

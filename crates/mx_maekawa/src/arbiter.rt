@@ -36,7 +36,14 @@ impl Model for Arbiter {
 
     ghost Value = { ArbiterState };
 
-    ghost view = { λ a. record { count = a.count; lock = a.lock; granted = a.granted; waiting = a.waiting; ended = a.ended; last = a.last } };
+    ghost view = { λ a. record {
+      count = a.count;
+      lock = a.lock;
+      granted = a.granted;
+      waiting = a.waiting;
+      ended = a.ended;
+      last = a.last;
+    } };
 
     ghost invariant = { λ a. a.count ≤ MOST_NODES };
 }

@@ -22,7 +22,11 @@ impl Model for Maekawa {
 
     ghost Value = { Node };
 
-    ghost view = { λ m. record { quorums = m.quorums; requester = m.requester; arbiter = m.arbiter } };
+    ghost view = { λ m. record {
+      quorums = m.quorums;
+      requester = m.requester;
+      arbiter = m.arbiter;
+    } };
 }
 
 impl Maekawa {

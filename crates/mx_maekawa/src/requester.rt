@@ -58,7 +58,22 @@ impl Model for Requester {
 
     ghost Value = { RequesterState };
 
-    ghost view = { λ r. record { me = r.me; own = r.own; count = r.count; limit = r.limit; phase = r.phase; highest = r.highest; issued = r.issued; ours = r.ours; held = r.held; back = r.back; failed = r.failed; remembered = r.remembered; top = r.top; mine = r.mine } };
+    ghost view = { λ r. record {
+      me = r.me;
+      own = r.own;
+      count = r.count;
+      limit = r.limit;
+      phase = r.phase;
+      highest = r.highest;
+      issued = r.issued;
+      ours = r.ours;
+      held = r.held;
+      back = r.back;
+      failed = r.failed;
+      remembered = r.remembered;
+      top = r.top;
+      mine = r.mine;
+    } };
 
     ghost invariant = { λ r. (r.count ≤ MOST_NODES) × (r.mine ≤ MOST_SECTIONS)
         × (r.limit ≤ MOST_SECTIONS) × BearsNumber r.phase };

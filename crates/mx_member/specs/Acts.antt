@@ -19,7 +19,9 @@ act_of core act.Enter m =
     answering (quietly (enter_of core m)) (answer.Entered (enter_of core m).answer)
 act_of core (act.Read register) m =
     answering (quietly (read_of core register m)) (answer.Read (read_of core register m).answer)
-act_of core (act.Write register value) m = answering (quietly (write_of core register value m)) (answer.Written (write_of core register value m).answer)
+act_of core (act.Write register value) m =
+    answering (quietly (write_of core register value m))
+    (answer.Written (write_of core register value m).answer)
 act_of core act.Leave m = answering (leave_of core m) (answer.Left (leave_of core m).answer)
 act_of core act.Cancel m = answering (cancel_of core m) (answer.Cancelled (cancel_of core m).answer)
 act_of core (act.Settle k) m =

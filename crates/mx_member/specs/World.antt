@@ -54,7 +54,8 @@ pub record IsSound {H S M : Type 0} (core : Core H S M) (Good : World S M → Ty
   pub named : (i : ℕ) (m : MemberState S) → IsMember members i m → m.setting.me ≡ i
   pub known : (i : ℕ) (m : MemberState S) → IsMember members i m → m.setting.nodes ≡ length members
   -- a base keeps the most registers that there may be
-  pub few : (i : ℕ) (m : MemberState S) → IsMember members i m → m.setting.registers ≤ MOST_REGISTERS
+  pub few : (i : ℕ) (m : MemberState S) → IsMember members i m
+      → m.setting.registers ≤ MOST_REGISTERS
   -- journals, and what parcels bring, are of the section journal
   pub journals : (i : ℕ) (m : MemberState S) → IsMember members i m →
       IsJournalOf (section_journal ss) m.journal

@@ -133,7 +133,8 @@ impl<C: Exclusion> Member<C> {
     /// section before the newest of them. None where there is no such register.
     #[tactic(auto, unfolding(crate::specs::Member::IsViewOf))]
     pub fn value(&self, register: u8) -> Option<u64>
-        ensures { result ≡ value_in register (registers_in self.now.setting.registers self.now.journal) }
+        ensures { result ≡ value_in register
+            (registers_in self.now.setting.registers self.now.journal) }
     {
         self.shown.value(register)
     }

@@ -28,7 +28,8 @@ pub record ClusterState (S M : Type 0) : Type 0 where
 -- what an act gives, with its answer as an outcome
 abbrev pub answer_of : {H S M : Type 0} → Core H S M → Act M → MemberState S →
     Done (MemberState S) Outcome (Parcel M)
-answer_of core a m = answering (act_of core a m) (outcome_of (act_of core a m).answer (length (act_of core a m).letters))
+answer_of core a m = answering (act_of core a m)
+    (outcome_of (act_of core a m).answer (length (act_of core a m).letters))
 
 -- a parcel is delivered to its addressee
 abbrev pub delivery_of : {M : Type 0} → Option (ℕ × ℕ × Parcel M) → Result (ℕ × Act M) StepFault

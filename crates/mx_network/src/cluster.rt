@@ -78,7 +78,8 @@ impl<C: Exclusion> Cluster<C> {
         requires some { 0 < registers }
         requires few { registers ≤ MOST_REGISTERS }
         ensures { IfOk result (λ cluster. cluster ≡ record {
-          members = each_below (λ i. start_of C.core shape.now i origin limit registers) (C.core.count shape.now);
+          members = each_below (λ i. start_of C.core shape.now i origin limit registers)
+              (C.core.count shape.now);
           sent = [];
           trace = [];
         }) }
@@ -150,7 +151,8 @@ impl<C: Exclusion> Cluster<C> {
         ensures ok { OnOk result (RunsTo C.core self.old events.now self.new) }
         ensures err { IfErr result (λ fault. (fault.index < length events.now)
             × RunsTo C.core self.old (take fault.index events.now) self.new) }
-        ensures fault { IfErr result (λ fault. IfSome (slice_get events.now fault.index) (λ event. IsFaultOf (step_of C.core self.new event) fault.fault)) }
+        ensures fault { IfErr result (λ fault. IfSome (slice_get events.now fault.index)
+            (λ event. IsFaultOf (step_of C.core self.new event) fault.fault)) }
         ensures exclusive { IsExclusive self.new.trace }
         ensures numbered { IsNumbered self.new.trace }
         ensures serial { IsSerial self.new.trace }
@@ -173,8 +175,10 @@ impl<C: Exclusion> Cluster<C> {
     pub fn member(&self, node: NodeId) -> Option<&Member<C>>
         ensures value { MatchOption result (slice_get self.now.members node ≡ None)
             (λ member. slice_get self.now.members node ≡ Some member.now) }
-        ensures journal { IfSome result (λ member. IsJournalOf (journal_of self.now.trace) member.now.journal) }
-        ensures in_order { IfSome result (λ member. ShowsInOrder self.now.trace member.now.journal) }
+        ensures journal { IfSome result (λ member.
+            IsJournalOf (journal_of self.now.trace) member.now.journal) }
+        ensures in_order { IfSome result
+            (λ member. ShowsInOrder self.now.trace member.now.journal) }
     {
         self.members.get(node.get() as usize)
     }

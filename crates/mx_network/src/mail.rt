@@ -81,7 +81,8 @@ impl<C: Exclusion> Mail<C> {
         }
     }
 
-    /// Sends the parcels of a member, and empties its outbox. There is room for as many as that takes.
+    /// Sends the parcels of a member, and empties its outbox. There is room for as many as that
+    /// takes.
     pub(crate) fn send_all(&mut self, from: NodeId, out: &mut Outbox<Parcel<C::Msg>>)
         requires { OUTBOX_ROOM ≤ self.old.room }
         ensures sent { self.new.sent ≡ self.old.sent ++ sent_by from out.old }

@@ -91,7 +91,8 @@ pub(crate) fn start_members<C: Exclusion>(
     requires some { 0 < registers }
     requires few { registers ≤ MOST_REGISTERS }
     ensures members { IfOk result (λ members. members.items
-        ≡ each_below (λ i. start_of C.core shape.now i origin limit registers) (C.core.count shape.now)) }
+        ≡ each_below (λ i. start_of C.core shape.now i origin limit registers)
+        (C.core.count shape.now)) }
     ensures valid { C.IsShape shape.now }
     ensures in_range { origin < 2 ^ 64 }
 {

@@ -26,8 +26,8 @@ picture_app =
 unfoldable pub picture_line : App
 picture_line = line_with picture_app
 
--- the names of the plan and of the events; from which event to which, and of which node alone, they are
--- to be drawn; whether what journals have is to be shown
+-- the names of the plan and of the events; from which event to which, and of which node alone, they
+-- are to be drawn; whether what journals have is to be shown
 pub record Request : Type 0 where
   pub names : Text × Text
   pub from : ℕ

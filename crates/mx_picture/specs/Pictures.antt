@@ -30,11 +30,12 @@ EndsAsReplay takes_all told request ended =
     RanOf takes_all None None told (wants.replay request.names) ended
     ⊎ LacksNode request.node ended
 
--- a picture is printed whole and passed on, status 0, where a replay comes to its end and there is such a
--- node; else the line of the replay's fault or that of the node is told, status 1, or memory ran out, or an
--- output refused
+-- a picture is printed whole and passed on, status 0, where a replay comes to its end and there is
+-- such a node; else the line of the replay's fault or that of the node is told, status 1, or memory
+-- ran out, or an output refused
 abbrev pub Pictures : Bool → Bool → (Text → Option Telling) → Request → Seen → Seen → ℕ → Type 0
 Pictures takes_out takes_err told request old new status =
-    (ended : Result ℕ Stop) × EndsAsReplay takes_out told request ended × Draws old.out new.out ended
+    (ended : Result ℕ Stop) × EndsAsReplay takes_out told request ended
+    × Draws old.out new.out ended
     × Closes (takes_out && takes_err) request.names ended old.err new.err status
     × (status ≡ 0 → new.kept_back ≡ false)

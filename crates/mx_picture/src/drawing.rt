@@ -118,8 +118,8 @@ where
     Ok(())
 }
 
-/// The newest event, of this index, and the parcels from `before` on, which it sent: in a row of its own,
-/// if it is shown.
+/// The newest event, of this index, and the parcels from `before` on, which it sent: in a row of
+/// its own, if it is shown.
 fn draw_row<C: Exclusion>(
     plan: &Plan,
     index: u64,
@@ -220,8 +220,8 @@ pub(crate) fn tell_journal<C: Exclusion>(
     }
 }
 
-/// Where an act of this node is told, which sent the parcels from `before` on: at the left where all of
-/// them go to the right, so that no arrow runs under the text.
+/// Where an act of this node is told, which sent the parcels from `before` on: at the left where
+/// all of them go to the right, so that no arrow runs under the text.
 fn spot_of_act<C: Exclusion>(cluster: &Cluster<C>, node: NodeId, before: u64) -> Spot {
     let mut to_left = false;
     let mut to_right = false;
@@ -260,8 +260,8 @@ fn tell_section(outcome: &Outcome, drawing: &mut Drawing) -> Result<(), AllocErr
     }
 }
 
-/// What came of an act at its node: another phase, or a dot. The number of a section that it entered is in
-/// place of the dot.
+/// What came of an act at its node: another phase, or a dot. The number of a section that it
+/// entered is in place of the dot.
 fn draw_outcome(node: NodeId, outcome: &Outcome, sheet: &mut Sheet) -> Result<(), AllocError> {
     match phase_after(outcome) {
         Some(Phase::Inside(number)) => sheet.enter(node, number),

@@ -1,7 +1,8 @@
 //! What is the same in each picture: its styles and its legend.
 
-/// The styles, in colours of Okabe and Ito, which the colour-blind can tell; and the tips of arrows.
-/// Arrows differ in their width and their tips too, so that they can be told without colours.
+/// The styles, in colours of Okabe and Ito, which the colour-blind can tell; and the tips of
+/// arrows. Arrows differ in their width and their tips too, so that they can be told without
+/// colours.
 pub(crate) const STYLES: &str = "<style>
 text{font:12px Helvetica,Arial,sans-serif;stroke:#fff;stroke-width:3px;stroke-linejoin:round;paint-order:stroke}
 path{fill:none;stroke-width:1.4px}

@@ -29,7 +29,8 @@ const NAME: u64 = 100;
 /// How far texts are from their nodes, and from the edge of the page.
 const MARGIN: u64 = 40;
 
-/// The page, which has room for all texts. The line of the first node is `left` pixels from its edge.
+/// The page, which has room for all texts. The line of the first node is `left` pixels from its
+/// edge.
 #[derive(Clone, Copy)]
 struct Frame {
     left: u64,
@@ -161,8 +162,8 @@ fn add_head(frame: &Frame, text: &mut String) -> Result<(), AllocError> {
     text.push_str("</g>\n</g>\n")
 }
 
-/// Appends what the picture shows: the algorithm, how many nodes there are and how many sections were
-/// entered, and which part of the events it is.
+/// Appends what the picture shows: the algorithm, how many nodes there are and how many sections
+/// were entered, and which part of the events it is.
 fn add_heading(
     plan: &Plan,
     part: &Part,

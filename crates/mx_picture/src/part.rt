@@ -2,7 +2,8 @@
 
 use mx_stamps::NodeId;
 
-/// The events from one index to another, of all nodes or of one, and whether journals are shown too.
+/// The events from one index to another, of all nodes or of one, and whether journals are shown
+/// too.
 #[derive(Clone, Copy)]
 pub(crate) struct Part {
     pub(crate) from: u64,

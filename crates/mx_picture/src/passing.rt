@@ -24,8 +24,8 @@ pub(crate) fn happening_of(event: &Event) -> Happening {
     }
 }
 
-/// Whether the newest event is shown: it is of a node that is shown, or it sends or delivers a parcel
-/// from or to such a node.
+/// Whether the newest event is shown: it is of a node that is shown, or it sends or delivers a
+/// parcel from or to such a node.
 pub(crate) fn is_shown<C: Exclusion>(
     index: u64,
     before: u64,
@@ -51,8 +51,8 @@ pub(crate) fn concerns<C: Exclusion>(cluster: &Cluster<C>, number: u64, part: &P
     }
 }
 
-/// The newest event, of this index, which is not shown, and the parcels from `before` on, which it sent.
-/// Behind the part that is drawn no phase changes any more.
+/// The newest event, of this index, which is not shown, and the parcels from `before` on, which it
+/// sent. Behind the part that is drawn no phase changes any more.
 pub(crate) fn pass_over<C: Exclusion>(
     index: u64,
     before: u64,

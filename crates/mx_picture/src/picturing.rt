@@ -12,10 +12,10 @@ use mx_cli::{close, refuse};
 use mx_io::{Output, Source};
 use std::alloc::Global;
 
-/// Runs the words of a command line of which `picture` is the first, without the program's name: reads a
-/// plan and its events, and prints a picture of what comes of them. Returns the status: 0 where all went
-/// well, or help was asked for, 1 where the plan, its events, a file or an output is at fault, 2 where the
-/// words are not those of `picture`, 5 where memory ran out.
+/// Runs the words of a command line of which `picture` is the first, without the program's name:
+/// reads a plan and its events, and prints a picture of what comes of them. Returns the status: 0
+/// where all went well, or help was asked for, 1 where the plan, its events, a file or an output is
+/// at fault, 2 where the words are not those of `picture`, 5 where memory ran out.
 pub fn picture<S: Source, O: Output, E: Output>(
     alloc: Global,
     words: &[&str],

@@ -20,7 +20,8 @@ use mx_plan::{Place, Plan, PlanFault, read_events};
 use mx_stamps::NodeId;
 use std::alloc::{AllocError, Global};
 
-/// Reads the plan, then the events, and prints a picture of the part that is asked for. Returns the status.
+/// Reads the plan, then the events, and prints a picture of the part that is asked for. Returns the
+/// status.
 pub(crate) fn draw<S: Source, O: Output>(
     alloc: Global,
     request: &Request<'_>,

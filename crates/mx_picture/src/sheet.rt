@@ -176,8 +176,8 @@ impl Sheet {
         Ok(())
     }
 
-    /// The end of a parcel, sent by the present event, that is never delivered: in the air, in the next
-    /// row, and a text beside it.
+    /// The end of a parcel, sent by the present event, that is never delivered: in the air, in the
+    /// next row, and a text beside it.
     pub(crate) fn lose_below(
         &mut self,
         from: NodeId,
@@ -254,8 +254,8 @@ impl Sheet {
         )
     }
 
-    /// A parcel is delivered in a row that is not shown. Where it was sent in one that is, its arrow
-    /// begins there.
+    /// A parcel is delivered in a row that is not shown. Where it was sent in one that is, its
+    /// arrow begins there.
     pub(crate) fn go_out(
         &mut self,
         number: u64,

@@ -13,8 +13,8 @@ use mx_cli::{
 };
 use std::alloc::{AllocError, Global};
 
-/// What is to be drawn: of which plan and events, from which event to which, of which node alone, and
-/// whether with what journals have.
+/// What is to be drawn: of which plan and events, from which event to which, of which node alone,
+/// and whether with what journals have.
 #[derive(Clone, Copy)]
 pub(crate) struct Request<'a> {
     pub(crate) names: Names<'a>,
@@ -36,8 +36,8 @@ fn picture_command<'a>(alloc: Global) -> Result<Command<'a>, AllocError>
     with_node.arg(flag_arg(alloc, "journals", help::JOURNALS))
 }
 
-/// What picture the words, of which `picture` is the first, ask for. Their faults are those of `clap`, and
-/// words that ask for help come as such a fault too, with the text to show.
+/// What picture the words, of which `picture` is the first, ask for. Their faults are those of
+/// `clap`, and words that ask for help come as such a fault too, with the text to show.
 pub(crate) fn asked<'a>(alloc: Global, words: &'a [&'a str]) -> Result<Option<Request<'a>>, Error>
     ensures { Asks request_of picture_line (texts_of words.entry.now)
         (request_asked (texts_of words.entry.now)) result }

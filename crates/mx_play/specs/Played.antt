@@ -22,8 +22,8 @@ IsPlayedBy p old new (Maekawa family) =
 IsPlayedBy p old new (Raymond tree) =
     IsPlayed raymond_core (λ _. raymond_text) p tree old new
 
--- what a source tells of the plan; where its name is that of standard input, the plan is the first of the lines that
--- come, of which nothing is told
+-- what a source tells of the plan; where its name is that of standard input, the plan is the first
+-- of the lines that come, of which nothing is told
 abbrev pub told_of_plan : (Text → Option Telling) → Text → Option Telling
 told_of_plan told name = if is_dash name then None else told name
 

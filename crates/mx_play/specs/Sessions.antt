@@ -21,8 +21,8 @@ use Rattle.mx_play.specs.Moments.{Brings, Leads, Makes, MomentState, first_momen
 use Rattle.mx_play.specs.declared.happening.Happening.{Happening}
 use Rattle.mx_play.specs.declared.happening.Happening.TheVariants.{Happens, IsLost}
 
--- the cluster and its parcels as they are now; what happened, in order; and for each line that was done, the oldest
--- first, how much had happened before it
+-- the cluster and its parcels as they are now; what happened, in order; and for each line that was
+-- done, the oldest first, how much had happened before it
 pub record SessionState (S M : Type 0) : Type 0 where
   pub now : MomentState S M
   pub done : List Happening
@@ -41,7 +41,8 @@ events_in [] = []
 events_in (Happens e ∷ hs) = e ∷ events_in hs
 events_in (IsLost k ∷ hs) = events_in hs
 
--- the cluster and its parcels are those to which what happened leads, and the cluster has the nodes of the plan
+-- the cluster and its parcels are those to which what happened leads, and the cluster has the nodes
+-- of the plan
 pub record IsSession {H S M : Type 0} (core : Core H S M) (p : Fields) (shape : H)
     (s : SessionState S M) : Type 0 where
   pub leads : Leads core (first_moment core p shape) s.done s.now
@@ -101,8 +102,8 @@ module _ {H S M : Type 0} (core : Core H S M) (letter_text : Fields → M → Te
     pub done : new.done ≡ old.done ++ more
     pub marks : new.marks ≡ old.marks ++ length old.done ∷ []
 
-  -- the last `count` lines never happened: what is left is what had happened before them, and the cluster and its
-  -- parcels are those to which that leads
+  -- the last `count` lines never happened: what is left is what had happened before them, and the
+  -- cluster and its parcels are those to which that leads
   pub record IsTakenBack (shape : H) (count : ℕ) (old new : SessionState S M) (text : Text)
       : Type 0 where
     pub few : count ≤ length old.marks
@@ -117,8 +118,9 @@ module _ {H S M : Type 0} (core : Core H S M) (letter_text : Fields → M → Te
     pub same : new ≡ old
     pub printed : text ≡ what
 
--- what a line comes to: a line of a script is done; the last lines are taken back; all nodes or one are shown; the
--- events are shown as a file; the words are shown; or nothing is done, as of a line that is empty or at fault
+-- what a line comes to: a line of a script is done; the last lines are taken back; all nodes or one
+-- are shown; the events are shown as a file; the words are shown; or nothing is done, as of a line
+-- that is empty or at fault
 pub data Turn : Type 0 where
   does : Turn
   takes_back : ℕ → Turn
@@ -156,8 +158,8 @@ module _ {H S M : Type 0} (core : Core H S M) (letter_text : Fields → M → Te
     pub talks : Talks old turns new text
     pub printed : Appends out out' text
 
-  -- a whole session: some turns from the start, and then the closing lines of the cluster to which the events lead
-  -- that are left
+  -- a whole session: some turns from the start, and then the closing lines of the cluster to which
+  -- the events lead that are left
   pub record IsPlayed (out out' : Held) : Type 0 where
     pub turns : List Turn
     pub last : SessionState S M

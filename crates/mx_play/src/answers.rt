@@ -19,8 +19,8 @@ use mx_scripts::{Line, LineFault};
 use mx_texts::Letter;
 use std::alloc::{AllocError, Global};
 
-/// Does what a line asks for, and adds what is printed of it. Where it can't be done, nothing changes,
-/// and nothing is printed.
+/// Does what a line asks for, and adds what is printed of it. Where it can't be done, nothing
+/// changes, and nothing is printed.
 pub(crate) fn answer<C: Exclusion>(
     alloc: Global,
     plan: &Plan,
@@ -37,7 +37,8 @@ where
     requires empty { string_bytes text.old ≡ [] }
     ensures turned { IfOk result (λ _. HasTurned C.core C.Msg.letter_text plan.now shape.now
         (state session.old.moment session.old.done.items session.old.marks.items)
-        (state session.new.moment session.new.done.items session.new.marks.items) (string_bytes text.new)) }
+        (state session.new.moment session.new.done.items session.new.marks.items)
+        (string_bytes text.new)) }
     ensures is { IfOk result (λ _. IsSession C.core plan.now shape.now
         (state session.new.moment session.new.done.items session.new.marks.items)) }
 {
@@ -78,10 +79,12 @@ where
     ensures turned { IfOk result (λ fault. MatchOption fault
         (Comes C.core C.Msg.letter_text plan.now shape.now turn.does
         (state session.old.moment session.old.done.items session.old.marks.items)
-        (state session.new.moment session.new.done.items session.new.marks.items) (string_bytes text.new))
+        (state session.new.moment session.new.done.items session.new.marks.items)
+        (string_bytes text.new))
         (λ _. Comes C.core C.Msg.letter_text plan.now shape.now turn.rests
         (state session.old.moment session.old.done.items session.old.marks.items)
-        (state session.new.moment session.new.done.items session.new.marks.items) (string_bytes text.new))) }
+        (state session.new.moment session.new.done.items session.new.marks.items)
+        (string_bytes text.new))) }
     ensures is { IfOk result (λ _. IsSession C.core plan.now shape.now
         (state session.new.moment session.new.done.items session.new.marks.items)) }
 {
@@ -165,7 +168,8 @@ fn take_to<C: Exclusion>(
     )
 }
 
-/// How much had happened before the line of this number, counted from 0; or all, where there is none.
+/// How much had happened before the line of this number, counted from 0; or all, where there is
+/// none.
 fn mark_at(marks: &[usize], line: usize, all: usize) -> usize
     ensures { result ≡ slice_index_or marks.now line all }
 {

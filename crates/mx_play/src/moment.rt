@@ -89,9 +89,11 @@ impl<C: Exclusion> Moment<C> {
     where
         C::Msg: Letter,
         requires { NamesNodes (length self.old.cluster.members) event.now }
-        ensures brings { OnOk result (Brings C.core self.old (Happening.Happens event.now) self.new) }
+        ensures brings { OnOk result
+            (Brings C.core self.old (Happening.Happens event.now) self.new) }
         ensures text { OnOk result (string_bytes text.new ≡ string_bytes text.old
-            ++ shown C.core C.Msg.letter_text plan.now self.old (Happening.Happens event.now) self.new) }
+            ++ shown C.core C.Msg.letter_text plan.now self.old
+            (Happening.Happens event.now) self.new) }
     {
         add_event(alloc, plan, event, &mut self.cluster, text)?;
         self.mail.note(event, &self.cluster)?;

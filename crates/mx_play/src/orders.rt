@@ -15,8 +15,8 @@ use mx_stamps::{MOST_EVENTS, NodeId};
 use mx_texts::Letter;
 use std::alloc::Global;
 
-/// What a line asks for, as often as it asks. What happened joins the list, and the texts of the events
-/// are added.
+/// What a line asks for, as often as it asks. What happened joins the list, and the texts of the
+/// events are added.
 pub(crate) fn repeat<C: Exclusion>(
     alloc: Global,
     plan: &Plan,

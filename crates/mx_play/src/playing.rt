@@ -17,8 +17,8 @@ use mx_ricart::Ricart;
 use mx_texts::Letter;
 use std::alloc::Global;
 
-/// Plays a session by the plan's algorithm: the lines of a script, and then those that come. Returns the
-/// status.
+/// Plays a session by the plan's algorithm: the lines of a script, and then those that come.
+/// Returns the status.
 pub(crate) fn play_by<L: Lines, O: Output, E: Output>(
     alloc: Global,
     plan: &Plan,

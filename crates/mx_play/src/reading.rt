@@ -52,8 +52,8 @@ impl Lines for Listed<'_> {
     }
 }
 
-/// The lines that are typed, or come through a pipe. What is there is read, and nothing more is waited for
-/// than the end of the line that is asked for.
+/// The lines that are typed, or come through a pipe. What is there is read, and nothing more is
+/// waited for than the end of the line that is asked for.
 #[derive(Drop)]
 pub struct Typed<R: Read + Drop> {
     reader: R,

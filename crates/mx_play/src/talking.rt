@@ -28,8 +28,8 @@ pub(crate) enum Heard {
     Silence,
 }
 
-/// The lines are answered, the first of which has this number, until there are no more, or one ends the
-/// session. Returns the number of the next line, where the session may go on.
+/// The lines are answered, the first of which has this number, until there are no more, or one ends
+/// the session. Returns the number of the next line, where the session may go on.
 pub(crate) fn talk<C: Exclusion, L: Lines, O: Output, E: Output>(
     alloc: Global,
     plan: &Plan,
@@ -63,8 +63,8 @@ where
     Ok(None)
 }
 
-/// Reads the line of this number, which is put in the place of the one before, answers it, and tells what
-/// is wrong with it. Returns what was heard.
+/// Reads the line of this number, which is put in the place of the one before, answers it, and
+/// tells what is wrong with it. Returns what was heard.
 fn turn<C: Exclusion, L: Lines, O: Output, E: Output>(
     alloc: Global,
     plan: &Plan,
@@ -179,7 +179,8 @@ where
     requires empty { string_bytes text.old ≡ [] }
     ensures turned { IfOk result (λ _. HasTurned C.core C.Msg.letter_text plan.now shape.now
         (state session.old.moment session.old.done.items session.old.marks.items)
-        (state session.new.moment session.new.done.items session.new.marks.items) (string_bytes text.new)) }
+        (state session.new.moment session.new.done.items session.new.marks.items)
+        (string_bytes text.new)) }
     ensures is { IfOk result (λ _. IsSession C.core plan.now shape.now
         (state session.new.moment session.new.done.items session.new.marks.items)) }
 {

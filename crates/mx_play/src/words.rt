@@ -50,8 +50,8 @@ fn play_line<'a>(alloc: Global) -> Result<Command<'a>, AllocError>
     line_of(alloc, play_command(alloc)?)
 }
 
-/// What the words, of which `play` is the first, ask to play. Their faults are those of `clap`, and words
-/// that ask for help come as such a fault too, with the text to show.
+/// What the words, of which `play` is the first, ask to play. Their faults are those of `clap`, and
+/// words that ask for help come as such a fault too, with the text to show.
 pub(crate) fn asked<'a>(alloc: Global, words: &'a [&'a str]) -> Result<Option<Request<'a>>, Error>
     ensures { Asks request_of play_line (texts_of words.entry.now)
         (request_asked (texts_of words.entry.now)) result }

@@ -20,7 +20,8 @@ use std::process::ExitCode;
 use std::rt::{Clock, Env, Files};
 use std::thread::Threads;
 
-/// Runs a command line over the files and threads of the process and two outputs. Returns the status.
+/// Runs a command line over the files and threads of the process and two outputs. Returns the
+/// status.
 fn carry_out<R: Files + Clock + Input + AllocGlobal + Threads, O: Output, E: Output>(
     rt: &R,
     words: &[&str],

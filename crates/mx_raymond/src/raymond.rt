@@ -59,9 +59,39 @@ impl Model for Raymond {
 
     ghost Value = { Node };
 
-    ghost view = { λ r. record { me = r.me; tree = r.tree; limit = r.limit; phase = r.phase; holder = r.holder; queue = r.queue; has_asked = r.has_asked; hop = r.hop; unacked = r.unacked; asks = r.asks; sent = r.sent; heard = r.heard; top = r.top; mine = r.mine } };
+    ghost view = { λ r. record {
+      me = r.me;
+      tree = r.tree;
+      limit = r.limit;
+      phase = r.phase;
+      holder = r.holder;
+      queue = r.queue;
+      has_asked = r.has_asked;
+      hop = r.hop;
+      unacked = r.unacked;
+      asks = r.asks;
+      sent = r.sent;
+      heard = r.heard;
+      top = r.top;
+      mine = r.mine;
+    } };
 
-    ghost invariant = { λ r. IsState (record { me = r.me; tree = r.tree; limit = r.limit; phase = r.phase; holder = r.holder; queue = r.queue; has_asked = r.has_asked; hop = r.hop; unacked = r.unacked; asks = r.asks; sent = r.sent; heard = r.heard; top = r.top; mine = r.mine }) };
+    ghost invariant = { λ r. IsState (record {
+      me = r.me;
+      tree = r.tree;
+      limit = r.limit;
+      phase = r.phase;
+      holder = r.holder;
+      queue = r.queue;
+      has_asked = r.has_asked;
+      hop = r.hop;
+      unacked = r.unacked;
+      asks = r.asks;
+      sent = r.sent;
+      heard = r.heard;
+      top = r.top;
+      mine = r.mine;
+    }) };
 }
 
 impl Raymond {

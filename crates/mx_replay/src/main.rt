@@ -1,5 +1,5 @@
-//! `mx` with the commands `check`, `replay` and `explore` alone, which needs fewer crates than the whole
-//! program: it hands the words, the files and the streams of the process to `command`.
+//! `mx` with the commands `check`, `replay` and `explore` alone, which needs fewer crates than the
+//! whole program: it hands the words, the files and the streams of the process to `command`.
 #![tactic(auto)]
 
 use mx_commands::command;

@@ -50,7 +50,18 @@ impl Model for Ricart {
 
     ghost Value = { Node };
 
-    ghost view = { λ r. record { me = r.me; count = r.count; limit = r.limit; phase = r.phase; highest = r.highest; ours = r.ours; got = r.got; deferred = r.deferred; top = r.top; mine = r.mine } };
+    ghost view = { λ r. record {
+      me = r.me;
+      count = r.count;
+      limit = r.limit;
+      phase = r.phase;
+      highest = r.highest;
+      ours = r.ours;
+      got = r.got;
+      deferred = r.deferred;
+      top = r.top;
+      mine = r.mine;
+    } };
 
     ghost invariant = { λ r. (r.mine ≤ MOST_SECTIONS) × (r.limit ≤ MOST_SECTIONS)
         × BearsNumber r.phase };

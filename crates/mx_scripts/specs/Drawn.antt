@@ -14,7 +14,8 @@ use Rattle.mx_commands.specs.Runs.{at_rest}
 use Rattle.mx_scripts.specs.Files.{file_text}
 use Rattle.mx_scripts.specs.Played.{events_of}
 
--- what happens of a schedule in the cluster of a plan: each drawn event at its place among the parcels sent
+-- what happens of a schedule in the cluster of a plan: each drawn event at its place among the
+-- parcels sent
 abbrev pub placed_in : Fields → List Event → Shape → List Event
 placed_in p es (Ricart count) =
     events_of (after_drawn ricart_core (at_rest ricart_core p count) es).trace

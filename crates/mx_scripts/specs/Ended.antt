@@ -14,13 +14,14 @@ use Rattle.mx_scripts.specs.declared.halts.Halt.TheVariants as halt
 use Rattle.mx_scripts.specs.Played.{IsEventFile}
 use Rattle.mx_scripts.specs.Scripts.{script_line}
 
--- why there is no file of the events of a script: plan or script can't be read, or memory ran out; or the plan was read, and
--- a line is refused
+-- why there is no file of the events of a script: plan or script can't be read, or memory ran out;
+-- or the plan was read, and a line is refused
 abbrev pub IsHalt : (Text → Option Telling) → Text × Text → Halt → Type 0
 IsHalt told names (halt.Stop end) = (end ≡ stop.Memory) ⊎ IsUnread told names end
 IsHalt told names (halt.AtLine line) = (p : Fields) × IsPlanOf (plan_told told names) p
 
--- the text is the file of a script's events over the names of the plan, which can happen in its cluster
+-- the text is the file of a script's events over the names of the plan, which can happen in its
+-- cluster
 abbrev pub IsFileOfNames : (Text → Option Telling) → Text × Text → Text → Type 0
 IsFileOfNames told names text =
     (p : Fields) × IsPlanOf (plan_told told names) p × IsEventFile p text p.shape
@@ -30,7 +31,8 @@ abbrev pub IsLineHalt : Halt → Type 0
 IsLineHalt (halt.Stop end) = end ≡ stop.Memory
 IsLineHalt (halt.AtLine line) = ⊤
 
--- why a text was not printed: memory ran out, or the output refused, which one that takes all bytes never does
+-- why a text was not printed: memory ran out, or the output refused, which one that takes all bytes
+-- never does
 abbrev pub IsPrintHalt : Bool → Halt → Type 0
 IsPrintHalt takes_all h =
     (h ≡ halt.Stop stop.Memory) ⊎ ((h ≡ halt.Stop stop.Writer) × (takes_all ≡ false))
@@ -44,17 +46,20 @@ abbrev pub EndsScript : Bool → (Text → Option Telling) → Text × Text → 
 EndsScript takes_all told names (Ok status) = (status ≡ 0) × HasFile told names
 EndsScript takes_all told names (Err h) = IsHalt told names h ⊎ IsPrintHalt takes_all h
 
--- that is told: as of any run; or the line of the fault of a line is told, status 1, or memory ran out, or an output
--- refused
+-- that is told: as of any run; or the line of the fault of a line is told, status 1, or memory ran
+-- out, or an output refused
 abbrev pub ClosesScript : Bool → Text × Text → Result ℕ Halt → Held → Held → ℕ → Type 0
-ClosesScript takes_all names (Ok own) old new status = Closes takes_all names (Ok own) old new status
+ClosesScript takes_all names (Ok own) old new status =
+    Closes takes_all names (Ok own) old new status
 ClosesScript takes_all names (Err (halt.Stop end)) old new status =
     Closes takes_all names (Err end) old new status
 ClosesScript takes_all names (Err (halt.AtLine line)) old new status =
-    TellsFault takes_all (script_line line.number line.fault (string_bytes line.told)) old new status
+    TellsFault takes_all (script_line line.number line.fault
+    (string_bytes line.told)) old new status
 
 -- the status of a script of these names, and what standard error gets
-abbrev pub ScriptsOf : Bool → Bool → (Text → Option Telling) → Text × Text → Held → Held → ℕ → Type 0
+abbrev pub ScriptsOf : Bool → Bool → (Text → Option Telling) → Text × Text → Held → Held → ℕ
+    → Type 0
 ScriptsOf takes_out takes_err told names old new status =
     (ended : Result ℕ Halt) × EndsScript takes_out told names ended
     × ClosesScript (takes_out && takes_err) names ended old new status

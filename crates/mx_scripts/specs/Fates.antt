@@ -3,7 +3,8 @@ use Rattle.std.specs.Prelude.{ℕ, ◌+◌, ◌-◌, ◌*◌, Bool, true, false,
 use Rattle.mx_events.specs.declared.event.Event.{Event}
 use Rattle.mx_events.specs.declared.event.Event.TheVariants.{Deliver}
 
--- of each parcel that was sent, whether it is under way no more; of each link, the parcel that was delivered last
+-- of each parcel that was sent, whether it is under way no more; of each link, the parcel that was
+-- delivered last
 pub record Fates : Type 0 where
   pub gone : List Bool
   pub last : List (Option ℕ)

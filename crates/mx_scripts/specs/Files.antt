@@ -21,7 +21,8 @@ abbrev pub items_text : Fields → Event → Text
 items_text p (Ask node) = of_node (word_of kind.Ask) (name_of p node)
 items_text p (Enter node) = of_node (word_of kind.Enter) (name_of p node)
 items_text p (Read node register) =
-    of_node (word_of kind.Read) (name_of p node) ++ codes "," ++ quoted (register_name_of p register)
+    of_node (word_of kind.Read) (name_of p node) ++ codes ","
+    ++ quoted (register_name_of p register)
 items_text p (Write node register value) =
     of_node (word_of kind.Write) (name_of p node)
     ++ codes "," ++ quoted (register_name_of p register) ++ codes "," ++ decimal value

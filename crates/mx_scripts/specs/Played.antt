@@ -37,8 +37,8 @@ Plays {H} {S} {M} core nodes registers old new =
     (start : ClusterState S M) → IsPlayed core nodes registers start old
     → IsPlayed core nodes registers start new
 
--- the text is a file of events over the names of the plan that lead from the start to some cluster: each parcel that is
--- delivered was sent
+-- the text is a file of events over the names of the plan that lead from the start to some cluster:
+-- each parcel that is delivered was sent
 pub record IsFileOf {H S M : Type 0} (core : Core H S M) (p : Fields) (start : ClusterState S M)
     (text : Text) : Type 0 where
   pub events : List Event

@@ -40,8 +40,8 @@ HasDone told request old new =
 abbrev pub draw_job : (Text → Option Telling) → Text → ℕ → ℕ → Option Job
 draw_job told name seed steps = option_map (on_plan (λ p. drawn_file p seed steps)) (told name)
 
--- that was done: the file was printed whole, status 0; or the line of the plan's fault was told, status 1; or memory ran
--- out, or an output refused
+-- that was done: the file was printed whole, status 0; or the line of the plan's fault was told,
+-- status 1; or memory ran out, or an output refused
 abbrev pub DrawsPlan : Bool → Bool → Text → Option Job → Held → Held → Held → Held → ℕ → Type 0
 DrawsPlan takes_out takes_err name job out out' err err' status =
     (ended : Result ℕ Stop) × IfSome job (λ j. RanOn takes_out out out' j ended)

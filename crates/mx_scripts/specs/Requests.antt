@@ -2,7 +2,8 @@
 use Rattle.std.specs.Prelude.{ℕ}
 use Rattle.mx_plan.specs.Text.{Text}
 
--- of a plan, a seed and a number of steps: what `explore` does; a walk. Of a plan: what a script says
+-- of a plan, a seed and a number of steps: what `explore` does; a walk. Of a plan: what a script
+-- says
 pub data Request : Type 0 where
   draw : Text → ℕ → ℕ → Request
   walk : Text → ℕ → ℕ → Request

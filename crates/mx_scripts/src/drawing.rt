@@ -22,9 +22,9 @@ use mx_plan::Plan;
 use mx_stamps::MOST_EVENTS;
 use std::alloc::{AllocError, Global};
 
-/// Prints the file of the events that `explore` does from a seed: the schedule of this many steps, each
-/// delivery at its place among the parcels sent, and without the deliveries before any was sent. A
-/// replay of that file does the same to the cluster. Returns the status.
+/// Prints the file of the events that `explore` does from a seed: the schedule of this many steps,
+/// each delivery at its place among the parcels sent, and without the deliveries before any was
+/// sent. A replay of that file does the same to the cluster. Returns the status.
 pub(crate) fn draw_schedule<O: Output>(
     alloc: Global,
     plan: &Plan,
@@ -44,8 +44,8 @@ pub(crate) fn draw_schedule<O: Output>(
     print(text.as_bytes(), out)
 }
 
-/// A replay of the file of a seed reads the placed schedule, and that leads to the very cluster that
-/// `explore` judges: the same members, parcels and trace. There is nothing to do.
+/// A replay of the file of a seed reads the placed schedule, and that leads to the very cluster
+/// that `explore` judges: the same members, parcels and trace. There is nothing to do.
 pub fn replays_as_explored(plan: &Plan, seed: u64, steps: u64)
     ensures reads { IsPlan plan.now → steps ≤ MOST_EVENTS
         → parcels_in plan.now (schedule_of plan.now seed steps) plan.now.shape ≤ 2 ^ 64

@@ -34,8 +34,8 @@ pub fn file_of_names<S: Source>(
     }
 }
 
-/// The file of the events that the bytes of a script ask for. Where no line is refused, only memory can be
-/// at fault.
+/// The file of the events that the bytes of a script ask for. Where no line is refused, only memory
+/// can be at fault.
 fn file_of_bytes(alloc: Global, plan: &Plan, script: &[u8]) -> Result<String, Halt>
     ensures ok { IfOk result (λ text. IsEventFile plan.now (string_bytes text) plan.now.shape) }
     ensures err { IfErr result IsLineHalt }
@@ -53,8 +53,8 @@ fn file_of_text(alloc: Global, plan: &Plan, script: &[u8]) -> Result<String, Hal
     script_file(alloc, plan, text_in(alloc, script)?)
 }
 
-/// Passes on what the output kept back, tells why there is no file where there is none, and returns the
-/// status: that of the end, 1 after a fault or where an output refused, 5 where memory ran out.
+/// Passes on what the output kept back, tells why there is no file where there is none, and returns
+/// the status: that of the end, 1 after a fault or where an output refused, 5 where memory ran out.
 pub fn close_script<O: Output, E: Output>(
     alloc: Global,
     ended: Result<u8, Halt>,

@@ -91,7 +91,8 @@ impl fmt::Display for LineFault {
     }
 }
 
-/// A line of a script that is refused: its number, counted from 1, why, and what is told of its words.
+/// A line of a script that is refused: its number, counted from 1, why, and what is told of its
+/// words.
 #[derive(Drop)]
 pub struct BadLine {
     pub number: u64,

@@ -151,7 +151,8 @@ fn print_script<S: Source, O: Output>(
 ) -> Result<u8, Halt>
     ensures done { IfOk result (λ _. HasDone (S.told source.old) (wants.script (names_of names.now))
         (O.written out.old) (O.written out.new)) }
-    ensures ends { EndsScript (O.takes_all out.old) (S.told source.old) (names_of names.now) result }
+    ensures ends { EndsScript (O.takes_all out.old) (S.told source.old)
+        (names_of names.now) result }
     ensures zero { IfOk result (λ status. status ≡ 0) }
     ensures stays { O.takes_all out.new ≡ O.takes_all out.old }
 {

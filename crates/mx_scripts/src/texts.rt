@@ -5,7 +5,8 @@ use crate::line_faults::{BadLine, LineFault};
 use std::alloc::Global;
 use std::str;
 
-/// The text that bytes are. Where they are not in UTF-8, the line of the first that is not is at fault.
+/// The text that bytes are. Where they are not in UTF-8, the line of the first that is not is at
+/// fault.
 pub(crate) fn text_in(alloc: Global, bytes: &[u8]) -> Result<&str, Halt> {
     match str::from_utf8(bytes) {
         Ok(text) => Ok(text),

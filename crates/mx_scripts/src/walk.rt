@@ -20,8 +20,8 @@ const REPEATS: u32 = 2;
 /// Of the others those below this let any node act.
 const ANYBODY: u32 = 4;
 
-/// Of the others those below this deliver a parcel that is under way, where there is one. In what is left
-/// a node acts that may enter or is inside, where there is one.
+/// Of the others those below this deliver a parcel that is under way, where there is one. In what
+/// is left a node acts that may enter or is inside, where there is one.
 const DELIVERIES: u32 = 52;
 
 /// How many of the newest parcels are repeated.
@@ -56,8 +56,8 @@ impl Walk {
         Ok(())
     }
 
-    /// The event of the next step; none where a parcel is lost, or where the node that would act can but
-    /// wait.
+    /// The event of the next step; none where a parcel is lost, or where the node that would act
+    /// can but wait.
     pub(crate) fn next<C: Exclusion>(&mut self, plan: &Plan, cluster: &Cluster<C>) -> Option<Event>
         ensures { IfSome result (IsDrawn (length plan.now.nodes) (length plan.now.registers)) }
     {
@@ -205,7 +205,8 @@ impl Walk {
     }
 }
 
-/// The first node from this one on, in a ring, that may enter or is inside; this one where there is none.
+/// The first node from this one on, in a ring, that may enter or is inside; this one where there is
+/// none.
 fn ready_or<C: Exclusion>(plan: &Plan, cluster: &Cluster<C>, any: NodeId) -> NodeId
     requires { any < length plan.now.nodes }
     ensures { result < length plan.now.nodes }

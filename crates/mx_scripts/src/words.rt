@@ -51,8 +51,8 @@ fn file_line<'a>(alloc: Global) -> Result<Command<'a>, AllocError>
     line_of(alloc, draw_command(alloc)?)?.subcommand(script_command(alloc)?)
 }
 
-/// What the words, of which `draw` or `script` is the first, ask for. Their faults are those of `clap`,
-/// and words that ask for help come as such a fault too, with the text to show.
+/// What the words, of which `draw` or `script` is the first, ask for. Their faults are those of
+/// `clap`, and words that ask for help come as such a fault too, with the text to show.
 pub(crate) fn asked<'a>(alloc: Global, words: &'a [&'a str]) -> Result<Option<Request<'a>>, Error>
     ensures { Asks request_of file_line (texts_of words.entry.now)
         (request_asked (texts_of words.entry.now)) result }

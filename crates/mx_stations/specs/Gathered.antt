@@ -137,4 +137,5 @@ pub record IsGathered {T P : Type 0} (posts : List (Post T P)) (journal : Journa
       → IsIn x r.reads.items → IsSerialRead (writes_to k (map record_of receipts)) r.writes.items x
   -- and each register of the journal has what the writes of all receipts, in order, leave
   pub shows : (count : ℕ) → count ≤ MOST_REGISTERS
-      → AreApplied (writes_to (length receipts) (map record_of receipts)) (registers_in count journal)
+      → AreApplied (writes_to (length receipts) (map record_of receipts))
+      (registers_in count journal)

@@ -141,8 +141,8 @@ module _ {T P : Type 0} where
       (s.me.hand ≡ None) × ((p : P) × (index : ℕ) × (index < SLOTS) × (t ≡ post s.table s.nodes
       (releasing (Some (from, p)) (taking (slot_from s from index) from p s.me)) s.waiting))
 
-  -- nothing lies there for the empty hand, and nothing changes; from each slot of a link to itself all
-  -- that was placed was taken
+  -- nothing lies there for the empty hand, and nothing changes; from each slot of a link to itself
+  -- all that was placed was taken
   abbrev pub FindsNone : ℕ → Post T P → Post T P → Type 0
   FindsNone from s t =
       (s.me.hand ≡ None) × (t ≡ s)

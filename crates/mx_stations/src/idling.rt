@@ -17,8 +17,9 @@ const FEW_NODES: u8 = 8;
 const MOST_YIELDS: u8 = 4;
 
 /// Lets other threads run where nothing came. Its next turn would tick, which sends again what is
-/// on its way. Where there are more threads than processors, all others have run once by then. Among
-/// few nodes they have not, so that it is patient there, until a parcel lies in a slot for its node.
+/// on its way. Where there are more threads than processors, all others have run once by then.
+/// Among few nodes they have not, so that it is patient there, until a parcel lies in a slot for
+/// its node.
 pub(crate) fn give_way<C: Exclusion>(station: &Station<C>, report: &Result<TurnReport, TakeFault>) {
     let Ok(TurnReport { taken: 0, .. }) = report else {
         return;

@@ -101,7 +101,8 @@ fn seat_all<C: Exclusion>(
     requires few { setup.now.registers ≤ MOST_REGISTERS }
     requires all { seat.me
         ≡ (all_of setup.now.nodes (λ i. fresh i (starts_of C.core setup.now i)), []) }
-    ensures { IfOk result (λ all. AreFresh setup.now.nodes (starts_of C.core setup.now) all.0.items) }
+    ensures { IfOk result (λ all.
+        AreFresh setup.now.nodes (starts_of C.core setup.now) all.0.items) }
 {
     let mut members = start_members(alloc, setup)?;
     let mut all = Vec::new(alloc);

@@ -11,9 +11,9 @@ use crate::working::{Gate, Script, Stance, Worked, is_finished, take_turn};
 use mx_letters::Fates;
 use mx_nodelaws::Exclusion;
 
-/// Works as `work` does, and settles: in a turn in which the station leaves a section, where `every`
-/// divides how many it has left by then, the registers after all sections that its journal covers
-/// without gaps come in place of their records. With 0 it never settles.
+/// Works as `work` does, and settles: in a turn in which the station leaves a section, where
+/// `every` divides how many it has left by then, the registers after all sections that its journal
+/// covers without gaps come in place of their records. With 0 it never settles.
 pub fn work_settling<C: Exclusion, G: Gate, F: Fates + Drop>(
     mut station: Station<C>,
     script: Script,

@@ -66,7 +66,8 @@ fn shown(station: &Station<Ricart>) -> (u64, usize, Option<u64>) {
 }
 
 /// Whether the first of two stations has the section of this number, in which it reads the one
-/// value and writes the other, and settles what it knows, and whether the second then asks it for that.
+/// value and writes the other, and settles what it knows, and whether the second then asks it for
+/// that.
 fn settles(
     one: &mut Station<Ricart>,
     other: &mut Station<Ricart>,

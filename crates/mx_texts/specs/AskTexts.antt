@@ -10,8 +10,8 @@ use Rattle.mx_texts.specs.EventTexts.{name_of}
 use Rattle.mx_texts.specs.Lines.{texts_from}
 use Rattle.mx_texts.specs.PlanTexts.{plan_text}
 
--- node i asks node j: by Ricart and Agrawala's algorithm each other node; by Maekawa's each of its set; by Raymond's, at
--- the start, its neighbour on the way to the holder, which asks nobody
+-- node i asks node j: by Ricart and Agrawala's algorithm each other node; by Maekawa's each of its
+-- set; by Raymond's, at the start, its neighbour on the way to the holder, which asks nobody
 abbrev pub asks_of : Shape → ℕ → ℕ → Bool
 asks_of (Ricart count) i j = not (nat_eq i j)
 asks_of (Maekawa family) i j = has_of family i j

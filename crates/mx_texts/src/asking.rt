@@ -74,7 +74,8 @@ fn asks(plan: &Plan, node: NodeId, other: NodeId) -> bool
 /// Whether a node's way to the holder leads to this neighbour.
 fn leads_to(tree: &Tree, node: NodeId, other: NodeId) -> bool
     requires { node < tree.now.count }
-    ensures { result ≡ (if nat_eq node tree.now.holder then false else nat_eq (toward_of tree.now node) other) }
+    ensures { result ≡ (if nat_eq node tree.now.holder then false
+        else nat_eq (toward_of tree.now node) other) }
 {
     if node.get() == tree.holder().get() {
         return false;

@@ -25,11 +25,22 @@ impl Model for Tree {
 
     ghost Value = { Rooted };
 
-    ghost view = { λ t. record { count = t.nodes; holder = t.holder; rows = t.neighbours; next = t.next } };
+    ghost view = { λ t. record {
+      count = t.nodes;
+      holder = t.holder;
+      rows = t.neighbours;
+      next = t.next;
+    } };
 
-    ghost invariant = { λ t. IsRooted (record { count = t.nodes; holder = t.holder; rows = t.neighbours; next = t.next }) };
+    ghost invariant = { λ t.
+        IsRooted (record { count = t.nodes; holder = t.holder; rows = t.neighbours; next = t.next }) };
 
-    ghost inverse = { λ r. record { nodes = r.count; holder = r.holder; neighbours = r.rows; next = r.next } };
+    ghost inverse = { λ r. record {
+      nodes = r.count;
+      holder = r.holder;
+      neighbours = r.rows;
+      next = r.next;
+    } };
 }
 
 /// The holder as a node, where the nodes, edges and holder are a tree; else the first fault.

@@ -8,8 +8,8 @@ use Rattle.mx_views.specs.declared.words.Request.{Request as Told}
 unfoldable pub view_line : App
 view_line = line_with replay_app
 
--- the names of the plan and of the events; whether the closing lines alone are to be shown, of which node alone, and
--- whether as JSON
+-- the names of the plan and of the events; whether the closing lines alone are to be shown, of
+-- which node alone, and whether as JSON
 pub record Request : Type 0 where
   pub names : Text × Text
   pub is_quiet : Bool

@@ -1,4 +1,5 @@
-//! Members of objects of JSON. No name of a plan, and no word of ours, has a character that JSON escapes.
+//! Members of objects of JSON. No name of a plan, and no word of ours, has a character that JSON
+//! escapes.
 
 use mx_plan::Plan;
 use mx_stamps::NodeId;

@@ -1,4 +1,5 @@
-//! `mx replay` with `--quiet`, `--node` or `--json`: fewer lines, the lines of one node, or lines of JSON.
+//! `mx replay` with `--quiet`, `--node` or `--json`: fewer lines, the lines of one node, or lines
+//! of JSON.
 #![tactic(auto)]
 
 mod closing_lines;

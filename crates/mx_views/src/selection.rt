@@ -6,8 +6,8 @@ use mx_nodelaws::Exclusion;
 use mx_plan::Plan;
 use mx_stamps::NodeId;
 
-/// What is shown of a run of a plan: the closing lines alone or all, the lines of one node or of all, as
-/// texts or as JSON.
+/// What is shown of a run of a plan: the closing lines alone or all, the lines of one node or of
+/// all, as texts or as JSON.
 #[derive(Clone, Copy)]
 pub(crate) struct Selection<'a> {
     pub(crate) plan: &'a Plan,

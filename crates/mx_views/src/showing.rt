@@ -86,8 +86,8 @@ where
     }
 }
 
-/// Appends the line of the newest event, where it is shown, and those of the parcels from `before` on,
-/// which it sent.
+/// Appends the line of the newest event, where it is shown, and those of the parcels from `before`
+/// on, which it sent.
 fn add_newest<C: Exclusion>(
     selection: &Selection<'_>,
     index: u64,

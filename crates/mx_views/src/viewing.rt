@@ -1,4 +1,5 @@
-//! `replay` with `--quiet`, `--node` or `--json`: from words, named bytes and two outputs to a status.
+//! `replay` with `--quiet`, `--node` or `--json`: from words, named bytes and two outputs to a
+//! status.
 
 ghost use Rattle.std.specs.Prelude.{◌≡◌, IsSome, IfOk};
 ghost use Rattle.mx_cli.specs.Words.{texts_of};
@@ -19,10 +20,10 @@ use mx_plan::{Plan, read_events};
 use mx_stamps::NodeId;
 use std::alloc::Global;
 
-/// Runs the words of a command line of which `replay` is the first, with `--quiet`, `--node` or `--json`,
-/// without the program's name, and returns the status: 0 where all went well, or help was asked for, 1
-/// where the plan, its events, the node, a file or an output is at fault, 2 where the words are not those
-/// of the command, 5 where memory ran out.
+/// Runs the words of a command line of which `replay` is the first, with `--quiet`, `--node` or
+/// `--json`, without the program's name, and returns the status: 0 where all went well, or help was
+/// asked for, 1 where the plan, its events, the node, a file or an output is at fault, 2 where the
+/// words are not those of the command, 5 where memory ran out.
 pub fn replay_view<S: Source, O: Output, E: Output>(
     alloc: Global,
     words: &[&str],

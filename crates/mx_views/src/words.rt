@@ -9,8 +9,8 @@ use clap::{ArgMatches, Command, Error};
 use mx_cli::{Names, is_given, line_of, matches_in, names_at, replay_command, text_at};
 use std::alloc::{AllocError, Global};
 
-/// What is to be shown of a replay: the names of its plan and events, whether the closing lines alone,
-/// of which node alone, and whether as JSON.
+/// What is to be shown of a replay: the names of its plan and events, whether the closing lines
+/// alone, of which node alone, and whether as JSON.
 #[derive(Clone, Copy)]
 pub(crate) struct Request<'a> {
     pub(crate) names: Names<'a>,
@@ -19,8 +19,8 @@ pub(crate) struct Request<'a> {
     pub(crate) is_json: bool,
 }
 
-/// What the words ask to show. Their faults are those of `clap`, and words that ask for help come as
-/// such a fault too, with the text to show.
+/// What the words ask to show. Their faults are those of `clap`, and words that ask for help come
+/// as such a fault too, with the text to show.
 pub(crate) fn asked<'a>(alloc: Global, words: &'a [&'a str]) -> Result<Option<Request<'a>>, Error>
     ensures { Asks request_of view_line (texts_of words.entry.now)
         (request_asked (texts_of words.entry.now)) result }

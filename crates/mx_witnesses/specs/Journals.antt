@@ -54,32 +54,41 @@ got value = record { value = value; register = 0; after = 0 }
 abbrev pub first_part : List Entry
 first_part =
     is (event.Ask 1) (Asked (stamp 1 1)) ∷ is (event.Cancel 1) Cancelled ∷
-    is (event.Ask 0) (Asked (stamp 1 0)) ∷ is (event.Tick 0) (Sent 1) ∷ is (event.Deliver 2) Delivered ∷ is (event.Deliver 3) Delivered ∷
-    is (event.Enter 0) (Entered 1) ∷ is (event.Write 0 0 7) Written ∷ is (event.Leave 0) (Left first_receipt) ∷ []
+    is (event.Ask 0) (Asked (stamp 1 0)) ∷ is (event.Tick 0) (Sent 1)
+    ∷ is (event.Deliver 2) Delivered ∷ is (event.Deliver 3) Delivered ∷
+    is (event.Enter 0) (Entered 1) ∷ is (event.Write 0 0 7) Written
+    ∷ is (event.Leave 0) (Left first_receipt) ∷ []
 
 -- node 0 enters section 2, wakes up again in it, and settles section 1
 abbrev pub second_part : List Entry
 second_part =
-    is (event.Ask 0) (Asked (stamp 2 0)) ∷ is (event.Deliver 4) Delivered ∷ is (event.Deliver 5) Delivered ∷
+    is (event.Ask 0) (Asked (stamp 2 0)) ∷ is (event.Deliver 4) Delivered
+    ∷ is (event.Deliver 5) Delivered ∷
     is (event.Enter 0) (Entered 2) ∷ is (event.Write 0 0 8) Written ∷ is (event.Restart 0) Woken ∷
-    is (event.Read 0 0) (Value 7) ∷ is (event.Write 0 0 9) Written ∷ is (event.Leave 0) (Left (receipt 2 0 (got 7 ∷ []) 9)) ∷
+    is (event.Read 0 0) (Value 7) ∷ is (event.Write 0 0 9) Written
+    ∷ is (event.Leave 0) (Left (receipt 2 0 (got 7 ∷ []) 9)) ∷
     is (event.Settle 0 1) Settled ∷ []
 
 -- node 1 enters section 3, and reads there once it has node 0's base and record; node 0 settles
 -- section 2
 abbrev pub third_part : List Entry
 third_part =
-    is (event.Ask 1) (Asked (stamp 3 1)) ∷ is (event.Deliver 6) Delivered ∷ is (event.Deliver 7) Delivered ∷
+    is (event.Ask 1) (Asked (stamp 3 1)) ∷ is (event.Deliver 6) Delivered
+    ∷ is (event.Deliver 7) Delivered ∷
     is (event.Enter 1) (Entered 3) ∷ is (event.Read 1 0) (Refused (Gap 1)) ∷
-    is (event.Want 1 0) (Sent 1) ∷ is (event.Deliver 8) Delivered ∷ is (event.Deliver 9) Delivered ∷ is (event.Deliver 10) Delivered ∷
-    is (event.Read 1 0) (Value 9) ∷ is (event.Write 1 0 5) Written ∷ is (event.Leave 1) (Left (receipt 3 1 (got 9 ∷ []) 5)) ∷
+    is (event.Want 1 0) (Sent 1) ∷ is (event.Deliver 8) Delivered ∷ is (event.Deliver 9) Delivered
+    ∷ is (event.Deliver 10) Delivered ∷
+    is (event.Read 1 0) (Value 9) ∷ is (event.Write 1 0 5) Written
+    ∷ is (event.Leave 1) (Left (receipt 3 1 (got 9 ∷ []) 5)) ∷
     is (event.Settle 0 2) Settled ∷ []
 
 -- node 0 enters section 4, without the record of section 3
 abbrev pub fourth_part : List Entry
 fourth_part =
-    is (event.Ask 0) (Asked (stamp 4 0)) ∷ is (event.Deliver 11) Delivered ∷ is (event.Deliver 12) Delivered ∷
-    is (event.Enter 0) (Entered 4) ∷ is (event.Write 0 0 6) Written ∷ is (event.Leave 0) (Left (receipt 4 0 [] 6)) ∷ []
+    is (event.Ask 0) (Asked (stamp 4 0)) ∷ is (event.Deliver 11) Delivered
+    ∷ is (event.Deliver 12) Delivered ∷
+    is (event.Enter 0) (Entered 4) ∷ is (event.Write 0 0 6) Written
+    ∷ is (event.Leave 0) (Left (receipt 4 0 [] 6)) ∷ []
 
 abbrev pub journals_trace : List Entry
 journals_trace = first_part ++ (second_part ++ (third_part ++ fourth_part))

@@ -56,8 +56,10 @@ is event outcome = record { event = event; outcome = outcome }
 
 abbrev pub ricart_trace : List Entry
 ricart_trace =
-    is (Ask 0) (Asked (stamp 1 0)) ∷ is (Ask 1) (Asked (stamp 1 1)) ∷ is (Deliver 0) Delivered ∷ is (Deliver 1) Delivered ∷ is (Deliver 2) Delivered ∷
-    is (Enter 0) (Entered 1) ∷ is (Enter 1) (Refused NotGranted) ∷ is (Write 0 0 7) Written ∷ is (Leave 0) (Left first_receipt) ∷
+    is (Ask 0) (Asked (stamp 1 0)) ∷ is (Ask 1) (Asked (stamp 1 1)) ∷ is (Deliver 0) Delivered
+    ∷ is (Deliver 1) Delivered ∷ is (Deliver 2) Delivered ∷
+    is (Enter 0) (Entered 1) ∷ is (Enter 1) (Refused NotGranted) ∷ is (Write 0 0 7) Written
+    ∷ is (Leave 0) (Left first_receipt) ∷
     is (Deliver 3) Delivered ∷ is (Enter 1) (Entered 2) ∷ []
 
 -- two nodes: the set of node 0 is node 0 alone, that of node 1 are both
@@ -66,8 +68,10 @@ two_sets = record { count = 2; rows = (true ∷ false ∷ []) ∷ (true ∷ true
 
 abbrev pub maekawa_trace : List Entry
 maekawa_trace =
-    is (Ask 0) (Asked (stamp 1 0)) ∷ is (Ask 1) (Asked (stamp 1 1)) ∷ is (Deliver 0) Delivered ∷ is (Deliver 1) Delivered ∷ is (Deliver 2) Delivered ∷ is (Deliver 3) Delivered ∷
-    is (Enter 0) (Entered 1) ∷ is (Deliver 5) Delivered ∷ is (Enter 1) (Refused NotGranted) ∷ is (Write 0 0 7) Written ∷ is (Leave 0) (Left first_receipt) ∷
+    is (Ask 0) (Asked (stamp 1 0)) ∷ is (Ask 1) (Asked (stamp 1 1)) ∷ is (Deliver 0) Delivered
+    ∷ is (Deliver 1) Delivered ∷ is (Deliver 2) Delivered ∷ is (Deliver 3) Delivered ∷
+    is (Enter 0) (Entered 1) ∷ is (Deliver 5) Delivered ∷ is (Enter 1) (Refused NotGranted)
+    ∷ is (Write 0 0 7) Written ∷ is (Leave 0) (Left first_receipt) ∷
     is (Deliver 6) Delivered ∷ is (Deliver 7) Delivered ∷ is (Enter 1) (Entered 2) ∷ []
 
 -- two nodes that are neighbours, of which node 0 has the privilege
@@ -82,5 +86,7 @@ two_nodes =
 
 abbrev pub raymond_trace : List Entry
 raymond_trace =
-    is (Ask 0) (Asked (stamp 1 0)) ∷ is (Enter 0) (Entered 1) ∷ is (Ask 1) (Asked (stamp 1 1)) ∷ is (Enter 1) (Refused NotGranted) ∷ is (Deliver 0) Delivered ∷
-    is (Write 0 0 7) Written ∷ is (Leave 0) (Left first_receipt) ∷ is (Deliver 1) Delivered ∷ is (Enter 1) (Entered 2) ∷ []
+    is (Ask 0) (Asked (stamp 1 0)) ∷ is (Enter 0) (Entered 1) ∷ is (Ask 1) (Asked (stamp 1 1))
+    ∷ is (Enter 1) (Refused NotGranted) ∷ is (Deliver 0) Delivered ∷
+    is (Write 0 0 7) Written ∷ is (Leave 0) (Left first_receipt) ∷ is (Deliver 1) Delivered
+    ∷ is (Enter 1) (Entered 2) ∷ []

@@ -28,26 +28,37 @@ module _ (n : ℕ) where
 
   -- the least request
 
-  lesser_bounded : (x y : Option Stamp) (u : Stamp) → ((v : Stamp) → x ≡ Some v → BoundedStamp n v) → ((v : Stamp) → y ≡ Some v → BoundedStamp n v) → lesser x y ≡ Some u → BoundedStamp n u
+  lesser_bounded : (x y : Option Stamp) (u : Stamp) → ((v : Stamp) → x ≡ Some v → BoundedStamp n v)
+      → ((v : Stamp) → y ≡ Some v → BoundedStamp n v) → lesser x y ≡ Some u → BoundedStamp n u
   lesser_bounded None y u p q h = q u h
   lesser_bounded (Some x) None u p q h = p u h
   lesser_bounded (Some x) (Some y) u p q h =
       let P : Option Stamp → Type 0 = λ o. o ≡ Some u → BoundedStamp n u in
       cond_case P (is_before_of y x) (Some y) (Some x) (λ _ k. q u k) (λ _ k. p u k) h
 
-  least_bounded : (f : ℕ → Option Stamp) (k : ℕ) (u : Stamp) → ((j : ℕ) (v : Stamp) → f j ≡ Some v → BoundedStamp n v) → least_of f k ≡ Some u → BoundedStamp n u
+  least_bounded : (f : ℕ → Option Stamp) (k : ℕ) (u : Stamp)
+      → ((j : ℕ) (v : Stamp) → f j ≡ Some v → BoundedStamp n v) → least_of f k ≡ Some u
+      → BoundedStamp n u
   least_bounded f zero u bounded h = absurd (none_is_no_some u h)
-  least_bounded f (suc k) u bounded h = lesser_bounded (least_of f k) (f k) u (λ v e. least_bounded f k v bounded e) (λ v e. bounded k v e) h
+  least_bounded f (suc k) u bounded h =
+      lesser_bounded (least_of f k) (f k) u (λ v e. least_bounded f k v bounded e)
+      (λ v e. bounded k v e) h
 
-  others_bounded : (a : ArbiterState) (but j : ℕ) (u : Stamp) → BoundedArbiter n a → others_at a but j ≡ Some u → BoundedStamp n u
+  others_bounded : (a : ArbiterState) (but j : ℕ) (u : Stamp) → BoundedArbiter n a
+      → others_at a but j ≡ Some u → BoundedStamp n u
   others_bounded a but j u ok h =
       let P : Option Stamp → Type 0 = λ o. o ≡ Some u → BoundedStamp n u in
-      cond_case P (nat_eq j but) None (waiting_at a j) (λ _ e. absurd (none_is_no_some u e)) (λ _ e. ok.waiting j u e) h
+      cond_case P (nat_eq j but) None (waiting_at a j) (λ _ e. absurd (none_is_no_some u e))
+      (λ _ e. ok.waiting j u e) h
 
   -- requests at the places of a list
 
-  put : (xs : List (Option Stamp)) (b : ℕ) (o : Option Stamp) → ((u : Stamp) → o ≡ Some u → BoundedStamp n u) → ((j : ℕ) (u : Stamp) → get_or xs j None ≡ Some u → BoundedStamp n u) → (j : ℕ) (u : Stamp) → get_or (slice_set xs b o) j None ≡ Some u → BoundedStamp n u
-  put xs b o bounded ok j u h = elim (get_or_after xs b j o None (Some u) h) [ inl p ↦ bounded u p.1 | inr old ↦ ok j u old ]
+  put : (xs : List (Option Stamp)) (b : ℕ) (o : Option Stamp)
+      → ((u : Stamp) → o ≡ Some u → BoundedStamp n u)
+      → ((j : ℕ) (u : Stamp) → get_or xs j None ≡ Some u → BoundedStamp n u) → (j : ℕ) (u : Stamp)
+      → get_or (slice_set xs b o) j None ≡ Some u → BoundedStamp n u
+  put xs b o bounded ok j u h =
+      elim (get_or_after xs b j o None (Some u) h) [ inl p ↦ bounded u p.1 | inr old ↦ ok j u old ]
 
   none_bounded : (u : Stamp) → None ≡ Some u → BoundedStamp n u
   none_bounded u e = absurd (none_is_no_some u e)
@@ -55,33 +66,54 @@ module _ (n : ℕ) where
   some_bounded : (s u : Stamp) → BoundedStamp n s → Some s ≡ Some u → BoundedStamp n u
   some_bounded s u bounded e = subst (λ x. BoundedStamp n x) (same_Some s u e) bounded
 
-  or_else_bounded : (o : Option Stamp) (s u : Stamp) → BoundedStamp n s → ((v : Stamp) → o ≡ Some v → BoundedStamp n v) → or_else o s ≡ Some u → BoundedStamp n u
+  or_else_bounded : (o : Option Stamp) (s u : Stamp) → BoundedStamp n s
+      → ((v : Stamp) → o ≡ Some v → BoundedStamp n v) → or_else o s ≡ Some u → BoundedStamp n u
   or_else_bounded None s u bounded was h = some_bounded s u bounded h
   or_else_bounded (Some x) s u bounded was h = was u h
 
-  drop_bounded : (o : Option Stamp) (number : ℕ) (u : Stamp) → ((v : Stamp) → o ≡ Some v → BoundedStamp n v) → drop_up_to o number ≡ Some u → BoundedStamp n u
+  drop_bounded : (o : Option Stamp) (number : ℕ) (u : Stamp)
+      → ((v : Stamp) → o ≡ Some v → BoundedStamp n v) → drop_up_to o number ≡ Some u
+      → BoundedStamp n u
   drop_bounded None number u was h = none_bounded u h
   drop_bounded (Some x) number u was h =
       let P : Option Stamp → Type 0 = λ o. o ≡ Some u → BoundedStamp n u in
-      cond_case P (nat_lt number x.number) (Some x) None (λ _ k. was u k) (λ _ k. none_bounded u k) h
+      cond_case P (nat_lt number x.number) (Some x) None (λ _ k. was u k)
+      (λ _ k. none_bounded u k) h
 
   -- Grant
 
-  locked_bounded : (a : ArbiterState) (u : Stamp) → a.granted < last_number → BoundedStamp n u → BoundedArbiter n a → BoundedArbiterDone n (locked a u)
+  locked_bounded : (a : ArbiterState) (u : Stamp) → a.granted < last_number → BoundedStamp n u
+      → BoundedArbiter n a → BoundedArbiterDone n (locked a u)
   locked_bounded a u lt bounded ok =
       let next : IsU64 (a.granted + 1) = omega arith in record {
-        state = record { count = ok.count; lock = λ l h. subst (λ x. BoundedLock n x) (same_Some {A = Lock} (record { stamp = u; grant = a.granted + 1; last = a.last }) l h) (record { stamp = bounded; grant = next; last = ok.last }); granted = next; waiting = put a.waiting u.node None none_bounded ok.waiting; ended = ok.ended; last = ok.last };
-        letters = one BoundedLetter n u.node (Locked u (a.granted + 1) a.last) bounded.1 (bounded, next, ok.last);
+        state = record {
+          count = ok.count;
+          lock = λ l h. subst (λ x. BoundedLock n x) (same_Some {A = Lock}
+              (record { stamp = u; grant = a.granted + 1; last = a.last }) l h)
+              (record { stamp = bounded; grant = next; last = ok.last });
+          granted = next;
+          waiting = put a.waiting u.node None none_bounded ok.waiting;
+          ended = ok.ended;
+          last = ok.last;
+        };
+        letters = one BoundedLetter n u.node (Locked u (a.granted + 1) a.last) bounded.1
+            (bounded, next, ok.last);
       }
 
-  grant_to_bounded : (o : Option Stamp) (a : ArbiterState) → ((u : Stamp) → o ≡ Some u → BoundedStamp n u) → BoundedArbiter n a → BoundedArbiterDone n (grant_to o a)
+  grant_to_bounded : (o : Option Stamp) (a : ArbiterState)
+      → ((u : Stamp) → o ≡ Some u → BoundedStamp n u) → BoundedArbiter n a
+      → BoundedArbiterDone n (grant_to o a)
   grant_to_bounded None a bounded ok = quietly_bounded a ok
   grant_to_bounded (Some u) a bounded ok =
-      cond_case (λ d. BoundedArbiterDone n d) (nat_lt a.granted last_number) (locked a u) (becoming a)
-      (λ e. locked_bounded a u (lt_true a.granted last_number e) (bounded u refl) ok) (λ _. quietly_bounded a ok)
+      cond_case (λ d. BoundedArbiterDone n d) (nat_lt a.granted last_number) (locked a u)
+      (becoming a)
+      (λ e. locked_bounded a u (lt_true a.granted last_number e) (bounded u refl) ok)
+      (λ _. quietly_bounded a ok)
 
-  grant_in_bounded : (o : Option Lock) (a : ArbiterState) → BoundedArbiter n a → BoundedArbiterDone n (grant_in o a)
-  grant_in_bounded None a ok = grant_to_bounded (least_of (waiting_at a) a.count) a (λ u h. least_bounded (waiting_at a) a.count u ok.waiting h) ok
+  grant_in_bounded : (o : Option Lock) (a : ArbiterState) → BoundedArbiter n a
+      → BoundedArbiterDone n (grant_in o a)
+  grant_in_bounded None a ok = grant_to_bounded (least_of (waiting_at a) a.count) a
+      (λ u h. least_bounded (waiting_at a) a.count u ok.waiting h) ok
   grant_in_bounded (Some lock) a ok = quietly_bounded a ok
 
   grant_bounded : (a : ArbiterState) → BoundedArbiter n a → BoundedArbiterDone n (grant a)
@@ -89,43 +121,73 @@ module _ (n : ℕ) where
 
   -- Rank
 
-  fail_least_bounded : (o : Option Stamp) → ((u : Stamp) → o ≡ Some u → BoundedStamp n u) → AreBounded BoundedLetter n (fail_least o)
+  fail_least_bounded : (o : Option Stamp) → ((u : Stamp) → o ≡ Some u → BoundedStamp n u)
+      → AreBounded BoundedLetter n (fail_least o)
   fail_least_bounded None was = nil BoundedLetter n
-  fail_least_bounded (Some u) was = let p = was u refl in one BoundedLetter n u.node (Failed u) p.1 p
+  fail_least_bounded (Some u) was =
+      let p = was u refl in one BoundedLetter n u.node (Failed u) p.1 p
 
-  rank_bounded : (lock : Lock) (stamp : Stamp) (other : Option Stamp) → BoundedLock n lock → BoundedStamp n stamp → ((u : Stamp) → other ≡ Some u → BoundedStamp n u) → AreBounded BoundedLetter n (rank_by lock stamp other)
+  rank_bounded : (lock : Lock) (stamp : Stamp) (other : Option Stamp) → BoundedLock n lock
+      → BoundedStamp n stamp → ((u : Stamp) → other ≡ Some u → BoundedStamp n u)
+      → AreBounded BoundedLetter n (rank_by lock stamp other)
   rank_bounded lock stamp other l bounded was =
       let P : List (ℕ × MaekawaMsg) → Type 0 = λ ls. AreBounded BoundedLetter n ls in
       let inquiry : MaekawaMsg = Inquire lock.stamp lock.grant in
-      cond_case P (nat_eq lock.stamp.node stamp.node) ((stamp.node, inquiry) ∷ []) (rank_against lock stamp other)
+      cond_case P (nat_eq lock.stamp.node stamp.node) ((stamp.node, inquiry) ∷ [])
+      (rank_against lock stamp other)
       (λ _. one BoundedLetter n stamp.node inquiry bounded.1 (l.stamp, l.grant))
-      (λ _. cond_case P (is_before_of lock.stamp stamp || is_below other stamp) ((stamp.node, Failed stamp) ∷ []) (overtaking lock other)
+      (λ _. cond_case P (is_before_of lock.stamp stamp || is_below other stamp)
+      ((stamp.node, Failed stamp) ∷ []) (overtaking lock other)
       (λ _. one BoundedLetter n stamp.node (Failed stamp) bounded.1 bounded)
-      (λ _. both BoundedLetter n ((lock.stamp.node, inquiry) ∷ []) (fail_least other) (one BoundedLetter n lock.stamp.node inquiry l.stamp.1 (l.stamp, l.grant)) (fail_least_bounded other was)))
+      (λ _. both BoundedLetter n ((lock.stamp.node, inquiry) ∷ []) (fail_least other)
+      (one BoundedLetter n lock.stamp.node inquiry l.stamp.1 (l.stamp, l.grant))
+      (fail_least_bounded other was)))
 
   -- REQUEST
 
-  waiting_bounded : (a : ArbiterState) (stamp : Stamp) → BoundedStamp n stamp → BoundedArbiter n a → BoundedArbiter n (waiting_for a stamp)
-  waiting_bounded a stamp bounded ok = record { count = ok.count; lock = ok.lock; granted = ok.granted; waiting = put a.waiting stamp.node (Some stamp) (λ u e. some_bounded stamp u bounded e) ok.waiting; ended = ok.ended; last = ok.last }
+  waiting_bounded : (a : ArbiterState) (stamp : Stamp) → BoundedStamp n stamp → BoundedArbiter n a
+      → BoundedArbiter n (waiting_for a stamp)
+  waiting_bounded a stamp bounded ok =
+      record {
+        count = ok.count;
+        lock = ok.lock;
+        granted = ok.granted;
+        waiting = put a.waiting stamp.node (Some stamp) (λ u e. some_bounded stamp u bounded e) ok.waiting;
+        ended = ok.ended;
+        last = ok.last;
+      }
 
-  queue_bounded : (o : Option Lock) (stamp : Stamp) (a : ArbiterState) → a.lock ≡ o → BoundedStamp n stamp → BoundedArbiter n a → BoundedArbiterDone n (queue o stamp a)
-  queue_bounded None stamp a is bounded ok = grant_bounded (waiting_for a stamp) (waiting_bounded a stamp bounded ok)
+  queue_bounded : (o : Option Lock) (stamp : Stamp) (a : ArbiterState) → a.lock ≡ o
+      → BoundedStamp n stamp → BoundedArbiter n a → BoundedArbiterDone n (queue o stamp a)
+  queue_bounded None stamp a is bounded ok =
+      grant_bounded (waiting_for a stamp) (waiting_bounded a stamp bounded ok)
   queue_bounded (Some lock) stamp a is bounded ok =
       let w = waiting_bounded a stamp bounded ok in
       let x = waiting_for a stamp in
-      record { state = w; letters = rank_bounded lock stamp (least_of (others_at x stamp.node) x.count) (ok.lock lock is) bounded (λ u e. least_bounded (others_at x stamp.node) x.count u (λ j v k. others_bounded x stamp.node j v w k) e) }
+      record {
+        state = w;
+        letters = rank_bounded lock stamp
+            (least_of (others_at x stamp.node) x.count)
+            (ok.lock lock is) bounded (λ u e. least_bounded (others_at x stamp.node) x.count u
+            (λ j v k. others_bounded x stamp.node j v w k) e);
+      }
 
-  pub lock_letter_bounded : (o : Option Lock) → ((lock : Lock) → o ≡ Some lock → BoundedLock n lock) → AreBounded BoundedLetter n (lock_letter o)
+  pub lock_letter_bounded : (o : Option Lock) → ((lock : Lock) → o ≡ Some lock → BoundedLock n lock)
+      → AreBounded BoundedLetter n (lock_letter o)
   lock_letter_bounded None was = nil BoundedLetter n
-  lock_letter_bounded (Some lock) was = let p = was lock refl in one BoundedLetter n lock.stamp.node (Locked lock.stamp lock.grant lock.last) p.stamp.1 (p.stamp, p.grant, p.last)
+  lock_letter_bounded (Some lock) was = let p = was lock refl in
+      one BoundedLetter n lock.stamp.node (Locked lock.stamp lock.grant lock.last) p.stamp.1
+      (p.stamp, p.grant, p.last)
 
-  pub request_bounded : (stamp : Stamp) (a : ArbiterState) → BoundedStamp n stamp → BoundedArbiter n a → BoundedArbiterDone n (take_request stamp a)
+  pub request_bounded : (stamp : Stamp) (a : ArbiterState) → BoundedStamp n stamp
+      → BoundedArbiter n a → BoundedArbiterDone n (take_request stamp a)
   request_bounded stamp a bounded ok =
       let P : ArbiterDone → Type 0 = λ d. BoundedArbiterDone n d in
       cond_case P (nat_lt (ended_at a stamp.node) stamp.number) (take_live stamp a) (becoming a)
       (λ _. cond_case P (is_for a.lock stamp) (sending a (lock_letter a.lock)) (take_fresh stamp a)
       (λ _. record { state = ok; letters = lock_letter_bounded a.lock ok.lock })
-      (λ _. cond_case P (is_overtaken a stamp) (becoming a) (queue a.lock stamp a) (λ _. quietly_bounded a ok) (λ _. queue_bounded a.lock stamp a refl bounded ok)))
+      (λ _. cond_case P (is_overtaken a stamp) (becoming a) (queue a.lock stamp a)
+      (λ _. quietly_bounded a ok) (λ _. queue_bounded a.lock stamp a refl bounded ok)))
       (λ _. quietly_bounded a ok)
 
   -- RELINQUISH
@@ -133,19 +195,52 @@ module _ (n : ℕ) where
   no_lock_bounded : (lock : Lock) → None ≡ Some lock → BoundedLock n lock
   no_lock_bounded lock h = absurd (none_is_no_some lock h)
 
-  pub relinquish_bounded : (stamp : Stamp) (g : ℕ) (a : ArbiterState) → BoundedStamp n stamp → BoundedArbiter n a → BoundedArbiterDone n (take_relinquish stamp g a)
+  pub relinquish_bounded : (stamp : Stamp) (g : ℕ) (a : ArbiterState) → BoundedStamp n stamp
+      → BoundedArbiter n a → BoundedArbiterDone n (take_relinquish stamp g a)
   relinquish_bounded stamp g a bounded ok =
-      cond_case (λ d. BoundedArbiterDone n d) (is_exactly a.lock stamp g) (grant (taking_back stamp a)) (becoming a)
-      (λ _. grant_bounded (taking_back stamp a) (record { count = ok.count; lock = no_lock_bounded; granted = ok.granted; waiting = put a.waiting stamp.node (or_else (waiting_at a stamp.node) stamp) (λ u e. or_else_bounded (waiting_at a stamp.node) stamp u bounded (λ v k. ok.waiting stamp.node v k) e) ok.waiting; ended = ok.ended; last = ok.last }))
+      cond_case (λ d. BoundedArbiterDone n d) (is_exactly a.lock stamp g)
+      (grant (taking_back stamp a)) (becoming a)
+      (λ _. grant_bounded (taking_back stamp a)
+      (record {
+        count = ok.count;
+        lock = no_lock_bounded;
+        granted = ok.granted;
+        waiting = put a.waiting stamp.node (or_else (waiting_at a stamp.node) stamp)
+            (λ u e. or_else_bounded (waiting_at a stamp.node) stamp u bounded
+            (λ v k. ok.waiting stamp.node v k) e) ok.waiting;
+        ended = ok.ended;
+        last = ok.last;
+      }))
       (λ _. quietly_bounded a ok)
 
   -- RELEASE
 
-  pub release_bounded : (stamp : Stamp) (t : ℕ) (a : ArbiterState) → BoundedStamp n stamp → IsU64 t → BoundedArbiter n a → BoundedArbiterDone n (take_release stamp t a)
+  pub release_bounded : (stamp : Stamp) (t : ℕ) (a : ArbiterState) → BoundedStamp n stamp → IsU64 t
+      → BoundedArbiter n a → BoundedArbiterDone n (take_release stamp t a)
   release_bounded stamp t a bounded small ok =
       let x = ending stamp t a in
       let was : IsU64 (ended_at a stamp.node) = ok.ended stamp.node (ended_at a stamp.node) refl in
       let number : IsU64 stamp.number = bounded.0 in
-      let mid : BoundedArbiter n x = record { count = ok.count; lock = ok.lock; granted = ok.granted; waiting = put a.waiting stamp.node (drop_up_to (waiting_at a stamp.node) stamp.number) (λ u e. drop_bounded (waiting_at a stamp.node) stamp.number u (λ v k. ok.waiting stamp.node v k) e) ok.waiting; ended = set_small n a.ended stamp.node (max (ended_at a stamp.node) stamp.number) (omega arith) ok.ended; last = (let k = ok.last in omega arith) } in
-      cond_case (λ d. BoundedArbiterDone n d) (is_up_to a.lock stamp) (grant (unlocking x)) (becoming x)
-      (λ _. grant_bounded (unlocking x) (record { count = mid.count; lock = no_lock_bounded; granted = mid.granted; waiting = mid.waiting; ended = mid.ended; last = mid.last })) (λ _. quietly_bounded x mid)
+      let mid : BoundedArbiter n x = record {
+        count = ok.count;
+        lock = ok.lock;
+        granted = ok.granted;
+        waiting = put a.waiting stamp.node
+            (drop_up_to (waiting_at a stamp.node) stamp.number)
+            (λ u e. drop_bounded (waiting_at a stamp.node) stamp.number u
+            (λ v k. ok.waiting stamp.node v k) e) ok.waiting;
+        ended = set_small n a.ended stamp.node (max (ended_at a stamp.node) stamp.number)
+            (omega arith) ok.ended;
+        last = (let k = ok.last in omega arith);
+      } in
+      cond_case (λ d. BoundedArbiterDone n d) (is_up_to a.lock stamp) (grant (unlocking x))
+      (becoming x)
+      (λ _. grant_bounded (unlocking x)
+      (record {
+        count = mid.count;
+        lock = no_lock_bounded;
+        granted = mid.granted;
+        waiting = mid.waiting;
+        ended = mid.ended;
+        last = mid.last;
+      })) (λ _. quietly_bounded x mid)

@@ -10,7 +10,9 @@ use Rattle.mx_maekawa.specs.Good.{NodeWorld, IsEnded, IsGiven, IsReached, IsLock
 
 -- the letter that ends a lock has come, and `last` takes in the section number that it tells
 abbrev pub IsToEnd : NodeWorld → ℕ → Stamp → ℕ → ℕ → Type 0
-IsToEnd w i stamp g last = WasSent w stamp.node i (Relinquish stamp g) ⊎ ((later : Stamp) × (t : ℕ) × WasSent w stamp.node i (Release later t) × (stamp.number ≤ later.number) × (t ≤ last))
+IsToEnd w i stamp g last = WasSent w stamp.node i (Relinquish stamp g)
+    ⊎ ((later : Stamp) × (t : ℕ) × WasSent w stamp.node i (Release later t)
+    × (stamp.number ≤ later.number) × (t ≤ last))
 
 -- how a step of a node may change what other nodes and letters rest on
 pub record MovesForward (w : NodeWorld) (i : ℕ) (s new : Node) : Type 0 where
@@ -18,10 +20,12 @@ pub record MovesForward (w : NodeWorld) (i : ℕ) (s new : Node) : Type 0 where
   pub issued : s.requester.issued ≤ new.requester.issued
   pub mine : s.requester.mine ≤ new.requester.mine
   pub ended : (n : ℕ) → IsEnded s.requester n → IsEnded new.requester n
-  pub given : (a : ℕ) (stamp : Stamp) (g : ℕ) → stamp.number ≤ s.requester.issued → IsGiven s.requester a stamp g → IsGiven new.requester a stamp g
+  pub given : (a : ℕ) (stamp : Stamp) (g : ℕ) → stamp.number ≤ s.requester.issued
+      → IsGiven s.requester a stamp g → IsGiven new.requester a stamp g
   pub granted : s.arbiter.granted ≤ new.arbiter.granted
   pub last : s.arbiter.last ≤ new.arbiter.last
-  pub lock : (stamp : Stamp) (g c : ℕ) → IsLockedFor s stamp g c → IsLockedFor new stamp g c ⊎ IsToEnd w i stamp g new.arbiter.last
+  pub lock : (stamp : Stamp) (g c : ℕ) → IsLockedFor s stamp g c → IsLockedFor new stamp g c
+      ⊎ IsToEnd w i stamp g new.arbiter.last
 
 -- a new lock
 pub record IsGranted (s new : Node) (b : ℕ) (stamp : Stamp) (g c : ℕ) : Type 0 where
@@ -48,7 +52,8 @@ pub record IsReleasing (w : NodeWorld) (i : ℕ) (new : Node) (stamp : Stamp) (t
 -- node i may send this letter to b in a step whose next state is `new`
 abbrev pub IsSendable : NodeWorld → ℕ → Node → Node → ℕ → MaekawaMsg → Type 0
 IsSendable w i s new b (Request stamp) = Unit {0}
-IsSendable w i s new b (Locked stamp g c) = WasSent w i b (Locked stamp g c) ⊎ IsGranted s new b stamp g c
+IsSendable w i s new b (Locked stamp g c) =
+    WasSent w i b (Locked stamp g c) ⊎ IsGranted s new b stamp g c
 IsSendable w i s new b (Failed stamp) = Unit {0}
 IsSendable w i s new b (Inquire stamp g) = (c : ℕ) × WasSent w i b (Locked stamp g c)
 IsSendable w i s new b (Relinquish stamp g) = IsGivingBack i s new b stamp g

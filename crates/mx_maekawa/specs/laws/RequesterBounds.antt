@@ -25,126 +25,337 @@ BoundedRequesterDone n did = IsBoundedDone BoundedRequester BoundedLetter n did
 module _ (n : ℕ) where
   -- numbers at the places of a list
 
-  pub set_small : (xs : List ℕ) (b v : ℕ) → IsU64 v → ((a x : ℕ) → get_or xs a 0 ≡ x → IsU64 x) → (a x : ℕ) → get_or (slice_set xs b v) a 0 ≡ x → IsU64 x
-  set_small xs b v small ok a x h = elim (get_or_after xs b a v 0 x h) [ inl p ↦ subst (λ y. IsU64 y) p.1 small | inr old ↦ ok a x old ]
+  pub set_small : (xs : List ℕ) (b v : ℕ) → IsU64 v → ((a x : ℕ) → get_or xs a 0 ≡ x → IsU64 x)
+      → (a x : ℕ) → get_or (slice_set xs b v) a 0 ≡ x → IsU64 x
+  set_small xs b v small ok a x h = elim
+      (get_or_after xs b a v 0 x h) [
+        | inl p ↦ subst (λ y. IsU64 y) p.1 small
+        | inr old ↦
+            ok a x old
+      ]
 
-  emptied_small : (xs : List (Option ℕ)) (b : ℕ) → ((a g : ℕ) → get_or xs a None ≡ Some g → IsU64 g) → (a g : ℕ) → get_or (slice_set xs b None) a None ≡ Some g → IsU64 g
-  emptied_small xs b ok a g h = elim (get_or_after xs b a None None (Some g) h) [ inl p ↦ absurd (none_is_no_some g p.1) | inr old ↦ ok a g old ]
+  emptied_small : (xs : List (Option ℕ)) (b : ℕ) → ((a g : ℕ) → get_or xs a None ≡ Some g → IsU64 g)
+      → (a g : ℕ) → get_or (slice_set xs b None) a None ≡ Some g → IsU64 g
+  emptied_small xs b ok a g h = elim (get_or_after xs b a None None (Some g) h) [
+    | inl p ↦
+        absurd (none_is_no_some g p.1)
+    | inr old ↦ ok a g old
+  ]
 
-  put_small : (xs : List (Option ℕ)) (b v : ℕ) → IsU64 v → ((a g : ℕ) → get_or xs a None ≡ Some g → IsU64 g) → (a g : ℕ) → get_or (slice_set xs b (Some v)) a None ≡ Some g → IsU64 g
-  put_small xs b v small ok a g h = elim (get_or_after xs b a (Some v) None (Some g) h) [ inl p ↦ subst (λ y. IsU64 y) (same_Some v g p.1) small | inr old ↦ ok a g old ]
+  put_small : (xs : List (Option ℕ)) (b v : ℕ) → IsU64 v
+      → ((a g : ℕ) → get_or xs a None ≡ Some g → IsU64 g) → (a g : ℕ)
+      → get_or (slice_set xs b (Some v)) a None ≡ Some g → IsU64 g
+  put_small xs b v small ok a g h = elim
+      (get_or_after xs b a (Some v) None (Some g) h) [
+        | inl p ↦
+            subst (λ y. IsU64 y) (same_Some v g p.1) small
+        | inr old ↦ ok a g old
+      ]
 
   pub cleared_small : (a g : ℕ) → get_or (replicate 21 None) a None ≡ Some g → IsU64 g
   cleared_small a g h = absurd (none_is_no_some g (sym (get_or_replicate 21 a None) ∙ h))
 
   -- Fail
 
-  giving_bounded : (o : Option ℕ) (r : RequesterState) (b : ℕ) → remembered_at r b ≡ o → b < n → BoundedRequester n r → BoundedRequesterDone {A = Unit {0}} n (giving o r b)
+  giving_bounded : (o : Option ℕ) (r : RequesterState) (b : ℕ) → remembered_at r b ≡ o → b < n
+      → BoundedRequester n r → BoundedRequesterDone {A = Unit {0}} n (giving o r b)
   giving_bounded None r b is lt ok = record { state = ok; letters = nil BoundedLetter n }
   giving_bounded (Some g) r b is lt ok =
       let small = ok.remembered b g is in record {
-        state = record { me = ok.me; own = ok.own; count = ok.count; limit = ok.limit; phase = ok.phase; highest = ok.highest; issued = ok.issued; ours = ok.ours; held = emptied_small r.held b ok.held; back = set_small r.back b g small ok.back; remembered = emptied_small r.remembered b ok.remembered; top = ok.top; mine = ok.mine };
+        state = record {
+          me = ok.me;
+          own = ok.own;
+          count = ok.count;
+          limit = ok.limit;
+          phase = ok.phase;
+          highest = ok.highest;
+          issued = ok.issued;
+          ours = ok.ours;
+          held = emptied_small r.held b ok.held;
+          back = set_small r.back b g small ok.back;
+          remembered = emptied_small r.remembered b ok.remembered;
+          top = ok.top;
+          mine = ok.mine;
+        };
         letters = one BoundedLetter n b (Relinquish r.ours g) lt (ok.ours, small);
       }
 
-  give_bounded : (k : ℕ) (r : RequesterState) → k ≤ n → BoundedRequester n r → BoundedRequesterDone {A = Unit {0}} n (give_below k r)
+  give_bounded : (k : ℕ) (r : RequesterState) → k ≤ n → BoundedRequester n r
+      → BoundedRequesterDone {A = Unit {0}} n (give_below k r)
   give_bounded zero r le ok = record { state = ok; letters = nil BoundedLetter n }
   give_bounded (suc k) r le ok =
       let first = give_bounded k r (omega arith) ok in
       let x = (give_below k r).state in
       let second = giving_bounded (remembered_at x k) x k refl (omega arith) first.state in
-      record { state = second.state; letters = both BoundedLetter n (give_below k r).letters (give_remembered k x).letters first.letters second.letters }
+      record {
+        state = second.state;
+        letters = both BoundedLetter n (give_below k r).letters
+            (give_remembered k x).letters first.letters second.letters;
+      }
 
-  fail_bounded : (a : ℕ) (r : RequesterState) → BoundedRequester n r → BoundedRequesterDone {A = Unit {0}} n (fail a r)
-  fail_bounded a r ok = give_bounded r.count (failing r a) ok.count (record { me = ok.me; own = ok.own; count = ok.count; limit = ok.limit; phase = ok.phase; highest = ok.highest; issued = ok.issued; ours = ok.ours; held = ok.held; back = ok.back; remembered = ok.remembered; top = ok.top; mine = ok.mine })
+  fail_bounded : (a : ℕ) (r : RequesterState) → BoundedRequester n r
+      → BoundedRequesterDone {A = Unit {0}} n (fail a r)
+  fail_bounded a r ok = give_bounded r.count (failing r a) ok.count
+      (record {
+        me = ok.me;
+        own = ok.own;
+        count = ok.count;
+        limit = ok.limit;
+        phase = ok.phase;
+        highest = ok.highest;
+        issued = ok.issued;
+        ours = ok.ours;
+        held = ok.held;
+        back = ok.back;
+        remembered = ok.remembered;
+        top = ok.top;
+        mine = ok.mine;
+      })
 
   -- ask
 
-  to_own_bounded : (r : RequesterState) (m : MaekawaMsg) → BoundedRequester n r → BoundedLetter n m → AreBounded BoundedLetter n (addressed (to_own r m) r.count)
+  to_own_bounded : (r : RequesterState) (m : MaekawaMsg) → BoundedRequester n r → BoundedLetter n m
+      → AreBounded BoundedLetter n (addressed (to_own r m) r.count)
   to_own_bounded r m ok bounded b x sent =
       let p = in_addressed (to_own r m) r.count b x sent in
       let q = sent_if (is_own r b) m x p.1 in
       (ok.own b q.0, subst (λ y. BoundedLetter n y) (sym q.1) bounded)
 
-  pub asked_bounded : (r : RequesterState) → r.highest < last_number → BoundedRequester n r → BoundedRequesterDone {A = Stamp} n (asked r)
+  pub asked_bounded : (r : RequesterState) → r.highest < last_number → BoundedRequester n r
+      → BoundedRequesterDone {A = Stamp} n (asked r)
   asked_bounded r lt ok =
       let ours : BoundedStamp n (asking r).ours = (omega arith, ok.me) in record {
-        state = record { me = ok.me; own = ok.own; count = ok.count; limit = ok.limit; phase = tt; highest = omega arith; issued = omega arith; ours = ours; held = cleared_small; back = ok.back; remembered = cleared_small; top = ok.top; mine = ok.mine };
+        state = record {
+          me = ok.me;
+          own = ok.own;
+          count = ok.count;
+          limit = ok.limit;
+          phase = tt;
+          highest = omega arith;
+          issued = omega arith;
+          ours = ours;
+          held = cleared_small;
+          back = ok.back;
+          remembered = cleared_small;
+          top = ok.top;
+          mine = ok.mine;
+        };
         letters = to_own_bounded r (Request (asking r).ours) ok ours;
       }
 
   -- LOCKED
 
-  released_bounded : (r : RequesterState) (stamp : Stamp) (a : ℕ) → BoundedStamp n stamp → a < n → BoundedRequester n r → BoundedRequesterDone {A = Unit {0}} n (release_ended r stamp a)
+  released_bounded : (r : RequesterState) (stamp : Stamp) (a : ℕ) → BoundedStamp n stamp → a < n
+      → BoundedRequester n r → BoundedRequesterDone {A = Unit {0}} n (release_ended r stamp a)
   released_bounded r stamp a bounded lt ok =
-      cond_case (λ d. BoundedRequesterDone {A = Unit {0}} n d) (has_ended r stamp) (saying r a (Release stamp r.top)) (becoming r)
-      (λ _. record { state = ok; letters = one BoundedLetter n a (Release stamp r.top) lt (bounded, ok.top) }) (λ _. record { state = ok; letters = nil BoundedLetter n })
+      cond_case (λ d. BoundedRequesterDone {A = Unit {0}} n d) (has_ended r stamp)
+      (saying r a (Release stamp r.top)) (becoming r)
+      (λ _. record {
+        state = ok;
+        letters = one BoundedLetter n a (Release stamp r.top) lt (bounded, ok.top);
+      }) (λ _. record {
+        state =
+            ok;
+        letters = nil BoundedLetter n;
+      })
 
-  pub locked_bounded : (a : ℕ) (stamp : Stamp) (g c : ℕ) (r : RequesterState) → a < n → BoundedStamp n stamp → IsU64 g → IsU64 c → BoundedRequester n r → BoundedRequesterDone {A = Unit {0}} n (take_locked a stamp g c r)
+  pub locked_bounded : (a : ℕ) (stamp : Stamp) (g c : ℕ) (r : RequesterState) → a < n
+      → BoundedStamp n stamp → IsU64 g → IsU64 c → BoundedRequester n r
+      → BoundedRequesterDone {A = Unit {0}} n (take_locked a stamp g c r)
   locked_bounded a stamp g c r lt bounded small last ok =
       let P : RequesterDone (Unit {0}) → Type 0 = λ d. BoundedRequesterDone {A = Unit {0}} n d in
       cond_case P (is_current_wait r stamp) (locked_current a stamp g c r) (release_ended r stamp a)
-      (λ _. cond_case P (holds r a) (becoming r) (locked_fresh a stamp g c r) (λ _. record { state = ok; letters = nil BoundedLetter n })
-      (λ _. cond_case P (nat_lt (back_at r a) g) (becoming (holding r a g c)) (saying r a (Relinquish stamp g))
-      (λ _. record { state = record { me = ok.me; own = ok.own; count = ok.count; limit = ok.limit; phase = ok.phase; highest = ok.highest; issued = ok.issued; ours = ok.ours; held = put_small r.held a g small ok.held; back = ok.back; remembered = ok.remembered; top = (let k = ok.top in omega arith); mine = ok.mine }; letters = nil BoundedLetter n })
-      (λ _. record { state = ok; letters = one BoundedLetter n a (Relinquish stamp g) lt (bounded, small) })))
+      (λ _. cond_case P (holds r a) (becoming r) (locked_fresh a stamp g c r)
+      (λ _. record { state = ok; letters = nil BoundedLetter n })
+      (λ _. cond_case P (nat_lt (back_at r a) g) (becoming (holding r a g c))
+      (saying r a (Relinquish stamp g))
+      (λ _. record {
+        state = record {
+          me = ok.me;
+          own = ok.own;
+          count = ok.count;
+          limit = ok.limit;
+          phase = ok.phase;
+          highest = ok.highest;
+          issued = ok.issued;
+          ours = ok.ours;
+          held = put_small r.held a g small ok.held;
+          back = ok.back;
+          remembered = ok.remembered;
+          top =
+              (let k = ok.top in omega arith);
+          mine = ok.mine;
+        };
+        letters = nil BoundedLetter n;
+      })
+      (λ _. record {
+        state = ok;
+        letters = one BoundedLetter n a (Relinquish stamp g) lt (bounded, small);
+      })))
       (λ _. released_bounded r stamp a bounded lt ok)
 
   -- FAILED
 
-  pub failed_bounded : (a : ℕ) (stamp : Stamp) (r : RequesterState) → BoundedRequester n r → BoundedRequesterDone {A = Unit {0}} n (take_failed a stamp r)
+  pub failed_bounded : (a : ℕ) (stamp : Stamp) (r : RequesterState) → BoundedRequester n r
+      → BoundedRequesterDone {A = Unit {0}} n (take_failed a stamp r)
   failed_bounded a stamp r ok =
-      cond_case (λ d. BoundedRequesterDone {A = Unit {0}} n d) (is_current_wait r stamp && not (holds r a)) (fail a r) (becoming r)
+      cond_case (λ d. BoundedRequesterDone {A = Unit {0}} n d)
+      (is_current_wait r stamp && not (holds r a)) (fail a r) (becoming r)
       (λ _. fail_bounded a r ok) (λ _. record { state = ok; letters = nil BoundedLetter n })
 
   -- INQUIRE
 
-  missing_bounded : (a : ℕ) (stamp : Stamp) (g : ℕ) (r : RequesterState) → a < n → BoundedStamp n stamp → IsU64 g → BoundedRequester n r → BoundedRequesterDone {A = Unit {0}} n (inquired_missing a stamp g r)
+  missing_bounded : (a : ℕ) (stamp : Stamp) (g : ℕ) (r : RequesterState) → a < n
+      → BoundedStamp n stamp → IsU64 g → BoundedRequester n r
+      → BoundedRequesterDone {A = Unit {0}} n (inquired_missing a stamp g r)
   missing_bounded a stamp g r lt bounded small ok =
       let was : IsU64 (back_at r a) = ok.back a (back_at r a) refl in
-      let mid : BoundedRequester n (declining r a g) = record { me = ok.me; own = ok.own; count = ok.count; limit = ok.limit; phase = ok.phase; highest = ok.highest; issued = ok.issued; ours = ok.ours; held = ok.held; back = set_small r.back a (max (back_at r a) g) (omega arith) ok.back; remembered = ok.remembered; top = ok.top; mine = ok.mine } in
+      let mid : BoundedRequester n (declining r a g) =
+      record {
+        me = ok.me;
+        own = ok.own;
+        count = ok.count;
+        limit = ok.limit;
+        phase = ok.phase;
+        highest = ok.highest;
+        issued = ok.issued;
+        ours = ok.ours;
+        held = ok.held;
+        back = set_small r.back a (max (back_at r a) g) (omega arith) ok.back;
+        remembered = ok.remembered;
+        top = ok.top;
+        mine = ok.mine;
+      } in
       let second = fail_bounded a (declining r a g) mid in
-      record { state = second.state; letters = both BoundedLetter n ((a, Relinquish stamp g) ∷ []) (fail a (declining r a g)).letters (one BoundedLetter n a (Relinquish stamp g) lt (bounded, small)) second.letters }
+      record {
+        state = second.state;
+        letters = both BoundedLetter n ((a, Relinquish stamp g) ∷ [])
+            (fail a (declining r a g)).letters (one BoundedLetter n a (Relinquish stamp g) lt
+            (bounded, small)) second.letters;
+      }
 
-  held_bounded : (a : ℕ) (stamp : Stamp) (g : ℕ) (r : RequesterState) → a < n → BoundedStamp n stamp → IsU64 g → BoundedRequester n r → BoundedRequesterDone {A = Unit {0}} n (inquired_held a stamp g r)
+  held_bounded : (a : ℕ) (stamp : Stamp) (g : ℕ) (r : RequesterState) → a < n → BoundedStamp n stamp
+      → IsU64 g → BoundedRequester n r → BoundedRequesterDone {A = Unit {0}} n
+      (inquired_held a stamp g r)
   held_bounded a stamp g r lt bounded small ok =
-      cond_case (λ d. BoundedRequesterDone {A = Unit {0}} n d) (has_failed_below r r.count) (saying (giving_now r a g) a (Relinquish stamp g)) (becoming (remembering r a g))
-      (λ _. record { state = record { me = ok.me; own = ok.own; count = ok.count; limit = ok.limit; phase = ok.phase; highest = ok.highest; issued = ok.issued; ours = ok.ours; held = emptied_small r.held a ok.held; back = set_small r.back a g small ok.back; remembered = ok.remembered; top = ok.top; mine = ok.mine }; letters = one BoundedLetter n a (Relinquish stamp g) lt (bounded, small) })
-      (λ _. record { state = record { me = ok.me; own = ok.own; count = ok.count; limit = ok.limit; phase = ok.phase; highest = ok.highest; issued = ok.issued; ours = ok.ours; held = ok.held; back = ok.back; remembered = put_small r.remembered a g small ok.remembered; top = ok.top; mine = ok.mine }; letters = nil BoundedLetter n })
+      cond_case (λ d. BoundedRequesterDone {A = Unit {0}} n d) (has_failed_below r r.count)
+      (saying (giving_now r a g) a (Relinquish stamp g)) (becoming (remembering r a g))
+      (λ _. record {
+        state = record {
+          me = ok.me;
+          own = ok.own;
+          count = ok.count;
+          limit = ok.limit;
+          phase = ok.phase;
+          highest = ok.highest;
+          issued = ok.issued;
+          ours = ok.ours;
+          held = emptied_small r.held a ok.held;
+          back = set_small r.back a g small ok.back;
+          remembered = ok.remembered;
+          top = ok.top;
+          mine = ok.mine;
+        };
+        letters = one BoundedLetter n a (Relinquish stamp g) lt (bounded, small);
+      })
+      (λ _. record {
+        state = record {
+          me = ok.me;
+          own = ok.own;
+          count = ok.count;
+          limit = ok.limit;
+          phase = ok.phase;
+          highest = ok.highest;
+          issued = ok.issued;
+          ours = ok.ours;
+          held = ok.held;
+          back = ok.back;
+          remembered = put_small r.remembered a g small ok.remembered;
+          top = ok.top;
+          mine = ok.mine;
+        };
+        letters = nil BoundedLetter n;
+      })
 
-  inquired_bounded : (o : Option ℕ) (a : ℕ) (stamp : Stamp) (g : ℕ) (r : RequesterState) → a < n → BoundedStamp n stamp → IsU64 g → BoundedRequester n r → BoundedRequesterDone {A = Unit {0}} n (inquired o a stamp g r)
-  inquired_bounded None a stamp g r lt bounded small ok = missing_bounded a stamp g r lt bounded small ok
+  inquired_bounded : (o : Option ℕ) (a : ℕ) (stamp : Stamp) (g : ℕ) (r : RequesterState) → a < n
+      → BoundedStamp n stamp → IsU64 g → BoundedRequester n r
+      → BoundedRequesterDone {A = Unit {0}} n (inquired o a stamp g r)
+  inquired_bounded None a stamp g r lt bounded small ok =
+      missing_bounded a stamp g r lt bounded small ok
   inquired_bounded (Some h) a stamp g r lt bounded small ok =
-      cond_case (λ d. BoundedRequesterDone {A = Unit {0}} n d) (nat_eq h g) (inquired_held a stamp g r) (saying r a (Relinquish stamp g))
-      (λ _. held_bounded a stamp g r lt bounded small ok) (λ _. record { state = ok; letters = one BoundedLetter n a (Relinquish stamp g) lt (bounded, small) })
+      cond_case (λ d. BoundedRequesterDone {A = Unit {0}} n d) (nat_eq h g)
+      (inquired_held a stamp g r) (saying r a (Relinquish stamp g))
+      (λ _. held_bounded a stamp g r lt bounded small ok)
+      (λ _. record {
+        state = ok;
+        letters = one BoundedLetter n a (Relinquish stamp g) lt (bounded, small);
+      })
 
-  pub inquire_bounded : (a : ℕ) (stamp : Stamp) (g : ℕ) (r : RequesterState) → a < n → BoundedStamp n stamp → IsU64 g → BoundedRequester n r → BoundedRequesterDone {A = Unit {0}} n (take_inquire a stamp g r)
+  pub inquire_bounded : (a : ℕ) (stamp : Stamp) (g : ℕ) (r : RequesterState) → a < n
+      → BoundedStamp n stamp → IsU64 g → BoundedRequester n r
+      → BoundedRequesterDone {A = Unit {0}} n (take_inquire a stamp g r)
   inquire_bounded a stamp g r lt bounded small ok =
-      cond_case (λ d. BoundedRequesterDone {A = Unit {0}} n d) (is_current_wait r stamp) (inquired (held_at r a) a stamp g r) (release_ended r stamp a)
-      (λ _. inquired_bounded (held_at r a) a stamp g r lt bounded small ok) (λ _. released_bounded r stamp a bounded lt ok)
+      cond_case (λ d. BoundedRequesterDone {A = Unit {0}} n d) (is_current_wait r stamp)
+      (inquired (held_at r a) a stamp g r) (release_ended r stamp a)
+      (λ _. inquired_bounded (held_at r a) a stamp g r lt bounded small ok)
+      (λ _. released_bounded r stamp a bounded lt ok)
 
   -- enter
 
-  pub entering_bounded : (r : RequesterState) → r.top < r.limit → BoundedRequester n r → BoundedRequester n (entering r)
+  pub entering_bounded : (r : RequesterState) → r.top < r.limit → BoundedRequester n r
+      → BoundedRequester n (entering r)
   entering_bounded r lt ok =
       let next : IsU64 (r.top + 1) = (let k = ok.limit in omega arith) in
-      record { me = ok.me; own = ok.own; count = ok.count; limit = ok.limit; phase = next; highest = ok.highest; issued = ok.issued; ours = ok.ours; held = ok.held; back = ok.back; remembered = cleared_small; top = next; mine = next }
+      record {
+        me = ok.me;
+        own = ok.own;
+        count = ok.count;
+        limit = ok.limit;
+        phase = next;
+        highest = ok.highest;
+        issued = ok.issued;
+        ours = ok.ours;
+        held = ok.held;
+        back = ok.back;
+        remembered = cleared_small;
+        top = next;
+        mine = next;
+      }
 
   -- leave and cancel
 
-  pub ended_bounded : (r : RequesterState) → BoundedRequester n r → BoundedRequesterDone {A = Unit {0}} n (ended r)
+  pub ended_bounded : (r : RequesterState) → BoundedRequester n r
+      → BoundedRequesterDone {A = Unit {0}} n (ended r)
   ended_bounded r ok = record {
-    state = record { me = ok.me; own = ok.own; count = ok.count; limit = ok.limit; phase = tt; highest = ok.highest; issued = ok.issued; ours = ok.ours; held = cleared_small; back = ok.back; remembered = cleared_small; top = ok.top; mine = ok.mine };
+    state = record {
+      me = ok.me;
+      own = ok.own;
+      count = ok.count;
+      limit = ok.limit;
+      phase = tt;
+      highest = ok.highest;
+      issued = ok.issued;
+      ours = ok.ours;
+      held = cleared_small;
+      back = ok.back;
+      remembered = cleared_small;
+      top = ok.top;
+      mine = ok.mine;
+    };
     letters = to_own_bounded r (Release r.ours r.top) ok (ok.ours, ok.top);
   }
 
   -- tick
 
-  pub again_bounded : (r : RequesterState) → BoundedRequester n r → AreBounded BoundedLetter n (request_again r)
+  pub again_bounded : (r : RequesterState) → BoundedRequester n r
+      → AreBounded BoundedLetter n (request_again r)
   again_bounded r ok =
-      cond_case (λ ls. AreBounded BoundedLetter n ls) (is_waiting r.phase) (addressed (to_missing r (Request r.ours)) r.count) []
+      cond_case (λ ls. AreBounded BoundedLetter n ls) (is_waiting r.phase)
+      (addressed (to_missing r (Request r.ours)) r.count) []
       (λ _ b x sent.
       let p = in_addressed (to_missing r (Request r.ours)) r.count b x sent in
-      let q = sent_if (is_own r b && not (holds r b)) (Request r.ours) x p.1 in
-      (ok.own b (and_true (is_own r b) (not (holds r b)) q.0).0, subst (λ y. BoundedLetter n y) (sym q.1) ok.ours))
+      let q = sent_if (is_own r b && not (holds r b)) (Request r.ours) x p.1 in (
+        ok.own b (and_true (is_own r b) (not (holds r b)) q.0).0,
+        subst (λ y. BoundedLetter n y) (sym q.1) ok.ours,
+      ))
       (λ _. nil BoundedLetter n)

@@ -23,19 +23,26 @@ own_or_not true held h = h refl
 own_or_not false held h = refl
 
 pub holds_each : (r : RequesterState) → holds_all r ≡ true → HoldsAll r
-holds_each r all a lt own = or_false (not (is_own r a)) (holds r a) (each_passes (is_held r) r.count all a lt) (ap not own)
+holds_each r all a lt own =
+    or_false (not (is_own r a)) (holds r a) (each_passes (is_held r) r.count all a lt) (ap not own)
 
 pub holds_all_is : (r : RequesterState) → (holds_all r ≡ true) ↔ HoldsAll r
-holds_all_is r = (holds_each r, λ h. all_pass (is_held r) r.count (λ a lt. own_or_not (is_own r a) (holds r a) (h a lt)))
+holds_all_is r = (
+  holds_each r,
+  λ h. all_pass (is_held r) r.count
+      (λ a lt. own_or_not (is_own r a) (holds r a) (h a lt)),
+)
 
-pub some_failed : (r : RequesterState) (n : ℕ) → has_failed_below r n ≡ true → (b : ℕ) × (b < n) × (has_failed r b ≡ true)
+pub some_failed : (r : RequesterState) (n : ℕ) → has_failed_below r n ≡ true → (b : ℕ) × (b < n)
+    × (has_failed r b ≡ true)
 some_failed r zero h = let bad : ⊥ = cc in absurd bad
 some_failed r (suc n) h = elim (or_cases (has_failed_below r n) (has_failed r n) h) [
   | inl a ↦ let p = some_failed r n a in (p.0, (let lt : p.0 < n = p.1 in omega arith), p.2)
   | inr b ↦ (n, omega arith, b)
 ]
 
-pub none_failed : (r : RequesterState) (n : ℕ) → has_failed_below r n ≡ false → (b : ℕ) → b < n → has_failed r b ≡ false
+pub none_failed : (r : RequesterState) (n : ℕ) → has_failed_below r n ≡ false → (b : ℕ) → b < n
+    → has_failed r b ≡ false
 none_failed r zero h b lt = absurd (omega arith)
 none_failed r (suc n) h b lt =
     let p = neither (has_failed_below r n) (has_failed r n) h in
@@ -44,9 +51,11 @@ none_failed r (suc n) h b lt =
       | inr ne ↦ none_failed r n p.0 b (omega arith)
     ]
 
-failed_test : (t : Bool) (r : RequesterState) → has_failed_below r r.count ≡ t → HasFailed r → t ≡ true
+failed_test : (t : Bool) (r : RequesterState) → has_failed_below r r.count ≡ t → HasFailed r → t
+    ≡ true
 failed_test true r e h = refl
-failed_test false r e (a, lt, failed) = absurd (not_both (has_failed r a) failed (none_failed r r.count e a lt))
+failed_test false r e (a, lt, failed) =
+    absurd (not_both (has_failed r a) failed (none_failed r r.count e a lt))
 
 pub has_failed_is : (r : RequesterState) → (has_failed_below r r.count ≡ true) ↔ HasFailed r
 has_failed_is r = (some_failed r r.count, failed_test (has_failed_below r r.count) r refl)

@@ -29,7 +29,11 @@ module _ (n : ℕ) (s : Node) (ok : BoundedNode n s) where
     limit = ok.limit;
     phase = tt;
     holder = ok.holder;
-    queue = λ j h. elim (queued_pushed s.queue s.me j h) [ inl old ↦ ok.queue j old | inr e ↦ (let k = ok.me in omega arith) ];
+    queue = λ j h. elim (queued_pushed s.queue s.me j h) [
+      | inl old ↦ ok.queue j old
+      | inr e ↦
+          (let k = ok.me in omega arith)
+    ];
     hop = ok.hop;
     unacked = ok.unacked;
     asks = omega arith;
@@ -41,28 +45,37 @@ module _ (n : ℕ) (s : Node) (ok : BoundedNode n s) where
 
   pub asked_bounded : s.asks < last_number → BoundedDone n (asked s)
   asked_bounded low =
-      let first : NodeDone Stamp = answering (becoming (asking s)) (record { number = s.asks + 1; node = s.me }) in
+      let first : NodeDone Stamp = answering (becoming (asking s))
+      (record { number = s.asks + 1; node = s.me }) in
       serving_bounded n first (record { state = asking_bounded low; letters = nil BoundedLetter n })
 
   -- a request
 
-  again_bounded : (o : Option Unacked) → s.unacked ≡ o → AreBounded BoundedLetter n (privilege_again o)
+  again_bounded : (o : Option Unacked) → s.unacked ≡ o
+      → AreBounded BoundedLetter n (privilege_again o)
   again_bounded None e = nil BoundedLetter n
-  again_bounded (Some u) e = let p = ok.unacked u e in one BoundedLetter n u.to (Privilege u.hop u.last) p.0 (p.1, p.2)
+  again_bounded (Some u) e =
+      let p = ok.unacked u e in one BoundedLetter n u.to (Privilege u.hop u.last) p.0 (p.1, p.2)
 
   heard_bounded : (from number j : ℕ) → IsU64 number → IsU64 (heard_from (queueing s from number) j)
-  heard_bounded from number j small = elim (get_or_after s.heard from j number 0 (heard_from (queueing s from number) j) refl) [
-    | inl p ↦ subst (λ x. IsU64 x) p.1 small
-    | inr old ↦ subst (λ x. IsU64 x) old (ok.heard j)
-  ]
+  heard_bounded from number j small =
+      elim (get_or_after s.heard from j number 0 (heard_from (queueing s from number) j) refl) [
+        | inl p ↦ subst (λ x. IsU64 x) p.1 small
+        | inr old ↦ subst (λ x. IsU64 x) old (ok.heard j)
+      ]
 
-  queueing_bounded : (from number : ℕ) → from < n → IsU64 number → BoundedNode n (queueing s from number)
+  queueing_bounded : (from number : ℕ) → from < n → IsU64 number
+      → BoundedNode n (queueing s from number)
   queueing_bounded from number lt small = record {
     me = ok.me;
     limit = ok.limit;
     phase = ok.phase;
     holder = ok.holder;
-    queue = λ j h. elim (queued_joined s.queue from j h) [ inl old ↦ ok.queue j old | inr e ↦ omega arith ];
+    queue = λ j h. elim (queued_joined s.queue from j h) [
+      | inl old ↦ ok.queue j old
+      | inr e ↦
+          omega arith
+    ];
     hop = ok.hop;
     unacked = ok.unacked;
     asks = ok.asks;
@@ -72,14 +85,17 @@ module _ (n : ℕ) (s : Node) (ok : BoundedNode n s) where
     mine = ok.mine;
   }
 
-  request_bounded : (from number : ℕ) → from < n → IsU64 number → BoundedDone n (take_request from number s)
+  request_bounded : (from number : ℕ) → from < n → IsU64 number
+      → BoundedDone n (take_request from number s)
   request_bounded from number lt small =
       let P : NodeDone (Unit {0}) → Type 0 = λ d. BoundedDone n d in
       let first : NodeDone (Unit {0}) = becoming (queueing s from number) in
-      cond_case P (nat_eq from s.holder) (take_holders_request s) (take_others_request from number s)
+      cond_case P (nat_eq from s.holder) (take_holders_request s)
+      (take_others_request from number s)
       (λ _. record { state = ok; letters = again_bounded s.unacked refl })
       (λ _. cond_case P (nat_lt (heard_from s from) number) (serving first) (becoming s)
-      (λ _. serving_bounded n first (record { state = queueing_bounded from number lt small; letters = nil BoundedLetter n }))
+      (λ _. serving_bounded n first
+      (record { state = queueing_bounded from number lt small; letters = nil BoundedLetter n }))
       (λ _. as_it_was))
 
   -- a privilege
@@ -100,12 +116,17 @@ module _ (n : ℕ) (s : Node) (ok : BoundedNode n s) where
     mine = ok.mine;
   }
 
-  privilege_bounded : (from hop last : ℕ) → from < n → IsU64 hop → IsU64 last → BoundedDone n (take_privilege from hop last s)
+  privilege_bounded : (from hop last : ℕ) → from < n → IsU64 hop → IsU64 last
+      → BoundedDone n (take_privilege from hop last s)
   privilege_bounded from hop last lt p q =
       let P : NodeDone (Unit {0}) → Type 0 = λ d. BoundedDone n d in
       let first : NodeDone (Unit {0}) = acknowledging (holding s hop last) from hop in
       cond_case P (nat_lt s.hop hop) (serving first) (acknowledging s from hop)
-      (λ _. serving_bounded n first (record { state = holding_bounded hop last p q; letters = one BoundedLetter n from (Got hop) lt p }))
+      (λ _. serving_bounded n first
+      (record {
+        state = holding_bounded hop last p q;
+        letters = one BoundedLetter n from (Got hop) lt p;
+      }))
       (λ _. record { state = ok; letters = one BoundedLetter n from (Got hop) lt p })
 
   -- word of an arrival
@@ -116,12 +137,26 @@ module _ (n : ℕ) (s : Node) (ok : BoundedNode n s) where
       let first : NodeDone (Unit {0}) = becoming (record s { unacked = None }) in
       cond_case P (is_unacked s.unacked from hop) first (becoming s)
       (λ _. record {
-        state = record { me = ok.me; limit = ok.limit; phase = ok.phase; holder = ok.holder; queue = ok.queue; hop = ok.hop; unacked = λ u e. absurd (none_is_no_some u e); asks = ok.asks; sent = ok.sent; heard = ok.heard; top = ok.top; mine = ok.mine };
+        state = record {
+          me = ok.me;
+          limit = ok.limit;
+          phase = ok.phase;
+          holder = ok.holder;
+          queue = ok.queue;
+          hop = ok.hop;
+          unacked = λ u e. absurd (none_is_no_some u e);
+          asks = ok.asks;
+          sent = ok.sent;
+          heard = ok.heard;
+          top = ok.top;
+          mine = ok.mine;
+        };
         letters = nil BoundedLetter n;
       })
       (λ _. as_it_was)
 
-  pub deliver_bounded : (from : ℕ) (m : RaymondMsg) → from < n → BoundedLetter n m → BoundedDone n (deliver_of from m s)
+  pub deliver_bounded : (from : ℕ) (m : RaymondMsg) → from < n → BoundedLetter n m
+      → BoundedDone n (deliver_of from m s)
   deliver_bounded from (Request number) lt small =
       let P : NodeDone (Unit {0}) → Type 0 = λ d. BoundedDone n d in
       cond_case P (is_neighbour s from) (take_request from number s) (becoming s)
@@ -156,7 +191,20 @@ module _ (n : ℕ) (s : Node) (ok : BoundedNode n s) where
   -- leave
 
   leaving_bounded : BoundedNode n (leaving s)
-  leaving_bounded = record { me = ok.me; limit = ok.limit; phase = tt; holder = ok.holder; queue = ok.queue; hop = ok.hop; unacked = ok.unacked; asks = ok.asks; sent = ok.sent; heard = ok.heard; top = ok.top; mine = ok.mine }
+  leaving_bounded = record {
+    me = ok.me;
+    limit = ok.limit;
+    phase = tt;
+    holder = ok.holder;
+    queue = ok.queue;
+    hop = ok.hop;
+    unacked = ok.unacked;
+    asks = ok.asks;
+    sent = ok.sent;
+    heard = ok.heard;
+    top = ok.top;
+    mine = ok.mine;
+  }
 
   pub left_bounded : BoundedDone n (left s)
   left_bounded =
@@ -166,12 +214,28 @@ module _ (n : ℕ) (s : Node) (ok : BoundedNode n s) where
   -- cancel
 
   withdrawing_bounded : BoundedNode n (withdrawing s)
-  withdrawing_bounded = record { me = ok.me; limit = ok.limit; phase = tt; holder = ok.holder; queue = λ j h. ok.queue j (queued_without s.queue s.me j h).0; hop = ok.hop; unacked = ok.unacked; asks = ok.asks; sent = ok.sent; heard = ok.heard; top = ok.top; mine = ok.mine }
+  withdrawing_bounded = record {
+    me = ok.me;
+    limit = ok.limit;
+    phase = tt;
+    holder = ok.holder;
+    queue = λ j h. ok.queue j (queued_without s.queue s.me j h).0;
+    hop = ok.hop;
+    unacked = ok.unacked;
+    asks = ok.asks;
+    sent = ok.sent;
+    heard = ok.heard;
+    top = ok.top;
+    mine = ok.mine;
+  }
 
   pub cancelled_bounded : BoundedDone n (cancelled s)
   cancelled_bounded =
       let first : NodeDone (Unit {0}) = becoming (withdrawing s) in
-      serving_bounded n first (record { state = withdrawing_bounded; letters = nil BoundedLetter n })
+      serving_bounded n first (record {
+        state = withdrawing_bounded;
+        letters = nil BoundedLetter n;
+      })
 
   -- tick
 
@@ -179,14 +243,20 @@ module _ (n : ℕ) (s : Node) (ok : BoundedNode n s) where
   request_again_bounded =
       let P : List (ℕ × RaymondMsg) → Type 0 = λ ls. AreBounded BoundedLetter n ls in
       cond_case P (s.has_asked && not (is_holder s)) ((s.holder, Request s.sent) ∷ []) []
-      (λ _. one BoundedLetter n s.holder (Request s.sent) ok.holder ok.sent) (λ _. nil BoundedLetter n)
+      (λ _. one BoundedLetter n s.holder (Request s.sent) ok.holder ok.sent)
+      (λ _. nil BoundedLetter n)
 
   pub tick_bounded : BoundedDone n (tick_of s)
-  tick_bounded = record { state = ok; letters = both BoundedLetter n (privilege_again s.unacked) (request_again s) (again_bounded s.unacked refl) request_again_bounded }
+  tick_bounded = record {
+    state = ok;
+    letters = both BoundedLetter n (privilege_again s.unacked) (request_again s)
+        (again_bounded s.unacked refl) request_again_bounded;
+  }
 
 -- a node at rest
 
-pub start_bounded : (tree : Rooted) (origin limit i : ℕ) → IsRooted tree → origin < 2 ^ 64 → limit ≤ 1000000 → i < tree.count → BoundedNode tree.count (start_of tree i origin limit)
+pub start_bounded : (tree : Rooted) (origin limit i : ℕ) → IsRooted tree → origin < 2 ^ 64
+    → limit ≤ 1000000 → i < tree.count → BoundedNode tree.count (start_of tree i origin limit)
 start_bounded tree origin limit i valid small high lt = record {
   me = lt;
   limit = omega arith;

@@ -20,17 +20,24 @@ use Rattle.mx_raymond.specs.laws.PrivilegeStays.{KeepsPrivilege, stays_safe, sti
 use Rattle.mx_raymond.specs.laws.PrivilegeMoves.{holds, passed_kept, arrived_kept, entered_kept}
 
 -- a letter that is a request is no privilege
-only_request : (to b hop last number : ℕ) → IsIn {X = ℕ × RaymondMsg} (b, Privilege hop last) ((to, Request number) ∷ []) → ⊥
-only_request to b hop last number (inl e) = let m : Privilege hop last ≡ Request number = ap (λ x. x.1) e in cc
+only_request : (to b hop last number : ℕ)
+    → IsIn {X = ℕ × RaymondMsg} (b, Privilege hop last) ((to, Request number) ∷ []) → ⊥
+only_request to b hop last number (inl e) =
+    let m : Privilege hop last ≡ Request number = ap (λ x. x.1) e in cc
 only_request to b hop last number (inr none) = absurd none
 
-only_got : (to b hop last gone : ℕ) → IsIn {X = ℕ × RaymondMsg} (b, Privilege hop last) ((to, Got gone) ∷ []) → ⊥
+only_got : (to b hop last gone : ℕ) → IsIn {X = ℕ × RaymondMsg} (b, Privilege hop last)
+    ((to, Got gone) ∷ []) → ⊥
 only_got to b hop last gone (inl e) = let m : Privilege hop last ≡ Got gone = ap (λ x. x.1) e in cc
 only_got to b hop last gone (inr none) = absurd none
 
 module _ (w : World Node RaymondMsg) (i : ℕ) (s : Node) (at : IsNode w i s) (safe : IsSafe w) where
   -- a step that changes neither the privilege's place nor what is known of it, and sends nothing
-  quiet_stays : {A : Type 0} (state : Node) (answer : A) → state.me ≡ s.me → state.holder ≡ s.holder → state.hop ≡ s.hop → state.top ≡ s.top → state.mine ≡ s.mine → ((n : ℕ) → state.phase ≡ Inside n → s.phase ≡ Inside n) → ((u : Unacked) → state.unacked ≡ Some u → s.unacked ≡ Some u) → KeepsPrivilege w i s (answering (becoming state) answer)
+  quiet_stays : {A : Type 0} (state : Node) (answer : A) → state.me ≡ s.me → state.holder ≡ s.holder
+      → state.hop ≡ s.hop → state.top ≡ s.top → state.mine ≡ s.mine
+      → ((n : ℕ) → state.phase ≡ Inside n → s.phase ≡ Inside n)
+      → ((u : Unacked) → state.unacked ≡ Some u → s.unacked ≡ Some u)
+      → KeepsPrivilege w i s (answering (becoming state) answer)
   quiet_stays state answer me holder hop top mine inside unacked = record {
     me = me;
     holder = holder;
@@ -43,7 +50,8 @@ module _ (w : World Node RaymondMsg) (i : ℕ) (s : Node) (at : IsNode w i s) (s
   }
 
   -- the privilege that is sent again was sent
-  again_sent : (o : Option Unacked) → s.unacked ≡ o → (b hop last : ℕ) → IsIn (b, Privilege hop last) (privilege_again o) → WasSent w i b (Privilege hop last)
+  again_sent : (o : Option Unacked) → s.unacked ≡ o → (b hop last : ℕ)
+      → IsIn (b, Privilege hop last) (privilege_again o) → WasSent w i b (Privilege hop last)
   again_sent None e b hop last none = absurd none
   again_sent (Some u) e b hop last (inl p) =
       let ok : IsNodeOk w safe.highest i s = safe.at.nodes i s at in
@@ -61,7 +69,10 @@ module _ (w : World Node RaymondMsg) (i : ℕ) (s : Node) (at : IsNode w i s) (s
       let may = may_pass s next e in
       let ok : IsNodeOk w safe.highest i s = safe.at.nodes i s at in
       let h = holds w i s at safe.highest safe.at (may.holder ∙ ok.me) in
-      record { highest = safe.highest + 1; at = passed_kept w i s at safe.highest safe.at next may h.0 h.1 })
+      record {
+        highest = safe.highest + 1;
+        at = passed_kept w i s at safe.highest safe.at next may h.0 h.1;
+      })
       (λ _. still_safe w i s at safe)
 
   assign_safe : IsSafe (after w i (assign_privilege s))
@@ -86,13 +97,20 @@ module _ (w : World Node RaymondMsg) (i : ℕ) (s : Node) (at : IsNode w i s) (s
       (λ _. still_safe w i s at safe)
 
 -- a safe step, and then one that keeps each world safe
-then_safe : {A : Type 0} (w : World Node RaymondMsg) (i : ℕ) (s : Node) (at : IsNode w i s) (first : NodeDone A) (second : Node → NodeDone (Unit {0})) → ((v : World Node RaymondMsg) (t : Node) → IsNode v i t → IsSafe v → IsSafe (after v i (second t))) → IsSafe (after w i first) → IsSafe (after w i (and_then first second))
+then_safe : {A : Type 0} (w : World Node RaymondMsg) (i : ℕ) (s : Node) (at : IsNode w i s)
+    (first : NodeDone A) (second : Node → NodeDone (Unit {0}))
+    → ((v : World Node RaymondMsg) (t : Node) → IsNode v i t → IsSafe v
+    → IsSafe (after v i (second t))) → IsSafe (after w i first)
+    → IsSafe (after w i (and_then first second))
 then_safe w i s at first second keeps safe =
-    subst (λ v. IsSafe v) (after_twice w i first (second first.state)) (keeps (after w i first) first.state (itself w i s first at) safe)
+    subst (λ v. IsSafe v) (after_twice w i first (second first.state))
+    (keeps (after w i first) first.state (itself w i s first at) safe)
 
-serving_safe : {A : Type 0} (w : World Node RaymondMsg) (i : ℕ) (s : Node) (at : IsNode w i s) (step : NodeDone A) → IsSafe (after w i step) → IsSafe (after w i (serving step))
+serving_safe : {A : Type 0} (w : World Node RaymondMsg) (i : ℕ) (s : Node) (at : IsNode w i s)
+    (step : NodeDone A) → IsSafe (after w i step) → IsSafe (after w i (serving step))
 serving_safe w i s at step safe =
-    then_safe w i s at (and_then step assign_privilege) make_request (λ v t tat ok. make_safe v i t tat ok)
+    then_safe w i s at (and_then step assign_privilege) make_request
+    (λ v t tat ok. make_safe v i t tat ok)
     (then_safe w i s at step assign_privilege (λ v t tat ok. assign_safe v i t tat ok) safe)
 
 module _ (w : World Node RaymondMsg) (i : ℕ) (s : Node) (at : IsNode w i s) (safe : IsSafe w) where
@@ -100,9 +118,11 @@ module _ (w : World Node RaymondMsg) (i : ℕ) (s : Node) (at : IsNode w i s) (s
 
   pub asked_safe : IsSafe (after w i (asked s))
   asked_safe =
-      let first : NodeDone Stamp = answering (becoming (asking s)) (record { number = s.asks + 1; node = s.me }) in
+      let first : NodeDone Stamp = answering (becoming (asking s))
+      (record { number = s.asks + 1; node = s.me }) in
       serving_safe w i s at first (stays_safe w i s at first safe
-      (quiet_stays w i s at safe (asking s) first.answer refl refl refl refl refl (λ n f. let bad : ⊥ = cc in absurd bad) (λ u f. f)))
+      (quiet_stays w i s at safe (asking s) first.answer refl refl refl refl refl
+      (λ n f. let bad : ⊥ = cc in absurd bad) (λ u f. f)))
 
   -- a request comes
 
@@ -124,13 +144,15 @@ module _ (w : World Node RaymondMsg) (i : ℕ) (s : Node) (at : IsNode w i s) (s
       let first : NodeDone (Unit {0}) = becoming (queueing s from number) in
       cond_case P (nat_lt (heard_from s from) number) (serving first) (becoming s)
       (λ _. serving_safe w i s at first (stays_safe w i s at first safe
-      (quiet_stays w i s at safe (queueing s from number) tt refl refl refl refl refl (λ n f. f) (λ u f. f))))
+      (quiet_stays w i s at safe (queueing s from number) tt refl refl refl refl refl (λ n f. f)
+      (λ u f. f))))
       (λ _. still_safe w i s at safe)
 
   request_safe : (from number : ℕ) → IsSafe (after w i (take_request from number s))
   request_safe from number =
       let P : NodeDone (Unit {0}) → Type 0 = λ d. IsSafe (after w i d) in
-      cond_case P (nat_eq from s.holder) (take_holders_request s) (take_others_request from number s)
+      cond_case P (nat_eq from s.holder) (take_holders_request s)
+      (take_others_request from number s)
       (λ _. holders_request_safe) (λ _. others_request_safe from number)
 
   -- a privilege comes
@@ -147,13 +169,17 @@ module _ (w : World Node RaymondMsg) (i : ℕ) (s : Node) (at : IsNode w i s) (s
     letters = λ b h c sent. absurd (only_got from b h c hop sent);
   })
 
-  privilege_safe : (from hop last : ℕ) → WasSent w from i (Privilege hop last) → IsSafe (after w i (take_privilege from hop last s))
+  privilege_safe : (from hop last : ℕ) → WasSent w from i (Privilege hop last)
+      → IsSafe (after w i (take_privilege from hop last s))
   privilege_safe from hop last sent =
       let P : NodeDone (Unit {0}) → Type 0 = λ d. IsSafe (after w i d) in
       let first : NodeDone (Unit {0}) = acknowledging (holding s hop last) from hop in
       cond_case P (nat_lt s.hop hop) (serving first) (acknowledging s from hop)
       (λ e. serving_safe w i s at first
-      (record { highest = safe.highest; at = arrived_kept w i s at safe.highest safe.at from hop last sent (lt_true s.hop hop e) }))
+      (record {
+        highest = safe.highest;
+        at = arrived_kept w i s at safe.highest safe.at from hop last sent (lt_true s.hop hop e);
+      }))
       (λ _. told_safe from hop)
 
   -- word of an arrival comes
@@ -164,10 +190,12 @@ module _ (w : World Node RaymondMsg) (i : ℕ) (s : Node) (at : IsNode w i s) (s
       let first : NodeDone (Unit {0}) = becoming (record s { unacked = None }) in
       cond_case P (is_unacked s.unacked from hop) first (becoming s)
       (λ _. stays_safe w i s at first safe
-      (quiet_stays w i s at safe (record s { unacked = None }) tt refl refl refl refl refl (λ n f. f) (λ u f. let bad : ⊥ = cc in absurd bad)))
+      (quiet_stays w i s at safe (record s { unacked = None }) tt refl refl refl refl refl
+      (λ n f. f) (λ u f. let bad : ⊥ = cc in absurd bad)))
       (λ _. still_safe w i s at safe)
 
-  pub deliver_safe : (from : ℕ) (m : RaymondMsg) → WasSent w from i m → IsSafe (after w i (deliver_of from m s))
+  pub deliver_safe : (from : ℕ) (m : RaymondMsg) → WasSent w from i m
+      → IsSafe (after w i (deliver_of from m s))
   deliver_safe from (Request number) sent =
       let P : NodeDone (Unit {0}) → Type 0 = λ d. IsSafe (after w i d) in
       cond_case P (is_neighbour s from) (take_request from number s) (becoming s)
@@ -188,15 +216,20 @@ module _ (w : World Node RaymondMsg) (i : ℕ) (s : Node) (at : IsNode w i s) (s
       let ok : IsNodeOk w safe.highest i s = safe.at.nodes i s at in
       let mine = permission_holds s has ∙ ok.me in
       let h = holds w i s at safe.highest safe.at mine in
-      record { highest = safe.highest; at = entered_kept w i s at safe.highest safe.at {A = Unit {0}} tt mine h.0 h.1 }
+      record {
+        highest = safe.highest;
+        at = entered_kept w i s at safe.highest safe.at {A = Unit {0}} tt mine h.0 h.1;
+      }
 
   -- leave and cancel: the node rests, with its queue or another
 
-  rested_safe : (queue : List ℕ) → IsSafe (after w i (serving (becoming (record s { phase = Idle; queue = queue }))))
+  rested_safe : (queue : List ℕ) → IsSafe
+      (after w i (serving (becoming (record s { phase = Idle; queue = queue }))))
   rested_safe queue =
       let first : NodeDone (Unit {0}) = becoming (record s { phase = Idle; queue = queue }) in
       serving_safe w i s at first (stays_safe w i s at first safe
-      (quiet_stays w i s at safe first.state first.answer refl refl refl refl refl (λ k f. let bad : ⊥ = cc in absurd bad) (λ u f. f)))
+      (quiet_stays w i s at safe first.state first.answer refl refl refl refl refl
+      (λ k f. let bad : ⊥ = cc in absurd bad) (λ u f. f)))
 
   pub left_safe : IsSafe (after w i (left s))
   left_safe = rested_safe s.queue
@@ -206,7 +239,9 @@ module _ (w : World Node RaymondMsg) (i : ℕ) (s : Node) (at : IsNode w i s) (s
 
   -- tick
 
-  not_request_again : (c : Bool) (b hop last : ℕ) → IsIn {X = ℕ × RaymondMsg} (b, Privilege hop last) (cond c ((s.holder, Request s.sent) ∷ []) []) → ⊥
+  not_request_again : (c : Bool) (b hop last : ℕ)
+      → IsIn {X = ℕ × RaymondMsg} (b, Privilege hop last)
+      (cond c ((s.holder, Request s.sent) ∷ []) []) → ⊥
   not_request_again true b hop last sent = only_request s.holder b hop last s.sent sent
   not_request_again false b hop last none = absurd none
 
@@ -219,8 +254,10 @@ module _ (w : World Node RaymondMsg) (i : ℕ) (s : Node) (at : IsNode w i s) (s
     mine = refl;
     inside = λ n e. e;
     unacked = λ u e. e;
-    letters = λ b hop last sent. elim (in_append (b, Privilege hop last) (privilege_again s.unacked) (request_again s) sent) [
-      | inl old ↦ again_sent w i s at safe s.unacked refl b hop last old
-      | inr request ↦ absurd (not_request_again (s.has_asked && not (is_holder s)) b hop last request)
-    ];
+    letters = λ b hop last sent. elim (in_append (b, Privilege hop last) (privilege_again s.unacked)
+        (request_again s) sent) [
+          | inl old ↦ again_sent w i s at safe s.unacked refl b hop last old
+          | inr request ↦ absurd (not_request_again
+              (s.has_asked && not (is_holder s)) b hop last request)
+        ];
   })

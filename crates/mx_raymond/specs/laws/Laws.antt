@@ -38,7 +38,8 @@ make_steady s =
     cond_case P (must_request s) (requested s) (becoming s) (λ _. refl) (λ _. refl)
 
 serving_steady : {A : Type 0} (step : NodeDone A) → IsSteady step.state (serving step).state
-serving_steady step = make_steady (assign_privilege step.state).state ∙ assign_to_steady (head_of step.state.queue) step.state
+serving_steady step = make_steady (assign_privilege step.state).state
+    ∙ assign_to_steady (head_of step.state.queue) step.state
 
 -- a delivery
 
@@ -51,7 +52,8 @@ request_steady from number s =
     (λ _. cond_case P (nat_lt (heard_from s from) number) (serving first) (becoming s)
     (λ _. serving_steady first) (λ _. refl))
 
-privilege_steady : (from hop last : ℕ) (s : Node) → IsSteady s (take_privilege from hop last s).state
+privilege_steady : (from hop last : ℕ) (s : Node)
+    → IsSteady s (take_privilege from hop last s).state
 privilege_steady from hop last s =
     let P : NodeDone (Unit {0}) → Type 0 = λ d. IsSteady s d.state in
     let first : NodeDone (Unit {0}) = acknowledging (holding s hop last) from hop in
@@ -61,24 +63,30 @@ privilege_steady from hop last s =
 got_steady : (from hop : ℕ) (s : Node) → IsSteady s (take_got from hop s).state
 got_steady from hop s =
     let P : NodeDone (Unit {0}) → Type 0 = λ d. IsSteady s d.state in
-    cond_case P (is_unacked s.unacked from hop) (becoming (record s { unacked = None })) (becoming s)
+    cond_case P (is_unacked s.unacked from hop) (becoming (record s { unacked = None }))
+    (becoming s)
     (λ _. refl) (λ _. refl)
 
 deliver_steady : (from : ℕ) (m : RaymondMsg) (s : Node) → IsSteady s (deliver_of from m s).state
 deliver_steady from (Request number) s =
     let P : NodeDone (Unit {0}) → Type 0 = λ d. IsSteady s d.state in
-    cond_case P (is_neighbour s from) (take_request from number s) (becoming s) (λ _. request_steady from number s) (λ _. refl)
+    cond_case P (is_neighbour s from) (take_request from number s) (becoming s)
+    (λ _. request_steady from number s) (λ _. refl)
 deliver_steady from (Privilege hop last) s =
     let P : NodeDone (Unit {0}) → Type 0 = λ d. IsSteady s d.state in
-    cond_case P (is_neighbour s from) (take_privilege from hop last s) (becoming s) (λ _. privilege_steady from hop last s) (λ _. refl)
+    cond_case P (is_neighbour s from) (take_privilege from hop last s) (becoming s)
+    (λ _. privilege_steady from hop last s) (λ _. refl)
 deliver_steady from (Got hop) s =
     let P : NodeDone (Unit {0}) → Type 0 = λ d. IsSteady s d.state in
-    cond_case P (is_neighbour s from) (take_got from hop s) (becoming s) (λ _. got_steady from hop s) (λ _. refl)
+    cond_case P (is_neighbour s from) (take_got from hop s) (becoming s)
+    (λ _. got_steady from hop s) (λ _. refl)
 
 pub raymond_phases : KeepsPhases raymond_core
 raymond_phases = phases_of raymond_rows (record {
   start = λ tree i origin limit. refl;
-  ask = λ s. let first : NodeDone Stamp = answering (becoming (asking s)) (record { number = s.asks + 1; node = s.me }) in serving_steady first;
+  ask = λ s. let first : NodeDone Stamp =
+      answering (becoming (asking s)) (record { number = s.asks + 1; node = s.me }) in
+      serving_steady first;
   deliver = deliver_steady;
   enter = λ s. refl;
   leave = λ s. let first : NodeDone (Unit {0}) = becoming (leaving s) in serving_steady first;
@@ -93,7 +101,8 @@ module _ (tree : Rooted) (origin limit : ℕ) (valid : IsRooted tree) where
   at_rest = started raymond_core tree origin limit
 
   -- the state of a node at the start
-  started_as : (i : ℕ) (s : Node) → IsNode at_rest i s → (i < tree.count) × (s ≡ start_of tree i origin limit)
+  started_as : (i : ℕ) (s : Node) → IsNode at_rest i s → (i < tree.count)
+      × (s ≡ start_of tree i origin limit)
   started_as i s at = get_each_below (λ k. start_of tree k origin limit) tree.count i s at
 
   -- a node that is its own holder at the start is the tree's holder
@@ -111,7 +120,8 @@ module _ (tree : Rooted) (origin limit : ℕ) (valid : IsRooted tree) where
   started_held : IsHeld at_rest origin
   started_held = record {
     node = tree.holder;
-    here = subst (λ n. tree.holder < n) (sym (length_each_below (λ k. start_of tree k origin limit) tree.count)) valid.holder;
+    here = subst (λ n. tree.holder < n) (sym
+        (length_each_below (λ k. start_of tree k origin limit) tree.count)) valid.holder;
     holder = λ t at. ap (λ x. x.holder) (started_as tree.holder t at).1 ∙ valid.toward_holder;
     hop = λ t at. ap (λ x. x.hop) (started_as tree.holder t at).1;
     top = λ t at. none_entered t.top;
@@ -140,16 +150,20 @@ module _ (tree : Rooted) (origin limit : ℕ) (valid : IsRooted tree) where
 
 -- the letters by membership
 
-module _ (w : World Node RaymondMsg) (sent : List (ℕ × ℕ × RaymondMsg)) (same : (x : ℕ × ℕ × RaymondMsg) → IsIn x w.sent ↔ IsIn x sent) where
+module _ (w : World Node RaymondMsg) (sent : List (ℕ × ℕ × RaymondMsg))
+    (same : (x : ℕ × ℕ × RaymondMsg) → IsIn x w.sent ↔ IsIn x sent) where
   abbrev other : World Node RaymondMsg
   other = record { nodes = w.nodes; sent = sent }
 
-  letter_by : (highest b : ℕ) (m : RaymondMsg) → IsLetterOk w highest b m → IsLetterOk other highest b m
+  letter_by : (highest b : ℕ) (m : RaymondMsg) → IsLetterOk w highest b m
+      → IsLetterOk other highest b m
   letter_by highest b (Request number) ok = tt
-  letter_by highest b (Privilege hop last) ok = record { low = ok.low; reached = ok.reached; seen = ok.seen }
+  letter_by highest b (Privilege hop last) ok =
+      record { low = ok.low; reached = ok.reached; seen = ok.seen }
   letter_by highest b (Got hop) ok = tt
 
-  privilege_by : (highest : ℕ) → IsHeld w highest ⊎ IsUnderWay w highest → IsHeld other highest ⊎ IsUnderWay other highest
+  privilege_by : (highest : ℕ) → IsHeld w highest ⊎ IsUnderWay w highest → IsHeld other highest
+      ⊎ IsUnderWay other highest
   privilege_by highest (inl h) = inl (record {
     node = h.node;
     here = h.here;
@@ -182,7 +196,8 @@ module _ (w : World Node RaymondMsg) (sent : List (ℕ × ℕ × RaymondMsg)) (s
         inside_holds = ok.inside_holds;
         unacked_sent = λ u e. (same (i, u.to, Privilege u.hop u.last)).0 (ok.unacked_sent u e);
       };
-      letters = λ a b m was. letter_by safe.highest b m (safe.at.letters a b m ((same (a, b, m)).1 was));
+      letters =
+          λ a b m was. letter_by safe.highest b m (safe.at.letters a b m ((same (a, b, m)).1 was));
       privilege = privilege_by safe.highest safe.at.privilege;
     };
   }

@@ -22,7 +22,8 @@ module _ (n : ℕ) where
   still_bounded : (s : Node) → BoundedNode n s → BoundedDone {A = Unit {0}} n (becoming s)
   still_bounded s ok = record { state = ok; letters = nil BoundedLetter n }
 
-  passed_bounded : (s : Node) (next : ℕ) → next < n → s.hop < last_number → BoundedNode n s → BoundedDone n (passed s next)
+  passed_bounded : (s : Node) (next : ℕ) → next < n → s.hop < last_number → BoundedNode n s
+      → BoundedDone n (passed s next)
   passed_bounded s next lt low ok = record {
     state = record {
       me = ok.me;
@@ -31,7 +32,9 @@ module _ (n : ℕ) where
       holder = lt;
       queue = λ j h. ok.queue j (queued_behind s.queue j h);
       hop = omega arith;
-      unacked = λ u e. subst (λ x. BoundedUnacked n x) (same_Some {A = Unacked} (record { to = next; hop = s.hop + 1; last = s.top }) u e) (lt, omega arith, ok.top);
+      unacked = λ u e. subst (λ x. BoundedUnacked n x)
+          (same_Some {A = Unacked} (record { to = next; hop = s.hop + 1; last = s.top }) u e)
+          (lt, omega arith, ok.top);
       asks = ok.asks;
       sent = ok.sent;
       heard = ok.heard;
@@ -41,20 +44,36 @@ module _ (n : ℕ) where
     letters = one BoundedLetter n next (Privilege (s.hop + 1) s.top) lt (omega arith, ok.top);
   }
 
-  assign_to_bounded : (o : Option ℕ) (s : Node) → head_of s.queue ≡ o → BoundedNode n s → BoundedDone n (assign_privilege_to o s)
+  assign_to_bounded : (o : Option ℕ) (s : Node) → head_of s.queue ≡ o → BoundedNode n s
+      → BoundedDone n (assign_privilege_to o s)
   assign_to_bounded None s e ok = still_bounded s ok
   assign_to_bounded (Some next) s e ok =
       let P : NodeDone (Unit {0}) → Type 0 = λ d. BoundedDone n d in
       cond_case P (can_pass s next) (passed s next) (becoming s)
-      (λ can. passed_bounded s next (ok.queue next (queued_head s.queue next e)) (may_pass s next can).hop ok)
+      (λ can. passed_bounded s next (ok.queue next (queued_head s.queue next e))
+      (may_pass s next can).hop ok)
       (λ _. still_bounded s ok)
 
   assign_bounded : (s : Node) → BoundedNode n s → BoundedDone n (assign_privilege s)
   assign_bounded s ok = assign_to_bounded (head_of s.queue) s refl ok
 
-  requested_bounded : (s : Node) → s.sent < last_number → BoundedNode n s → BoundedDone n (requested s)
+  requested_bounded : (s : Node) → s.sent < last_number → BoundedNode n s
+      → BoundedDone n (requested s)
   requested_bounded s low ok = record {
-    state = record { me = ok.me; limit = ok.limit; phase = ok.phase; holder = ok.holder; queue = ok.queue; hop = ok.hop; unacked = ok.unacked; asks = ok.asks; sent = omega arith; heard = ok.heard; top = ok.top; mine = ok.mine };
+    state = record {
+      me = ok.me;
+      limit = ok.limit;
+      phase = ok.phase;
+      holder = ok.holder;
+      queue = ok.queue;
+      hop = ok.hop;
+      unacked = ok.unacked;
+      asks = ok.asks;
+      sent = omega arith;
+      heard = ok.heard;
+      top = ok.top;
+      mine = ok.mine;
+    };
     letters = one BoundedLetter n s.holder (Request (s.sent + 1)) ok.holder (omega arith);
   }
 
@@ -65,10 +84,17 @@ module _ (n : ℕ) where
       (λ must. requested_bounded s (may_request s must) ok)
       (λ _. still_bounded s ok)
 
-  then_bounded : {A : Type 0} (first : NodeDone A) (second : Node → NodeDone (Unit {0})) → ((s : Node) → BoundedNode n s → BoundedDone n (second s)) → BoundedDone n first → BoundedDone n (and_then first second)
+  then_bounded : {A : Type 0} (first : NodeDone A) (second : Node → NodeDone (Unit {0}))
+      → ((s : Node) → BoundedNode n s → BoundedDone n (second s)) → BoundedDone n first
+      → BoundedDone n (and_then first second)
   then_bounded first second keeps ok =
       let next = keeps first.state ok.state in
-      record { state = next.state; letters = both BoundedLetter n first.letters (second first.state).letters ok.letters next.letters }
+      record {
+        state = next.state;
+        letters = both BoundedLetter n first.letters (second first.state).letters ok.letters next.letters;
+      }
 
-  pub serving_bounded : {A : Type 0} (step : NodeDone A) → BoundedDone n step → BoundedDone n (serving step)
-  serving_bounded step ok = then_bounded (and_then step assign_privilege) make_request make_bounded (then_bounded step assign_privilege assign_bounded ok)
+  pub serving_bounded : {A : Type 0} (step : NodeDone A) → BoundedDone n step
+      → BoundedDone n (serving step)
+  serving_bounded step ok = then_bounded (and_then step assign_privilege) make_request make_bounded
+      (then_bounded step assign_privilege assign_bounded ok)

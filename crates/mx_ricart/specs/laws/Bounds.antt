@@ -28,61 +28,125 @@ module _ (n : ℕ) (s : Node) (ok : BoundedNode n s) where
   as_was = record { state = ok; letters = nil BoundedLetter n }
 
   -- a request to some nodes of the cluster
-  requests_bounded : (stamp : Stamp) → BoundedStamp n stamp → (skips : ℕ → Bool) → AreBounded BoundedLetter n (addressed (λ j. cond (skips j) None (Some (Request stamp))) s.count)
+  requests_bounded : (stamp : Stamp) → BoundedStamp n stamp → (skips : ℕ → Bool)
+      → AreBounded BoundedLetter n (addressed
+      (λ j. cond (skips j) None (Some (Request stamp))) s.count)
   requests_bounded stamp bounded skips b m sent =
       let r = in_addressed (λ j. cond (skips j) None (Some (Request stamp))) s.count b m sent in
-      let few = ok.count in
-      (omega (arith, r.0), subst (λ x. BoundedLetter n x) (sym (sent_unless (skips b) (Request stamp) m r.1).1) bounded)
+      let few = ok.count in (
+        omega (arith, r.0),
+        subst (λ x. BoundedLetter n x)
+            (sym (sent_unless (skips b) (Request stamp) m r.1).1) bounded,
+      )
 
   pub asked_bounded : s.highest < last_number → BoundedDone n (asked s)
   asked_bounded lt = record {
-    state = record { me = ok.me; count = ok.count; limit = ok.limit; phase = tt; highest = omega arith; ours = (omega arith, ok.me); waits = ok.waits; top = ok.top; mine = ok.mine };
+    state = record {
+      me = ok.me;
+      count = ok.count;
+      limit = ok.limit;
+      phase = tt;
+      highest = omega arith;
+      ours = (omega arith, ok.me);
+      waits = ok.waits;
+      top = ok.top;
+      mine = ok.mine;
+    };
     letters = requests_bounded (asking s).ours (omega arith, ok.me) (λ j. nat_eq j s.me);
   }
 
   -- a request comes
 
-  later_bounded : (o : Option Stamp) (stamp d : Stamp) → ((u : Stamp) → o ≡ Some u → BoundedStamp n u) → BoundedStamp n stamp → later_of o stamp ≡ d → BoundedStamp n d
+  later_bounded : (o : Option Stamp) (stamp d : Stamp)
+      → ((u : Stamp) → o ≡ Some u → BoundedStamp n u) → BoundedStamp n stamp → later_of o stamp ≡ d
+      → BoundedStamp n d
   later_bounded None stamp d old bounded is = subst (λ x. BoundedStamp n x) is bounded
   later_bounded (Some u) stamp d old bounded is =
-      subst (λ x. BoundedStamp n x) is (cond_case (λ x. BoundedStamp n x) (is_before_of u stamp) stamp u (λ _. bounded) (λ _. old u refl))
+      subst (λ x. BoundedStamp n x) is (cond_case (λ x. BoundedStamp n x)
+      (is_before_of u stamp) stamp u (λ _. bounded) (λ _. old u refl))
 
-  waits_bounded : (stamp : Stamp) → BoundedStamp n stamp → (j : ℕ) (d : Stamp) → get_or (slice_set s.deferred stamp.node (Some (later_of (deferred_at s stamp.node) stamp))) j None ≡ Some d → BoundedStamp n d
-  waits_bounded stamp bounded j d was = elim (get_or_after s.deferred stamp.node j (Some (later_of (deferred_at s stamp.node) stamp)) None (Some d) was) [
-    | inl p ↦ later_bounded (deferred_at s stamp.node) stamp d (λ u h. ok.waits stamp.node u h) bounded (same_Some (later_of (deferred_at s stamp.node) stamp) d p.1)
-    | inr q ↦ ok.waits j d q
-  ]
+  waits_bounded : (stamp : Stamp) → BoundedStamp n stamp → (j : ℕ) (d : Stamp)
+      → get_or (slice_set s.deferred stamp.node
+      (Some (later_of (deferred_at s stamp.node) stamp))) j None ≡ Some d → BoundedStamp n d
+  waits_bounded stamp bounded j d was =
+      elim (get_or_after s.deferred stamp.node j
+      (Some (later_of (deferred_at s stamp.node) stamp)) None (Some d) was) [
+        | inl p ↦ later_bounded (deferred_at s stamp.node) stamp d
+            (λ u h. ok.waits stamp.node u h) bounded
+            (same_Some (later_of (deferred_at s stamp.node) stamp) d p.1)
+        | inr q ↦ ok.waits j d q
+      ]
 
-  request_bounded : (stamp : Stamp) → BoundedStamp n stamp → BoundedDone {A = Unit {0}} n (take_request s stamp)
+  request_bounded : (stamp : Stamp) → BoundedStamp n stamp
+      → BoundedDone {A = Unit {0}} n (take_request s stamp)
   request_bounded stamp bounded =
-      let seen : IsU64 (max s.highest stamp.number) = (let a = ok.highest in let b = bounded.0 in omega arith) in
-      cond_case (λ d. BoundedDone {A = Unit {0}} n d) (is_busy s.phase && is_before_of s.ours stamp) (becoming (deferring (seeing s stamp.number) stamp)) (replied (seeing s stamp.number) stamp)
+      let seen : IsU64 (max s.highest stamp.number) =
+      (let a = ok.highest in let b = bounded.0 in omega arith) in
+      cond_case (λ d. BoundedDone {A = Unit {0}} n d) (is_busy s.phase && is_before_of s.ours stamp)
+      (becoming (deferring (seeing s stamp.number) stamp))
+      (replied (seeing s stamp.number) stamp)
       (λ _. record {
-        state = record { me = ok.me; count = ok.count; limit = ok.limit; phase = ok.phase; highest = seen; ours = ok.ours; waits = waits_bounded stamp bounded; top = ok.top; mine = ok.mine };
+        state = record {
+          me = ok.me;
+          count = ok.count;
+          limit = ok.limit;
+          phase = ok.phase;
+          highest = seen;
+          ours = ok.ours;
+          waits = waits_bounded stamp bounded;
+          top = ok.top;
+          mine = ok.mine;
+        };
         letters = nil BoundedLetter n;
       })
       (λ _. record {
-        state = record { me = ok.me; count = ok.count; limit = ok.limit; phase = ok.phase; highest = seen; ours = ok.ours; waits = ok.waits; top = ok.top; mine = ok.mine };
+        state = record {
+          me = ok.me;
+          count = ok.count;
+          limit = ok.limit;
+          phase = ok.phase;
+          highest = seen;
+          ours = ok.ours;
+          waits = ok.waits;
+          top = ok.top;
+          mine = ok.mine;
+        };
         letters = one BoundedLetter n stamp.node (Reply stamp s.top) bounded.1 (bounded, ok.top);
       })
 
   -- a reply comes
 
-  reply_bounded : (from : ℕ) (stamp : Stamp) (top : ℕ) → IsU64 top → BoundedDone {A = Unit {0}} n (take_reply s from stamp top)
+  reply_bounded : (from : ℕ) (stamp : Stamp) (top : ℕ) → IsU64 top
+      → BoundedDone {A = Unit {0}} n (take_reply s from stamp top)
   reply_bounded from stamp top small =
-      cond_case (λ d. BoundedDone {A = Unit {0}} n d) (is_waiting s.phase && (is_same_as stamp s.ours && not (has_reply s from))) (becoming (counting s from top)) (becoming s)
+      cond_case (λ d. BoundedDone {A = Unit {0}} n d)
+      (is_waiting s.phase && (is_same_as stamp s.ours && not (has_reply s from)))
+      (becoming (counting s from top)) (becoming s)
       (λ _. record {
-        state = record { me = ok.me; count = ok.count; limit = ok.limit; phase = ok.phase; highest = ok.highest; ours = ok.ours; waits = ok.waits; top = (let k = ok.top in omega arith); mine = ok.mine };
+        state = record {
+          me = ok.me;
+          count = ok.count;
+          limit = ok.limit;
+          phase = ok.phase;
+          highest = ok.highest;
+          ours = ok.ours;
+          waits = ok.waits;
+          top = (let k = ok.top in omega arith);
+          mine = ok.mine;
+        };
         letters = nil BoundedLetter n;
       })
       (λ _. as_was)
 
-  pub deliver_bounded : (from : ℕ) (m : RicartMsg) → BoundedLetter n m → BoundedDone {A = Unit {0}} n (deliver_of from m s)
+  pub deliver_bounded : (from : ℕ) (m : RicartMsg) → BoundedLetter n m
+      → BoundedDone {A = Unit {0}} n (deliver_of from m s)
   deliver_bounded from (Request stamp) bounded =
-      cond_case (λ d. BoundedDone {A = Unit {0}} n d) (is_other s from && nat_eq stamp.node from) (take_request s stamp) (becoming s)
+      cond_case (λ d. BoundedDone {A = Unit {0}} n d) (is_other s from && nat_eq stamp.node from)
+      (take_request s stamp) (becoming s)
       (λ _. request_bounded stamp bounded) (λ _. as_was)
   deliver_bounded from (Reply stamp top) bounded =
-      cond_case (λ d. BoundedDone {A = Unit {0}} n d) (is_other s from) (take_reply s from stamp top) (becoming s)
+      cond_case (λ d. BoundedDone {A = Unit {0}} n d) (is_other s from)
+      (take_reply s from stamp top) (becoming s)
       (λ _. reply_bounded from stamp top bounded.1) (λ _. as_was)
 
   -- enter
@@ -90,13 +154,34 @@ module _ (n : ℕ) (s : Node) (ok : BoundedNode n s) where
   pub entering_bounded : s.top < s.limit → BoundedNode n (entering s)
   entering_bounded lt =
       let small : IsU64 (s.top + 1) = (let k = ok.limit in omega arith) in
-      record { me = ok.me; count = ok.count; limit = ok.limit; phase = small; highest = ok.highest; ours = ok.ours; waits = ok.waits; top = small; mine = small }
+      record {
+        me = ok.me;
+        count = ok.count;
+        limit = ok.limit;
+        phase = small;
+        highest = ok.highest;
+        ours = ok.ours;
+        waits = ok.waits;
+        top = small;
+        mine = small;
+      }
 
   -- leave and cancel
 
   pub ended_bounded : BoundedDone n (ended s)
   ended_bounded = record {
-    state = record { me = ok.me; count = ok.count; limit = ok.limit; phase = tt; highest = ok.highest; ours = ok.ours; waits = λ j d was. absurd (none_is_no_some d (sym (get_or_replicate 21 j None) ∙ was)); top = ok.top; mine = ok.mine };
+    state = record {
+      me = ok.me;
+      count = ok.count;
+      limit = ok.limit;
+      phase = tt;
+      highest = ok.highest;
+      ours = ok.ours;
+      waits = λ j d was. absurd
+          (none_is_no_some d (sym (get_or_replicate 21 j None) ∙ was));
+      top = ok.top;
+      mine = ok.mine;
+    };
     letters = λ b m sent.
         let r = in_addressed (reply_deferred s) s.count b m sent in
         let q = sent_reply (deferred_at s b) s.top m r.1 in
@@ -109,11 +194,15 @@ module _ (n : ℕ) (s : Node) (ok : BoundedNode n s) where
   pub tick_bounded : BoundedDone {A = Unit {0}} n (tick_of s)
   tick_bounded =
       cond_case (λ d. BoundedDone {A = Unit {0}} n d) (is_waiting s.phase) (ticked s) (becoming s)
-      (λ _. record { state = ok; letters = requests_bounded s.ours ok.ours (λ j. nat_eq j s.me || has_reply s j) }) (λ _. as_was)
+      (λ _. record {
+        state = ok;
+        letters = requests_bounded s.ours ok.ours (λ j. nat_eq j s.me || has_reply s j);
+      }) (λ _. as_was)
 
 -- a node at rest
 
-pub start_bounded : (count origin limit i : ℕ) → IsCount count → origin < 2 ^ 64 → limit ≤ 1000000 → i < count → BoundedNode count (start_of count i origin limit)
+pub start_bounded : (count origin limit i : ℕ) → IsCount count → origin < 2 ^ 64 → limit ≤ 1000000
+    → i < count → BoundedNode count (start_of count i origin limit)
 start_bounded count origin limit i valid small high lt = record {
   me = lt;
   count = omega arith;

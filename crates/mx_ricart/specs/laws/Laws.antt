@@ -28,12 +28,17 @@ IsSteady s done = course_of ricart_rows done.state ≡ course_of ricart_rows s
 
 deliver_steady : (from : ℕ) (m : RicartMsg) (s : Node) → IsSteady s (deliver_of from m s)
 deliver_steady from (Request stamp) s =
-    cond_case (IsSteady s) (is_other s from && nat_eq stamp.node from) (take_request s stamp) (becoming s)
-    (λ _. cond_case (IsSteady s) (is_busy s.phase && is_before_of s.ours stamp) (becoming (deferring (seeing s stamp.number) stamp)) (replied (seeing s stamp.number) stamp) (λ _. refl) (λ _. refl))
+    cond_case (IsSteady s) (is_other s from && nat_eq stamp.node from) (take_request s stamp)
+    (becoming s)
+    (λ _. cond_case (IsSteady s) (is_busy s.phase && is_before_of s.ours stamp)
+    (becoming (deferring (seeing s stamp.number) stamp)) (replied (seeing s stamp.number) stamp)
+    (λ _. refl) (λ _. refl))
     (λ _. refl)
 deliver_steady from (Reply stamp top) s =
     cond_case (IsSteady s) (is_other s from) (take_reply s from stamp top) (becoming s)
-    (λ _. cond_case (IsSteady s) (is_waiting s.phase && (is_same_as stamp s.ours && not (has_reply s from))) (becoming (counting s from top)) (becoming s) (λ _. refl) (λ _. refl))
+    (λ _. cond_case (IsSteady s) (is_waiting s.phase
+    && (is_same_as stamp s.ours && not (has_reply s from))) (becoming (counting s from top))
+    (becoming s) (λ _. refl) (λ _. refl))
     (λ _. refl)
 
 pub ricart_phases : KeepsPhases ricart_core
@@ -44,24 +49,38 @@ ricart_phases = phases_of ricart_rows (record {
   enter = λ s. refl;
   leave = λ s. refl;
   cancel = λ s. refl;
-  tick = λ s. cond_case (IsSteady s) (is_waiting s.phase) (ticked s) (becoming s) (λ _. refl) (λ _. refl);
+  tick = λ s. cond_case (IsSteady s) (is_waiting s.phase) (ticked s) (becoming s) (λ _. refl)
+      (λ _. refl);
 })
 
 -- the world at rest
 
 started_safe : (count origin limit : ℕ) → IsSafe (started ricart_core count origin limit)
-started_safe count origin limit = each_at_start IsNodeOk IsLetterOk (λ i. start_of count i origin limit) count (λ i lt at.
+started_safe count origin limit =
+    each_at_start IsNodeOk IsLetterOk (λ i. start_of count i origin limit) count (λ i lt at.
     let e = length_each_below (λ k. start_of count k origin limit) count in
-    idle_ok (started ricart_core count origin limit) i (start_of count i origin limit) refl refl refl (sym e) (omega arith) (i, start_of count i origin limit, at, omega arith))
+    idle_ok (started ricart_core count origin limit) i
+    (start_of count i origin limit) refl refl refl (sym e) (omega arith)
+    (i, start_of count i origin limit, at, omega arith))
 
 -- which letters were sent matters, and not how often or in which order
 
-module _ (w : World Node RicartMsg) (sent : List (ℕ × ℕ × RicartMsg)) (same : (x : ℕ × ℕ × RicartMsg) → IsIn x w.sent ↔ IsIn x sent) where
-  letter_again : (a b : ℕ) (m : RicartMsg) → IsLetterOk w a b m → IsLetterOk (record { nodes = w.nodes; sent = sent }) a b m
+module _ (w : World Node RicartMsg) (sent : List (ℕ × ℕ × RicartMsg))
+    (same : (x : ℕ × ℕ × RicartMsg) → IsIn x w.sent ↔ IsIn x sent) where
+  letter_again : (a b : ℕ) (m : RicartMsg) → IsLetterOk w a b m
+      → IsLetterOk (record { nodes = w.nodes; sent = sent }) a b m
   letter_again a b (Request stamp) ok = record { node = ok.node; issued = ok.issued }
-  letter_again a b (Reply stamp top) ok = record { other = ok.other; issued = ok.issued; seen = ok.seen; reached = ok.reached; stands = ok.stands }
+  letter_again a b (Reply stamp top) ok =
+      record {
+        other = ok.other;
+        issued = ok.issued;
+        seen = ok.seen;
+        reached = ok.reached;
+        stands = ok.stands;
+      }
 
-  node_again : (i : ℕ) (s : Node) → IsNodeOk w i s → IsNodeOk (record { nodes = w.nodes; sent = sent }) i s
+  node_again : (i : ℕ) (s : Node) → IsNodeOk w i s
+      → IsNodeOk (record { nodes = w.nodes; sent = sent }) i s
   node_again i s ok = record {
     me = ok.me;
     count = ok.count;
@@ -70,7 +89,8 @@ module _ (w : World Node RicartMsg) (sent : List (ℕ × ℕ × RicartMsg)) (sam
     mine_top = ok.mine_top;
     top_reached = ok.top_reached;
     inside_has = ok.inside_has;
-    replies = λ busy j has. let r = ok.replies busy j has in (r.0, (same (j, i, Reply s.ours r.0)).0 r.1, r.2);
+    replies = λ busy j has. let r = ok.replies busy j has in
+        (r.0, (same (j, i, Reply s.ours r.0)).0 r.1, r.2);
     waits = ok.waits;
   }
 
@@ -84,7 +104,8 @@ ricart_laws = laws_of ricart_rows IsCount IsSafe BoundedNode BoundedLetter
       leave = λ w i s safe at n inside. ended_good w i s safe at;
       cancel = λ w i s safe at waiting. ended_good w i s safe at;
       tick = tick_good;
-      by_membership = λ w sent same. each_again IsNodeOk IsLetterOk w sent same (node_again w sent same) (letter_again w sent same);
+      by_membership = λ w sent same. each_again IsNodeOk IsLetterOk w sent same
+          (node_again w sent same) (letter_again w sent same);
       one_inside = one_inside;
       nobody_inside = nobody_inside;
       top_greatest = top_greatest;

@@ -14,7 +14,8 @@ other_is s j e =
 -- the permission and its test are one
 
 pub all_replies : (s : Node) → has_all_replies s ≡ true → HasAllReplies s
-all_replies s all j lt ne = or_false (nat_eq j s.me) (has_reply s j) (each_passes (is_replied s) s.count all j lt) (eq_not j s.me ne)
+all_replies s all j lt ne = or_false (nat_eq j s.me) (has_reply s j)
+    (each_passes (is_replied s) s.count all j lt) (eq_not j s.me ne)
 
 replies_all : (s : Node) → HasAllReplies s → has_all_replies s ≡ true
 replies_all s all = all_pass (is_replied s) s.count (λ j lt. elim (dec_eq j s.me) [

@@ -32,7 +32,8 @@ quiet_safe w i new safe = record {
   silent = λ a b m sent. safe.silent a b m (subst (λ l. IsIn (a, b, m) l) (append_nil w.sent) sent);
 }
 
-quiet_bounded : (n : ℕ) (new : Node) → BoundedNode n new → IsBoundedDone BoundedNode BoundedLetter n (becoming new)
+quiet_bounded : (n : ℕ) (new : Node) → BoundedNode n new
+    → IsBoundedDone BoundedNode BoundedLetter n (becoming new)
 quiet_bounded n new ok = record { state = ok; letters = nil BoundedLetter n }
 
 -- the node of a safe world is node 0
@@ -40,34 +41,58 @@ zeroth : (w : World Node ℕ) (i : ℕ) (s : Node) → IsSafe w → IsNode w i s
 zeroth w i s safe at = let lt = slice_get_within w.nodes i s at in let e = safe.alone in omega arith
 
 -- the greatest number of one node is its own
-only_mine : (xs : List Node) (s : Node) → length xs ≡ 1 → slice_get xs 0 ≡ Some s → greatest (λ x. x.mine) xs ≡ s.mine
+only_mine : (xs : List Node) (s : Node) → length xs ≡ 1 → slice_get xs 0 ≡ Some s
+    → greatest (λ x. x.mine) xs ≡ s.mine
 only_mine [] s e h = absurd (none_is_no_some s h)
-only_mine (x ∷ []) s e h = let k : x.mine ≡ s.mine = ap (λ y. y.mine) (same_Some x s h) in omega arith
+only_mine (x ∷ []) s e h =
+    let k : x.mine ≡ s.mine = ap (λ y. y.mine) (same_Some x s h) in omega arith
 only_mine (x ∷ y ∷ ys) s e h = absurd (omega (arith, e))
 
 pub solo_laws : KeepsGood (solo_core 1) IsOne IsGood
 solo_laws = laws_of (solo_rows 1) IsOne IsSafe BoundedNode BoundedLetter
     (record {
-      start = λ shape origin limit valid. record { alone = length_each_below (λ i. start_of shape i origin limit) 1; silent = λ a b m sent. absurd sent };
+      start = λ shape origin limit valid. record {
+        alone =
+            length_each_below (λ i. start_of shape i origin limit) 1;
+        silent = λ a b m sent. absurd sent;
+      };
       ask = λ w i s safe at idle. quiet_safe w i (asked s).state safe;
       deliver = λ w i s safe at from m sent. quiet_safe w i s safe;
       enter = λ w i s safe at waiting granted. quiet_safe w i (entering s) safe;
       leave = λ w i s safe at n inside. quiet_safe w i (rested s).state safe;
       cancel = λ w i s safe at waiting. quiet_safe w i (rested s).state safe;
       tick = λ w i s safe at. quiet_safe w i s safe;
-      by_membership = λ w sent same safe. record { alone = safe.alone; silent = λ a b m h. safe.silent a b m ((same (a, b, m)).1 h) };
-      one_inside = λ w i j s t safe at tat inside too. zeroth w i s safe at ∙ sym (zeroth w j t safe tat);
+      by_membership = λ w sent same safe. record {
+        alone = safe.alone;
+        silent = λ a b m h. safe.silent a b m ((same (a, b, m)).1 h);
+      };
+      one_inside =
+          λ w i j s t safe at tat inside too. zeroth w i s safe at ∙ sym (zeroth w j t safe tat);
       nobody_inside = λ w i s safe at waiting granted j t tat inside.
-          let same = same_Some s t (sym at ∙ subst (λ k. slice_get w.nodes k ≡ Some t) (zeroth w j t safe tat ∙ sym (zeroth w i s safe at)) tat) in
+          let same = same_Some s t (sym at ∙ subst (λ k. slice_get w.nodes k ≡ Some t)
+          (zeroth w j t safe tat ∙ sym (zeroth w i s safe at)) tat) in
           waiting_not_inside s.phase inside.0 waiting (ap (λ x. x.phase) same ∙ inside.1);
-      top_greatest = λ w i s safe at waiting granted. only_mine w.nodes s safe.alone (subst (λ k. slice_get w.nodes k ≡ Some s) (zeroth w i s safe at) at);
+      top_greatest = λ w i s safe at waiting granted. only_mine w.nodes s safe.alone
+          (subst (λ k. slice_get w.nodes k ≡ Some s) (zeroth w i s safe at) at);
     })
     (record {
-      start = λ shape origin limit i valid small high lt. record { me = lt; limit = omega arith; phase = tt; mine = omega arith };
-      ask = λ n s ok low. record { state = record { me = ok.me; limit = ok.limit; phase = tt; mine = ok.mine }; letters = nil BoundedLetter n };
+      start = λ shape origin limit i valid small high lt. record {
+        me = lt;
+        limit = omega arith;
+        phase = tt;
+        mine = omega arith;
+      };
+      ask = λ n s ok low. record {
+        state =
+            record { me = ok.me; limit = ok.limit; phase = tt; mine = ok.mine };
+        letters = nil BoundedLetter n;
+      };
       deliver = λ n s ok from m lt small. quiet_bounded n s ok;
-      enter = λ n s ok lt. let k = ok.limit in record { me = ok.me; limit = ok.limit; phase = omega arith; mine = omega arith };
-      leave = λ n s ok. quiet_bounded n (rested s).state (record { me = ok.me; limit = ok.limit; phase = tt; mine = ok.mine });
-      cancel = λ n s ok. quiet_bounded n (rested s).state (record { me = ok.me; limit = ok.limit; phase = tt; mine = ok.mine });
+      enter = λ n s ok lt. let k = ok.limit in
+          record { me = ok.me; limit = ok.limit; phase = omega arith; mine = omega arith };
+      leave = λ n s ok. quiet_bounded n (rested s).state
+          (record { me = ok.me; limit = ok.limit; phase = tt; mine = ok.mine });
+      cancel = λ n s ok. quiet_bounded n (rested s).state
+          (record { me = ok.me; limit = ok.limit; phase = tt; mine = ok.mine });
       tick = λ n s ok. quiet_bounded n s ok;
     })
