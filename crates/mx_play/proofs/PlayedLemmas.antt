@@ -1,5 +1,5 @@
 -- Sessions that were played, of what was read.
-use Rattle.std.proofs.Common.{◌≡◌, ◌++◌, Result, IfOk, subst}
+use Rattle.std.proofs.Common.{◌++◌}
 use Rattle.std.specs.Io.KnownBytes.{Keeps}
 use Rattle.mx_nodelaws.specs.Core.{Core}
 use Rattle.mx_ricart.specs.Step.{ricart_core}
@@ -31,8 +31,3 @@ pub by_keeps : (p : Fields) (a b c : Held) (shape : Shape) → IsPlayedBy p a b 
 by_keeps p a b c (Ricart count) = played_keeps ricart_core ricart_text p count a b c
 by_keeps p a b c (Maekawa family) = played_keeps maekawa_core maekawa_text p family a b c
 by_keeps p a b c (Raymond tree) = played_keeps raymond_core (λ _. raymond_text) p tree a b c
-
--- by the algorithm of the plan
-pub of_shape : {T E : Type 0} (r : Result T E) (p : Fields) (a b : Held) (shape : Shape) → shape ≡ p.shape → IfOk r (λ _. IsPlayedBy p a b shape)
-    → IfOk r (λ _. IsPlayedBy p a b p.shape)
-of_shape r p a b shape is x = subst (λ (s : Shape). IfOk r (λ _. IsPlayedBy p a b s)) is x

@@ -1,6 +1,6 @@
 -- What lines make of a session.
-use Rattle.std.proofs.Common.{◌≡◌, ◌≤◌, ◌∙◌, ℕ, List, [], ◌∷◌, ◌++◌, Result, Ok, Err, OnOk, IfOk, OnErr, length, take, refl, sym, ap, subst, append_assoc}
-use Rattle.std.specs.Prelude.{MatchOption, Option, Some, None, slice_index_or, ◌-◌}
+use Rattle.std.proofs.Common.{◌≡◌, ◌∙◌, ℕ, List, [], ◌∷◌, ◌++◌, Result, Ok, Err, OnOk, IfOk, OnErr, length, take, refl, sym, ap, subst, append_assoc}
+use Rattle.std.specs.Prelude.{MatchOption, Option, Some, None}
 use Rattle.std.specs.Bool.{⊤}
 use Rattle.mx_stamps.proofs.Lists.{append_nil}
 use Rattle.mx_nodelaws.specs.Core.{Core}
@@ -16,7 +16,7 @@ use Rattle.mx_commands.specs.Runs.{NamesNodes, closing_text}
 use Rattle.mx_commands.proofs.RunLemmas.{members_at_rest}
 use Rattle.mx_scripts.specs.declared.line_faults.LineFault.{LineFault}
 use Rattle.mx_play.specs.Moments.{Brings, CanLead, Leads, Makes, MomentState, first_moment, shown}
-use Rattle.mx_play.specs.Sessions.{Adds, Comes, Extends, HasTalked, HasTurned, IsDone, IsPlayed, IsSession, IsTakenBack, Loses, SaysTurn, SessionState, Talks, Turn, at_start, rests, state}
+use Rattle.mx_play.specs.Sessions.{Adds, Comes, Extends, HasTalked, HasTurned, IsDone, IsPlayed, IsSession, Loses, SaysTurn, SessionState, Talks, Turn, at_start, rests, state}
 use Rattle.mx_play.specs.declared.happening.Happening.{Happening}
 use Rattle.mx_play.specs.declared.happening.Happening.TheVariants.{IsLost}
 use Rattle.mx_play.proofs.MomentLemmas.{leads_append, leads_members, leads_one, leads_prefix, leads_runs, makes_append, makes_leads, makes_one}
@@ -224,17 +224,3 @@ module _ {H S M : Type 0} (core : Core H S M) (letter_text : Fields → M → Te
         → IfOk r (λ fault. MatchOption fault (Comes core letter_text p shape t a b []) (λ _. Comes core letter_text p shape rests a b []))
         → IfOk r (λ _. HasTurned core letter_text p shape a b text)
     turned_silently r t a b text empty x = subst (λ (l : Text). IfOk r (λ _. HasTurned core letter_text p shape a b l)) (sym empty) (turned_by r t a b [] x)
-
-    -- the last lines were taken back
-    pub is_taken_back : (a : SessionState S M) (lines left before count : ℕ) (marks marks' : List ℕ) (c : MomentState S M) (e : List Happening) → lines ≡ length a.marks → count ≤ lines
-        → left ≡ lines - count → before ≡ slice_index_or a.marks left (length a.done) → marks ≡ take left a.marks → marks' ≡ marks → Leads core first (take before a.done) c → e ≡ take before a.done
-        → IsTakenBack core letter_text p shape count a (state c e marks') []
-    is_taken_back a lines left before count marks marks' c e all few is at_mark cut same leads listed =
-        let there : left ≡ length a.marks - count = is ∙ ap (λ (n : ℕ). n - count) all in
-        record {
-          few = subst (λ (n : ℕ). count ≤ n) all few;
-          marks = same ∙ cut ∙ ap (λ (n : ℕ). take n a.marks) there;
-          done = listed ∙ ap (λ (n : ℕ). take n a.done) (at_mark ∙ ap (λ (n : ℕ). slice_index_or a.marks n (length a.done)) there);
-          leads = subst (λ (l : List Happening). Leads core first l c) (sym listed) leads;
-          silent = refl;
-        }
