@@ -28,6 +28,9 @@ pub enum Given {
 pub trait Lines {
     /// Puts the next line, without its line feed, in the place of `line`. The last line needs none.
     fn next(&mut self, line: &mut Vec<u8>) -> Result<Given, AllocError>;
+
+    /// Whether they are typed at a terminal, where a prompt asks for each.
+    fn are_typed(&self) -> bool;
 }
 
 /// The lines of a text.
@@ -50,6 +53,10 @@ impl Lines for Listed<'_> {
         line.extend_from_slice(first)?;
         Ok(Given::Line)
     }
+
+    fn are_typed(&self) -> bool {
+        false
+    }
 }
 
 /// The lines that are typed, or come through a pipe. What is there is read, and nothing more is
@@ -57,6 +64,7 @@ impl Lines for Listed<'_> {
 #[derive(Drop)]
 pub struct Typed<R: Read + Drop> {
     reader: R,
+    is_terminal: bool,
     /// What was read; the bytes from `next` to `end` have not been asked for.
     ahead: [u8; MOST_AHEAD],
     next: usize,
@@ -74,10 +82,11 @@ enum Got {
 }
 
 impl<R: Read + Drop> Typed<R> {
-    /// The lines of a reader, from its first byte on.
-    pub fn new(reader: R) -> Self {
+    /// The lines of a reader, from its first byte on, and whether it is a terminal.
+    pub fn new(reader: R, is_terminal: bool) -> Self {
         Typed {
             reader,
+            is_terminal,
             ahead: [0; MOST_AHEAD],
             next: 0,
             end: 0,
@@ -130,6 +139,10 @@ impl<R: Read + Drop> Lines for Typed<R> {
             }
         }
         Ok(Given::Unreadable)
+    }
+
+    fn are_typed(&self) -> bool {
+        self.is_terminal
     }
 }
 

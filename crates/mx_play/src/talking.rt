@@ -12,7 +12,7 @@ use crate::reading::{Given, Lines};
 use crate::session::{Session, end_session};
 use crate::wishes::{Wish, read_wish};
 use mx_cli::{Fault, Named, Stop, put_line};
-use mx_io::Output;
+use mx_io::{Output, OutputFault};
 use mx_nodelaws::Exclusion;
 use mx_plan::Plan;
 use mx_scripts::LineFault;
@@ -87,27 +87,37 @@ where
     ensures is { IfOk result (λ _. IsSession C.core plan.now shape.now
         (state session.new.moment session.new.done.items session.new.marks.items)) }
 {
-    let heard = hear(alloc, plan, lines, line)?;
+    let heard = hear(alloc, plan, lines, line, err)?;
     let complaint = reply(alloc, plan, shape, &heard, session, out)?;
     complain(alloc, plan, number, &complaint, line.as_slice(), err)?;
     Ok(heard)
 }
 
-/// Reads a line, which is put in the place of the one before.
-fn hear<L: Lines>(
+/// Asks for a line where lines are typed, and reads it. It is put in the place of the one before.
+fn hear<L: Lines, E: Output>(
     alloc: Global,
     plan: &Plan,
     lines: &mut L,
     line: &mut Vec<u8>,
+    err: &mut E,
 ) -> Result<Heard, Stop>
     ensures { IfOk result (IsHeard (length plan.now.nodes) (length plan.now.registers)) }
 {
+    if lines.are_typed() {
+        prompt(err)?;
+    }
     match lines.next(line)? {
         Given::Line => heard_in(alloc, plan, line.as_slice()),
         Given::TooLong => Ok(Heard::Fault(Complaint::TooLong)),
         Given::End => Ok(Heard::Silence),
         Given::Unreadable => Err(Stop::Fault(Fault::CannotRead(Named::Events))),
     }
+}
+
+/// Shows that a line may be typed.
+fn prompt<E: Output>(err: &mut E) -> Result<(), OutputFault> {
+    err.put(b"> ")?;
+    err.flush()
 }
 
 /// What a line asks for.

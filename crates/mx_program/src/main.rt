@@ -15,7 +15,7 @@ use mx_play::{Typed, play};
 use mx_scripts::event_file;
 use mx_views::replay_view;
 use std::io;
-use std::io::{BufWriter, Write};
+use std::io::{BufWriter, IsTerminal, Write};
 use std::process::ExitCode;
 use std::rt::{Clock, Env, Files};
 use std::thread::Threads;
@@ -27,7 +27,10 @@ fn carry_out<R: Files + Clock + Input + AllocGlobal + Threads, O: Output, E: Out
     words: &[&str],
     out: &mut O,
     err: &mut E,
-) -> u8 {
+) -> u8
+where
+    R::Reader: IsTerminal,
+{
     let alloc = rt.alloc();
     let mut source = Streams { rt };
     match first_of(words) {
@@ -41,7 +44,7 @@ fn carry_out<R: Files + Clock + Input + AllocGlobal + Threads, O: Output, E: Out
             alloc,
             words,
             &mut source,
-            &mut Typed::new(rt.reader()),
+            &mut typed_lines(rt),
             out,
             err,
         ),
@@ -50,13 +53,26 @@ fn carry_out<R: Files + Clock + Input + AllocGlobal + Threads, O: Output, E: Out
     }
 }
 
+/// The lines of standard input, as they are typed or come through a pipe.
+fn typed_lines<R: Input>(rt: &R) -> Typed<R::Reader>
+where
+    R::Reader: IsTerminal,
+{
+    let reader = rt.reader();
+    let is_terminal = reader.is_terminal();
+    Typed::new(reader, is_terminal)
+}
+
 /// Runs the command line of the process. An `Err` means that memory ran out, or that an argument is
 /// not UTF-8.
 fn run_words<
     R: Files + Env + Clock + Input + AllocGlobal + Threads,
     O: Write + Drop,
     E: Write + Drop,
->(rt: &R, out: O, err: E) -> io::Result<u8> {
+>(rt: &R, out: O, err: E) -> io::Result<u8>
+where
+    R::Reader: IsTerminal,
+{
     let alloc = rt.alloc();
     let given = given_words(rt)?;
     let words = as_slices(alloc, given.as_slice())?;
