@@ -119,6 +119,9 @@ impl<'a> Page<'a> {
         offset: usize,
         line: D,
     ) -> Result<(), AllocError> {
+        if self.is_full() {
+            return self.say(line);
+        }
         let place = place_of(self.source.as_slice(), offset).below(self.above);
         self.say(Placed { place, line })
     }
