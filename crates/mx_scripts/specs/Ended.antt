@@ -37,7 +37,7 @@ abbrev pub IsPrintHalt : Bool → Halt → Type 0
 IsPrintHalt takes_all h =
     (h ≡ halt.Stop stop.Memory) ⊎ ((h ≡ halt.Stop stop.Writer) × (takes_all ≡ false))
 
--- the script has such a file
+-- the plan was read, and some text is such a file
 abbrev pub HasFile : (Text → Option Telling) → Text × Text → Type 0
 HasFile told names = (text : Text) × IsFileOfNames told names text
 
