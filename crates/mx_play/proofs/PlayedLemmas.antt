@@ -1,5 +1,7 @@
 -- Sessions that were played, of what was read.
-use Rattle.std.proofs.Common.{◌++◌}
+use Rattle.std.proofs.Common.{◌++◌, ℕ, List, Option, Some, None, Result, Ok, Err, IfOk, IfSome, ap, sym}
+use Rattle.std.specs.Prelude.{Vec}
+use Rattle.std.specs.declared.alloc.Global.{Global}
 use Rattle.std.specs.Io.KnownBytes.{Keeps}
 use Rattle.mx_nodelaws.specs.Core.{Core}
 use Rattle.mx_ricart.specs.Step.{ricart_core}
@@ -12,8 +14,12 @@ use Rattle.mx_plan.specs.declared.shape.Shape.TheVariants.{Ricart, Maekawa, Raym
 use Rattle.mx_texts.specs.LetterTexts.{ricart_text, maekawa_text, raymond_text}
 use Rattle.mx_cli.proofs.OutputLemmas.{Appends-keeps}
 use Rattle.mx_commands.specs.Runs.{closing_text}
+use Rattle.mx_cli.specs.Reading.{Fetches, Reads}
+use Rattle.mx_cli.specs.declared.faults.Named.{Named}
+use Rattle.mx_cli.specs.declared.faults.Stop.{Stop}
 use Rattle.mx_io.specs.Outputs.{Held}
-use Rattle.mx_play.specs.Played.{IsPlayedBy}
+use Rattle.mx_io.specs.Told.{Telling}
+use Rattle.mx_play.specs.Played.{IsLinePlan, IsPlayedBy, IsScriptOf}
 use Rattle.mx_play.specs.Sessions.{IsPlayed}
 
 module _ {H S M : Type 0} (core : Core H S M) (letter_text : Fields → M → Text) (p : Fields) (shape : H) (a b c : Held) where
@@ -24,6 +30,7 @@ module _ {H S M : Type 0} (core : Core H S M) (letter_text : Fields → M → Te
     text = x.text;
     talks = x.talks;
     replays = x.replays;
+    over = x.over;
     printed = Appends-keeps a b c (x.text ++ closing_text core letter_text p x.last.now.cluster) x.printed same;
   }
 
@@ -31,3 +38,17 @@ pub by_keeps : (p : Fields) (a b c : Held) (shape : Shape) → IsPlayedBy p a b 
 by_keeps p a b c (Ricart count) = played_keeps ricart_core ricart_text p count a b c
 by_keeps p a b c (Maekawa family) = played_keeps maekawa_core maekawa_text p family a b c
 by_keeps p a b c (Raymond tree) = played_keeps raymond_core (λ _. raymond_text) p tree a b c
+
+-- a line that is read as a plan
+pub line_plan : (line : List ℕ) (r : Result Fields Stop) → Reads (Some line) r → IfOk r IsLinePlan
+line_plan line (Ok p) x = (line, x)
+line_plan line (Err e) x = tt
+
+-- a script that was fetched
+pub fetched_script : (named : Named) (told : Option Telling) (r : Result (Vec ℕ Global) Stop) → IfSome told (λ telling. Fetches named telling r)
+    → IfOk r (λ text. IsScriptOf told text.items)
+fetched_script named None (Ok text) x = tt
+fetched_script named (Some None) (Ok text) x = absurd x
+fetched_script named (Some (Some bytes)) (Ok text) x = ap (λ (l : List ℕ). Some l) (sym x)
+fetched_script named None (Err e) x = tt
+fetched_script named (Some telling) (Err e) x = tt

@@ -1,7 +1,8 @@
 -- What lines make of a session.
-use Rattle.std.proofs.Common.{◌≡◌, ◌∙◌, ℕ, List, [], ◌∷◌, ◌++◌, Result, Ok, Err, OnOk, IfOk, OnErr, length, take, refl, sym, ap, subst, append_assoc}
+use Rattle.std.proofs.Common.{◌≡◌, ◌∙◌, ◌⊎◌, ℕ, zero, suc, List, [], ◌∷◌, ◌++◌, Result, Ok, Err, OnOk, IfOk, OnErr, length, take, refl, sym, ap, subst, append_assoc, inl, inr}
 use Rattle.std.specs.Prelude.{MatchOption, Option, Some, None}
 use Rattle.std.specs.Bool.{⊤}
+use Rattle.mx_stamps.specs.Lists.{IsIn}
 use Rattle.mx_stamps.proofs.Lists.{append_nil}
 use Rattle.mx_nodelaws.specs.Core.{Core}
 use Rattle.mx_events.specs.declared.event.Event.{Event}
@@ -14,11 +15,12 @@ use Rattle.mx_io.specs.Outputs.{Held}
 use Rattle.mx_cli.proofs.OutputLemmas.{Appends-nil, Appends-trans}
 use Rattle.mx_commands.specs.Runs.{NamesNodes, closing_text}
 use Rattle.mx_commands.proofs.RunLemmas.{members_at_rest}
+use Rattle.mx_scripts.specs.Played.{AreOver}
 use Rattle.mx_scripts.specs.declared.line_faults.LineFault.{LineFault}
 use Rattle.mx_play.specs.Moments.{Brings, CanLead, Leads, Makes, MomentState, first_moment, shown}
-use Rattle.mx_play.specs.Sessions.{Adds, Comes, Extends, HasTalked, HasTurned, IsDone, IsPlayed, IsSession, Loses, SaysTurn, SessionState, Talks, Turn, at_start, rests, state}
+use Rattle.mx_play.specs.Sessions.{Adds, Comes, Extends, HasTalked, HasTurned, IsDone, IsPlayed, IsSession, Loses, SaysTurn, SessionState, Talks, Turn, at_start, events_in, rests, state}
 use Rattle.mx_play.specs.declared.happening.Happening.{Happening}
-use Rattle.mx_play.specs.declared.happening.Happening.TheVariants.{IsLost}
+use Rattle.mx_play.specs.declared.happening.Happening.TheVariants.{Happens, IsLost}
 use Rattle.mx_play.proofs.MomentLemmas.{leads_append, leads_members, leads_one, leads_prefix, leads_runs, makes_append, makes_leads, makes_one}
 
 -- the events that a line of a script asks for are of the nodes of the plan
@@ -34,6 +36,36 @@ drawn_names nodes registers (event.Want i j) h = h
 drawn_names nodes registers (event.Settle i upto) h = h
 drawn_names nodes registers (event.Restart i) h = h
 drawn_names nodes registers (event.Deliver k) h = tt
+
+-- ---- what happened is over these nodes and registers
+
+module _ (nodes registers : ℕ) where
+  abbrev Over : List Happening → Type 0
+  Over hs = AreOver nodes registers (events_in hs)
+
+  over_in : (e f : Event) (es : List Event) → IsDrawn nodes registers e → AreOver nodes registers es → (f ≡ e) ⊎ IsIn f es → IsDrawn nodes registers f
+  over_in e f es drawn over (inl is) = subst (λ (x : Event). IsDrawn nodes registers x) (sym is) drawn
+  over_in e f es drawn over (inr h) = over f h
+
+  over_more : (e : Event) (es : List Event) → IsDrawn nodes registers e → AreOver nodes registers es → AreOver nodes registers (e ∷ es)
+  over_more e es drawn over = λ f h. over_in e f es drawn over h
+
+  pub over_none : Over []
+  over_none = λ f h. absurd h
+
+  pub over_one : (e : Event) → IsDrawn nodes registers e → Over (Happens e ∷ [])
+  over_one e drawn = over_more e [] drawn over_none
+
+  over_append : (hs js : List Happening) → Over hs → Over js → Over (hs ++ js)
+  over_append [] js x y = y
+  over_append (Happens e ∷ hs) js x y = over_more e (events_in (hs ++ js)) (x e (inl refl)) (over_append hs js (λ f h. x f (inr h)) y)
+  over_append (IsLost k ∷ hs) js x y = over_append hs js x y
+
+  over_take : (n : ℕ) (hs : List Happening) → Over hs → Over (take n hs)
+  over_take zero hs x = over_none
+  over_take (suc n) [] x = x
+  over_take (suc n) (Happens e ∷ hs) x = over_more e (events_in (take n hs)) (x e (inl refl)) (over_take n hs (λ f h. x f (inr h)))
+  over_take (suc n) (IsLost k ∷ hs) x = over_take n hs x
 
 take_first : {X : Type 0} (xs ys : List X) → take (length xs) (xs ++ ys) ≡ xs
 take_first [] ys = refl
@@ -70,6 +102,7 @@ module _ {H S M : Type 0} (core : Core H S M) (letter_text : Fields → M → Te
     more = [];
     made = [];
     makes = (refl, refl);
+    over = over_none (length p.nodes) (length p.registers);
     listed = sym (append_nil d);
     printed = sym (append_nil t);
   }
@@ -79,6 +112,7 @@ module _ {H S M : Type 0} (core : Core H S M) (letter_text : Fields → M → Te
     more = x.more ++ y.more;
     made = x.made ++ y.made;
     makes = makes_append core letter_text p x.more y.more a b c x.made y.made x.makes y.makes;
+    over = over_append (length p.nodes) (length p.registers) x.more y.more x.over y.over;
     listed = y.listed ∙ ap (λ (l : List Happening). l ++ y.more) x.listed ∙ append_assoc d x.more y.more;
     printed = y.printed ∙ ap (λ (l : Text). l ++ y.made) x.printed ∙ append_assoc t x.made y.made;
   }
@@ -90,11 +124,12 @@ module _ {H S M : Type 0} (core : Core H S M) (letter_text : Fields → M → Te
   adds_members a b d d' t t' x = leads_members core x.more a b (makes_leads core letter_text p x.more a b x.made x.makes)
 
   pub adds_one : (h : Happening) (a b : MomentState S M) (d d' : List Happening) (t t' : Text) → Brings core a h b → d' ≡ d ++ h ∷ []
-      → t' ≡ t ++ shown core letter_text p a h b → A a b d d' t t'
-  adds_one h a b d d' t t' brings listed printed = record {
+      → t' ≡ t ++ shown core letter_text p a h b → AreOver (length p.nodes) (length p.registers) (events_in (h ∷ [])) → A a b d d' t t'
+  adds_one h a b d d' t t' brings listed printed over = record {
     more = h ∷ [];
     made = shown core letter_text p a h b;
     makes = makes_one core letter_text p h a b brings;
+    over = over;
     listed = listed;
     printed = printed;
   }
@@ -104,7 +139,7 @@ module _ {H S M : Type 0} (core : Core H S M) (letter_text : Fields → M → Te
   adds_from r a a' b d d' t t' same x = subst (λ (m : MomentState S M). OnOk r (A m b d d' t t')) same x
 
   pub loss_adds : (r : Result ⊤ LineFault) (a b : MomentState S M) (d d' : List Happening) (t : Text) → OnOk r (Loses core a b d d') → OnOk r (A a b d d' t t)
-  loss_adds (Ok u) a b d d' t x = adds_one (IsLost x.parcel) a b d d' t t x.brings x.listed (sym (append_nil t))
+  loss_adds (Ok u) a b d d' t x = adds_one (IsLost x.parcel) a b d d' t t x.brings x.listed (sym (append_nil t)) (over_none (length p.nodes) (length p.registers))
   loss_adds (Err fault) a b d d' t x = tt
 
   module _ (shape : H) where
@@ -120,25 +155,37 @@ module _ {H S M : Type 0} (core : Core H S M) (letter_text : Fields → M → Te
     session_start s is count = record {
       leads = subst (λ (x : SessionState S M). Leads core first x.done x.now) (sym is) refl;
       members = members_at_rest core p shape (length p.nodes) s.now.cluster (ap (λ (x : SessionState S M). x.now.cluster) is) count;
+      over = subst (λ (x : SessionState S M). AreOver (length p.nodes) (length p.registers) (events_in x.done)) (sym is) (over_none (length p.nodes) (length p.registers));
     }
 
-    pub session_back : (a c : SessionState S M) → G a → Leads core first c.done c.now → G c
-    session_back a c g leads = record {
+    session_back : (a c : SessionState S M) → G a → Leads core first c.done c.now → AreOver (length p.nodes) (length p.registers) (events_in c.done) → G c
+    session_back a c g leads over = record {
       leads = leads;
       members = leads_members core c.done first c.now leads ∙ sym (leads_members core a.done first a.now g.leads) ∙ g.members;
+      over = over;
     }
+
+    -- what is left of a session is one
+    pub session_taken : (n : ℕ) (a c : SessionState S M) → G a → c.done ≡ take n a.done → Leads core first (take n a.done) c.now → G c
+    session_taken n a c g listed leads =
+        session_back a c g (subst (λ (l : List Happening). Leads core first l c.now) (sym listed) leads)
+        (subst (λ (l : List Happening). AreOver (length p.nodes) (length p.registers) (events_in l)) (sym listed)
+        (over_take (length p.nodes) (length p.registers) n a.done g.over))
 
     pub session_adds : (a : SessionState S M) (b : MomentState S M) (d' : List Happening) (marks : List ℕ) (t t' : Text) → G a → A a.now b a.done d' t t' → G (state b d' marks)
     session_adds a b d' marks t t' g x =
         session_back a (state b d' marks) g
         (subst (λ (l : List Happening). Leads core first l b) (sym x.listed)
         (leads_append core a.done x.more first a.now b g.leads (makes_leads core letter_text p x.more a.now b x.made x.makes)))
+        (subst (λ (l : List Happening). AreOver (length p.nodes) (length p.registers) (events_in l)) (sym x.listed)
+        (over_append (length p.nodes) (length p.registers) a.done x.more g.over x.over))
 
     pub line_done : (a : SessionState S M) (b : MomentState S M) (d' : List Happening) (marks : List ℕ) (before : ℕ) (t t' : Text) → A a.now b a.done d' t t' → t ≡ []
         → before ≡ length a.done → marks ≡ a.marks ++ before ∷ [] → IsDone core letter_text p a (state b d' marks) t'
     line_done a b d' marks before t t' x empty here is = record {
       more = x.more;
       makes = subst (λ (l : Text). Makes core letter_text p a.now x.more b l) (sym (x.printed ∙ ap (λ (l : Text). l ++ x.made) empty)) x.makes;
+      over = x.over;
       done = x.listed;
       marks = is ∙ ap (λ (n : ℕ). a.marks ++ n ∷ []) here;
     }
@@ -204,6 +251,7 @@ module _ {H S M : Type 0} (core : Core H S M) (letter_text : Fields → M → Te
       text = x.text;
       talks = subst (λ (q : SessionState S M). Talks core letter_text p shape q x.turns last x.text) is x.talks;
       replays = leads_runs core last.done first last.now g.leads;
+      over = g.over;
       printed = Appends-trans o o' o'' x.text (closing_text core letter_text p last.now.cluster) x.printed closes;
     }
 

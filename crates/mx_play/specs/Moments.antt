@@ -1,11 +1,11 @@
 -- A cluster with what has become of its parcels, and what happens to both.
-use Rattle.std.specs.Prelude.{◌≡◌, List, [], ◌∷◌, ◌++◌, Ok, length}
+use Rattle.std.specs.Prelude.{◌≡◌, IsTrue, List, [], ◌∷◌, ◌++◌, Ok, length}
 use Rattle.mx_nodelaws.specs.Core.{Core}
 use Rattle.mx_network.specs.Step.{ClusterState, step_of}
 use Rattle.mx_plan.specs.Text.{Text}
 use Rattle.mx_plan.specs.Fields.{Fields}
 use Rattle.mx_commands.specs.Runs.{at_rest, text_of}
-use Rattle.mx_scripts.specs.Fates.{Fates, at_first, lost, noted}
+use Rattle.mx_scripts.specs.Fates.{Fates, at_first, is_under_way, lost, noted}
 use Rattle.mx_play.specs.declared.happening.Happening.{Happening}
 use Rattle.mx_play.specs.declared.happening.Happening.TheVariants.{Happens, IsLost}
 
@@ -18,12 +18,14 @@ abbrev pub first_moment : {H S M : Type 0} → Core H S M → Fields → H → M
 first_moment core p shape = record { cluster = at_rest core p shape; fates = at_first }
 
 module _ {H S M : Type 0} (core : Core H S M) where
-  -- this happens, and leads from one moment to another
+  -- this happens, and leads from one moment to another; only a parcel that is under way is lost
   abbrev pub Brings : MomentState S M → Happening → MomentState S M → Type 0
   Brings old (Happens e) new =
       (step_of core old.cluster e ≡ Ok new.cluster)
       × (new.fates ≡ noted new.cluster.sent e old.fates)
-  Brings old (IsLost k) new = (new.cluster ≡ old.cluster) × (new.fates ≡ lost k old.fates)
+  Brings old (IsLost k) new =
+      (new.cluster ≡ old.cluster) × (new.fates ≡ lost k old.fates)
+      × IsTrue (is_under_way old.fates k)
 
   -- it can happen
   abbrev pub CanHappen : MomentState S M → Happening → Type 0

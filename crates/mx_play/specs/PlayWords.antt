@@ -1,5 +1,6 @@
 -- What the words of `play` ask for, as `clap` reads them.
-use Rattle.std.specs.Prelude.{List, Option, codes, option_map}
+use Rattle.std.specs.Prelude.{◌≡◌, List, [], Option, None, codes, option_map}
+use Rattle.clap.specs.Faults.{fault_of}
 use Rattle.clap.specs.Words.{App, Row, Rule, Text, first_of, new_app, new_rule, with_rule}
 use Rattle.mx_cli.specs.Words.{asked_of, by_name, line_with, plan_rule}
 use Rattle.mx_play.specs.declared.words.Request.{Request as Told}
@@ -34,3 +35,7 @@ request_in met = by_name (codes "play") play_in met
 -- what the words ask for, where they are `play` with its arguments
 unfoldable pub request_asked : List Text → Option Request
 request_asked words = asked_of play_line request_in words
+
+-- the words have no fault, and ask for nothing that `play` does
+abbrev pub AskNothing : List Text → Type 0
+AskNothing words = (fault_of play_line words ≡ []) × (request_asked words ≡ None)

@@ -15,7 +15,7 @@ use Rattle.mx_io.specs.Outputs.{Held}
 use Rattle.mx_commands.specs.Runs.{closing_text}
 use Rattle.mx_scripts.specs.Fates.{is_under_way}
 use Rattle.mx_scripts.specs.Files.{file_text}
-use Rattle.mx_scripts.specs.Played.{events_of}
+use Rattle.mx_scripts.specs.Played.{AreOver, events_of}
 use Rattle.mx_play.specs.Help.{words_text}
 use Rattle.mx_play.specs.Moments.{Brings, Leads, Makes, MomentState, first_moment}
 use Rattle.mx_play.specs.declared.happening.Happening.{Happening}
@@ -41,12 +41,13 @@ events_in [] = []
 events_in (Happens e ∷ hs) = e ∷ events_in hs
 events_in (IsLost k ∷ hs) = events_in hs
 
--- the cluster and its parcels are those to which what happened leads, and the cluster has the nodes
--- of the plan
+-- the cluster and its parcels are those to which what happened leads, the cluster has the nodes of
+-- the plan, and what happened is over its nodes and registers
 pub record IsSession {H S M : Type 0} (core : Core H S M) (p : Fields) (shape : H)
     (s : SessionState S M) : Type 0 where
   pub leads : Leads core (first_moment core p shape) s.done s.now
   pub members : length s.now.cluster.members ≡ length p.nodes
+  pub over : AreOver (length p.nodes) (length p.registers) (events_in s.done)
 
 -- a list of what happened went on
 pub record Extends (old new : List Happening) : Type 0 where
@@ -86,19 +87,23 @@ module _ {H S M : Type 0} (core : Core H S M) (letter_text : Fields → M → Te
 
   -- ---- the lines of a session
 
-  -- more happened, which joined the list of what happened, and was printed behind a text
+  -- more happened, over the nodes and registers of the plan, which joined the list of what
+  -- happened, and was printed behind a text
   pub record Adds (old new : MomentState S M) (done done' : List Happening) (text text' : Text)
       : Type 0 where
     pub more : List Happening
     pub made : Text
     pub makes : Makes core letter_text p old more new made
+    pub over : AreOver (length p.nodes) (length p.registers) (events_in more)
     pub listed : done' ≡ done ++ more
     pub printed : text' ≡ text ++ made
 
-  -- the events and losses of a line of a script happened, and were printed
+  -- the events and losses of a line of a script happened, over the nodes and registers of the plan,
+  -- and were printed
   pub record IsDone (old new : SessionState S M) (text : Text) : Type 0 where
     pub more : List Happening
     pub makes : Makes core letter_text p old.now more new.now text
+    pub over : AreOver (length p.nodes) (length p.registers) (events_in more)
     pub done : new.done ≡ old.done ++ more
     pub marks : new.marks ≡ old.marks ++ length old.done ∷ []
 
@@ -159,7 +164,7 @@ module _ {H S M : Type 0} (core : Core H S M) (letter_text : Fields → M → Te
     pub printed : Appends out out' text
 
   -- a whole session: some turns from the start, and then the closing lines of the cluster to which
-  -- the events lead that are left
+  -- the events lead that are left, which are over the nodes and registers of the plan
   pub record IsPlayed (out out' : Held) : Type 0 where
     pub turns : List Turn
     pub last : SessionState S M
@@ -167,6 +172,7 @@ module _ {H S M : Type 0} (core : Core H S M) (letter_text : Fields → M → Te
     pub talks : Talks (at_start core p shape) turns last text
     pub replays : RunsTo core (at_start core p shape).now.cluster (events_in last.done)
         last.now.cluster
+    pub over : AreOver (length p.nodes) (length p.registers) (events_in last.done)
     pub printed : Appends out out' (text ++ closing_text core letter_text p last.now.cluster)
 
   -- some turn was taken, and what was printed of it

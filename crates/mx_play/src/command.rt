@@ -2,9 +2,9 @@
 
 ghost use Rattle.std.specs.Prelude.{◌≡◌, false, IsSome, IfSome};
 ghost use Rattle.mx_cli.specs.Words.{texts_of};
-ghost use Rattle.mx_cli.specs.Told.{Answers, seen};
+ghost use Rattle.mx_cli.specs.Told.{Answers, Declines, seen};
 ghost use Rattle.mx_cli.specs.Closed.{IsRunStatus};
-ghost use Rattle.mx_play.specs.PlayWords.{play_line, request_asked, request_of};
+ghost use Rattle.mx_play.specs.PlayWords.{AskNothing, play_line, request_asked, request_of};
 ghost use Rattle.mx_play.specs.Played.{HasPlayed, IsPlayedBy};
 
 use crate::playing::play_by;
@@ -34,6 +34,8 @@ pub fn play<S: Source, L: Lines, O: Output, E: Output>(
         → result ≡ 0 → O.keeps_back out.new ≡ false }
     ensures status { IsSome (request_asked (texts_of words.entry.now)) → IsRunStatus result }
     ensures answers { Answers play_line (texts_of words.entry.now) (O.takes_all out.old)
+        (seen O.Output E.Output out.old err.old) (seen O.Output E.Output out.new err.new) result }
+    ensures other { AskNothing (texts_of words.entry.now) → Declines
         (seen O.Output E.Output out.old err.old) (seen O.Output E.Output out.new err.new) result }
 {
     match asked(alloc, words) {

@@ -53,7 +53,7 @@ pub(crate) const PLAY_EXAMPLE: &str =
 
 A line of standard input is one of a script, as `mx script --help` tells them, and what is printed of it is what
 `mx replay` prints of its events. `show` prints the line of each node, and of each parcel under way; `show N` those
-of node N. `undo` takes back the last line that did something, `undo K` the last K. `events` prints the events so
+of node N. `undo` takes back the last line that was done, `undo K` the last K of them. `events` prints the events so
 far, as a file that `mx replay` reads, and `help` the words. What is wrong in a line is told on standard error, and
 nothing changes. `end`, or the end of standard input, prints the closing lines and the verdict. Where a script is
 named, its lines come first. Where the plan is -, it is the first line of standard input.";

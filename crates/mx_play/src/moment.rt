@@ -100,8 +100,9 @@ impl<C: Exclusion> Moment<C> {
         Ok(())
     }
 
-    /// A parcel is lost.
+    /// A parcel that is under way is lost.
     pub(crate) fn lose(&mut self, number: u64)
+        requires { IsTrue (is_under_way self.old.fates number) }
         ensures { Brings C.core self.old (Happening.IsLost number) self.new }
     {
         self.mail.lose(number);

@@ -1,7 +1,7 @@
 //! What a line of a script makes.
 
 ghost use Rattle.std.specs.Prelude.{◌≡◌, length, string_bytes, OnErr, OnOk};
-ghost use Rattle.mx_commands.specs.Runs.{NamesNodes};
+ghost use Rattle.mx_explorer.specs.Drawn.{IsDrawn};
 ghost use Rattle.mx_scripts.specs.Scripts.{IsOver};
 ghost use Rattle.mx_play.specs.Sessions.{Adds, Extends, Loses};
 
@@ -87,7 +87,7 @@ where
     }
 }
 
-/// An event of the nodes of the plan happens, where there may be one more.
+/// An event of the nodes and registers of the plan happens, where there may be one more.
 fn happen<C: Exclusion>(
     alloc: Global,
     plan: &Plan,
@@ -99,7 +99,7 @@ fn happen<C: Exclusion>(
 where
     C::Msg: Letter,
     requires members { length moment.old.cluster.members ≡ length plan.now.nodes }
-    requires named { NamesNodes (length plan.now.nodes) event.now }
+    requires drawn { IsDrawn (length plan.now.nodes) (length plan.now.registers) event.now }
     ensures ok { OnOk result (Adds C.core C.Msg.letter_text plan.now moment.old moment.new
         done.old.items done.new.items (string_bytes text.old) (string_bytes text.new)) }
     ensures err { OnErr result (Extends done.old.items done.new.items) }

@@ -1,8 +1,9 @@
 //! What a session starts from: its plan, and a script whose lines come first.
 
-ghost use Rattle.std.specs.Prelude.{◌≡◌, IfOk};
-ghost use Rattle.mx_cli.specs.Reading.{IsPlanOf, is_dash};
-ghost use Rattle.mx_play.specs.Played.{told_of_plan};
+ghost use Rattle.std.specs.Prelude.{◌≡◌, IfOk, option_map};
+ghost use Rattle.mx_cli.specs.Reading.{is_dash};
+ghost use Rattle.mx_play.specs.PlayWords.{request_of};
+ghost use Rattle.mx_play.specs.Played.{IsLinePlan, IsPlanNamed, IsScriptOf, told_of_name, told_of_script};
 
 use crate::reading::{Given, Lines};
 use crate::words::Request;
@@ -18,8 +19,10 @@ pub(crate) fn fetch_start<S: Source, L: Lines>(
     source: &mut S,
     lines: &mut L,
 ) -> Result<PlanAndText, Stop>
-    ensures { IfOk result (λ start.
-        IsPlanOf (told_of_plan (S.told source.old) request.now.plan.now) start.plan) }
+    ensures plan { IfOk result (λ start.
+        IsPlanNamed (S.told source.old) request.now.plan.now start.plan) }
+    ensures script { IfOk result (λ start. IsScriptOf
+        (told_of_script (S.told source.old) (request_of request.now).1) start.text.items) }
 {
     let plan = plan_of(alloc, request.plan, source, lines)?;
     let text = script_of(alloc, request.script, source)?;
@@ -33,7 +36,8 @@ fn plan_of<S: Source, L: Lines>(
     source: &mut S,
     lines: &mut L,
 ) -> Result<Plan, Stop>
-    ensures { IfOk result (IsPlanOf (told_of_plan (S.told source.old) name.now)) }
+    ensures named { IfOk result (IsPlanNamed (S.told source.old) name.now) }
+    ensures stays { S.told source.new ≡ S.told source.old }
 {
     if is_dash(name) {
         first_plan(alloc, lines)
@@ -43,7 +47,9 @@ fn plan_of<S: Source, L: Lines>(
 }
 
 /// The plan that the next line is.
-fn first_plan<L: Lines>(alloc: Global, lines: &mut L) -> Result<Plan, Stop> {
+fn first_plan<L: Lines>(alloc: Global, lines: &mut L) -> Result<Plan, Stop>
+    ensures { IfOk result IsLinePlan }
+{
     let mut line = Vec::new(alloc);
     match lines.next(&mut line)? {
         Given::Line | Given::End => plan_in(alloc, line.as_slice()),
@@ -51,15 +57,26 @@ fn first_plan<L: Lines>(alloc: Global, lines: &mut L) -> Result<Plan, Stop> {
     }
 }
 
-/// The script of a name. Standard input has none, since its lines come anyway.
-fn script_of<S: Source>(
-    alloc: Global,
-    name: Option<&str>,
-    source: &mut S,
-) -> Result<Vec<u8>, Stop> {
+/// The script, where one is named.
+fn script_of<S: Source>(alloc: Global, name: Option<&str>, source: &mut S) -> Result<Vec<u8>, Stop>
+    ensures { IfOk result (λ text. IsScriptOf (told_of_script (S.told source.old)
+        (option_map (λ name. name.now) name.entry)) text.items) }
+{
     match name {
-        Some(name) if !is_dash(name) => fetch(alloc, source, name, Named::Events),
-        _ => Ok(Vec::new(alloc)),
+        Some(name) => named_script(alloc, name, source),
+        None => Ok(Vec::new(alloc)),
+    }
+}
+
+/// The script of a name. Standard input has none, since its lines come anyway.
+fn named_script<S: Source>(alloc: Global, name: &str, source: &mut S) -> Result<Vec<u8>, Stop>
+    ensures { IfOk result (λ text.
+        IsScriptOf (told_of_name (S.told source.old) name.now) text.items) }
+{
+    if is_dash(name) {
+        Ok(Vec::new(alloc))
+    } else {
+        fetch(alloc, source, name, Named::Events)
     }
 }
 

@@ -86,6 +86,7 @@ where
         (O.written out.old) (O.written out.new)) }
     ensures is { IfOk result (λ _. IsSession C.core plan.now shape.now
         (state session.new.moment session.new.done.items session.new.marks.items)) }
+    ensures passed { IfOk result (λ _. O.keeps_back out.new ≡ false) }
 {
     let heard = hear(alloc, plan, lines, line, err)?;
     let complaint = reply(alloc, plan, shape, &heard, session, out)?;

@@ -1,8 +1,6 @@
-use Rattle.std.proofs.Common.{List, rules, subst, sym}
-use Rattle.mx_play.specs.Moments.{Leads, first_moment}
+use Rattle.std.proofs.Common.{rules}
 use Rattle.mx_play.specs.Sessions.{state}
-use Rattle.mx_play.specs.declared.happening.Happening.{Happening}
-use Rattle.mx_play.proofs.SessionLemmas.{can_take_back, session_back}
+use Rattle.mx_play.proofs.SessionLemmas.{can_take_back, session_taken}
 use Rattle.mx_play.proofs.answers.take_back.Goals as goal
 
 pub take_to-requires : goal.take_to-requires
@@ -16,7 +14,5 @@ pub returns-clause-is : goal.returns-clause-is
 returns-clause-is g c =
     let s = c.args.session.now in
     let n = c.take_to.new.session in
-    session_back g.C.Exclusion.core g.C.Msg.Letter.letter_text c.args.plan.now c.args.shape.now (state s.moment s.done.items s.marks.items)
-    (state n.moment n.done.items n.marks.items) c.requires.is
-    (subst (λ (l : List Happening). Leads g.C.Exclusion.core (first_moment g.C.Exclusion.core c.args.plan.now c.args.shape.now) l n.moment)
-    (sym c.in_ok-take_to.ensures.listed) c.in_ok-take_to.ensures.leads)
+    session_taken g.C.Exclusion.core g.C.Msg.Letter.letter_text c.args.plan.now c.args.shape.now c.mark_at-before.result (state s.moment s.done.items s.marks.items)
+    (state n.moment n.done.items n.marks.items) c.requires.is c.in_ok-take_to.ensures.listed c.in_ok-take_to.ensures.leads

@@ -1,12 +1,10 @@
 use Rattle.std.proofs.Common.{◌∙◌, ap, length, rules, string_bytes}
 use Rattle.mx_play.specs.Moments.{MomentState}
-use Rattle.mx_play.proofs.SessionLemmas.{adds_from, drawn_names, loss_adds}
+use Rattle.mx_play.proofs.SessionLemmas.{adds_from, loss_adds}
 use Rattle.mx_play.proofs.orders.obey.Goals as goal
 
 pub happen-requires : goal.happen-requires
-happen-requires g c =
-    let p = c.args.plan.now in
-    (search rules, (c.requires.members, drawn_names (length p.nodes) (length p.registers) c.in-Happens.event (rw c.in-Happens.is at c.requires.over)))
+happen-requires g c = (search rules, (c.requires.members, rw c.in-Happens.is at c.requires.over))
 
 pub arrive-requires : goal.arrive-requires
 arrive-requires g c =
