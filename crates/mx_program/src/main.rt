@@ -40,14 +40,7 @@ where
         "explore" if has_word(words, "--count") => count(alloc, words, &mut source, out, err),
         "live" => live(rt, alloc, words, &mut source, out, err),
         "picture" => picture(alloc, words, &mut source, out, err),
-        "play" => play(
-            alloc,
-            words,
-            &mut source,
-            &mut typed_lines(rt),
-            out,
-            err,
-        ),
+        "play" => play(alloc, words, &mut source, &mut typed_lines(rt), out, err),
         "replay" if is_view(words) => replay_view(alloc, words, &mut source, out, err),
         _ => command(alloc, words, &mut source, out, err),
     }
