@@ -9,6 +9,8 @@ import time
 
 ROOT = os.path.dirname(os.path.dirname(os.path.abspath(__file__)))
 PROGRAM = os.path.join(ROOT, "crates", "mx_program", "out", "mx_program")
+# times stations and journals; `bench/live` proves and builds it
+BENCHES = os.path.join(ROOT, "crates", "benches", "out", "benches")
 # as `mx` sets it
 TUNABLES = {**os.environ, "GLIBC_TUNABLES": "glibc.malloc.hugetlb=1:glibc.malloc.mmap_threshold=131072"}
 

@@ -1,13 +1,16 @@
 //! What the benches of journals and of stations time. Usage: benches journals RECORDS SEED, benches
-//! settling RECORDS EVERY, or benches stations ALGORITHM NODES SECTIONS. Without words it says so.
+//! settling RECORDS EVERY, benches stations ALGORITHM NODES SECTIONS, or benches jobs ALGORITHM
+//! NODES SECTIONS. Without words it says so.
 #![tactic(auto)]
 
+mod jobs;
 mod journals;
 mod live;
 mod meeting;
 mod nodes;
 mod shapes;
 
+use crate::jobs::time_jobs;
 use crate::journals::{time_journals, time_settling};
 use crate::live::time_stations;
 use anyhow::{Result, bail};
@@ -16,7 +19,7 @@ use std::rt::Clock;
 use std::thread::Threads;
 
 const USAGE: &str =
-    "usage: benches journals RECORDS SEED, benches settling RECORDS EVERY, or benches stations ALGORITHM NODES SECTIONS";
+    "usage: benches journals RECORDS SEED, benches settling RECORDS EVERY, or benches stations|jobs ALGORITHM NODES SECTIONS";
 
 /// Times what these words ask for of journals.
 fn time(rt: &HostRuntime, what: &str, first: &str, second: &str) -> Result<()> {
@@ -27,14 +30,19 @@ fn time(rt: &HostRuntime, what: &str, first: &str, second: &str) -> Result<()> {
     }
 }
 
-/// Times stations, of as many nodes and sections as these words say.
+/// Times stations or jobs, of as many nodes and sections as these words say.
 fn time_run<R: Threads + Sync + Clock + Print + AllocGlobal>(
     rt: &R,
+    what: &str,
     algorithm: &str,
     nodes: &str,
     sections: &str,
 ) -> Result<()> {
-    time_stations(rt, algorithm, nodes.parse()?, sections.parse()?)
+    match what {
+        "stations" => time_stations(rt, algorithm, nodes.parse()?, sections.parse()?),
+        "jobs" => time_jobs(rt, algorithm, nodes.parse()?, sections.parse()?),
+        _ => bail!("{USAGE}"),
+    }
 }
 
 fn tell_usage(rt: &HostRuntime) -> Result<()> {
@@ -46,9 +54,13 @@ fn main(rt: HostRuntime) -> Result<()> {
     let words: Vec<String> = env::args(&rt)?.skip(1).collect(rt.alloc())?;
     match words.as_slice() {
         [what, first, second] => time(&rt, what.as_str(), first.as_str(), second.as_str()),
-        [what, algorithm, nodes, sections] if what.as_str() == "stations" => {
-            time_run(&rt, algorithm.as_str(), nodes.as_str(), sections.as_str())
-        }
+        [what, algorithm, nodes, sections] => time_run(
+            &rt,
+            what.as_str(),
+            algorithm.as_str(),
+            nodes.as_str(),
+            sections.as_str(),
+        ),
         _ => tell_usage(&rt),
     }
 }

@@ -12,25 +12,36 @@ use mx_trees::Tree;
 use std::alloc::{AllocError, Global};
 
 /// The greatest number of sections that a cluster may have.
-const LIMIT: u64 = 1_000_000;
+pub(crate) const LIMIT: u64 = 1_000_000;
+
+/// How many nodes there are.
+pub(crate) fn count_of(nodes: u8) -> Result<Count> {
+    match Count::of(nodes) {
+        Some(count) => Ok(count),
+        None => bail!("1 to 21 nodes"),
+    }
+}
 
 fn ricart(alloc: Global, nodes: u8) -> Result<Vec<AnyStation>> {
     let mut all = Vec::new(alloc);
-    let Some(count) = Count::of(nodes) else {
-        bail!("1 to 21 nodes");
-    };
+    let count = count_of(nodes)?;
     for station in Field::<Ricart>::stations(alloc, &count, 0, LIMIT, 1)? {
         all.push(AnyStation::Ricart(station))?;
     }
     Ok(all)
 }
 
+/// The arbiters of a plane if there is one of this many nodes, else all nodes.
+pub(crate) fn quorums_of(nodes: u8) -> Result<Quorums> {
+    match Quorums::plane(nodes) {
+        Ok(quorums) => Ok(quorums),
+        Err(_) => Ok(Quorums::grid(1, nodes)?),
+    }
+}
+
 fn maekawa(alloc: Global, nodes: u8) -> Result<Vec<AnyStation>> {
     let mut all = Vec::new(alloc);
-    let quorums = match Quorums::plane(nodes) {
-        Ok(quorums) => quorums,
-        Err(_) => Quorums::grid(1, nodes)?,
-    };
+    let quorums = quorums_of(nodes)?;
     for station in Field::<Maekawa>::stations(alloc, &quorums, 0, LIMIT, 1)? {
         all.push(AnyStation::Maekawa(station))?;
     }
@@ -46,7 +57,7 @@ fn binary_edges(alloc: Global, nodes: u8) -> Result<Vec<(u8, u8)>, AllocError> {
     Ok(edges)
 }
 
-fn binary_tree(alloc: Global, nodes: u8) -> Result<Tree> {
+pub(crate) fn binary_tree(alloc: Global, nodes: u8) -> Result<Tree> {
     let edges = binary_edges(alloc, nodes)?;
     Ok(Tree::of(nodes, edges.as_slice(), 0)?)
 }

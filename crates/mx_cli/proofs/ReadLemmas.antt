@@ -1,12 +1,13 @@
 -- A plan that was read with the text that comes with it.
-use Rattle.std.proofs.Common.{◌≡◌, ◌&&◌, inl, ℕ, true, false, List, Option, Some, None, Result, Ok, Err, Vec, IfSome, option_map, subst}
+use Rattle.std.proofs.Common.{◌≡◌, ◌∙◌, ◌&&◌, ◌++◌, inl, ℕ, true, false, List, [], ◌∷◌, Bool, Option, Some, None, Result, Ok, Err, Vec, IfSome, ap, append_assoc, option_map, subst}
 use Rattle.std.specs.declared.alloc.Global.{Global}
 use Rattle.mx_plan.specs.Text.{Text}
 use Rattle.mx_cli.specs.declared.faults.Named.TheVariants.{Plan}
 use Rattle.mx_cli.specs.declared.faults.Stop.{Stop}
 use Rattle.mx_cli.specs.declared.planning.PlanAndText.{PlanAndText}
+use Rattle.mx_cli.specs.Asked.{AsksBoth, AsksBy, AsksInTurn}
 use Rattle.mx_cli.specs.Reading.{Fetches, ReadsBoth, is_dash, line_of, plan_told, rest_of, text_told}
-use Rattle.mx_io.specs.Told.{Telling}
+use Rattle.mx_io.specs.Told.{Asks, Telling}
 
 -- one text is both
 one_both : (o : Option Telling) (one : Vec ℕ Global) (result : Result PlanAndText Stop) → IfSome o (λ telling. Fetches Plan telling (Ok one))
@@ -30,3 +31,27 @@ module _ (told : Text → Option Telling) (names : Text × Text) (result : Resul
   pub names_read : (is_dash names.0 && is_dash names.1) ≡ false → ReadsBoth (told names.0) (told names.1) result
       → ReadsBoth (plan_told told names) (text_told told names) result
   names_read other h = rw other h
+
+-- ---- the names that were asked for
+
+-- one list after the other
+pub asks_on : (a b c : Option (List Text)) (xs ys : List Text) → Asks a b xs → Asks b c ys → Asks a c (xs ++ ys)
+asks_on None b c xs ys p q = tt
+asks_on (Some x) None c xs ys p q = absurd p
+asks_on (Some x) (Some y) None xs ys p q = absurd q
+asks_on (Some x) (Some y) (Some z) xs ys p q = q ∙ ap (λ l. l ++ ys) p ∙ append_assoc x xs ys
+
+module _ (names : Text × Text) (old new : Option (List Text)) (result : Result PlanAndText Stop) where
+  pub dashes_asked : (is_dash names.0 && is_dash names.1) ≡ true → Asks old new (names.0 ∷ []) → AsksBoth names old new result
+  dashes_asked both h = rw both h
+
+  pub names_asked : (is_dash names.0 && is_dash names.1) ≡ false → AsksInTurn names old new result → AsksBoth names old new result
+  names_asked other h = rw other h
+
+-- it says nothing of why there is no plan
+asked_so : (b : Bool) (names : Text × Text) (old new : Option (List Text)) (end other : Stop) → AsksBy b names old new (Err end) → AsksBy b names old new (Err other)
+asked_so true names old new end other h = h
+asked_so false names old new end other h = h
+
+pub asked_otherwise : (names : Text × Text) (old new : Option (List Text)) (end other : Stop) → AsksBoth names old new (Err end) → AsksBoth names old new (Err other)
+asked_otherwise names old new end other h = asked_so (is_dash names.0 && is_dash names.1) names old new end other h

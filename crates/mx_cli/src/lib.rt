@@ -22,7 +22,7 @@ pub use about::{ABOUT_COUNT, ABOUT_DRAW, ABOUT_EXPLAIN, ABOUT_PICTURE, ABOUT_PLA
 pub use arguments::{
     events_arg, file_arg, flag_arg, number_arg, plan_arg, seed_arg, steps_arg, text_arg,
 };
-pub use closing::{close, is_refused};
+pub use closing::{close, close_with, is_refused};
 pub use fault_lines::FaultLine;
 pub use faults::{Fault, Named, Stop};
 pub use line::{bare_command, command_line, line_of, matches_in};

@@ -1,7 +1,9 @@
 //! Which of two texts is no JSON.
 
-ghost use Rattle.std.specs.Prelude.{◌≡◌, Ok, IfErr, IfOk};
+ghost use Rattle.std.specs.Prelude.{◌≡◌, Bool, Ok, IfErr, IfOk};
+ghost use Rattle.mx_cli.specs.Asked.{AsksBoth};
 ghost use Rattle.mx_cli.specs.Naming.{IsUnread, fault_named, naming, stop_named, text_named};
+ghost use Rattle.mx_cli.specs.Outputs.{refused_after};
 ghost use Rattle.mx_cli.specs.Reading.{ReadsBoth, plan_told, text_told};
 ghost use Rattle.mx_cli.specs.Words.{names_of};
 
@@ -22,6 +24,8 @@ pub fn fetch_named<S: Source>(
     ensures ok { IfOk result (λ both. ReadsBoth (plan_told (S.told source.old) (names_of names.now))
         (text_told (S.told source.old) (names_of names.now)) (Ok both)) }
     ensures err { IfErr result (IsUnread (S.told source.old) (names_of names.now)) }
+    ensures asks { AsksBoth (names_of names.now) (S.asked source.old) (S.asked source.new) result }
+    ensures taken { (before : Bool) → refused_after result before ≡ before }
 {
     match fetch_both(alloc, source, names) {
         Ok(both) => Ok(both),

@@ -1,6 +1,8 @@
 //! Fetching what a command is about, and reading its plan.
 
-ghost use Rattle.std.specs.Prelude.{◌≡◌, Bool, Some, IfSome, option_map};
+ghost use Rattle.std.specs.Prelude.{◌≡◌, [], ◌∷◌, Bool, Some, IfSome, option_map};
+ghost use Rattle.mx_io.specs.Told.{Asks};
+ghost use Rattle.mx_cli.specs.Asked.{AsksBoth, AsksInTurn};
 ghost use Rattle.mx_cli.specs.Outputs.{refused_after};
 ghost use Rattle.mx_cli.specs.Reading.{Reads, ReadsBoth, Fetches, line_of, plan_told, rest_of, text_told};
 ghost use Rattle.mx_cli.specs.Words.{names_of};
@@ -27,6 +29,7 @@ pub fn fetch<S: Source>(
     named: Named,
 ) -> Result<Vec<u8>, Stop>
     ensures told { IfSome (S.told source.old name.now) (λ telling. Fetches named telling result) }
+    ensures asks { Asks (S.asked source.old) (S.asked source.new) (name.now ∷ []) }
     ensures taken { (before : Bool) → refused_after result before ≡ before }
     ensures stays { S.told source.new ≡ S.told source.old }
 {
@@ -40,6 +43,7 @@ pub fn fetch<S: Source>(
 /// The plan of a name, or why there is none. The source's other names stay as they are.
 pub fn fetch_plan<S: Source>(alloc: Global, source: &mut S, name: &str) -> Result<Plan, Stop>
     ensures told { IfSome (S.told source.old name.now) (λ telling. Reads telling result) }
+    ensures asks { Asks (S.asked source.old) (S.asked source.new) (name.now ∷ []) }
     ensures taken { (before : Bool) → refused_after result before ≡ before }
     ensures stays { S.told source.new ≡ S.told source.old }
 {
@@ -60,7 +64,8 @@ pub fn plan_in(alloc: Global, text: &[u8]) -> Result<Plan, Stop>
 
 /// The plan of the first of two names, and the bytes of the second. Where both are standard input,
 /// its first line is the plan, and the rest is what comes with it. A plan that is refused comes
-/// before a second name that can't be read.
+/// before a second name that can't be read. Each name is asked for once, the plan's first, and
+/// standard input once where it is both.
 pub fn fetch_both<S: Source>(
     alloc: Global,
     source: &mut S,
@@ -68,6 +73,7 @@ pub fn fetch_both<S: Source>(
 ) -> Result<PlanAndText, Stop>
     ensures read { ReadsBoth (plan_told (S.told source.old) (names_of names.now))
         (text_told (S.told source.old) (names_of names.now)) result }
+    ensures asks { AsksBoth (names_of names.now) (S.asked source.old) (S.asked source.new) result }
     ensures taken { (before : Bool) → refused_after result before ≡ before }
 {
     if are_dashes(names) {
@@ -81,6 +87,7 @@ pub fn fetch_both<S: Source>(
 fn fetch_one<S: Source>(alloc: Global, source: &mut S, name: &str) -> Result<PlanAndText, Stop>
     ensures read { ReadsBoth (option_map line_of (S.told source.old name.now))
         (option_map rest_of (S.told source.old name.now)) result }
+    ensures asks { Asks (S.asked source.old) (S.asked source.new) (name.now ∷ []) }
     ensures taken { (before : Bool) → refused_after result before ≡ before }
 {
     let one = fetch(alloc, source, name, Named::Plan)?;
@@ -107,6 +114,7 @@ fn fetch_two<S: Source>(
 ) -> Result<PlanAndText, Stop>
     ensures read { ReadsBoth (S.told source.old names.now.plan.now)
         (S.told source.old names.now.events.now) result }
+    ensures asks { AsksInTurn (names_of names.now) (S.asked source.old) (S.asked source.new) result }
     ensures taken { (before : Bool) → refused_after result before ≡ before }
 {
     let plan = fetch_plan(alloc, source, names.plan)?;

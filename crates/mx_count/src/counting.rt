@@ -3,7 +3,7 @@
 ghost use Rattle.std.specs.Prelude.{◌≡◌, IsSome, IfSome, IfOk};
 ghost use Rattle.mx_cli.specs.Words.{names_of, texts_of};
 ghost use Rattle.mx_cli.specs.Told.{Answers, seen};
-ghost use Rattle.mx_cli.specs.Closed.{IsRunStatus};
+ghost use Rattle.mx_cli.specs.Closed.{IsRunStatus, PassesOn};
 ghost use Rattle.mx_count.specs.CountWords.{request_asked, request_of, count_line};
 ghost use Rattle.mx_count.specs.CountWords as wants;
 ghost use Rattle.mx_count.specs.Printed.{PrintsCounts};
@@ -28,6 +28,8 @@ pub fn count<S: Source, O: Output, E: Output>(
     ensures printed { IfSome (request_asked (texts_of words.entry.now)) (λ request.
         result ≡ 0
         → PrintsCounts (S.told source.old) request (O.written out.old) (O.written out.new)) }
+    ensures passed { IsSome (request_asked (texts_of words.entry.now))
+        → PassesOn (E.written err.old) (E.written err.new) (O.keeps_back out.new) result }
     ensures status { IsSome (request_asked (texts_of words.entry.now)) → IsRunStatus result }
     ensures answers { Answers count_line (texts_of words.entry.now) (O.takes_all out.old)
         (seen O.Output E.Output out.old err.old) (seen O.Output E.Output out.new err.new) result }
@@ -49,6 +51,8 @@ fn count_and_close<S: Source, O: Output, E: Output>(
 ) -> u8
     ensures printed { result ≡ 0 → PrintsCounts (S.told source.old) (request_of request.now)
         (O.written out.old) (O.written out.new) }
+    ensures passed { PassesOn (E.written err.old) (E.written err.new) (O.keeps_back out.new)
+        result }
     ensures status { IsRunStatus result }
 {
     let ended = count_request(alloc, request, source, out);

@@ -3,7 +3,7 @@
 ghost use Rattle.std.specs.Prelude.{◌≡◌, ◌&&◌, IsSome, IfSome, IfOk, IfErr, None, true, false};
 ghost use Rattle.mx_cli.specs.Words.{request_of, texts_of};
 ghost use Rattle.mx_cli.specs.Told.{Answers, seen};
-ghost use Rattle.mx_cli.specs.Closed.{IsRunStatus};
+ghost use Rattle.mx_cli.specs.Closed.{IsRunStatus, PassesOn};
 ghost use Rattle.mx_commands.specs.Ran.{RanOf};
 ghost use Rattle.mx_explain.specs.Asked.{explain_line, matter_of, request_asked};
 ghost use Rattle.mx_explain.specs.Explained.{Explains, ExplainsMatter, FailsToPrint};
@@ -50,6 +50,8 @@ pub fn explain<S: Source + Reasons, O: Output, E: Output>(
     ensures explains { IfSome (request_asked (texts_of words.entry.now)) (λ matter.
         ExplainsMatter (O.takes_all out.old) (E.takes_all err.old) (S.told source.old) matter
         (E.written err.old) (E.written err.new) result) }
+    ensures passed { IsSome (request_asked (texts_of words.entry.now))
+        → PassesOn (E.written err.old) (E.written err.new) (O.keeps_back out.new) result }
     ensures status { IsSome (request_asked (texts_of words.entry.now)) → IsRunStatus result }
     ensures answers { Answers explain_line (texts_of words.entry.now) (O.takes_all out.old)
         (seen O.Output E.Output out.old err.old) (seen O.Output E.Output out.new err.new) result }
@@ -70,6 +72,8 @@ fn explain_matter<S: Source + Reasons, O: Output, E: Output>(
 ) -> u8
     ensures explains { ExplainsMatter (O.takes_all out.old) (E.takes_all err.old)
         (S.told source.old) (matter_of matter.now) (E.written err.old) (E.written err.new) result }
+    ensures passed { PassesOn (E.written err.old) (E.written err.new) (O.keeps_back out.new)
+        result }
     ensures status { IsRunStatus result }
 {
     match matter {
@@ -87,6 +91,8 @@ fn explain_request<S: Source + Reasons, O: Output, E: Output>(
 ) -> u8
     ensures explains { Explains (O.takes_all out.old && E.takes_all err.old) (S.told source.old)
         (request_of request.now) (E.written err.old) (E.written err.new) result }
+    ensures passed { PassesOn (E.written err.old) (E.written err.new) (O.keeps_back out.new)
+        result }
     ensures status { IsRunStatus result }
 {
     let ended = carry_out_and_explain(alloc, request, source, out);

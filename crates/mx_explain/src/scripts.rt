@@ -1,7 +1,7 @@
 //! `explain --script`: how a script ends, and what is wrong in its lines.
 
 ghost use Rattle.std.specs.Prelude.{◌≡◌, Bool, IfErr, IfOk};
-ghost use Rattle.mx_cli.specs.Closed.{IsRunStatus};
+ghost use Rattle.mx_cli.specs.Closed.{IsRunStatus, PassesOn};
 ghost use Rattle.mx_cli.specs.Words.{names_of};
 ghost use Rattle.mx_explain.specs.Explained.{FailsToPrint};
 ghost use Rattle.mx_scripts.specs.Ended.{EndsScript, ScriptsOf};
@@ -25,6 +25,8 @@ pub(crate) fn explain_script<S: Source + Reasons, O: Output, E: Output>(
 ) -> u8
     ensures explains { ScriptsOf (O.takes_all out.old) (E.takes_all err.old) (S.told source.old)
         (names_of names.now) (E.written err.old) (E.written err.new) result }
+    ensures passed { PassesOn (E.written err.old) (E.written err.new) (O.keeps_back out.new)
+        result }
     ensures status { IsRunStatus result }
 {
     let ended = end_and_explain(alloc, names, source, out);

@@ -1,5 +1,5 @@
--- What a source tells of a name.
-use Rattle.std.specs.Prelude.{◌≡◌, ℕ, List, [], ◌∷◌, Option, Some, None, ⊤, Result, Ok, Err, Vec, map, if◌then◌else◌}
+-- What a source tells of a name, and which names it was asked for.
+use Rattle.std.specs.Prelude.{◌≡◌, ℕ, List, [], ◌∷◌, ◌++◌, Option, Some, None, ⊤, Result, Ok, Err, Vec, map, if◌then◌else◌}
 use Rattle.std.specs.Borrow.{Bor}
 use Rattle.std.specs.Str.{bytes_eq}
 use Rattle.std.specs.declared.alloc.Global.{Global}
@@ -25,3 +25,9 @@ bytes_of (e ∷ es) name = if bytes_eq e.0 name then Some e.1 else bytes_of es n
 -- the entries behind the references
 abbrev pub entries_of : List (Bor (List ℕ) × Bor (List ℕ)) → List (List ℕ × List ℕ)
 entries_of = map (λ e. (e.0.now, e.1.now))
+
+-- these names were asked for, in this order, where the names that were asked for are known
+abbrev pub Asks : Option (List (List ℕ)) → Option (List (List ℕ)) → List (List ℕ) → Type 0
+Asks None new names = ⊤
+Asks (Some old) None names = ⊥
+Asks (Some old) (Some new) names = new ≡ old ++ names

@@ -1,5 +1,9 @@
 //! The words of the process, and the status with which it ends.
 
+ghost use Rattle.std.specs.Prelude.{◌≡◌, IfOk, IfErr, map, string_bytes};
+ghost use Rattle.std.specs.IoError.{error_kind};
+ghost use Rattle.mx_io.specs.Given.{status_without_words};
+
 use crate::output::Output;
 use crate::stream::Stream;
 use std::alloc::{AllocError, AllocGlobal, Global};
@@ -15,7 +19,9 @@ pub fn given_words<R: Env + AllocGlobal>(rt: &R) -> io::Result<Vec<String>> {
 }
 
 /// The words, borrowed.
-pub fn as_slices<'a>(alloc: Global, given: &'a [String]) -> Result<Vec<&'a str>, AllocError> {
+pub fn as_slices<'a>(alloc: Global, given: &'a [String]) -> Result<Vec<&'a str>, AllocError>
+    ensures { IfOk result (λ words. map (λ word. word.now) words.items ≡ map string_bytes given.now) }
+{
     let mut words = Vec::new(alloc);
     for word in given {
         words.push(word.as_str())?;
@@ -25,7 +31,10 @@ pub fn as_slices<'a>(alloc: Global, given: &'a [String]) -> Result<Vec<&'a str>,
 
 /// The status of a command; where its words could not be had, standard error is told why, and the
 /// status is 5 for want of memory, else 2.
-pub fn status_of<E: Write + Drop>(ended: io::Result<u8>, err: E) -> u8 {
+pub fn status_of<E: Write + Drop>(ended: io::Result<u8>, err: E) -> u8
+    ensures ok { IfOk ended (λ status. result ≡ status) }
+    ensures err { IfErr ended (λ e. result ≡ status_without_words (error_kind e)) }
+{
     match ended {
         Ok(status) => status,
         Err(e) => {

@@ -9,8 +9,9 @@ mod source;
 mod stream;
 mod streams;
 
+pub use counted::Counted;
 pub use given::{as_slices, given_words, status_of};
 pub use output::{Output, OutputFault};
 pub use source::{Source, SourceFault, Table};
 pub use stream::Stream;
-pub use streams::{Refusal, Streams, read_name};
+pub use streams::{MOST_BYTES, Refusal, Streams, read_name};

@@ -1,7 +1,7 @@
 //! Where named bytes come from.
 
-ghost use Rattle.std.specs.Prelude.{◌≡◌, ℕ, List, Option, Some, None, IfSome};
-ghost use Rattle.mx_io.specs.Told.{Telling, Tells, bytes_of, entries_of};
+ghost use Rattle.std.specs.Prelude.{◌≡◌, ℕ, List, [], ◌∷◌, Option, Some, None, IfSome};
+ghost use Rattle.mx_io.specs.Told.{Asks, Telling, Tells, bytes_of, entries_of};
 
 use std::alloc::{AllocError, Global};
 
@@ -19,9 +19,13 @@ pub trait Source {
     // What is told of a name: nothing, or that it can't be read, or its bytes.
     ghost told: { Self → List ℕ → Option Telling } = { λ _ _. None };
 
+    // The names that were asked for, the last at the end, where they are known.
+    ghost asked: { Self → Option (List (List ℕ)) } = { λ _. None };
+
     /// The bytes of a name. `-` is standard input.
     fn bytes(&mut self, alloc: Global, name: &str) -> Result<Vec<u8>, SourceFault>
         ensures tells { IfSome (told self.old name.now) (λ telling. Tells telling result) }
+        ensures asks { Asks (asked self.old) (asked self.new) (name.now ∷ []) }
         ensures stays { told self.new ≡ told self.old };
 }
 

@@ -1,5 +1,7 @@
 //! The files and the streams of the process.
 
+ghost use Rattle.std.specs.Prelude.{◌≡◌, ◌≤◌, length, IfOk, IfSome};
+
 use crate::counted::Counted;
 use crate::source::{Source, SourceFault};
 use std::alloc::Global;
@@ -8,10 +10,7 @@ use std::rt::Files;
 use std::{fs, io};
 
 /// A longer file, or a longer standard input, can't be read.
-const MOST_BYTES: u64 = 268_435_456;
-
-/// Nor can one that takes more reads, as where each gives one byte, or each is interrupted.
-const MOST_READS: u64 = 268_435_456;
+pub const MOST_BYTES: u64 = 268_435_456;
 
 /// Why a name gives no bytes.
 #[derive(Clone, Copy)]
@@ -56,12 +55,13 @@ pub fn read_name<R: Files + Input>(rt: &R, alloc: Global, name: &str) -> Result<
     }
 }
 
-fn read_all<R: Read + Drop>(alloc: Global, reader: R) -> Result<Vec<u8>, Refusal> {
+/// All bytes of a reader. One that has more than 268,435,456 is refused, and none is cut.
+fn read_all<R: Read + Drop>(alloc: Global, reader: R) -> Result<Vec<u8>, Refusal>
+    ensures all { IfOk result (λ bytes. IfSome (R.remaining reader) (λ all. bytes.items ≡ all)) }
+    ensures within { IfOk result (λ bytes. length bytes.items ≤ MOST_BYTES) }
+{
     let mut bytes = Vec::new(alloc);
-    let mut counted = Counted {
-        inner: reader.take(MOST_BYTES + 1),
-        left: MOST_READS,
-    };
+    let mut counted = Counted::new(reader.take(MOST_BYTES + 1));
     match counted.read_to_end(&mut bytes) {
         Ok(_) if bytes.len() as u64 > MOST_BYTES => {
             Err(Refusal::Because("it has more than 268435456 bytes"))

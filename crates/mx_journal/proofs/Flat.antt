@@ -45,6 +45,12 @@ ascending_flat k ((x ∷ xs) ∷ runs) r =
           (ascending_from (suc x.number + length xs) (last_number (x ∷ xs) + 2) (flatten runs) (omega arith) rest),
     )
 
+-- runs have some record
+pub some_record : (runs : List (List Record)) → AreRuns 1 runs → 1 ≤ length runs → (x : Record) × IsIn x (flatten runs)
+some_record [] r l = absurd (omega arith)
+some_record ([] ∷ runs) r l = absurd r
+some_record ((x ∷ xs) ∷ runs) r l = (x, inl refl)
+
 -- the numbers of a run, and that all of them are there
 pub in_run : (n : ℕ) (xs : List Record) → AreConsecutive n xs → (x : Record) → IsIn x xs → (n ≤ x.number) × (x.number < n + length xs)
 in_run n [] c x h = absurd h

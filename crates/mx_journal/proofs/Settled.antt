@@ -1,15 +1,16 @@
 -- Journals with a base: what stays of their order, what they cover, and what a base brings.
-use Rattle.std.proofs.Common.{ℕ, suc, ◌+◌, ◌≤◌, ◌≡◌, inl, inr, List, [], ◌∷◌, None, Result, Ok, Err, IfOk, OnErr, max, length, refl, sym, ◌∙◌, ap, subst, arith}
+use Rattle.std.proofs.Common.{ℕ, suc, ◌+◌, ◌≤◌, ◌<◌, ◌≡◌, inl, inr, List, [], ◌∷◌, None, Result, Ok, Err, IfOk, OnErr, max, length, refl, sym, ◌∙◌, ap, subst, arith}
 use Rattle.mx_stamps.specs.Lists.{IsIn}
 use Rattle.mx_stamps.proofs.Choices.{compared, dec_le}
 use Rattle.mx_journal.specs.declared.records.Record.{Record}
 use Rattle.mx_journal.specs.declared.puts.PutFault.{PutFault}
 use Rattle.mx_journal.specs.Bases.{with_sections}
 use Rattle.mx_journal.specs.Gapless.{first_missing}
-use Rattle.mx_journal.specs.Records.{Ascending, above, record_at, top_of, with_record, with_records}
-use Rattle.mx_journal.specs.Settled.{Covers, IsCovered, IsFirstGap, JournalState, beyond, settled}
+use Rattle.mx_journal.specs.Records.{Ascending, BringsNew, above, record_at, top_of, with_record, with_records}
+use Rattle.mx_journal.specs.Settled.{BringsUncovered, Covers, IsCovered, IsFirstGap, JournalState, beyond, settled}
 use Rattle.mx_journal.proofs.Below.{below_none, first_missing_above, first_missing_is_missing, there_below_first_missing}
 use Rattle.mx_journal.proofs.Beyond.{in_beyond}
+use Rattle.mx_journal.proofs.Found.{in_above}
 use Rattle.mx_journal.proofs.Going.{above_all, ascending_rest_above, few_up_to}
 use Rattle.mx_journal.proofs.Joining.{none_past}
 use Rattle.mx_journal.proofs.Maps.{ascending_above, ascending_from, ascending_with, none_found, none_in}
@@ -82,3 +83,18 @@ settled_same journal a =
     ap (λ l. let j : JournalState = record { base = record { upto = k; cells = with_sections l cells }; records = above k journal.records } in j)
     (below_none (suc k) (suc k) journal.records a (omega arith))
     ∙ ap (λ l. let j : JournalState = record { base = journal.base; records = l } in j) (above_all k journal.records a)
+
+-- a record above the base whose number no record bears is not covered
+pub is_uncovered : (x : Record) (journal : JournalState) → journal.base.upto < x.number → record_at x.number journal.records ≡ None → Covers x.number journal → ⊥
+is_uncovered x journal high gone (inl s) = let l = s.1 in omega (arith, l, high)
+is_uncovered x journal high gone (inr t) = none_in x.number journal.records gone t.0 t.1 t.2
+
+-- so a list brings such a one, and so do the records of another journal
+pub brings_beyond : (list : List Record) (journal : JournalState) → BringsNew (beyond journal.base.upto list) journal.records → BringsUncovered list journal
+brings_beyond list journal w =
+    let x = in_beyond journal.base.upto list w.0 w.1 in (w.0, x.0, is_uncovered w.0 journal x.1 w.2)
+
+pub brings_above : (least : ℕ) (list : List Record) (journal : JournalState) → Ascending least list → BringsNew (above journal.base.upto list) journal.records → BringsUncovered list journal
+brings_above least list journal order w =
+    let upto = journal.base.upto in
+    (w.0, in_above upto list w.0 w.1, is_uncovered w.0 journal (ascending_above (suc upto) (above upto list) (ascending_rest_above upto least list order) w.0 w.1) w.2)

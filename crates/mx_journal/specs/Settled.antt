@@ -35,6 +35,11 @@ pub record IsFirstGap (n : ℕ) (journal : JournalState) : Type 0 where
   pub gone : Covers n journal → ⊥
   pub before : (m : ℕ) → 1 ≤ m → m < n → Covers m journal
 
+-- some record of the list bears a number that the journal does not cover
+abbrev pub BringsUncovered : List Record → JournalState → Type 0
+BringsUncovered list journal =
+    (x : Record) × IsIn x list × (Covers x.number journal → ⊥)
+
 -- how many numbers are covered
 abbrev pub covered : JournalState → ℕ
 covered journal = journal.base.upto + length journal.records

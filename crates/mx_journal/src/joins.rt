@@ -37,6 +37,7 @@ pub(crate) fn runs_of_new(
     ensures new { IfOk result (λ runs. AreNew (flatten runs.items) (flatten known.now)) }
     ensures all { IfOk result (λ runs.
         AreNumbersOf (beyond from list.now) (flatten runs.items) (flatten known.now)) }
+    ensures missing { OnErr result (BringsNew (beyond from list.now) (flatten known.now)) }
 {
     let mut runs = Vec::new(alloc);
     for entry in list {

@@ -7,7 +7,7 @@ ghost use Rattle.mx_journal.specs.Bases.{AreOpposed};
 ghost use Rattle.mx_journal.specs.Gapless.{first_missing};
 ghost use Rattle.mx_journal.specs.declared.settling.SettleFault.TheVariants.{Below, Gap};
 ghost use Rattle.mx_journal.specs.Records.{Ascending, IsNumbered, IsThere, above, in_range, record_at};
-ghost use Rattle.mx_journal.specs.Settled.{Covers, DoAgree, IsCovered, IsFirstGap, IsSettled, IsWithin, beyond, covered, joined, settled, top_covered, unsettled, with_base, with_entry, with_list};
+ghost use Rattle.mx_journal.specs.Settled.{BringsUncovered, Covers, DoAgree, IsCovered, IsFirstGap, IsSettled, IsWithin, beyond, covered, joined, settled, top_covered, unsettled, with_base, with_entry, with_list};
 
 use crate::base::Base;
 use crate::puts::{Put, PutFault};
@@ -75,9 +75,10 @@ impl Journal {
     /// were new. Those whose numbers the base covers are passed over, whatever they wrote. A record
     /// may stand in the list more than once. `Conflict` names the least number that two differing
     /// records bear; both may be in the list, or one in the journal. `Memory` comes only where
-    /// there is no other fault. The time is that of a put for each record where the list ascends by
-    /// number; in any other list each record is compared with each other one, so that the time
-    /// grows with the square of the length.
+    /// there is no other fault, and some record is of a section that the journal does not cover. The
+    /// time is that of a put for each record where the list ascends by number; in any other list
+    /// each record is compared with each other one, so that the time grows with the square of the
+    /// length.
     pub fn put_all(&mut self, list: &[Record]) -> Result<u64, PutFault>
         ensures zero { (result ≡ Err PutFault.ZeroNumber) ↔ IsThere 0 list.now }
         ensures conflict { (n : ℕ) → (result ≡ Err (PutFault.Conflict n))
@@ -88,6 +89,7 @@ impl Journal {
             (self.old.records ++ beyond self.old.base.upto list.now)) }
         ensures ok { IfOk result (λ k. (self.new ≡ with_list list.now self.old)
             × (length self.new.records ≡ length self.old.records + k)) }
+        ensures memory { (result ≡ Err PutFault.Memory) → BringsUncovered list.now self.old }
         ensures err { OnErr result (self.new ≡ self.old) }
     {
         self.records.put_all(self.base.upto(), list)
@@ -101,6 +103,7 @@ impl Journal {
         ensures ok { IfOk result (λ k. (self.new ≡ joined other.now self.old)
             × (covered self.new ≡ covered self.old + k)) }
         ensures contained { IsWithin other.now self.old → IsOk result }
+        ensures memory { OnErr result (BringsUncovered other.now.records self.old) }
         ensures err { OnErr result (self.new ≡ self.old) }
     {
         let count = self.records.join(self.base.upto(), &other.records)?;

@@ -1,9 +1,9 @@
 //! The records that a journal has, by their numbers.
 
 ghost use Rattle.std.specs.Prelude.{ℕ, suc, ◌≡◌, ◌+◌, ◌≤◌, ◌<◌, ◌↔◌, ◌++◌, ◌⊎◌, [], ◌∷◌, List, Some, None, Ok, Err, IsOk, IsTrue, IsFalse, IfOk, OnErr, MatchOption, length, take};
-ghost use Rattle.mx_journal.specs.Agreement.{AreAgreeing, IsConsistent, IsFirstConflict, IsOther, IsSubmap};
+ghost use Rattle.mx_journal.specs.Agreement.{AreAgreeing, IsConsistent, IsFirstConflict, IsOther};
 ghost use Rattle.mx_journal.specs.Gapless.{first_missing};
-ghost use Rattle.mx_journal.specs.Records.{Ascending, IsNumbered, IsThere, above, in_range, record_at, top_of, with_record, with_records};
+ghost use Rattle.mx_journal.specs.Records.{Ascending, BringsNew, IsNumbered, IsThere, above, in_range, record_at, top_of, with_record, with_records};
 ghost use Rattle.mx_journal.specs.Settled.{beyond};
 
 use crate::cutting::cut_up_to;
@@ -78,7 +78,8 @@ impl RecordMap {
 
     /// Puts all records of a list that are numbered above `from`, or none where one of them can't
     /// be put, and returns how many were new. `Conflict` names the least number above `from` that
-    /// two differing records bear. `Memory` comes only where there is no other fault.
+    /// two differing records bear. `Memory` comes only where there is no other fault, and some
+    /// record is new.
     pub(crate) fn put_all(&mut self, from: u64, list: &[Record]) -> Result<u64, PutFault>
         ensures zero { (result ≡ Err PutFault.ZeroNumber) ↔ IsThere 0 list.now }
         ensures conflict { (n : ℕ) → (result ≡ Err (PutFault.Conflict n))
@@ -87,6 +88,8 @@ impl RecordMap {
             ↔ (IsNumbered list.now × IsConsistent (self.old ++ beyond from list.now)) }
         ensures ok { IfOk result (λ k. (self.new ≡ with_records (beyond from list.now) self.old)
             × (length self.new ≡ length self.old + k)) }
+        ensures memory { (result ≡ Err PutFault.Memory)
+            → BringsNew (beyond from list.now) self.old }
         ensures err { OnErr result (self.new ≡ self.old) }
     {
         if has_zero(list) {
@@ -107,7 +110,7 @@ impl RecordMap {
         requires behind { Ascending (suc from) self.old }
         ensures ok { IfOk result (λ k. (self.new ≡ with_records (above from other.now) self.old)
             × (length self.new ≡ length self.old + k)) }
-        ensures contained { IsSubmap (above from other.now) self.old → IsOk result }
+        ensures missing { OnErr result (BringsNew (above from other.now) self.old) }
         ensures err { OnErr result (self.new ≡ self.old) }
     {
         if are_there(&self.runs, from, &other.runs) {

@@ -22,6 +22,7 @@ pub(crate) fn put_runs(runs: &mut Vec<Run>, new: &[Run]) -> Result<u64, AllocErr
     ensures count { IfOk result (λ k. length (flatten runs.new.items)
         ≡ length (flatten runs.old.items) + k) }
     ensures err { OnErr result (runs.new.items ≡ runs.old.items) }
+    ensures some { OnErr result (1 ≤ length new.now) }
 {
     if new.is_empty() {
         return Ok(0);

@@ -1,56 +1,104 @@
 -- Why a live run has no journal.
-use Rattle.std.proofs.Common.{◌≡◌, Bool, false, inl, inr, List, Option, Some, None, IfSome, Result, Ok, Err, IfErr, OnOk, length, refl, sym, subst}
+use Rattle.std.proofs.Common.{◌≡◌, ◌⊎◌, Bool, false, inl, inr, List, Option, IfSome, Result, Ok, Err, IfErr, OnErr, OnOk, length, sym, subst}
 use Rattle.std.proofs.lemmas.Bool.{false≢true}
 use Rattle.std.specs.Io.KnownBytes.{Appends, Keeps}
 use Rattle.mx_journal.specs.declared.receipts.Receipt.{Receipt}
 use Rattle.mx_journal.specs.Settled.{JournalState}
+use Rattle.mx_nodelaws.specs.Core.{Core}
 use Rattle.mx_plan.specs.Fields.{Fields}
+use Rattle.mx_plan.specs.declared.shape.Shape.{Shape}
+use Rattle.mx_plan.specs.declared.shape.Shape.TheVariants as planned
+use Rattle.mx_ricart.specs.Step.{ricart_core}
+use Rattle.mx_maekawa.specs.Step.{maekawa_core}
+use Rattle.mx_raymond.specs.Step.{raymond_core}
 use Rattle.mx_cli.specs.LiveWords.{LiveRequest}
 use Rattle.mx_cli.specs.declared.faults.Stop.{Stop}
 use Rattle.mx_cli.specs.declared.faults.Stop.TheVariants as stop
 use Rattle.mx_cli.specs.Reading.{IsPlanOf, Reads}
+use Rattle.mx_cli.proofs.OutputLemmas.{Keeps-refl}
 use Rattle.mx_io.specs.Outputs.{Held}
 use Rattle.mx_cli.specs.Outputs.{refused_after}
 use Rattle.mx_io.specs.Told.{Telling}
+use Rattle.mx_stations.specs.declared.working.Worked.{Worked}
+use Rattle.mx_stations.specs.declared.working.Worked.TheVariants as worked
 use Rattle.mx_live.specs.declared.halts.Halt.{Halt}
-use Rattle.mx_live.specs.Halts.{Fails, RanInVain, halt_of_stop}
+use Rattle.mx_live.specs.declared.halts.Halt.TheVariants.{Plan, TooFewSections, TurnsSpent, GateShut, Writer, Memory}
+use Rattle.mx_live.specs.declared.threads.Orders.{Orders}
+use Rattle.mx_live.specs.Halts.{Fails, HasNone, InVain, InVainBy, IsWhy, RunsInVain, halt_of_stop}
 use Rattle.mx_live.specs.Workers.{orders_in}
 use Rattle.mx_live.specs.Shown.{live_text}
 use Rattle.mx_live.specs.Together.{AreSerial, ComeOf, HaveSections}
-use Rattle.mx_live.specs.Lives.{Ends, Fits, Halts, IsSilent}
+use Rattle.mx_live.specs.Lives.{Ends, Fits, Halts, Prints, Shows}
 
-same_held : (held : Held) → Keeps held held
-same_held None = tt
-same_held (Some xs) = refl
+-- a worker that is not done has spent its turns, or was not let in
+why_of : (ended : Worked) (halt : Halt) → IsWhy ended halt → (halt ≡ TurnsSpent) ⊎ (halt ≡ GateShut)
+why_of worked.Done halt why = absurd why
+why_of (worked.NotYet n) halt why = inl why
+why_of worked.GateShut halt why = inr why
+
+vain_of : {H S M : Type 0} (core : Core H S M) (shape : H) (p : Fields) (orders : Orders) (halt : Halt) → RunsInVain core shape p orders halt → (halt ≡ TurnsSpent) ⊎ (halt ≡ GateShut)
+vain_of core shape p orders halt vain = why_of vain.halts.one.1 halt vain.halts.why
+
+vain_by : (shape : Shape) (p : Fields) (orders : Orders) (halt : Halt) → InVainBy shape p orders halt → (halt ≡ TurnsSpent) ⊎ (halt ≡ GateShut)
+vain_by (planned.Ricart count) p orders halt vain = vain_of ricart_core count p orders halt vain
+vain_by (planned.Maekawa family) p orders halt vain = vain_of maekawa_core family p orders halt vain
+vain_by (planned.Raymond tree) p orders halt vain = vain_of raymond_core tree p orders halt vain
 
 module _ (takes : Bool) (told : Option Telling) (request : LiveRequest) where
   -- a plan that was not read
   pub plan_halts : (stopped : Stop) (held : Held) → IfSome told (λ telling. Reads telling (Err stopped))
-      → ((before : Bool) → refused_after {T = Fields} (Err stopped) before ≡ before) → Halts takes told request (halt_of_stop stopped) × IsSilent (halt_of_stop stopped) held held
-  plan_halts (stop.Fault fault) held read taken = (read, same_held held)
+      → ((before : Bool) → refused_after {T = Fields} (Err stopped) before ≡ before) → Halts takes told request (halt_of_stop stopped) × Prints told request (halt_of_stop stopped) held held
+  plan_halts (stop.Fault fault) held read taken = (read, Keeps-refl held)
   plan_halts stop.Writer held read taken = absurd (false≢true (sym (taken false)))
-  plan_halts stop.Memory held read taken = (tt, tt)
+  plan_halts stop.Memory held read taken = (tt, inl (Keeps-refl held))
+
+  -- what a halt says
+  abbrev Halted : Held → Held → Halt → Type 0
+  Halted old new halt = Halts takes told request halt × Prints told request halt old new
 
   -- threads that ran in vain
-  pub vain_halts : (p : Fields) (halt : Halt) (held : Held) → IsPlanOf told p → Fits request p → RanInVain p (orders_in request) halt → Halts takes told request halt × IsSilent halt held held
-  vain_halts p halt held read fits (inl spent) = subst (λ h. Halts takes told request h × IsSilent h held held) (sym spent.0) ((p, read, fits, spent.1), same_held held)
-  vain_halts p halt held read fits (inr (inl is)) = subst (λ h. Halts takes told request h × IsSilent h held held) (sym is) ((p, read, fits), same_held held)
-  vain_halts p halt held read fits (inr (inr is)) = subst (λ h. Halts takes told request h × IsSilent h held held) (sym is) (tt, tt)
+  pub vain_halts : (p : Fields) (halt : Halt) (held : Held) → IsPlanOf told p → Fits request p → HasNone p (orders_in request) halt → Halted held held halt
+  vain_halts p halt held read fits (inl vain) = elim (vain_by p.shape p (orders_in request) halt vain) [
+    | inl is ↦ subst (λ h. Halted held held h) (sym is) ((p, read, fits, subst (λ h. InVain p (orders_in request) h) is vain), Keeps-refl held)
+    | inr is ↦ subst (λ h. Halted held held h) (sym is) ((p, read, fits, subst (λ h. InVain p (orders_in request) h) is vain), Keeps-refl held)
+  ]
+  vain_halts p halt held read fits (inr is) = subst (λ h. Halted held held h) (sym is) (tt, inl (Keeps-refl held))
 
   -- an output that did not take what was printed
-  pub output_halts : (halt : Halt) (old new : Held) → Fails takes halt → Halts takes told request halt × IsSilent halt old new
-  output_halts halt old new (inl fails) = subst (λ h. Halts takes told request h × IsSilent h old new) (sym fails.0) (fails.1, tt)
-  output_halts halt old new (inr is) = subst (λ h. Halts takes told request h × IsSilent h old new) (sym is) (tt, tt)
+  pub output_halts : (halt : Halt) (old new : Held) → Fails takes halt → Keeps old new ⊎ Shows told request old new → Halted old new halt
+  output_halts halt old new (inl fails) whole = subst (λ h. Halted old new h) (sym fails.0) (fails.1, whole)
+  output_halts halt old new (inr is) whole = subst (λ h. Halted old new h) (sym is) (tt, whole)
 
   -- the end of a run whose plan was not read
   pub plan_ends : (r : Result (Unit {0}) Halt) (halt : Halt) (stopped : Stop) (held : Held) (kept_back : Bool) → r ≡ Err halt → halt ≡ halt_of_stop stopped → IfSome told (λ telling. Reads telling (Err stopped))
       → ((before : Bool) → refused_after {T = Fields} (Err stopped) before ≡ before) → Ends takes told request held held kept_back r
   plan_ends r halt stopped held kept_back is from read taken =
-      subst (λ (x : Result (Unit {0}) Halt). Ends takes told request held held kept_back x) (sym is)
-      (subst (λ h. Halts takes told request h × IsSilent h held held) (sym from) (plan_halts stopped held read taken))
+      subst (λ (x : Result (Unit {0}) Halt). Ends takes told request held held kept_back x) (sym is) (subst (λ h. Halted held held h) (sym from) (plan_halts stopped held read taken))
+
+  -- the end of a run that came to none
+  pub none_ends : (p : Fields) (r : Result (Unit {0}) Halt) (halt why : Halt) (held : Held) (kept_back : Bool) → r ≡ Err halt → halt ≡ why → IsPlanOf told p → Fits request p → HasNone p (orders_in request) why → Ends takes told request held held kept_back r
+  none_ends p r halt why held kept_back is from read fits none =
+      subst (λ (x : Result (Unit {0}) Halt). Ends takes told request held held kept_back x) (sym is) (subst (λ h. Halted held held h) (sym from) (vain_halts p why held read fits none))
 
   -- the end of a run that came to a journal, which was printed, or not
   pub shown_ends : (p : Fields) (receipts : List Receipt) (journal : JournalState) (r : Result (Unit {0}) Halt) (old new : Held) (kept_back : Bool) → IsPlanOf told p → Fits request p → ComeOf p (orders_in request) receipts journal → AreSerial receipts journal
-      → HaveSections (length p.nodes) request.sections receipts → OnOk r (Appends old new (live_text p (length receipts) journal)) → OnOk r (kept_back ≡ false) → IfErr r (Fails takes) → Ends takes told request old new kept_back r
-  shown_ends p receipts journal (Ok done) old new kept_back plan fits come serial have ok passed err = ((p, receipts, journal, plan, fits, come, serial, have, ok), passed)
-  shown_ends p receipts journal (Err halt) old new kept_back plan fits come serial have ok passed err = output_halts halt old new err
+      → HaveSections (length p.nodes) request.sections receipts → OnOk r (Appends old new (live_text p (length receipts) journal)) → OnOk r (kept_back ≡ false) → IfErr r (Fails takes)
+      → OnErr r (Keeps old new ⊎ Appends old new (live_text p (length receipts) journal)) → Ends takes told request old new kept_back r
+  shown_ends p receipts journal (Ok done) old new kept_back plan fits come serial have ok passed err whole = ((p, receipts, journal, plan, fits, come, serial, have, ok), passed)
+  shown_ends p receipts journal (Err halt) old new kept_back plan fits come serial have ok passed err whole = output_halts halt old new err (elim whole [
+    | inl kept ↦ inl kept
+    | inr text ↦ inr (p, receipts, journal, plan, fits, come, serial, have, text)
+  ])
+
+  print_whole : (halt : Halt) (old new : Held) → Prints told request halt old new → Keeps old new ⊎ Shows told request old new
+  print_whole (Plan fault) old new prints = inl prints
+  print_whole TooFewSections old new prints = inl prints
+  print_whole TurnsSpent old new prints = inl prints
+  print_whole GateShut old new prints = inl prints
+  print_whole Writer old new prints = prints
+  print_whole Memory old new prints = prints
+
+  -- nothing was printed, or all
+  pub ends_whole : (r : Result (Unit {0}) Halt) (old new : Held) (kept_back : Bool) → Ends takes told request old new kept_back r → Keeps old new ⊎ Shows told request old new
+  ends_whole (Ok done) old new kept_back ends = inr ends.0
+  ends_whole (Err halt) old new kept_back ends = print_whole halt old new ends.1

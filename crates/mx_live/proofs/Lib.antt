@@ -2,4 +2,5 @@ pub mod ShownLemmas
 pub mod StationLemmas
 pub mod WorkerLemmas
 pub mod SectionLemmas
+pub mod ProgressLemmas
 pub mod HaltLemmas

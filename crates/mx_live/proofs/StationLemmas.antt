@@ -1,40 +1,48 @@
--- Lists of stations of which each is so.
-use Rattle.std.proofs.Common.{◌≡◌, ◌<◌, ◌++◌, ℕ, zero, suc, List, [], ◌∷◌, length, get_or, slice_get, Some, sym, arith, subst}
+-- Lists by place.
+use Rattle.std.proofs.Common.{◌≡◌, ◌∙◌, ◌<◌, ◌++◌, ℕ, zero, suc, List, [], ◌∷◌, length, get_or, map, ap, refl, sym, append_assoc, arith}
+use Rattle.std.proofs.lemmas.List.{append-nil, map-append}
 use mathlib.Core.Option.{some, some-injective, some-ne-none}
 use lib.ListN.{get_elem?}
-use Rattle.std.proofs.lemmas.Option.{get_or_from_slice_get, slice_get_within}
-use Rattle.std.proofs.lemmas.List.Elements.{All-nil, All-head, All-push, All-rest, All-same, All-weaker}
-use Rattle.mx_live.specs.Stations.{AreAll}
 
 module _ {X : Type 0} where
-  there : (l : List X) (k : ℕ) (x : X) → get_elem? l k ≡ some x → (k < length l) × (get_or l k x ≡ x)
+  -- what is at a place
+  pub there : (l : List X) (k : ℕ) (x : X) → get_elem? l k ≡ some x → (k < length l) × (get_or l k x ≡ x)
   there [] k x is = absurd (some-ne-none x (sym is))
   there (y ∷ l) zero x is = (omega arith, some-injective y x is)
   there (y ∷ l) (suc k) x is = let t = there l k x is in (omega (arith, t.0), t.1)
 
-module _ {X : Type 0} {Is : X → Type 0} where
-  pub none_so : (xs : List X) → xs ≡ [] → AreAll Is xs
-  none_so xs none = record { each = All-same Is xs [] none (All-nil Is) }
+  pub found : (l : List X) (k : ℕ) → k < length l → (x : X) × (get_elem? l k ≡ some x)
+  found [] k low = absurd (omega arith)
+  found (y ∷ l) zero low = (y, refl)
+  found (y ∷ l) (suc k) low = found l k (omega arith)
 
-  pub same_so : (xs ys : List X) → xs ≡ ys → AreAll Is ys → AreAll Is xs
-  same_so xs ys same all = record { each = All-same Is xs ys same all.each }
+  -- and what it was made of
+  pub unmapped : {Y : Type 0} (f : X → Y) (l : List X) (k : ℕ) (y : Y) → get_elem? (map f l) k ≡ some y → (x : X) × (get_elem? l k ≡ some x) × (y ≡ f x)
+  unmapped f [] k y is = absurd (some-ne-none y (sym is))
+  unmapped f (x ∷ l) zero y is = (x, refl, sym (some-injective (f x) y is))
+  unmapped f (x ∷ l) (suc k) y is = unmapped f l k y is
 
-  pub pushed_so : (old mid new : List X) (x : X) → mid ≡ old → new ≡ mid ++ x ∷ [] → AreAll Is old → Is x → AreAll Is new
-  pushed_so old mid new x same grown all is =
-      record { each = All-same Is new (mid ++ x ∷ []) grown (All-push Is mid x (All-same Is mid old same all.each) is) }
+module _ {W X : Type 0} (f : W → X) where
+  -- one more at the end
+  pub pushed : (old mid new : List W) (w : W) (x : X) → mid ≡ old → new ≡ mid ++ w ∷ [] → f w ≡ x → map f new ≡ map f old ++ x ∷ []
+  pushed old mid new w x same grown is =
+      ap (λ (l : List W). map f l) (grown ∙ ap (λ (l : List W). l ++ w ∷ []) same) ∙ map-append f old (w ∷ []) ∙ ap (λ (y : X). map f old ++ y ∷ []) is
 
-  pub first_so : (x : X) (xs ys : List X) → ys ≡ x ∷ xs → AreAll Is ys → Is x
-  first_so x xs ys is all = All-head Is x xs (All-same Is (x ∷ xs) ys (sym is) all.each)
+  -- before the first
+  pub from_none : (old : List W) (new all : List X) → old ≡ [] → new ≡ map f old ++ all → new ≡ all
+  from_none old new all none is = is ∙ ap (λ (l : List W). map f l ++ all) none
 
-  pub rest_so : (x : X) (xs ys : List X) → ys ≡ x ∷ xs → AreAll Is ys → AreAll Is xs
-  rest_so x xs ys is all = record { each = All-rest Is x xs ys is all.each }
+module _ {Y X : Type 0} (g : Y → X) where
+  -- what is done and what is left is all: before the first, from one to the next, and after the last
+  pub begun : (old : List X) (rest ys : List Y) → rest ≡ ys → old ++ map g rest ≡ old ++ map g ys
+  begun old rest ys same = ap (λ (l : List Y). old ++ map g l) same
 
-  -- what is at a place is so
-  pub so_at : (xs : List X) (k : ℕ) (x : X) → get_elem? xs k ≡ some x → AreAll Is xs → Is x
-  so_at xs k x is all = let t = there xs k x is in subst Is t.1 (all.each k x t.0)
+  pub first : (none : List X) (rest ys : List Y) → none ≡ [] → rest ≡ ys → none ++ map g rest ≡ map g ys
+  first none rest ys empty same = ap (λ (l : List X). l ++ map g rest) empty ∙ ap (λ (l : List Y). map g l) same
 
-  pub so_there : (xs : List X) (k : ℕ) (x : X) → slice_get xs k ≡ Some x → AreAll Is xs → Is x
-  so_there xs k x is all = subst Is (get_or_from_slice_get xs k x x is) (all.each k x (slice_get_within xs k x is))
+  pub moved : (old new : List X) (rest more : List Y) (y : Y) (all : List X) → new ≡ old ++ g y ∷ [] → rest ≡ y ∷ more → old ++ map g rest ≡ all → new ++ map g more ≡ all
+  moved old new rest more y all grown step is =
+      ap (λ (l : List X). l ++ map g more) grown ∙ append_assoc old (g y ∷ []) (map g more) ∙ ap (λ (l : List Y). old ++ map g l) (sym step) ∙ is
 
-pub weaker_so : {X : Type 0} {Is Q : X → Type 0} (xs : List X) → ((x : X) → Is x → Q x) → AreAll Is xs → AreAll Q xs
-weaker_so {X} {Is} {Q} xs weaker all = record { each = All-weaker Is Q weaker xs all.each }
+  pub ended : (old : List X) (rest : List Y) (all : List X) → rest ≡ [] → old ++ map g rest ≡ all → old ≡ all
+  ended old rest all none is = sym (append-nil old) ∙ ap (λ (l : List Y). old ++ map g l) (sym none) ∙ is

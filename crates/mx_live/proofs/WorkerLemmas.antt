@@ -1,59 +1,110 @@
--- What workers leave, by what they promised.
-use Rattle.std.proofs.Common.{◌≡◌, ◌∙◌, ◌<◌, ℕ, zero, suc, length, get_or, inl, inr, refl, sym, subst, ap, arith, List, [], ◌∷◌, Result, Ok, Err, IfOk}
-use Rattle.mx_stations.specs.declared.working.Worked.{Worked}
-use Rattle.mx_stations.specs.declared.working.Worked.TheVariants.{Done}
-use Rattle.std.specs.List.{All}
+-- What workers left of the stations of a plan.
+use Rattle.std.proofs.Common.{◌≡◌, ◌∙◌, ◌<◌, ◌≤◌, ℕ, zero, suc, length, get_or, map, inl, inr, sym, subst, ap, arith, List, Result, Ok, Err, IfOk}
+use Rattle.std.proofs.lemmas.List.{length-map}
+use mathlib.Core.Option.{some, some-injective}
+use lib.ListN.{get_elem?}
+use Rattle.atomic_table.proofs.Lists.{at_index, at_map}
 use Rattle.std.specs.Prelude.{Vec}
 use Rattle.std.specs.declared.alloc.Global.{Global}
-use Rattle.atomic_table.proofs.Lists.{at_index}
-use Rattle.atomic_table.specs.Seated.{TableId}
-use Rattle.mx_nodelaws.specs.Core.{Core}
+use Rattle.mx_nodelaws.specs.Core.{Core, KeepsPhases}
 use Rattle.mx_member.specs.declared.parcel.Parcel.{Parcel}
 use Rattle.mx_member.specs.Member.{MemberState}
 use Rattle.mx_member.specs.Steps.{start_of}
 use Rattle.mx_plan.specs.Fields.{Fields}
+use Rattle.mx_stations.specs.declared.working.Worked.{Worked}
+use Rattle.mx_stations.specs.declared.working.Worked.TheVariants.{Done}
 use Rattle.mx_stations.specs.Entries.{Entry}
+use Rattle.mx_stations.specs.Gathered.{OfOneTable}
 use Rattle.mx_stations.specs.Opened.{AreFresh}
 use Rattle.mx_stations.specs.Running.{fresh}
 use Rattle.mx_stations.specs.Turns.{Station}
-use Rattle.mx_live.specs.declared.halts.Halt.{Halt}
+use Rattle.mx_stations.specs.Works.{IsWithin}
+use Rattle.mx_stations.proofs.Rounding.{rounds_kept, rounds_node, rounds_some}
 use Rattle.mx_live.specs.declared.threads.Orders.{Orders}
-use Rattle.mx_live.specs.Halts.{EndInVain, HaltsIn}
-use Rattle.mx_live.specs.Stations.{AreAll, AreAtRest}
-use Rattle.mx_live.specs.Together.{HasWorked}
-use Rattle.mx_live.specs.Workers.{IsLeft, IsNotYet, Promises, SpendsIn, WasLeft}
-use Rattle.mx_live.proofs.StationLemmas.{so_there}
+use Rattle.mx_live.specs.Stations.{AreAtRest}
+use Rattle.mx_live.specs.Workers.{AreDone, AreLeft, AreLeftOf, HaveRun, IsLeft, ordered, stations_of}
+use Rattle.mx_live.proofs.StationLemmas.{found, there, unmapped}
 
-module _ {H S M : Type 0} (core : Core H S M) (shape : H) (p : Fields) (table : TableId) (orders : Orders) where
-  -- what a worker left, by its promise
-  pub left_as : (at : Station core) (told : Orders) (ended : Station core × Worked) → Promises core shape p table orders at told → IsLeft core told at ended → WasLeft core shape p table orders ended
-  left_as at told ended promised l =
-      record { from = at; rests = promised.rests; left = subst (λ (o : Orders). IsLeft core o at ended) promised.obeys l }
+-- what a thread was told
+pub told_as : {X : Type 0} (x x' : X) (orders orders' : Orders) → x ≡ x' → orders ≡ orders' → ordered x orders ≡ ordered x' orders'
+told_as x x' orders orders' one other = ap (λ z. ordered z orders) one ∙ ap (λ o. ordered x' o) other
 
-  -- where each worker is done, each station has its sections
-  pub all_done : (ended : List (Station core × Worked)) → AreAll (WasLeft core shape p table orders) ended → All (λ one. one.1 ≡ Done) ended → AreAll (λ one. HasWorked core shape p orders table one.0) ended
-  all_done ended all done =
+module _ {H S M : Type 0} (core : Core H S M) where
+  -- what workers left by their promises
+  pub left_by : {W : Type 0} (told : W → Station core × Orders) (workers : List W) (left : List (Station core × Worked)) → length left ≡ length workers
+      → ((k : ℕ) (d : Station core × Worked) → k < length workers → (w : W) × (w ≡ get_or workers k w) × IsLeft core (told w).1 (told w).0 (get_or left k d)) → AreLeftOf core (map told workers) left
+  left_by told workers left many each =
       record {
-        each = λ k d low.
-            let was = all.each k d low in
-            record { from = was.from; rest = was.rests; works = was.left.works; done = was.left.done (done k d low) };
+        many = many ∙ sym (length-map workers told);
+        each = λ k one ended at_told at_left.
+            let place = there left k ended at_left in
+            let low : k < length workers = (let l = place.0 in omega (arith, l, many)) in
+            let kept = each k ended low in
+            let at = at_map told workers k kept.0 (at_index workers k kept.0 low kept.1) in
+            let is : told kept.0 ≡ one = some-injective (told kept.0) one (sym at ∙ at_told) in
+            subst (λ (x : Station core × Orders). IsLeft core x.1 x.0 ended) is (subst (λ (e : Station core × Worked). IsLeft core (told kept.0).1 (told kept.0).0 e) place.1 kept.2);
       }
 
-  one_spent : (ended : List (Station core × Worked)) → AreAll (WasLeft core shape p table orders) ended → IsNotYet ended → SpendsIn core shape p orders
-  one_spent ended all some =
-      let was = so_there ended some.0 some.2 some.3 all in
-      record { table = table; from = was.from; to = some.2.0; rests = was.rests; spends = was.left.spent some.1 some.4 }
+module _ {H S M : Type 0} (core : Core H S M) where
+  -- what a worker left is of the station at its place
+  pub left_at : (orders : Orders) (stations : List (Station core)) (left : List (Station core × Worked)) → AreLeft core orders stations left → (k : ℕ) (ended : Station core × Worked) → get_elem? left k ≡ some ended
+      → (from : Station core) × (get_elem? stations k ≡ some from) × IsLeft core orders from ended
+  left_at orders stations left all k ended at =
+      let low = (there left k ended at).0 in
+      let long = length-map stations (λ (s : Station core). ordered s orders) in
+      let from = found stations k (omega (arith, low, long, all.many)) in
+      (from.0, from.1, all.each k (ordered from.0 orders) ended (at_map (λ (s : Station core). ordered s orders) stations k from.0 from.1) at)
 
-  -- why these are not done
-  pub end_in_vain : (ended : List (Station core × Worked)) (halt : Halt) → AreAll (WasLeft core shape p table orders) ended → HaltsIn ended halt → EndInVain (SpendsIn core shape p orders) halt
-  end_in_vain ended halt all (inl spent) = inl (spent.0, one_spent ended all spent.1)
-  end_in_vain ended halt all (inr shut) = inr (inl shut)
+  within_most : (most : ℕ) (s : Station core) → IsWithin core most s → length s.me.receipts ≤ most
+  within_most most s (inl low) = omega (arith, low)
+  within_most most s (inr full) = (let same = full.0 in omega (arith, same))
 
-module _ {T : Type 0} where
-  get_or_itself : (l : List T) (k : ℕ) (d : T) → k < length l → get_or l k d ≡ get_or l k (get_or l k d)
-  get_or_itself [] k d low = absurd (omega arith)
-  get_or_itself (x ∷ xs) zero d low = refl
-  get_or_itself (x ∷ xs) (suc k) d low = get_or_itself xs k d (omega arith)
+  rests_within : KeepsPhases core → (most : ℕ) (from : Station core) (shape : H) (i origin limit registers : ℕ) → from.me ≡ fresh i (start_of core shape i origin limit registers) → IsWithin core most from
+  rests_within phases zero from shape i origin limit registers rest =
+      inr (ap (λ (e : Entry (MemberState S) (Parcel M)). length e.receipts) rest, ap (λ (e : Entry (MemberState S) (Parcel M)). core.phase e.member.core) rest ∙ phases.started_idle shape i origin limit)
+  rests_within phases (suc n) from shape i origin limit registers rest =
+      let none : length from.me.receipts ≡ 0 = ap (λ (e : Entry (MemberState S) (Parcel M)). length e.receipts) rest in
+      inl (omega (arith, none))
+
+  -- from rest no section too many is left
+  pub none_more : KeepsPhases core → (most : ℕ) (from to : Station core) → (IsWithin core most from → IsWithin core most to)
+      → (shape : H) (i origin limit registers : ℕ) → from.me ≡ fresh i (start_of core shape i origin limit registers) → length to.me.receipts ≤ most
+  none_more phases most from to within shape i origin limit registers rest = within_most most to (within (rests_within phases most from shape i origin limit registers rest))
+
+module _ {H S M : Type 0} (core : Core H S M) (shape : H) (p : Fields) (orders : Orders) where
+  -- where what was left is: at the plan's table, each station at its node's place
+  pub left_home : (left : List (Station core × Worked)) (run : HaveRun core shape p orders left) (k : ℕ) (ended : Station core × Worked) → get_elem? left k ≡ some ended
+      → (ended.0.table ≡ run.rested.table) × (ended.0.nodes ≡ length p.nodes) × (ended.0.me.node ≡ k)
+  left_home left run k ended at =
+      let one = left_at core orders run.stations left run.worked k ended at in
+      let rest = run.rested.each k one.0 one.1 in
+      let works = rounds_some core 0 orders.settle orders.turns one.0 ended.0 one.2.works in
+      let kept = rounds_kept core 0 orders.settle one.0 ended.0 works in
+      (kept.0 ∙ rest.here, kept.1 ∙ rest.nodes, rounds_node core 0 orders.settle one.0 ended.0 works ∙ ap (λ (e : Entry (MemberState S) (Parcel M)). e.node) rest.me)
+
+  pub left_many : (left : List (Station core × Worked)) → HaveRun core shape p orders left → length (stations_of left) ≡ length p.nodes
+  left_many left run = length-map left (λ (ended : Station core × Worked). ended.0) ∙ run.worked.many ∙ length-map run.stations (λ (s : Station core). ordered s orders) ∙ run.rested.many
+
+  -- stations at one table
+  pub of_one_table : (left : List (Station core × Worked)) → HaveRun core shape p orders left → OfOneTable (stations_of left)
+  of_one_table left run = (
+    run.rested.table,
+    length p.nodes,
+    λ k s at.
+        let one = unmapped (λ (ended : Station core × Worked). ended.0) left k s at in
+        let home = left_home left run k one.0 one.1 in
+        (ap (λ (z : Station core). z.table) one.2 ∙ home.0, ap (λ (z : Station core). z.nodes) one.2 ∙ home.1),
+  )
+
+  -- a worker that is done has just its sections
+  pub done_just : (left : List (Station core × Worked)) → HaveRun core shape p orders left → AreDone left → (k : ℕ) (ended : Station core × Worked) → get_elem? left k ≡ some ended → length ended.0.me.receipts ≡ orders.sections
+  done_just left run done k ended at =
+      let one = left_at core orders run.stations left run.worked k ended at in
+      let place = there left k ended at in
+      let is = subst (λ (e : Station core × Worked). e.1 ≡ Done) place.1 (done k ended place.0) in
+      let enough = one.2.done is in
+      let most = one.2.most shape k p.origin p.sections (length p.registers) (run.rested.each k one.0 one.1).me in
+      omega (arith, enough, most)
 
 module _ {H S M : Type 0} (core : Core H S M) (shape : H) (p : Fields) where
   abbrev started : ℕ → ℕ → ℕ → ℕ → Entry (MemberState S) (Parcel M)
@@ -61,21 +112,19 @@ module _ {H S M : Type 0} (core : Core H S M) (shape : H) (p : Fields) where
 
   -- a fresh node of a table that is told what the plan says
   started_as : (me : Entry (MemberState S) (Parcel M)) (i origin limit registers : ℕ) → me ≡ started i origin limit registers → origin ≡ p.origin → limit ≡ p.sections → registers ≡ length p.registers
-      → me ≡ started me.node p.origin p.sections (length p.registers)
+      → me ≡ started i p.origin p.sections (length p.registers)
   started_as me i origin limit registers is o l r =
       is ∙ ap (λ (x : ℕ). started i x limit registers) o ∙ ap (λ (x : ℕ). started i p.origin x registers) l ∙ ap (λ (x : ℕ). started i p.origin p.sections x) r
-      ∙ ap (λ (x : ℕ). started x p.origin p.sections (length p.registers)) (sym (ap (λ (e : Entry (MemberState S) (Parcel M)). e.node) is))
 
   -- the stations of a new table, of a call that may fail
   pub stations_rest : {E : Type 0} (n origin limit registers : ℕ) (r : Result (Vec (Station core) Global) E) → n ≡ length p.nodes → origin ≡ p.origin → limit ≡ p.sections → registers ≡ length p.registers
       → IfOk r (λ all. AreFresh n (λ i. start_of core shape i origin limit registers) all.items) → IfOk r (λ all. AreAtRest core shape p all.items)
-  stations_rest n origin limit registers (Ok all) many o l g new = (
-    new.1.0,
-    record {
-      each = λ k d low.
-          let s = get_or all.items k d in
-          let is = new.1.1 k s (at_index all.items k s low (get_or_itself all.items k d low)) in
-          record { here = is.0; nodes = is.1 ∙ many; me = started_as s.me k origin limit registers is.2 o l g; empty = is.3 };
-    },
-  )
+  stations_rest n origin limit registers (Ok all) many o l g new =
+      record {
+        table = new.1.0;
+        many = new.0 ∙ many;
+        each = λ k s at.
+            let is = new.1.1 k s at in
+            record { here = is.0; nodes = is.1 ∙ many; me = started_as s.me k origin limit registers is.2 o l g; empty = is.3 };
+      }
   stations_rest n origin limit registers (Err e) many o l g new = tt

@@ -11,20 +11,22 @@ use Rattle.mx_cli.specs.declared.faults.Stop.TheVariants as stop
 use Rattle.mx_io.specs.Told.{Telling}
 use Rattle.mx_io.specs.Outputs.{Held}
 use Rattle.mx_cli.specs.Reading.{IsPlanOf, Reads}
+use Rattle.mx_cli.specs.Told.{Seen}
 use Rattle.mx_live.specs.declared.halts.Halt.{Halt}
 use Rattle.mx_live.specs.declared.halts.Halt.TheVariants.{Plan, TooFewSections, TurnsSpent, GateShut, Writer, Memory}
-use Rattle.mx_live.specs.Halts.{halt_status}
+use Rattle.mx_live.specs.Halts.{InVain, TellsHalt}
+use Rattle.mx_live.specs.Progress.{TellsProgress}
 use Rattle.mx_live.specs.Shown.{live_text}
 use Rattle.mx_live.specs.Together.{AreSerial, ComeOf, HaveSections}
-use Rattle.mx_live.specs.Workers.{SpendsTurns, orders_in}
+use Rattle.mx_live.specs.Workers.{orders_in}
 
 -- each node's sections fit into the plan
 abbrev pub Fits : LiveRequest → Fields → Type 0
 Fits request p = length p.nodes * request.sections ≤ p.sections
 
--- what was printed is what some receipts and their journal show: they were gathered from the
--- stations of the plan, which began at its origin and were worked at as ordered, and each node has
--- its sections
+-- What was printed is the text of a whole run: the plan allows that many sections, the threads left
+-- each worker done, and the receipts and the journal that were gathered from their stations are one
+-- serial order, in which each node has its sections.
 abbrev pub Shows : Option Telling → LiveRequest → Held → Held → Type 0
 Shows told request old new =
     (p : Fields) × (receipts : List Receipt) × (journal : JournalState)
@@ -33,45 +35,51 @@ Shows told request old new =
     × Appends old new (live_text p (length receipts) journal)
 
 -- why the run has no journal: the plan can't be read or is refused; else it has too few sections;
--- else threads ran in vain: a worker made all its turns, or the gate was shut. An output that takes
--- all is no reason, and want of memory may always be one
+-- else its threads left a worker that is not done, and the one of the least node says why. An
+-- output that takes all is no reason, and want of memory may always be one
 abbrev pub Halts : Bool → Option Telling → LiveRequest → Halt → Type 0
 Halts takes told request (Plan fault) =
     IfSome told (λ telling. Reads telling (Err (stop.Fault fault)))
 Halts takes told request TooFewSections =
     (p : Fields) × IsPlanOf told p × (p.sections < length p.nodes * request.sections)
 Halts takes told request TurnsSpent =
-    (p : Fields) × IsPlanOf told p × Fits request p × SpendsTurns p (orders_in request)
-Halts takes told request GateShut = (p : Fields) × IsPlanOf told p × Fits request p
+    (p : Fields) × IsPlanOf told p × Fits request p × InVain p (orders_in request) TurnsSpent
+Halts takes told request GateShut =
+    (p : Fields) × IsPlanOf told p × Fits request p × InVain p (orders_in request) GateShut
 Halts takes told request Writer = takes ≢ true
 Halts takes told request Memory = Unit {0}
 
--- where the run has no journal, and neither memory nor an output failed on the way, nothing was
--- printed
-abbrev pub IsSilent : Halt → Held → Held → Type 0
-IsSilent (Plan fault) old new = Keeps old new
-IsSilent TooFewSections old new = Keeps old new
-IsSilent TurnsSpent old new = Keeps old new
-IsSilent GateShut old new = Keeps old new
-IsSilent Writer old new = Unit {0}
-IsSilent Memory old new = Unit {0}
+-- nothing was printed; or, if memory or an output failed, perhaps the whole text, not all of which
+-- need have been passed on
+abbrev pub Prints : Option Telling → LiveRequest → Halt → Held → Held → Type 0
+Prints told request Writer old new = Keeps old new ⊎ Shows told request old new
+Prints told request Memory old new = Keeps old new ⊎ Shows told request old new
+Prints told request halt old new = Keeps old new
 
--- where a journal was printed it was passed on: the output keeps nothing back
+-- a journal was printed and passed on: the output keeps nothing back; or there is none
 abbrev pub Ends : Bool → Option Telling → LiveRequest → Held → Held → Bool → Result (Unit {0}) Halt
     → Type 0
 Ends takes told request old new kept_back (Ok done) =
     Shows told request old new × (kept_back ≡ false)
 Ends takes told request old new kept_back (Err halt) =
-    Halts takes told request halt × IsSilent halt old new
+    Halts takes told request halt × Prints told request halt old new
 
--- the run printed a journal and passed it on, status 0; or it has none, with the status of why; or
--- memory ran out, status 5
-abbrev pub Lives : Bool → Option Telling → LiveRequest → Held → Held → Bool → ℕ → Type 0
-Lives takes told request old new kept_back status =
-    ((status ≡ 0) × Shows told request old new × (kept_back ≡ false))
-    ⊎ ((halt : Halt) × (status ≡ halt_status halt) × Halts takes told request halt
-    × IsSilent halt old new)
-    ⊎ (status ≡ 5)
+-- the status and the line of that, by a standard error that takes all or not
+abbrev pub Closes : Bool → Text → Result (Unit {0}) Halt → Held → Held → ℕ → Type 0
+Closes takes name (Ok done) old new status = (status ≡ 0) × Keeps old new
+Closes takes name (Err halt) old new status = TellsHalt takes name halt old new status
+
+-- A live run, by what is seen of the outputs before and after it. Standard error gets the lines of
+-- progress that were asked for, and then the line of why there is no journal, if there is none.
+pub record Lives (takes takes_err : Bool) (told : Option Telling) (request : LiveRequest)
+    (old new : Seen) (status : ℕ) : Type 0 where
+  pub ended : Result (Unit {0}) Halt
+  pub ends : Ends takes told request old.out new.out new.kept_back ended
+  pub after_progress : Held
+  pub progress : TellsProgress request.progress old.err after_progress
+  pub closes : Closes takes_err request.plan ended after_progress new.err status
+  -- so whatever the status, nothing was printed, or the whole text
+  pub whole : Keeps old.out new.out ⊎ Shows told request old.out new.out
 
 -- the words have no fault, and ask for no run
 abbrev pub AskNothing : List Text → Type 0

@@ -1,5 +1,5 @@
 -- What the stations of a live run have together.
-use Rattle.std.specs.Prelude.{◌≡◌, ◌↔◌, ℕ, suc, ◌≤◌, ◌<◌, List, Some, map, length, slice_get, ◌==◌}
+use Rattle.std.specs.Prelude.{◌≡◌, ◌↔◌, ℕ, suc, ◌*◌, ◌≤◌, ◌<◌, List, Some, map, length, slice_get, ◌==◌}
 use Rattle.std.specs.List.{count_by}
 use Rattle.mx_stamps.specs.declared.limits.TheConstants.{MOST_REGISTERS}
 use Rattle.mx_stamps.specs.Lists.{IsIn}
@@ -10,7 +10,6 @@ use Rattle.mx_journal.specs.Settled.{Covers, JournalState, settled, unsettled}
 use Rattle.mx_registers.specs.Based.{registers_in}
 use Rattle.mx_registers.specs.Registers.{AreApplied, writes_to}
 use Rattle.mx_sections.specs.Serial.{IsSerialRead}
-use Rattle.atomic_table.specs.Seated.{TableId}
 use Rattle.mx_nodelaws.specs.Core.{Core}
 use Rattle.mx_plan.specs.Fields.{Fields}
 use Rattle.mx_plan.specs.declared.shape.Shape.{Shape}
@@ -18,11 +17,11 @@ use Rattle.mx_plan.specs.declared.shape.Shape.TheVariants as planned
 use Rattle.mx_ricart.specs.Step.{ricart_core}
 use Rattle.mx_maekawa.specs.Step.{maekawa_core}
 use Rattle.mx_raymond.specs.Step.{raymond_core}
-use Rattle.mx_stations.specs.Gathered.{Has, IsGathered}
+use Rattle.mx_stations.specs.declared.working.Worked.{Worked}
+use Rattle.mx_stations.specs.Gathered.{IsGathered}
 use Rattle.mx_stations.specs.Turns.{Station}
-use Rattle.mx_stations.specs.Works.{WorksAtMost}
 use Rattle.mx_live.specs.declared.threads.Orders.{Orders}
-use Rattle.mx_live.specs.Stations.{AreAll, IsAtRest}
+use Rattle.mx_live.specs.Workers.{AreDone, HaveRun, stations_of}
 
 -- Receipts and journal are one serial order of sections.
 pub record AreSerial (receipts : List Receipt) (journal : JournalState) : Type 0 where
@@ -42,29 +41,19 @@ pub record AreSerial (receipts : List Receipt) (journal : JournalState) : Type 0
       → AreApplied (writes_to (length receipts) (map record_of receipts))
       (registers_in count journal)
 
--- each of these nodes has this many sections among the receipts
-abbrev pub HaveSections : ℕ → ℕ → List Receipt → Type 0
-HaveSections nodes sections receipts =
-    (i : ℕ) → i < nodes → sections ≤ count_by (λ (r : Receipt). r.node == i) receipts
+-- each of these nodes has just this many sections among the receipts, and there are no others
+pub record HaveSections (nodes sections : ℕ) (receipts : List Receipt) : Type 0 where
+  pub each : (i : ℕ) → i < nodes → count_by (λ (r : Receipt). r.node == i) receipts ≡ sections
+  pub all : length receipts ≡ nodes * sections
 
-module _ {H S M : Type 0} (core : Core H S M) (shape : H) (p : Fields) (orders : Orders) where
-  -- From a station of the plan at rest, a worker has led to this one: in at most the turns ordered,
-  -- with the sections ordered, and it settled each time as many more of them were there as `settle`
-  -- says.
-  pub record HasWorked (table : TableId) (t : Station core) : Type 0 where
-    pub from : Station core
-    pub rest : IsAtRest core shape p table from
-    pub works : WorksAtMost core 0 orders.settle orders.turns from t
-    pub done : orders.sections ≤ length t.me.receipts
-
-  -- Receipts and journal were gathered from the stations of one table, one of each node, at each of
-  -- which a worker has worked.
-  pub record AreGathered (receipts : List Receipt) (journal : JournalState) : Type 0 where
-    pub table : TableId
-    pub stations : List (Station core)
-    pub worked : AreAll (HasWorked table) stations
-    pub whole : (i : ℕ) → i < length p.nodes → Has stations i
-    pub gathered : IsGathered stations journal receipts
+-- The threads of a run of this plan left each worker done, and receipts and journal were gathered
+-- from their stations.
+pub record AreGathered {H S M : Type 0} (core : Core H S M) (shape : H) (p : Fields)
+    (orders : Orders) (receipts : List Receipt) (journal : JournalState) : Type 0 where
+  pub left : List (Station core × Worked)
+  pub run : HaveRun core shape p orders left
+  pub done : AreDone left
+  pub gathered : IsGathered (stations_of left) journal receipts
 
 -- the same, by the algorithm of this shape
 abbrev pub GatheredBy : Shape → Fields → Orders → List Receipt → JournalState → Type 0

@@ -1,7 +1,7 @@
 //! Why a live run ends without a journal, and how that is told.
 
-ghost use Rattle.std.specs.Prelude.{◌≡◌, ◌⊎◌, Some};
-ghost use Rattle.mx_live.specs.Halts.{halt_line, halt_status};
+ghost use Rattle.std.specs.Prelude.{◌≡◌, Some};
+ghost use Rattle.mx_live.specs.Halts.{TellsHalt, halt_line, halt_status};
 
 use mx_cli::{Fault, FaultLine, Names, Stop, put_line, tell_memory};
 use mx_io::{Output, OutputFault};
@@ -108,7 +108,8 @@ fn fault_line<'a>(fault: Fault, plan: &'a str) -> FaultLine<'a>
 
 /// Tells why a run has no journal, and returns the status. A writer that refuses is told nothing.
 pub fn tell<E: Output>(alloc: Global, halt: Halt, plan: &str, err: &mut E) -> u8
-    ensures { (result ≡ halt_status halt) ⊎ (result ≡ 5) }
+    ensures { TellsHalt (E.takes_all err.old) plan.now halt
+        (E.written err.old) (E.written err.new) result }
 {
     if halt == Halt::Writer {
         return 1;
@@ -117,7 +118,8 @@ pub fn tell<E: Output>(alloc: Global, halt: Halt, plan: &str, err: &mut E) -> u8
         return tell_memory(err);
     }
     match put_line(alloc, err, HaltLine { halt, plan }) {
-        Ok(()) | Err(OutputFault::Refused) => halt.status(),
+        Ok(()) => halt.status(),
+        Err(OutputFault::Refused) => halt.status(),
         Err(OutputFault::Memory) => tell_memory(err),
     }
 }

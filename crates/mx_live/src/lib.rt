@@ -13,5 +13,6 @@ mod threads;
 pub use assembly::Assembly;
 pub use halts::{Halt, tell};
 pub use living::live;
-pub use running::live_by_shape;
+pub use running::{gather_left, run_stations, stations_in};
 pub use shown::add_journal;
+pub use threads::Ended;

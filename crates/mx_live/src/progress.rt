@@ -1,5 +1,8 @@
 //! How far a live run has come.
 
+ghost use Rattle.std.specs.Prelude.{◌≡◌, Some};
+ghost use Rattle.mx_live.specs.Progress.{Progresses, TellsProgress, progress_line};
+
 use crate::assembly::Assembly;
 use mx_cli::put_line;
 use mx_io::Output;
@@ -19,26 +22,59 @@ const LOOKS_A_SECOND: u32 = 20;
 struct ProgressLine(u64);
 
 impl fmt::Display for ProgressLine {
+    ghost output = { λ l. Some (progress_line l.0) };
+
     fn fmt<W: fmt::Write>(&self, f: &mut fmt::Formatter<W>) -> fmt::Result {
         writeln!(f, "mx: {} sections stand", self.0)
     }
 }
 
+/// Tells how far the workers are if that was asked for, until all have ended.
+pub(crate) fn tell_if_asked<C: Exclusion, K: Clock, E: Output>(
+    clock: &K,
+    alloc: Global,
+    asked: bool,
+    watch: Option<Watch<C>>,
+    gate: &Assembly,
+    err: &mut E,
+)
+    ensures progress { TellsProgress asked (E.written err.old) (E.written err.new) }
+    ensures stays { E.takes_all err.new ≡ E.takes_all err.old }
+{
+    if !asked {
+        return;
+    }
+    if let Some(watch) = watch {
+        tell_progress(clock, alloc, &watch, gate, err);
+    }
+}
+
 /// Tells about once a second how many sections stand, until all workers have ended. What can't be
 /// told is left out.
-pub(crate) fn tell_progress<C: Exclusion, K: Clock, E: Output>(
+fn tell_progress<C: Exclusion, K: Clock, E: Output>(
     clock: &K,
     alloc: Global,
     watch: &Watch<C>,
     gate: &Assembly,
     err: &mut E,
-) {
+)
+    ensures progress { Progresses (E.written err.old) (E.written err.new) }
+    ensures stays { E.takes_all err.new ≡ E.takes_all err.old }
+{
     for _second in 0..u64::MAX {
         if is_over(clock, gate) {
             return;
         }
-        let _ = put_line(alloc, err, ProgressLine(watch.sections()));
+        tell_sections(alloc, watch.sections(), err);
     }
+}
+
+/// Tells how many sections stand, or nothing.
+fn tell_sections<E: Output>(alloc: Global, sections: u64, err: &mut E)
+    ensures progress { Progresses (E.written err.old) (E.written err.new) }
+    ensures stays { E.takes_all err.new ≡ E.takes_all err.old }
+{
+    let _ = put_line(alloc, err, ProgressLine(sections));
 }
 
 /// Waits for a second, or until all workers have ended. True where they have.

@@ -1,20 +1,18 @@
 //! The nodes of a plan, each run in a thread of its own, and what they have together.
 
-ghost use Rattle.std.specs.Prelude.{All, ◌≡◌, ◌≤◌, length, IfErr, IfNone, IfOk, IfSome};
-ghost use Rattle.atomic_table.specs.Seated.{TableId};
-ghost use Rattle.mx_plan.specs.Fields.{Fields};
-ghost use Rattle.mx_stations.specs.Gathered.{IsGathered, IsWhole, OfOneTable};
+ghost use Rattle.std.specs.Prelude.{◌≡◌, ◌≤◌, ◌⊎◌, length, IfErr, IfNone, IfOk, IfSome};
 ghost use Rattle.mx_stamps.specs.declared.limits.TheConstants.{MOST_NODES};
-ghost use Rattle.mx_live.specs.declared.threads.Orders.{Orders as TheOrders};
-ghost use Rattle.mx_live.specs.Halts.{EndInVain, HaltsIn, RanInVain};
-ghost use Rattle.mx_live.specs.Stations.{AreAll, AreAtRest, IsAtRest};
-ghost use Rattle.mx_live.specs.Together.{AreGathered, AreSerial, ComeOf, HasWorked, HaveSections};
-ghost use Rattle.mx_live.specs.Workers.{AreLeft, SpendsIn, WasLeft, orders_in};
 ghost use Rattle.mx_cli.specs.LiveWords.{request_of};
+ghost use Rattle.mx_stations.specs.Gathered.{IsGathered, OfOneTable};
+ghost use Rattle.mx_live.specs.Halts.{EndInVain, HaltsIn, HasNone, RunsInVain};
+ghost use Rattle.mx_live.specs.Progress.{TellsProgress};
+ghost use Rattle.mx_live.specs.Stations.{AreAtRest};
+ghost use Rattle.mx_live.specs.Together.{AreGathered, AreSerial, ComeOf, HaveSections};
+ghost use Rattle.mx_live.specs.Workers.{AreDone, AreLeft, orders_in, stations_of};
 
 use crate::assembly::{Assembly, MOST_LOOKS};
 use crate::halts::Halt;
-use crate::progress::tell_progress;
+use crate::progress::tell_if_asked;
 use crate::threads::{Ended, Orders, join_all, start_all};
 use mx_cli::LiveRequest;
 use mx_io::Output;
@@ -30,7 +28,7 @@ use std::sync::Arc;
 use std::thread::Threads;
 
 /// Runs the nodes of a plan, by its algorithm, and gathers them.
-pub fn live_by_shape<R: Threads + Clock, E: Output>(
+pub(crate) fn live_by_shape<R: Threads + Clock, E: Output>(
     rt: &R,
     alloc: Global,
     plan: &Plan,
@@ -42,7 +40,10 @@ pub fn live_by_shape<R: Threads + Clock, E: Output>(
         HaveSections (length plan.now.nodes) request.now.sections all.receipts.items) }
     ensures come { IfOk result (λ all.
         ComeOf plan.now (orders_in (request_of request.now)) all.receipts.items all.journal) }
-    ensures err { IfErr result (RanInVain plan.now (orders_in (request_of request.now))) }
+    ensures err { IfErr result (HasNone plan.now (orders_in (request_of request.now))) }
+    ensures progress { TellsProgress request.now.progress
+        (E.written err.old) (E.written err.new) }
+    ensures stays { E.takes_all err.new ≡ E.takes_all err.old }
 {
     match plan.shape() {
         Shape::Ricart(shape) => {
@@ -74,23 +75,27 @@ where
     C::Shape: Send + 'static,
     requires { (shape : C.Shape) × AreAtRest C.core shape plan.now stations.items }
     ensures serial { IfOk result (λ all. AreSerial all.receipts.items all.journal) }
-    ensures sections { IfOk result (λ all.
-        HaveSections (length plan.now.nodes) request.now.sections all.receipts.items) }
     ensures come { (shape : C.Shape) → AreAtRest C.core shape plan.now stations.items
-        → IfOk result (λ all. AreGathered C.core shape plan.now
+        → IfOk result (λ all.
+        HaveSections (length plan.now.nodes) request.now.sections all.receipts.items
+        × AreGathered C.core shape plan.now
         (orders_in (request_of request.now)) all.receipts.items all.journal) }
     ensures err { (shape : C.Shape) → AreAtRest C.core shape plan.now stations.items
-        → IfErr result (EndInVain
-        (SpendsIn C.core shape plan.now (orders_in (request_of request.now)))) }
+        → IfErr result (λ halt.
+        RunsInVain C.core shape plan.now (orders_in (request_of request.now)) halt
+        ⊎ (halt ≡ Halt.Memory)) }
+    ensures progress { TellsProgress request.now.progress
+        (E.written err.old) (E.written err.new) }
+    ensures stays { E.takes_all err.new ≡ E.takes_all err.old }
 {
-    match run_all(rt, alloc, plan, stations, request, err) {
-        Ok(left) => finish(alloc, left),
+    match run_stations(rt, alloc, plan, stations, request, err) {
+        Ok(left) => gather_left(alloc, left),
         Err(AllocError) => Err(Halt::Memory),
     }
 }
 
-/// The stations of a plan.
-fn stations_in<C: Exclusion>(
+/// The stations of a plan, each at rest.
+pub fn stations_in<C: Exclusion>(
     alloc: Global,
     plan: &Plan,
     shape: &C::Shape,
@@ -107,8 +112,10 @@ fn stations_in<C: Exclusion>(
     )
 }
 
-/// Runs each station in a thread of its own, until all threads have ended.
-fn run_all<C: Exclusion + Send + 'static, R: Threads + Clock, E: Output>(
+/// Runs each station in a thread of its own, until all threads have ended, and returns what they
+/// left: the stations, in the same order, and how their workers ended. An `Err` means that memory
+/// ran out, or that a thread could not be started.
+pub fn run_stations<C: Exclusion + Send + 'static, R: Threads + Clock, E: Output>(
     rt: &R,
     alloc: Global,
     plan: &Plan,
@@ -119,19 +126,16 @@ fn run_all<C: Exclusion + Send + 'static, R: Threads + Clock, E: Output>(
 where
     C::Msg: Send + 'static,
     C::Shape: Send + 'static,
-    ensures { (shape : C.Shape) (table : TableId)
-        → AreAll (IsAtRest C.core shape plan.now table) stations.items
-        → IfOk result (λ left. AreAll (WasLeft C.core shape plan.now table
-        (orders_in (request_of request.now))) left.items) }
+    ensures left { IfOk result (λ left.
+        AreLeft C.core (orders_in (request_of request.now)) stations.items left.items) }
+    ensures progress { TellsProgress request.now.progress
+        (E.written err.old) (E.written err.new) }
+    ensures stays { E.takes_all err.new ≡ E.takes_all err.old }
 {
     let watch = watch_over(stations.as_slice())?;
     let gate = shared_gate(alloc, plan.nodes())?;
     let workers = start_all(rt, alloc, stations, &gate, orders_of(request))?;
-    if let Some(watch) = watch
-        && request.progress
-    {
-        tell_progress(rt, alloc, &watch, &*gate, err);
-    }
+    tell_if_asked(rt, alloc, request.progress, watch, &*gate, err);
     join_all(rt, workers)
 }
 
@@ -147,22 +151,19 @@ fn orders_of(request: &LiveRequest<'_>) -> Orders
     }
 }
 
-/// What the stations that were left have together, where each worker is done. Else why not.
-fn finish<C: Exclusion>(alloc: Global, left: Vec<Ended<C>>) -> Result<Gathered, Halt>
-    requires { AreLeft C.core left.items }
+/// What the stations that workers left have together, if each worker is done. Else why the first
+/// that is not done is not.
+pub fn gather_left<C: Exclusion>(alloc: Global, left: Vec<Ended<C>>) -> Result<Gathered, Halt>
+    requires { OfOneTable (stations_of left.items) }
     ensures serial { IfOk result (λ all. AreSerial all.receipts.items all.journal) }
-    ensures come { (shape : C.Shape) (p : Fields) (table : TableId) (orders : TheOrders)
-        → AreAll (WasLeft C.core shape p table orders) left.items
-        → IfOk result (λ all.
-        HaveSections (length p.nodes) orders.sections all.receipts.items
-        × AreGathered C.core shape p orders all.receipts.items all.journal) }
-    ensures err { (shape : C.Shape) (p : Fields) (table : TableId) (orders : TheOrders)
-        → AreAll (WasLeft C.core shape p table orders) left.items
-        → IfErr result (EndInVain (SpendsIn C.core shape p orders)) }
+    ensures done { IfOk result (λ all. AreDone left.items) }
+    ensures gathered { IfOk result (λ all.
+        IsGathered (stations_of left.items) all.journal all.receipts.items) }
+    ensures err { IfErr result (EndInVain left.items) }
 {
     match first_halt(left.as_slice()) {
         Some(halt) => Err(halt),
-        None => match stations_of(alloc, left) {
+        None => match only_stations(alloc, left) {
             Ok(stations) => gather_all(alloc, stations),
             Err(AllocError) => Err(Halt::Memory),
         },
@@ -170,13 +171,11 @@ fn finish<C: Exclusion>(alloc: Global, left: Vec<Ended<C>>) -> Result<Gathered, 
 }
 
 /// The stations that were left.
-fn stations_of<C: Exclusion>(
+fn only_stations<C: Exclusion>(
     alloc: Global,
     left: Vec<Ended<C>>,
 ) -> Result<Vec<Station<C>>, AllocError>
-    ensures { (shape : C.Shape) (p : Fields) (table : TableId) (orders : TheOrders)
-        → AreAll (λ one. HasWorked C.core shape p orders table one.0) left.items
-        → IfOk result (λ all. AreAll (HasWorked C.core shape p orders table) all.items) }
+    ensures { IfOk result (λ all. all.items ≡ stations_of left.items) }
 {
     let mut stations = Vec::new(alloc);
     for one in left {
@@ -201,10 +200,10 @@ fn shared_gate(alloc: Global, nodes: u8) -> Result<Arc<Assembly, Global>, AllocE
     Ok(gate)
 }
 
-/// Why the least node that is not done is not.
+/// Why the first worker that is not done is not.
 fn first_halt<S>(left: &[(S, Worked)]) -> Option<Halt>
     ensures some { IfSome result (HaltsIn left.now) }
-    ensures none { IfNone result (All (λ one. one.1 ≡ Worked.Done) left.now) }
+    ensures none { IfNone result (AreDone left.now) }
 {
     for one in left {
         match one.1 {
@@ -216,12 +215,12 @@ fn first_halt<S>(left: &[(S, Worked)]) -> Option<Halt>
     None
 }
 
-/// What the stations that were left have together.
+/// What stations have together.
 fn gather_all<C: Exclusion>(alloc: Global, stations: Vec<Station<C>>) -> Result<Gathered, Halt>
     requires { OfOneTable stations.items }
     ensures serial { IfOk result (λ all. AreSerial all.receipts.items all.journal) }
-    ensures gathered { IfOk result (λ all. IsWhole stations.items
-        × IsGathered stations.items all.journal all.receipts.items) }
+    ensures gathered { IfOk result (λ all.
+        IsGathered stations.items all.journal all.receipts.items) }
     ensures err { IfErr result (λ halt. halt ≡ Halt.Memory) }
 {
     match gather(alloc, stations) {

@@ -1,13 +1,7 @@
 //! The threads of a live run, one for each station.
 
-ghost use Rattle.std.specs.Prelude.{◌≡◌, ◌≤◌, ℕ, length, IfOk, OnOk};
-ghost use Rattle.atomic_table.specs.Seated.{TableId};
-ghost use Rattle.mx_plan.specs.Fields.{Fields};
-ghost use Rattle.mx_stations.specs.Gathered.{KeepsTable};
-ghost use Rattle.mx_stations.specs.Works.{Works, WorksAtMost, WorksFor, WorksSettling};
-ghost use Rattle.mx_live.specs.declared.threads.Orders.{Orders as TheOrders};
-ghost use Rattle.mx_live.specs.Stations.{AreAll, IsAtRest};
-ghost use Rattle.mx_live.specs.Workers.{IsLeft, Promises, WasLeft, weather_of};
+ghost use Rattle.std.specs.Prelude.{◌≡◌, ◌++◌, [], ◌∷◌, IfOk, OnOk, map};
+ghost use Rattle.mx_live.specs.Workers.{AreLeftOf, IsLeft, ordered, weather_of};
 
 use crate::assembly::Assembly;
 use mx_explorer::Weather;
@@ -35,8 +29,8 @@ pub(crate) struct Orders {
     pub(crate) settle: u64,
 }
 
-/// What a worker leaves.
-pub(crate) type Ended<C> = (Station<C>, Worked);
+/// What a worker leaves: its station, and how it ended.
+pub type Ended<C> = (Station<C>, Worked);
 
 /// The promise of a worker: it leads from this station to the one that it leaves, as it was
 /// ordered.
@@ -67,13 +61,7 @@ fn do_work<C: Exclusion>(station: Station<C>, gate: &Assembly, orders: Orders) -
 /// Does the work at a station, under links of its own seed. It settles after as many sections
 /// of its own as the orders say, with 0 never.
 fn work_at<C: Exclusion>(station: Station<C>, gate: &Assembly, orders: Orders) -> Ended<C>
-    ensures works { WorksSettling C.core 0 orders.settle station result.0 }
-    ensures never { orders.settle ≡ 0 → Works C.core 0 station result.0 }
-    ensures most { WorksAtMost C.core 0 orders.settle orders.turns station result.0 }
-    ensures same { KeepsTable station result.0 }
-    ensures done { result.1 ≡ Worked.Done → orders.sections ≤ length result.0.me.receipts }
-    ensures spent { (n : ℕ) → result.1 ≡ Worked.NotYet n
-        → WorksFor C.core 0 orders.settle orders.turns station result.0 }
+    ensures { IsLeft C.core orders station result }
 {
     let script = Script {
         register: 0,
@@ -132,12 +120,10 @@ fn start_one<C: Exclusion + Send + 'static, R: Threads>(
 where
     C::Msg: Send + 'static,
     C::Shape: Send + 'static,
-    ensures { (shape : C.Shape) (p : Fields) (table : TableId)
-        → IsAtRest C.core shape p table station
-        → AreAll (λ worker. Promises C.core shape p table orders
-        worker.promise.at.value worker.promise.orders) workers.old.items
-        → OnOk result (AreAll (λ worker. Promises C.core shape p table orders
-        worker.promise.at.value worker.promise.orders) workers.new.items) }
+    ensures { OnOk result (
+        map (λ worker. ordered worker.promise.at.value worker.promise.orders) workers.new.items
+        ≡ map (λ worker. ordered worker.promise.at.value worker.promise.orders) workers.old.items
+        ++ ordered station orders ∷ []) }
 {
     workers.reserve(1)?;
     let share = Arc::try_clone(gate)?;
@@ -157,12 +143,10 @@ fn start_each<C: Exclusion + Send + 'static, R: Threads>(
 where
     C::Msg: Send + 'static,
     C::Shape: Send + 'static,
-    ensures { (shape : C.Shape) (p : Fields) (table : TableId)
-        → AreAll (IsAtRest C.core shape p table) stations.items
-        → AreAll (λ worker. Promises C.core shape p table orders
-        worker.promise.at.value worker.promise.orders) workers.old.items
-        → OnOk result (AreAll (λ worker. Promises C.core shape p table orders
-        worker.promise.at.value worker.promise.orders) workers.new.items) }
+    ensures { OnOk result (
+        map (λ worker. ordered worker.promise.at.value worker.promise.orders) workers.new.items
+        ≡ map (λ worker. ordered worker.promise.at.value worker.promise.orders) workers.old.items
+        ++ map (λ station. ordered station orders) stations.items) }
 {
     for station in stations {
         start_one(rt, workers, station, gate, orders)?;
@@ -182,10 +166,9 @@ pub(crate) fn start_all<C: Exclusion + Send + 'static, R: Threads>(
 where
     C::Msg: Send + 'static,
     C::Shape: Send + 'static,
-    ensures { (shape : C.Shape) (p : Fields) (table : TableId)
-        → AreAll (IsAtRest C.core shape p table) stations.items
-        → IfOk result (λ all. AreAll (λ worker. Promises C.core shape p table orders
-        worker.promise.at.value worker.promise.orders) all.items) }
+    ensures { IfOk result (λ all.
+        map (λ worker. ordered worker.promise.at.value worker.promise.orders) all.items
+        ≡ map (λ station. ordered station orders) stations.items) }
 {
     let mut workers = Vec::new(alloc);
     match start_each(rt, &mut workers, stations, gate, orders) {
@@ -210,10 +193,9 @@ pub(crate) fn join_all<C: Exclusion, R: Threads>(
     rt: &R,
     workers: Vec<Worker<C>>,
 ) -> Result<Vec<Ended<C>>, AllocError>
-    ensures { (shape : C.Shape) (p : Fields) (table : TableId) (orders : TheOrders)
-        → AreAll (λ worker. Promises C.core shape p table orders
-        worker.promise.at.value worker.promise.orders) workers.items
-        → IfOk result (λ all. AreAll (WasLeft C.core shape p table orders) all.items) }
+    ensures { IfOk result (λ all. AreLeftOf C.core
+        (map (λ worker. ordered worker.promise.at.value worker.promise.orders) workers.items)
+        all.items) }
 {
     match thread::join_promised(rt, workers) {
         Ok(ended) => Ok(ended),

@@ -10,14 +10,14 @@ use Rattle.mx_journal.specs.declared.settling.BaseFault.TheVariants as base
 use Rattle.mx_journal.specs.Agreement.{IsConsistent, IsFirstConflict}
 use Rattle.mx_journal.specs.Bases.{AreOpposed, BaseState}
 use Rattle.mx_journal.specs.Records.{IsNumbered, IsThere}
-use Rattle.mx_journal.specs.Settled.{JournalState, beyond}
+use Rattle.mx_journal.specs.Settled.{BringsUncovered, JournalState, beyond}
 use Rattle.mx_journal.proofs.Answering.{not_consistent, not_numbered, one_first}
 use Rattle.mx_member.specs.declared.faults.DeliverFault.{DeliverFault}
 use Rattle.mx_member.specs.declared.faults.DeliverFault.TheVariants as deliver
 use Rattle.mx_member.specs.declared.parcel.Parcel.{Parcel}
 use Rattle.mx_member.specs.declared.parcel.Parcel.TheVariants.{Guard, Want, Base, Records}
 use Rattle.mx_member.specs.Faults.{base_fault_of, fault_of}
-use Rattle.mx_member.specs.Member.{MemberState}
+use Rattle.mx_member.specs.Member.{BringsUnknown, MemberState}
 use Rattle.mx_member.specs.Steps.{IsAcceptable, IsDisputed}
 
 -- the answer names the conflict that there is, and is otherwise that the parcel is taken
@@ -157,6 +157,18 @@ pub fault_known : (fault : PutFault) → answered (fault_of fault) ≡ Err deliv
 fault_known put.ZeroNumber e = let bad : ⊥ = cc in bad
 fault_known (put.Conflict n) e = let bad : ⊥ = cc in bad
 fault_known put.Memory e = let bad : ⊥ = cc in bad
+
+-- and it is that memory ran out only where that is the journal's
+pub memory_known : (fault : PutFault) → answered (fault_of fault) ≡ Err deliver.Memory → refused fault ≡ Err put.Memory
+memory_known put.ZeroNumber e = let bad : ⊥ = cc in absurd bad
+memory_known (put.Conflict n) e = let bad : ⊥ = cc in absurd bad
+memory_known put.Memory e = refl
+
+-- which the records of a parcel bring about
+pub brings_unknown : {S M : Type 0} (records : ArrayVec Record) (list : List Record) (parcel : Parcel M) (fields m : MemberState S) → fields ≡ m → parcel ≡ Records records → list ≡ records.items → BringsUncovered list fields.journal → BringsUnknown parcel m.journal
+brings_unknown {S} {M} records list parcel fields m same is items w =
+    subst (λ (x : MemberState S). BringsUnknown parcel x.journal) same
+    (subst (λ (p : Parcel M). BringsUnknown p fields.journal) (sym is) (subst (λ l. BringsUncovered l fields.journal) items w))
 
 pub base_fault_known : (fault : BaseFault) → answered (base_fault_of fault) ≡ Err deliver.Stranger → ⊥
 base_fault_known (base.Conflict n) e = let bad : ⊥ = cc in bad

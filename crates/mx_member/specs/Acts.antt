@@ -8,7 +8,7 @@ use Rattle.mx_member.specs.declared.acts.Act.TheVariants as act
 use Rattle.mx_member.specs.declared.acts.Answer.{Answer}
 use Rattle.mx_member.specs.declared.acts.Answer.TheVariants as answer
 use Rattle.mx_member.specs.declared.parcel.Parcel.{Parcel}
-use Rattle.mx_member.specs.Member.{BringsRecords, MemberState}
+use Rattle.mx_member.specs.Member.{BringsUnknown, MemberState}
 use Rattle.mx_member.specs.Steps.{IsTakeable, LacksItsRecord, ask_of, enter_of, read_of, write_of, leave_of, cancel_of, settle_of, tick_of, want_of, take_of, restart_of}
 
 -- what an act makes of a member
@@ -46,7 +46,8 @@ IsDoable (act.Want to) m = Unit {0}
 IsDoable (act.Deliver from parcel) m = IsTakeable from parcel m
 IsDoable act.Restart m = Unit {0}
 
--- the act may need memory: its own record joins the journal, or records are delivered
+-- the act may need memory: its own record joins the journal, or a record that is delivered is of a
+-- section that the journal does not cover
 abbrev pub NeedsMemory : {H S M : Type 0} → Core H S M → Act M → MemberState S → Type 0
 NeedsMemory core act.Ask m = ⊥
 NeedsMemory core act.Enter m = ⊥
@@ -57,7 +58,7 @@ NeedsMemory core act.Cancel m = ⊥
 NeedsMemory core (act.Settle k) m = ⊥
 NeedsMemory core act.Tick m = ⊥
 NeedsMemory core (act.Want to) m = ⊥
-NeedsMemory core (act.Deliver from parcel) m = BringsRecords parcel
+NeedsMemory core (act.Deliver from parcel) m = BringsUnknown parcel m.journal
 NeedsMemory core act.Restart m = ⊥
 
 -- the answer is a refusal

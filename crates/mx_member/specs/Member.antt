@@ -2,7 +2,7 @@
 use Rattle.std.specs.Prelude.{ℕ, suc, ◌≡◌, List, [], ◌∷◌}
 use Rattle.mx_journal.specs.Drafted.{Drafted}
 use Rattle.mx_journal.specs.Gapless.{first_missing}
-use Rattle.mx_journal.specs.Settled.{JournalState}
+use Rattle.mx_journal.specs.Settled.{BringsUncovered, JournalState}
 use Rattle.mx_registers.specs.declared.contents.Content.{Content}
 use Rattle.mx_registers.specs.Based.{registers_in}
 use Rattle.mx_member.specs.declared.parcel.Parcel.{Parcel}
@@ -55,9 +55,9 @@ letter_in a b (Want ranges) = []
 letter_in a b (Base base) = []
 letter_in a b (Records records) = []
 
--- the parcel is one of records
-abbrev pub BringsRecords : {M : Type 0} → Parcel M → Type 0
-BringsRecords (Guard letter) = ⊥
-BringsRecords (Want ranges) = ⊥
-BringsRecords (Base base) = ⊥
-BringsRecords (Records records) = Unit {0}
+-- the parcel has a record of a section that the journal does not cover
+abbrev pub BringsUnknown : {M : Type 0} → Parcel M → JournalState → Type 0
+BringsUnknown (Guard letter) journal = ⊥
+BringsUnknown (Want ranges) journal = ⊥
+BringsUnknown (Base base) journal = ⊥
+BringsUnknown (Records records) journal = BringsUncovered records.items journal

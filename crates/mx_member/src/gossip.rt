@@ -10,7 +10,7 @@ ghost use Rattle.mx_journal.specs.Settled.{beyond, with_base};
 ghost use Rattle.mx_registers.specs.Based.{registers_from, registers_in};
 ghost use Rattle.mx_registers.specs.Registers.{value_in};
 ghost use Rattle.mx_member.specs.declared.faults.DeliverFault.{DeliverFault};
-ghost use Rattle.mx_member.specs.Member.{BringsRecords, IsViewOf};
+ghost use Rattle.mx_member.specs.Member.{BringsUnknown, IsViewOf};
 ghost use Rattle.mx_member.specs.Steps.{IsDisputed, IsTakeable, answers_to, base_to, core_step, reaches, records_to, take_of, want_of, want_to};
 
 use crate::faults::DeliverFault;
@@ -56,7 +56,8 @@ impl<C: Exclusion> Member<C> {
             × IsDisputed n parcel self.old.journal) }
         ensures taken { (IsOk result ⊎ (result ≡ Err DeliverFault.Memory))
             ↔ IsTakeable from parcel self.old }
-        ensures memory { (result ≡ Err DeliverFault.Memory) → BringsRecords parcel }
+        ensures memory { (result ≡ Err DeliverFault.Memory)
+            → BringsUnknown parcel self.old.journal }
         ensures state { OnOk result (self.new ≡ (take_of C.core from parcel self.old).state) }
         ensures letters { OnOk result (out.new ≡ (take_of C.core from parcel self.old).letters) }
         ensures err { OnErr result (self.new ≡ self.old) }
@@ -80,7 +81,8 @@ impl<C: Exclusion> Member<C> {
             × IsDisputed n parcel.now self.old.journal) }
         ensures taken { (IsOk result ⊎ (result ≡ Err DeliverFault.Memory))
             ↔ IsTakeable from parcel.now self.old }
-        ensures memory { (result ≡ Err DeliverFault.Memory) → BringsRecords parcel.now }
+        ensures memory { (result ≡ Err DeliverFault.Memory)
+            → BringsUnknown parcel.now self.old.journal }
         ensures state { OnOk result (self.new ≡ (take_of C.core from parcel.now self.old).state) }
         ensures letters { OnOk result (out.new
             ≡ (take_of C.core from parcel.now self.old).letters) }

@@ -49,6 +49,26 @@ const LISTS: [&[&[u64]]; 9] = [
     &[&[3, 4, 1, 2], &[9, 7, 5, 6, 8]],
 ];
 
+/// Numbers that come into an empty journal, up to which of them it settles, and numbers of which
+/// none is new then: they are settled, or have records.
+const KNOWN: [(&[u64], u64, &[u64]); 4] = [
+    (&[1, 2, 3], 2, &[]),
+    (&[1, 2, 3], 2, &[1, 2]),
+    (&[1, 2, 3, 5], 2, &[3, 1, 5]),
+    (&[1, 2, 3], 3, &[3, 2]),
+];
+
+/// Some of these are new to each of those journals.
+const SOME_NEW: &[u64] = &[2, 4, 7];
+
+/// Numbers of two journals, and up to which each settles: the second further than the first, which
+/// has each record that it has left.
+const BASES: [(&[u64], u64, &[u64], u64); 3] = [
+    (&[1, 2, 5], 2, &[1, 2, 3, 4, 5], 4),
+    (&[4], 0, &[1, 2, 3], 3),
+    (&[1, 2, 7, 8], 1, &[1, 2, 3, 4, 8], 4),
+];
+
 /// A record by node 0 that writes its number to register 0.
 pub(crate) fn record(number: u64) -> Record {
     let mut record = Record::default();
@@ -91,14 +111,16 @@ fn empty_twins(alloc: Global) -> Twins {
     }
 }
 
-/// Whether both have the same records, of numbers below 20.
+/// Whether both have the same base, and the same records, of numbers below 20.
 fn are_alike(twins: &Twins) -> bool {
     for number in 0..20 {
         if twins.journal.get(number).is_some() != twins.twin.get(number).is_some() {
             return false;
         }
     }
-    twins.journal.len() == twins.twin.len() && agree(&twins.journal, &twins.twin)
+    twins.journal.base().upto() == twins.twin.base().upto()
+        && twins.journal.len() == twins.twin.len()
+        && agree(&twins.journal, &twins.twin)
 }
 
 fn put(rt: &HostRuntime, twins: &mut Twins, number: u64) -> Result<()> {
@@ -229,9 +251,106 @@ fn each_list(rt: &HostRuntime, way: Way) -> Result<()> {
     Ok(())
 }
 
+/// The journal settles up to a number, and its twin takes that base.
+fn settle(twins: &mut Twins, upto: u64) -> Result<()> {
+    twins.journal.settle(upto)?;
+    twins.twin.take_base(twins.journal.base())?;
+    expect("Journal::settle", are_alike(twins))
+}
+
+/// Twins that have records of these numbers, and settle up to one of them.
+fn settled_twins(rt: &HostRuntime, numbers: &[u64], upto: u64) -> Result<Twins> {
+    let mut twins = Twins {
+        journal: journal_of(rt.alloc(), numbers)?,
+        twin: journal_of(rt.alloc(), numbers)?,
+    };
+    settle(&mut twins, upto)?;
+    Ok(twins)
+}
+
+/// Puts records of which none is new. That takes no memory.
+fn put_known(rt: &HostRuntime, twins: &mut Twins, list: &[Record]) -> Result<()> {
+    call(rt, "Journal::put_all");
+    let answer = twins.journal.put_all(list);
+    back(rt);
+    expect("Journal::put_all", answer == Ok(0) && are_alike(twins))
+}
+
+/// Takes another journal in that has no record which is new. That takes no memory.
+fn take_known(
+    rt: &HostRuntime,
+    twins: &mut Twins,
+    other: &Journal,
+    name: &str,
+    way: Way,
+) -> Result<()> {
+    call(rt, name);
+    let answer = take_in(&mut twins.journal, other, way);
+    back(rt);
+    let new = take_in(&mut twins.twin, other, way)?;
+    expect(name, answer == Ok(new) && are_alike(twins))
+}
+
+/// Makes the call with numbers of which none is new, and then with some that are.
+fn known_first(
+    rt: &HostRuntime,
+    twins: &mut Twins,
+    numbers: &[u64],
+    name: &str,
+    way: Way,
+) -> Result<()> {
+    match way {
+        Way::PutAll => put_known(rt, twins, records(rt.alloc(), numbers)?.as_slice())?,
+        _ => take_known(rt, twins, &journal_of(rt.alloc(), numbers)?, name, way)?,
+    }
+    take(rt, twins, SOME_NEW, way)
+}
+
+fn each_known(rt: &HostRuntime, name: &str, way: Way) -> Result<()> {
+    for (numbers, upto, known) in &KNOWN {
+        known_first(
+            rt,
+            &mut settled_twins(rt, numbers, *upto)?,
+            known,
+            name,
+            way,
+        )?;
+    }
+    Ok(())
+}
+
+/// Takes a higher base in, with records of which none is new.
+fn take_higher(
+    rt: &HostRuntime,
+    twins: &mut Twins,
+    numbers: &[u64],
+    upto: u64,
+    name: &str,
+    way: Way,
+) -> Result<()> {
+    let mut other = journal_of(rt.alloc(), numbers)?;
+    other.settle(upto)?;
+    take_known(rt, twins, &other, name, way)?;
+    expect(name, twins.journal.base().upto() == upto)
+}
+
+fn each_base(rt: &HostRuntime, name: &str, way: Way) -> Result<()> {
+    for (numbers, upto, others, higher) in &BASES {
+        let mut twins = settled_twins(rt, numbers, *upto)?;
+        take_higher(rt, &mut twins, others, *higher, name, way)?;
+    }
+    Ok(())
+}
+
 pub(crate) fn each(rt: &HostRuntime) -> Result<()> {
     each_single(rt)?;
     each_list(rt, Way::PutAll)?;
     each_list(rt, Way::Merge)?;
-    each_list(rt, Way::Join)
+    each_list(rt, Way::Join)?;
+    each_known(rt, "Journal::put_all", Way::PutAll)?;
+    for (name, way) in &[("merge", Way::Merge), ("Journal::join", Way::Join)] {
+        each_known(rt, name, *way)?;
+        each_base(rt, name, *way)?;
+    }
+    Ok(())
 }

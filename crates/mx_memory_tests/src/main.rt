@@ -6,6 +6,7 @@
 #![tactic(auto)]
 
 mod clusters;
+mod jobs;
 mod journals;
 mod members;
 mod readers;
@@ -20,5 +21,6 @@ fn main(rt: HostRuntime) -> Result<()> {
     members::each(&rt)?;
     clusters::each(&rt)?;
     stations::each(&rt)?;
+    jobs::each(&rt, &rt)?;
     readers::each(&rt)
 }

@@ -17,6 +17,12 @@ use std::alloc::{AllocError, Global};
 /// Numbers of records that come in one parcel.
 const PARCELS: [&[u64]; 3] = [&[2, 4, 7], &[9, 3, 4], &[1, 5, 6, 8]];
 
+/// Up to which a member settles once these have come.
+const SETTLED: u64 = 5;
+
+/// Numbers of records that come then, none of which is new.
+const KNOWN: [&[u64]; 2] = [&[], &[2, 9, 5]];
+
 /// Node 0 of one node, with one register.
 pub(crate) fn started(alloc: Global) -> Result<Member<Ricart>> {
     let Some(shape) = Count::of(1) else {
@@ -177,6 +183,24 @@ fn deliver(
     expect(name, answer == Ok(()) && has_all(member, numbers))
 }
 
+/// Delivers records of which none is new. That takes no memory.
+fn deliver_known(
+    rt: &HostRuntime,
+    member: &mut Member<Ricart>,
+    numbers: &[u64],
+    name: &str,
+    by: Taking,
+) -> Result<()> {
+    let before = member_shown(member);
+    call(rt, name);
+    let (answer, is_quiet) = delivered(member, numbers, by);
+    back(rt);
+    expect(
+        name,
+        answer == Ok(()) && is_quiet && is_as_before(member, &before),
+    )
+}
+
 fn has_all(member: &Member<Ricart>, numbers: &[u64]) -> bool {
     for number in numbers {
         if member.journal().get(*number).is_none() {
@@ -208,13 +232,28 @@ fn deliver_each(
     Ok(())
 }
 
+/// The member settles, and takes parcels that bring nothing new.
+fn deliver_settled(
+    rt: &HostRuntime,
+    member: &mut Member<Ricart>,
+    name: &str,
+    by: Taking,
+) -> Result<()> {
+    member.settle(SETTLED)?;
+    for numbers in KNOWN {
+        deliver_known(rt, member, numbers, name, by)?;
+    }
+    Ok(())
+}
+
 fn each_delivery(
     rt: &HostRuntime,
     mut member: Member<Ricart>,
     name: &str,
     by: Taking,
 ) -> Result<()> {
-    deliver_each(rt, &mut member, name, by)
+    deliver_each(rt, &mut member, name, by)?;
+    deliver_settled(rt, &mut member, name, by)
 }
 
 pub(crate) fn each(rt: &HostRuntime) -> Result<()> {

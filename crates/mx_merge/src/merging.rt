@@ -2,7 +2,7 @@
 
 ghost use Rattle.std.specs.Prelude.{ℕ, suc, ◌≡◌, ◌+◌, ◌↔◌, ◌⊎◌, Err, IsOk, IfOk, OnOk, OnErr};
 ghost use Rattle.mx_journal.specs.Records.{Ascending};
-ghost use Rattle.mx_journal.specs.Settled.{DoAgree, IsWithin, covered, joined};
+ghost use Rattle.mx_journal.specs.Settled.{BringsUncovered, DoAgree, IsWithin, covered, joined};
 ghost use Rattle.mx_merge.specs.Join.{IsFirstDifference, IsLeastJournal};
 
 use crate::agreement::first_difference;
@@ -32,8 +32,8 @@ impl From<AllocError> for MergeFault {
 
 /// Takes what the other journal covers into the journal, with its base where that is above the
 /// journal's own, and returns how many numbers are newly covered. `Conflict` names the least number
-/// at which the two differ; `Memory` comes only where they agree and there is a record that is new.
-/// At a fault the journal stays as it was.
+/// at which the two differ; `Memory` comes only where they agree, and some record of the other is of
+/// a section that the journal does not cover. At a fault the journal stays as it was.
 pub fn merge(journal: &mut Journal, other: &Journal) -> Result<u64, MergeFault>
     ensures conflict { (n : ℕ) → (result ≡ Err (MergeFault.Conflict n))
         ↔ IsFirstDifference n journal.old other.now }
@@ -45,6 +45,8 @@ pub fn merge(journal: &mut Journal, other: &Journal) -> Result<u64, MergeFault>
     ensures ordered { Ascending (suc journal.new.base.upto) journal.new.records }
     ensures there { Ascending (suc other.now.base.upto) other.now.records }
     ensures contained { IsWithin other.now journal.old → IsOk result }
+    ensures memory { (result ≡ Err MergeFault.Memory)
+        → BringsUncovered other.now.records journal.old }
     ensures err { OnErr result (journal.new ≡ journal.old) }
 {
     if let Some(number) = first_difference(journal, other) {

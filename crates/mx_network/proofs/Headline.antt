@@ -1,14 +1,20 @@
 -- What the promise says of a cluster, from what every cluster keeps.
-use Rattle.std.proofs.Common.{ℕ, ◌≡◌, ◌↔◌, List, [], sym, subst}
+use Rattle.std.proofs.Common.{ℕ, ◌≡◌, ◌↔◌, List, [], Some, slice_get, sym, subst}
+use Rattle.mx_stamps.specs.Lists.{IsIn}
+use Rattle.mx_stamps.proofs.Lists.{in_get}
 use Rattle.mx_journal.specs.Records.{Ascending}
 use Rattle.mx_journal.specs.Settled.{DoAgree}
 use Rattle.mx_nodelaws.specs.World.{World}
 use Rattle.mx_nodelaws.specs.Core.{Core}
 use Rattle.mx_nodelaws.specs.Laws.{KeepsGood}
 use Rattle.mx_member.specs.Journals.{IsJournalOf}
+use Rattle.mx_member.specs.declared.parcel.Parcel.{Parcel}
 use Rattle.mx_member.specs.Member.{MemberState}
+use Rattle.mx_member.specs.Steps.{IsTakeable}
 use Rattle.mx_sections.specs.Serial.{AllClosed, IsInSection}
 use Rattle.mx_member.specs.World.{IsMember, core_part}
+use Rattle.mx_member.specs.declared.acts.Act.TheVariants as act
+use Rattle.mx_member.proofs.ActsKept.{doable}
 use Rattle.mx_member.proofs.Consequences.{journals_agree, member_shows}
 use Rattle.mx_member.proofs.CorePart.{get_map}
 use Rattle.mx_member.proofs.Histories.{alternate_if_fit, numbered_if_fit}
@@ -17,7 +23,7 @@ use Rattle.mx_member.proofs.SectionLists.{journal_ascends}
 use Rattle.mx_sections.specs.declared.outcome.Entry.{Entry}
 use Rattle.mx_network.specs.Kept.{IsKept}
 use Rattle.mx_sections.specs.Trace.{IsSerial, ShowsInOrder, journal_of, sections, IsExclusive, IsNumbered, marks}
-use Rattle.mx_network.specs.Step.{ClusterState, IsInsideAt, IsInsideWith}
+use Rattle.mx_network.specs.Step.{AreTakeable, ClusterState, IsInsideAt, IsInsideWith}
 use Rattle.mx_network.proofs.KeptSound.{kept_sound}
 
 pub exclusive : (trace : List Entry) → IsSerial trace → IsExclusive trace
@@ -45,6 +51,16 @@ module _ {H S M : Type 0} (core : Core H S M) (Good : World S M → Type 0) (g :
   -- each journal knows of the section journal alone
   pub of_sections : (i : ℕ) (m : MemberState S) → IsMember g.members i m → IsJournalOf (journal_of g.trace) m.journal
   of_sections = (kept_sound core Good g kept).journals
+
+  -- a parcel that was sent can be taken by the member to which it was sent
+  pub takeable : AreTakeable g
+  takeable from to parcel m was at = doable core Good (sections g.trace) g.members g.sent to (act.Deliver from parcel) m (kept_sound core Good g kept) at was
+
+  -- so can the member at its place
+  pub taken_at : (k from to i : ℕ) (parcel : Parcel M) (m : MemberState S) (sent : List (ℕ × ℕ × Parcel M)) → sent ≡ g.sent → slice_get sent k ≡ Some (from, to, parcel) → i ≡ to → slice_get g.members i ≡ Some m → IsTakeable from parcel m
+  taken_at k from to i parcel m sent same was place at =
+      takeable from to parcel m (subst (λ (l : List (ℕ × ℕ × Parcel M)). IsIn (from, to, parcel) l) same (in_get sent k (from, to, parcel) was))
+      (subst (λ j. slice_get g.members j ≡ Some m) place at)
 
   -- said of the trace that is handed out
   pub journals_of : (trace : List Entry) → trace ≡ g.trace → (i : ℕ) (m : MemberState S) → IsMember g.members i m → IsJournalOf (journal_of trace) m.journal

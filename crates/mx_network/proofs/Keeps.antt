@@ -23,20 +23,22 @@ use Rattle.mx_network.specs.declared.faults.StepFault.{StepFault}
 use Rattle.mx_network.specs.declared.faults.StepFault.TheVariants.{NoNode}
 use Rattle.mx_network.specs.Kept.{IsKept}
 use Rattle.mx_sections.specs.Trace.{sections, marks}
-use Rattle.mx_network.specs.Step.{ClusterState, answer_of, part_of, grown, at_member, at_part, step_of, IsStep, RunsTo}
+use Rattle.mx_network.specs.Step.{AreUnsettled, ClusterState, answer_of, part_of, grown, at_member, at_part, step_of, IsStep, RunsTo}
 use Rattle.mx_network.proofs.Marks.{marks-snoc}
 use Rattle.mx_events.specs.declared.event.Event.TheVariants as event
-use Rattle.mx_network.proofs.Happening.{delivery_part}
+use Rattle.mx_network.proofs.Happening.{delivery_part, happens}
 use Rattle.mx_network.proofs.KeptSound.{kept_sound}
 use Rattle.mx_network.proofs.EventParts.{arrives, err_no_ok, same_Ok, tells}
+use Rattle.mx_network.proofs.Refused.{noted_unsettled}
 
 module _ {H S M : Type 0} (core : Core H S M) (IsShape : H → Type 0) (Good : World S M → Type 0) (phases : KeepsPhases core) (laws : KeepsGood core IsShape Good) where
   -- a trace that tells of these marks too
-  told_more : (g : ClusterState S M) (trace : List Entry) (ms : List Mark) (members : List (MemberState S)) (sent : List (ℕ × ℕ × Parcel M)) → marks trace ≡ marks g.trace ++ ms → IsKept core Good g → AllFit (sections g.trace) ms → IsRun core Good (after_marks (sections g.trace) ms) (owners (after_marks (sections g.trace) ms) members) sent → IsKept core Good (record { members = members; sent = sent; trace = trace })
-  told_more g trace ms members sent is kept fit run =
+  told_more : (g : ClusterState S M) (trace : List Entry) (ms : List Mark) (members : List (MemberState S)) (sent : List (ℕ × ℕ × Parcel M)) → marks trace ≡ marks g.trace ++ ms → AreUnsettled trace → IsKept core Good g → AllFit (sections g.trace) ms → IsRun core Good (after_marks (sections g.trace) ms) (owners (after_marks (sections g.trace) ms) members) sent → IsKept core Good (record { members = members; sent = sent; trace = trace })
+  told_more g trace ms members sent is unsettled kept fit run =
       record {
         run = subst (λ ss. IsRun core Good ss (owners ss members) sent) (sym (ap (λ l. after_marks [] l) is ∙ after_marks-append [] (marks g.trace) ms)) run;
         serial = subst (λ l. AllFit [] l) (sym is) (AllFit-append [] (marks g.trace) ms kept.serial fit);
+        unsettled = unsettled;
       }
 
   -- a member's act, as the part of an event
@@ -47,7 +49,8 @@ module _ {H S M : Type 0} (core : Core H S M) (IsShape : H → Type 0) (Good : W
       let k = owners_kept core IsShape Good phases laws (sections g.trace) g.members g.sent (g.sent ++ sent_by p.0 done.letters) p.0 p.1 m
       kept.run at (arrives (length g.members) g.sent e p part) (λ x. ((λ h. h), (λ h. h))) in
       told_more g (grown g e p.0 (answer_of core p.1 m)).trace ms (grown g e p.0 (answer_of core p.1 m)).members (grown g e p.0 (answer_of core p.1 m)).sent
-      (marks-snoc g.trace e (answer_of core p.1 m).answer ∙ ap (λ l. marks g.trace ++ l) (tells core m (length g.members) g.sent e p part)) kept k.0 k.1
+      (marks-snoc g.trace e (answer_of core p.1 m).answer ∙ ap (λ l. marks g.trace ++ l) (tells core m (length g.members) g.sent e p part))
+      (noted_unsettled core Good g (grown g e p.0 (answer_of core p.1 m)) kept e (answer_of core p.1 m).answer (happens core g e p part m at) refl) kept k.0 k.1
 
   at_some : (g : ClusterState S M) (e : Event) (p : ℕ × Act M) (new : ClusterState S M) (o : Option (MemberState S)) → slice_get g.members p.0 ≡ o → part_of (length g.members) g.sent e ≡ Ok p → at_member core g e p.0 p.1 o ≡ Ok new → IsKept core Good g → IsKept core Good new
   at_some g e p new None was part step kept = absurd (err_no_ok NoNode new step)
@@ -87,7 +90,7 @@ module _ {H S M : Type 0} (core : Core H S M) (IsShape : H → Type 0) (Good : W
       subst (λ ms. IsKept core Good (record { members = ms; sent = sent; trace = trace })) (sym a)
       (subst (λ ss. IsKept core Good (record { members = each_below (λ i. start_of core shape i origin limit registers) (core.count shape); sent = ss; trace = trace })) (sym b)
       (subst (λ ts. IsKept core Good (record { members = each_below (λ i. start_of core shape i origin limit registers) (core.count shape); sent = []; trace = ts })) (sym c)
-      (record { run = owners_at_start core IsShape Good phases laws shape origin limit registers valid d e f few; serial = tt })))
+      (record { run = owners_at_start core IsShape Good phases laws shape origin limit registers valid d e f few; serial = tt; unsettled = λ entry cause h. absurd h })))
 
 -- a run of one event more
 pub RunsTo-snoc : {H S M : Type 0} (core : Core H S M) (g mid new : ClusterState S M) (es : List Event) (e : Event) → RunsTo core g es mid → step_of core mid e ≡ Ok new → RunsTo core g (es ++ e ∷ []) new

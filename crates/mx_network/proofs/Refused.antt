@@ -1,6 +1,7 @@
 -- A refused event changes no member and sends nothing.
-use Rattle.std.proofs.Common.{ℕ, ◌≡◌, List, [], ◌∷◌, ◌++◌, Option, Some, None, Result, Ok, Err, IfOk, length, slice_get, slice_set, refl, ◌∙◌, ap, subst}
-use Rattle.mx_stamps.proofs.Lists.{append_nil, set_itself}
+use Rattle.std.proofs.Common.{ℕ, ◌≡◌, List, [], ◌∷◌, ◌++◌, Option, Some, None, Result, Ok, Err, IfOk, length, slice_get, slice_set, inl, inr, refl, sym, ◌∙◌, ap, subst}
+use Rattle.mx_stamps.specs.Lists.{IsIn}
+use Rattle.mx_stamps.proofs.Lists.{append_nil, in_append, set_itself}
 use Rattle.mx_nodelaws.specs.World.{World, sent_by}
 use Rattle.mx_nodelaws.specs.Core.{Core, KeepsPhases}
 use Rattle.mx_member.specs.declared.acts.Act.{Act}
@@ -26,7 +27,7 @@ use Rattle.mx_network.specs.declared.faults.StepFault.TheVariants.{NoNode}
 use Rattle.mx_network.specs.Kept.{IsKept}
 use Rattle.mx_network.specs.Outcome.{outcome_of}
 use Rattle.mx_sections.specs.Trace.{sections}
-use Rattle.mx_network.specs.Step.{ClusterState, IsSettledRead, IsUnchanged, answer_of, at_member, at_part, grown, part_of, step_of}
+use Rattle.mx_network.specs.Step.{AreUnsettled, ClusterState, IsSettledRead, IsUnchanged, answer_of, at_member, at_part, grown, part_of, step_of}
 use Rattle.mx_network.proofs.EventParts.{err_no_ok, same_Ok}
 use Rattle.mx_network.proofs.KeptSound.{kept_sound}
 
@@ -73,6 +74,18 @@ module _ {H S M : Type 0} (core : Core H S M) (Good : World S M → Type 0) (g n
   stands : (e : Event) (why : Cause) → IsSettledRead e why → step_of core g e ≡ Ok new → new.trace ≡ g.trace ++ (record { event = e; outcome = Refused why }) ∷ [] → ⊥
   stands (event.Read i register) (cause.Below n) h step told = read_stands i register n (slice_get g.members i) refl step told
   stands _ _ h step told = absurd h
+
+  -- and the trace with it tells of no such read
+  pub noted_unsettled : (e : Event) (o : Outcome) → step_of core g e ≡ Ok new → new.trace ≡ g.trace ++ (record { event = e; outcome = o }) ∷ [] → AreUnsettled new.trace
+  noted_unsettled e o step told entry why h is settled =
+      elim (in_append entry g.trace ((record { event = e; outcome = o }) ∷ []) (subst (λ (t : List Entry). IsIn entry t) told h)) [
+        | inl before ↦ kept.unsettled entry why before is settled
+        | inr (inl same) ↦
+            let refused : o ≡ Refused why = ap (λ (x : Entry). x.outcome) (sym same) ∙ is in
+            stands e why (subst (λ (x : Entry). IsSettledRead x.event why) same settled) step
+            (subst (λ (x : Outcome). new.trace ≡ g.trace ++ (record { event = e; outcome = x }) ∷ []) refused told)
+        | inr (inr bad) ↦ absurd bad
+      ]
 
   pub never_settled : (e : Event) (r : Result Outcome StepFault) → IfOk r (λ o. step_of core g e ≡ Ok new) → IfOk r (λ o. new.trace ≡ g.trace ++ (record { event = e; outcome = o }) ∷ []) →
       (cause : Cause) → r ≡ Ok (Refused cause) → IsSettledRead e cause → ⊥

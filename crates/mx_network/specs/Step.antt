@@ -1,6 +1,7 @@
 -- One event of a cluster.
 use Rattle.std.specs.Prelude.{ℕ, ◌≡◌, ◌≤◌, ◌<◌, ◌⊎◌, IfErr, OnErr, OnOk, List, [], ◌∷◌, ◌++◌, Option, Some, None, Result, Ok, Err, Vec, IsOk, IsSome, slice_get, slice_set, length, nat_lt, if◌then◌else◌}
 use Rattle.std.specs.declared.alloc.Global.{Global}
+use Rattle.mx_stamps.specs.Lists.{IsIn}
 use Rattle.mx_nodelaws.specs.World.{Done, answering, sent_by}
 use Rattle.mx_nodelaws.specs.Core.{Core, IsInside}
 use Rattle.mx_nodelaws.specs.declared.phase.Phase.TheVariants.{Inside}
@@ -9,9 +10,11 @@ use Rattle.mx_member.specs.declared.acts.Act.TheVariants as act
 use Rattle.mx_member.specs.declared.parcel.Parcel.{Parcel}
 use Rattle.mx_member.specs.Acts.{act_of}
 use Rattle.mx_member.specs.Member.{MemberState}
+use Rattle.mx_member.specs.Steps.{IsTakeable}
 use Rattle.mx_events.specs.declared.event.Event.{Event}
 use Rattle.mx_events.specs.declared.event.Event.TheVariants as event
 use Rattle.mx_sections.specs.declared.outcome.Outcome.{Outcome}
+use Rattle.mx_sections.specs.declared.outcome.Outcome.TheVariants.{Refused}
 use Rattle.mx_sections.specs.declared.outcome.Cause.{Cause}
 use Rattle.mx_sections.specs.declared.outcome.Cause.TheVariants as cause
 use Rattle.mx_sections.specs.declared.outcome.Entry.{Entry}
@@ -167,6 +170,18 @@ pub record IsUnchanged {S M : Type 0} (old new : ClusterState S M) : Type 0 wher
 abbrev pub IsSettledRead : Event → Cause → Type 0
 IsSettledRead (event.Read i register) (cause.Below n) = Unit {0}
 IsSettledRead _ _ = ⊥
+
+-- no read of the trace was refused because its own section is settled
+abbrev pub AreUnsettled : List Entry → Type 0
+AreUnsettled trace =
+    (entry : Entry) (cause : Cause) → IsIn entry trace → entry.outcome ≡ Refused cause →
+    IsSettledRead entry.event cause → ⊥
+
+-- each parcel that was sent can be taken by the member to which it was sent
+abbrev pub AreTakeable : {S M : Type 0} → ClusterState S M → Type 0
+AreTakeable {S} {M} g =
+    (from to : ℕ) (parcel : Parcel M) (m : MemberState S) → IsIn (from, to, parcel) g.sent →
+    slice_get g.members to ≡ Some m → IsTakeable from parcel m
 
 -- these events, one after another, lead from one cluster to another
 abbrev pub RunsTo : {H S M : Type 0} → Core H S M → ClusterState S M → List Event →

@@ -14,7 +14,7 @@ ghost use Rattle.mx_member.specs.World.{IsMember};
 ghost use Rattle.mx_sections.specs.Serial.{AllClosed, IsInSection, ReadSerially};
 ghost use Rattle.mx_network.specs.Merged.{IsAboveAll, IsBelowEach, IsOfAll};
 ghost use Rattle.mx_sections.specs.Trace.{IsSerial, ShowsInOrder, journal_of, sections, IsExclusive, IsNumbered};
-ghost use Rattle.mx_network.specs.Step.{step_of, IsInsideAt, IsInsideWith, IsFaultOf, IsSettledRead, IsUnchanged, NamesNoNode, NamesNoParcel, RunsTo};
+ghost use Rattle.mx_network.specs.Step.{step_of, AreTakeable, AreUnsettled, IsInsideAt, IsInsideWith, IsFaultOf, IsSettledRead, IsUnchanged, NamesNoNode, NamesNoParcel, RunsTo};
 
 use crate::faults::{RunFault, StepFault};
 use crate::mail::Mail;
@@ -203,7 +203,8 @@ impl<C: Exclusion> Cluster<C> {
     /// leaving by the node and with the number of the entry before it; the n-th entry bears the
     /// number n; each value read is what the sections before and its section's own writes leave,
     /// and each receipt is that of its section. At most one node is inside: that of the newest
-    /// section, while it is open. Any two journals agree.
+    /// section, while it is open. Any two journals agree, and a member can take each parcel that was
+    /// sent to it.
     pub fn trace(&self) -> &[Entry]
         ensures value { result.now ≡ self.now.trace }
         ensures exclusive { IsExclusive result.now }
@@ -221,6 +222,10 @@ impl<C: Exclusion> Cluster<C> {
         ensures journals { (i : ℕ) (m : MemberState C) → IsMember self.now.members i m
             → IsJournalOf (journal_of result.now) m.journal }
         ensures ordered { Ascending 1 (journal_of result.now) }
+        // so no delivery meets a stranger or a conflict
+        ensures takeable { AreTakeable self.now }
+        // a read never meets its own section settled
+        ensures unsettled { AreUnsettled result.now }
     {
         &self.trace
     }

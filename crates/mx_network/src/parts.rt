@@ -4,8 +4,9 @@ ghost use Rattle.std.specs.Prelude.{◌≡◌, ◌^◌, ◌≤◌, ◌<◌, List
 ghost use Rattle.mx_stamps.specs.declared.limits.TheConstants.{MOST_REGISTERS, MOST_SECTIONS};
 ghost use Rattle.mx_stamps.specs.Lists.{each_below};
 ghost use Rattle.mx_letters.specs.declared.outbox.TheConstants.{OUTBOX_ROOM};
-ghost use Rattle.mx_member.specs.Steps.{start_of};
-ghost use Rattle.mx_member.specs.declared.acts.Act.TheVariants.{Leave};
+ghost use Rattle.mx_member.specs.Member.{BringsUnknown};
+ghost use Rattle.mx_member.specs.Steps.{IsTakeable, start_of};
+ghost use Rattle.mx_member.specs.declared.acts.Act.TheVariants.{Deliver, Leave};
 ghost use Rattle.mx_network.specs.Step.{own_act, own_node, IsByItself, IsStep, NotesAct};
 
 use crate::cluster::Cluster;
@@ -42,15 +43,16 @@ impl<C: Exclusion> Cluster<C> {
                 room?;
                 let to = found.1;
                 let index = found.1.get() as usize;
-                match self.members[index].receive(found.0, found.2, &mut self.out) {
-                    Ok(()) => {
-                        note(&mut self.trace, &Event::Deliver(number), Outcome::Delivered);
-                        self.mail.send_all(to, &mut self.out);
-                        Ok(())
-                    }
-                    // no parcel that was sent is a stranger's, or leads to a conflict
-                    Err(_) => Err(StepFault::Memory),
-                }
+                take_and_note(
+                    &mut self.members[index],
+                    number,
+                    found.0,
+                    found.2,
+                    &mut self.out,
+                    &mut self.trace,
+                )?;
+                self.mail.send_all(to, &mut self.out);
+                Ok(())
             }
             None => Err(StepFault::NoParcel),
         }
@@ -125,6 +127,35 @@ fn reserve<C: Exclusion>(mail: &mut Mail<C>, trace: &mut Vec<Entry>) -> Result<(
 {
     trace.reserve(1)?;
     mail.reserve(OUTBOX_ROOM)
+}
+
+/// A member takes a parcel that it can take, so that the only way to fail is that memory runs out,
+/// and the delivery joins the trace. There is room for it.
+fn take_and_note<C: Exclusion>(
+    member: &mut Member<C>,
+    number: u64,
+    from: NodeId,
+    parcel: &Parcel<C::Msg>,
+    out: &mut Outbox<Parcel<C::Msg>>,
+    trace: &mut Vec<Entry>,
+) -> Result<(), AllocError>
+    requires empty { out.old ≡ [] }
+    requires takeable { IsTakeable from parcel.now member.old }
+    requires room { vec_len trace.old < vec_capacity trace.old }
+    ensures ok { OnOk result (NotesAct C.core (Event.Deliver number) (Deliver from parcel.now)
+        member.old trace.old.items member.new out.new trace.new.items) }
+    ensures memory { OnErr result (BringsUnknown parcel.now member.old.journal) }
+    ensures err { OnErr result ((member.new ≡ member.old) × (out.new ≡ [])
+        × (trace.new.items ≡ trace.old.items)) }
+{
+    match member.receive(from, parcel, out) {
+        Ok(()) => {
+            note(trace, &Event::Deliver(number), Outcome::Delivered);
+            Ok(())
+        }
+        // it can take the parcel: the sender is no stranger, and no record leads to a conflict
+        Err(_) => Err(AllocError),
+    }
 }
 
 /// Does at a member what an event asks of it, and the event joins the trace. There is room for it.

@@ -1,12 +1,11 @@
 -- Words of a picture that were refused.
-use Rattle.std.proofs.Common.{◌≡◌, inl, ℕ, Bool, Option, Some, None, Err, IfSome}
+use Rattle.std.proofs.Common.{inl, inr, ℕ, Bool, Option, Some, None, Err, IfSome}
 use Rattle.mx_plan.specs.Text.{Text}
 use Rattle.mx_cli.specs.Words as wants
 use Rattle.mx_cli.specs.declared.faults.Stop.TheVariants as stop
 use Rattle.mx_cli.specs.Told.{RunsOut, Seen}
-use Rattle.mx_cli.proofs.ClosedLemmas.{not_five}
 use Rattle.mx_commands.specs.Jobs.{Job, job_of}
-use Rattle.mx_commands.specs.Ran.{RanOf, RanOn}
+use Rattle.mx_commands.specs.Ran.{RanOn}
 use Rattle.mx_io.specs.Told.{Telling}
 use Rattle.mx_picture.specs.PictureWords.{Request}
 use Rattle.mx_picture.specs.Pictures.{EndsAsReplay, Pictures}
@@ -22,4 +21,4 @@ at_once t told request = inl (of_job t (job_of told (wants.replay request.names)
 pub short_pictures : (t u : Bool) (told : Text → Option Telling) (request : Request) (old new : Seen) (status : ℕ)
     → RunsOut old new status → Pictures t u told request old new status
 short_pictures t u told request old new status m =
-    (Err stop.Memory, at_once t told request, m.1, inl (m.0, m.2), λ zero. absurd (not_five status m.0 zero))
+    (Err stop.Memory, at_once t told request, m.1, inl (m.0, m.2), inr (inr m.0))

@@ -1,34 +1,38 @@
 -- What comes of the words of a picture.
-use Rattle.std.specs.Prelude.{◌≡◌, ◌⊎◌, ◌&&◌, ℕ, Bool, false, Option, None, Some, Result, Ok, Err}
+use Rattle.std.specs.Prelude.{◌≡◌, ◌⊎◌, ◌&&◌, ℕ, Bool, Option, None, Some, Result, Ok, Err}
 use Rattle.mx_cli.specs.Words as wants
 use Rattle.mx_plan.specs.Text.{Text}
+use Rattle.mx_plan.specs.Fields.{Fields, node_of}
 use Rattle.mx_plan.specs.declared.place.Place.TheVariants.{Nodes}
 use Rattle.mx_plan.specs.declared.faults.PlanFault.TheVariants.{UnknownName}
 use Rattle.mx_cli.specs.declared.faults.Fault.TheVariants.{BadText}
 use Rattle.mx_cli.specs.declared.faults.Stop.{Stop}
 use Rattle.mx_cli.specs.declared.faults.Stop.TheVariants as stop
-use Rattle.mx_cli.specs.Closed.{Closes}
+use Rattle.mx_cli.specs.Closed.{Closes, PassesOn}
+use Rattle.mx_cli.specs.Reading.{IsPlanOf, plan_told}
 use Rattle.mx_commands.specs.Ran.{RanOf}
 use Rattle.mx_cli.specs.Told.{Seen}
 use Rattle.mx_io.specs.Told.{Telling}
 use Rattle.mx_picture.specs.Drawn.{Draws}
 use Rattle.mx_picture.specs.PictureWords.{Request}
 
--- a node was named that the plan does not have
-abbrev pub IsUnknownNode : Option Text → Stop → Type 0
-IsUnknownNode None end = ⊥
-IsUnknownNode (Some name) end = end ≡ stop.Fault (BadText (UnknownName Nodes))
+-- a node was named that this plan does not have
+abbrev pub IsUnknownNode : Fields → Option Text → Stop → Type 0
+IsUnknownNode p None end = ⊥
+IsUnknownNode p (Some name) end =
+    (node_of p name ≡ None) × (end ≡ stop.Fault (BadText (UnknownName Nodes)))
 
 -- a run has no picture since a node was named that the plan does not have
-abbrev pub LacksNode : Option Text → Result ℕ Stop → Type 0
-LacksNode wanted (Ok status) = ⊥
-LacksNode wanted (Err end) = IsUnknownNode wanted end
+abbrev pub LacksNode : Fields → Option Text → Result ℕ Stop → Type 0
+LacksNode p wanted (Ok status) = ⊥
+LacksNode p wanted (Err end) = IsUnknownNode p wanted end
 
--- a run ends as a replay of these names does, whatever it prints, or since there is no such node
+-- a run ends as a replay of these names does, whatever it prints; or the plan was read, and there is
+-- no such node
 abbrev pub EndsAsReplay : Bool → (Text → Option Telling) → Request → Result ℕ Stop → Type 0
 EndsAsReplay takes_all told request ended =
     RanOf takes_all None None told (wants.replay request.names) ended
-    ⊎ LacksNode request.node ended
+    ⊎ ((p : Fields) × IsPlanOf (plan_told told request.names) p × LacksNode p request.node ended)
 
 -- a picture is printed whole and passed on, status 0, where a replay comes to its end and there is
 -- such a node; else the line of the replay's fault or that of the node is told, status 1, or memory
@@ -38,4 +42,4 @@ Pictures takes_out takes_err told request old new status =
     (ended : Result ℕ Stop) × EndsAsReplay takes_out told request ended
     × Draws old.out new.out ended
     × Closes (takes_out && takes_err) request.names ended old.err new.err status
-    × (status ≡ 0 → new.kept_back ≡ false)
+    × PassesOn old.err new.err new.kept_back status

@@ -46,7 +46,7 @@ fn draw_text<O: Output>(
     out: &mut O,
 ) -> Result<u8, Stop>
     ensures ran { Ran (O.takes_all out.old) None None (report_of_events text.now plan.now) result
-        ⊎ LacksNode (request_of request.now).node result }
+        ⊎ LacksNode plan.now (request_of request.now).node result }
     ensures drawn { Draws (O.written out.old) (O.written out.new) result }
     ensures stays { O.takes_all out.new ≡ O.takes_all out.old }
 {
@@ -59,7 +59,7 @@ fn draw_text<O: Output>(
 
 /// The part of the events that is asked for.
 fn part_of(plan: &Plan, request: &Request<'_>) -> Result<Part, Stop>
-    ensures err { IfErr result (IsUnknownNode (request_of request.now).node) }
+    ensures err { IfErr result (IsUnknownNode plan.now (request_of request.now).node) }
 {
     let node = node_in(plan, request.node)?;
     Ok(Part {
@@ -72,7 +72,8 @@ fn part_of(plan: &Plan, request: &Request<'_>) -> Result<Part, Stop>
 
 /// The node of this name, if one is named.
 fn node_in(plan: &Plan, name: Option<&str>) -> Result<Option<NodeId>, Stop>
-    ensures err { IfErr result (IsUnknownNode (option_map (λ text. text.now) name.entry)) }
+    ensures err { IfErr result
+        (IsUnknownNode plan.now (option_map (λ text. text.now) name.entry)) }
 {
     let Some(name) = name else {
         return Ok(None);

@@ -1,17 +1,18 @@
 //! Where the lines of a session come from.
 
 use mx_cli::split_line;
+use mx_io::{Counted, MOST_BYTES};
 use std::alloc::AllocError;
 use std::io::{ErrorKind, Read};
 
 /// A longer line is at fault.
-const MOST_BYTES: usize = 65_536;
+const LONGEST_LINE: usize = 65_536;
 
 /// How many bytes are read at once, where so many are there.
 const MOST_AHEAD: usize = 4096;
 
-/// A line with more bytes than this, or at which signals interrupt more reads, can't be read.
-const MOST_STEPS: u64 = 268_435_456;
+/// A line at which more bytes come, or signals interrupt more reads, can't be read.
+const MOST_STEPS: u64 = 2 * MOST_BYTES;
 
 /// What comes of asking for a line.
 #[derive(Clone, Copy)]
@@ -47,7 +48,7 @@ impl Lines for Listed<'_> {
         }
         let (first, rest) = split_line(self.rest);
         self.rest = rest;
-        if first.len() > MOST_BYTES {
+        if first.len() > LONGEST_LINE {
             return Ok(Given::TooLong);
         }
         line.extend_from_slice(first)?;
@@ -60,11 +61,14 @@ impl Lines for Listed<'_> {
 }
 
 /// The lines that are typed, or come through a pipe. What is there is read, and nothing more is
-/// waited for than the end of the line that is asked for.
+/// waited for than the end of the line that is asked for. In all they have as many bytes as a file
+/// may have, and are read by as many reads: a line with more can't be read.
 #[derive(Drop)]
 pub struct Typed<R: Read + Drop> {
-    reader: R,
+    reader: Counted<R>,
     is_terminal: bool,
+    /// How many bytes may still be asked for.
+    left: u64,
     /// What was read; the bytes from `next` to `end` have not been asked for.
     ahead: [u8; MOST_AHEAD],
     next: usize,
@@ -85,8 +89,9 @@ impl<R: Read + Drop> Typed<R> {
     /// The lines of a reader, from its first byte on, and whether it is a terminal.
     pub fn new(reader: R, is_terminal: bool) -> Self {
         Typed {
-            reader,
+            reader: Counted::new(reader),
             is_terminal,
+            left: MOST_BYTES,
             ahead: [0; MOST_AHEAD],
             next: 0,
             end: 0,
@@ -111,11 +116,12 @@ impl<R: Read + Drop> Typed<R> {
         }
     }
 
-    /// The next byte of what was read.
+    /// The next byte of what was read, where one more may be asked for.
     fn take(&mut self) -> Got {
         let place = self.next;
-        if place < MOST_AHEAD {
+        if place < MOST_AHEAD && self.left > 0 {
             self.next = place + 1;
+            self.left -= 1;
             Got::Byte(self.ahead[place])
         } else {
             Got::Failure
@@ -130,7 +136,7 @@ impl<R: Read + Drop> Lines for Typed<R> {
         for _ in 0..MOST_STEPS {
             match self.byte() {
                 Got::Byte(b'\n') => return Ok(line_of(is_long)),
-                Got::Byte(_) if line.len() >= MOST_BYTES => is_long = true,
+                Got::Byte(_) if line.len() >= LONGEST_LINE => is_long = true,
                 Got::Byte(byte) => line.push(byte)?,
                 Got::End if line.is_empty() => return Ok(Given::End),
                 Got::End => return Ok(line_of(is_long)),

@@ -1,5 +1,5 @@
 -- The state of a node.
-use Rattle.std.specs.Prelude.{ℕ, ◌≤◌, ◌≡◌, Bool, true, List, Option}
+use Rattle.std.specs.Prelude.{ℕ, ◌≤◌, ◌≡◌, Bool, true, List, Option, Some}
 use Rattle.mx_stamps.specs.declared.limits.TheConstants.{MOST_SECTIONS}
 use Rattle.mx_nodelaws.specs.declared.phase.Phase.{Phase}
 use Rattle.mx_nodelaws.specs.declared.phase.Phase.TheVariants.{Waiting}
@@ -42,3 +42,5 @@ pub record IsState (s : Node) : Type 0 where
   pub phase : BearsNumber s.phase
   -- its own name is in its queue only while it waits
   pub queued : is_queued s.queue s.me ≡ true → s.phase ≡ Waiting
+  -- the privilege that may be sent again was sent to the holder
+  pub unacked : (u : Unacked) → s.unacked ≡ Some u → u.to ≡ s.holder

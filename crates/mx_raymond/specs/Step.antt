@@ -121,7 +121,8 @@ privilege_again None = []
 privilege_again (Some u) = (u.to, Privilege u.hop u.last) ∷ []
 
 -- a request of the holder: it shows that the privilege has not reached the holder, or had not when
--- the request was sent. The privilege is sent again.
+-- the request was sent. The privilege is sent again, to the node that it was sent to: that is the
+-- holder, and so the one that asks (`unacked` of `IsState`).
 -- Added, since the privilege may have been lost.
 abbrev pub take_holders_request : Node → NodeDone (Unit {0})
 take_holders_request s = sending s (privilege_again s.unacked)

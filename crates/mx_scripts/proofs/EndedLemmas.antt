@@ -1,6 +1,5 @@
 -- How a script ends.
-use Rattle.std.proofs.Common.{◌≡◌, ◌∙◌, ℕ, Bool, true, false, Option, Some, None, Result, Ok, Err, IfErr, IfOk, refl, subst, inl, inr}
-use Rattle.std.specs.Prelude.{◌&&◌}
+use Rattle.std.proofs.Common.{◌≡◌, ◌∙◌, ℕ, Bool, Option, Some, None, Result, Ok, Err, IfErr, IfOk, refl, subst, inl, inr}
 use Rattle.std.specs.Io.KnownBytes.{Appends}
 use Rattle.mx_stamps.proofs.Lists.{append_nil}
 use Rattle.mx_plan.specs.Text.{Text}
@@ -60,16 +59,6 @@ print_halts takes a b text stop.Writer h = inr (refl, h.0)
 print_halts takes a b text stop.Memory h = inl refl
 
 -- ---- how it is closed
-
-and_right : (t u : Bool) → u ≡ false → (t && u) ≡ false
-and_right true u e = e
-and_right false u e = refl
-
--- a fault is told, where another output may have refused too
-pub tells_both : (t u : Bool) (text : Text) (a b : Held) (status : ℕ) → TellsFault u text a b status → TellsFault (t && u) text a b status
-tells_both t u text a b status (inl h) = inl h
-tells_both t u text a b status (inr (inl h)) = inr (inl h)
-tells_both t u text a b status (inr (inr h)) = inr (inr (h.0, and_right t u h.1, h.2))
 
 told_not_zero : (takes : Bool) (text : Text) (a b : Held) (status : ℕ) → TellsFault takes text a b status → status ≡ 0 → ⊥
 told_not_zero takes text a b status (inl h) zero = not_one status h.0 zero

@@ -1,9 +1,9 @@
 //! `draw` and `script`: from words, named bytes and two outputs to a status.
 
-ghost use Rattle.std.specs.Prelude.{◌≡◌, false, IsSome, IfSome};
+ghost use Rattle.std.specs.Prelude.{◌≡◌, IsSome, IfSome};
 ghost use Rattle.mx_cli.specs.Words.{texts_of};
 ghost use Rattle.mx_cli.specs.Told.{Answers, seen};
-ghost use Rattle.mx_cli.specs.Closed.{IsRunStatus};
+ghost use Rattle.mx_cli.specs.Closed.{IsRunStatus, PassesOn};
 ghost use Rattle.mx_scripts.specs.Printed.{Draws, HasDone, Scripts};
 ghost use Rattle.mx_scripts.specs.Words.{request_asked, request_of, file_line};
 
@@ -33,7 +33,7 @@ pub fn event_file<S: Source, O: Output, E: Output>(
         Scripts (O.takes_all out.old) (E.takes_all err.old) (S.told source.old) request
         (E.written err.old) (E.written err.new) result) }
     ensures passed { IsSome (request_asked (texts_of words.entry.now))
-        → result ≡ 0 → O.keeps_back out.new ≡ false }
+        → PassesOn (E.written err.old) (E.written err.new) (O.keeps_back out.new) result }
     ensures status { IsSome (request_asked (texts_of words.entry.now)) → IsRunStatus result }
     ensures answers { Answers file_line (texts_of words.entry.now) (O.takes_all out.old)
         (seen O.Output E.Output out.old err.old) (seen O.Output E.Output out.new err.new) result }
@@ -61,7 +61,8 @@ fn run_request<S: Source, O: Output, E: Output>(
         (E.written err.old) (E.written err.new) result }
     ensures scripts { Scripts (O.takes_all out.old) (E.takes_all err.old) (S.told source.old)
         (request_of request.now) (E.written err.old) (E.written err.new) result }
-    ensures passed { result ≡ 0 → O.keeps_back out.new ≡ false }
+    ensures passed { PassesOn (E.written err.old) (E.written err.new) (O.keeps_back out.new)
+        result }
     ensures status { IsRunStatus result }
 {
     match request {

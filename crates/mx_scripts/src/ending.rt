@@ -1,20 +1,17 @@
 //! How a script ends, and how that is told.
 
-ghost use Rattle.std.specs.Prelude.{◌≡◌, ◌⊎◌, ◌&&◌, false, string_bytes, IfErr, IfOk};
+ghost use Rattle.std.specs.Prelude.{◌≡◌, ◌&&◌, false, string_bytes, IfErr, IfOk};
 ghost use Rattle.std.specs.Io.KnownBytes.{Keeps};
-ghost use Rattle.mx_cli.specs.Closed.{IsRunStatus};
-ghost use Rattle.mx_cli.specs.Told.{TellsFault};
+ghost use Rattle.mx_cli.specs.Closed.{IsRunStatus, PassesOn};
 ghost use Rattle.mx_cli.specs.Words.{names_of};
 ghost use Rattle.mx_scripts.specs.Ended.{ClosesScript, IsFileOfNames, IsHalt, IsLineHalt};
 ghost use Rattle.mx_scripts.specs.Played.{IsEventFile};
-ghost use Rattle.mx_scripts.specs.Scripts.{script_line};
 
 use crate::halts::Halt;
-use crate::line_faults::BadLine;
 use crate::scripting::script_file;
 use crate::texts::text_in;
-use mx_cli::{Names, Stop, close, fetch_named, tell_line, tell_memory};
-use mx_io::{Output, OutputFault, Source};
+use mx_cli::{Names, Stop, close, close_with, fetch_named};
+use mx_io::{Output, Source};
 use mx_plan::Plan;
 use std::alloc::Global;
 
@@ -67,25 +64,12 @@ pub fn close_script<O: Output, E: Output>(
     ensures status { IfOk ended (λ own. own ≡ 0) → IsRunStatus result }
     ensures held { Keeps (O.written out.old) (O.written out.new) }
     ensures passed { result ≡ 0 → O.keeps_back out.new ≡ false }
+    ensures kept_back { PassesOn (E.written err.old) (E.written err.new) (O.keeps_back out.new)
+        result }
 {
     match ended {
         Ok(status) => close(alloc, Ok(status), names, out, err),
         Err(Halt::Stop(stop)) => close(alloc, Err(stop), names, out, err),
-        Err(Halt::AtLine(line)) => tell_bad_line(alloc, line, out, err),
-    }
-}
-
-/// Passes on what the output kept back, tells why a line is refused, and returns the status.
-fn tell_bad_line<O: Output, E: Output>(alloc: Global, line: BadLine, out: &mut O, err: &mut E) -> u8
-    ensures told { TellsFault (O.takes_all out.old && E.takes_all err.old)
-        (script_line line.number line.fault (string_bytes line.told))
-        (E.written err.old) (E.written err.new) result }
-    ensures status { (result ≡ 1) ⊎ (result ≡ 5) }
-    ensures held { Keeps (O.written out.old) (O.written out.new) }
-{
-    match out.flush() {
-        Ok(()) => tell_line(alloc, line, err),
-        Err(OutputFault::Refused) => 1,
-        Err(OutputFault::Memory) => tell_memory(err),
+        Err(Halt::AtLine(line)) => close_with(alloc, line, out, err),
     }
 }

@@ -1,9 +1,9 @@
 //! `draw` and `script`: from names, named bytes and two outputs to a status.
 
-ghost use Rattle.std.specs.Prelude.{◌≡◌, false, string_bytes, IfErr, IfSome, IfOk};
+ghost use Rattle.std.specs.Prelude.{◌≡◌, string_bytes, IfErr, IfSome, IfOk};
 ghost use Rattle.std.specs.Io.KnownBytes.{Appends};
 ghost use Rattle.mx_cli.specs.Words.{names_of};
-ghost use Rattle.mx_cli.specs.Closed.{IsRunStatus};
+ghost use Rattle.mx_cli.specs.Closed.{IsRunStatus, PassesOn};
 ghost use Rattle.mx_commands.specs.Ran.{RanOn};
 ghost use Rattle.mx_scripts.specs.Printed.{DrawsPlan, HasDone, PrintsEvents, draw_job};
 ghost use Rattle.mx_scripts.specs.Ended.{EndsScript, IsPrintHalt, ScriptsOf};
@@ -34,7 +34,8 @@ pub fn run_draw<S: Source, O: Output, E: Output>(
         (draw_job (S.told source.old)
         exploration.now.plan.now exploration.now.seed exploration.now.steps)
         (O.written out.old) (O.written out.new) (E.written err.old) (E.written err.new) result }
-    ensures passed { result ≡ 0 → O.keeps_back out.new ≡ false }
+    ensures passed { PassesOn (E.written err.old) (E.written err.new) (O.keeps_back out.new)
+        result }
     ensures status { IsRunStatus result }
 {
     let names = plan_alone(exploration);
@@ -53,7 +54,8 @@ pub fn run_walk<S: Source, O: Output, E: Output>(
     ensures prints { result ≡ 0 → HasDone (S.told source.old)
         (wants.walk exploration.now.plan.now exploration.now.seed exploration.now.steps)
         (O.written out.old) (O.written out.new) }
-    ensures passed { result ≡ 0 → O.keeps_back out.new ≡ false }
+    ensures passed { PassesOn (E.written err.old) (E.written err.new) (O.keeps_back out.new)
+        result }
     ensures status { IsRunStatus result }
 {
     let names = plan_alone(exploration);
@@ -73,7 +75,8 @@ pub fn run_script<S: Source, O: Output, E: Output>(
         (O.written out.old) (O.written out.new) }
     ensures ends { ScriptsOf (O.takes_all out.old) (E.takes_all err.old) (S.told source.old)
         (names_of names.now) (E.written err.old) (E.written err.new) result }
-    ensures passed { result ≡ 0 → O.keeps_back out.new ≡ false }
+    ensures passed { PassesOn (E.written err.old) (E.written err.new) (O.keeps_back out.new)
+        result }
     ensures status { IsRunStatus result }
 {
     let ended = print_script(alloc, names, source, out);

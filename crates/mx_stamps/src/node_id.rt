@@ -1,8 +1,9 @@
 //! The number of a node.
 
-ghost use Rattle.std.specs.Prelude.{◌≡◌, ◌<◌, ◌↔◌, IsSome, IfSome};
+ghost use Rattle.std.specs.Prelude.{◌≡◌, ◌<◌, ◌↔◌, IsSome, IfSome, Some, decimal};
 
 use crate::limits::MOST_NODES;
+use std::fmt;
 use std::marker::Model;
 
 /// A node, by its number from 0 to 20.
@@ -43,5 +44,14 @@ impl NodeId {
         ensures bound { result < MOST_NODES }
     {
         self.index
+    }
+}
+
+/// Writes its number, in decimal.
+impl fmt::Display for NodeId {
+    ghost output = { λ n. Some (decimal n) };
+
+    fn fmt<W: fmt::Write>(&self, f: &mut fmt::Formatter<W>) -> fmt::Result {
+        fmt::Display::fmt(&self.get(), f)
     }
 }

@@ -17,6 +17,7 @@ pub mod Whole
 pub mod Deciding
 pub mod Toils
 pub mod Leaving
+pub mod Within
 pub mod Rounding
 pub mod Endings
 pub mod SameTable

@@ -46,13 +46,13 @@ module _ {A : Type 0} where
 
 module _ {T P : Type 0} where
   -- a station's receipts are among all
-  has_receipt : (posts : List (Post T P)) (j : ℕ) (s : Post T P) (r : Receipt) → get_elem? posts j ≡ some s → IsIn r s.me.receipts → IsIn r (receipts_of posts)
+  pub has_receipt : (posts : List (Post T P)) (j : ℕ) (s : Post T P) (r : Receipt) → get_elem? posts j ≡ some s → IsIn r s.me.receipts → IsIn r (receipts_of posts)
   has_receipt [] j s r at h = absurd (some-ne-none s (sym at))
   has_receipt (t ∷ posts) zero s r at h = in_left r t.me.receipts (receipts_of posts) (subst (λ (z : Post T P). IsIn r z.me.receipts) (sym (some-injective t s at)) h)
   has_receipt (t ∷ posts) (suc j) s r at h = in_right r t.me.receipts (receipts_of posts) (has_receipt posts j s r at h)
 
   -- and there are no others
-  of_station : (posts : List (Post T P)) (r : Receipt) → IsIn r (receipts_of posts) → (j : ℕ) × (s : Post T P) × (get_elem? posts j ≡ some s) × IsIn r s.me.receipts
+  pub of_station : (posts : List (Post T P)) (r : Receipt) → IsIn r (receipts_of posts) → (j : ℕ) × (s : Post T P) × (get_elem? posts j ≡ some s) × IsIn r s.me.receipts
   of_station [] r h = absurd h
   of_station (t ∷ posts) r h = elim (in_append r t.me.receipts (receipts_of posts) h) [
     | inl a ↦ (0, t, refl, a)
@@ -172,6 +172,7 @@ module _ {H S M : Type 0} (core : Core H S M) (Good : World S M → Type 0) (pos
       gathered = record {
         each = together.each;
         own = λ j s r at h. let k = place_in s.me.receipts r h in (account.within s.me.node k.0 r (owned_of s.me, at_seat j s at, k.1)).0;
+        ascends = λ j k l s r t at here there less. account.ascends s.me.node k l r t (owned_of s.me, at_seat j s at, here) (owned_of s.me, at_seat j s at, there) less;
         numbered = numbered;
         records = subst (λ (l : List Record). journal ≡ settled journal.base.upto (unsettled l)) records account.whole;
         covers = λ n. subst (λ (m : ℕ). Covers n journal ↔ ((1 ≤ n) × (n ≤ m))) (sym size) (account.covers n);

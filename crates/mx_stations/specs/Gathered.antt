@@ -124,6 +124,10 @@ pub record IsGathered {T P : Type 0} (posts : List (Post T P)) (journal : Journa
   pub each : IsPermutation (receipts_of posts) receipts
   pub own : (k : ℕ) (s : Post T P) (r : Receipt) → get_elem? posts k ≡ some s
       → IsIn r s.me.receipts → r.node ≡ s.me.node
+  -- a station's later receipts bear greater numbers
+  pub ascends : (j k l : ℕ) (s : Post T P) (r t : Receipt) → get_elem? posts j ≡ some s
+      → slice_get s.me.receipts k ≡ Some r → slice_get s.me.receipts l ≡ Some t → k < l
+      → r.number < t.number
   -- they bear 1, 2, 3 and so on
   pub numbered : (k : ℕ) (r : Receipt) → slice_get receipts k ≡ Some r → r.number ≡ suc k
   -- the journal has their records, in order, and nothing else, but that those up to its base are

@@ -1,6 +1,7 @@
 -- The acts and moves of a station at which a worker works, and of one that settles besides.
 use Rattle.std.specs.Prelude.{◌≡◌, ◌≢◌, ◌⊎◌, ℕ, ◌-◌, ◌%◌, ◌<◌, ◌≤◌, List, [], ◌∷◌, length, None}
 use Rattle.mx_nodelaws.specs.Core.{Core}
+use Rattle.mx_nodelaws.specs.declared.phase.Phase.TheVariants.{Idle}
 use Rattle.mx_member.specs.Member.{first_gap}
 use Rattle.mx_member.specs.declared.acts.Act.{Act}
 use Rattle.mx_member.specs.declared.acts.Act.TheVariants as act
@@ -96,3 +97,10 @@ module _ {H S M : Type 0} (core : Core H S M) (register every : ℕ) where
   -- at most this many
   abbrev pub WorksAtMost : ℕ → Station core → Station core → Type 0
   WorksAtMost turns s t = (made : ℕ) × (made ≤ turns) × WorksFor made s t
+
+module _ {H S M : Type 0} (core : Core H S M) (most : ℕ) where
+  -- fewer sections than this were left, or just as many, and the node asks for no other
+  abbrev pub IsWithin : Station core → Type 0
+  IsWithin s =
+      (length s.me.receipts < most)
+      ⊎ ((length s.me.receipts ≡ most) × (core.phase s.me.member.core ≡ Idle))

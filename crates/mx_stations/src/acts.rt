@@ -8,7 +8,7 @@ ghost use Rattle.mx_member.specs.Steps.{IsTakeable, ask_of, cancel_of, enter_of,
 ghost use Rattle.mx_member.specs.declared.acts.Act.TheVariants.{Ask, Cancel, Deliver, Enter, Leave, Read, Restart, Settle, Tick, Want, Write};
 ghost use Rattle.mx_member.specs.Acts.{IsRefusal, act_of};
 ghost use Rattle.mx_member.specs.declared.parcel.Parcel.{Parcel as OneParcel};
-ghost use Rattle.mx_member.specs.Member.{BringsRecords};
+ghost use Rattle.mx_member.specs.Member.{BringsUnknown};
 ghost use Rattle.mx_stations.specs.Posts.{DeliversAs, OnDone, OnRefusal, does, left_in};
 ghost use Rattle.mx_stations.specs.Running.{IsPlain};
 
@@ -204,7 +204,7 @@ fn receive<C: Exclusion>(
         ≡ (act_of C.core (Deliver from parcel.now) member.old).state) }
     ensures letters { OnOk result (out.new
         ≡ (act_of C.core (Deliver from parcel.now) member.old).letters) }
-    ensures memory { OnErr result (BringsRecords parcel.now) }
+    ensures memory { OnErr result (BringsUnknown parcel.now member.old.journal) }
     ensures err { OnErr result (member.new ≡ member.old) }
 {
     match member.receive(from, parcel, out) {

@@ -1,43 +1,115 @@
-//! How a worker lets other threads run where a turn of its station took nothing. What it looks at
-//! between two turns tells nothing, so nothing is proved of it.
+//! How long a worker waits between two turns of its station. What it looks at there tells nothing,
+//! so nothing is proved of it.
 
 ghost use Rattle.std.specs.Prelude.{◌≡◌, ◌<◌};
 
 use crate::answers::{TakeFault, TurnReport};
+use crate::gathering::is_inside;
 use crate::slots::{Link, has_filled};
 use crate::station::Station;
 use mx_nodelaws::Exclusion;
 use mx_stamps::NodeId;
 use std::thread::yield_now;
 
-/// Up to this many nodes are few.
-const FEW_NODES: u8 = 8;
+/// How often a worker lets others run at the most, for each node of its cluster and for `FEW`
+/// more, before its station may tick.
+const YIELDS: u32 = 3;
 
-/// How often a worker among few nodes lets others run at the most.
-const MOST_YIELDS: u8 = 4;
+/// Among few nodes a yield returns at once, so that a worker is as patient as if there were this
+/// many more.
+const FEW: u32 = 8;
 
-/// Lets other threads run where nothing came. Its next turn would tick, which sends again what is
-/// on its way. Where there are more threads than processors, all others have run once by then.
-/// Among few nodes they have not, so that it is patient there, until a parcel lies in a slot for
-/// its node.
-pub(crate) fn give_way<C: Exclusion>(station: &Station<C>, report: &Result<TurnReport, TakeFault>) {
-    let Ok(TurnReport { taken: 0, .. }) = report else {
-        return;
-    };
-    yield_now();
-    if station.nodes() <= FEW_NODES {
-        be_patient(station);
+/// How many turns in which it acts whatever comes a worker takes before it lets others run.
+const ACTING_TURNS: u32 = 3;
+
+/// How long a worker waits between two turns. It is asked to wait after each turn.
+///
+/// A turn that finds nothing ticks, which sends again what is outstanding. What is on its way
+/// comes all the same, so that a worker lets other threads run first, until a parcel lies in a
+/// slot for its node, or its patience has run out. A tick gives it new patience, and so does a new
+/// section. A parcel that comes does not: where a letter was lost, its sender gets the letters of
+/// all whom it holds up, again and again, and would never tick.
+///
+/// Patience is counted in yields, so it lasts longer the more the other threads do. It does not
+/// grow from tick to tick, as the node that all others wait for may be one that has waited long.
+#[derive(Clone, Copy, Debug, Default)]
+pub struct Patience {
+    /// The last section of its station, when it waited last.
+    section: u64,
+    /// How many more times it lets others run before its station may tick.
+    left: u32,
+    /// How many turns in which it acts whatever comes it has taken, since it last let others run
+    /// before one, or its station entered a section.
+    turns: u32,
+}
+
+impl Patience {
+    /// Of a worker that begins.
+    pub fn new() -> Patience {
+        Patience::default()
+    }
+
+    /// Waits after a turn of the station, which gave this report. It hardly waits where the worker
+    /// `acts` in its next turn whatever comes, as one that asks, or one whose node can enter or is
+    /// inside.
+    pub fn wait<C: Exclusion>(
+        &mut self,
+        station: &Station<C>,
+        report: &Result<TurnReport, TakeFault>,
+        acts: bool,
+    ) {
+        self.renew(station, report);
+        if acts || station.can_enter() || is_inside(station) {
+            self.wait_a_little();
+        } else {
+            self.wait_for_mail(station);
+        }
+    }
+
+    /// New patience, where the station has ticked or entered a section.
+    fn renew<C: Exclusion>(
+        &mut self,
+        station: &Station<C>,
+        report: &Result<TurnReport, TakeFault>,
+    ) {
+        let section = station.mine();
+        let is_new = section != self.section;
+        if is_new {
+            self.section = section;
+            self.turns = 0;
+        }
+        if is_new || has_ticked(report) {
+            self.left = YIELDS * (FEW + u32::from(station.nodes()));
+        }
+    }
+
+    /// Lets others run once in some turns. A node that is inside still lacks records, and each of
+    /// its turns asks another node for them. An answer has room for four, so that as many questions
+    /// may be on their way at once.
+    fn wait_a_little(&mut self) {
+        self.turns = self.turns.saturating_add(1);
+        if self.turns >= ACTING_TURNS {
+            self.turns = 0;
+            yield_now();
+        }
+    }
+
+    /// Lets others run until a parcel lies in a slot for the station's node, or patience has run
+    /// out: at least once, where none lies there.
+    fn wait_for_mail<C: Exclusion>(&mut self, station: &Station<C>) {
+        for _yield in 0..self.left.max(1) {
+            self.left = self.left.saturating_sub(1);
+            if has_mail(station) {
+                return;
+            }
+            yield_now();
+        }
     }
 }
 
-/// Lets others run again, until a parcel lies in a slot for the station's node.
-fn be_patient<C: Exclusion>(station: &Station<C>) {
-    for _yield in 1..MOST_YIELDS {
-        if has_mail(station) {
-            return;
-        }
-        yield_now();
-    }
+/// Whether a turn ticked.
+fn has_ticked(report: &Result<TurnReport, TakeFault>) -> bool {
+    matches!(report, Ok(TurnReport { ticked: true, .. }))
 }
 
 /// Whether a parcel lies in a slot for the station's node.

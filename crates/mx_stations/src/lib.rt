@@ -24,6 +24,7 @@ mod working;
 pub use answers::{PutOut, TakeFault, Taken, TurnReport};
 pub use field::{Field, SeatOf};
 pub use gathering::{GatherFault, Gathered, Ungathered, gather};
+pub use idling::Patience;
 pub use next::{Becomes, Gives, Learns, Looks, Next, OfCount, OfSlot, TriesToClaim, TriesToTake};
 pub use rule::{HandOn, Knowledge, Law, Setup, Slot, TakeIn};
 pub use settling::work_settling;

@@ -4,8 +4,9 @@
 ghost use Rattle.std.specs.Prelude.{◌≡◌, ◌≤◌, ◌↔◌, ℕ, length, IsTrue};
 ghost use Rattle.mx_nodelaws.specs.Core.{IsInside};
 ghost use Rattle.mx_stations.specs.Gathered.{KeepsTable};
-ghost use Rattle.mx_stations.specs.Works.{IsDue, SettlesIfDue, Works, WorksAtMost, WorksFor, WorksSettling};
+ghost use Rattle.mx_stations.specs.Works.{IsDue, IsWithin, SettlesIfDue, Works, WorksAtMost, WorksFor, WorksSettling};
 
+use crate::idling::Patience;
 use crate::station::Station;
 use crate::working::{Gate, Script, Stance, Worked, is_finished, take_turn};
 use mx_letters::Fates;
@@ -27,6 +28,8 @@ pub fn work_settling<C: Exclusion, G: Gate, F: Fates + Drop>(
     ensures most { WorksAtMost C.core script.register every turns station result.0 }
     ensures same { KeepsTable station result.0 }
     ensures node { result.0.me.node ≡ station.me.node }
+    ensures within { IsWithin C.core script.sections station
+        → IsWithin C.core script.sections result.0 }
     ensures done { result.1 ≡ Worked.Done → script.sections ≤ length result.0.me.receipts }
     ensures outside { result.1 ≡ Worked.Done → IsInside C.core result.0.me.member.core → ⊥ }
     ensures not_yet { (n : ℕ) → result.1 ≡ Worked.NotYet n
@@ -46,6 +49,8 @@ fn settle_on<C: Exclusion, G: Gate, F: Fates>(
     turns: u64,
 ) -> Worked
     ensures most { WorksAtMost C.core script.now.register every turns station.old station.new }
+    ensures within { IsWithin C.core script.now.sections station.old
+        → IsWithin C.core script.now.sections station.new }
     ensures done { result ≡ Worked.Done → script.now.sections ≤ length station.new.me.receipts }
     ensures outside { result ≡ Worked.Done → IsInside C.core station.new.me.member.core → ⊥ }
     ensures not_yet { (n : ℕ) → result ≡ Worked.NotYet n
@@ -59,6 +64,7 @@ fn settle_on<C: Exclusion, G: Gate, F: Fates>(
     let mut stance = Stance {
         written: false,
         wanted: node,
+        patience: Patience::new(),
     };
     for _turn in 0..turns {
         let before = station.receipts().len();

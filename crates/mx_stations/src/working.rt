@@ -4,15 +4,15 @@
 ghost use Rattle.std.specs.Prelude.{◌≡◌, ◌<◌, ◌≤◌, ◌↔◌, ℕ, length, IsTrue};
 ghost use Rattle.mx_nodelaws.specs.Core.{IsInside};
 ghost use Rattle.mx_stations.specs.Gathered.{KeepsTable};
-ghost use Rattle.mx_stations.specs.Works.{LeavesNone, MayLeave, TakesTurn, Works, WorksAtMost, WorksFor};
+ghost use Rattle.mx_stations.specs.Works.{IsWithin, LeavesNone, MayLeave, TakesTurn, Works, WorksAtMost, WorksFor};
 
 use crate::gathering::is_inside;
-use crate::idling::give_way;
+use crate::idling::Patience;
 use crate::settling::work_settling;
 use crate::station::Station;
 use mx_letters::Fates;
 use mx_member::ReadFault;
-use mx_nodelaws::Exclusion;
+use mx_nodelaws::{Exclusion, Phase};
 use mx_stamps::NodeId;
 
 /// When workers begin, and when they may stop. Either call may wait for other workers.
@@ -42,19 +42,21 @@ pub enum Worked {
     GateShut,
 }
 
-/// How far a worker is: whether it has written in its section, and which node it asked last for
-/// the records that it lacks.
+/// How far a worker is: whether it has written in its section, which node it asked last for the
+/// records that it lacks, and how long it waits between two turns.
 #[derive(Drop)]
 pub(crate) struct Stance {
     pub(crate) written: bool,
     pub(crate) wanted: NodeId,
+    pub(crate) patience: Patience,
 }
 
 /// Waits at the gate, and then works at the station for at most this many turns. In each, the acts
 /// that are due come first: it asks where it is idle and lacks sections; enters where it can;
 /// inside, reads the register and writes 1 more, or where records are missing asks the next node in
 /// the circle for them; leaves once it has written. Then the station takes a turn, by these fates
-/// of parcels. It waits only where its gate waits. The station is not to be inside; where there is
+/// of parcels. So one that begins idle leaves no more sections than it was asked for, if it had no
+/// more before. It waits only where its gate waits. The station is not to be inside; where there is
 /// no such register the worker never gets out of its first section.
 pub fn work<C: Exclusion, G: Gate, F: Fates + Drop>(
     station: Station<C>,
@@ -67,6 +69,8 @@ pub fn work<C: Exclusion, G: Gate, F: Fates + Drop>(
     ensures most { WorksAtMost C.core script.register 0 turns station result.0 }
     ensures same { KeepsTable station result.0 }
     ensures node { result.0.me.node ≡ station.me.node }
+    ensures within { IsWithin C.core script.sections station
+        → IsWithin C.core script.sections result.0 }
     ensures done { result.1 ≡ Worked.Done → script.sections ≤ length result.0.me.receipts }
     ensures outside { result.1 ≡ Worked.Done → IsInside C.core result.0.me.member.core → ⊥ }
     ensures not_yet { (n : ℕ) → result.1 ≡ Worked.NotYet n
@@ -102,19 +106,28 @@ pub(crate) fn take_turn<C: Exclusion, F: Fates>(
     stance: &mut Stance,
     fates: &mut F,
 )
-    ensures { TakesTurn C.core script.now.register station.old station.new }
+    ensures turn { TakesTurn C.core script.now.register station.old station.new }
+    ensures within { IsWithin C.core script.now.sections station.old
+        → IsWithin C.core script.now.sections station.new }
 {
     ask_if_due(station, script.sections);
     let _ = station.enter();
     add_if_due(station, script.register, stance);
     leave_if_due(station, stance);
     let report = station.turn(fates);
-    give_way(station, &report);
+    let asks = is_to_ask(station, script.sections);
+    stance.patience.wait(station, &report, asks);
+}
+
+/// Whether the next turn asks: the node is idle, and sections are lacking.
+fn is_to_ask<C: Exclusion>(station: &Station<C>, sections: u64) -> bool {
+    matches!(station.phase(), Phase::Idle) && !has_sections(station, sections)
 }
 
 /// Asks where sections are lacking.
 fn ask_if_due<C: Exclusion>(station: &mut Station<C>, sections: u64)
-    ensures { (register : ℕ) → LeavesNone C.core register station.old station.new }
+    ensures none { (register : ℕ) → LeavesNone C.core register station.old station.new }
+    ensures within { IsWithin C.core sections station.old → IsWithin C.core sections station.new }
 {
     if !has_sections(station, sections) {
         let _ = station.ask();
@@ -123,7 +136,9 @@ fn ask_if_due<C: Exclusion>(station: &mut Station<C>, sections: u64)
 
 /// Where nothing is written yet: reads the register and writes 1 more, or asks for missing records.
 fn add_if_due<C: Exclusion>(station: &mut Station<C>, register: u8, stance: &mut Stance)
-    ensures { LeavesNone C.core register station.old station.new }
+    ensures none { LeavesNone C.core register station.old station.new }
+    ensures within { (most : ℕ) → IsWithin C.core most station.old
+        → IsWithin C.core most station.new }
 {
     if stance.written {
         return;
@@ -141,7 +156,9 @@ fn add_if_due<C: Exclusion>(station: &mut Station<C>, register: u8, stance: &mut
 
 /// Asks the next node in the circle for the records that are missing.
 fn want_next<C: Exclusion>(station: &mut Station<C>, stance: &mut Stance)
-    ensures { (register : ℕ) → LeavesNone C.core register station.old station.new }
+    ensures none { (register : ℕ) → LeavesNone C.core register station.old station.new }
+    ensures within { (most : ℕ) → IsWithin C.core most station.old
+        → IsWithin C.core most station.new }
 {
     let next = node_after(stance.wanted, count_of(station));
     station.want(next);

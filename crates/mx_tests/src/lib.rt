@@ -12,6 +12,8 @@ mod fates_asked;
 #[cfg(test)]
 mod four_slots;
 #[cfg(test)]
+mod getters;
+#[cfg(test)]
 mod given;
 #[cfg(test)]
 mod journals;

@@ -4,14 +4,14 @@
 ghost use Rattle.std.specs.Prelude.{◌≡◌, IsSome, IfOk};
 ghost use Rattle.mx_cli.specs.Words.{texts_of};
 ghost use Rattle.mx_cli.specs.Told.{Answers, seen};
-ghost use Rattle.mx_cli.specs.Closed.{IsRunStatus};
+ghost use Rattle.mx_cli.specs.Closed.{IsRunStatus, PassesOn};
 ghost use Rattle.mx_views.specs.ViewWords.{request_asked, view_line};
 
 use crate::halts::{Halt, Stranger};
 use crate::selection::Selection;
 use crate::showing::show;
 use crate::words::{Request, asked};
-use mx_cli::{Named, Stop, close, fetch_named, refuse, stop_named, tell_line};
+use mx_cli::{Named, Stop, close, close_with, fetch_named, refuse, stop_named};
 use mx_commands::by_shape;
 use mx_diagnosis::told_of_node;
 use mx_io::{Output, Source};
@@ -31,6 +31,8 @@ pub fn replay_view<S: Source, O: Output, E: Output>(
     out: &mut O,
     err: &mut E,
 ) -> u8
+    ensures passed { IsSome (request_asked (texts_of words.entry.now))
+        → PassesOn (E.written err.old) (E.written err.new) (O.keeps_back out.new) result }
     ensures status { IsSome (request_asked (texts_of words.entry.now)) → IsRunStatus result }
     ensures answers { Answers view_line (texts_of words.entry.now) (O.takes_all out.old)
         (seen O.Output E.Output out.old err.old) (seen O.Output E.Output out.new err.new) result }
@@ -50,12 +52,14 @@ fn view_and_close<S: Source, O: Output, E: Output>(
     out: &mut O,
     err: &mut E,
 ) -> u8
-    ensures { IsRunStatus result }
+    ensures passed { PassesOn (E.written err.old) (E.written err.new) (O.keeps_back out.new)
+        result }
+    ensures status { IsRunStatus result }
 {
     match view_run(alloc, request, source, out) {
         Ok(status) => close(alloc, Ok(status), &request.names, out, err),
         Err(Halt::Stop(stop)) => close(alloc, Err(stop), &request.names, out, err),
-        Err(Halt::NoNode(stranger)) => tell_line(alloc, stranger, err),
+        Err(Halt::NoNode(stranger)) => close_with(alloc, stranger, out, err),
     }
 }
 

@@ -9,6 +9,7 @@ pub returns-in-Err : goal.returns-in-Err
 unfolding request_asked
 returns-in-Err g c = record {
   printed = refused count_line request_in (texts_of c.args.words.now) c.in-Err.e c.in-Err.ensures c.refuse.ensures.memory _ (λ m request zero. absurd (not_five c.refuse.result m.0 zero));
+  passed = λ asks. inr (inr (runs_out count_line request_in (texts_of c.args.words.now) c.in-Err.e c.in-Err.ensures c.refuse.ensures.memory asks).0);
   status = λ asks. inr (inr (runs_out count_line request_in (texts_of c.args.words.now) c.in-Err.e c.in-Err.ensures c.refuse.ensures.memory asks).0);
   answers = c.refuse.ensures.answers count_line (texts_of c.args.words.now) c.in-Err.ensures;
 }

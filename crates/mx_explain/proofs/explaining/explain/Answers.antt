@@ -11,6 +11,7 @@ returns-in-Err g c = record {
   explains = refused explain_line request_in (texts_of c.args.words.now) c.in-Err.e c.in-Err.ensures c.refuse.ensures.memory _
       (λ m matter. short_matter (g.O.Output.takes_all c.args.out.now) (g.E.Output.takes_all c.args.err.now) (g.S.Source.told c.args.source.now) matter
       (g.E.Output.written c.args.err.now) (g.E.Output.written c.refuse.new.err) c.refuse.result (m.0, m.2));
+  passed = λ asks. inr (inr (runs_out explain_line request_in (texts_of c.args.words.now) c.in-Err.e c.in-Err.ensures c.refuse.ensures.memory asks).0);
   status = λ asks. inr (inr (runs_out explain_line request_in (texts_of c.args.words.now) c.in-Err.e c.in-Err.ensures c.refuse.ensures.memory asks).0);
   answers = c.refuse.ensures.answers explain_line (texts_of c.args.words.now) c.in-Err.ensures;
 }

@@ -6,6 +6,7 @@ use Rattle.mx_journal.specs.declared.records.Record.{Record}
 use Rattle.mx_journal.specs.Records.{IsThere, record_at}
 use Rattle.mx_journal.specs.Runs.{AreNumbersOf, AreRuns, IsPut, flatten}
 use Rattle.mx_journal.specs.Settled.{beyond}
+use Rattle.mx_journal.proofs.Answering.{at_failure}
 use Rattle.mx_journal.proofs.Maps.{in_with_record, none_in, with_record_has, with_record_keeps}
 use Rattle.mx_journal.proofs.Beyond.{beyond_has, in_beyond}
 use Rattle.mx_journal.proofs.joins.runs_of_new.Goals.{then-not-is_known+then-not-is_there+in_ok-insert, else-not-is_known, else-not-is_known-via-then-not-is_known+else-not-is_there, else-not-is_known-via-else-not-is_known}
@@ -87,3 +88,11 @@ loop-entry-preserved c =
 pub returns-clause-all : goal.returns-clause-all
 returns-clause-all c =
     subst (λ l. AreNumbersOf (beyond c.args.from l) (flatten c.loop-entry.runs.items) (flatten c.args.known.now)) (take_all c.loop-entry.entry-index c.args.list.now (omega (arith, c.loop-entry-test.false))) c.loop-entry.invariant.all
+
+pub returns-in_err-insert-clause-missing : goal.returns-in_err-insert-clause-missing
+returns-in_err-insert-clause-missing c =
+    let list = c.args.list.now in
+    let entry = c.entry-item.result in
+    let new = c.is_known.ensures.new c.if-not-is_known.true in
+    let here = beyond_has c.args.from list entry (in_at list c.loop-entry.entry-index entry c.loop-entry-test.true c.entry-item.is) new.0 in
+    at_failure c.from_residual.result (entry, here, new.1)

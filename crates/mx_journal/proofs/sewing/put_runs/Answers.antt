@@ -4,6 +4,7 @@ use Rattle.mx_stamps.specs.Lists.{IsIn}
 use Rattle.mx_journal.specs.declared.records.Record.{Record}
 use Rattle.mx_journal.specs.Records.{top_of}
 use Rattle.mx_journal.specs.Runs.{AreNew, AreRuns, IsJoinedUpTo, first_number, flatten, runs_up_to}
+use Rattle.mx_journal.proofs.Answering.{at_failure}
 use Rattle.mx_journal.proofs.Maps.{none_in}
 use Rattle.mx_journal.proofs.Flat.{ascending_flat}
 use Rattle.mx_journal.proofs.Seams.{Ends, Renewal, ends_of, length_new, renewed_records, renewed_runs, up_to_more}
@@ -55,3 +56,6 @@ returns-clause-count c =
     ap length (returns-clause-records c)
     ∙ length_new 1 (flatten new) (flatten runs) (ascending_flat 1 new c.requires.new) c.requires.fresh
     ∙ ap (λ n. length (flatten runs) + n) (sym c.len_of.ensures)
+
+pub returns-in_err-middle-clause-some : goal.returns-in_err-middle-clause-some
+returns-in_err-middle-clause-some c = at_failure c.from_residual.result (grind (arith, nat_tests, c.is_empty.ensures, c.if-is_empty.false))

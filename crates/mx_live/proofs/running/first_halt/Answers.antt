@@ -1,15 +1,34 @@
-use Rattle.std.proofs.Common.{◌≡◌, inl, refl, subst, sym, take}
+use Rattle.std.proofs.Common.{◌≡◌, refl, subst, sym, take}
 use Rattle.std.proofs.lemmas.List.{take_all}
 use Rattle.std.proofs.lemmas.List.Elements.{All-more, All-same}
 use Rattle.std.proofs.lemmas.Option.{slice_get_read}
 use Rattle.mx_stations.specs.declared.working.Worked.{Worked}
 use Rattle.mx_stations.specs.declared.working.Worked.TheVariants.{Done}
+use Rattle.mx_live.specs.declared.halts.Halt.TheVariants.{TurnsSpent, GateShut}
+use Rattle.mx_live.specs.Halts.{IsWhy}
 use Rattle.mx_live.proofs.running.first_halt.Goals as goal
 
 pub returns-in-NotYet-clause-some : goal.returns-in-NotYet-clause-some
 returns-in-NotYet-clause-some g c =
     let k = c.loop-one.one-index in
-    inl (refl, (k, c.in-NotYet.field-0, c.one-item.result, slice_get_read c.args.left.now _ k c.one-item.result refl c.loop-one-test.true c.one-item.is, c.in-NotYet.is))
+    record {
+      place = k;
+      one = c.one-item.result;
+      there = slice_get_read c.args.left.now _ k c.one-item.result refl c.loop-one-test.true c.one-item.is;
+      before = c.loop-one.invariant;
+      why = subst (λ (w : Worked). IsWhy w TurnsSpent) (sym c.in-NotYet.is) refl;
+    }
+
+pub returns-in-GateShut-clause-some : goal.returns-in-GateShut-clause-some
+returns-in-GateShut-clause-some g c =
+    let k = c.loop-one.one-index in
+    record {
+      place = k;
+      one = c.one-item.result;
+      there = slice_get_read c.args.left.now _ k c.one-item.result refl c.loop-one-test.true c.one-item.is;
+      before = c.loop-one.invariant;
+      why = subst (λ (w : Worked). IsWhy w GateShut) (sym c.in-GateShut.is) refl;
+    }
 
 pub loop-one-preserved : goal.loop-one-preserved
 loop-one-preserved g c =

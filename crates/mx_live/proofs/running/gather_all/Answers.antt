@@ -1,4 +1,3 @@
-use Rattle.std.proofs.Common.{inl, refl}
 use Rattle.mx_live.proofs.SectionLemmas.{serial}
 use Rattle.mx_live.proofs.running.gather_all.Goals as goal
 
@@ -6,4 +5,4 @@ pub returns-in-Ok-clause-serial : goal.returns-in-Ok-clause-serial
 returns-in-Ok-clause-serial g c = serial _ _ _ c.in-Ok.ensures.ok
 
 pub returns-in-Ok-clause-gathered : goal.returns-in-Ok-clause-gathered
-returns-in-Ok-clause-gathered g c = ((c.in-Ok.ensures.ready.0 (inl refl)).0, c.in-Ok.ensures.ok)
+returns-in-Ok-clause-gathered g c = c.in-Ok.ensures.ok

@@ -1,13 +1,9 @@
-use Rattle.std.proofs.Common.{rules, sym, subst}
-use Rattle.mx_live.specs.Workers.{Promises}
-use Rattle.mx_live.proofs.WorkerLemmas.{left_as}
+use Rattle.std.proofs.Common.{◌≡◌, arith, length}
+use Rattle.mx_live.proofs.WorkerLemmas.{left_by}
 use Rattle.mx_live.proofs.threads.join_all.Goals as goal
 
 pub returns-in-Ok : goal.returns-in-Ok
-returns-in-Ok g c = λ shape p table orders all.
-    record {
-      each = λ k d low.
-          let kept = (c.in-Ok.ensures.each k d (search rules)).1 in
-          let promised = subst (λ w. Promises g.C.Exclusion.core shape p table orders w.promise.at.value w.promise.orders) (sym kept.handle_is) (all.each k kept.handle (search rules)) in
-          left_as g.C.Exclusion.core shape p table orders _ _ _ promised kept.kept;
-    }
+returns-in-Ok g c =
+    let many : length c.in-Ok.ended.items ≡ length c.args.workers.items = omega (arith, c.in-Ok.ensures.len, c.in-Ok.ended.ok, c.args.workers.ok) in
+    left_by g.C.Exclusion.core _ c.args.workers.items c.in-Ok.ended.items many
+    (λ k d low. let kept = (c.in-Ok.ensures.each k d (omega (arith, low, c.args.workers.ok))).1 in (kept.handle, kept.handle_is, kept.kept))

@@ -1,9 +1,9 @@
 use Rattle.std.proofs.Common.{rules}
-use Rattle.mx_live.proofs.StationLemmas.{none_so}
+use Rattle.mx_live.proofs.StationLemmas.{from_none}
 use Rattle.mx_live.proofs.threads.start_all.Goals as goal
 
 pub returns-in-Ok : goal.returns-in-Ok
-returns-in-Ok g c = λ shape p table all. c.in-Ok.ensures shape p table all (none_so _ (search rules))
+returns-in-Ok g c = from_none _ _ _ _ (search rules) c.in-Ok.ensures
 
 pub start_each-requires-send-C : goal.start_each-requires-send-C
 start_each-requires-send-C g c κs within = c.type_bounds.send-C

@@ -1,17 +1,16 @@
-use Rattle.mx_live.proofs.StationLemmas.{first_so, rest_so, same_so}
+use Rattle.std.proofs.Common.{rules}
+use Rattle.std.proofs.lemmas.List.{nil_from_length}
+use Rattle.mx_live.proofs.StationLemmas.{begun, ended, moved}
 use Rattle.mx_live.proofs.threads.start_each.Goals as goal
 
 pub loop-station-init : goal.loop-station-init
-loop-station-init g c = λ shape p table all old. (old, same_so _ _ c.into_iter-station-iterator.ensures.into_iter_gives.0 all)
+loop-station-init g c = begun _ _ _ _ c.into_iter-station-iterator.ensures.into_iter_gives.0
 
 pub loop-station-preserved : goal.loop-station-preserved
-loop-station-preserved g c = λ shape p table all old.
-    let i = c.loop-station.invariant shape p table all old in
-    let step = c.in-Some.ensures.steps.0 in
-    (c.in_ok-start_one.ensures shape p table (first_so _ _ _ step i.1) i.0, rest_so _ _ _ step i.1)
+loop-station-preserved g c = moved _ _ _ _ _ _ _ c.in_ok-start_one.ensures c.in-Some.ensures.steps.0 c.loop-station.invariant
 
 pub returns : goal.returns
-returns g c = λ shape p table all old. (c.loop-station.invariant shape p table all old).0
+returns g c = ended _ _ _ _ (nil_from_length _ (search rules)) c.loop-station.invariant
 
 pub start_one-requires-send-C : goal.start_one-requires-send-C
 start_one-requires-send-C g c κs within = c.type_bounds.send-C

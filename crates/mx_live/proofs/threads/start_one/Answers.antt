@@ -1,13 +1,9 @@
-use Rattle.std.proofs.Common.{subst, sym}
-use Rattle.mx_live.specs.Stations.{IsAtRest}
-use Rattle.mx_live.proofs.StationLemmas.{pushed_so}
+use Rattle.mx_live.proofs.StationLemmas.{pushed}
+use Rattle.mx_live.proofs.WorkerLemmas.{told_as}
 use Rattle.mx_live.proofs.threads.start_one.Goals as goal
 
 pub returns : goal.returns
-returns g c = λ shape p table rests all.
-    let promised = c.in_ok-worker.ensures in
-    pushed_so _ _ _ _ c.reserve.ensures.items c.push_reserved.ensures.items all
-    (record { rests = subst (IsAtRest g.C.Exclusion.core shape p table) (sym promised.at) rests; obeys = promised.told })
+returns g c = pushed _ _ _ _ _ _ c.reserve.ensures.items c.push_reserved.ensures.items (told_as _ _ _ _ c.in_ok-worker.ensures.at c.in_ok-worker.ensures.told)
 
 pub start-requires-send-C : goal.start-requires-send-C
 start-requires-send-C g c κs within = c.type_bounds.send-C

@@ -15,5 +15,5 @@ returns g c =
       c.draw-ended.ensures.ran,
       drawn_kept (g.O.Output.written c.args.out.now) (g.O.Output.written c.draw-ended.new.out) (g.O.Output.written c.close.new.out) ended c.draw-ended.ensures.drawn c.close.ensures.held,
       closed,
-      c.close.ensures.passed,
+      c.close.ensures.kept_back,
     )

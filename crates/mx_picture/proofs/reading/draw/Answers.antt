@@ -26,8 +26,8 @@ returns-clause-ran g c =
     let both = c.in_ok-both.both in
     let res = c.draw_text.result in
     let node = (request_of c.args.request.now).node in
-    let ran = subst (λ (l : List ℕ). Ran t None None (report_of_events l both.plan) res ⊎ LacksNode node res) c.as_slice.ensures.value c.draw_text.ensures.ran in
+    let ran = subst (λ (l : List ℕ). Ran t None None (report_of_events l both.plan) res ⊎ LacksNode both.plan node res) c.as_slice.ensures.value c.draw_text.ensures.ran in
     elim ran [
       | inl h ↦ inl (both_read t None (plan_told told names) (text_told told names) None both res c.in_ok-both.ensures.read h)
-      | inr lacks ↦ inr lacks
+      | inr lacks ↦ inr (both.plan, c.in_ok-both.ensures.read.0, lacks)
     ]

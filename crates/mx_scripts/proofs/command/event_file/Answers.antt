@@ -20,7 +20,7 @@ returns-in-Err g c = record {
   scripts = refused file_line request_in (texts_of c.args.words.now) c.in-Err.e c.in-Err.ensures c.refuse.ensures.memory _
       (λ m request. short_scripts (g.O.Output.takes_all c.args.out.now) (g.E.Output.takes_all c.args.err.now) (g.S.Source.told c.args.source.now) request
       (g.E.Output.written c.args.err.now) (g.E.Output.written c.refuse.new.err) c.refuse.result (m.0, m.2));
-  passed = λ asks zero. absurd (not_five c.refuse.result (runs_out file_line request_in (texts_of c.args.words.now) c.in-Err.e c.in-Err.ensures c.refuse.ensures.memory asks).0 zero);
+  passed = λ asks. inr (inr (runs_out file_line request_in (texts_of c.args.words.now) c.in-Err.e c.in-Err.ensures c.refuse.ensures.memory asks).0);
   status = λ asks. inr (inr (runs_out file_line request_in (texts_of c.args.words.now) c.in-Err.e c.in-Err.ensures c.refuse.ensures.memory asks).0);
   answers = c.refuse.ensures.answers file_line (texts_of c.args.words.now) c.in-Err.ensures;
 }

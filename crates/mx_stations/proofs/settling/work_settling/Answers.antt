@@ -12,6 +12,7 @@ returns g c =
       most = told.most;
       same = rounds_kept core register every _ _ works;
       node = rounds_node core register every _ _ works;
+      within = told.within;
       done = told.done;
       outside = told.outside;
       not_yet = told.not_yet;

@@ -7,6 +7,7 @@ use Rattle.mx_views.proofs.viewing.replay_view.Goals as goal
 pub returns-in-Err : goal.returns-in-Err
 unfolding request_asked
 returns-in-Err g c = record {
+  passed = λ asks. inr (inr (runs_out view_line request_in (texts_of c.args.words.now) c.in-Err.e c.in-Err.ensures c.refuse.ensures.memory asks).0);
   status = λ asks. inr (inr (runs_out view_line request_in (texts_of c.args.words.now) c.in-Err.e c.in-Err.ensures c.refuse.ensures.memory asks).0);
   answers = c.refuse.ensures.answers view_line (texts_of c.args.words.now) c.in-Err.ensures;
 }

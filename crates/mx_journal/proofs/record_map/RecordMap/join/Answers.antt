@@ -1,12 +1,10 @@
-use Rattle.std.proofs.Common.{ℕ, suc, ◌≡◌, ◌+◌, List, None, IfOk, OnErr, Result, Ok, Err, length, sym, ◌∙◌, ap, refl, subst, arith}
+use Rattle.std.proofs.Common.{ℕ, suc, ◌≡◌, ◌+◌, List, IfOk, OnErr, Result, Ok, Err, length, sym, ◌∙◌, ap, subst, arith}
 use Rattle.std.specs.declared.alloc.AllocError.{AllocError}
 use Rattle.mx_journal.specs.declared.records.Record.{Record}
 use Rattle.mx_journal.specs.Agreement.{AreAgreeing}
-use Rattle.mx_stamps.specs.Lists.{IsIn}
-use Rattle.mx_journal.specs.Records.{Ascending, above, record_at, with_records}
+use Rattle.mx_journal.specs.Records.{Ascending, BringsNew, above, with_records}
 use Rattle.mx_journal.specs.Runs.{AreJoined, AreRuns, flatten}
-use Rattle.mx_journal.proofs.Answering.{on_failure}
-use Rattle.mx_journal.proofs.Maps.{none_in}
+use Rattle.mx_journal.proofs.Answering.{at_failure, on_failure}
 use Rattle.mx_journal.proofs.record_map.RecordMap.join.Goals as goal
 
 none_more : (n : ℕ) → n ≡ n + 0
@@ -21,11 +19,13 @@ map_taken : (r : Result ℕ AllocError) (from : ℕ) (other old new : List (List
 map_taken (Ok k) from other old new done = (done.records, done.count)
 map_taken (Err fault) from other old new done = tt
 
-pub returns-clause-contained : goal.returns-clause-contained
-returns-clause-contained c = λ contained.
-    let (x, in_other, gone) = c.are_there.ensures.missing c.if-are_there.false in
-    let known = contained x (subst (λ l. IsIn x (above c.args.from l)) (ap flatten c.deref-2.ensures.value ∙ c.other.view_is) in_other) in
-    absurd (none_in x.number c.args.self.now (subst (λ l. record_at x.number l ≡ None) (ap flatten c.deref.ensures.value ∙ c.self.view_is) gone) x known refl)
+pub returns-clause-missing : goal.returns-clause-missing
+returns-clause-missing c =
+    let theirs = ap flatten c.deref-2.ensures.value ∙ c.other.view_is in
+    let ours = ap flatten c.deref.ensures.value ∙ c.self.view_is in
+    at_failure c.join_runs.result
+    (subst (λ l. BringsNew (above c.args.from c.args.other.now) l) ours
+    (subst (λ l. BringsNew (above c.args.from l) (flatten c.deref.result.now)) theirs (c.are_there.ensures.missing c.if-are_there.false)))
 
 pub are_there-requires : goal.are_there-requires
 are_there-requires c = record {
@@ -39,7 +39,7 @@ returns-then-are_there c =
     let theirs = ap flatten c.deref-2.ensures.value ∙ c.other.view_is in
     let same = subst (λ l. with_records (above c.args.from c.args.other.now) l ≡ l) ours
     (subst (λ l. with_records (above c.args.from l) (flatten c.deref.result.now) ≡ flatten c.deref.result.now) theirs (c.are_there.ensures.there c.if-are_there.true)) in
-    record { ok = (sym same, none_more (length c.args.self.now)); contained = λ _. refl; err = _ }
+    record { ok = (sym same, none_more (length c.args.self.now)); missing = _; err = _ }
 
 pub join_runs-requires : goal.join_runs-requires
 join_runs-requires c =

@@ -1,10 +1,11 @@
 use Rattle.std.proofs.Common.{length, ◌+◌, ◌∙◌, ◌++◌, sym, ap, subst, refl}
-use Rattle.mx_journal.specs.Records.{with_records}
+use Rattle.mx_stamps.specs.Lists.{IsIn}
+use Rattle.mx_journal.specs.Records.{BringsNew, with_records}
 use Rattle.mx_journal.specs.Runs.{AreNew, AreNumbersOf, AreRuns, flatten}
 use Rattle.mx_journal.specs.Settled.{beyond}
 use Rattle.mx_journal.specs.Agreement.{IsConsistent, IsFirstConflict}
 use Rattle.mx_journal.proofs.Beyond.{in_beyond}
-use Rattle.mx_journal.proofs.Flat.{ascending_flat}
+use Rattle.mx_journal.proofs.Flat.{ascending_flat, some_record}
 use Rattle.mx_journal.proofs.Joining.{of_new_joins}
 use Rattle.mx_journal.proofs.Answering.{at_failure, conflict_verdict, is_memory, memory_verdict, no_value, ok_verdict, zero_verdict}
 use Rattle.mx_journal.proofs.record_map.RecordMap.put_all.Goals as goal
@@ -12,7 +13,7 @@ use Rattle.mx_journal.proofs.record_map.RecordMap.put_all.Goals as goal
 pub returns-then-has_zero : goal.returns-then-has_zero
 returns-then-has_zero c =
     let v = zero_verdict _ c.args.list.now (c.args.self.now ++ beyond c.args.from c.args.list.now) refl (c.has_zero.ensures.there.0 c.if-has_zero.true) in
-    record { zero = v.zero; conflict = v.conflict; agreed = v.agreed; ok = _; err = refl }
+    record { zero = v.zero; conflict = v.conflict; agreed = v.agreed; ok = _; memory = λ e. absurd (let bad : ⊥ = cc in bad); err = refl }
 
 pub returns-in-Some : goal.returns-in-Some
 returns-in-Some c =
@@ -20,7 +21,7 @@ returns-in-Some c =
     let first : IsFirstConflict c.in-Some.number (c.args.self.now ++ list) =
     subst (λ xs. IsFirstConflict c.in-Some.number (xs ++ list)) (ap flatten c.deref.ensures.value ∙ c.self.view_is) c.in-Some.ensures.some in
     let v = conflict_verdict c.in-Some.number _ c.args.list.now (c.args.self.now ++ list) refl (c.has_zero.ensures.numbered c.if-has_zero.false) first in
-    record { zero = v.zero; conflict = v.conflict; agreed = v.agreed; ok = _; err = refl }
+    record { zero = v.zero; conflict = v.conflict; agreed = v.agreed; ok = _; memory = λ e. absurd (let bad : ⊥ = cc in bad); err = refl }
 
 pub runs_of_new-requires-clause-known : goal.runs_of_new-requires-clause-known
 runs_of_new-requires-clause-known c = subst (λ l. AreRuns 1 l) (sym c.deref-2.ensures.value) c.self.invariant
@@ -35,7 +36,8 @@ returns-in_err-other c =
     subst (λ xs. IsConsistent (xs ++ list)) (ap flatten c.deref.ensures.value ∙ c.self.view_is) c.in_default.ensures.none in
     let memory = is_memory c.from_residual.result c.from_residual.ensures.1 in
     let v = memory_verdict c.from_residual.result c.args.list.now (c.args.self.now ++ list) memory (c.has_zero.ensures.numbered c.if-has_zero.false) consistent in
-    record { zero = v.zero; conflict = v.conflict; agreed = v.agreed; ok = no_value c.from_residual.result _ c.from_residual.ensures.0; err = at_failure c.from_residual.result refl }
+    let new = subst (λ xs. BringsNew list xs) (ap flatten c.deref-2.ensures.value ∙ c.self.view_is) c.in_err-other.ensures.missing in
+    record { zero = v.zero; conflict = v.conflict; agreed = v.agreed; ok = no_value c.from_residual.result _ c.from_residual.ensures.0; memory = λ _. new; err = at_failure c.from_residual.result refl }
 
 pub put_runs-requires-clause-fresh : goal.put_runs-requires-clause-fresh
 put_runs-requires-clause-fresh c =
@@ -59,7 +61,10 @@ returns-in_err-put_runs c =
     subst (λ xs. IsConsistent (xs ++ list)) (ap flatten c.deref.ensures.value ∙ c.self.view_is) c.in_default.ensures.none in
     let memory = is_memory c.from_residual-in_err-put_runs.result c.from_residual-in_err-put_runs.ensures.1 in
     let v = memory_verdict c.from_residual-in_err-put_runs.result c.args.list.now (c.args.self.now ++ list) memory (c.has_zero.ensures.numbered c.if-has_zero.false) consistent in
-    record { zero = v.zero; conflict = v.conflict; agreed = v.agreed; ok = no_value c.from_residual-in_err-put_runs.result _ c.from_residual-in_err-put_runs.ensures.0; err = at_failure c.from_residual-in_err-put_runs.result (ap flatten c.in_err-put_runs.ensures.err ∙ c.self.view_is) }
+    let some = some_record c.deref-3.result.now (subst (λ l. AreRuns 1 l) (sym c.deref-3.ensures.value) c.in_ok-other.ensures.runs) c.in_err-put_runs.ensures.some in
+    let x = subst (λ l. IsIn some.0 (flatten l)) c.deref-3.ensures.value some.1 in
+    let new : BringsNew list (flatten c.deref-2.result.now) = (some.0, c.in_ok-other.ensures.listed some.0 x, c.in_ok-other.ensures.new some.0 x) in
+    record { zero = v.zero; conflict = v.conflict; agreed = v.agreed; ok = no_value c.from_residual-in_err-put_runs.result _ c.from_residual-in_err-put_runs.ensures.0; memory = λ _. subst (λ xs. BringsNew list xs) (ap flatten c.deref-2.ensures.value ∙ c.self.view_is) new; err = at_failure c.from_residual-in_err-put_runs.result (ap flatten c.in_err-put_runs.ensures.err ∙ c.self.view_is) }
 
 pub invariant_of-self-2 : goal.invariant_of-self-2
 invariant_of-self-2 c = c.in_ok-put_runs.ensures.runs
@@ -84,5 +89,6 @@ returns c =
             ∙ ap (λ l. with_records list l) c.self.view_is,
         done.count ∙ ap (λ l. length l + c.in_ok-put_runs.field-0) c.self.view_is,
       );
+      memory = λ e. absurd (let bad : ⊥ = cc in bad);
       err = _;
     }

@@ -9,10 +9,10 @@ use Rattle.mx_member.specs.declared.faults.DeliverFault.TheVariants.{Conflict, M
 use Rattle.mx_member.specs.declared.parcel.Parcel.{Parcel}
 use Rattle.mx_member.specs.declared.parcel.Parcel.TheVariants.{Guard, Want, Base, Records}
 use Rattle.mx_member.specs.Faults.{base_fault_of, fault_of}
-use Rattle.mx_member.specs.Member.{BringsRecords, IsViewOf, MemberState}
+use Rattle.mx_member.specs.Member.{IsViewOf, MemberState}
 use Rattle.mx_member.specs.Steps.{IsDisputed}
 use Rattle.mx_member.proofs.Refusing.{is_err, no_ok, where_err}
-use Rattle.mx_member.proofs.Delivering.{Tells, base_fault_known, base_tells, based_tells, fault_known, fault_told, letter_tells, put_tells, stranger_tells, told, want_tells}
+use Rattle.mx_member.proofs.Delivering.{Tells, base_fault_known, base_tells, based_tells, brings_unknown, fault_known, fault_told, letter_tells, memory_known, put_tells, stranger_tells, told, want_tells}
 use Rattle.mx_member.proofs.Keeping.{shown_all}
 use Rattle.mx_member.proofs.member.Member.receive.Goals as goal
 
@@ -101,7 +101,11 @@ returns-in_err-take_base-in-Base-clause-stranger g c =
     ((λ e. absurd (base_fault_known c.in_err-take_base-in-Base.field-0.0 (sym is ∙ e))), no_stranger c.args.self.now.setting.nodes c.args.from (known c.args.from c.get.result _ c.args.self.now c.self.view_is c.get.ensures.value c.if-get-self.false))
 
 pub returns-in_err-put_all-in-Records-clause-memory : goal.returns-in_err-put_all-in-Records-clause-memory
-returns-in_err-put_all-in-Records-clause-memory g c = λ _. subst (λ p. BringsRecords p) (sym c.in-Records.is) tt
+returns-in_err-put_all-in-Records-clause-memory g c = λ e.
+    let fault = c.in_err-put_all-in-Records.field-0.0 in
+    let is = is_err c.from_residual-in_err-put_all-in-Records.result (fault_of fault) c.from_residual-in_err-put_all-in-Records.ensures.1 in
+    brings_unknown c.in-Records.records c.as_slice-list.result.now c.args.parcel.now _ c.args.self.now c.self.view_is c.in-Records.is c.as_slice-list.ensures.value
+    (c.in_err-put_all-in-Records.ensures.memory (memory_known fault (sym is ∙ e)))
 
 pub returns-in_err-take_base-in-Base-clause-state : goal.returns-in_err-take_base-in-Base-clause-state
 returns-in_err-take_base-in-Base-clause-state g c = no_ok _ c.from_residual.result (base_fault_of c.in_err-take_base-in-Base.field-0.0) (is_err c.from_residual.result (base_fault_of c.in_err-take_base-in-Base.field-0.0) c.from_residual.ensures.1)

@@ -1,7 +1,8 @@
 use Rattle.std.proofs.Common.{sym, subst}
 use Rattle.mx_sections.specs.Serial.{ReadSerially}
 use Rattle.mx_sections.specs.Trace.{IsSerial, sections, IsExclusive, IsNumbered}
-use Rattle.mx_network.proofs.Headline.{agreed, exclusive, inside_is, journal_ordered, journals_of, nobody_is, numbered, one_alone}
+use Rattle.mx_network.specs.Step.{AreUnsettled}
+use Rattle.mx_network.proofs.Headline.{agreed, exclusive, inside_is, journal_ordered, journals_of, nobody_is, numbered, one_alone, takeable}
 use Rattle.mx_network.proofs.cluster.Cluster.trace.Goals as goal
 
 pub returns-clause-exclusive : goal.returns-clause-exclusive
@@ -33,3 +34,9 @@ returns-clause-inside g c = rw (← c.self.view_is) (inside_is g.C.Exclusion.cor
 
 pub returns-clause-nobody : goal.returns-clause-nobody
 returns-clause-nobody g c = rw (← c.self.view_is) (nobody_is g.C.Exclusion.core g.C.Exclusion.Good _ c.self.invariant.1 c.deref.result.now c.deref.ensures.value)
+
+pub returns-clause-takeable : goal.returns-clause-takeable
+returns-clause-takeable g c = rw (← c.self.view_is) (takeable g.C.Exclusion.core g.C.Exclusion.Good _ c.self.invariant.1)
+
+pub returns-clause-unsettled : goal.returns-clause-unsettled
+returns-clause-unsettled g c = subst (λ t. AreUnsettled t) (sym c.deref.ensures.value) c.self.invariant.1.unsettled

@@ -1,0 +1,187 @@
+-- How stations and jobs go on.
+use Rattle.std.proofs.Common.{◌≡◌, ◌∙◌, ℕ, inl, inr, Bool, true, false, List, [], ◌∷◌, ◌++◌, Option, None, Result, Ok, Err, OnOk, OnErr, refl, sym, ap, subst}
+use Rattle.std.proofs.lemmas.List.{append-nil, append_assoc}
+use Rattle.mx_journal.specs.declared.records.Write.{Write as OneWrite}
+use Rattle.mx_journal.specs.declared.receipts.Receipt.{Receipt}
+use Rattle.mx_journal.specs.Drafted.{receipt_of}
+use Rattle.mx_nodelaws.specs.Core.{Core, KeepsPhases}
+use Rattle.mx_nodelaws.specs.declared.faults.EnterFault.{EnterFault}
+use Rattle.mx_member.specs.declared.acts.Act.{Act}
+use Rattle.mx_member.specs.declared.acts.Act.TheVariants.{Ask, Deliver, Enter, Leave, Tick, Want}
+use Rattle.mx_member.specs.declared.parcel.Parcel.{Parcel}
+use Rattle.mx_member.specs.declared.parcel.Parcel.TheVariants as parcel
+use Rattle.mx_member.specs.Acts.{act_of}
+use Rattle.mx_member.specs.Receipts.{closed_by}
+use Rattle.mx_member.specs.Member.{MemberState, Setting}
+use Rattle.mx_member.specs.Steps.{entered, leave_of, take_of}
+use Rattle.mx_stations.specs.declared.answers.PutOut.{PutOut}
+use Rattle.mx_stations.specs.declared.answers.PutOut.TheVariants.{Sent, Full, Nothing}
+use Rattle.mx_stations.specs.Posts.{PutsOut, after_act, does}
+use Rattle.mx_stations.specs.Turns.{Chain, Goes, Moves, Station}
+use Rattle.mx_jobs.specs.Sections.{Advances, IsSection, Leaves, Pends, Reaches, Rests, Runs}
+use Rattle.mx_jobs.proofs.Made.{pending_left}
+use Rattle.mx_jobs.proofs.Members.{rests_acting, rests_here, rests_on}
+
+module _ {H S M : Type 0} (core : Core H S M) where
+  kept_by : (s t u : Station core) → t ≡ u → Rests core s u → Rests core s t
+  kept_by s t u same rests = rests_on core s u t rests (rests_here core u t same)
+
+  taken_setting : (from : ℕ) (p : Parcel M) (m : MemberState S) → (take_of core from p m).state.setting ≡ m.setting
+  taken_setting from (parcel.Guard letter) m = refl
+  taken_setting from (parcel.Want ranges) m = refl
+  taken_setting from (parcel.Base base) m = refl
+  taken_setting from (parcel.Records records) m = refl
+
+  rests_delivered : (from : ℕ) (p : Parcel M) (hand : Option (ℕ × Parcel M)) (s : Station core) → Rests core s (after_act core (Deliver from p) hand s)
+  rests_delivered from p hand s = record { home = refl; setting = taken_setting from p s.me.member; receipts = append-nil s.me.receipts }
+
+  put_rests : (s t : Station core) (r : PutOut) → PutsOut s r t → Rests core s t
+  put_rests s t Sent did = kept_by s t _ did.6 (record { home = refl; setting = refl; receipts = refl })
+  put_rests s t Full did = kept_by s t _ did.4 (record { home = refl; setting = refl; receipts = refl })
+  put_rests s t Nothing did = rests_here core s t did.1
+
+  moved_rests : (s t : Station core) → Moves core s t → Rests core s t
+  moved_rests s t (inl did) = kept_by s t _ did.3 (rests_delivered did.0 did.1 s.me.hand s)
+  moved_rests s t (inr (inl did)) = kept_by s t _ did.3 (rests_delivered did.0 did.1 _ s)
+  moved_rests s t (inr (inr (inl did))) = kept_by s t _ did.1.1.3 (record { home = refl; setting = refl; receipts = refl })
+  moved_rests s t (inr (inr (inr (inl did)))) = kept_by s t _ did.1.1.3 (record { home = refl; setting = refl; receipts = refl })
+  moved_rests s t (inr (inr (inr (inr (inl did))))) = put_rests s t did.0 did.1
+  moved_rests s t (inr (inr (inr (inr (inr did))))) = rests_acting core Tick s t refl refl did
+
+  chain_rests : (ms : List (Station core)) (s t : Station core) → Chain core ms s t → Rests core s t
+  chain_rests [] s t same = rests_here core s t same
+  chain_rests (m ∷ ms) s t did = rests_on core s m t (moved_rests s m did.0) (chain_rests ms m t did.1)
+
+  pub goes_rests : (s t : Station core) → Goes core s t → Rests core s t
+  goes_rests s t did = chain_rests did.0 s t did.1
+
+  -- a turn leaves phase and draft as they are
+  abbrev Stays : Station core → Station core → Type 0
+  Stays s t = (core.phase t.me.member.core ≡ core.phase s.me.member.core) × (t.me.member.draft ≡ s.me.member.draft)
+
+  module _ (phases : KeepsPhases core) where
+    stays_as : (s t u : Station core) → t ≡ u → Stays s u → Stays s t
+    stays_as s t u same stays = subst (Stays s) (sym same) stays
+
+    stays_taken : (from : ℕ) (p : Parcel M) (hand : Option (ℕ × Parcel M)) (s : Station core) → Stays s (after_act core (Deliver from p) hand s)
+    stays_taken from (parcel.Guard letter) hand s = (phases.deliver_phase from letter s.me.member.core, refl)
+    stays_taken from (parcel.Want ranges) hand s = (refl, refl)
+    stays_taken from (parcel.Base base) hand s = (refl, refl)
+    stays_taken from (parcel.Records records) hand s = (refl, refl)
+
+    put_stays : (s t : Station core) (r : PutOut) → PutsOut s r t → Stays s t
+    put_stays s t Sent did = stays_as s t _ did.6 (refl, refl)
+    put_stays s t Full did = stays_as s t _ did.4 (refl, refl)
+    put_stays s t Nothing did = stays_as s t s did.1 (refl, refl)
+
+    moved_stays : (s t : Station core) → Moves core s t → Stays s t
+    moved_stays s t (inl did) = stays_as s t _ did.3 (stays_taken did.0 did.1 s.me.hand s)
+    moved_stays s t (inr (inl did)) = stays_as s t _ did.3 (stays_taken did.0 did.1 None s)
+    moved_stays s t (inr (inr (inl did))) = stays_as s t _ did.1.1.3 (refl, refl)
+    moved_stays s t (inr (inr (inr (inl did)))) = stays_as s t _ did.1.1.3 (refl, refl)
+    moved_stays s t (inr (inr (inr (inr (inl did))))) = put_stays s t did.0 did.1
+    moved_stays s t (inr (inr (inr (inr (inr did))))) = stays_as s t _ did (phases.tick_phase s.me.member.core, refl)
+
+    chain_stays : (ms : List (Station core)) (s t : Station core) → Chain core ms s t → Stays s t
+    chain_stays [] s t same = stays_as s t s same (refl, refl)
+    chain_stays (m ∷ ms) s t did =
+        let one = moved_stays s m did.0 in let more = chain_stays ms m t did.1 in (more.0 ∙ one.0, more.1 ∙ one.1)
+
+    pub goes_stays : (s t : Station core) → Goes core s t → Stays s t
+    goes_stays s t did = chain_stays did.0 s t did.1
+
+  -- an act that may be refused
+  trying : {A F : Type 0} (a : Act M) (r : Result A F) (s t : Station core) → closed_by (act_of core a s.me.member).answer ≡ [] → (act_of core a s.me.member).state.setting ≡ s.me.member.setting → OnOk r (t ≡ does core a s) → OnErr r (t ≡ s) → Rests core s t
+  trying a (Ok x) s t none setting did same = rests_acting core a s t none setting did
+  trying a (Err e) s t none setting did same = rests_here core s t same
+
+  pub asked : {A F : Type 0} (r : Result A F) (s t : Station core) → OnOk r (t ≡ does core Ask s) → OnErr r (t ≡ s) → Rests core s t
+  asked r s t did same = trying Ask r s t refl refl did same
+
+  entered_setting : (r : Result ℕ EnterFault) (m : MemberState S) → (entered r m).setting ≡ m.setting
+  entered_setting (Ok n) m = refl
+  entered_setting (Err e) m = refl
+
+  pub came : {A F : Type 0} (r : Result A F) (s t : Station core) → OnOk r (t ≡ does core Enter s) → OnErr r (t ≡ s) → Rests core s t
+  came r s t did same = trying Enter r s t refl (entered_setting (core.enter s.me.member.core).answer _) did same
+
+  pub wanted : (to : ℕ) (s t : Station core) → t ≡ does core (Want to) s → Rests core s t
+  wanted to s t did = rests_acting core (Want to) s t refl refl did
+
+module _ {J : Type 0} (AsksFor : J → List ℕ → Type 0) (Makes : J → ℕ → List ℕ → List OneWrite → J → Type 0) (Holds : ℕ → List ℕ → Type 0) where
+  runs_on : (count : ℕ) (job : J) (rs : List Receipt) (next : J) (more : List Receipt) (after : J) → Runs AsksFor Makes Holds count job rs next → Runs AsksFor Makes Holds count next more after → Runs AsksFor Makes Holds count job (rs ++ more) after
+  runs_on count job [] next more after same runs = subst (λ (j : J). Runs AsksFor Makes Holds count j more after) same runs
+  runs_on count job (r ∷ rs) next more after did runs = (did.0, did.1, runs_on count did.0 rs next more after did.2 runs)
+
+  module _ {H S M : Type 0} (core : Core H S M) where
+    pub stands : (job after : J) (s t : Station core) → after ≡ job → Rests core s t → Advances AsksFor Makes Holds core job s after t
+    stands job after s t same rests = record { home = rests.home; setting = rests.setting; sections = []; runs = same; receipts = rests.receipts ∙ sym (append-nil s.me.receipts) }
+
+    pub one_left : (job after : J) (s t : Station core) → ((r : Receipt) × IsSection AsksFor Makes Holds s.me.member.setting.registers job r after × Leaves core s r t) → Advances AsksFor Makes Holds core job s after t
+    one_left job after s t did = record {
+      home = did.2.home;
+      setting = did.2.setting;
+      sections = did.0 ∷ [];
+      runs = (after, did.1, refl);
+      receipts = did.2.receipts;
+    }
+
+    pub advances_on : (job next after : J) (s t u : Station core) → Advances AsksFor Makes Holds core job s next t → Advances AsksFor Makes Holds core next t after u → Advances AsksFor Makes Holds core job s after u
+    advances_on job next after s t u a b = record {
+      home = b.home ∙ a.home;
+      setting = b.setting ∙ a.setting;
+      sections = a.sections ++ b.sections;
+      runs =
+          runs_on s.me.member.setting.registers job a.sections next b.sections after a.runs
+          (subst (λ (x : Setting). Runs AsksFor Makes Holds x.registers next b.sections after) a.setting b.runs);
+      receipts = b.receipts ∙ ap (λ (rs : List Receipt). rs ++ b.sections) a.receipts ∙ append_assoc s.me.receipts a.sections b.sections;
+    }
+
+    -- a section that is left after other acts
+    pub left_after : (job after : J) (s t u : Station core) → Rests core s t → ((r : Receipt) × IsSection AsksFor Makes Holds t.me.member.setting.registers job r after × Leaves core t r u) → Advances AsksFor Makes Holds core job s after u
+    left_after job after s t u begun left = advances_on job job after s t u (stands job job s t refl begun) (one_left job after t u left)
+
+    -- a station that goes on without a section
+    pub on_rests : (job next : J) (s t u : Station core) → Advances AsksFor Makes Holds core job s next t → Rests core t u → Advances AsksFor Makes Holds core job s next u
+    on_rests job next s t u a rests = advances_on job next next s t u a (stands next next t u refl rests)
+
+    -- nothing is pending
+    pub settled : (job after : J) (s t : Station core) → Advances AsksFor Makes Holds core job s after t → Reaches AsksFor Makes Holds core false job s after t
+    settled job after s t a = record { next = after; advances = a; rest = refl }
+
+    pub reached : (job after : J) (s t : Station core) → Reaches AsksFor Makes Holds core false job s after t → Advances AsksFor Makes Holds core job s after t
+    reached job after s t r = subst (λ (j : J). Advances AsksFor Makes Holds core job s j t) (sym r.rest) r.advances
+
+    -- a section is pending
+    pub pending : (job after : J) (s t : Station core) → Rests core s t → Pends AsksFor Makes Holds core job t after → Reaches AsksFor Makes Holds core true job s after t
+    pending job after s t rests pends = record { next = job; advances = stands job job s t refl rests; rest = pends }
+
+    pub reaches_on : (p : Bool) (first job after : J) (from s t : Station core) → Reaches AsksFor Makes Holds core false first from job s → Reaches AsksFor Makes Holds core p job s after t → Reaches AsksFor Makes Holds core p first from after t
+    reaches_on p first job after from s t a b = record { next = b.next; advances = advances_on first job b.next from s t (reached first job from s a) b.advances; rest = b.rest }
+
+    -- a pending section is left
+    pub left_at_last : (first job : J) (from s t : Station core) → Reaches AsksFor Makes Holds core true first from job s → (r : Receipt) × ((leave_of core s.me.member).answer ≡ Ok r) × (t ≡ does core Leave s) → Reaches AsksFor Makes Holds core false first from job t
+    left_at_last first job from s t r did =
+        settled first job from t (advances_on first r.next job from s t r.advances (one_left r.next job s t (pending_left AsksFor Makes Holds core r.next job did.0 s s t (rests_here core s s refl) r.rest did.1 did.2)))
+
+    pub still_there : (p : Bool) (first job : J) (from s t : Station core) → t ≡ s → Reaches AsksFor Makes Holds core p first from job s → Reaches AsksFor Makes Holds core p first from job t
+    still_there p first job from s t same r = subst (λ (z : Station core). Reaches AsksFor Makes Holds core p first from job z) (sym same) r
+
+    -- a turn of the station leaves what is pending
+    pub turned : (phases : KeepsPhases core) (p : Bool) (first job : J) (from s t : Station core) → Goes core s t → Reaches AsksFor Makes Holds core p first from job s → Reaches AsksFor Makes Holds core p first from job t
+    turned phases false first job from s t goes r = record { next = r.next; advances = on_rests first r.next from s t r.advances (goes_rests core s t goes); rest = r.rest }
+    turned phases true first job from s t goes r =
+        let rests = goes_rests core s t goes in
+        let stays = goes_stays core phases s t goes in
+        record {
+          next = r.next;
+          advances = on_rests first r.next from s t r.advances rests;
+          rest = record {
+            receipt = r.rest.receipt;
+            section = subst (λ (x : Setting). IsSection AsksFor Makes Holds x.registers r.next r.rest.receipt job) (sym rests.setting) r.rest.section;
+            inside = stays.0 ∙ r.rest.inside;
+            drafted =
+                r.rest.drafted ∙ ap (λ (x : Setting). receipt_of r.rest.receipt.number x.me s.me.member.draft) (sym rests.setting)
+                ∙ ap (receipt_of r.rest.receipt.number t.me.member.setting.me) (sym stays.1);
+          };
+        }

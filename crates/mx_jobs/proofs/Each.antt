@@ -1,0 +1,43 @@
+-- Lists of which each element is so at its place.
+use Rattle.std.proofs.Common.{◌≡◌, ◌∙◌, ◌+◌, ◌++◌, ℕ, zero, suc, List, [], ◌∷◌, length, slice_get, Some, inl, inr, refl, sym, ap, arith, subst}
+use mathlib.Core.Option.{some}
+use lib.ListN.{get_elem?}
+use Rattle.std.proofs.lemmas.Option.{same_Some}
+use Rattle.mx_stamps.proofs.Lists.{get_snoc, none_is_no_some}
+use Rattle.mx_jobs.specs.Runs.{AreEach}
+
+module _ {X : Type 0} {Is : ℕ → X → Type 0} where
+  pub none_each : (k : ℕ) (xs : List X) → xs ≡ [] → AreEach Is k xs
+  none_each k xs none = subst (AreEach Is k) (sym none) (record { each = λ m x at. absurd (none_is_no_some x at) })
+
+  pub same_each : (k : ℕ) (xs ys : List X) → xs ≡ ys → AreEach Is k ys → AreEach Is k xs
+  same_each k xs ys same all = subst (AreEach Is k) (sym same) all
+
+  pub pushed_each : (k : ℕ) (old mid new : List X) (x : X) → mid ≡ old → new ≡ mid ++ x ∷ [] → AreEach Is k old → Is (k + length old) x → AreEach Is k new
+  pushed_each k old mid new x same grown all is =
+      subst (AreEach Is k) (sym (grown ∙ ap (λ (l : List X). l ++ x ∷ []) same)) (record {
+        each = λ m y at. elim (get_snoc old x m y at) [
+          | inl here ↦ all.each m y here
+          | inr last ↦ subst (Is (k + m)) (sym last.1) (subst (λ (i : ℕ). Is (k + i) x) (sym last.0) is)
+        ];
+      })
+
+  pub first_each : (k : ℕ) (x : X) (xs ys : List X) → ys ≡ x ∷ xs → AreEach Is k ys → Is k x
+  first_each k x xs ys is all =
+      let here : AreEach Is k (x ∷ xs) = subst (AreEach Is k) is all in
+      subst (λ (i : ℕ). Is i x) (let e : k + 0 ≡ k = omega arith in e) (here.each 0 x refl)
+
+  pub rest_each : (k : ℕ) (x : X) (xs ys : List X) → ys ≡ x ∷ xs → AreEach Is k ys → AreEach Is (suc k) xs
+  rest_each k x xs ys is all =
+      let here : AreEach Is k (x ∷ xs) = subst (AreEach Is k) is all in
+      record { each = λ m y at. subst (λ (i : ℕ). Is i y) (let e : k + suc m ≡ suc k + m = omega arith in e) (here.each (suc m) y at) }
+
+  -- what is at a place is so
+  pub each_at : (k : ℕ) (xs : List X) (x : X) → slice_get xs k ≡ Some x → AreEach Is 0 xs → Is k x
+  each_at k xs x at all = subst (λ (i : ℕ). Is i x) (let e : 0 + k ≡ k = omega arith in e) (all.each k x at)
+
+-- the two ways to look up an element
+pub as_elem : {X : Type 0} (xs : List X) (k : ℕ) (x : X) → slice_get xs k ≡ Some x → get_elem? xs k ≡ some x
+as_elem [] k x at = absurd (none_is_no_some x at)
+as_elem (y ∷ xs) zero x at = ap some (same_Some y x at)
+as_elem (y ∷ xs) (suc k) x at = as_elem xs k x at

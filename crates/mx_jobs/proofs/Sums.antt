@@ -1,0 +1,22 @@
+-- Sums of registers, for laws that conserve something.
+use Rattle.std.proofs.Common.{◌≡◌, ◌∙◌, ◌+◌, ◌*◌, ◌<◌, ◌≢◌, ℕ, List, get_or, length, replicate, sum, sym, arith}
+use Rattle.std.proofs.Math.ListN.{set}
+use Rattle.std.proofs.lemmas.List.{get_or-set_other, length-set}
+use Rattle.std.proofs.lemmas.List.Folds.{sum_by-replicate}
+use Rattle.std.proofs.lemmas.List.Sums.{sum_by-set}
+
+-- one register gets another value
+one_set : (xs : List ℕ) (i y : ℕ) → i < length xs → sum (set xs i y) + get_or xs i 0 ≡ sum xs + y
+one_set xs i y low = sum_by-set (λ x. x) xs i y 0 low
+
+-- two registers do
+pub two_set : (xs : List ℕ) (a b x y : ℕ) → a ≢ b → a < length xs → b < length xs → sum (set (set xs a x) b y) + (get_or xs a 0 + get_or xs b 0) ≡ sum xs + (x + y)
+two_set xs a b x y apart low there =
+    let first = one_set xs a x low in
+    let size = length-set xs a x in
+    let second = one_set (set xs a x) b y (omega arith) in
+    let same = get_or-set_other xs a b x 0 (λ e. apart (sym e)) in omega arith
+
+-- at first all registers are 0
+pub sum_of_zeros : (n : ℕ) → sum (replicate n 0) ≡ 0
+sum_of_zeros n = let e = sum_by-replicate (λ (x : ℕ). x) n 0 in let none : n * 0 ≡ 0 = omega arith in e ∙ none

@@ -1,0 +1,64 @@
+use Rattle.std.proofs.Common.{◌++◌, List, ℕ, map, refl, sym, subst}
+use Rattle.mx_journal.specs.declared.records.Write.{Write as OneWrite}
+use Rattle.mx_stations.specs.Turns.{Station}
+use Rattle.mx_jobs.specs.declared.tries.JobFault.{JobFault}
+use Rattle.mx_jobs.specs.Laws.{AreThere, KeepsLaw}
+use Rattle.mx_jobs.specs.Sections.{Drafts, Pends, Rests}
+use Rattle.mx_jobs.proofs.Members.{apart_pending, apart_tries, restarted, rests_on, same_ok}
+use Rattle.mx_jobs.proofs.Made.{pending_left, section_pends}
+use Rattle.mx_jobs.proofs.tries.try_section.Goals as goal
+
+pub read_all-requires : goal.read_all-requires
+read_all-requires g c = (search (c.requires-raw), (c.requires.few, (restarted g.C.Exclusion.core c.args.station.now c.restart.new.self c.restart.ensures).drafted))
+
+pub write_all-requires : goal.write_all-requires
+write_all-requires g c = search (c.requires-raw)
+
+pub try_leave-has_left-requires : goal.try_leave-has_left-requires
+try_leave-has_left-requires g c = search (c.requires-raw)
+
+pub returns-in_ok-write_all-in-Ok-clause-left : goal.returns-in_ok-write_all-in-Ok-clause-left
+returns-in_ok-write_all-in-Ok-clause-left g c = λ e.
+    let core = g.C.Exclusion.core in
+    let job = c.args.job.now in
+    let after = c.section-writes.new.self in
+    let number = c.in-Inside.number in
+    let values = c.in-Ok.values.items in
+    let writes = c.section-writes.result.items in
+    let read = c.read_all.new.station in
+    let d = read.me.member.draft in
+    let made = section_pends g.J.Job.asks_for g.J.Job.makes g.J.Job.holds core job after number c.args.registers.now values writes
+    c.args.station.now c.restart.new.self read c.write_all.new.station (sym c.in-Inside.ensures.value) c.requires.asked
+    (subst (λ (vs : List ℕ). g.J.Job.makes job number vs writes after) c.as_slice.ensures.value c.section-writes.ensures.made)
+    (subst (λ (vs : List ℕ). KeepsLaw g.J.Job.asks_for g.J.Job.holds job number vs writes) c.as_slice.ensures.value c.section-writes.ensures.keeps)
+    (restarted core _ _ c.restart.ensures) c.in-Ok.ensures.read
+    (subst (λ (ws : List OneWrite). Drafts core read (record { reads = d.reads; writes = d.writes ++ ws }) c.write_all.new.station × AreThere read.me.member.setting.registers (map (λ (w : OneWrite). w.register) ws)) c.as_slice-in-Ok.ensures.value c.in_ok-write_all-in-Ok.ensures) in
+    let has = c.try_leave-has_left.ensures.left (c.outcome_of.ensures.left (same_ok {F = JobFault} _ _ e)) in
+    pending_left g.J.Job.asks_for g.J.Job.makes g.J.Job.holds core job after has.0 c.args.station.now c.write_all.new.station c.try_leave-has_left.new.station made.0 made.1 has.1 has.2
+
+pub returns-in_ok-write_all-in-Ok-clause-pending : goal.returns-in_ok-write_all-in-Ok-clause-pending
+returns-in_ok-write_all-in-Ok-clause-pending g c = λ e.
+    let core = g.C.Exclusion.core in
+    let job = c.args.job.now in
+    let after = c.section-writes.new.self in
+    let number = c.in-Inside.number in
+    let values = c.in-Ok.values.items in
+    let writes = c.section-writes.result.items in
+    let read = c.read_all.new.station in
+    let d = read.me.member.draft in
+    let made = section_pends g.J.Job.asks_for g.J.Job.makes g.J.Job.holds core job after number c.args.registers.now values writes
+    c.args.station.now c.restart.new.self read c.write_all.new.station (sym c.in-Inside.ensures.value) c.requires.asked
+    (subst (λ (vs : List ℕ). g.J.Job.makes job number vs writes after) c.as_slice.ensures.value c.section-writes.ensures.made)
+    (subst (λ (vs : List ℕ). KeepsLaw g.J.Job.asks_for g.J.Job.holds job number vs writes) c.as_slice.ensures.value c.section-writes.ensures.keeps)
+    (restarted core _ _ c.restart.ensures) c.in-Ok.ensures.read
+    (subst (λ (ws : List OneWrite). Drafts core read (record { reads = d.reads; writes = d.writes ++ ws }) c.write_all.new.station × AreThere read.me.member.setting.registers (map (λ (w : OneWrite). w.register) ws)) c.as_slice-in-Ok.ensures.value c.in_ok-write_all-in-Ok.ensures) in
+    subst (λ (z : Station core). Rests core c.args.station.now z × Pends g.J.Job.asks_for g.J.Job.makes g.J.Job.holds core job z after)
+    (sym (c.try_leave-has_left.ensures.kept (c.outcome_of.ensures.pending (same_ok {F = JobFault} _ _ e)))) made
+
+pub returns-in-Err : goal.returns-in-Err
+returns-in-Err g c =
+    let rests = rests_on g.C.Exclusion.core _ _ _ (restarted g.C.Exclusion.core _ _ c.restart.ensures).rests c.read_all.ensures.rests in
+    record { left = λ e. absurd (apart_tries e); pending = λ e. absurd (apart_pending e); outside = λ e. (refl, rests); gap = λ e. (refl, rests) }
+
+pub section-writes-requires : goal.section-writes-requires
+section-writes-requires g c = c.requires.ready c.args.job.now

@@ -1,0 +1,96 @@
+-- What a job's sections are, and what they leave of a station.
+use Rattle.std.specs.Prelude.{◌≡◌, ℕ, Bool, MatchBool, List, [], ◌∷◌, ◌++◌, map}
+use Rattle.std.specs.List.{All}
+use Rattle.atomic_table.specs.Seated.{TableId}
+use Rattle.mx_journal.specs.declared.records.Write.{Write}
+use Rattle.mx_journal.specs.declared.receipts.Read.{Read}
+use Rattle.mx_journal.specs.declared.receipts.Receipt.{Receipt}
+use Rattle.mx_journal.specs.Drafted.{Drafted, receipt_of}
+use Rattle.mx_nodelaws.specs.Core.{Core}
+use Rattle.mx_nodelaws.specs.declared.phase.Phase.TheVariants.{Inside}
+use Rattle.mx_stations.specs.Posts.{Post}
+use Rattle.mx_stations.specs.Turns.{Station}
+use Rattle.mx_jobs.specs.Laws.{AreThere, KeepsLaw}
+
+abbrev pub registers_of : List Read → List ℕ
+registers_of reads = map (λ x. x.register) reads
+
+abbrev pub values_of : List Read → List ℕ
+values_of reads = map (λ x. x.value) reads
+
+-- whose station it is: its table, how many nodes that has, and its node
+abbrev pub home_of : {T P : Type 0} → Post T P → TableId × ℕ × ℕ
+home_of s = (s.table, s.nodes, s.me.node)
+
+module _ {H S M : Type 0} (core : Core H S M) where
+  -- it is the same node's, at the same table, with the same setting, and no section was left
+  pub record Rests (s t : Station core) : Type 0 where
+    pub home : home_of t ≡ home_of s
+    pub setting : t.me.member.setting ≡ s.me.member.setting
+    pub receipts : t.me.receipts ≡ s.me.receipts
+
+  -- the draft is this now, and the core as it was
+  pub record Drafts (s : Station core) (draft : Drafted) (t : Station core) : Type 0 where
+    pub rests : Rests s t
+    pub same_core : t.me.member.core ≡ s.me.member.core
+    pub drafted : t.me.member.draft ≡ draft
+
+  -- one section was left, of this receipt
+  pub record Leaves (s : Station core) (r : Receipt) (t : Station core) : Type 0 where
+    pub home : home_of t ≡ home_of s
+    pub setting : t.me.member.setting ≡ s.me.member.setting
+    pub receipts : t.me.receipts ≡ s.me.receipts ++ r ∷ []
+
+-- these registers were read, and these values found, before any write
+pub record HasRead (count : ℕ) (registers values : List ℕ) (draft : Drafted) : Type 0 where
+  pub there : AreThere count registers
+  pub registers_are : registers_of draft.reads ≡ registers
+  pub values_are : values_of draft.reads ≡ values
+  pub first : All (λ (x : Read). x.after ≡ 0) draft.reads
+  pub no_writes : draft.writes ≡ []
+
+module _ {J : Type 0} (AsksFor : J → List ℕ → Type 0)
+    (Makes : J → ℕ → List ℕ → List Write → J → Type 0)
+    (Holds : ℕ → List ℕ → Type 0) where
+  -- the section of this receipt is the job's: it read the registers that the job asked for, before
+  -- any write, its writes are what the job made of their values, and it keeps the law; all are
+  -- among so many registers
+  pub record IsSection (count : ℕ) (job : J) (r : Receipt) (after : J) : Type 0 where
+    pub asked : AsksFor job (registers_of r.reads.items)
+    pub read_there : AreThere count (registers_of r.reads.items)
+    pub write_there : AreThere count (map (λ (w : Write). w.register) r.writes.items)
+    pub first : All (λ (x : Read). x.after ≡ 0) r.reads.items
+    pub made : Makes job r.number (values_of r.reads.items) r.writes.items after
+    pub keeps : KeepsLaw AsksFor Holds job r.number (values_of r.reads.items) r.writes.items
+
+  -- the job's sections, one after another
+  abbrev pub Runs : ℕ → J → List Receipt → J → Type 0
+  Runs count job [] after = after ≡ job
+  Runs count job (r ∷ rs) after =
+      (next : J) × IsSection count job r next × Runs count next rs after
+
+  module _ {H S M : Type 0} (core : Core H S M) where
+    -- the station went on to this one, and the job to that, by some sections of the job, one after
+    -- another
+    pub record Advances (job : J) (s : Station core) (after : J) (t : Station core) : Type 0 where
+      pub home : home_of t ≡ home_of s
+      pub setting : t.me.member.setting ≡ s.me.member.setting
+      pub sections : List Receipt
+      pub runs : Runs s.me.member.setting.registers job sections after
+      pub receipts : t.me.receipts ≡ s.me.receipts ++ sections
+
+    -- A section of the job was made and is not left yet: the node is inside, and its draft is the
+    -- section's.
+    pub record Pends (job : J) (s : Station core) (after : J) : Type 0 where
+      pub receipt : Receipt
+      pub section : IsSection s.me.member.setting.registers job receipt after
+      pub inside : core.phase s.me.member.core ≡ Inside receipt.number
+      pub drafted : receipt
+          ≡ receipt_of receipt.number s.me.member.setting.me s.me.member.draft
+
+    -- the same, or nothing is pending
+    pub record Reaches (pending : Bool) (job : J) (s : Station core) (after : J) (t : Station core)
+        : Type 0 where
+      pub next : J
+      pub advances : Advances job s next t
+      pub rest : MatchBool pending (Pends next t after) (after ≡ next)

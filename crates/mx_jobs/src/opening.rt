@@ -1,0 +1,47 @@
+//! The stations of a new cluster.
+
+ghost use Rattle.std.specs.Prelude.{◌≡◌, ◌<◌, ◌≤◌, IfOk};
+ghost use Rattle.mx_stamps.specs.declared.limits.TheConstants.{MOST_REGISTERS, MOST_SECTIONS};
+ghost use Rattle.mx_member.specs.Steps.{start_of};
+ghost use Rattle.mx_stations.specs.Opened.{AreFresh};
+ghost use Rattle.mx_jobs.specs.Runs.{AreNew, registers_at};
+
+use mx_nodelaws::Exclusion;
+use mx_stations::{Field, Station};
+use std::alloc::{AllocError, Global};
+
+/// How a cluster begins: where the numbers of requests start, the greatest section number, and how
+/// many registers there are.
+#[derive(Clone, Copy, Debug, PartialEq, Eq)]
+pub struct Settings {
+    pub origin: u64,
+    pub sections: u64,
+    pub registers: u8,
+}
+
+/// Makes the stations of a new cluster of this shape, one for each node, in order.
+pub fn stations<C: Exclusion>(
+    alloc: Global,
+    shape: &C::Shape,
+    settings: &Settings,
+) -> Result<Vec<Station<C>>, AllocError>
+    requires low { 0 < settings.now.sections }
+    requires high { settings.now.sections ≤ MOST_SECTIONS }
+    requires some { 0 < settings.now.registers }
+    requires few { settings.now.registers ≤ MOST_REGISTERS }
+    ensures new { IfOk result (λ all. AreNew C.core all.items) }
+    ensures registers { IfOk result (λ all. registers_at all.items ≡ settings.now.registers) }
+    ensures fresh { IfOk result (λ all. AreFresh (C.core.count shape.now)
+        (λ i. start_of C.core shape.now i settings.now.origin settings.now.sections
+        settings.now.registers) all.items) }
+{
+    // that there is a node is known from this call
+    let _nodes = C::nodes(shape);
+    Field::<C>::stations(
+        alloc,
+        shape,
+        settings.origin,
+        settings.sections,
+        settings.registers,
+    )
+}

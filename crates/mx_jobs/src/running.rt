@@ -1,0 +1,211 @@
+//! A run: a thread for each station of a cluster, and what all have together.
+
+ghost use Rattle.std.specs.Prelude.{◌≡◌, ◌≢◌, ◌<◌, [], List, ℕ, length, replicate, IfOk, IsErrAnd, OnOk};
+ghost use Rattle.mx_jobs.specs.Laws.{contents_of};
+ghost use Rattle.mx_jobs.specs.Runs.{AreNew, AreSplit, Fit, HaveRun, Opening, registers_at};
+
+use crate::assembly::Assembly;
+use crate::faults::{RunFault, Unfinished};
+use crate::job::Job;
+use crate::joining::join_all;
+use crate::threads::{Worker, all_taken, start_each};
+use mx_letters::{Fair, Fates};
+use mx_nodelaws::Exclusion;
+use mx_stations::{Gathered, Station, gather};
+use std::alloc::{AllocError, Global};
+use std::sync::Arc;
+use std::thread::Threads;
+
+/// What a run came to: the receipts of all sections, in order, their journal, and what the jobs
+/// have become.
+#[derive(Drop)]
+pub struct Finished<J: Drop> {
+    pub gathered: Gathered,
+    pub jobs: Vec<J>,
+}
+
+/// Runs a cluster from its new stations, each in a thread of its own. The k-th job is that of node
+/// k, and the k-th fates are those of the parcels that reach it. A node goes through the sections
+/// of its job, and then answers the others until all jobs are done. No node makes more turns than
+/// `turns`.
+///
+/// # Errors
+///
+/// `RunFault` says why the run came to no end. The stations and the jobs come back.
+pub fn run<
+    C: Exclusion + Send + 'static,
+    J: Job + Send + 'static,
+    F: Fates + Send + Drop + 'static,
+    R: Threads,
+>(
+    rt: &R,
+    alloc: Global,
+    stations: Vec<Station<C>>,
+    jobs: Vec<J>,
+    fates: Vec<F>,
+    turns: u64,
+) -> Result<Finished<J>, Unfinished<C, J>>
+where
+    C::Msg: Send + 'static,
+    C::Shape: Send + 'static,
+    requires new { AreNew C.core stations.items }
+    requires ready { (j : J) → J.ready j }
+    requires begins { (count : ℕ) → J.holds 0 (replicate count 0) }
+    ensures ran { IfOk result (λ out. HaveRun J.asks_for J.makes J.holds J.finished
+        (registers_at stations.items) jobs.items
+        out.gathered.receipts.items out.gathered.journal out.jobs.items) }
+    ensures law { IfOk result (λ out. J.holds (length out.gathered.receipts.items)
+        (contents_of (registers_at stations.items) out.gathered.journal)) }
+    ensures not_each { length jobs.items ≢ length stations.items
+        → IsErrAnd result (λ back. (back.stations ≡ stations) × (back.jobs ≡ jobs)) }
+{
+    run_under(rt, alloc, stations, jobs, fates, turns)
+}
+
+/// Fair links to each of this many nodes, which lose and repeat nothing.
+pub fn fair_links(alloc: Global, count: usize) -> Result<Vec<Fair>, AllocError> {
+    let mut links = Vec::new(alloc);
+    for _node in 0..count {
+        links.push(Fair)?;
+    }
+    Ok(links)
+}
+
+/// Runs a cluster under these fates of parcels.
+fn run_under<
+    C: Exclusion + Send + 'static,
+    J: Job + Send + 'static,
+    F: Fates + Send + Drop + 'static,
+    R: Threads,
+>(
+    rt: &R,
+    alloc: Global,
+    mut stations: Vec<Station<C>>,
+    mut jobs: Vec<J>,
+    fates: Vec<F>,
+    turns: u64,
+) -> Result<Finished<J>, Unfinished<C, J>>
+where
+    C::Msg: Send + 'static,
+    C::Shape: Send + 'static,
+    requires { AreNew C.core stations.items × ((j : J) → J.ready j)
+        × ((count : ℕ) → J.holds 0 (replicate count 0)) }
+    ensures ran { IfOk result (λ out. HaveRun J.asks_for J.makes J.holds J.finished
+        (registers_at stations.items) jobs.items
+        out.gathered.receipts.items out.gathered.journal out.jobs.items) }
+    ensures law { IfOk result (λ out. J.holds (length out.gathered.receipts.items)
+        (contents_of (registers_at stations.items) out.gathered.journal)) }
+    ensures not_each { length jobs.items ≢ length stations.items
+        → IsErrAnd result (λ back. (back.stations ≡ stations) × (back.jobs ≡ jobs)) }
+{
+    if jobs.len() != stations.len() {
+        return Err(Unfinished {
+            fault: RunFault::NotAJobEach,
+            stations,
+            jobs,
+        });
+    }
+    match run_all(rt, alloc, &mut stations, &mut jobs, fates, turns) {
+        Ok(()) => finish(alloc, stations, jobs),
+        Err(fault) => Err(Unfinished {
+            fault,
+            stations,
+            jobs,
+        }),
+    }
+}
+
+/// Runs each station in a thread of its own, until all threads have ended.
+fn run_all<
+    C: Exclusion + Send + 'static,
+    J: Job + Send + 'static,
+    F: Fates + Send + Drop + 'static,
+    R: Threads,
+>(
+    rt: &R,
+    alloc: Global,
+    stations: &mut Vec<Station<C>>,
+    jobs: &mut Vec<J>,
+    mut fates: Vec<F>,
+    turns: u64,
+) -> Result<(), RunFault>
+where
+    C::Msg: Send + 'static,
+    C::Shape: Send + 'static,
+    requires { (j : J) → J.ready j }
+    ensures { (o : Opening C.Shape) (all : List J)
+        → Fit C.core o all 0 stations.old.items jobs.old.items
+        → OnOk result (AreSplit J.asks_for J.makes J.holds J.finished C.core o all
+        stations.new.items jobs.new.items) }
+{
+    let gate = shared_gate(alloc, count_of(stations.as_slice()))?;
+    let mut workers = Vec::new(alloc);
+    match start_each(rt, &mut workers, stations, jobs, &mut fates, &gate, turns) {
+        Ok(()) => {}
+        Err(fault) => return Err(give_up(rt, workers, stations, jobs, &*gate, fault)),
+    }
+    match all_taken(jobs) {
+        Ok(()) => {}
+        Err(fault) => return Err(give_up(rt, workers, stations, jobs, &*gate, fault)),
+    }
+    join_all(rt, workers, stations, jobs)
+}
+
+/// Joins the threads that were started, where others could not be: the gate lets none of them
+/// begin.
+fn give_up<C: Exclusion, J: Job, R: Threads>(
+    rt: &R,
+    workers: Vec<Worker<C, J>>,
+    stations: &mut Vec<Station<C>>,
+    jobs: &mut Vec<J>,
+    gate: &Assembly,
+    fault: RunFault,
+) -> RunFault {
+    gate.shut();
+    let _ = join_all(rt, workers, stations, jobs);
+    fault
+}
+
+/// The gate of this many nodes.
+fn shared_gate(alloc: Global, nodes: u8) -> Result<Arc<Assembly, Global>, RunFault>
+    requires { nodes < 22 }
+{
+    match Arc::new(alloc, Assembly::new(nodes)) {
+        Ok(gate) => Ok(gate),
+        Err(_) => Err(RunFault::Memory),
+    }
+}
+
+/// How many nodes there are, 1 where there is no station.
+fn count_of<C: Exclusion>(stations: &[Station<C>]) -> u8
+    ensures { result < 22 }
+{
+    match stations.first() {
+        Some(station) => station.nodes(),
+        None => 1,
+    }
+}
+
+/// Gathers what the nodes did, all of which are done.
+fn finish<C: Exclusion, J: Job>(
+    alloc: Global,
+    stations: Vec<Station<C>>,
+    jobs: Vec<J>,
+) -> Result<Finished<J>, Unfinished<C, J>>
+    requires { (o : Opening C.Shape) × (all : List J)
+        × AreSplit J.asks_for J.makes J.holds J.finished C.core o all stations.items jobs.items }
+    ensures { (o : Opening C.Shape) (all : List J)
+        → C.core.count o.shape ≡ length all
+        → AreSplit J.asks_for J.makes J.holds J.finished C.core o all stations.items jobs.items
+        → IfOk result (λ out. HaveRun J.asks_for J.makes J.holds J.finished o.registers all
+        out.gathered.receipts.items out.gathered.journal out.jobs.items) }
+{
+    match gather(alloc, stations) {
+        Ok(gathered) => Ok(Finished { gathered, jobs }),
+        Err(refused) => Err(Unfinished {
+            fault: RunFault::Memory,
+            stations: refused.stations,
+            jobs,
+        }),
+    }
+}

@@ -1,0 +1,155 @@
+//! One section of a job, at the station of a node that is inside.
+
+ghost use Rattle.std.specs.Prelude.{◌≡◌, ◌≤◌, ◌++◌, ◌∷◌, [], ℕ, Bool, Err, Ok, IfOk, OnOk, false, length, map, true};
+ghost use Rattle.mx_journal.specs.Drafted.{Drafted, fresh};
+ghost use Rattle.mx_journal.specs.declared.receipts.Receipt.{Receipt as OneReceipt};
+ghost use Rattle.mx_journal.specs.declared.records.Write.{Write as OneWrite};
+ghost use Rattle.mx_member.specs.declared.acts.Act.TheVariants.{Leave};
+ghost use Rattle.mx_member.specs.Steps.{leave_of};
+ghost use Rattle.mx_stations.specs.Posts.{does};
+ghost use Rattle.mx_jobs.specs.Laws.{AreThere};
+ghost use Rattle.mx_jobs.specs.Sections.{Drafts, HasRead, IsSection, Leaves, Pends, Rests};
+
+use crate::job::Job;
+use arrayvec::ArrayVec;
+use mx_journal::Write;
+use mx_member::{ReadFault, WriteFault};
+use mx_nodelaws::{Exclusion, Phase};
+use mx_stations::Station;
+use thiserror::Error;
+
+/// Why a job cannot go on.
+#[derive(Clone, Copy, Debug, PartialEq, Eq, Error)]
+pub enum JobFault {
+    /// It reads or writes a register that does not exist.
+    #[error("no register")]
+    NoRegister,
+    /// All section numbers are used.
+    #[error("numbers spent")]
+    NumbersSpent,
+}
+
+/// What a try at a section came to.
+#[derive(Clone, Copy, Debug, PartialEq, Eq)]
+pub(crate) enum Tried {
+    /// The section was made and left.
+    Left,
+    /// The section was made, and memory was refused when the node tried to leave.
+    Pending,
+    /// The node is not inside.
+    Outside,
+    /// Records of earlier sections are missing.
+    Gap,
+}
+
+/// Reads the registers, in order.
+fn read_all<C: Exclusion>(
+    station: &mut Station<C>,
+    registers: &[u8],
+) -> Result<ArrayVec<u64, 8>, ReadFault>
+    requires few { length registers.now ≤ 8 }
+    requires empty { station.old.me.member.draft ≡ fresh }
+    ensures rests { Rests C.core station.old station.new }
+    ensures read { IfOk result (λ values. (draft : Drafted)
+        × HasRead station.old.me.member.setting.registers registers.now values.items draft
+        × Drafts C.core station.old draft station.new) }
+{
+    let mut values = ArrayVec::new();
+    for register in registers {
+        let value = station.read(*register)?;
+        values.push(value);
+    }
+    Ok(values)
+}
+
+/// Writes, in order.
+fn write_all<C: Exclusion>(station: &mut Station<C>, writes: &[Write]) -> Result<(), WriteFault>
+    ensures { OnOk result (Drafts C.core station.old
+        (record {
+          reads = station.old.me.member.draft.reads;
+          writes = station.old.me.member.draft.writes ++ writes.now;
+        }) station.new
+        × AreThere station.old.me.member.setting.registers
+        (map (λ (w : OneWrite). w.register) writes.now)) }
+{
+    for write in writes {
+        station.write(write.register, write.value)?;
+    }
+    Ok(())
+}
+
+/// Leaves the section, unless memory is refused.
+pub(crate) fn try_leave<C: Exclusion>(station: &mut Station<C>) -> bool
+    ensures left { result ≡ true → (r : OneReceipt)
+        × ((leave_of C.core station.old.me.member).answer ≡ Ok r)
+        × (station.new ≡ does C.core Leave station.old) }
+    ensures kept { result ≡ false → station.new ≡ station.old }
+{
+    match station.leave() {
+        Ok(_) => true,
+        Err(_) => false,
+    }
+}
+
+/// Makes the job's next section, which reads these registers, if the node is inside and its journal
+/// has the records of all earlier sections. It begins with an empty draft, so that a try that met a
+/// gap leaves nothing behind.
+pub(crate) fn try_section<C: Exclusion, J: Job>(
+    station: &mut Station<C>,
+    job: &mut J,
+    registers: &[u8],
+) -> Result<Tried, JobFault>
+    requires few { length registers.now ≤ 8 }
+    requires asked { J.asks_for job.old registers.now }
+    requires ready { (j : J) → J.ready j }
+    ensures left { result ≡ Ok Tried.Left → (r : OneReceipt)
+        × IsSection J.asks_for J.makes J.holds
+        station.old.me.member.setting.registers job.old r job.new
+        × Leaves C.core station.old r station.new }
+    ensures pending { result ≡ Ok Tried.Pending → Rests C.core station.old station.new
+        × Pends J.asks_for J.makes J.holds C.core job.old station.new job.new }
+    ensures outside { result ≡ Ok Tried.Outside
+        → (job.new ≡ job.old) × Rests C.core station.old station.new }
+    ensures gap { result ≡ Ok Tried.Gap
+        → (job.new ≡ job.old) × Rests C.core station.old station.new }
+{
+    let Phase::Inside(number) = station.phase() else {
+        return Ok(Tried::Outside);
+    };
+    station.restart();
+    match read_all(station, registers) {
+        Ok(values) => {
+            let writes = job.section(number, values.as_slice());
+            write_all(station, writes.as_slice())?;
+            let has_left = try_leave(station);
+            Ok(outcome_of(has_left))
+        }
+        Err(ReadFault::NoRegister) => Err(JobFault::NoRegister),
+        Err(_) => Ok(Tried::Gap),
+    }
+}
+
+/// What a section that was made came to.
+fn outcome_of(has_left: bool) -> Tried
+    ensures left { result ≡ Tried.Left → has_left ≡ true }
+    ensures pending { result ≡ Tried.Pending → has_left ≡ false }
+    ensures inside { result ≡ Tried.Outside → ⊥ }
+    ensures whole { result ≡ Tried.Gap → ⊥ }
+{
+    if has_left {
+        Tried::Left
+    } else {
+        Tried::Pending
+    }
+}
+
+impl From<WriteFault> for JobFault {
+    ghost use Rattle.std.specs.Prelude.{◌≡◌};
+    ghost use Rattle.mx_jobs.specs.declared.tries.JobFault.TheVariants.{NoRegister};
+
+    ghost from_gives = { λ _ fault. fault ≡ NoRegister };
+
+    fn from(_fault: WriteFault) -> JobFault {
+        JobFault::NoRegister
+    }
+}

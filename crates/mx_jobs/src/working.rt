@@ -1,0 +1,232 @@
+//! A worker: it takes a station through the sections of a job, and answers the other nodes until
+//! all are done.
+
+ghost use Rattle.std.specs.Prelude.{◌≡◌, ◌≤◌, ◌<◌, ◌↔◌, Bool, false, true, IfOk, OnOk, IsTrue, length};
+ghost use Rattle.mx_member.specs.Member.{MemberState};
+ghost use Rattle.mx_member.specs.declared.parcel.Parcel.{Parcel};
+ghost use Rattle.mx_nodelaws.specs.Core.{IsInside};
+ghost use Rattle.mx_stations.specs.Posts.{Post};
+ghost use Rattle.mx_jobs.specs.Sections.{Advances, Reaches, Rests};
+
+use crate::job::Job;
+use crate::tries::{JobFault, Tried, try_leave, try_section};
+use mx_letters::Fates;
+use mx_nodelaws::{EnterFault, Exclusion, Phase};
+use mx_stamps::NodeId;
+use mx_stations::{Patience, Station, TakeFault, TurnReport};
+
+/// When workers begin, and when they may stop. Each call may wait for other workers.
+pub trait Gate {
+    /// Whether the worker of this node may begin. It is asked once, before the first act.
+    fn arrive(&self, node: NodeId) -> bool;
+
+    /// Whether the worker of this node, whose job is done, may stop. It is asked on each turn.
+    fn done(&self, node: NodeId) -> bool;
+
+    /// Whether all workers are to stop, since the job of one cannot go on. It is asked on each
+    /// turn.
+    fn is_broken(&self) -> bool;
+}
+
+/// How a worker ended.
+#[derive(Clone, Copy, Debug, PartialEq, Eq)]
+pub enum Ended {
+    /// The job is done, and the gate let the worker stop.
+    Done,
+    /// All turns were made.
+    NotYet,
+    /// The gate did not let it begin.
+    GateShut,
+    /// The job cannot go on.
+    Broken(JobFault),
+    /// The job of another cannot go on.
+    Stopped,
+}
+
+/// How far a worker is: whether a section of its job is made and not left yet, which node it asked
+/// last for the records that it lacks, and how long it waits between two turns.
+#[derive(Drop)]
+struct Stance {
+    pending: bool,
+    wanted: NodeId,
+    patience: Patience,
+}
+
+/// Waits at the gate, and then works at the job for at most this many turns, under these fates of
+/// parcels. In each turn the acts that are due come first: it asks, enters, and inside makes the
+/// job's next section and leaves. If records are missing, it asks the next node in the circle for
+/// them. If memory is refused when it leaves, it tries again on the next turn.
+pub fn work<C: Exclusion, J: Job, G: Gate, F: Fates>(
+    station: &mut Station<C>,
+    job: &mut J,
+    gate: &G,
+    fates: &mut F,
+    turns: u64,
+) -> Ended
+    requires ready { (j : J) → J.ready j }
+    ensures done { result ≡ Ended.Done
+        → Advances J.asks_for J.makes J.holds C.core job.old station.old job.new station.new }
+    ensures finished { result ≡ Ended.Done → J.finished job.new }
+    ensures outside { result ≡ Ended.Done → IsInside C.core station.new.me.member.core → ⊥ }
+{
+    let node = station.node();
+    if !gate.arrive(node) {
+        return Ended::GateShut;
+    }
+    let mut stance = Stance {
+        pending: false,
+        wanted: node,
+        patience: Patience::new(),
+    };
+    for _turn in 0..turns {
+        match take_turn(station, job, &mut stance, fates) {
+            Ok(idle) => {
+                if idle && !is_inside(station) && gate.done(node) {
+                    return Ended::Done;
+                }
+            }
+            Err(fault) => return Ended::Broken(fault),
+        }
+        if gate.is_broken() {
+            return Ended::Stopped;
+        }
+    }
+    Ended::NotYet
+}
+
+/// Whether the node is inside.
+fn is_inside<C: Exclusion>(station: &Station<C>) -> bool
+    ensures { IsTrue result ↔ IsInside C.core station.now.me.member.core }
+{
+    matches!(station.phase(), Phase::Inside(_))
+}
+
+/// The acts that are due, and a turn of the station. Returns whether the job has no more sections.
+fn take_turn<C: Exclusion, J: Job, F: Fates>(
+    station: &mut Station<C>,
+    job: &mut J,
+    stance: &mut Stance,
+    fates: &mut F,
+) -> Result<bool, JobFault>
+    requires ready { (j : J) → J.ready j }
+    ensures reaches { (first : J) (from : Post (MemberState C) (Parcel C.Msg))
+        → Reaches J.asks_for J.makes J.holds C.core
+        stance.old.pending first from job.old station.old
+        → OnOk result (Reaches J.asks_for J.makes J.holds C.core
+        stance.new.pending first from job.new station.new) }
+    ensures finished { IfOk result (λ idle. idle ≡ true
+        → (stance.new.pending ≡ false) × J.finished job.new) }
+{
+    let idle = act(station, job, stance)?;
+    let report = station.turn(fates);
+    rest(station, &mut stance.patience, &report, idle);
+    Ok(idle)
+}
+
+/// Waits after a turn of the station, which gave this report.
+fn rest<C: Exclusion>(
+    station: &Station<C>,
+    patience: &mut Patience,
+    report: &Result<TurnReport, TakeFault>,
+    idle: bool,
+) {
+    let asks = !idle && matches!(station.phase(), Phase::Idle);
+    patience.wait(station, report, asks);
+}
+
+/// The acts that are due. Returns whether the job has no more sections.
+fn act<C: Exclusion, J: Job>(
+    station: &mut Station<C>,
+    job: &mut J,
+    stance: &mut Stance,
+) -> Result<bool, JobFault>
+    requires ready { (j : J) → J.ready j }
+    ensures reaches { (first : J) (from : Post (MemberState C) (Parcel C.Msg))
+        → Reaches J.asks_for J.makes J.holds C.core
+        stance.old.pending first from job.old station.old
+        → OnOk result (Reaches J.asks_for J.makes J.holds C.core
+        stance.new.pending first from job.new station.new) }
+    ensures finished { IfOk result (λ idle. idle ≡ true
+        → (stance.new.pending ≡ false) × J.finished job.new) }
+{
+    if stance.pending {
+        let has_left = try_leave(station);
+        stance.pending = !has_left;
+        return Ok(false);
+    }
+    go_on(station, job, stance)
+}
+
+/// Goes on with the job's next section, if there is one. Returns whether there is none.
+fn go_on<C: Exclusion, J: Job>(
+    station: &mut Station<C>,
+    job: &mut J,
+    stance: &mut Stance,
+) -> Result<bool, JobFault>
+    requires ready { (j : J) → J.ready j }
+    requires left { stance.old.pending ≡ false }
+    ensures reaches { OnOk result (Reaches J.asks_for J.makes J.holds C.core
+        stance.new.pending job.old station.old job.new station.new) }
+    ensures finished { IfOk result (λ idle. idle ≡ true
+        → (stance.new.pending ≡ false) × J.finished job.new) }
+{
+    let asked = job.asks();
+    match &asked {
+        Some(registers) => {
+            next_section(station, job, registers.as_slice(), stance)?;
+            Ok(false)
+        }
+        None => Ok(true),
+    }
+}
+
+/// Asks, enters, and makes the next section, as far as each is due. If records are missing, it asks
+/// the next node in the circle for them.
+fn next_section<C: Exclusion, J: Job>(
+    station: &mut Station<C>,
+    job: &mut J,
+    registers: &[u8],
+    stance: &mut Stance,
+) -> Result<(), JobFault>
+    requires few { length registers.now ≤ 8 }
+    requires asked { J.asks_for job.old registers.now }
+    requires ready { (j : J) → J.ready j }
+    requires left { stance.old.pending ≡ false }
+    ensures { OnOk result (Reaches J.asks_for J.makes J.holds C.core
+        stance.new.pending job.old station.old job.new station.new) }
+{
+    let _ = station.ask();
+    if station.enter() == Err(EnterFault::NumbersSpent) {
+        return Err(JobFault::NumbersSpent);
+    }
+    match try_section(station, job, registers)? {
+        Tried::Left | Tried::Outside => {}
+        Tried::Pending => stance.pending = true,
+        Tried::Gap => want_next(station, stance),
+    }
+    Ok(())
+}
+
+/// Asks the next node in the circle for the records that are missing.
+fn want_next<C: Exclusion>(station: &mut Station<C>, stance: &mut Stance)
+    ensures rests { Rests C.core station.old station.new }
+    ensures same { stance.new.pending ≡ stance.old.pending }
+{
+    let next = node_after(stance.wanted, station.node(), station.nodes());
+    station.want(next);
+    stance.wanted = next;
+}
+
+/// The next node in the circle of this many, of which `other` is one.
+fn node_after(node: NodeId, other: NodeId, nodes: u8) -> NodeId
+    requires { other < nodes }
+    ensures { result < nodes }
+{
+    match NodeId::of(node.get() + 1) {
+        Some(next) if next.get() < nodes => next,
+        _ => match NodeId::of(0) {
+            Some(first) if 0 < nodes => first,
+            _ => other,
+        },
+    }
+}

@@ -1,0 +1,9 @@
+use Rattle.std.proofs.Common.{◌≡◌}
+use Rattle.mx_live.specs.Progress.{Progresses}
+use Rattle.mx_live.proofs.progress.tell_progress.Given as goal
+
+abbrev pub invariant-loop-second : goal.invariant-loop-second
+invariant-loop-second g l = record {
+  progress : Progresses (g.E.Output.written l.initial.err) (g.E.Output.written l.err);
+  stays : g.E.Output.takes_all l.err ≡ g.E.Output.takes_all l.initial.err;
+}

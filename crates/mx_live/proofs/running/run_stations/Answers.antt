@@ -1,0 +1,25 @@
+use Rattle.std.proofs.Common.{IfOk, List, subst}
+use Rattle.mx_stations.specs.Turns.{Station}
+use Rattle.mx_live.specs.declared.threads.Orders.{Orders}
+use Rattle.mx_live.specs.Workers.{AreLeft, AreLeftOf}
+use Rattle.mx_live.proofs.running.run_stations.Goals as goal
+
+pub start_all-requires-send-C : goal.start_all-requires-send-C
+start_all-requires-send-C g c κs within = record { owned = c.type_bounds.send-C.owned; leaving = c.type_bounds.send-C.leaving }
+
+pub start_all-requires-send-C-Msg : goal.start_all-requires-send-C-Msg
+start_all-requires-send-C-Msg g c κs within = record { owned = c.type_bounds.send-C-Msg.owned; leaving = c.type_bounds.send-C-Msg.leaving }
+
+pub start_all-requires-send-C-Shape : goal.start_all-requires-send-C-Shape
+start_all-requires-send-C-Shape g c κs within = record { owned = c.type_bounds.send-C-Shape.owned; leaving = c.type_bounds.send-C-Shape.leaving }
+
+pub returns-clause-left : goal.returns-clause-left
+returns-clause-left g c =
+    subst (λ (o : Orders). IfOk c.join_all.result (λ all. AreLeft g.C.Exclusion.core o c.args.stations.items all.items)) c.orders_of.ensures
+    (subst (λ (told : List (Station g.C.Exclusion.core × Orders)). IfOk c.join_all.result (λ all. AreLeftOf g.C.Exclusion.core told all.items)) c.in_ok-workers.ensures c.join_all.ensures)
+
+pub start_all-requires-after_bounds : goal.start_all-requires-after_bounds
+start_all-requires-after_bounds g c κs within = search (c.requires-raw)
+
+pub join_all-requires : goal.join_all-requires
+join_all-requires g c = search (c.requires-raw)

@@ -1,0 +1,151 @@
+//! Stations of jobs are made, and run.
+
+ghost use Rattle.std.specs.Prelude.{IfOk};
+ghost use Rattle.mx_jobs.specs.Runs.{AreNew};
+ghost use Rattle.mx_ricart.specs.Step.{ricart_core};
+
+use crate::telling::{back, call, expect, refused};
+use anyhow::{Result, bail};
+use arrayvec::ArrayVec;
+use mx_jobs::{Finished, Job, RunFault, Settings, Unfinished, fair_links, run, stations};
+use mx_journal::Write;
+use mx_letters::Fair;
+use mx_ricart::{Count, Ricart};
+use mx_stations::Station;
+use std::alloc::{AllocError, Global};
+use std::thread::Threads;
+
+const NODES: u8 = 2;
+
+/// How many sections each node has.
+const SECTIONS: u64 = 2;
+
+/// While every turn is refused memory no section is entered, and the run is to end soon.
+const FEW_TURNS: u64 = 2_000;
+
+const MANY_TURNS: u64 = 100_000_000;
+
+const SETTINGS: Settings = Settings {
+    origin: 0,
+    sections: 10,
+    registers: 1,
+};
+
+/// Writes its section's number, in each of so many sections.
+#[derive(Drop)]
+struct Numberer {
+    left: u64,
+}
+
+impl Job for Numberer {
+    fn asks(&self) -> Option<ArrayVec<u8, 8>> {
+        if self.left == 0 {
+            return None;
+        }
+        Some(ArrayVec::new())
+    }
+
+    fn section(&mut self, number: u64, _values: &[u64]) -> ArrayVec<Write, 8> {
+        self.left = self.left.saturating_sub(1);
+        let mut writes = ArrayVec::new();
+        writes.push(Write {
+            register: 0,
+            value: number,
+        });
+        writes
+    }
+}
+
+type Ended = Result<Finished<Numberer>, Unfinished<Ricart, Numberer>>;
+
+fn jobs_of(alloc: Global) -> Result<Vec<Numberer>, AllocError> {
+    let mut all = Vec::new(alloc);
+    for _node in 0..NODES {
+        all.push(Numberer { left: SECTIONS })?;
+    }
+    Ok(all)
+}
+
+fn opened(rt: &HostRuntime, shape: &Count) -> Result<Vec<Station<Ricart>>>
+    ensures { IfOk result (λ all. AreNew ricart_core all.items) }
+{
+    call(rt, "stations");
+    let answer = stations::<Ricart>(rt.alloc(), shape, &SETTINGS);
+    back(rt);
+    match answer {
+        Ok(all) => Ok(all),
+        Err(AllocError) => {
+            refused(rt, "stations", true)?;
+            Ok(stations::<Ricart>(rt.alloc(), shape, &SETTINGS)?)
+        }
+    }
+}
+
+fn linked(rt: &HostRuntime) -> Result<Vec<Fair>> {
+    call(rt, "fair_links");
+    let answer = fair_links(rt.alloc(), usize::from(NODES));
+    back(rt);
+    match answer {
+        Ok(links) => Ok(links),
+        Err(AllocError) => {
+            refused(rt, "fair_links", true)?;
+            Ok(fair_links(rt.alloc(), usize::from(NODES))?)
+        }
+    }
+}
+
+/// Whether a run that came to its end has all sections, in which the last number was written last.
+fn has_all(all: &Finished<Numberer>) -> bool {
+    let sections = SECTIONS * u64::from(NODES);
+    all.gathered.receipts.len() as u64 == sections && all.gathered.journal.gapless_to() == sections
+}
+
+/// What is left of a run that was refused memory, or whose turns were refused it, is whole.
+fn look(rt: &HostRuntime, left: &Unfinished<Ricart, Numberer>) -> Result<()> {
+    let is_whole = left.stations.len() == usize::from(NODES)
+        && left.jobs.len() == usize::from(NODES);
+    match left.fault {
+        RunFault::Memory | RunFault::NoThread => refused(rt, "run", is_whole),
+        RunFault::TurnsSpent => expect("run", is_whole),
+        RunFault::NotAJobEach | RunFault::Job(_) | RunFault::GateShut => bail!("run"),
+    }
+}
+
+/// Runs new stations once more, when nothing is refused.
+fn run_again<R: Threads>(rt: &HostRuntime, threads: &R, shape: &Count) -> Result<()> {
+    let all = stations::<Ricart>(rt.alloc(), shape, &SETTINGS)?;
+    let links = fair_links(rt.alloc(), all.len())?;
+    let jobs = jobs_of(rt.alloc())?;
+    match run(threads, rt.alloc(), all, jobs, links, MANY_TURNS) {
+        Ok(all) => expect("run", has_all(&all)),
+        Err(_) => bail!("run"),
+    }
+}
+
+fn look_and_run_again<R: Threads>(
+    rt: &HostRuntime,
+    threads: &R,
+    shape: &Count,
+    ended: &Ended,
+) -> Result<()> {
+    match ended {
+        Ok(all) => expect("run", has_all(all)),
+        Err(left) => {
+            look(rt, left)?;
+            run_again(rt, threads, shape)
+        }
+    }
+}
+
+pub(crate) fn each<R: Threads>(rt: &HostRuntime, threads: &R) -> Result<()> {
+    let Some(shape) = Count::of(NODES) else {
+        bail!("no such cluster");
+    };
+    let all = opened(rt, &shape)?;
+    let links = linked(rt)?;
+    let jobs = jobs_of(rt.alloc())?;
+    call(rt, "run");
+    let ended = run(threads, rt.alloc(), all, jobs, links, FEW_TURNS);
+    back(rt);
+    look_and_run_again(rt, threads, &shape, &ended)
+}
