@@ -26,7 +26,7 @@ const TELLERS: u8 = 5;
 const ACCOUNTS: u8 = 8;
 
 /// How many transfers each teller makes.
-const TRANSFERS: u64 = 200;
+const TRANSFERS: u64 = 1000;
 
 /// How many of 256 parcels are lost, and how many come twice.
 const LOST: u16 = 16;

@@ -1,5 +1,5 @@
 -- Sums of registers, for laws that conserve something.
-use Rattle.std.proofs.Common.{◌≡◌, ◌∙◌, ◌+◌, ◌*◌, ◌<◌, ◌≢◌, ℕ, List, get_or, length, replicate, sum, sym, arith}
+use Rattle.std.proofs.Common.{◌≡◌, ◌∙◌, ◌+◌, ◌*◌, ◌<◌, ◌≤◌, ◌≢◌, ℕ, List, get_or, length, replicate, sum, sym, arith}
 use Rattle.std.proofs.Math.ListN.{set}
 use Rattle.std.proofs.lemmas.List.{get_or-set_other, length-set}
 use Rattle.std.proofs.lemmas.List.Folds.{sum_by-replicate}
@@ -16,6 +16,12 @@ two_set xs a b x y apart low there =
     let size = length-set xs a x in
     let second = one_set (set xs a x) b y (omega arith) in
     let same = get_or-set_other xs a b x 0 (λ e. apart (sym e)) in omega arith
+
+-- and they held no more than all registers did
+pub transfer : (xs : List ℕ) (a b x y : ℕ) → a ≢ b → a < length xs → b < length xs → (sum (set (set xs a x) b y) + (get_or xs a 0 + get_or xs b 0) ≡ sum xs + (x + y)) × (get_or xs a 0 + get_or xs b 0 ≤ sum xs)
+transfer xs a b x y apart low there =
+    let both = two_set xs a b x y apart low there in
+    let none = two_set xs a b 0 0 apart low there in (both, omega arith)
 
 -- at first all registers are 0
 pub sum_of_zeros : (n : ℕ) → sum (replicate n 0) ≡ 0
