@@ -282,9 +282,11 @@ pub(crate) fn release<C: Exclusion>(
 pub(crate) fn has_filled<C: Exclusion>(field: &Field<C>, link: &Link) -> bool
     requires { IsLink field.now.nodes link.now }
 {
+    // What all four looks share is computed once, as each of them reads memory anew.
+    let slot = slot_of(field, link, 0);
+    let first = field.nodes as usize + slot;
     for index in 0..SLOTS {
-        let slot = slot_of(field, link, index);
-        if field.board.shared.peek(field.nodes as usize + slot) == FILLED {
+        if field.board.shared.peek(first + index as usize) == FILLED {
             return true;
         }
     }
