@@ -13,7 +13,7 @@ use Rattle.mx_member.specs.Steps.{IsTakeable}
 use Rattle.mx_stations.specs.declared.answers.PutOut.TheVariants.{Sent, Full}
 use Rattle.mx_stations.specs.Entries.{Entry}
 use Rattle.mx_stations.specs.Links.{of, slot_at}
-use Rattle.mx_stations.specs.Slides.{claiming, placing, taking, releasing, Claims, HasEmptied, HasUsed, Lifts, placed_view, released_view, IsFilling, IsHolding, KeepsHand}
+use Rattle.mx_stations.specs.Slides.{claiming, placing, taking, releasing, Claims, HasEmptied, HasTaken, HasUsed, Takes, placed_view, released_view, IsFilling, IsHolding, KeepsHand}
 use Rattle.mx_stations.specs.Posts.{Delivers, Fetches, FindsNone, Post, PutsOut, Waits, post, sent_in, shown, slot_from}
 use Rattle.mx_stations.specs.Turns.{IsFated, fated_hand}
 use Rattle.mx_stations.proofs.Places.{only_one}
@@ -77,18 +77,11 @@ module _ {T P : Type 0} where
     pub turned_waits : (m1 : Me (Option P) (List (Entry T P))) (n : ℕ) (to : ℕ × P) (w w' w2 : List (ℕ × P)) → m1 ≡ m → Waits n (sent_in m.0) w → w ≡ to ∷ w' → w2 ≡ w' ++ to ∷ [] → Waits n (sent_in m1.0) w2
     turned_waits m1 n to w w' w2 same waits first turned = waits_turned n (sent_in m.0) (sent_in m1.0) w w' w2 to waits (ap (λ (z : Me (Option P) (List (Entry T P))). sent_in z.0) same) first turned
 
-    -- the parcel that the seat took out of its slot
-    lifted : (k from : ℕ) (m2 : Me (Option P) (List (Entry T P))) (q : P) → Lifts k from q m m2 → m2 ≡ (taking k from q me ∷ [], (k, None) ∷ [])
-    lifted k from m2 q took =
+    -- the seat has the slot, in which the parcel that it took still lies
+    pub has_taken : (k from : ℕ) (m1 : Me (Option P) (List (Entry T P))) (took : Takes k from m m1) → HasTaken k from me took.2.0 m1
+    has_taken k from m1 took =
         let one : took.0 ≡ me = only_me took.0 took.1 in
-        took.2 ∙ (λ j. (taking k from q (one j) ∷ [], (k, None) ∷ []))
-
-    pub holds_none : (k from : ℕ) (m2 : Me (Option P) (List (Entry T P))) (q : P) → Lifts k from q m m2 → IsHolding m2 k i None
-    holds_none k from m2 q took = (taking k from q me, lifted k from m2 q took, refl, refl)
-
-    pub keeps_hand : (k from : ℕ) (m2 : Me (Option P) (List (Entry T P))) (q : P) → Lifts k from q m m2 → KeepsHand m2.0 (Some (from, q))
-    keeps_hand k from m2 q took e at =
-        inl (ap (λ (z : Entry T P). z.hand) (only_one (taking k from q me) e (sym (ap (λ (z : Me (Option P) (List (Entry T P))). z.0) (lifted k from m2 q took)) ∙ at)))
+        took.2.1 ∙ (λ j. (taking k from took.2.0 (one j) ∷ [], (k, Some took.2.0) ∷ (is j).1))
 
     pub finds_none : (k : ℕ → ℕ) (from : ℕ) (m1 : Me (Option P) (List (Entry T P))) (table table' : TableId) (n : ℕ) (w : List (ℕ × P)) (s : Post T P) → post table n me w ≡ s → table' ≡ table → s.me.hand ≡ None → ((u : ℕ) → k u ≡ slot_at n from i u)
         → m1 ≡ m → ((u : ℕ) → u < 4 → HasEmptied (k u) from m) → FindsNone from s (post table' n (shown i x held r m1.0) w)
@@ -102,36 +95,52 @@ module _ {T P : Type 0} where
         empty
 
     -- the seat with what is in hand of the parcel, by its fate
-    fetched : (k from : ℕ) (m2 m3 : Me (Option P) (List (Entry T P))) (q : P) (h : Option (ℕ × P)) → Lifts k from q m m2 → m3 ≡ (released_view h m2.0, [])
-        → m3 ≡ (releasing h (taking k from q me) ∷ [], [])
-    fetched k from m2 m3 q h took given = given ∙ (λ j. (released_view h (lifted k from m2 q took j).0, []))
+    pub fated_seat : (k from : ℕ) (m2 : Me (Option P) (List (Entry T P))) (q : P) (h : Option (ℕ × P)) → m2 ≡ (releasing h (taking k from q me) ∷ [], [])
+        → (m2 ≡ (shown i x h r m2.0 ∷ [], [])) × (sent_in m2.0 ≡ sent_in m.0)
+    fated_seat k from m2 q h now = ((settled i x h r m2 (releasing h (taking k from q me)) now refl).0, (λ j. sent_in (now j).0))
 
-    pub keeps_fated : (fate : Fate) (k from : ℕ) (m2 : Me (Option P) (List (Entry T P))) (q : P) → Lifts k from q m m2 → KeepsHand m2.0 (fated_hand fate (from, q))
-    keeps_fated Pass k from m2 q took = keeps_hand k from m2 q took
-    keeps_fated Drop k from m2 q took = λ e at. inr refl
-    keeps_fated Twice k from m2 q took = keeps_hand k from m2 q took
-
-    pub fated_seat : (k from : ℕ) (m2 m3 : Me (Option P) (List (Entry T P))) (q : P) (h : Option (ℕ × P)) → Lifts k from q m m2 → m3 ≡ (released_view h m2.0, [])
-        → (m3 ≡ (shown i x h r m3.0 ∷ [], [])) × (sent_in m3.0 ≡ sent_in m.0)
-    fated_seat k from m2 m3 q h took given =
-        let f = fetched k from m2 m3 q h took given in
-        ((settled i x h r m3 (releasing h (taking k from q me)) f refl).0, (λ j. sent_in (f j).0))
-
-    crosses : (fate : Fate) (k from u : ℕ) (m2 m3 : Me (Option P) (List (Entry T P))) (q : P) (h : Option (ℕ × P)) (table table' : TableId) (n : ℕ) (w : List (ℕ × P)) (s : Post T P) → post table n me w ≡ s → table' ≡ table → k ≡ slot_at n from i u
-        → Lifts k from q m m2 → m3 ≡ (released_view h m2.0, []) → h ≡ fated_hand fate (from, q)
-        → post table' n (shown i x h r m3.0) w ≡ post s.table s.nodes (releasing (fated_hand fate (from, q)) (taking (slot_from s from u) from q s.me)) s.waiting
-    crosses fate k from u m2 m3 q h table table' n w s same same_table k_is took given is_hand =
-        let f = fetched k from m2 m3 q h took given in
-        let now = (settled i x h r m3 (releasing h (taking k from q me)) f refl).1 in
+    crosses : (fate : Fate) (k from u : ℕ) (m2 : Me (Option P) (List (Entry T P))) (q : P) (h : Option (ℕ × P)) (table table' : TableId) (n : ℕ) (w : List (ℕ × P)) (s : Post T P) → post table n me w ≡ s → table' ≡ table → k ≡ slot_at n from i u
+        → m2 ≡ (releasing h (taking k from q me) ∷ [], []) → h ≡ fated_hand fate (from, q)
+        → post table' n (shown i x h r m2.0) w ≡ post s.table s.nodes (releasing (fated_hand fate (from, q)) (taking (slot_from s from u) from q s.me)) s.waiting
+    crosses fate k from u m2 q h table table' n w s same same_table k_is seat is_hand =
+        let now = (settled i x h r m2 (releasing h (taking k from q me)) seat refl).1 in
         (λ j. post (same_table j) n (now j) w) ∙ (λ j. post table n (releasing (is_hand j) (taking (k_is j) from q me)) w)
         ∙ ap (λ (z : Post T P). post z.table z.nodes (releasing (fated_hand fate (from, q)) (taking (slot_from z from u) from q z.me)) z.waiting) same
 
-    pub fated : (fate : Fate) (k from u : ℕ) (m2 m3 : Me (Option P) (List (Entry T P))) (q : P) (h : Option (ℕ × P)) (table table' : TableId) (n : ℕ) (w : List (ℕ × P)) (s : Post T P) → post table n me w ≡ s → table' ≡ table → s.me.hand ≡ None → k ≡ slot_at n from i u → u < 4
-        → Lifts k from q m m2 → m3 ≡ (released_view h m2.0, []) → h ≡ fated_hand fate (from, q)
-        → IsFated from fate s (post table' n (shown i x h r m3.0) w)
-    fated Pass k from u m2 m3 q h table table' n w s same same_table empty k_is un took given is_hand = (empty, (q, u, un, crosses Pass k from u m2 m3 q h table table' n w s same same_table k_is took given is_hand))
-    fated Drop k from u m2 m3 q h table table' n w s same same_table empty k_is un took given is_hand = (empty, (q, u, un, crosses Drop k from u m2 m3 q h table table' n w s same same_table k_is took given is_hand))
-    fated Twice k from u m2 m3 q h table table' n w s same same_table empty k_is un took given is_hand = (empty, (q, u, un, crosses Twice k from u m2 m3 q h table table' n w s same same_table k_is took given is_hand))
+    pub fated : (fate : Fate) (k from u : ℕ) (m2 : Me (Option P) (List (Entry T P))) (q : P) (h : Option (ℕ × P)) (table table' : TableId) (n : ℕ) (w : List (ℕ × P)) (s : Post T P) → post table n me w ≡ s → table' ≡ table → s.me.hand ≡ None → k ≡ slot_at n from i u → u < 4
+        → m2 ≡ (releasing h (taking k from q me) ∷ [], []) → h ≡ fated_hand fate (from, q)
+        → IsFated from fate s (post table' n (shown i x h r m2.0) w)
+    fated Pass k from u m2 q h table table' n w s same same_table empty k_is un seat is_hand = (empty, (q, u, un, crosses Pass k from u m2 q h table table' n w s same same_table k_is seat is_hand))
+    fated Drop k from u m2 q h table table' n w s same same_table empty k_is un seat is_hand = (empty, (q, u, un, crosses Drop k from u m2 q h table table' n w s same same_table k_is seat is_hand))
+    fated Twice k from u m2 q h table table' n w s same same_table empty k_is un seat is_hand = (empty, (q, u, un, crosses Twice k from u m2 q h table table' n w s same same_table k_is seat is_hand))
+
+-- The seat took this parcel out of the slot k, and gives the slot back with this in hand.
+module _ {T P : Type 0} (k from node : ℕ) (e : Entry T P) (p q : P) (m m1 : Me (Option P) (List (Entry T P))) (has : HasTaken k from e p m) (lay : m.1 ≡ (k, Some q) ∷ []) (view : m1 ≡ (m.0, (k, None) ∷ [])) where
+  pub lifted_is : p ≡ q
+  lifted_is = some_is p q (ap (λ (z : ℕ × Option P). z.1) (only_one (k, Some p) (k, Some q) (sym (ap (λ (z : Me (Option P) (List (Entry T P))). z.1) has) ∙ lay)))
+
+  lifted : m1 ≡ (taking k from q e ∷ [], (k, None) ∷ [])
+  lifted = view ∙ (λ j. ((has j).0, (k, None) ∷ [])) ∙ (λ j. (taking k from (lifted_is j) e ∷ [], (k, None) ∷ []))
+
+  pub holds_none : e.node ≡ node → IsHolding m1 k node None
+  holds_none is = (taking k from q e, lifted, is, refl)
+
+  keeps_hand : KeepsHand m1.0 (Some (from, q))
+  keeps_hand f at =
+      inl (ap (λ (z : Entry T P). z.hand) (only_one (taking k from q e) f (sym (ap (λ (z : Me (Option P) (List (Entry T P))). z.0) lifted) ∙ at)))
+
+  pub keeps_fated : (fate : Fate) → KeepsHand m1.0 (fated_hand fate (from, q))
+  keeps_fated Pass = keeps_hand
+  keeps_fated Drop = λ f at. inr refl
+  keeps_fated Twice = keeps_hand
+
+  -- the hand and the seat after it
+  pub lifts_fated : (fate : Fate) (h : Option (ℕ × P)) (m2 : Me (Option P) (List (Entry T P))) → h ≡ fated_hand fate (from, q) → m2 ≡ (released_view h m1.0, [])
+      → (h ≡ fated_hand fate (from, p)) × (m2 ≡ (releasing h (taking k from p e) ∷ [], []))
+  lifts_fated fate h m2 is given = (
+    is ∙ ap (λ (z : P). fated_hand fate (from, z)) (sym lifted_is),
+    given ∙ (λ j. (released_view h (lifted j).0, [])) ∙ (λ j. (releasing h (taking k from (sym lifted_is j) e) ∷ [], [])),
+  )
 
 module _ {H S M : Type 0} (core : Core H S M) where
   abbrev P : Type 0

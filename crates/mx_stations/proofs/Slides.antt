@@ -16,7 +16,7 @@ use Rattle.mx_stations.specs.Entries.{Stage}
 use Rattle.mx_stations.specs.Entries.{Idle, Writing, Reading}
 use Rattle.mx_stations.specs.Links.{SlotState, empty, claimed, filled, taken, of, Writes, Reads, word_for, lying, IsClaimed, IsTaken, Lies, WasSent, IsSlot, slot_at}
 use Rattle.mx_stations.specs.Running.{Holds, IsIdle, Shown, sent_of, word_of}
-use Rattle.mx_stations.specs.Slides.{claiming, placing, taking, releasing, TriesClaim, TriesTake, placed_view, released_view, IsFilling, IsHolding, KeepsHand}
+use Rattle.mx_stations.specs.Slides.{claiming, placing, taking, releasing, Sees, TriesClaim, TriesTake, placed_view, released_view, IsFilling, IsHolding, KeepsHand}
 use Rattle.mx_stations.proofs.Places.{within, one_at, sent_in_world, moves, again}
 use Rattle.mx_stations.proofs.Pairs.{links_step, Keeps, of_more, of_other, slot_low}
 
@@ -169,6 +169,11 @@ module _ {P : Type 0} where
   none_lies (filled p) ne = absurd (ne refl)
   none_lies taken ne = refl
 
+-- where nothing lies in a slot of a node's own link, all that was placed there was taken
+own_emptied : {T P : Type 0} (n : ℕ) (words : List ℕ) (homes : List (maybe.Option (Option P))) (world : List (Entry T P)) (k a b : ℕ) (e f : Entry T P) (st : SlotState P) → IsSlot n words homes k b f e st → get_elem? world a ≡ some f → get_elem? world b ≡ some e → word_for st ≢ 2 → a ≡ b → of k e.placed ≡ of k e.taken
+own_emptied {T} {P} n words homes world k a b e f st l there here miss own =
+    ap (λ (z : Entry T P). of k z.placed) (one_at world b e f here (ap (λ (z : ℕ). get_elem? world z) (sym own) ∙ there)) ∙ l.log ∙ ap (λ (z : List P). of k e.taken ++ z) (none_lies st miss) ∙ append-nil (of k e.taken)
+
 module _ {H S M : Type 0} (core : Core H S M) (Good : World S M → Type 0) where
   abbrev Rule : ℕ → State (Option (Parcel M)) (List (Node S M)) → Type 0
   Rule n = Holds core Good n
@@ -251,6 +256,22 @@ module _ {H S M : Type 0} (core : Core H S M) (Good : World S M → Type 0) wher
         refl,
       )
 
+  -- the receiver looks at a slot
+  pub sees : (n slots id a u : ℕ) (e : Node S M) → a < n → u < 4
+      → Allows (Rule n) slots id (e ∷ [], []) (n + slot_at n a e.node u) (λ m. m) (Sees (slot_at n a e.node u) a (e ∷ [], []))
+  sees n slots id a u e an un s h homes at small =
+      let b : ℕ = e.node in let k : ℕ = slot_at n a b u in
+      let here = (h.stands.known id (e ∷ []) e at (inl refl)).0 in
+      let fa = some_at h.world a (subst (λ (z : ℕ). a < z) (sym h.stands.long) an) in
+      let st = h.links.state k in let l = h.links.each a b u fa.0 e un fa.1 here in
+      let found_is : get_or s.words (n + k) 0 ≡ word_for st = word_read s.words (n + k) (word_for st) l.word in (
+        e ∷ [],
+        keeps,
+        tt,
+        again (Rule n) s (n + k) id (e ∷ []) at h,
+        (refl, λ miss. (e, refl, own_emptied n s.words s.homes h.world k a b e fa.0 st l fa.1 here (λ z. miss (found_is ∙ z)))),
+      )
+
   -- the receiver takes a filled slot
   pub grabs : (n slots id a u : ℕ) (e : Node S M) → a < n → u < 4 → e.stage ≡ Idle
       → Allows (Rule n) slots id (e ∷ [], []) (n + slot_at n a e.node u) (λ m. either (eqb m 2) 3 m) (TriesTake (slot_at n a e.node u) a (e ∷ [], []))
@@ -297,7 +318,7 @@ module _ {H S M : Type 0} (core : Core H S M) (Good : World S M → Type 0) wher
         keeps,
         tt,
         again (Rule n) s (n + k) id (e ∷ []) at h,
-        ((λ hit. absurd (miss hit)), (λ _. (refl, (e, refl, λ own. ap (λ (z : Node S M). of k z.placed) (one_at h.world b e fa.0 here (ap (λ (z : ℕ). get_elem? h.world z) (sym own) ∙ fa.1)) ∙ l.log ∙ ap (λ (z : List (Parcel M)). of k e.taken ++ z) (none_lies st (λ z. miss (found_is ∙ z))) ∙ append-nil (of k e.taken))))),
+        ((λ hit. absurd (miss hit)), (λ _. (refl, (e, refl, own_emptied n s.words s.homes h.world k a b e fa.0 st l fa.1 here (λ z. miss (found_is ∙ z)))))),
       ))
 
   -- the receiver gives the emptied slot back
@@ -357,6 +378,14 @@ module _ {H S M : Type 0} (core : Core H S M) (Good : World S M → Type 0) wher
       let at_k = subst (λ (k : ℕ). Allows (Rule n) slots id (e ∷ [], (k, Some p) ∷ []) (n + k) (λ _. 2) (λ _ m. m ≡ (placing k p e ∷ [], []))) k_is base in
       let at_after = subst (λ (v : List (Node S M)). Allows (Rule n) slots id (e ∷ [], (at, Some p) ∷ []) (n + at) (λ _. 2) (λ _ m. m ≡ (v, []))) (sym after_is) at_k in
       subst (λ (z : ℕ × Me (Option (Parcel M)) (List (Node S M)) × ℕ). Allows (Rule z.0) slots id z.1 (n + z.2) (λ _. 2) (λ _ m. m ≡ (after, rest z.1.1))) (λ i. (sym is_key i, sym me_is i, sym is_k i)) at_after
+
+  pub sees_at : (n key slots id : ℕ) (me : Me (Option (Parcel M)) (List (Node S M))) (node a u slot from k : ℕ) → key ≡ n → IsIdle me node → a < n → u < 4 → slot ≡ slot_at n a node u → from ≡ a → k ≡ slot_at n a node u
+      → Allows (Rule key) slots id me (n + k) (λ m. m) (Sees slot from me)
+  sees_at n key slots id me node a u slot from k is_key idle an un is_slot is_from is_k =
+      let e : Node S M = idle.0 in
+      let slot_is : slot_at n a e.node u ≡ slot = ap (λ (z : ℕ). slot_at n a z u) idle.2 ∙ sym is_slot in
+      subst (λ (z : ℕ × Me (Option (Parcel M)) (List (Node S M)) × ℕ × ℕ × ℕ). Allows (Rule z.0) slots id z.1 (n + z.2) (λ m. m) (Sees z.3 z.4 z.1)) (λ i. (sym is_key i, sym idle.1 i, (slot_is ∙ is_slot ∙ sym is_k) i, slot_is i, sym is_from i))
+      (sees n slots id a u e an un)
 
   pub grabs_at : (n key slots id : ℕ) (me : Me (Option (Parcel M)) (List (Node S M))) (node a u slot from k : ℕ) → key ≡ n → IsIdle me node → a < n → u < 4 → slot ≡ slot_at n a node u → from ≡ a → k ≡ slot_at n a node u
       → Allows (Rule key) slots id me (n + k) (λ m. either (eqb m 2) 3 m) (TriesTake slot from me)

@@ -44,16 +44,19 @@ module _ {T P : Type 0} where
       (e : Entry T P) × (m.0 ≡ e ∷ [])
       × ((p : P) × (m' ≡ (taking k from p e ∷ [], (k, Some p) ∷ m.1)))
 
-  -- the slot had this parcel, and the seat has taken it out
-  abbrev pub Lifts : ℕ → ℕ → P → Me (Option P) (List (Entry T P)) → Me (Option P) (List (Entry T P))
-      → Type 0
-  Lifts k from p m m' =
-      (e : Entry T P) × (m.0 ≡ e ∷ []) × (m' ≡ (taking k from p e ∷ [], (k, None) ∷ []))
+  -- the seat has taken this slot, in which its parcel still lies
+  abbrev pub HasTaken : ℕ → ℕ → Entry T P → P → Me (Option P) (List (Entry T P)) → Type 0
+  HasTaken k from e p m = m ≡ (taking k from p e ∷ [], (k, Some p) ∷ [])
 
   -- where the slot is of the seat's own link, all that was placed there was taken
   abbrev pub HasEmptied : ℕ → ℕ → Me (Option P) (List (Entry T P)) → Type 0
   HasEmptied k from m =
       (e : Entry T P) × (m.0 ≡ e ∷ []) × (from ≡ e.node → of k e.placed ≡ of k e.taken)
+
+  -- one look at a slot
+  abbrev pub Sees : ℕ → ℕ → Me (Option P) (List (Entry T P)) → ℕ → Me (Option P) (List (Entry T P))
+      → Type 0
+  Sees k from m found m' = (m' ≡ m) × (found ≢ FILLED → HasEmptied k from m)
 
   -- one try to take the parcel of a slot
   abbrev pub TriesTake : ℕ → ℕ → Me (Option P) (List (Entry T P)) → ℕ

@@ -5,7 +5,7 @@ ghost use Rattle.std.specs.Prelude.{◌≡◌, ℕ};
 ghost use Rattle.atomic_table.specs.Table.{rest};
 ghost use Rattle.mx_stations.specs.Gathered.{Knows};
 ghost use Rattle.mx_stations.specs.Running.{GoToNodes, HandFits};
-ghost use Rattle.mx_stations.specs.Slides.{TriesClaim, TriesTake};
+ghost use Rattle.mx_stations.specs.Slides.{Sees, TriesClaim, TriesTake};
 
 use crate::rule::{Knowledge, Slot};
 use atomic_table::Play;
@@ -82,6 +82,15 @@ pub struct TriesToClaim<N> {
 
 impl<C: Exclusion, N: OfSlot> Play<Slot<C>, Knowledge<C>> for TriesToClaim<N> {
     ghost then = { λ step before found now. TriesClaim N.slot before found now };
+}
+
+/// A look at a slot.
+pub struct LooksAt<N> {
+    of: PhantomData<N>,
+}
+
+impl<C: Exclusion, N: OfSlot> Play<Slot<C>, Knowledge<C>> for LooksAt<N> {
+    ghost then = { λ step before found now. Sees N.slot N.from before found now };
 }
 
 /// A try to take a slot.

@@ -5,10 +5,10 @@ ghost use Rattle.std.specs.Prelude.{◌≡◌, ◌⊎◌, ℕ, ◌+◌, ◌*◌,
 ghost use Rattle.mx_member.specs.declared.parcel.Parcel.{Parcel as OneParcel};
 ghost use Rattle.mx_stations.specs.Links.{IsLink, IsLinkAt, slot_in};
 ghost use Rattle.mx_stations.specs.Running.{IsIdle, Keeps};
-ghost use Rattle.mx_stations.specs.Slides.{Claims, HasEmptied, HasUsed, IsFilling, IsHolding, KeepsHand, Lifts, Takes, TriesClaim, TriesTake, placed_view, released_view};
+ghost use Rattle.mx_stations.specs.Slides.{Claims, HasEmptied, HasUsed, IsFilling, IsHolding, KeepsHand, Takes, TriesClaim, TriesTake, placed_view, released_view};
 
 use crate::field::{Field, SeatOf};
-use crate::next::{Gives, Next, OfSlot, TriesToClaim, TriesToTake};
+use crate::next::{Gives, LooksAt, Next, OfSlot, TriesToClaim, TriesToTake};
 use crate::rule::Knowledge;
 use mx_member::Parcel;
 use mx_nodelaws::Exclusion;
@@ -152,6 +152,8 @@ pub(crate) fn place<C: Exclusion>(
     place_as::<C, Brand>(field, seat, link, index, parcel);
 }
 
+/// One try to take the slot. It looks first, since a look at an empty slot leaves its word in the
+/// caches of all who look at it.
 fn grab_as<C: Exclusion, N: OfSlot>(
     field: &Field<C>,
     seat: &mut SeatOf<C>,
@@ -168,10 +170,12 @@ fn grab_as<C: Exclusion, N: OfSlot>(
         result seat.new.me }
 {
     let slot = slot_of(field, link, index);
-    field
-        .board
-        .shared
-        .compare_exchange::<TriesToTake<N>>(seat, field.nodes as usize + slot, FILLED, TAKEN)
+    let shared = &field.board.shared;
+    let found = shared.load::<LooksAt<N>>(seat, field.nodes as usize + slot);
+    if found != FILLED {
+        return found;
+    }
+    shared.compare_exchange::<TriesToTake<N>>(seat, field.nodes as usize + slot, FILLED, TAKEN)
 }
 
 fn grab<C: Exclusion>(field: &Field<C>, seat: &mut SeatOf<C>, link: &Link, index: u8) -> u64
@@ -187,7 +191,11 @@ fn grab<C: Exclusion>(field: &Field<C>, seat: &mut SeatOf<C>, link: &Link, index
 }
 
 /// Tries the slots of the link in order, and takes the first that is filled.
-fn grab_filled<C: Exclusion>(field: &Field<C>, seat: &mut SeatOf<C>, link: &Link) -> Option<u8>
+pub(crate) fn grab_filled<C: Exclusion>(
+    field: &Field<C>,
+    seat: &mut SeatOf<C>,
+    link: &Link,
+) -> Option<u8>
     requires link { IsLinkAt seat.old.table_id field.now.board.shared.table_id field.now.nodes
         link.now }
     requires idle { IsIdle seat.old.me link.now.to }
@@ -206,7 +214,7 @@ fn grab_filled<C: Exclusion>(field: &Field<C>, seat: &mut SeatOf<C>, link: &Link
 }
 
 /// Takes the parcel out of the slot that the seat holds.
-fn lift<C: Exclusion>(
+pub(crate) fn lift<C: Exclusion>(
     field: &Field<C>,
     seat: &mut SeatOf<C>,
     link: &Link,
@@ -224,28 +232,6 @@ fn lift<C: Exclusion>(
 {
     let slot = slot_of(field, link, index);
     field.board.shared.exchange(seat, slot, None).unwrap()
-}
-
-/// Takes the parcel out of the first filled slot of the link. The seat holds that slot then.
-pub(crate) fn take_up<C: Exclusion>(
-    field: &Field<C>,
-    seat: &mut SeatOf<C>,
-    link: &Link,
-) -> Option<(u8, Parcel<C::Msg>)>
-    requires link { IsLinkAt seat.old.table_id field.now.board.shared.table_id field.now.nodes
-        link.now }
-    requires idle { IsIdle seat.old.me link.now.to }
-    ensures same { (seat.new.table_id ≡ seat.old.table_id) × (seat.new.id ≡ seat.old.id) }
-    ensures some { IfSome result (λ found. (found.0 < SLOTS) × Lifts
-        (slot_in field.now.nodes link.now found.0) link.now.from found.1 seat.old.me seat.new.me) }
-    ensures none { IfNone result ((seat.new.me ≡ seat.old.me) × ((index : ℕ) → index < SLOTS
-        → HasEmptied (slot_in field.now.nodes link.now index) link.now.from seat.old.me)) }
-{
-    let Some(index) = grab_filled(field, seat, link) else {
-        return None;
-    };
-    let parcel = lift(field, seat, link, index);
-    Some((index, parcel))
 }
 
 /// Gives the emptied slot back. The parcel stays in hand, or is thrown away.
@@ -296,9 +282,11 @@ pub(crate) fn release<C: Exclusion>(
 pub(crate) fn has_filled<C: Exclusion>(field: &Field<C>, link: &Link) -> bool
     requires { IsLink field.now.nodes link.now }
 {
+    // What all four looks share is computed once, as each of them reads memory anew.
+    let slot = slot_of(field, link, 0);
+    let first = field.nodes as usize + slot;
     for index in 0..SLOTS {
-        let slot = slot_of(field, link, index);
-        if field.board.shared.peek(field.nodes as usize + slot) == FILLED {
+        if field.board.shared.peek(first + index as usize) == FILLED {
             return true;
         }
     }

@@ -1,16 +1,21 @@
 //! A turn of a station: what waits for it comes in, what waits in it goes out, and where there was
 //! neither its clock ticks.
 
-ghost use Rattle.std.specs.Prelude.{◌≡◌, ◌≢◌, ◌<◌, ◌≤◌, ◌==◌, ◌&&◌, IfOk, IfSome, List, MatchBool, MatchOption, None, OnErr, OnOk, Option, length};
+ghost use Rattle.std.specs.Prelude.{◌≡◌, ◌≢◌, ◌<◌, ◌≤◌, ◌==◌, ◌&&◌, [], ◌∷◌, IfOk, IfSome, List, MatchBool, MatchOption, None, OnErr, OnOk, Option, length};
 ghost use Rattle.mx_letters.specs.declared.fates.Fate.{Fate as TheFate};
 ghost use Rattle.mx_letters.specs.declared.fates.Fate.TheVariants.{Twice};
 ghost use Rattle.mx_member.specs.declared.acts.Act.TheVariants.{Tick};
+ghost use Rattle.mx_member.specs.declared.parcel.Parcel.{Parcel as OneParcel};
 ghost use Rattle.mx_stations.specs.declared.answers.PutOut.{PutOut as ThePutOut};
+ghost use Rattle.mx_stations.specs.Entries.{Node};
+ghost use Rattle.mx_stations.specs.Links.{IsLinkAt, slot_in};
 ghost use Rattle.mx_stations.specs.Posts.{FindsNone, does};
+ghost use Rattle.mx_stations.specs.Slides.{HasTaken, releasing, taking};
 ghost use Rattle.mx_stations.specs.Turns.{DeliversFirst, DeliversMore, Goes, IsFated, PutsEach, TakesEach, TakesFated, Turns, fated_hand, noted_all, noted_puts};
 
 use crate::answers::{TakeFault, TurnReport};
-use crate::slots::{Link, release, take_up};
+use crate::field::{Field, SeatOf};
+use crate::slots::{Link, SLOTS, grab_filled, lift, release};
 use crate::station::Station;
 use mx_letters::{Fate, Fates};
 use mx_member::Parcel;
@@ -29,6 +34,41 @@ fn hand_of<M: Copy + Default>(
         Fate::Drop => None,
         Fate::Pass | Fate::Twice => Some((from, parcel)),
     }
+}
+
+/// Takes the parcel out of the slot that the seat has taken, and gives the slot back. The parcel
+/// goes into the hand, or is thrown away, by its fate. It is a function of its own, so that a link
+/// with no parcel costs no room for one.
+#[inline(never)]
+fn lift_fated<C: Exclusion, A: FnOnce() -> Fate>(
+    field: &Field<C>,
+    seat: &mut SeatOf<C>,
+    hand: &mut Option<(NodeId, Parcel<C::Msg>)>,
+    link: &Link,
+    index: u8,
+    ask: A,
+) -> Fate
+    requires link { IsLinkAt seat.old.table_id field.now.board.shared.table_id field.now.nodes
+        link.now }
+    requires index { index < SLOTS }
+    requires taken { (e : Node C C.Msg) × (p : OneParcel C.Msg) × (e.node ≡ link.now.to)
+        × HasTaken (slot_in field.now.nodes link.now index) link.now.from e p seat.old.me }
+    requires ask { A.pre ask }
+    ensures same { (seat.new.table_id ≡ seat.old.table_id) × (seat.new.id ≡ seat.old.id) }
+    ensures fated { (e : Node C C.Msg) (p : OneParcel C.Msg)
+        → HasTaken (slot_in field.now.nodes link.now index) link.now.from e p seat.old.me
+        → (hand.new ≡ fated_hand result (link.now.from, p)) × (seat.new.me ≡ (
+          releasing hand.new
+              (taking (slot_in field.now.nodes link.now index) link.now.from p e) ∷ [],
+          [],
+        )) }
+    ensures asked { A.post ask result }
+{
+    let parcel = lift(field, seat, link, index);
+    let fate = ask();
+    *hand = hand_of(fate, link.from, parcel);
+    release(field, seat, link, index, hand);
+    fate
 }
 
 impl<C: Exclusion> Station<C> {
@@ -59,11 +99,8 @@ impl<C: Exclusion> Station<C> {
             to: self.node,
         };
         let field = &*self.field;
-        let found = take_up(field, &mut self.seat, &link)?;
-        let fate = ask();
-        let hand = hand_of(fate, from, found.1);
-        release(field, &mut self.seat, &link, found.0, &hand);
-        self.hand = hand;
+        let index = grab_filled(field, &mut self.seat, &link)?;
+        let fate = lift_fated(field, &mut self.seat, &mut self.hand, &link, index, ask);
         Some(fate)
     }
 
