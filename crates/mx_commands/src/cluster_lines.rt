@@ -85,8 +85,8 @@ where
         ++ parcel_lines C.Msg.letter_text plan.now (number + 1)
         (drop (number + 1) cluster.now.sent)) }
 {
-    match cluster.parcel(number) {
-        Some(parcel) => add_parcel_line(plan, number, parcel.0, parcel.1, parcel.2, text),
+    match cluster.sent_parcel(number) {
+        Some(sent) => add_parcel_line(plan, number, &sent, text),
         None => unreachable!(),
     }
 }

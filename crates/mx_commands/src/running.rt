@@ -1,6 +1,6 @@
 //! A run: events of a cluster, one after another, each with its text.
 
-ghost use Rattle.std.specs.Prelude.{◌≡◌, [], ◌++◌, length, string_bytes, OnOk, IfOk, IfErr};
+ghost use Rattle.std.specs.Prelude.{◌≡◌, ◌<◌, List, [], ◌∷◌, ◌++◌, length, string_bytes, OnOk, IfOk, IfErr};
 ghost use Rattle.mx_network.specs.Step.{step_of};
 ghost use Rattle.mx_cli.specs.Outputs.{refused_after};
 ghost use Rattle.mx_commands.specs.Runs.{NamesNodes, AllNameNodes, at_rest, closing_text, run_from, text_of};
@@ -11,7 +11,7 @@ use crate::verdicts::{VerdictLine, verdict_status};
 use mx_cli::{Fault, Stop};
 use mx_explorer::{Verdict, judge};
 use mx_io::Output;
-use mx_network::{Cluster, Event, StepFault};
+use mx_network::{Cluster, Entry, Event, StepFault};
 use mx_nodelaws::Exclusion;
 use mx_plan::Plan;
 use mx_texts::{EventLine, Letter};
@@ -103,13 +103,13 @@ where
     ensures err { IfErr result (StopsAt index (step_of C.core cluster.old event.now)) }
 {
     let before = cluster.sent();
-    match cluster.step(*event) {
-        Ok(outcome) => {
+    match cluster.advance(*event) {
+        Ok(()) => {
             let line = EventLine {
                 plan,
                 index,
                 event,
-                outcome: &outcome,
+                outcome: &newest(cluster.trace()).outcome,
             };
             text.write(line)?;
             add_parcels(plan, cluster, before, text)?;
@@ -119,6 +119,15 @@ where
         Err(StepFault::Memory) => Err(Stop::Memory),
         Err(StepFault::NoNode) => unreachable!(),
     }
+}
+
+/// The newest item of a trace that has one.
+fn newest(trace: &[Entry]) -> &Entry
+    requires { 0 < length trace.now }
+    ensures { (front : List Entry) (entry : Entry) → trace.now ≡ front ++ entry ∷ []
+        → result.now ≡ entry }
+{
+    &trace[trace.len() - 1]
 }
 
 /// Appends the closing lines, and returns the verdict.

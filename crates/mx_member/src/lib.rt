@@ -11,8 +11,10 @@ mod guards;
 mod member;
 mod parcel;
 mod sections;
+mod sent_parcel;
 
 pub use acts::{Act, Answer, perform};
 pub use faults::{CloseFault, DeliverFault, ReadFault, WriteFault};
 pub use member::Member;
 pub use parcel::Parcel;
+pub use sent_parcel::SentParcel;

@@ -22,7 +22,7 @@ use crate::parts::{newest, start_members};
 use mx_events::Event;
 use mx_journal::Journal;
 use mx_letters::Outbox;
-use mx_member::{Member, Parcel};
+use mx_member::{Member, Parcel, SentParcel};
 use mx_merge::{MergeFault, merge};
 use mx_nodelaws::Exclusion;
 use mx_sections::{Cause, Entry, Outcome};
@@ -195,6 +195,18 @@ impl<C: Exclusion> Cluster<C> {
         ensures { MatchOption result (slice_get self.now.sent number ≡ None)
             (λ parcel. slice_get self.now.sent number
             ≡ Some (parcel.0, parcel.1, parcel.2.now)) }
+    {
+        match self.mail.get(number) {
+            Some(found) => Some((found.from, found.to, found.parcel)),
+            None => None,
+        }
+    }
+
+    /// The same parcel as `parcel` returns, with names for its parts.
+    pub fn sent_parcel(&self, number: u64) -> Option<SentParcel<'_, C::Msg>>
+        ensures { MatchOption result (slice_get self.now.sent number ≡ None)
+            (λ found. slice_get self.now.sent number
+            ≡ Some (found.from, found.to, found.parcel.now)) }
     {
         self.mail.get(number)
     }

@@ -6,7 +6,7 @@ ghost use Rattle.mx_nodelaws.specs.World.{sent_by};
 ghost use Rattle.mx_network.specs.Mail.{EndsWith, IsKeptIn};
 
 use mx_letters::Outbox;
-use mx_member::Parcel;
+use mx_member::{Parcel, SentParcel};
 use mx_nodelaws::Exclusion;
 use mx_stamps::NodeId;
 use std::alloc::{AllocError, Global};
@@ -69,14 +69,18 @@ impl<C: Exclusion> Mail<C> {
         self.sendings.len()
     }
 
-    /// The parcel of this number, counted from 0: who sent it, to whom, and what it is.
-    pub(crate) fn get(&self, number: u64) -> Option<(NodeId, NodeId, &Parcel<C::Msg>)>
+    /// The parcel of this number, counted from 0.
+    pub(crate) fn get(&self, number: u64) -> Option<SentParcel<'_, C::Msg>>
         ensures { MatchOption result (slice_get self.now.sent number ≡ None)
-            (λ parcel. slice_get self.now.sent number
-            ≡ Some (parcel.0, parcel.1, parcel.2.now)) }
+            (λ found. slice_get self.now.sent number
+            ≡ Some (found.from, found.to, found.parcel.now)) }
     {
         match self.sendings.get(number as usize) {
-            Some(sending) => Some((sending.from, sending.to, &self.kept[sending.place])),
+            Some(sending) => Some(SentParcel {
+                from: sending.from,
+                to: sending.to,
+                parcel: &self.kept[sending.place],
+            }),
             None => None,
         }
     }

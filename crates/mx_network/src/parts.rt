@@ -41,13 +41,13 @@ impl<C: Exclusion> Cluster<C> {
         match self.mail.get(number) {
             Some(found) => {
                 room?;
-                let to = found.1;
-                let index = found.1.get() as usize;
+                let to = found.to;
+                let index = to.get() as usize;
                 take_and_note(
                     &mut self.members[index],
                     number,
-                    found.0,
-                    found.2,
+                    found.from,
+                    found.parcel,
                     &mut self.out,
                     &mut self.trace,
                 )?;

@@ -226,8 +226,8 @@ fn spot_of_act<C: Exclusion>(cluster: &Cluster<C>, node: NodeId, before: u64) ->
     let mut to_left = false;
     let mut to_right = false;
     for number in before..cluster.sent() {
-        if let Some(parcel) = cluster.parcel(number) {
-            if parcel.1.get() > node.get() {
+        if let Some(sent) = cluster.sent_parcel(number) {
+            if sent.to.get() > node.get() {
                 to_right = true;
             } else {
                 to_left = true;

@@ -4,11 +4,10 @@ use crate::drawing::{Drawing, tell_journal};
 use crate::inks::{Inked, ink_of};
 use crate::labels::Spot;
 use crate::passing::concerns;
-use mx_member::Parcel;
+use mx_member::{Parcel, SentParcel};
 use mx_network::Cluster;
 use mx_nodelaws::Exclusion;
 use mx_plan::Plan;
-use mx_stamps::NodeId;
 use mx_texts::{Letter, add_parcel};
 use std::alloc::AllocError;
 
@@ -22,20 +21,20 @@ pub(crate) fn draw_delivery<C: Exclusion>(
 where
     C::Msg: Letter + Inked,
 {
-    let Some(parcel) = cluster.parcel(number) else {
+    let Some(sent) = cluster.sent_parcel(number) else {
         return Ok(());
     };
-    let spot = if parcel.0.get() <= parcel.1.get() {
+    let spot = if sent.from.get() <= sent.to.get() {
         Spot::Right
     } else {
         Spot::Left
     };
-    tell_parcel(plan, number, parcel.2, &mut drawing.label)?;
-    tell_journal(cluster, parcel.1, drawing)?;
+    tell_parcel(plan, number, sent.parcel, &mut drawing.label)?;
+    tell_journal(cluster, sent.to, drawing)?;
     drawing
         .sheet
-        .arrow(number, parcel.0, parcel.1, ink_of(parcel.2))?;
-    drawing.sheet.mark(parcel.1, spot, drawing.label.as_str())
+        .arrow(number, sent.from, sent.to, ink_of(sent.parcel))?;
+    drawing.sheet.mark(sent.to, spot, drawing.label.as_str())
 }
 
 /// The parcels from `before` on, which the present event sent.
@@ -67,30 +66,29 @@ fn draw_loss<C: Exclusion>(
 where
     C::Msg: Letter + Inked,
 {
-    let Some(parcel) = cluster.parcel(number) else {
+    let Some(sent) = cluster.sent_parcel(number) else {
         return Ok(());
     };
-    let spot = if parcel.0.get() <= parcel.1.get() {
+    let spot = if sent.from.get() <= sent.to.get() {
         Spot::RightInAir
     } else {
         Spot::LeftInAir
     };
-    tell_loss(plan, number, parcel.2, parcel.1, &mut drawing.label)?;
+    tell_loss(plan, number, &sent, &mut drawing.label)?;
     drawing
         .sheet
-        .lose_below(parcel.0, spot, drawing.label.as_str())
+        .lose_below(sent.from, spot, drawing.label.as_str())
 }
 
 /// Puts the number and the text of a parcel, and to whom it was sent, in place of the label.
 fn tell_loss<M: Letter>(
     plan: &Plan,
     number: u64,
-    parcel: &Parcel<M>,
-    to: NodeId,
+    sent: &SentParcel<'_, M>,
     label: &mut String,
 ) -> Result<(), AllocError> {
-    tell_parcel(plan, number, parcel, label)?;
-    let name = plan.node_name(to.get()).unwrap_or("");
+    tell_parcel(plan, number, sent.parcel, label)?;
+    let name = plan.node_name(sent.to.get()).unwrap_or("");
     write!(label, " to {name}")
 }
 

@@ -45,8 +45,8 @@ pub(crate) fn is_shown<C: Exclusion>(
 
 /// Whether a parcel is from or to a node that is shown.
 pub(crate) fn concerns<C: Exclusion>(cluster: &Cluster<C>, number: u64, part: &Part) -> bool {
-    match cluster.parcel(number) {
-        Some(parcel) => part.has_node(parcel.0) || part.has_node(parcel.1),
+    match cluster.sent_parcel(number) {
+        Some(sent) => part.has_node(sent.from) || part.has_node(sent.to),
         None => false,
     }
 }
@@ -85,10 +85,10 @@ fn pass_delivery<C: Exclusion>(
 where
     C::Msg: Letter + Inked,
 {
-    let Some(parcel) = cluster.parcel(number) else {
+    let Some(sent) = cluster.sent_parcel(number) else {
         return Ok(());
     };
-    sheet.go_out(number, parcel.0, parcel.1, ink_of(parcel.2))
+    sheet.go_out(number, sent.from, sent.to, ink_of(sent.parcel))
 }
 
 /// What came of an act that is not shown: another phase, or nothing.

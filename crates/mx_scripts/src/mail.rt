@@ -43,8 +43,8 @@ fn link(from: NodeId, to: NodeId) -> usize
 
 /// Whether a parcel goes from one node to another.
 fn is_between<C: Exclusion>(cluster: &Cluster<C>, number: u64, from: NodeId, to: NodeId) -> bool {
-    match cluster.parcel(number) {
-        Some(parcel) => parcel.0 == from && parcel.1 == to,
+    match cluster.sent_parcel(number) {
+        Some(sent) => sent.from == from && sent.to == to,
         None => false,
     }
 }
@@ -99,8 +99,8 @@ impl Mail {
         ensures { self.new ≡ arrived number (slice_get cluster.now.sent number) self.old }
     {
         self.lose(number);
-        if let Some(parcel) = cluster.parcel(number) {
-            self.last[link(parcel.0, parcel.1)] = Some(number);
+        if let Some(sent) = cluster.sent_parcel(number) {
+            self.last[link(sent.from, sent.to)] = Some(number);
         }
     }
 

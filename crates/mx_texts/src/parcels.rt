@@ -6,7 +6,7 @@ ghost use Rattle.mx_texts.specs.ParcelTexts.{base_text, range_text, record_text,
 use crate::events::name_of;
 use crate::letters::Letter;
 use mx_journal::{Base, Range, Record};
-use mx_member::Parcel;
+use mx_member::{Parcel, SentParcel};
 use mx_plan::Plan;
 use mx_stamps::NodeId;
 use std::alloc::AllocError;
@@ -73,23 +73,22 @@ impl fmt::Display for BaseText<'_> {
 pub fn add_parcel_line<M: Letter>(
     plan: &Plan,
     number: u64,
-    from: NodeId,
-    to: NodeId,
-    parcel: &Parcel<M>,
+    sent: &SentParcel<'_, M>,
     text: &mut String,
 ) -> Result<(), AllocError>
     ensures { OnOk result (string_bytes text.new ≡ string_bytes text.old
-        ++ parcel_line M.letter_text plan.now number (from, to, parcel.now)) }
+        ++ parcel_line M.letter_text plan.now number
+        (sent.now.from, sent.now.to, sent.now.parcel.now)) }
 {
     text.push_str("  ")?;
     text.write(Route {
         plan,
         number,
-        from,
-        to,
+        from: sent.from,
+        to: sent.to,
     })?;
     text.push_str(" ")?;
-    add_parcel(plan, parcel, text)?;
+    add_parcel(plan, sent.parcel, text)?;
     text.push_str("\n")
 }
 

@@ -3,9 +3,8 @@
 use crate::json::{Begun, add_node_name, add_number, add_word};
 use crate::letter_json::JsonLetter;
 use mx_journal::{Range, Record};
-use mx_member::Parcel;
+use mx_member::{Parcel, SentParcel};
 use mx_plan::Plan;
-use mx_stamps::NodeId;
 use std::alloc::AllocError;
 use std::fmt;
 
@@ -23,15 +22,13 @@ impl fmt::Display for RangeJson<'_> {
 pub(crate) fn add_parcel_json<M: JsonLetter>(
     plan: &Plan,
     number: u64,
-    from: NodeId,
-    to: NodeId,
-    parcel: &Parcel<M>,
+    sent: &SentParcel<'_, M>,
     text: &mut String,
 ) -> Result<(), AllocError> {
     text.write(Begun("parcel", number))?;
-    add_node_name(plan, "from", from, text)?;
-    add_node_name(plan, "to", to, text)?;
-    add_content(plan, parcel, text)?;
+    add_node_name(plan, "from", sent.from, text)?;
+    add_node_name(plan, "to", sent.to, text)?;
+    add_content(plan, sent.parcel, text)?;
     text.push_str("}\n")
 }
 

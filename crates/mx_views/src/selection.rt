@@ -1,6 +1,7 @@
 //! What is shown of a run.
 
 use mx_events::Event;
+use mx_member::SentParcel;
 use mx_network::Cluster;
 use mx_nodelaws::Exclusion;
 use mx_plan::Plan;
@@ -25,9 +26,9 @@ impl Selection<'_> {
         }
     }
 
-    /// Whether a parcel from one node to another is shown.
-    pub(crate) fn shows_parcel(&self, from: NodeId, to: NodeId) -> bool {
-        self.shows_node(from) || self.shows_node(to)
+    /// Whether a parcel is shown: it is from or to a node that is shown.
+    pub(crate) fn shows_parcel<M>(&self, sent: &SentParcel<'_, M>) -> bool {
+        self.shows_node(sent.from) || self.shows_node(sent.to)
     }
 
     /// Whether an event is shown that has happened in this cluster.
@@ -43,8 +44,8 @@ impl Selection<'_> {
         let Event::Deliver(number) = event else {
             return false;
         };
-        match cluster.parcel(*number) {
-            Some(parcel) => self.shows_node(parcel.1),
+        match cluster.sent_parcel(*number) {
+            Some(sent) => self.shows_node(sent.to),
             None => false,
         }
     }

@@ -151,12 +151,12 @@ fn add_numbered<C: Exclusion>(
 where
     C::Msg: JsonLetter,
 {
-    match cluster.parcel(number) {
-        Some(sent) if selection.shows_parcel(sent.0, sent.1) => {
+    match cluster.sent_parcel(number) {
+        Some(sent) if selection.shows_parcel(&sent) => {
             if selection.is_json {
-                return add_parcel_json(selection.plan, number, sent.0, sent.1, sent.2, text);
+                return add_parcel_json(selection.plan, number, &sent, text);
             }
-            add_parcel_line(selection.plan, number, sent.0, sent.1, sent.2, text)
+            add_parcel_line(selection.plan, number, &sent, text)
         }
         _ => Ok(()),
     }

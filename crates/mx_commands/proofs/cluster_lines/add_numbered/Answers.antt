@@ -5,7 +5,7 @@ use Rattle.mx_commands.proofs.cluster_lines.add_numbered.Goals as goal
 
 pub returns : goal.returns
 returns g c =
-    place_written (parcel_line g.C.Msg.Letter.letter_text c.args.plan.now) c.args.cluster.now.sent c.args.number c.add_parcel_line.result (c.in-Some.parcel.0, c.in-Some.parcel.1, c.in-Some.parcel.2.now)
+    place_written (parcel_line g.C.Msg.Letter.letter_text c.args.plan.now) c.args.cluster.now.sent c.args.number c.add_parcel_line.result (c.in-Some.sent.from, c.in-Some.sent.to, c.in-Some.sent.parcel.now)
     (string_bytes c.args.text.now) (string_bytes c.add_parcel_line.new.text) c.in-Some.ensures c.add_parcel_line.ensures
 
 pub unreachable-requires : goal.unreachable-requires
