@@ -32,6 +32,10 @@ pub record Parts : Type 0 where
   pub numbers : List Named
   pub style : Style
 
+-- the word of a letter, by its parts
+abbrev pub word_by : {M : Type 0} → (M → Parts) → M → Text
+word_by parts letter = (parts letter).word
+
 -- ---- what the code tells of them
 
 abbrev pub subject_of : Subject → About

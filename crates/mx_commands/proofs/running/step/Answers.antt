@@ -1,6 +1,7 @@
 use Rattle.std.proofs.Common.{◌≤◌, ◌∙◌, Err, ap, length, string_bytes, sym, subst, ℕ, rules}
 use Rattle.mx_network.specs.Step.{IsFaultOf, step_of}
 use Rattle.mx_network.specs.declared.faults.StepFault.{StepFault}
+use Rattle.mx_texts.specs.LetterTexts.{letter_text}
 use Rattle.mx_commands.proofs.RunLemmas.{grows, has_nodes, stops_without, text_is}
 use Rattle.mx_commands.proofs.running.step.Goals as goal
 
@@ -13,7 +14,7 @@ add_parcels-requires g c =
 
 pub returns-in_ok-add_parcels-in-Ok-clause-text : goal.returns-in_ok-add_parcels-in-Ok-clause-text
 returns-in_ok-add_parcels-in-Ok-clause-text g c =
-    text_is g.C.Exclusion.core g.C.Msg.Letter.letter_text c.args.plan.now c.args.index c.sent-before.result c.args.cluster.now c.step.new.self c.args.event.now c.in-Ok.outcome
+    text_is g.C.Exclusion.core (letter_text g.C.Msg.Letter.parts) c.args.plan.now c.args.index c.sent-before.result c.args.cluster.now c.step.new.self c.args.event.now c.in-Ok.outcome
     (string_bytes c.args.text.now) (string_bytes c.write.new.self) (string_bytes c.add_parcels.new.text)
     c.in-Ok.ensures.outcome c.sent-before.ensures c.requires.empty c.in_ok-write-in-Ok.ensures.bytes c.in_ok-add_parcels-in-Ok.ensures
 
