@@ -1,0 +1,13 @@
+use Rattle.std.proofs.Common.{map, string_bytes}
+use Rattle.std.specs.Borrow.{Bor}
+use Rattle.mx_plan.specs.Text.{Text}
+use Rattle.mx_texts.specs.Parts.{word_by}
+use Rattle.mx_count.proofs.CountedLemmas.{named_is}
+use Rattle.mx_count.proofs.parcel_counts.add_parcel_counts.Goals as goal
+
+pub returns : goal.returns
+returns g c =
+    let texts = map (λ (name : Bor Text). name.now) in
+    named_is (word_by g.C.Msg.Letter.parts) c.args.cluster.now.sent g.C.Msg.Letter.words (texts c.letter_names.result.now) (texts c.words.result.now) (texts c.other_names.result.now)
+    (string_bytes c.args.text.now) (string_bytes c.add_counts_under.new.text) (string_bytes c.add_counts_under-2.new.text) (string_bytes c.add_counts_under-3.new.text) c.add_counts_under-3.result
+    c.letter_names.ensures c.words.ensures c.other_names.ensures c.in_ok-add_counts_under.ensures c.in_ok-add_counts_under-2.ensures c.add_counts_under-3.ensures
