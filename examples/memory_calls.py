@@ -12,7 +12,7 @@ HERE = os.path.dirname(os.path.abspath(__file__))
 TYPE = re.compile(r"^pub(?:\(crate\))? (?:enum|struct) (\w+)(.*?)(?:;$|^\})", re.M | re.S)
 USE = re.compile(r"^(pub )?use (\w+)(?:::\w+)*::(\{[^}]*\}|\w+);", re.M)
 OWNER = re.compile(r"^(?:(pub trait)|impl(?:<.*?>)?) (\w+)", re.M)
-CALL = re.compile(r"^(    )?(pub )?fn (\w+)(.*?)(?:;$|\{|\n +requires|\n +ensures)", re.M | re.S)
+CALL = re.compile(r"^(    )?(pub )?(?:final )?fn (\w+)(.*?)(?:;$|\{|\n +requires|\n +ensures)", re.M | re.S)
 FIRST = {("std", "AllocError"), ("std", "AllocFailed"), ("std", "Error"), ("clap", "Error")}
 
 

@@ -28,7 +28,7 @@ abbrev pub run_by : Fields → Shape → List Event → Report
 run_by p (Ricart count) = run_from ricart_core ricart_text p 0 (at_rest ricart_core p count)
 run_by p (Maekawa family) = run_from maekawa_core maekawa_text p 0 (at_rest maekawa_core p family)
 run_by p (Raymond tree) =
-    run_from raymond_core (λ _. raymond_text) p 0 (at_rest raymond_core p tree)
+    run_from raymond_core raymond_text p 0 (at_rest raymond_core p tree)
 
 -- go on with what was read
 abbrev pub where_read : {T : Type 0} → Result T PlanFault → (T → Report) → Report

@@ -1,6 +1,7 @@
 //! The lines of a cluster: those of its nodes, and those of the parcels that it sent.
 
 ghost use Rattle.std.specs.Prelude.{◌≡◌, ◌+◌, ◌<◌, ◌≤◌, ◌++◌, length, drop, string_bytes, OnOk};
+ghost use Rattle.mx_texts.specs.LetterTexts.{letter_text};
 ghost use Rattle.mx_texts.specs.NodeTexts.{member_line, node_lines};
 ghost use Rattle.mx_texts.specs.ParcelTexts.{parcel_lines};
 ghost use Rattle.mx_texts.specs.Lines.{texts_from};
@@ -61,7 +62,7 @@ where
     C::Msg: Letter,
     requires { before ≤ length cluster.now.sent }
     ensures { OnOk result (string_bytes text.new ≡ string_bytes text.old
-        ++ parcel_lines C.Msg.letter_text plan.now before (drop before cluster.now.sent)) }
+        ++ parcel_lines (letter_text C.Msg.parts) plan.now before (drop before cluster.now.sent)) }
 {
     for number in before..cluster.sent() {
         add_numbered(plan, cluster, number, text)?;
@@ -80,9 +81,9 @@ where
     C::Msg: Letter,
     requires { number < length cluster.now.sent }
     ensures { OnOk result (string_bytes text.old
-        ++ parcel_lines C.Msg.letter_text plan.now number (drop number cluster.now.sent)
+        ++ parcel_lines (letter_text C.Msg.parts) plan.now number (drop number cluster.now.sent)
         ≡ string_bytes text.new
-        ++ parcel_lines C.Msg.letter_text plan.now (number + 1)
+        ++ parcel_lines (letter_text C.Msg.parts) plan.now (number + 1)
         (drop (number + 1) cluster.now.sent)) }
 {
     match cluster.sent_parcel(number) {

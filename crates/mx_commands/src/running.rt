@@ -2,6 +2,7 @@
 
 ghost use Rattle.std.specs.Prelude.{◌≡◌, ◌<◌, List, [], ◌∷◌, ◌++◌, length, string_bytes, OnOk, IfOk, IfErr};
 ghost use Rattle.mx_network.specs.Step.{step_of};
+ghost use Rattle.mx_texts.specs.LetterTexts.{letter_text};
 ghost use Rattle.mx_cli.specs.Outputs.{refused_after};
 ghost use Rattle.mx_commands.specs.Runs.{NamesNodes, AllNameNodes, at_rest, closing_text, run_from, text_of};
 ghost use Rattle.mx_commands.specs.Ran.{Ran, StopsAt};
@@ -47,7 +48,7 @@ where
     requires members { length cluster.members ≡ length plan.now.nodes }
     requires named { AllNameNodes (length plan.now.nodes) events.now }
     ensures ran { Ran (O.takes_all out.old) (O.written out.old) (O.written out.new)
-        (run_from C.core C.Msg.letter_text plan.now 0 cluster events.now) result }
+        (run_from C.core (letter_text C.Msg.parts) plan.now 0 cluster events.now) result }
     ensures refused { O.has_refused out.new ≡ refused_after result (O.has_refused out.old) }
     ensures zero { IfOk result (λ status. status ≡ 0) }
     ensures stays { O.takes_all out.new ≡ O.takes_all out.old }
@@ -68,7 +69,7 @@ where
     requires members { length cluster.old.members ≡ length plan.now.nodes }
     requires named { AllNameNodes (length plan.now.nodes) events.now }
     ensures ran { Ran (O.takes_all out.old) (O.written out.old) (O.written out.new)
-        (run_from C.core C.Msg.letter_text plan.now 0 cluster.old events.now) result }
+        (run_from C.core (letter_text C.Msg.parts) plan.now 0 cluster.old events.now) result }
     ensures refused { O.has_refused out.new ≡ refused_after result (O.has_refused out.old) }
     ensures zero { IfOk result (λ status. status ≡ 0) }
     ensures stays { O.takes_all out.new ≡ O.takes_all out.old }
@@ -99,7 +100,7 @@ where
     requires empty { string_bytes text.old ≡ [] }
     ensures ok { OnOk result (step_of C.core cluster.old event.now ≡ Ok cluster.new) }
     ensures text { OnOk result (string_bytes text.new
-        ≡ text_of C.core C.Msg.letter_text plan.now index cluster.old cluster.new) }
+        ≡ text_of C.core (letter_text C.Msg.parts) plan.now index cluster.old cluster.new) }
     ensures err { IfErr result (StopsAt index (step_of C.core cluster.old event.now)) }
 {
     let before = cluster.sent();
@@ -140,7 +141,8 @@ where
     C::Msg: Letter,
     requires { length cluster.now.members ≡ length plan.now.nodes }
     ensures text { OnOk result (string_bytes text.new
-        ≡ string_bytes text.old ++ closing_text C.core C.Msg.letter_text plan.now cluster.now) }
+        ≡ string_bytes text.old
+        ++ closing_text C.core (letter_text C.Msg.parts) plan.now cluster.now) }
     ensures sound { IfOk result (λ verdict. verdict ≡ Verdict.Sound) }
 {
     add_nodes(plan, cluster, text)?;

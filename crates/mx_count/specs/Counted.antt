@@ -12,12 +12,12 @@ use Rattle.mx_plan.specs.Text.{Text}
 use Rattle.mx_plan.specs.Fields.{Fields}
 use Rattle.mx_plan.specs.declared.shape.Shape.{Shape}
 use Rattle.mx_plan.specs.declared.shape.Shape.TheVariants.{Ricart, Maekawa, Raymond}
+use Rattle.mx_texts.specs.Parts.{maekawa_parts, maekawa_words, raymond_parts, raymond_words, ricart_parts, ricart_words, word_by}
 use Rattle.mx_texts.specs.PlanTexts.{explored_line}
 use Rattle.mx_commands.specs.Explored.{after_drawn, is_entry}
 use Rattle.mx_commands.specs.Runs.{at_rest}
 use Rattle.mx_commands.specs.VerdictLines.{verdict_line}
 use Rattle.mx_count.specs.Counts.{head_text, tallies_text}
-use Rattle.mx_count.specs.Kinds.{maekawa_kind, maekawa_names, raymond_kind, raymond_names, ricart_kind, ricart_names}
 use Rattle.mx_count.specs.declared.running.Course.{Course}
 use Rattle.mx_count.specs.declared.running.Course.TheVariants.{Given, Drawn}
 
@@ -29,9 +29,9 @@ first_text Drawn events sections parcels = explored_line events sections parcels
 -- the counts of a cluster after this many events, and the verdict, which is sound
 abbrev pub counts_text : {S M : Type 0} → (M → Text) → List Text → Course → ℕ → ClusterState S M
     → Text
-counts_text kind_text names course events g =
+counts_text kind_text words course events g =
     let sections = count_by is_entry g.trace in
-    first_text course events sections (length g.sent) ++ tallies_text kind_text names g sections
+    first_text course events sections (length g.sent) ++ tallies_text kind_text words g sections
     ++ verdict_line Sound
 
 -- events lead from one cluster to another: those that were given all happen, and of those that were
@@ -44,17 +44,18 @@ Leads Drawn core g es new = after_drawn core g es ≡ new
 -- the counts of a cluster to which these events lead were appended to a text
 abbrev pub AddsCounts : {H S M : Type 0} → Core H S M → (M → Text) → List Text → Course → List Event
     → ClusterState S M → Text → Text → Type 0
-AddsCounts {H} {S} {M} core kind_text names course es start old new =
+AddsCounts {H} {S} {M} core kind_text words course es start old new =
     (g : ClusterState S M) × Leads course core start es g
-    × (new ≡ old ++ counts_text kind_text names course (length es) g)
+    × (new ≡ old ++ counts_text kind_text words course (length es) g)
 
 -- the same of events that lead from the cluster of a plan, at rest, by its algorithm
 abbrev pub AddsCountsBy : Course → Fields → List Event → Text → Text → Shape → Type 0
 AddsCountsBy course p es old new (Ricart count) =
-    AddsCounts ricart_core ricart_kind ricart_names course es (at_rest ricart_core p count) old new
+    AddsCounts ricart_core (word_by ricart_parts) ricart_words course es
+    (at_rest ricart_core p count) old new
 AddsCountsBy course p es old new (Maekawa family) =
-    AddsCounts maekawa_core maekawa_kind maekawa_names course es
+    AddsCounts maekawa_core (word_by maekawa_parts) maekawa_words course es
     (at_rest maekawa_core p family) old new
 AddsCountsBy course p es old new (Raymond tree) =
-    AddsCounts raymond_core raymond_kind raymond_names course es
+    AddsCounts raymond_core (word_by raymond_parts) raymond_words course es
     (at_rest raymond_core p tree) old new

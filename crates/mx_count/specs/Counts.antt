@@ -10,7 +10,7 @@ use Rattle.mx_sections.specs.declared.outcome.Outcome.{Outcome}
 use Rattle.mx_sections.specs.declared.outcome.Outcome.TheVariants.{Asked, Refused}
 use Rattle.mx_plan.specs.Text.{Text, line_feed}
 use Rattle.mx_texts.specs.Lines.{each_text}
-use Rattle.mx_count.specs.Kinds.{is_refused_under, is_under, refusal_names}
+use Rattle.mx_count.specs.Kinds.{is_refused_under, is_under, names_with, refusal_names}
 
 -- a name and its count
 abbrev pub tally_line : Text → ℕ → Text
@@ -79,11 +79,11 @@ head_text events sections parcels =
     tally_line (codes "events") events ++ tally_line (codes "sections") sections
     ++ tally_line (codes "parcels") parcels
 
--- what is counted of a cluster of which this many sections were entered, by the names of its
--- parcels
+-- what is counted of a cluster of which this many sections were entered, by the words of its
+-- algorithm's letters
 abbrev pub tallies_text : {S M : Type 0} → (M → Text) → List Text → ClusterState S M → ℕ → Text
-tallies_text kind_text names g sections =
-    parcels_text kind_text g.sent names
+tallies_text kind_text words g sections =
+    parcels_text kind_text g.sent (names_with words)
     ++ share_text (count_by (is_under kind_text (codes "letters")) g.sent) sections
     ++ refusals_text g.trace refusal_names
     ++ tally_line (codes "longest wait") (longest_wait g.trace)

@@ -2,11 +2,12 @@
 
 ghost use Rattle.std.specs.Prelude.{◌≡◌, ◌++◌, IfOk, OnOk, string_bytes};
 ghost use Rattle.mx_network.specs.Step.{RunsTo};
+ghost use Rattle.mx_texts.specs.Parts.{word_by};
 ghost use Rattle.mx_count.specs.Counts.{head_text, share_text, tallies_text};
 ghost use Rattle.mx_count.specs.Counted.{AddsCounts, AddsCountsBy, Leads, counts_text, first_text};
 
 use crate::count_lines::{ShareLine, TallyLine};
-use crate::kinds::{Kinded, refusal_names};
+use crate::kinds::refusal_names;
 use crate::parcel_counts::{add_parcel_counts, count_parcels};
 use crate::refusal_counts::add_refusal_counts;
 use crate::waits::longest_wait;
@@ -16,7 +17,7 @@ use mx_explorer::judge;
 use mx_network::{Cluster, Event, RunFault, StepFault};
 use mx_nodelaws::Exclusion;
 use mx_plan::Plan;
-use mx_texts::ExploredLine;
+use mx_texts::{ExploredLine, Letter};
 use std::alloc::{AllocError, Global};
 
 /// How the events of a run were come by.
@@ -56,9 +57,9 @@ fn add_counts_after<C: Exclusion>(
     text: &mut String,
 ) -> Result<u8, Stop>
 where
-    C::Msg: Kinded,
-    ensures text { OnOk result (AddsCounts C.core C.Msg.kind_text C.Msg.names course events.now
-        cluster (string_bytes text.old) (string_bytes text.new)) }
+    C::Msg: Letter,
+    ensures text { OnOk result (AddsCounts C.core (word_by C.Msg.parts) C.Msg.words course
+        events.now cluster (string_bytes text.old) (string_bytes text.new)) }
     ensures zero { IfOk result (λ status. status ≡ 0) }
 {
     bring_about(&mut cluster, events, course)?;
@@ -106,9 +107,9 @@ fn add_counts<C: Exclusion>(
     text: &mut String,
 ) -> Result<u8, Stop>
 where
-    C::Msg: Kinded,
+    C::Msg: Letter,
     ensures text { OnOk result (string_bytes text.new ≡ string_bytes text.old
-        ++ counts_text C.Msg.kind_text C.Msg.names course steps cluster.now) }
+        ++ counts_text (word_by C.Msg.parts) C.Msg.words course steps cluster.now) }
     ensures zero { IfOk result (λ status. status ≡ 0) }
 {
     let trace = cluster.trace();
@@ -167,13 +168,13 @@ fn add_tallies<C: Exclusion>(
     text: &mut String,
 ) -> Result<(), AllocError>
 where
-    C::Msg: Kinded,
+    C::Msg: Letter,
     ensures { OnOk result (string_bytes text.new
         ≡ string_bytes text.old
-        ++ tallies_text C.Msg.kind_text C.Msg.names cluster.now entered) }
+        ++ tallies_text (word_by C.Msg.parts) C.Msg.words cluster.now entered) }
 {
     let trace = cluster.trace();
-    add_parcel_counts(cluster, C::Msg::names(), text)?;
+    add_parcel_counts(cluster, text)?;
     add_share(count_parcels(cluster, "letters"), entered, text)?;
     add_refusal_counts(trace, refusal_names(), text)?;
     text.write(TallyLine {

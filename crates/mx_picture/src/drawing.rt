@@ -2,11 +2,11 @@
 
 ghost use Rattle.std.specs.Prelude.{◌≡◌, ◌≤◌, Ok, Err, None, length, IfErr, OnOk};
 ghost use Rattle.mx_network.specs.Step.{step_of};
+ghost use Rattle.mx_texts.specs.LetterTexts.{letter_text};
 ghost use Rattle.mx_commands.specs.Runs.{AllNameNodes, NamesNodes, run_from};
 ghost use Rattle.mx_commands.specs.Ran.{StopsAt};
 ghost use Rattle.mx_picture.specs.Drawn.{StopsAs};
 
-use crate::inks::Inked;
 use crate::journals::Known;
 use crate::labels::Spot;
 use crate::parcels::{draw_delivery, draw_sent};
@@ -65,13 +65,13 @@ pub(crate) fn draw_run<C: Exclusion>(
     drawing: &mut Drawing,
 ) -> Result<(), Stop>
 where
-    C::Msg: Letter + Inked,
+    C::Msg: Letter,
     requires members { length cluster.members ≡ length plan.now.nodes }
     requires named { AllNameNodes (length plan.now.nodes) events.now }
     ensures ok { OnOk result
-        ((run_from C.core C.Msg.letter_text plan.now 0 cluster events.now).end ≡ None) }
+        ((run_from C.core (letter_text C.Msg.parts) plan.now 0 cluster events.now).end ≡ None) }
     ensures err { IfErr result
-        (StopsAs (run_from C.core C.Msg.letter_text plan.now 0 cluster events.now)) }
+        (StopsAs (run_from C.core (letter_text C.Msg.parts) plan.now 0 cluster events.now)) }
 {
     draw_events(plan, &mut cluster, events, drawing)
 }
@@ -84,13 +84,13 @@ fn draw_events<C: Exclusion>(
     drawing: &mut Drawing,
 ) -> Result<(), Stop>
 where
-    C::Msg: Letter + Inked,
+    C::Msg: Letter,
     requires members { length cluster.old.members ≡ length plan.now.nodes }
     requires named { AllNameNodes (length plan.now.nodes) events.now }
     ensures ok { OnOk result
-        ((run_from C.core C.Msg.letter_text plan.now 0 cluster.old events.now).end ≡ None) }
+        ((run_from C.core (letter_text C.Msg.parts) plan.now 0 cluster.old events.now).end ≡ None) }
     ensures err { IfErr result
-        (StopsAs (run_from C.core C.Msg.letter_text plan.now 0 cluster.old events.now)) }
+        (StopsAs (run_from C.core (letter_text C.Msg.parts) plan.now 0 cluster.old events.now)) }
 {
     for (index, event) in events.iter().enumerate() {
         draw_event(plan, index as u64, event, cluster, drawing)?;
@@ -107,7 +107,7 @@ fn draw_event<C: Exclusion>(
     drawing: &mut Drawing,
 ) -> Result<(), Stop>
 where
-    C::Msg: Letter + Inked,
+    C::Msg: Letter,
     requires named { NamesNodes (length cluster.old.members) event.now }
     ensures ok { OnOk result (step_of C.core cluster.old event.now ≡ Ok cluster.new) }
     ensures err { IfErr result (StopsAt index (step_of C.core cluster.old event.now)) }
@@ -128,7 +128,7 @@ fn draw_row<C: Exclusion>(
     drawing: &mut Drawing,
 ) -> Result<(), AllocError>
 where
-    C::Msg: Letter + Inked,
+    C::Msg: Letter,
 {
     let Some(entry) = cluster.trace().last() else {
         return Ok(());
@@ -188,7 +188,7 @@ fn draw_happened<C: Exclusion>(
     drawing: &mut Drawing,
 ) -> Result<(), AllocError>
 where
-    C::Msg: Letter + Inked,
+    C::Msg: Letter,
 {
     match happening_of(&entry.event) {
         Happening::Delivery(number) => draw_delivery(plan, cluster, number, drawing),

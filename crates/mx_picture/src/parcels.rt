@@ -1,7 +1,7 @@
 //! Parcels that are drawn: as arrows to their delivery, or lost in the air.
 
 use crate::drawing::{Drawing, tell_journal};
-use crate::inks::{Inked, ink_of};
+use crate::inks::ink_of;
 use crate::labels::Spot;
 use crate::passing::concerns;
 use mx_member::{Parcel, SentParcel};
@@ -19,7 +19,7 @@ pub(crate) fn draw_delivery<C: Exclusion>(
     drawing: &mut Drawing,
 ) -> Result<(), AllocError>
 where
-    C::Msg: Letter + Inked,
+    C::Msg: Letter,
 {
     let Some(sent) = cluster.sent_parcel(number) else {
         return Ok(());
@@ -45,7 +45,7 @@ pub(crate) fn draw_sent<C: Exclusion>(
     drawing: &mut Drawing,
 ) -> Result<(), AllocError>
 where
-    C::Msg: Letter + Inked,
+    C::Msg: Letter,
 {
     for number in before..cluster.sent() {
         drawing.sheet.send(true)?;
@@ -64,7 +64,7 @@ fn draw_loss<C: Exclusion>(
     drawing: &mut Drawing,
 ) -> Result<(), AllocError>
 where
-    C::Msg: Letter + Inked,
+    C::Msg: Letter,
 {
     let Some(sent) = cluster.sent_parcel(number) else {
         return Ok(());

@@ -1,7 +1,7 @@
 //! Which events of a run are shown, and what those that are not still change.
 
 use crate::drawing::Drawing;
-use crate::inks::{Inked, ink_of};
+use crate::inks::ink_of;
 use crate::part::Part;
 use crate::sheet::Sheet;
 use mx_network::{Cluster, Entry, Event, Outcome};
@@ -61,7 +61,7 @@ pub(crate) fn pass_over<C: Exclusion>(
     drawing: &mut Drawing,
 ) -> Result<(), AllocError>
 where
-    C::Msg: Letter + Inked,
+    C::Msg: Letter,
 {
     match happening_of(&entry.event) {
         Happening::Delivery(number) => pass_delivery(cluster, number, &mut drawing.sheet)?,
@@ -83,7 +83,7 @@ fn pass_delivery<C: Exclusion>(
     sheet: &mut Sheet,
 ) -> Result<(), AllocError>
 where
-    C::Msg: Letter + Inked,
+    C::Msg: Letter,
 {
     let Some(sent) = cluster.sent_parcel(number) else {
         return Ok(());

@@ -37,7 +37,7 @@ module _ {H S M : Type 0} (core : Core H S M) (letter_text : Fields → M → Te
 pub by_keeps : (p : Fields) (a b c : Held) (shape : Shape) → IsPlayedBy p a b shape → Keeps b c → IsPlayedBy p a c shape
 by_keeps p a b c (Ricart count) = played_keeps ricart_core ricart_text p count a b c
 by_keeps p a b c (Maekawa family) = played_keeps maekawa_core maekawa_text p family a b c
-by_keeps p a b c (Raymond tree) = played_keeps raymond_core (λ _. raymond_text) p tree a b c
+by_keeps p a b c (Raymond tree) = played_keeps raymond_core raymond_text p tree a b c
 
 -- a line that is read as a plan
 pub line_plan : (line : List ℕ) (r : Result Fields Stop) → Reads (Some line) r → IfOk r IsLinePlan

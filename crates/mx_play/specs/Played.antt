@@ -20,7 +20,7 @@ IsPlayedBy p old new (Ricart count) = IsPlayed ricart_core ricart_text p count o
 IsPlayedBy p old new (Maekawa family) =
     IsPlayed maekawa_core maekawa_text p family old new
 IsPlayedBy p old new (Raymond tree) =
-    IsPlayed raymond_core (λ _. raymond_text) p tree old new
+    IsPlayed raymond_core raymond_text p tree old new
 
 -- the plan is what some line says, by the rules of plans
 abbrev pub IsLinePlan : Fields → Type 0

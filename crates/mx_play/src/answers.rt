@@ -1,6 +1,7 @@
 //! What a line comes to.
 
 ghost use Rattle.std.specs.Prelude.{◌≡◌, [], IfOk, MatchOption, OnOk, length, slice_index_or, string_bytes, take};
+ghost use Rattle.mx_texts.specs.LetterTexts.{letter_text};
 ghost use Rattle.mx_scripts.specs.Scripts.{IsOver};
 ghost use Rattle.mx_play.specs.Moments.{CanLead, Leads, first_moment};
 ghost use Rattle.mx_play.specs.Sessions.{Comes, HasTurned, IsSession, state};
@@ -35,7 +36,7 @@ where
         (state session.old.moment session.old.done.items session.old.marks.items) }
     requires over { IsWish (length plan.now.nodes) (length plan.now.registers) wish.now }
     requires empty { string_bytes text.old ≡ [] }
-    ensures turned { IfOk result (λ _. HasTurned C.core C.Msg.letter_text plan.now shape.now
+    ensures turned { IfOk result (λ _. HasTurned C.core (letter_text C.Msg.parts) plan.now shape.now
         (state session.old.moment session.old.done.items session.old.marks.items)
         (state session.new.moment session.new.done.items session.new.marks.items)
         (string_bytes text.new)) }
@@ -77,11 +78,11 @@ where
     requires over { IsOver (length plan.now.nodes) (length plan.now.registers) line.now.order }
     requires empty { string_bytes text.old ≡ [] }
     ensures turned { IfOk result (λ fault. MatchOption fault
-        (Comes C.core C.Msg.letter_text plan.now shape.now turn.does
+        (Comes C.core (letter_text C.Msg.parts) plan.now shape.now turn.does
         (state session.old.moment session.old.done.items session.old.marks.items)
         (state session.new.moment session.new.done.items session.new.marks.items)
         (string_bytes text.new))
-        (λ _. Comes C.core C.Msg.letter_text plan.now shape.now turn.rests
+        (λ _. Comes C.core (letter_text C.Msg.parts) plan.now shape.now turn.rests
         (state session.old.moment session.old.done.items session.old.marks.items)
         (state session.new.moment session.new.done.items session.new.marks.items)
         (string_bytes text.new))) }
@@ -123,10 +124,10 @@ where
     requires is { IsSession C.core plan.now shape.now
         (state session.old.moment session.old.done.items session.old.marks.items) }
     ensures turned { IfOk result (λ fault. MatchOption fault
-        (Comes C.core C.Msg.letter_text plan.now shape.now (turn.takes_back count)
+        (Comes C.core (letter_text C.Msg.parts) plan.now shape.now (turn.takes_back count)
         (state session.old.moment session.old.done.items session.old.marks.items)
         (state session.new.moment session.new.done.items session.new.marks.items) [])
-        (λ _. Comes C.core C.Msg.letter_text plan.now shape.now turn.rests
+        (λ _. Comes C.core (letter_text C.Msg.parts) plan.now shape.now turn.rests
         (state session.old.moment session.old.done.items session.old.marks.items)
         (state session.new.moment session.new.done.items session.new.marks.items) [])) }
     ensures is { IfOk result (λ _. IsSession C.core plan.now shape.now

@@ -2,6 +2,7 @@
 
 ghost use Rattle.std.specs.Prelude.{◌≡◌, ◌++◌, Ok, IfOk, IfSome, IsOk, IsTrue, OnOk, length, string_bytes, take};
 ghost use Rattle.mx_network.specs.Step.{step_of};
+ghost use Rattle.mx_texts.specs.LetterTexts.{letter_text};
 ghost use Rattle.mx_commands.specs.Runs.{NamesNodes, text_of};
 ghost use Rattle.mx_scripts.specs.Fates.{is_under_way};
 ghost use Rattle.mx_play.specs.Moments.{Brings, CanHappen, CanLead, Leads, first_moment, shown};
@@ -92,7 +93,7 @@ impl<C: Exclusion> Moment<C> {
         ensures brings { OnOk result
             (Brings C.core self.old (Happening.Happens event.now) self.new) }
         ensures text { OnOk result (string_bytes text.new ≡ string_bytes text.old
-            ++ shown C.core C.Msg.letter_text plan.now self.old
+            ++ shown C.core (letter_text C.Msg.parts) plan.now self.old
             (Happening.Happens event.now) self.new) }
     {
         add_event(alloc, plan, event, &mut self.cluster, text)?;
@@ -131,7 +132,7 @@ where
     requires { NamesNodes (length cluster.old.members) event.now }
     ensures ok { OnOk result (step_of C.core cluster.old event.now ≡ Ok cluster.new) }
     ensures text { OnOk result (string_bytes text.new ≡ string_bytes text.old
-        ++ text_of C.core C.Msg.letter_text plan.now (length cluster.old.trace)
+        ++ text_of C.core (letter_text C.Msg.parts) plan.now (length cluster.old.trace)
         cluster.old cluster.new) }
 {
     let mut one = String::new(alloc);

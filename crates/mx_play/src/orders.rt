@@ -2,6 +2,7 @@
 
 ghost use Rattle.std.specs.Prelude.{◌≡◌, length, string_bytes, OnErr, OnOk};
 ghost use Rattle.mx_explorer.specs.Drawn.{IsDrawn};
+ghost use Rattle.mx_texts.specs.LetterTexts.{letter_text};
 ghost use Rattle.mx_scripts.specs.Scripts.{IsOver};
 ghost use Rattle.mx_play.specs.Sessions.{Adds, Extends, Loses};
 
@@ -29,7 +30,7 @@ where
     C::Msg: Letter,
     requires members { length moment.old.cluster.members ≡ length plan.now.nodes }
     requires over { IsOver (length plan.now.nodes) (length plan.now.registers) line.now.order }
-    ensures ok { OnOk result (Adds C.core C.Msg.letter_text plan.now moment.old moment.new
+    ensures ok { OnOk result (Adds C.core (letter_text C.Msg.parts) plan.now moment.old moment.new
         done.old.items done.new.items (string_bytes text.old) (string_bytes text.new)) }
     ensures err { OnErr result (Extends done.old.items done.new.items) }
 {
@@ -52,7 +53,7 @@ where
     C::Msg: Letter,
     requires members { length moment.old.cluster.members ≡ length plan.now.nodes }
     requires over { IsOver (length plan.now.nodes) (length plan.now.registers) order.now }
-    ensures ok { OnOk result (Adds C.core C.Msg.letter_text plan.now moment.old moment.new
+    ensures ok { OnOk result (Adds C.core (letter_text C.Msg.parts) plan.now moment.old moment.new
         done.old.items done.new.items (string_bytes text.old) (string_bytes text.new)) }
     ensures err { OnErr result (Extends done.old.items done.new.items) }
 {
@@ -100,7 +101,7 @@ where
     C::Msg: Letter,
     requires members { length moment.old.cluster.members ≡ length plan.now.nodes }
     requires drawn { IsDrawn (length plan.now.nodes) (length plan.now.registers) event.now }
-    ensures ok { OnOk result (Adds C.core C.Msg.letter_text plan.now moment.old moment.new
+    ensures ok { OnOk result (Adds C.core (letter_text C.Msg.parts) plan.now moment.old moment.new
         done.old.items done.new.items (string_bytes text.old) (string_bytes text.new)) }
     ensures err { OnErr result (Extends done.old.items done.new.items) }
 {
@@ -125,7 +126,7 @@ fn arrive<C: Exclusion>(
 where
     C::Msg: Letter,
     requires members { length moment.old.cluster.members ≡ length plan.now.nodes }
-    ensures ok { OnOk result (Adds C.core C.Msg.letter_text plan.now moment.old moment.new
+    ensures ok { OnOk result (Adds C.core (letter_text C.Msg.parts) plan.now moment.old moment.new
         done.old.items done.new.items (string_bytes text.old) (string_bytes text.new)) }
     ensures err { OnErr result (Extends done.old.items done.new.items) }
 {
@@ -146,7 +147,7 @@ fn all_arrive<C: Exclusion>(
 where
     C::Msg: Letter,
     requires members { length moment.old.cluster.members ≡ length plan.now.nodes }
-    ensures ok { OnOk result (Adds C.core C.Msg.letter_text plan.now moment.old moment.new
+    ensures ok { OnOk result (Adds C.core (letter_text C.Msg.parts) plan.now moment.old moment.new
         done.old.items done.new.items (string_bytes text.old) (string_bytes text.new)) }
     ensures err { OnErr result (Extends done.old.items done.new.items) }
 {

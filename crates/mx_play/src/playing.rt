@@ -1,6 +1,7 @@
 //! A session is played in the cluster of a plan.
 
 ghost use Rattle.std.specs.Prelude.{◌≡◌, length, IfOk, OnOk};
+ghost use Rattle.mx_texts.specs.LetterTexts.{letter_text};
 ghost use Rattle.mx_play.specs.Played.{IsPlayedBy};
 ghost use Rattle.mx_play.specs.Sessions.{HasTalked, IsPlayed, IsSession, at_start, state};
 
@@ -63,7 +64,7 @@ where
     requires count { C.core.count shape.now ≡ length plan.now.nodes }
     requires start { state session.old.moment session.old.done.items session.old.marks.items
         ≡ at_start C.core plan.now shape.now }
-    ensures played { IfOk result (λ _. IsPlayed C.core C.Msg.letter_text plan.now shape.now
+    ensures played { IfOk result (λ _. IsPlayed C.core (letter_text C.Msg.parts) plan.now shape.now
         (O.written out.old) (O.written out.new)) }
     ensures zero { IfOk result (λ status. status ≡ 0) }
 {
@@ -86,7 +87,7 @@ where
     C::Msg: Letter,
     requires { IsSession C.core plan.now shape.now
         (state session.old.moment session.old.done.items session.old.marks.items) }
-    ensures talked { OnOk result (HasTalked C.core C.Msg.letter_text plan.now shape.now
+    ensures talked { OnOk result (HasTalked C.core (letter_text C.Msg.parts) plan.now shape.now
         (state session.old.moment session.old.done.items session.old.marks.items)
         (state session.new.moment session.new.done.items session.new.marks.items)
         (O.written out.old) (O.written out.new)) }
@@ -114,7 +115,7 @@ where
     C::Msg: Letter,
     requires { IsSession C.core plan.now shape.now
         (state session.old.moment session.old.done.items session.old.marks.items) }
-    ensures talked { OnOk result (HasTalked C.core C.Msg.letter_text plan.now shape.now
+    ensures talked { OnOk result (HasTalked C.core (letter_text C.Msg.parts) plan.now shape.now
         (state session.old.moment session.old.done.items session.old.marks.items)
         (state session.new.moment session.new.done.items session.new.marks.items)
         (O.written out.old) (O.written out.new)) }

@@ -1,6 +1,7 @@
 //! A session: what its lines made.
 
 ghost use Rattle.std.specs.Prelude.{◌≡◌, ◌++◌, length, string_bytes, IfOk, OnOk};
+ghost use Rattle.mx_texts.specs.LetterTexts.{letter_text};
 ghost use Rattle.mx_commands.specs.Runs.{closing_text};
 ghost use Rattle.mx_scripts.specs.Files.{file_text};
 ghost use Rattle.mx_scripts.specs.Played.{events_of};
@@ -52,8 +53,9 @@ where
     C::Msg: Letter,
     requires { length session.now.moment.cluster.members ≡ length plan.now.nodes }
     ensures { OnOk result (string_bytes text.new ≡ string_bytes text.old
-        ++ (standing_lines C.core C.Msg.letter_text plan.now to.now session.now.moment.cluster
-        ++ waiting_lines C.core C.Msg.letter_text plan.now to.now session.now.moment)) }
+        ++ (standing_lines C.core (letter_text C.Msg.parts) plan.now to.now
+        session.now.moment.cluster
+        ++ waiting_lines C.core (letter_text C.Msg.parts) plan.now to.now session.now.moment)) }
 {
     show(plan, to, &session.moment, text)
 }
@@ -80,7 +82,7 @@ where
     C::Msg: Letter,
     requires { length session.now.moment.cluster.members ≡ length plan.now.nodes }
     ensures text { OnOk result (string_bytes text.new ≡ string_bytes text.old
-        ++ closing_text C.core C.Msg.letter_text plan.now session.now.moment.cluster) }
+        ++ closing_text C.core (letter_text C.Msg.parts) plan.now session.now.moment.cluster) }
     ensures zero { IfOk result (λ status. status ≡ 0) }
 {
     add_end(plan, &session.moment, text)

@@ -1,6 +1,7 @@
 //! What is shown of a session.
 
 ghost use Rattle.std.specs.Prelude.{◌≡◌, ◌+◌, ◌<◌, ◌++◌, ◌&&◌, drop, length, string_bytes, IfOk, OnOk, Some};
+ghost use Rattle.mx_texts.specs.LetterTexts.{letter_text};
 ghost use Rattle.mx_texts.specs.Lines.{texts_from};
 ghost use Rattle.mx_commands.specs.Runs.{closing_text};
 ghost use Rattle.mx_scripts.specs.Fates.{is_under_way};
@@ -30,8 +31,8 @@ where
     C::Msg: Letter,
     requires { length moment.now.cluster.members ≡ length plan.now.nodes }
     ensures { OnOk result (string_bytes text.new ≡ string_bytes text.old
-        ++ (standing_lines C.core C.Msg.letter_text plan.now to.now moment.now.cluster
-        ++ waiting_lines C.core C.Msg.letter_text plan.now to.now moment.now)) }
+        ++ (standing_lines C.core (letter_text C.Msg.parts) plan.now to.now moment.now.cluster
+        ++ waiting_lines C.core (letter_text C.Msg.parts) plan.now to.now moment.now)) }
 {
     add_standing(plan, to, moment.cluster(), text)?;
     add_waiting(plan, to, moment, text)
@@ -59,7 +60,7 @@ where
     C::Msg: Letter,
     requires { length moment.now.cluster.members ≡ length plan.now.nodes }
     ensures text { OnOk result (string_bytes text.new ≡ string_bytes text.old
-        ++ closing_text C.core C.Msg.letter_text plan.now moment.now.cluster) }
+        ++ closing_text C.core (letter_text C.Msg.parts) plan.now moment.now.cluster) }
     ensures zero { IfOk result (λ status. status ≡ 0) }
 {
     let verdict = add_closing(plan, moment.cluster(), text)?;
@@ -77,7 +78,7 @@ where
     C::Msg: Letter,
     requires { length cluster.now.members ≡ length plan.now.nodes }
     ensures { OnOk result (string_bytes text.new ≡ string_bytes text.old
-        ++ standing_lines C.core C.Msg.letter_text plan.now to.now cluster.now) }
+        ++ standing_lines C.core (letter_text C.Msg.parts) plan.now to.now cluster.now) }
 {
     match to {
         Some(node) => add_one(plan, *node, cluster, text),
@@ -95,7 +96,7 @@ fn add_one<C: Exclusion>(
 where
     C::Msg: Letter,
     ensures { OnOk result (string_bytes text.new ≡ string_bytes text.old
-        ++ standing_lines C.core C.Msg.letter_text plan.now (Some node) cluster.now) }
+        ++ standing_lines C.core (letter_text C.Msg.parts) plan.now (Some node) cluster.now) }
 {
     match cluster.member(node) {
         Some(member) => add_member_line(plan, node, member, text),
@@ -113,7 +114,7 @@ fn add_waiting<C: Exclusion>(
 where
     C::Msg: Letter,
     ensures { OnOk result (string_bytes text.new ≡ string_bytes text.old
-        ++ waiting_lines C.core C.Msg.letter_text plan.now to.now moment.now) }
+        ++ waiting_lines C.core (letter_text C.Msg.parts) plan.now to.now moment.now) }
 {
     for number in 0..moment.cluster().sent() {
         add_if_waiting(plan, to, moment, number, text)?;
@@ -133,10 +134,10 @@ where
     C::Msg: Letter,
     requires { number < length moment.now.cluster.sent }
     ensures { OnOk result (string_bytes text.old
-        ++ texts_from (waiting_line C.core C.Msg.letter_text plan.now to.now moment.now)
+        ++ texts_from (waiting_line C.core (letter_text C.Msg.parts) plan.now to.now moment.now)
         number (drop number moment.now.cluster.sent)
         ≡ string_bytes text.new
-        ++ texts_from (waiting_line C.core C.Msg.letter_text plan.now to.now moment.now)
+        ++ texts_from (waiting_line C.core (letter_text C.Msg.parts) plan.now to.now moment.now)
         (number + 1) (drop (number + 1) moment.now.cluster.sent)) }
 {
     match moment.cluster().parcel(number) {
@@ -157,7 +158,7 @@ fn add_parcel<C: Exclusion>(
 where
     C::Msg: Letter,
     ensures { OnOk result (string_bytes text.new ≡ string_bytes text.old
-        ++ waiting_line C.core C.Msg.letter_text plan.now to.now moment.now
+        ++ waiting_line C.core (letter_text C.Msg.parts) plan.now to.now moment.now
         number (parcel.entry.0, parcel.entry.1, parcel.entry.2.now)) }
 {
     if is_waiting(to, moment, number, parcel.1) {

@@ -2,6 +2,7 @@
 
 ghost use Rattle.std.specs.Prelude.{◌≡◌, [], false, length, string_bytes, IfOk, OnOk};
 ghost use Rattle.std.specs.Io.KnownBytes.{Appends};
+ghost use Rattle.mx_texts.specs.LetterTexts.{letter_text};
 ghost use Rattle.mx_commands.specs.Runs.{closing_text};
 ghost use Rattle.mx_play.specs.Sessions.{HasTalked, HasTurned, IsSession, SaysTurn, state};
 ghost use Rattle.mx_play.specs.Wishes.{IsHeard};
@@ -44,7 +45,7 @@ where
     C::Msg: Letter,
     requires { IsSession C.core plan.now shape.now
         (state session.old.moment session.old.done.items session.old.marks.items) }
-    ensures talked { IfOk result (λ _. HasTalked C.core C.Msg.letter_text plan.now shape.now
+    ensures talked { IfOk result (λ _. HasTalked C.core (letter_text C.Msg.parts) plan.now shape.now
         (state session.old.moment session.old.done.items session.old.marks.items)
         (state session.new.moment session.new.done.items session.new.marks.items)
         (O.written out.old) (O.written out.new)) }
@@ -80,7 +81,7 @@ where
     C::Msg: Letter,
     requires { IsSession C.core plan.now shape.now
         (state session.old.moment session.old.done.items session.old.marks.items) }
-    ensures says { IfOk result (λ _. SaysTurn C.core C.Msg.letter_text plan.now shape.now
+    ensures says { IfOk result (λ _. SaysTurn C.core (letter_text C.Msg.parts) plan.now shape.now
         (state session.old.moment session.old.done.items session.old.marks.items)
         (state session.new.moment session.new.done.items session.new.marks.items)
         (O.written out.old) (O.written out.new)) }
@@ -159,7 +160,7 @@ where
     requires is { IsSession C.core plan.now shape.now
         (state session.old.moment session.old.done.items session.old.marks.items) }
     requires heard { IsHeard (length plan.now.nodes) (length plan.now.registers) heard.now }
-    ensures says { IfOk result (λ _. SaysTurn C.core C.Msg.letter_text plan.now shape.now
+    ensures says { IfOk result (λ _. SaysTurn C.core (letter_text C.Msg.parts) plan.now shape.now
         (state session.old.moment session.old.done.items session.old.marks.items)
         (state session.new.moment session.new.done.items session.new.marks.items)
         (O.written out.old) (O.written out.new)) }
@@ -188,7 +189,7 @@ where
         (state session.old.moment session.old.done.items session.old.marks.items) }
     requires heard { IsHeard (length plan.now.nodes) (length plan.now.registers) heard.now }
     requires empty { string_bytes text.old ≡ [] }
-    ensures turned { IfOk result (λ _. HasTurned C.core C.Msg.letter_text plan.now shape.now
+    ensures turned { IfOk result (λ _. HasTurned C.core (letter_text C.Msg.parts) plan.now shape.now
         (state session.old.moment session.old.done.items session.old.marks.items)
         (state session.new.moment session.new.done.items session.new.marks.items)
         (string_bytes text.new)) }
@@ -241,7 +242,7 @@ where
     C::Msg: Letter,
     requires { length session.now.moment.cluster.members ≡ length plan.now.nodes }
     ensures closes { IfOk result (λ _. Appends (O.written out.old) (O.written out.new)
-        (closing_text C.core C.Msg.letter_text plan.now session.now.moment.cluster)) }
+        (closing_text C.core (letter_text C.Msg.parts) plan.now session.now.moment.cluster)) }
     ensures zero { IfOk result (λ status. status ≡ 0) }
 {
     let mut text = String::new(alloc);

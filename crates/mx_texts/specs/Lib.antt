@@ -1,11 +1,11 @@
--- Lines: texts of lists. EventTexts, Words, LetterTexts, LetterWords, ParcelTexts, NodeTexts: each
--- line of a replay. PlanTexts: the lines of a check, and that of an exploration.
+-- Lines: texts of lists. Parts: what letters say. EventTexts, Words, LetterTexts, ParcelTexts,
+-- NodeTexts: each line of a replay. PlanTexts: the lines of a check, and that of an exploration.
 -- AskTexts: whom nodes ask.
 pub mod Lines
 pub mod EventTexts
 pub mod Words
 pub mod LetterTexts
-pub mod LetterWords
+pub mod Parts
 pub mod ParcelTexts
 pub mod NodeTexts
 pub mod PlanTexts

@@ -1,175 +1,152 @@
-//! The texts of letters, for each algorithm.
+//! The letters of each algorithm, part by part.
 
-ghost use Rattle.std.specs.Prelude.{◌≡◌, ◌++◌, OnOk, Some, string_bytes};
+ghost use Rattle.std.specs.Prelude.{◌≡◌, ◌++◌, List, OnOk, map, string_bytes};
 ghost use Rattle.mx_plan.specs.Text.{Text};
-ghost use Rattle.mx_plan.specs.Fields.{Fields};
-ghost use Rattle.mx_texts.specs.LetterWords.{letter_words_text};
-ghost use Rattle.mx_texts.specs.LetterTexts.{stamp_text, ricart_text, maekawa_text, raymond_text};
+ghost use Rattle.mx_texts.specs.LetterTexts.{letter_text};
+ghost use Rattle.mx_texts.specs.Parts.{Parts, maekawa_parts, maekawa_words, numbers_of, of_number, of_request, parts_of, raymond_parts, raymond_words, ricart_parts, ricart_words};
 
-use crate::events::name_of;
+use crate::parts::{LetterParts, Numbers, PartsText, Style, Subject};
 use mx_letters::{MaekawaMsg, RaymondMsg, RicartMsg};
 use mx_plan::Plan;
 use mx_stamps::Stamp;
 use std::alloc::AllocError;
-use std::fmt;
 
-/// A letter that has a text.
+/// A letter that tells its parts.
 pub trait Letter: Copy + Default {
-    // the text, where the plan names the nodes
-    ghost letter_text: { Fields → Self → Text };
+    // its parts
+    ghost parts: { Self → Parts };
 
-    /// Appends the text.
-    fn tell(&self, plan: &Plan, text: &mut String) -> Result<(), AllocError>
+    // the words of its algorithm's letters
+    ghost words: { List Text };
+
+    /// Its parts.
+    fn parts(&self) -> LetterParts
+        ensures { parts_of result ≡ parts self.now };
+
+    /// The words of its algorithm's letters, in the order in which they are counted.
+    fn words() -> &'static [&'static str]
+        ensures { map (λ word. word.now) result.now ≡ words };
+
+    /// Appends its text.
+    final fn tell(&self, plan: &Plan, text: &mut String) -> Result<(), AllocError>
         ensures { OnOk result (string_bytes text.new ≡ string_bytes text.old
-            ++ letter_text plan.now self.now) };
-}
-
-/// A stamp.
-#[derive(Clone, Copy)]
-pub struct StampText<'a> {
-    pub plan: &'a Plan,
-    pub stamp: &'a Stamp,
-}
-
-impl fmt::Display for StampText<'_> {
-    ghost output = { λ s. Some (stamp_text s.plan.now s.stamp.now) };
-
-    fn fmt<W: fmt::Write>(&self, f: &mut fmt::Formatter<W>) -> fmt::Result {
-        let number = self.stamp.number;
-        let name = name_of(self.plan, self.stamp.node);
-        write!(f, "{number}.{name}")
-    }
-}
-
-/// The word of a letter, its stamp, and the numbers behind it by their names.
-#[derive(Clone, Copy)]
-enum LetterWords<'a> {
-    Stamp(&'static str, StampText<'a>),
-    Number(&'static str, StampText<'a>, &'static str, u64),
-    NumberAndLast(&'static str, StampText<'a>, &'static str, u64, u64),
-}
-
-impl fmt::Display for LetterWords<'_> {
-    ghost output = { λ l. Some (letter_words_text l) };
-
-    fn fmt<W: fmt::Write>(&self, f: &mut fmt::Formatter<W>) -> fmt::Result {
-        match self {
-            LetterWords::Stamp(word, stamp) => write!(f, "{word} {stamp}"),
-            LetterWords::Number(word, stamp, name, number) => {
-                write!(f, "{word} {stamp} {name} {number}")
-            }
-            LetterWords::NumberAndLast(word, stamp, name, number, last) => {
-                write!(f, "{word} {stamp} {name} {number} last {last}")
-            }
-        }
-    }
-}
-
-/// A letter of Ricart and Agrawala's algorithm.
-#[derive(Clone, Copy)]
-pub struct RicartText<'a> {
-    pub plan: &'a Plan,
-    pub letter: &'a RicartMsg,
-}
-
-impl<'a> RicartText<'a> {
-    fn words(&self) -> LetterWords<'a>
-        ensures { letter_words_text result ≡ ricart_text self.now.plan.now self.now.letter.now }
+            ++ letter_text parts plan.now self.now) }
     {
-        let plan = self.plan;
-        match self.letter {
-            RicartMsg::Request(stamp) => LetterWords::Stamp("request", StampText { plan, stamp }),
-            RicartMsg::Reply(stamp, top) => {
-                LetterWords::Number("reply", StampText { plan, stamp }, "top", *top)
-            }
-        }
+        let parts = self.parts();
+        text.write(PartsText {
+            plan,
+            parts: &parts,
+        })
     }
 }
 
-impl fmt::Display for RicartText<'_> {
-    ghost output = { λ l. Some (ricart_text l.plan.now l.letter.now) };
+/// The parts of a letter about the request of a stamp.
+fn about(word: &'static str, stamp: &Stamp, numbers: Numbers, style: Style) -> LetterParts
+    ensures { parts_of result ≡ of_request word.now stamp.now (numbers_of numbers) style }
+{
+    LetterParts {
+        word,
+        subject: Subject::Stamp(*stamp),
+        numbers,
+        style,
+    }
+}
 
-    fn fmt<W: fmt::Write>(&self, f: &mut fmt::Formatter<W>) -> fmt::Result {
-        self.words().fmt(f)
+/// The parts of a letter about a number of its sender, by its name.
+fn counted(
+    word: &'static str,
+    name: &'static str,
+    number: u64,
+    numbers: Numbers,
+    style: Style,
+) -> LetterParts
+    ensures { parts_of result ≡ of_number word.now (name.now, number) (numbers_of numbers) style }
+{
+    LetterParts {
+        word,
+        subject: Subject::Number(name, number),
+        numbers,
+        style,
     }
 }
 
 impl Letter for RicartMsg {
-    ghost letter_text = { ricart_text };
+    ghost parts = { ricart_parts };
 
-    fn tell(&self, plan: &Plan, text: &mut String) -> Result<(), AllocError> {
-        text.write(RicartText { plan, letter: self })
-    }
-}
+    ghost words = { ricart_words };
 
-/// A letter of Maekawa's algorithm.
-#[derive(Clone, Copy)]
-pub struct MaekawaText<'a> {
-    pub plan: &'a Plan,
-    pub letter: &'a MaekawaMsg,
-}
-
-impl<'a> MaekawaText<'a> {
-    fn words(&self) -> LetterWords<'a>
-        ensures { letter_words_text result ≡ maekawa_text self.now.plan.now self.now.letter.now }
-    {
-        let plan = self.plan;
-        match self.letter {
-            MaekawaMsg::Request(stamp) => LetterWords::Stamp("request", StampText { plan, stamp }),
-            MaekawaMsg::Locked(stamp, grant, last) => {
-                let stamp = StampText { plan, stamp };
-                LetterWords::NumberAndLast("locked", stamp, "grant", *grant, *last)
-            }
-            MaekawaMsg::Failed(stamp) => LetterWords::Stamp("failed", StampText { plan, stamp }),
-            MaekawaMsg::Inquire(stamp, grant) => {
-                LetterWords::Number("inquire", StampText { plan, stamp }, "grant", *grant)
-            }
-            MaekawaMsg::Relinquish(stamp, grant) => {
-                LetterWords::Number("relinquish", StampText { plan, stamp }, "grant", *grant)
-            }
-            MaekawaMsg::Release(stamp, top) => {
-                LetterWords::Number("release", StampText { plan, stamp }, "top", *top)
+    fn parts(&self) -> LetterParts {
+        match self {
+            RicartMsg::Request(stamp) => about("request", stamp, Numbers::None, Style::Request),
+            RicartMsg::Reply(stamp, top) => {
+                about("reply", stamp, Numbers::One("top", *top), Style::Grant)
             }
         }
     }
-}
 
-impl fmt::Display for MaekawaText<'_> {
-    ghost output = { λ l. Some (maekawa_text l.plan.now l.letter.now) };
-
-    fn fmt<W: fmt::Write>(&self, f: &mut fmt::Formatter<W>) -> fmt::Result {
-        self.words().fmt(f)
+    fn words() -> &'static [&'static str] {
+        &["request", "reply"]
     }
 }
 
 impl Letter for MaekawaMsg {
-    ghost letter_text = { maekawa_text };
+    ghost parts = { maekawa_parts };
 
-    fn tell(&self, plan: &Plan, text: &mut String) -> Result<(), AllocError> {
-        text.write(MaekawaText { plan, letter: self })
-    }
-}
+    ghost words = { maekawa_words };
 
-/// A letter of Raymond's algorithm, which names no node.
-#[derive(Clone, Copy)]
-pub struct RaymondText<'a>(pub &'a RaymondMsg);
-
-impl fmt::Display for RaymondText<'_> {
-    ghost output = { λ l. Some (raymond_text l.0.now) };
-
-    fn fmt<W: fmt::Write>(&self, f: &mut fmt::Formatter<W>) -> fmt::Result {
-        match self.0 {
-            RaymondMsg::Request(number) => write!(f, "request {number}"),
-            RaymondMsg::Privilege(hop, last) => write!(f, "privilege {hop} last {last}"),
-            RaymondMsg::Got(hop) => write!(f, "got {hop}"),
+    fn parts(&self) -> LetterParts {
+        match self {
+            MaekawaMsg::Request(stamp) => about("request", stamp, Numbers::None, Style::Request),
+            MaekawaMsg::Locked(stamp, grant, last) => {
+                let numbers = Numbers::Two("grant", *grant, "last", *last);
+                about("locked", stamp, numbers, Style::Grant)
+            }
+            MaekawaMsg::Failed(stamp) => about("failed", stamp, Numbers::None, Style::Other),
+            MaekawaMsg::Inquire(stamp, grant) => {
+                let grant = Numbers::One("grant", *grant);
+                about("inquire", stamp, grant, Style::Other)
+            }
+            MaekawaMsg::Relinquish(stamp, grant) => {
+                let grant = Numbers::One("grant", *grant);
+                about("relinquish", stamp, grant, Style::Other)
+            }
+            MaekawaMsg::Release(stamp, top) => {
+                about("release", stamp, Numbers::One("top", *top), Style::Other)
+            }
         }
+    }
+
+    fn words() -> &'static [&'static str] {
+        &[
+            "request",
+            "locked",
+            "failed",
+            "inquire",
+            "relinquish",
+            "release",
+        ]
     }
 }
 
 impl Letter for RaymondMsg {
-    ghost letter_text = { λ _. raymond_text };
+    ghost parts = { raymond_parts };
 
-    fn tell(&self, _plan: &Plan, text: &mut String) -> Result<(), AllocError> {
-        text.write(RaymondText(self))
+    ghost words = { raymond_words };
+
+    fn parts(&self) -> LetterParts {
+        match self {
+            RaymondMsg::Request(number) => {
+                counted("request", "number", *number, Numbers::None, Style::Request)
+            }
+            RaymondMsg::Privilege(hop, last) => {
+                let last = Numbers::One("last", *last);
+                counted("privilege", "hop", *hop, last, Style::Grant)
+            }
+            RaymondMsg::Got(hop) => counted("got", "hop", *hop, Numbers::None, Style::Other),
+        }
+    }
+
+    fn words() -> &'static [&'static str] {
+        &["request", "privilege", "got"]
     }
 }

@@ -1,6 +1,7 @@
 //! The lines of parcels.
 
 ghost use Rattle.std.specs.Prelude.{◌≡◌, ◌++◌, OnOk, Some, string_bytes};
+ghost use Rattle.mx_texts.specs.LetterTexts.{letter_text};
 ghost use Rattle.mx_texts.specs.ParcelTexts.{base_text, range_text, record_text, want_text, records_text, route_text, parcel_text, parcel_line};
 
 use crate::events::name_of;
@@ -77,7 +78,7 @@ pub fn add_parcel_line<M: Letter>(
     text: &mut String,
 ) -> Result<(), AllocError>
     ensures { OnOk result (string_bytes text.new ≡ string_bytes text.old
-        ++ parcel_line M.letter_text plan.now number
+        ++ parcel_line (letter_text M.parts) plan.now number
         (sent.now.from, sent.now.to, sent.now.parcel.now)) }
 {
     text.push_str("  ")?;
@@ -99,7 +100,7 @@ pub fn add_parcel<M: Letter>(
     text: &mut String,
 ) -> Result<(), AllocError>
     ensures { OnOk result (string_bytes text.new
-        ≡ string_bytes text.old ++ parcel_text M.letter_text plan.now parcel.now) }
+        ≡ string_bytes text.old ++ parcel_text (letter_text M.parts) plan.now parcel.now) }
 {
     match parcel {
         Parcel::Guard(letter) => letter.tell(plan, text),

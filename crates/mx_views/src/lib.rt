@@ -14,5 +14,4 @@ mod showing;
 mod viewing;
 mod words;
 
-pub use letter_json::JsonLetter;
 pub use viewing::replay_view;

@@ -1,10 +1,11 @@
 //! Parcels as JSON.
 
 use crate::json::{Begun, add_node_name, add_number, add_word};
-use crate::letter_json::JsonLetter;
+use crate::letter_json::add_letter_json;
 use mx_journal::{Range, Record};
 use mx_member::{Parcel, SentParcel};
 use mx_plan::Plan;
+use mx_texts::Letter;
 use std::alloc::AllocError;
 use std::fmt;
 
@@ -19,7 +20,7 @@ impl fmt::Display for RangeJson<'_> {
 }
 
 /// Appends the line of a parcel.
-pub(crate) fn add_parcel_json<M: JsonLetter>(
+pub(crate) fn add_parcel_json<M: Letter>(
     plan: &Plan,
     number: u64,
     sent: &SentParcel<'_, M>,
@@ -33,13 +34,13 @@ pub(crate) fn add_parcel_json<M: JsonLetter>(
 }
 
 /// Appends what a parcel has in it.
-fn add_content<M: JsonLetter>(
+fn add_content<M: Letter>(
     plan: &Plan,
     parcel: &Parcel<M>,
     text: &mut String,
 ) -> Result<(), AllocError> {
     match parcel {
-        Parcel::Guard(letter) => letter.tell_json(plan, text),
+        Parcel::Guard(letter) => add_letter_json(plan, &letter.parts(), text),
         Parcel::Want(ranges) => add_ranges(ranges.as_slice(), text),
         Parcel::Base(base) => add_base(base.upto(), text),
         Parcel::Records(records) => add_numbers(records.as_slice(), text),

@@ -4,7 +4,6 @@ ghost use Rattle.std.specs.Prelude.{◌≡◌, IfOk};
 
 use crate::closing_lines::add_closing;
 use crate::event_json::add_event_json;
-use crate::letter_json::JsonLetter;
 use crate::parcel_json::add_parcel_json;
 use crate::selection::Selection;
 use mx_cli::{Fault, Stop};
@@ -12,7 +11,7 @@ use mx_commands::verdict_status;
 use mx_io::Output;
 use mx_network::{Cluster, Entry, Event, StepFault};
 use mx_nodelaws::Exclusion;
-use mx_texts::{EventLine, add_parcel_line};
+use mx_texts::{EventLine, Letter, add_parcel_line};
 use std::alloc::{AllocError, Global};
 
 /// Each event in turn, and its lines in one piece; then the closing lines. Returns the status.
@@ -24,7 +23,7 @@ pub(crate) fn show<C: Exclusion, O: Output>(
     out: &mut O,
 ) -> Result<u8, Stop>
 where
-    C::Msg: JsonLetter,
+    C::Msg: Letter,
     ensures zero { IfOk result (λ status. status ≡ 0) }
 {
     show_events(alloc, selection, &mut cluster, events, out)?;
@@ -40,7 +39,7 @@ fn show_events<C: Exclusion, O: Output>(
     out: &mut O,
 ) -> Result<(), Stop>
 where
-    C::Msg: JsonLetter,
+    C::Msg: Letter,
 {
     let mut text = String::new(alloc);
     for (index, event) in events.iter().enumerate() {
@@ -75,7 +74,7 @@ fn show_event<C: Exclusion>(
     text: &mut String,
 ) -> Result<(), Stop>
 where
-    C::Msg: JsonLetter,
+    C::Msg: Letter,
 {
     let before = cluster.sent();
     match cluster.advance(*event) {
@@ -96,7 +95,7 @@ fn add_newest<C: Exclusion>(
     text: &mut String,
 ) -> Result<(), AllocError>
 where
-    C::Msg: JsonLetter,
+    C::Msg: Letter,
 {
     match cluster.trace().last() {
         Some(entry) if selection.shows_event(cluster, &entry.event) => {
@@ -133,7 +132,7 @@ fn add_parcels<C: Exclusion>(
     text: &mut String,
 ) -> Result<(), AllocError>
 where
-    C::Msg: JsonLetter,
+    C::Msg: Letter,
 {
     for number in before..cluster.sent() {
         add_numbered(selection, cluster, number, text)?;
@@ -149,7 +148,7 @@ fn add_numbered<C: Exclusion>(
     text: &mut String,
 ) -> Result<(), AllocError>
 where
-    C::Msg: JsonLetter,
+    C::Msg: Letter,
 {
     match cluster.sent_parcel(number) {
         Some(sent) if selection.shows_parcel(&sent) => {

@@ -1,11 +1,12 @@
 use Rattle.std.proofs.Common.{string_bytes}
 use Rattle.mx_texts.proofs.Places.{is_there, place_written}
+use Rattle.mx_texts.specs.LetterTexts.{letter_text}
 use Rattle.mx_texts.specs.ParcelTexts.{parcel_line}
 use Rattle.mx_commands.proofs.cluster_lines.add_numbered.Goals as goal
 
 pub returns : goal.returns
 returns g c =
-    place_written (parcel_line g.C.Msg.Letter.letter_text c.args.plan.now) c.args.cluster.now.sent c.args.number c.add_parcel_line.result (c.in-Some.sent.from, c.in-Some.sent.to, c.in-Some.sent.parcel.now)
+    place_written (parcel_line (letter_text g.C.Msg.Letter.parts) c.args.plan.now) c.args.cluster.now.sent c.args.number c.add_parcel_line.result (c.in-Some.sent.from, c.in-Some.sent.to, c.in-Some.sent.parcel.now)
     (string_bytes c.args.text.now) (string_bytes c.add_parcel_line.new.text) c.in-Some.ensures c.add_parcel_line.ensures
 
 pub unreachable-requires : goal.unreachable-requires

@@ -1,4 +1,5 @@
 use Rattle.std.proofs.Common.{◌≡◌, ◌∙◌, ◌<◌, ◌≤◌, ℕ, arith, length, rules, string_bytes, subst, sym}
+use Rattle.mx_texts.specs.LetterTexts.{letter_text}
 use Rattle.mx_texts.specs.ParcelTexts.{parcel_line}
 use Rattle.mx_texts.proofs.Places.{place_end}
 use Rattle.mx_commands.proofs.cluster_lines.add_parcels.Goals as goal
@@ -23,4 +24,4 @@ returns g c =
     let count : c.sent-number-end.result ≡ length sent = c.sent-number-end.ensures in
     let past = c.loop-number-test.false in
     let end : length sent ≤ k = omega (arith, count, past) in
-    sym (c.loop-number.invariant.written ∙ place_end (parcel_line g.C.Msg.Letter.letter_text c.args.plan.now) sent k (string_bytes c.loop-number.text) end)
+    sym (c.loop-number.invariant.written ∙ place_end (parcel_line (letter_text g.C.Msg.Letter.parts) c.args.plan.now) sent k (string_bytes c.loop-number.text) end)

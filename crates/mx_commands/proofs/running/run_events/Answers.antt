@@ -4,6 +4,7 @@ use Rattle.std.specs.Io.KnownBytes.{Appends}
 use Rattle.mx_network.specs.Step.{step_of}
 use Rattle.mx_events.specs.declared.event.Event.{Event}
 use Rattle.mx_plan.specs.Text.{Text}
+use Rattle.mx_texts.specs.LetterTexts.{letter_text}
 use Rattle.mx_commands.specs.Runs.{NamesNodes, after_texts, closing_text, ends_with, run_from, text_of}
 use Rattle.mx_cli.specs.declared.faults.Stop.TheVariants as stop
 use Rattle.mx_io.specs.Outputs.{refused_by}
@@ -37,8 +38,8 @@ returns-in_err-step-clause-ran g c =
     let k = c.loop-index.index in
     let core = g.C.Exclusion.core in
     let at_event = subst (λ (x : Event). StopsAt k (step_of core c.loop-index.cluster x) s) c.index-events-index.is c.in_err-step.ensures.err in
-    let final = stopped_at core g.C.Msg.Letter.letter_text (g.O.Output.takes_all c.args.out.now) (g.O.Output.written c.args.out.now) (g.O.Output.written c.loop-index.out)
-    c.args.plan.now c.args.events.now (run_from core g.C.Msg.Letter.letter_text c.args.plan.now 0 c.args.cluster.now c.args.events.now) k c.loop-index.cluster c.index-events-index.result s i.written.0 c.loop-index-test.true i.written.2 i.written.1 at_event in
+    let final = stopped_at core (letter_text g.C.Msg.Letter.parts) (g.O.Output.takes_all c.args.out.now) (g.O.Output.written c.args.out.now) (g.O.Output.written c.loop-index.out)
+    c.args.plan.now c.args.events.now (run_from core (letter_text g.C.Msg.Letter.parts) c.args.plan.now 0 c.args.cluster.now c.args.events.now) k c.loop-index.cluster c.index-events-index.result s i.written.0 c.loop-index-test.true i.written.2 i.written.1 at_event in
     let is : c.from_residual.result ≡ Err s = err_is c.from_residual.result s c.from_residual.ensures.1 in
     rw is final
 
@@ -47,7 +48,7 @@ returns-in_err-put-clause-ran g c =
     let i = c.loop-index.invariant in
     let f = c.in_err-put.field-0.0 in
     let core = g.C.Exclusion.core in
-    let letter = g.C.Msg.Letter.letter_text in
+    let letter = letter_text g.C.Msg.Letter.parts in
     let final = stopped_by (g.O.Output.takes_all c.args.out.now) (g.O.Output.takes_all c.loop-index.out) (g.O.Output.written c.args.out.now) (g.O.Output.written c.loop-index.out)
     (g.O.Output.written c.put.new.self) (run_from core letter c.args.plan.now 0 c.args.cluster.now c.args.events.now)
     (rest core letter c.args.plan.now c.args.events.now c.loop-index.index c.loop-index.cluster)
@@ -59,7 +60,7 @@ pub loop-index-preserved : goal.loop-index-preserved
 loop-index-preserved g c =
     let i = c.loop-index.invariant in
     let core = g.C.Exclusion.core in
-    let letter = g.C.Msg.Letter.letter_text in
+    let letter = letter_text g.C.Msg.Letter.parts in
     let p = c.args.plan.now in
     let es = c.args.events.now in
     let k = c.loop-index.index in
@@ -88,7 +89,7 @@ pub returns-in_err-verdict-clause-ran : goal.returns-in_err-verdict-clause-ran
 returns-in_err-verdict-clause-ran g c =
     let i = c.loop-index.invariant in
     let core = g.C.Exclusion.core in
-    let letter = g.C.Msg.Letter.letter_text in
+    let letter = letter_text g.C.Msg.Letter.parts in
     let p = c.args.plan.now in
     let es = c.args.events.now in
     let final = done_some (g.O.Output.written c.args.out.now) (g.O.Output.written c.loop-index.out) (run_from core letter p 0 c.args.cluster.now es)
@@ -102,7 +103,7 @@ returns-in_err-put-2-clause-ran g c =
     let i = c.loop-index.invariant in
     let f = c.in_err-put-2.field-0.0 in
     let core = g.C.Exclusion.core in
-    let letter = g.C.Msg.Letter.letter_text in
+    let letter = letter_text g.C.Msg.Letter.parts in
     let final = stopped_by (g.O.Output.takes_all c.args.out.now) (g.O.Output.takes_all c.loop-index.out) (g.O.Output.written c.args.out.now) (g.O.Output.written c.loop-index.out)
     (g.O.Output.written c.put-2.new.self) (run_from core letter c.args.plan.now 0 c.args.cluster.now c.args.events.now)
     (rest core letter c.args.plan.now c.args.events.now c.loop-index.index c.loop-index.cluster)
@@ -114,7 +115,7 @@ pub returns-clause-ran : goal.returns-clause-ran
 returns-clause-ran g c =
     let i = c.loop-index.invariant in
     let core = g.C.Exclusion.core in
-    let letter = g.C.Msg.Letter.letter_text in
+    let letter = letter_text g.C.Msg.Letter.parts in
     let p = c.args.plan.now in
     let es = c.args.events.now in
     let a = g.O.Output.written c.args.out.now in

@@ -5,6 +5,7 @@ use Rattle.mx_sections.specs.declared.outcome.Outcome.{Outcome}
 use Rattle.mx_network.specs.Step.{IsFaultOf, step_of}
 use Rattle.mx_network.specs.declared.faults.StepFault.{StepFault}
 use Rattle.mx_network.proofs.Happening.{noted}
+use Rattle.mx_texts.specs.LetterTexts.{letter_text}
 use Rattle.mx_commands.proofs.RunLemmas.{grows, has_nodes, stops_without, text_is}
 use Rattle.mx_commands.proofs.running.step.Goals as goal
 
@@ -34,7 +35,7 @@ returns-in_ok-add_parcels-in-Ok-clause-text g c =
     let is : c.newest.result.now ≡ entry = c.newest.ensures old.trace entry (c.trace.ensures.value ∙ n.1) in
     let told : c.advance.new.self.trace ≡ old.trace ++ (record { event = event; outcome = c.newest.result.now.outcome }) ∷ [] =
     n.1 ∙ ap (λ (o : Outcome). old.trace ++ (record { event = event; outcome = o }) ∷ []) (sym (ap (λ (x : Entry). x.outcome) is)) in
-    text_is g.C.Exclusion.core g.C.Msg.Letter.letter_text c.args.plan.now c.args.index c.sent-before.result old c.advance.new.self event c.newest.result.now.outcome
+    text_is g.C.Exclusion.core (letter_text g.C.Msg.Letter.parts) c.args.plan.now c.args.index c.sent-before.result old c.advance.new.self event c.newest.result.now.outcome
     (string_bytes c.args.text.now) (string_bytes c.write.new.self) (string_bytes c.add_parcels.new.text)
     told c.sent-before.ensures c.requires.empty c.in_ok-write-in-Ok.ensures.bytes c.in_ok-add_parcels-in-Ok.ensures
 

@@ -1,23 +1,13 @@
-use Rattle.std.proofs.Common.{◌∙◌, ◌++◌, ap, string_bytes, sym}
+use Rattle.std.proofs.Common.{map, string_bytes}
 use Rattle.std.specs.Borrow.{Bor}
-use Rattle.std.specs.List.{count_by}
 use Rattle.mx_plan.specs.Text.{Text}
-use Rattle.mx_texts.proofs.Places.{each_end, each_more}
-use Rattle.mx_count.specs.Counts.{tally_line}
-use Rattle.mx_count.specs.Kinds.{is_under}
-use Rattle.mx_count.proofs.CountedLemmas.{each_map, tally_is}
+use Rattle.mx_texts.specs.Parts.{word_by}
+use Rattle.mx_count.proofs.CountedLemmas.{named_is}
 use Rattle.mx_count.proofs.parcel_counts.add_parcel_counts.Goals as goal
-
-pub loop-name-preserved : goal.loop-name-preserved
-loop-name-preserved g c =
-    let line = λ (name : Bor Text). tally_line name.now (count_by (is_under g.C.Msg.Kinded.kind_text name.now) c.args.cluster.now.sent) in
-    c.loop-name.invariant ∙ each_more line c.args.names.now c.loop-name.name-index _ (string_bytes c.loop-name.text) (string_bytes c.write.new.self) c.loop-name-test.true
-    (tally_is _ _ _ _ _ c.in_ok-write.ensures.bytes c.count_parcels.ensures)
 
 pub returns : goal.returns
 returns g c =
-    let sent = c.args.cluster.now.sent in
-    let line = λ (name : Text). tally_line name (count_by (is_under g.C.Msg.Kinded.kind_text name) sent) in
-    let text = λ (name : Bor Text). name.now in
-    sym (c.loop-name.invariant ∙ each_end (λ (name : Bor Text). line name.now) c.args.names.now c.loop-name.name-index (string_bytes c.loop-name.text) c.loop-name-test.false)
-    ∙ ap (λ (t : Text). string_bytes c.args.text.now ++ t) (each_map line text c.args.names.now)
+    let texts = map (λ (name : Bor Text). name.now) in
+    named_is (word_by g.C.Msg.Letter.parts) c.args.cluster.now.sent g.C.Msg.Letter.words (texts c.letter_names.result.now) (texts c.words.result.now) (texts c.other_names.result.now)
+    (string_bytes c.args.text.now) (string_bytes c.add_counts_under.new.text) (string_bytes c.add_counts_under-2.new.text) (string_bytes c.add_counts_under-3.new.text) c.add_counts_under-3.result
+    c.letter_names.ensures c.words.ensures c.other_names.ensures c.in_ok-add_counts_under.ensures c.in_ok-add_counts_under-2.ensures c.add_counts_under-3.ensures

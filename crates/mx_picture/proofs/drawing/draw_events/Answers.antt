@@ -1,6 +1,7 @@
 use Rattle.std.proofs.Common.{◌≡◌, ◌∙◌, Err, ap, length, refl, rules, subst, sym, ℕ}
 use Rattle.mx_network.specs.Step.{step_of}
 use Rattle.mx_events.specs.declared.event.Event.{Event}
+use Rattle.mx_texts.specs.LetterTexts.{letter_text}
 use Rattle.mx_commands.specs.Runs.{NamesNodes, Report, run_from}
 use Rattle.mx_commands.specs.Ran.{StopsAt}
 use Rattle.mx_commands.proofs.RunLemmas.{err_is, grows, named_at, rest_end, rest_ok}
@@ -24,7 +25,7 @@ returns-in_err-draw_event-clause-err g c =
     let s = c.in_err-draw_event.field-0.0 in
     let k = c.loop-index.index in
     let core = g.C.Exclusion.core in
-    let letter = g.C.Msg.Letter.letter_text in
+    let letter = letter_text g.C.Msg.Letter.parts in
     let at_event = subst (λ (x : Event). StopsAt k (step_of core c.loop-index.cluster x) s) c.index-events-index.is c.in_err-draw_event.ensures.err in
     let final = stops core letter c.args.plan.now c.args.events.now (run_from core letter c.args.plan.now 0 c.args.cluster.now c.args.events.now) k c.loop-index.cluster
     c.index-events-index.result s c.loop-index-test.true c.loop-index.invariant.ends at_event in
@@ -35,7 +36,7 @@ pub loop-index-preserved : goal.loop-index-preserved
 loop-index-preserved g c =
     let i = c.loop-index.invariant in
     let core = g.C.Exclusion.core in
-    let letter = g.C.Msg.Letter.letter_text in
+    let letter = letter_text g.C.Msg.Letter.parts in
     let p = c.args.plan.now in
     let k = c.loop-index.index in
     let old = c.loop-index.cluster in
@@ -50,4 +51,4 @@ loop-index-preserved g c =
 pub returns-clause-ok : goal.returns-clause-ok
 returns-clause-ok g c =
     c.loop-index.invariant.ends
-    ∙ ap (λ (r : Report). r.end) (rest_end g.C.Exclusion.core g.C.Msg.Letter.letter_text c.args.plan.now c.args.events.now c.loop-index.index c.loop-index.cluster c.loop-index-test.false)
+    ∙ ap (λ (r : Report). r.end) (rest_end g.C.Exclusion.core (letter_text g.C.Msg.Letter.parts) c.args.plan.now c.args.events.now c.loop-index.index c.loop-index.cluster c.loop-index-test.false)

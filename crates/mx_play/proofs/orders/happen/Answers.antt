@@ -1,4 +1,5 @@
 use Rattle.std.proofs.Common.{ℕ, length, rules, string_bytes, subst, sym}
+use Rattle.mx_texts.specs.LetterTexts.{letter_text}
 use Rattle.mx_commands.specs.Runs.{NamesNodes}
 use Rattle.mx_play.specs.Sessions.{Extends}
 use Rattle.mx_play.specs.declared.happening.Happening.TheVariants.{Happens}
@@ -14,7 +15,7 @@ happen-requires g c =
 pub returns-clause-ok : goal.returns-clause-ok
 returns-clause-ok g c =
     let p = c.args.plan.now in
-    adds_one g.C.Exclusion.core g.C.Msg.Letter.letter_text c.args.plan.now (Happens c.args.event.now) c.args.moment.now c.happen.new.self
+    adds_one g.C.Exclusion.core (letter_text g.C.Msg.Letter.parts) c.args.plan.now (Happens c.args.event.now) c.args.moment.now c.happen.new.self
     c.args.done.now.items c.push.new.self.items (string_bytes c.args.text.now) (string_bytes c.happen.new.text)
     c.in_ok-happen.ensures.brings c.in_ok-push.ensures.items c.in_ok-happen.ensures.text
     (over_one (length p.nodes) (length p.registers) c.args.event.now c.requires.drawn)

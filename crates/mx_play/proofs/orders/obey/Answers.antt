@@ -1,4 +1,5 @@
 use Rattle.std.proofs.Common.{◌∙◌, ap, length, rules, string_bytes}
+use Rattle.mx_texts.specs.LetterTexts.{letter_text}
 use Rattle.mx_play.specs.Moments.{MomentState}
 use Rattle.mx_play.proofs.SessionLemmas.{adds_from, loss_adds}
 use Rattle.mx_play.proofs.orders.obey.Goals as goal
@@ -12,10 +13,10 @@ arrive-requires g c =
 
 pub returns-in-Arrives-clause-ok : goal.returns-in-Arrives-clause-ok
 returns-in-Arrives-clause-ok g c =
-    adds_from g.C.Exclusion.core g.C.Msg.Letter.letter_text c.args.plan.now c.arrive.result c.args.moment.now c.oldest_between-number.new.self c.arrive.new.moment
+    adds_from g.C.Exclusion.core (letter_text g.C.Msg.Letter.parts) c.args.plan.now c.arrive.result c.args.moment.now c.oldest_between-number.new.self c.arrive.new.moment
     c.args.done.now.items c.arrive.new.done.items (string_bytes c.args.text.now) (string_bytes c.arrive.new.text) c.oldest_between-number.ensures.same c.arrive.ensures.ok
 
 pub returns-in-IsLost-clause-ok : goal.returns-in-IsLost-clause-ok
 returns-in-IsLost-clause-ok g c =
-    loss_adds g.C.Exclusion.core g.C.Msg.Letter.letter_text c.args.plan.now c.lose.result c.args.moment.now c.lose.new.moment
+    loss_adds g.C.Exclusion.core (letter_text g.C.Msg.Letter.parts) c.args.plan.now c.lose.result c.args.moment.now c.lose.new.moment
     c.args.done.now.items c.lose.new.done.items (string_bytes c.args.text.now) c.lose.ensures.ok

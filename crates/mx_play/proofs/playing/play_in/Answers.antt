@@ -1,4 +1,5 @@
 use Rattle.std.proofs.Common.{rules}
+use Rattle.mx_texts.specs.LetterTexts.{letter_text}
 use Rattle.mx_play.specs.Sessions.{state}
 use Rattle.mx_play.proofs.SessionLemmas.{session_start, whole_on_ok}
 use Rattle.mx_play.proofs.playing.play_in.Goals as goal
@@ -6,7 +7,7 @@ use Rattle.mx_play.proofs.playing.play_in.Goals as goal
 pub play_lines-requires : goal.play_lines-requires
 play_lines-requires g c =
     let s = c.args.session.now in
-    (search rules, session_start g.C.Exclusion.core g.C.Msg.Letter.letter_text c.args.plan.now c.args.shape.now (state s.moment s.done.items s.marks.items) c.requires.start c.requires.count)
+    (search rules, session_start g.C.Exclusion.core (letter_text g.C.Msg.Letter.parts) c.args.plan.now c.args.shape.now (state s.moment s.done.items s.marks.items) c.requires.start c.requires.count)
 
 pub finish-requires : goal.finish-requires
 finish-requires g c = (search rules, c.in_ok-play_lines.ensures.is.members)
@@ -14,7 +15,7 @@ finish-requires g c = (search rules, c.in_ok-play_lines.ensures.is.members)
 pub returns-clause-played : goal.returns-clause-played
 returns-clause-played g c =
     let core = g.C.Exclusion.core in
-    let letter = g.C.Msg.Letter.letter_text in
+    let letter = letter_text g.C.Msg.Letter.parts in
     let p = c.args.plan.now in
     let shape = c.args.shape.now in
     let s = state c.args.session.now.moment c.args.session.now.done.items c.args.session.now.marks.items in

@@ -1,6 +1,7 @@
 use Rattle.std.proofs.Common.{◌∙◌, ap, rules, slice_get, string_bytes, sym}
 use Rattle.mx_network.specs.Step.{ClusterState}
 use Rattle.mx_texts.proofs.Places.{is_there, place_written}
+use Rattle.mx_texts.specs.LetterTexts.{letter_text}
 use Rattle.mx_play.specs.Sessions.{waiting_line}
 use Rattle.mx_play.proofs.showing.add_if_waiting.Goals as goal
 
@@ -9,7 +10,7 @@ cluster-requires g c = (search rules, search rules)
 
 pub returns : goal.returns
 returns g c =
-    place_written (waiting_line g.C.Exclusion.core g.C.Msg.Letter.letter_text c.args.plan.now c.args.to.now c.args.moment.now) c.args.moment.now.cluster.sent c.args.number c.add_parcel.result
+    place_written (waiting_line g.C.Exclusion.core (letter_text g.C.Msg.Letter.parts) c.args.plan.now c.args.to.now c.args.moment.now) c.args.moment.now.cluster.sent c.args.number c.add_parcel.result
     (c.in-Some.parcel.0, c.in-Some.parcel.1, c.in-Some.parcel.2.now)
     (string_bytes c.args.text.now) (string_bytes c.add_parcel.new.text)
     (ap (λ (k : ClusterState g.row.C.Denot g.row.C-Msg.Denot). slice_get k.sent c.args.number) (sym c.cluster.ensures) ∙ c.in-Some.ensures) c.add_parcel.ensures

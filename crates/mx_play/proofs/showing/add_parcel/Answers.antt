@@ -2,6 +2,7 @@ use Rattle.std.proofs.Common.{◌≡◌, ◌∙◌, ◌++◌, Bool, false, [], i
 use Rattle.std.specs.Prelude.{◌&&◌}
 use Rattle.mx_stamps.proofs.Lists.{append_nil}
 use Rattle.mx_plan.specs.Text.{Text}
+use Rattle.mx_texts.specs.LetterTexts.{letter_text}
 use Rattle.mx_texts.specs.ParcelTexts.{parcel_line}
 use Rattle.mx_scripts.specs.Fates.{is_under_way}
 use Rattle.mx_play.specs.Sessions.{is_to}
@@ -15,5 +16,5 @@ returns g c =
     let m = c.args.moment.now in
     let parcel = c.args.parcel in
     not_shown (is_under_way m.fates c.args.number && is_to c.args.to.now parcel.1)
-    (parcel_line g.C.Msg.Letter.letter_text c.args.plan.now c.args.number (parcel.0, parcel.1, parcel.2.now))
+    (parcel_line (letter_text g.C.Msg.Letter.parts) c.args.plan.now c.args.number (parcel.0, parcel.1, parcel.2.now))
     (string_bytes c.args.text.now) (sym c.is_waiting.ensures ∙ c.if-is_waiting.false)

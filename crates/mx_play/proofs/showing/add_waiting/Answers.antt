@@ -1,6 +1,7 @@
 use Rattle.std.proofs.Common.{◌≡◌, ◌∙◌, ◌<◌, ◌≤◌, ℕ, ap, arith, length, rules, string_bytes, subst, sym}
 use Rattle.mx_network.specs.Step.{ClusterState}
 use Rattle.mx_texts.proofs.Places.{place_end}
+use Rattle.mx_texts.specs.LetterTexts.{letter_text}
 use Rattle.mx_play.specs.Sessions.{waiting_line}
 use Rattle.mx_play.proofs.showing.add_waiting.Goals as goal
 
@@ -31,4 +32,4 @@ returns g c =
     c.sent-number-end.ensures ∙ ap (λ (k : ClusterState g.row.C.Denot g.row.C-Msg.Denot). length k.sent) c.cluster.ensures in
     let past = c.loop-number-test.false in
     let end : length sent ≤ k = omega (arith, count, past) in
-    sym (c.loop-number.invariant.written ∙ place_end (waiting_line g.C.Exclusion.core g.C.Msg.Letter.letter_text c.args.plan.now c.args.to.now c.args.moment.now) sent k (string_bytes c.loop-number.text) end)
+    sym (c.loop-number.invariant.written ∙ place_end (waiting_line g.C.Exclusion.core (letter_text g.C.Msg.Letter.parts) c.args.plan.now c.args.to.now c.args.moment.now) sent k (string_bytes c.loop-number.text) end)

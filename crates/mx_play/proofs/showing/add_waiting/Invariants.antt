@@ -1,11 +1,12 @@
 use Rattle.std.proofs.Common.{◌≡◌, ◌≤◌, ◌++◌, drop, length, string_bytes}
+use Rattle.mx_texts.specs.LetterTexts.{letter_text}
 use Rattle.mx_texts.specs.Lines.{texts_from}
 use Rattle.mx_play.specs.Sessions.{waiting_line}
 use Rattle.mx_play.proofs.showing.add_waiting.Given as goal
 
 abbrev pub invariant-loop-number : goal.invariant-loop-number
 invariant-loop-number g l =
-    let line = waiting_line g.C.Exclusion.core g.C.Msg.Letter.letter_text l.plan l.to l.moment in
+    let line = waiting_line g.C.Exclusion.core (letter_text g.C.Msg.Letter.parts) l.plan l.to l.moment in
     let sent = l.moment.cluster.sent in
     record {
       in_range : l.number ≤ length sent;

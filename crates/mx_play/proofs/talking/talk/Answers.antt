@@ -1,4 +1,5 @@
 use Rattle.std.proofs.Common.{rules}
+use Rattle.mx_texts.specs.LetterTexts.{letter_text}
 use Rattle.mx_play.specs.Sessions.{state}
 use Rattle.mx_play.proofs.SessionLemmas.{talked_not, talked_on, turn_talks}
 use Rattle.mx_play.proofs.talking.talk.Goals as goal
@@ -7,7 +8,7 @@ pub loop-number-init : goal.loop-number-init
 loop-number-init g c =
     let s = c.args.session.now in
     record {
-      talked = talked_not g.C.Exclusion.core g.C.Msg.Letter.letter_text c.args.plan.now c.args.shape.now (state s.moment s.done.items s.marks.items) (g.O.Output.written c.args.out.now);
+      talked = talked_not g.C.Exclusion.core (letter_text g.C.Msg.Letter.parts) c.args.plan.now c.args.shape.now (state s.moment s.done.items s.marks.items) (g.O.Output.written c.args.out.now);
       is = c.requires;
     }
 
@@ -17,7 +18,7 @@ turn-requires g c = (search rules, c.loop-number.invariant.is)
 pub returns-then-is_end-clause-talked : goal.returns-then-is_end-clause-talked
 returns-then-is_end-clause-talked g c =
     let core = g.C.Exclusion.core in
-    let letter = g.C.Msg.Letter.letter_text in
+    let letter = letter_text g.C.Msg.Letter.parts in
     let p = c.args.plan.now in
     let shape = c.args.shape.now in
     let first = state c.args.session.now.moment c.args.session.now.done.items c.args.session.now.marks.items in
@@ -31,7 +32,7 @@ returns-then-is_end-clause-talked g c =
 pub loop-number-preserved : goal.loop-number-preserved
 loop-number-preserved g c =
     let core = g.C.Exclusion.core in
-    let letter = g.C.Msg.Letter.letter_text in
+    let letter = letter_text g.C.Msg.Letter.parts in
     let p = c.args.plan.now in
     let shape = c.args.shape.now in
     let first = state c.args.session.now.moment c.args.session.now.done.items c.args.session.now.marks.items in

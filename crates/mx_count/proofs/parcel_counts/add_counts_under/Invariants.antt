@@ -3,11 +3,12 @@ use Rattle.std.specs.Borrow.{Bor}
 use Rattle.std.specs.List.{count_by}
 use Rattle.mx_plan.specs.Text.{Text}
 use Rattle.mx_texts.specs.Lines.{each_text}
+use Rattle.mx_texts.specs.Parts.{word_by}
 use Rattle.mx_count.specs.Counts.{tally_line}
 use Rattle.mx_count.specs.Kinds.{is_under}
-use Rattle.mx_count.proofs.parcel_counts.add_parcel_counts.Given as goal
+use Rattle.mx_count.proofs.parcel_counts.add_counts_under.Given as goal
 
 abbrev pub invariant-loop-name : goal.invariant-loop-name
 invariant-loop-name g l =
-    let line = λ (name : Bor Text). tally_line name.now (count_by (is_under g.C.Msg.Kinded.kind_text name.now) l.cluster.sent) in
+    let line = λ (name : Bor Text). tally_line name.now (count_by (is_under (word_by g.C.Msg.Letter.parts) name.now) l.cluster.sent) in
     string_bytes l.fn.text ++ each_text line l.names ≡ string_bytes l.text ++ each_text line (drop l.name-index l.names)
