@@ -4,7 +4,7 @@
 use crate::shapes::{LIMIT, binary_tree, count_of, quorums_of};
 use anyhow::{Result, bail};
 use arrayvec::ArrayVec;
-use mx_jobs::{Job, Settings, fair_links, run, stations};
+use mx_jobs::{Job, RunOptions, Settings, fair_links, run, stations};
 use mx_journal::Write;
 use mx_maekawa::Maekawa;
 use mx_raymond::Raymond;
@@ -14,8 +14,10 @@ use std::rt::Clock;
 use std::thread::Threads;
 use std::time::Instant;
 
-/// How many turns a node takes at the most.
-const TURNS: u64 = 100_000_000;
+const OPTIONS: RunOptions = RunOptions {
+    turns: 100_000_000,
+    settle_every: 0,
+};
 
 const SETTINGS: Settings = Settings {
     origin: 0,
@@ -65,7 +67,7 @@ fn ricart<R: Threads>(rt: &R, alloc: Global, nodes: u8, sections: u64) -> Result
     let stations = stations::<Ricart>(alloc, &count_of(nodes)?, &SETTINGS)?;
     let links = fair_links(alloc, stations.len())?;
     let jobs = adders(alloc, stations.len(), sections)?;
-    match run(rt, alloc, stations, jobs, links, TURNS) {
+    match run(rt, alloc, stations, jobs, links, OPTIONS) {
         Ok(all) => Ok(all.gathered.receipts.len()),
         Err(left) => bail!("no end: {}", left.fault),
     }
@@ -76,7 +78,7 @@ fn maekawa<R: Threads>(rt: &R, alloc: Global, nodes: u8, sections: u64) -> Resul
     let stations = stations::<Maekawa>(alloc, &quorums_of(nodes)?, &SETTINGS)?;
     let links = fair_links(alloc, stations.len())?;
     let jobs = adders(alloc, stations.len(), sections)?;
-    match run(rt, alloc, stations, jobs, links, TURNS) {
+    match run(rt, alloc, stations, jobs, links, OPTIONS) {
         Ok(all) => Ok(all.gathered.receipts.len()),
         Err(left) => bail!("no end: {}", left.fault),
     }
@@ -87,7 +89,7 @@ fn raymond<R: Threads>(rt: &R, alloc: Global, nodes: u8, sections: u64) -> Resul
     let stations = stations::<Raymond>(alloc, &binary_tree(alloc, nodes)?, &SETTINGS)?;
     let links = fair_links(alloc, stations.len())?;
     let jobs = adders(alloc, stations.len(), sections)?;
-    match run(rt, alloc, stations, jobs, links, TURNS) {
+    match run(rt, alloc, stations, jobs, links, OPTIONS) {
         Ok(all) => Ok(all.gathered.receipts.len()),
         Err(left) => bail!("no end: {}", left.fault),
     }

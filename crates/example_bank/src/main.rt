@@ -11,7 +11,7 @@ ghost use Rattle.example_bank.specs.declared.TheConstants.{ACCOUNTS};
 use anyhow::{Result, bail};
 use arrayvec::ArrayVec;
 use mx_explorer::Weather;
-use mx_jobs::{Finished, Job, Settings, contents, run, stations};
+use mx_jobs::{Finished, Job, RunOptions, Settings, contents, run, stations};
 use mx_journal::Write;
 use mx_maekawa::Maekawa;
 use mx_quorums::Quorums;
@@ -33,8 +33,12 @@ const LOST: u16 = 16;
 
 const TWICE: u16 = 16;
 
-/// How many turns a node takes at the most.
-const TURNS: u64 = 100_000_000;
+/// A node takes only so many turns, so that the program ends whatever happens. After each 50 of its
+/// sections the registers come in place of the records in its journal, which stays short so.
+const OPTIONS: RunOptions = RunOptions {
+    turns: 100_000_000,
+    settle_every: 50,
+};
 
 const SETTINGS: Settings = Settings {
     origin: 0,
@@ -158,7 +162,7 @@ fn ricart<R: Threads>(rt: &R, alloc: Global) -> Result<u64>
         bail!("no such cluster");
     };
     let stations = stations::<Ricart>(alloc, &shape, &SETTINGS)?;
-    match run(rt, alloc, stations, tellers(alloc)?, links(alloc)?, TURNS) {
+    match run(rt, alloc, stations, tellers(alloc)?, links(alloc)?, OPTIONS) {
         Ok(all) => audit(&all),
         Err(left) => bail!("no end: {}", left.fault),
     }
@@ -170,7 +174,7 @@ fn maekawa<R: Threads>(rt: &R, alloc: Global) -> Result<u64>
 {
     let shape = Quorums::grid(1, TELLERS)?;
     let stations = stations::<Maekawa>(alloc, &shape, &SETTINGS)?;
-    match run(rt, alloc, stations, tellers(alloc)?, links(alloc)?, TURNS) {
+    match run(rt, alloc, stations, tellers(alloc)?, links(alloc)?, OPTIONS) {
         Ok(all) => audit(&all),
         Err(left) => bail!("no end: {}", left.fault),
     }
@@ -182,7 +186,7 @@ fn raymond<R: Threads>(rt: &R, alloc: Global) -> Result<u64>
 {
     let shape = Tree::of(TELLERS, &[(0, 1), (0, 2), (1, 3), (1, 4)], 0)?;
     let stations = stations::<Raymond>(alloc, &shape, &SETTINGS)?;
-    match run(rt, alloc, stations, tellers(alloc)?, links(alloc)?, TURNS) {
+    match run(rt, alloc, stations, tellers(alloc)?, links(alloc)?, OPTIONS) {
         Ok(all) => audit(&all),
         Err(left) => bail!("no end: {}", left.fault),
     }

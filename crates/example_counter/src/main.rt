@@ -3,15 +3,18 @@
 
 use anyhow::{Result, bail};
 use arrayvec::ArrayVec;
-use mx_jobs::{Calls, Settings, fair_links, run, stations};
+use mx_jobs::{Calls, RunOptions, Settings, fair_links, run, stations};
 use mx_journal::Write;
 use mx_registers::view;
 use mx_ricart::{Count, Ricart};
 
 const NODES: u8 = 5;
 
-/// How many turns a node takes at the most, so that the program ends whatever happens.
-const TURNS: u64 = 100_000_000;
+/// A node takes only so many turns, so that the program ends whatever happens.
+const OPTIONS: RunOptions = RunOptions {
+    turns: 100_000_000,
+    settle_every: 0,
+};
 
 fn main(rt: HostRuntime) -> Result<()> {
     let alloc = rt.alloc();
@@ -39,7 +42,7 @@ fn main(rt: HostRuntime) -> Result<()> {
     };
     let stations = stations::<Ricart>(alloc, &shape, &settings)?;
     let links = fair_links(alloc, stations.len())?;
-    match run(&rt, alloc, stations, jobs, links, TURNS) {
+    match run(&rt, alloc, stations, jobs, links, OPTIONS) {
         Ok(all) => {
             let sections = all.gathered.receipts.len();
             let value = view(&all.gathered.journal, 1).value(0).unwrap_or(0);

@@ -1,26 +1,29 @@
 -- How stations and jobs go on.
-use Rattle.std.proofs.Common.{◌≡◌, ◌∙◌, ℕ, inl, inr, Bool, true, false, List, [], ◌∷◌, ◌++◌, Option, None, Result, Ok, Err, OnOk, OnErr, refl, sym, ap, subst}
+use Rattle.std.proofs.Common.{◌≡◌, ◌∙◌, ℕ, ◌-◌, inl, inr, nat_le, nat_lt, Bool, true, false, List, [], ◌∷◌, ◌++◌, Option, None, Result, Ok, Err, OnOk, OnErr, refl, sym, ap, subst}
 use Rattle.std.proofs.lemmas.List.{append-nil, append_assoc}
 use Rattle.mx_journal.specs.declared.records.Write.{Write as OneWrite}
 use Rattle.mx_journal.specs.declared.receipts.Receipt.{Receipt}
 use Rattle.mx_journal.specs.Drafted.{receipt_of}
+use Rattle.mx_journal.specs.declared.settling.SettleFault.{SettleFault}
 use Rattle.mx_nodelaws.specs.Core.{Core, KeepsPhases}
+use Rattle.mx_nodelaws.specs.World.{Quiet}
 use Rattle.mx_nodelaws.specs.declared.faults.EnterFault.{EnterFault}
 use Rattle.mx_member.specs.declared.acts.Act.{Act}
-use Rattle.mx_member.specs.declared.acts.Act.TheVariants.{Ask, Deliver, Enter, Leave, Tick, Want}
+use Rattle.mx_member.specs.declared.acts.Act.TheVariants.{Ask, Deliver, Enter, Leave, Settle, Tick, Want}
 use Rattle.mx_member.specs.declared.parcel.Parcel.{Parcel}
 use Rattle.mx_member.specs.declared.parcel.Parcel.TheVariants as parcel
 use Rattle.mx_member.specs.Acts.{act_of}
 use Rattle.mx_member.specs.Receipts.{closed_by}
-use Rattle.mx_member.specs.Member.{MemberState, Setting}
-use Rattle.mx_member.specs.Steps.{entered, leave_of, take_of}
+use Rattle.mx_member.specs.Member.{MemberState, Setting, first_gap}
+use Rattle.mx_member.specs.Steps.{entered, leave_of, settle_of, take_of}
 use Rattle.mx_stations.specs.declared.answers.PutOut.{PutOut}
 use Rattle.mx_stations.specs.declared.answers.PutOut.TheVariants.{Sent, Full, Nothing}
 use Rattle.mx_stations.specs.Posts.{PutsOut, after_act, does}
 use Rattle.mx_stations.specs.Turns.{Chain, Goes, Moves, Station}
+use Rattle.mx_stations.specs.Works.{SettlesIfDue}
 use Rattle.mx_jobs.specs.Sections.{Advances, IsSection, Leaves, Pends, Reaches, Rests, Runs}
 use Rattle.mx_jobs.proofs.Made.{pending_left}
-use Rattle.mx_jobs.proofs.Members.{rests_acting, rests_here, rests_on}
+use Rattle.mx_jobs.proofs.Members.{pick, rests_acting, rests_here, rests_on}
 
 module _ {H S M : Type 0} (core : Core H S M) where
   kept_by : (s t u : Station core) → t ≡ u → Rests core s u → Rests core s t
@@ -89,6 +92,20 @@ module _ {H S M : Type 0} (core : Core H S M) where
 
     pub goes_stays : (s t : Station core) → Goes core s t → Stays s t
     goes_stays s t did = chain_stays did.0 s t did.1
+
+  -- settling leaves all but the journal
+  settle_keeps : (k : ℕ) (m : MemberState S) → ((settle_of k m).state.setting ≡ m.setting) × ((settle_of k m).state.core ≡ m.core) × ((settle_of k m).state.draft ≡ m.draft)
+  settle_keeps k m =
+      let Kept : Quiet (MemberState S) (Result (Unit {0}) SettleFault) → Type 0 = λ q. (q.state.setting ≡ m.setting) × (q.state.core ≡ m.core) × (q.state.draft ≡ m.draft) in
+      pick Kept (nat_lt k m.journal.base.upto) _ _ (refl, refl, refl) (pick Kept (nat_le (first_gap m.journal) k) _ _ (refl, refl, refl) (refl, refl, refl))
+
+  settling : (every before : ℕ) (s t : Station core) → SettlesIfDue core every before s t → Rests core s t × Stays s t
+  settling every before s t (inl did) =
+      let kept = settle_keeps (first_gap s.me.member.journal - 1) s.me.member in (
+        rests_acting core (Settle (first_gap s.me.member.journal - 1)) s t refl kept.0 did.1,
+        (ap (λ (z : Station core). core.phase z.me.member.core) did.1 ∙ ap core.phase kept.1, ap (λ (z : Station core). z.me.member.draft) did.1 ∙ kept.2),
+      )
+  settling every before s t (inr did) = (rests_here core s t did.1, (ap (λ (z : Station core). core.phase z.me.member.core) did.1, ap (λ (z : Station core). z.me.member.draft) did.1))
 
   -- an act that may be refused
   trying : {A F : Type 0} (a : Act M) (r : Result A F) (s t : Station core) → closed_by (act_of core a s.me.member).answer ≡ [] → (act_of core a s.me.member).state.setting ≡ s.me.member.setting → OnOk r (t ≡ does core a s) → OnErr r (t ≡ s) → Rests core s t
@@ -167,21 +184,24 @@ module _ {J : Type 0} (AsksFor : J → List ℕ → Type 0) (Makes : J → ℕ �
     pub still_there : (p : Bool) (first job : J) (from s t : Station core) → t ≡ s → Reaches AsksFor Makes Holds core p first from job s → Reaches AsksFor Makes Holds core p first from job t
     still_there p first job from s t same r = subst (λ (z : Station core). Reaches AsksFor Makes Holds core p first from job z) (sym same) r
 
-    -- a turn of the station leaves what is pending
-    pub turned : (phases : KeepsPhases core) (p : Bool) (first job : J) (from s t : Station core) → Goes core s t → Reaches AsksFor Makes Holds core p first from job s → Reaches AsksFor Makes Holds core p first from job t
-    turned phases false first job from s t goes r = record { next = r.next; advances = on_rests first r.next from s t r.advances (goes_rests core s t goes); rest = r.rest }
-    turned phases true first job from s t goes r =
-        let rests = goes_rests core s t goes in
-        let stays = goes_stays core phases s t goes in
-        record {
-          next = r.next;
-          advances = on_rests first r.next from s t r.advances rests;
-          rest = record {
-            receipt = r.rest.receipt;
-            section = subst (λ (x : Setting). IsSection AsksFor Makes Holds x.registers r.next r.rest.receipt job) (sym rests.setting) r.rest.section;
-            inside = stays.0 ∙ r.rest.inside;
-            drafted =
-                r.rest.drafted ∙ ap (λ (x : Setting). receipt_of r.rest.receipt.number x.me s.me.member.draft) (sym rests.setting)
-                ∙ ap (receipt_of r.rest.receipt.number t.me.member.setting.me) (sym stays.1);
-          };
-        }
+    -- what leaves phase and draft leaves what is pending
+    carried : (p : Bool) (first job : J) (from s t : Station core) → Rests core s t → Stays core s t → Reaches AsksFor Makes Holds core p first from job s → Reaches AsksFor Makes Holds core p first from job t
+    carried false first job from s t rests stays r = record { next = r.next; advances = on_rests first r.next from s t r.advances rests; rest = r.rest }
+    carried true first job from s t rests stays r = record {
+      next = r.next;
+      advances = on_rests first r.next from s t r.advances rests;
+      rest = record {
+        receipt = r.rest.receipt;
+        section = subst (λ (x : Setting). IsSection AsksFor Makes Holds x.registers r.next r.rest.receipt job) (sym rests.setting) r.rest.section;
+        inside = stays.0 ∙ r.rest.inside;
+        drafted =
+            r.rest.drafted ∙ ap (λ (x : Setting). receipt_of r.rest.receipt.number x.me s.me.member.draft) (sym rests.setting)
+            ∙ ap (receipt_of r.rest.receipt.number t.me.member.setting.me) (sym stays.1);
+      };
+    }
+
+    -- as a turn of the station does, and its settling
+    pub turned : (phases : KeepsPhases core) (every before : ℕ) (p : Bool) (first job : J) (from s t u : Station core) → Goes core s t → SettlesIfDue core every before t u → Reaches AsksFor Makes Holds core p first from job s → Reaches AsksFor Makes Holds core p first from job u
+    turned phases every before p first job from s t u goes settles r =
+        let kept = settling core every before t u settles in
+        carried p first job from t u kept.0 kept.1 (carried p first job from s t (goes_rests core s t goes) (goes_stays core phases s t goes) r)

@@ -4,5 +4,7 @@ pub mod Advancing
 pub mod Each
 pub mod OwnReceipts
 pub mod Promised
+pub mod Rounding
+pub mod Telling
 pub mod Laws
 pub mod Sums

@@ -29,7 +29,7 @@ use Rattle.mx_jobs.specs.Laws.{AreThere}
 use Rattle.mx_jobs.specs.Sections.{Drafts, HasRead, Rests}
 
 -- either way it is so
-pick : {A : Type 0} (P : A → Type 0) (b : Bool) (x y : A) → P x → P y → P (cond b x y)
+pub pick : {A : Type 0} (P : A → Type 0) (b : Bool) (x y : A) → P x → P y → P (cond b x y)
 pick P b x y one other = cond_case P b x y (λ is. one) (λ is. other)
 
 ok_err : {A F : Type 0} (v : A) (f : F) → ◌≡◌ {A = Result A F} (Ok v) (Err f) → ⊥

@@ -1,5 +1,5 @@
 -- A run of jobs in threads: what workers promise and leave, and what all have together.
-use Rattle.std.specs.Prelude.{◌≡◌, ◌<◌, ◌≤◌, ◌+◌, ◌==◌, ℕ, List, [], ◌∷◌, filter, length, map, slice_get, Some}
+use Rattle.std.specs.Prelude.{◌≡◌, ◌<◌, ◌≤◌, ◌+◌, ◌==◌, ℕ, Bool, List, [], ◌∷◌, Option, filter, length, map, slice_get, Some}
 use Rattle.atomic_table.specs.Seated.{TableId}
 use Rattle.mx_stamps.specs.Lists.{IsIn}
 use Rattle.mx_stamps.specs.declared.limits.TheConstants.{MOST_REGISTERS}
@@ -14,9 +14,13 @@ use Rattle.mx_stations.specs.Opened.{AreFresh}
 use Rattle.mx_stations.specs.Posts.{Post}
 use Rattle.mx_stations.specs.Running.{fresh}
 use Rattle.mx_stations.specs.Turns.{Station}
-use Rattle.mx_jobs.specs.declared.working.Ended.{Ended}
-use Rattle.mx_jobs.specs.declared.working.Ended.TheVariants.{Done}
-use Rattle.mx_jobs.specs.Sections.{Advances, Runs}
+use Rattle.mx_jobs.specs.declared.worker.Ended.{Ended}
+use Rattle.mx_jobs.specs.declared.worker.Ended.TheVariants.{Done, GateShut, NotYet}
+use Rattle.mx_jobs.specs.declared.worker.RunOptions.{RunOptions}
+use Rattle.mx_jobs.specs.declared.faults.RunFault.{RunFault}
+use Rattle.mx_jobs.specs.Faults.{Tells}
+use Rattle.mx_jobs.specs.Rounds.{Works, WorksAtMost}
+use Rattle.mx_jobs.specs.Sections.{Advances, Reaches, Runs}
 use Rattle.mx_jobs.specs.Serial.{AreSerial}
 
 -- each of these is so at its place, where places are counted from this one on
@@ -55,16 +59,18 @@ module _ {H S M : Type 0} (core : Core H S M) (o : Opening H) where
     pub nodes : s.nodes ≡ core.count o.shape
     pub me : s.me ≡ fresh k (start_of core o.shape k o.origin o.limit o.registers)
 
-module _ {H S M : Type 0} (core : Core H S M) (o : Opening H) {J : Type 0} (jobs : List J) where
-  -- the station and the job of node k
-  pub record IsPosted (k : ℕ) (at : Station core) (job : J) : Type 0 where
-    pub rests : IsAtRest core o k at
-    pub own : slice_get jobs k ≡ Some job
-
-  -- the stations and the jobs from node k on
-  pub record Fit (k : ℕ) (stations : List (Station core)) (js : List J) : Type 0 where
-    pub rest : AreEach (IsAtRest core o) k stations
+module _ {X J : Type 0} (stations : List X) (jobs : List J) where
+  -- the stations and the jobs from the k-th on
+  pub record Fit (k : ℕ) (others : List X) (js : List J) : Type 0 where
+    pub places : AreEach (λ i s. slice_get stations i ≡ Some s) k others
     pub own : AreEach (λ i job. slice_get jobs i ≡ Some job) k js
+
+module _ {X J : Type 0} (options : RunOptions) (stations : List X) (jobs : List J) where
+  -- the k-th of the stations and of the jobs, for a worker with these options
+  pub record IsPosted (k : ℕ) (at : X) (job : J) (told : RunOptions) : Type 0 where
+    pub place : slice_get stations k ≡ Some at
+    pub own : slice_get jobs k ≡ Some job
+    pub as_told : told ≡ options
 
 -- the receipts of this node, in order
 abbrev pub own_of : ℕ → List Receipt → List Receipt
@@ -88,38 +94,67 @@ module _ {J : Type 0} (AsksFor : J → List ℕ → Type 0)
     -- and all sections together are one serial order
     pub serial : AreSerial receipts journal
 
-  module _ {H S M : Type 0} (core : Core H S M) where
-    -- What a worker left of this station and this job. Where it is done, some sections of the job
-    -- led there, after which it has no more, and the node is outside.
+  module _ {H S M : Type 0} (core : Core H S M) (options : RunOptions) where
+    -- A worker that is done: sections of its job, one after another, led from this job to the one
+    -- left, which has no more, and its rounds from this station to the one left, whose node is
+    -- outside.
+    pub record IsDone (from : Station core) (job : J) (left : Station core) (after : J) : Type 0 where
+      pub advanced : Advances AsksFor Makes Holds core job from after left
+      pub finished : Finished after
+      pub outside : IsInside core left.me.member.core → ⊥
+      pub works : WorksAtMost core options from left
+
+    -- What a worker left of this station and this job, and how it ended.
     pub record IsLeft (from : Station core) (job : J) (left : Station core × J × Ended)
         : Type 0 where
-      pub advanced : left.2 ≡ Done → Advances AsksFor Makes Holds core job from left.1 left.0
-      pub finished : left.2 ≡ Done → Finished left.1
-      pub outside : left.2 ≡ Done → IsInside core left.0.me.member.core → ⊥
+      pub works : Works core options left.2 from left.0
+      pub done : left.2 ≡ Done → IsDone from job left.0 left.1
+      -- not done yet, it has gone on by some sections of its job, and one more may be made that is
+      -- not left yet
+      pub reached : left.2 ≡ NotYet
+          → (pending : Bool) × Reaches AsksFor Makes Holds core pending job from left.1 left.0
+      pub shut : left.2 ≡ GateShut → left.1 ≡ job
 
-    module _ (o : Opening H) (jobs : List J) where
-      -- node k went through sections of its own job, one after another, and left this job, which
-      -- has no more; its receipts are those of these sections, in order. Its station has the table,
-      -- the number of nodes and the setting that were asked for
-      pub record HasRun (k : ℕ) (one : Station core × J) : Type 0 where
-        pub here : one.0.table ≡ o.table
-        pub nodes : one.0.nodes ≡ core.count o.shape
-        pub node : one.0.me.node ≡ k
-        pub setting : one.0.me.member.setting ≡ record {
-          me = k;
-          nodes = core.count o.shape;
-          limit = o.limit;
-          registers = o.registers;
-        }
+    module _ (stations : List (Station core)) (jobs : List J) where
+      -- what the k-th worker left
+      pub record HasLeft (k : ℕ) (left : Station core × J × Ended) : Type 0 where
+        pub from : Station core
         pub job : J
+        pub place : slice_get stations k ≡ Some from
         pub own : slice_get jobs k ≡ Some job
-        pub runs : Runs AsksFor Makes Holds o.registers job one.0.me.receipts one.1
-        pub finished : Finished one.1
-        pub outside : IsInside core one.0.me.member.core → ⊥
+        pub is_left : IsLeft from job left
 
-      -- the stations and the jobs of the nodes that have ended
-      pub record AreSplit (stations : List (Station core)) (js : List J) : Type 0 where
-        pub ended : List (Station core × J)
-        pub each : AreEach HasRun 0 ended
-        pub stations_are : stations ≡ map (λ (one : Station core × J). one.0) ended
-        pub jobs_are : js ≡ map (λ (one : Station core × J). one.1) ended
+      -- what workers left, one after another, and what is told of it
+      pub record AreLeft (fault : Option RunFault) (lefts : List (Station core)) (afters : List J)
+          : Type 0 where
+        pub all : List (Station core × J × Ended)
+        pub each : AreEach HasLeft 0 all
+        pub stations_are : lefts ≡ map (λ (one : Station core × J × Ended). one.0) all
+        pub jobs_are : afters ≡ map (λ (one : Station core × J × Ended). one.1) all
+        pub told : Tells fault (map (λ (one : Station core × J × Ended). one.2) all)
+
+      -- All workers are done. For each k, rounds led from the k-th station handed in to the k-th
+      -- that comes back, and sections of the k-th job to the k-th job that comes back.
+      pub record AreDone (lefts : List (Station core)) (afters : List J) : Type 0 where
+        pub many : length lefts ≡ length stations
+        pub jobs_many : length jobs ≡ length stations
+        pub afters_many : length afters ≡ length stations
+        pub each : (k : ℕ) (from left : Station core) (job after : J)
+            → slice_get stations k ≡ Some from → slice_get jobs k ≡ Some job
+            → slice_get lefts k ≡ Some left → slice_get afters k ≡ Some after
+            → IsDone from job left after
+
+      -- The same of workers of which some are not done, with how each ended, of which this fault is
+      -- told.
+      pub record AreNotDone (fault : RunFault) (lefts : List (Station core)) (afters : List J)
+          : Type 0 where
+        pub ends : List Ended
+        pub told : Tells (Some fault) ends
+        pub many : length lefts ≡ length stations
+        pub jobs_many : length jobs ≡ length stations
+        pub afters_many : length afters ≡ length stations
+        pub ends_many : length ends ≡ length stations
+        pub each : (k : ℕ) (from left : Station core) (job after : J) (end : Ended)
+            → slice_get stations k ≡ Some from → slice_get jobs k ≡ Some job
+            → slice_get lefts k ≡ Some left → slice_get afters k ≡ Some after
+            → slice_get ends k ≡ Some end → IsLeft from job (left, after, end)

@@ -1,10 +1,10 @@
 //! Why a run comes to no end.
 
-ghost use Rattle.std.specs.Prelude.{◌≡◌, None, Some};
-ghost use Rattle.mx_jobs.specs.declared.tries.JobFault.{JobFault as TheJobFault};
+ghost use Rattle.std.specs.Prelude.{◌≡◌, ◌≢◌, Some};
+ghost use Rattle.mx_jobs.specs.declared.tries.JobFault.{JobFault as TheFault};
 
 use crate::tries::JobFault;
-use crate::working::Ended;
+use crate::worker::Ended;
 use mx_nodelaws::Exclusion;
 use mx_stations::Station;
 use thiserror::Error;
@@ -40,20 +40,29 @@ pub struct Unfinished<C: Exclusion, J: Drop> {
     pub jobs: Vec<J>,
 }
 
-/// The fault to report after one more worker has ended.
+/// The fault to report after one more worker has ended: the first in the order of `RunFault`.
 pub(crate) fn with_end(fault: Option<RunFault>, ended: Ended) -> Option<RunFault>
-    ensures none { result ≡ None → (fault ≡ None) × (ended ≡ Ended.Done) }
-    ensures kept { ended ≡ Ended.Done → result ≡ fault }
-    ensures told { (why : TheJobFault) → ended ≡ Ended.Broken why → fault ≡ None
-        → result ≡ Some (RunFault.Job why) }
-    ensures own { (why : TheJobFault) → fault ≡ Some (RunFault.Job why) → result ≡ fault }
+    ensures memory { fault ≡ Some RunFault.Memory → result ≡ fault }
+    ensures job { (why : TheFault) → fault ≡ Some (RunFault.Job why) → result ≡ fault }
+    ensures done { ended ≡ Ended.Done → result ≡ fault }
+    ensures broken { (why : TheFault) → ended ≡ Ended.Broken why → fault ≢ Some RunFault.Memory
+        → ((w : TheFault) → fault ≢ Some (RunFault.Job w)) → result ≡ Some (RunFault.Job why) }
+    ensures stopped { (why : TheFault) → ended ≡ Ended.Stopped why → fault ≢ Some RunFault.Memory
+        → ((w : TheFault) → fault ≢ Some (RunFault.Job w)) → result ≡ Some (RunFault.Job why) }
+    ensures shut { ended ≡ Ended.GateShut → fault ≢ Some RunFault.Memory
+        → ((w : TheFault) → fault ≢ Some (RunFault.Job w)) → result ≡ Some RunFault.GateShut }
+    ensures still_shut { ended ≡ Ended.NotYet → fault ≡ Some RunFault.GateShut → result ≡ fault }
+    ensures spent { ended ≡ Ended.NotYet → fault ≢ Some RunFault.Memory
+        → ((w : TheFault) → fault ≢ Some (RunFault.Job w))
+        → fault ≢ Some RunFault.GateShut → result ≡ Some RunFault.TurnsSpent }
 {
     match (ended, fault) {
         (Ended::Done, _) => fault,
         (_, Some(RunFault::Memory | RunFault::Job(_))) => fault,
         (Ended::Broken(why), _) => Some(RunFault::Job(why)),
+        (Ended::Stopped(why), _) => Some(RunFault::Job(why)),
         (Ended::GateShut, _) => Some(RunFault::GateShut),
-        (Ended::NotYet | Ended::Stopped, Some(RunFault::GateShut)) => fault,
-        (Ended::NotYet | Ended::Stopped, _) => Some(RunFault::TurnsSpent),
+        (Ended::NotYet, Some(RunFault::GateShut)) => fault,
+        (Ended::NotYet, _) => Some(RunFault::TurnsSpent),
     }
 }

@@ -3,21 +3,21 @@
 
 mod assembly;
 mod calls;
+mod ends;
 mod faults;
 mod job;
-mod joining;
-mod opening;
 mod registers;
-mod running;
+mod runs;
+mod settings;
 mod threads;
 mod tries;
-mod working;
+mod worker;
 
 pub use calls::Calls;
 pub use faults::{RunFault, Unfinished};
 pub use job::Job;
-pub use opening::{Settings, stations};
 pub use registers::contents;
-pub use running::{Finished, fair_links, run};
+pub use runs::{Finished, Ran, fair_links, run, run_stations};
+pub use settings::{Settings, stations};
 pub use tries::JobFault;
-pub use working::{Ended, Gate, work};
+pub use worker::{Ended, Gate, RunOptions, work};

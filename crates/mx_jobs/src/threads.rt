@@ -1,12 +1,16 @@
 //! The threads of a run, one for each station and its job.
 
-ghost use Rattle.std.specs.Prelude.{◌≡◌, ◌++◌, ◌∷◌, [], List, suc, length, IfNone, IfOk, IfSome, OnOk};
-ghost use Rattle.mx_jobs.specs.Runs.{AreEach, Fit, IsLeft, IsPosted, Opening};
+ghost use Rattle.std.specs.Prelude.{◌≡◌, ◌+◌, ◌++◌, ◌∷◌, [], List, suc, length, IfErr, IfNone, IfOk, IfSome, OnOk};
+ghost use Rattle.mx_member.specs.Member.{MemberState};
+ghost use Rattle.mx_member.specs.declared.parcel.Parcel.{Parcel};
+ghost use Rattle.mx_stations.specs.Posts.{Post};
+ghost use Rattle.mx_jobs.specs.Faults.{IfOfEnds};
+ghost use Rattle.mx_jobs.specs.Runs.{AreEach, Fit, IsLeft, IsPosted};
 
 use crate::assembly::Assembly;
 use crate::faults::RunFault;
 use crate::job::Job;
-use crate::working::{Ended, work};
+use crate::worker::{Ended, RunOptions, work};
 use mx_letters::Fates;
 use mx_nodelaws::Exclusion;
 use mx_stations::Station;
@@ -27,13 +31,15 @@ pub(crate) type Left<C, J> = (Station<C>, J, Ended);
 pub(crate) struct WorkAt<S, J> {
     at: Snapshot<S>,
     job: Snapshot<J>,
+    options: RunOptions,
 }
 
 impl<C: Exclusion, J: Job> Promise<Left<C, J>> for WorkAt<Station<C>, J> {
     ghost use Rattle.mx_jobs.specs.Runs.{IsLeft};
 
     ghost kept_by = { λ p left.
-        IsLeft J.asks_for J.makes J.holds J.finished C.core p.at.value p.job.value left };
+        IsLeft J.asks_for J.makes J.holds J.finished C.core
+        p.options p.at.value p.job.value left };
 }
 
 /// A thread that works at a station.
@@ -45,15 +51,13 @@ fn do_work<C: Exclusion, J: Job, F: Fates + Drop>(
     mut job: J,
     mut fates: F,
     gate: &Assembly,
-    turns: u64,
+    options: RunOptions,
 ) -> Left<C, J>
     requires { (j : J) → J.ready j }
-    ensures { IsLeft J.asks_for J.makes J.holds J.finished C.core station job result }
+    ensures { IsLeft J.asks_for J.makes J.holds J.finished C.core options station job result }
 {
-    let ended = work(&mut station, &mut job, gate, &mut fates, turns);
-    if let Ended::Broken(_) = ended {
-        gate.break_off();
-    }
+    let ended = work(&mut station, &mut job, gate, &mut fates, options);
+    gate.note_end(ended);
     (station, job, ended)
 }
 
@@ -71,7 +75,7 @@ fn start<
     fates: F,
     gate: &Assembly,
     share: Arc<Assembly, Global>,
-    turns: u64,
+    options: RunOptions,
 ) -> Result<Worker<C, J>, Left<C, J>>
 where
     C::Msg: Send + 'static,
@@ -79,18 +83,21 @@ where
     requires { (j : J) → J.ready j }
     ensures at { IfOk result (λ worker. worker.promise.at.value ≡ station) }
     ensures told { IfOk result (λ worker. worker.promise.job.value ≡ job) }
+    ensures options { IfOk result (λ worker. worker.promise.options ≡ options) }
 {
     let promise = WorkAt {
         at: Snapshot::of(&station),
         job: Snapshot::of(&job),
+        options,
     };
     let started = thread::spawn_with(
         rt,
         promise,
         move || -> Left<C, J>
             requires { (j : J) → J.ready j }
-            ensures { IsLeft J.asks_for J.makes J.holds J.finished C.core station job result }
-        { do_work(station, job, fates, &*share, turns) },
+            ensures { IsLeft J.asks_for J.makes J.holds J.finished C.core
+                options station job result }
+        { do_work(station, job, fates, &*share, options) },
     );
     match started {
         Ok(worker) => Ok(worker),
@@ -105,6 +112,7 @@ where
 fn take_first<T: Drop>(items: &mut Vec<T>) -> Option<T>
     ensures some { IfSome result (λ item. items.old.items ≡ item ∷ items.new.items) }
     ensures none { IfNone result (items.new.items ≡ []) }
+    ensures empty { IfNone result (items.old.items ≡ []) }
 {
     if items.is_empty() {
         return None;
@@ -140,21 +148,20 @@ fn start_one<
     job: J,
     fates: F,
     gate: &Arc<Assembly, Global>,
-    turns: u64,
+    options: RunOptions,
 ) -> Result<(), Back<C, J>>
 where
     C::Msg: Send + 'static,
     C::Shape: Send + 'static,
     requires { (j : J) → J.ready j }
     ensures one { OnOk result (length workers.new.items ≡ suc (length workers.old.items)) }
-    ensures posted { (o : Opening C.Shape) (all : List J)
-        → IsPosted C.core o all (length workers.old.items) station job
-        → AreEach (λ k worker.
-        IsPosted C.core o all k worker.promise.at.value worker.promise.job.value) 0
-        workers.old.items
-        → OnOk result (AreEach (λ k worker.
-        IsPosted C.core o all k worker.promise.at.value worker.promise.job.value) 0
-        workers.new.items) }
+    ensures posted { (posts : List (Post (MemberState C) (Parcel C.Msg))) (all : List J)
+        → IsPosted options posts all (length workers.old.items) station job options
+        → AreEach (λ k worker. IsPosted options posts all k worker.promise.at.value
+        worker.promise.job.value worker.promise.options) 0 workers.old.items
+        → OnOk result (AreEach (λ k worker. IsPosted options posts all k worker.promise.at.value
+        worker.promise.job.value worker.promise.options) 0 workers.new.items) }
+    ensures err { IfErr result (λ back. IfOfEnds back.2 ⊥) }
 {
     let Ok(()) = workers.reserve(1) else {
         return Err((station, job, RunFault::Memory));
@@ -162,7 +169,7 @@ where
     let Ok(share) = Arc::try_clone(gate) else {
         return Err((station, job, RunFault::Memory));
     };
-    match start(rt, station, job, fates, &**gate, share, turns) {
+    match start(rt, station, job, fates, &**gate, share, options) {
         Ok(worker) => {
             workers.push_reserved(worker);
             Ok(())
@@ -194,28 +201,29 @@ pub(crate) fn start_each<
     jobs: &mut Vec<J>,
     fates: &mut Vec<F>,
     gate: &Arc<Assembly, Global>,
-    turns: u64,
+    options: RunOptions,
 ) -> Result<(), RunFault>
 where
     C::Msg: Send + 'static,
     C::Shape: Send + 'static,
     requires { (j : J) → J.ready j }
     ensures stations { OnOk result (stations.new.items ≡ []) }
-    ensures posted { (o : Opening C.Shape) (all : List J)
-        → Fit C.core o all (length workers.old.items) stations.old.items jobs.old.items
-        → AreEach (λ k worker.
-        IsPosted C.core o all k worker.promise.at.value worker.promise.job.value) 0
-        workers.old.items
-        → OnOk result (AreEach (λ k worker.
-        IsPosted C.core o all k worker.promise.at.value worker.promise.job.value) 0
-        workers.new.items) }
+    ensures many { OnOk result (length workers.new.items
+        ≡ length workers.old.items + length stations.old.items) }
+    ensures posted { (posts : List (Post (MemberState C) (Parcel C.Msg))) (all : List J)
+        → Fit posts all (length workers.old.items) stations.old.items jobs.old.items
+        → AreEach (λ k worker. IsPosted options posts all k worker.promise.at.value
+        worker.promise.job.value worker.promise.options) 0 workers.old.items
+        → OnOk result (AreEach (λ k worker. IsPosted options posts all k worker.promise.at.value
+        worker.promise.job.value worker.promise.options) 0 workers.new.items) }
+    ensures err { IfErr result (λ fault. IfOfEnds fault ⊥) }
 {
     while let Some(station) = take_first(stations) {
         let Some((job, own)) = take_both(jobs, fates) else {
             let _ = stations.push(station);
             return Err(RunFault::NotAJobEach);
         };
-        match start_one(rt, workers, station, job, own, gate, turns) {
+        match start_one(rt, workers, station, job, own, gate, options) {
             Ok(()) => {}
             Err(back) => {
                 let _ = keep(stations, jobs, back.0, back.1);
@@ -228,7 +236,8 @@ where
 
 /// Refuses jobs that are left over.
 pub(crate) fn all_taken<J: Drop>(jobs: &Vec<J>) -> Result<(), RunFault>
-    ensures { OnOk result (jobs.now.items ≡ []) }
+    ensures ok { OnOk result (jobs.now.items ≡ []) }
+    ensures err { IfErr result (λ fault. IfOfEnds fault ⊥) }
 {
     if jobs.is_empty() {
         Ok(())

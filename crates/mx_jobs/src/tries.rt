@@ -1,6 +1,6 @@
 //! One section of a job, at the station of a node that is inside.
 
-ghost use Rattle.std.specs.Prelude.{◌≡◌, ◌≤◌, ◌++◌, ◌∷◌, [], ℕ, Bool, Err, Ok, IfOk, OnOk, false, length, map, true};
+ghost use Rattle.std.specs.Prelude.{◌≡◌, ◌≤◌, ◌++◌, ◌∷◌, [], ℕ, Bool, Err, Ok, IfOk, OnErr, OnOk, false, length, map, true};
 ghost use Rattle.mx_journal.specs.Drafted.{Drafted, fresh};
 ghost use Rattle.mx_journal.specs.declared.receipts.Receipt.{Receipt as OneReceipt};
 ghost use Rattle.mx_journal.specs.declared.records.Write.{Write as OneWrite};
@@ -8,6 +8,7 @@ ghost use Rattle.mx_member.specs.declared.acts.Act.TheVariants.{Leave};
 ghost use Rattle.mx_member.specs.Steps.{leave_of};
 ghost use Rattle.mx_stations.specs.Posts.{does};
 ghost use Rattle.mx_jobs.specs.Laws.{AreThere};
+ghost use Rattle.mx_jobs.specs.Rounds.{ActsForJob, Serves};
 ghost use Rattle.mx_jobs.specs.Sections.{Drafts, HasRead, IsSection, Leaves, Pends, Rests};
 
 use crate::job::Job;
@@ -53,6 +54,7 @@ fn read_all<C: Exclusion>(
     ensures read { IfOk result (λ values. (draft : Drafted)
         × HasRead station.old.me.member.setting.registers registers.now values.items draft
         × Drafts C.core station.old draft station.new) }
+    ensures acts { ActsForJob C.core station.old station.new }
 {
     let mut values = ArrayVec::new();
     for register in registers {
@@ -64,13 +66,14 @@ fn read_all<C: Exclusion>(
 
 /// Writes, in order.
 fn write_all<C: Exclusion>(station: &mut Station<C>, writes: &[Write]) -> Result<(), WriteFault>
-    ensures { OnOk result (Drafts C.core station.old
+    ensures drafts { OnOk result (Drafts C.core station.old
         (record {
           reads = station.old.me.member.draft.reads;
           writes = station.old.me.member.draft.writes ++ writes.now;
         }) station.new
         × AreThere station.old.me.member.setting.registers
         (map (λ (w : OneWrite). w.register) writes.now)) }
+    ensures acts { ActsForJob C.core station.old station.new }
 {
     for write in writes {
         station.write(write.register, write.value)?;
@@ -112,6 +115,9 @@ pub(crate) fn try_section<C: Exclusion, J: Job>(
         → (job.new ≡ job.old) × Rests C.core station.old station.new }
     ensures gap { result ≡ Ok Tried.Gap
         → (job.new ≡ job.old) × Rests C.core station.old station.new }
+    ensures serves { OnOk result (Serves C.core station.old station.new) }
+    ensures acts { result ≡ Ok Tried.Gap → ActsForJob C.core station.old station.new }
+    ensures broken { OnErr result (ActsForJob C.core station.old station.new) }
 {
     let Phase::Inside(number) = station.phase() else {
         return Ok(Tried::Outside);

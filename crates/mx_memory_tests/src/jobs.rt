@@ -7,7 +7,7 @@ ghost use Rattle.mx_ricart.specs.Step.{ricart_core};
 use crate::telling::{back, call, expect, refused};
 use anyhow::{Result, bail};
 use arrayvec::ArrayVec;
-use mx_jobs::{Finished, Job, RunFault, Settings, Unfinished, fair_links, run, stations};
+use mx_jobs::{Finished, Job, RunFault, RunOptions, Settings, Unfinished, fair_links, run, run_stations, stations};
 use mx_journal::Write;
 use mx_letters::Fair;
 use mx_ricart::{Count, Ricart};
@@ -21,9 +21,15 @@ const NODES: u8 = 2;
 const SECTIONS: u64 = 2;
 
 /// While every turn is refused memory no section is entered, and the run is to end soon.
-const FEW_TURNS: u64 = 2_000;
+const FEW_TURNS: RunOptions = RunOptions {
+    turns: 2_000,
+    settle_every: 1,
+};
 
-const MANY_TURNS: u64 = 100_000_000;
+const MANY_TURNS: RunOptions = RunOptions {
+    turns: 100_000_000,
+    settle_every: 1,
+};
 
 const SETTINGS: Settings = Settings {
     origin: 0,
@@ -101,13 +107,13 @@ fn has_all(all: &Finished<Numberer>) -> bool {
 }
 
 /// What is left of a run that was refused memory, or whose turns were refused it, is whole.
-fn look(rt: &HostRuntime, left: &Unfinished<Ricart, Numberer>) -> Result<()> {
+fn look(rt: &HostRuntime, name: &str, left: &Unfinished<Ricart, Numberer>) -> Result<()> {
     let is_whole = left.stations.len() == usize::from(NODES)
         && left.jobs.len() == usize::from(NODES);
     match left.fault {
-        RunFault::Memory | RunFault::NoThread => refused(rt, "run", is_whole),
-        RunFault::TurnsSpent => expect("run", is_whole),
-        RunFault::NotAJobEach | RunFault::Job(_) | RunFault::GateShut => bail!("run"),
+        RunFault::Memory | RunFault::NoThread => refused(rt, name, is_whole),
+        RunFault::TurnsSpent => expect(name, is_whole),
+        RunFault::NotAJobEach | RunFault::Job(_) | RunFault::GateShut => bail!("{name}"),
     }
 }
 
@@ -131,7 +137,27 @@ fn look_and_run_again<R: Threads>(
     match ended {
         Ok(all) => expect("run", has_all(all)),
         Err(left) => {
-            look(rt, left)?;
+            look(rt, "run", left)?;
+            run_again(rt, threads, shape)
+        }
+    }
+}
+
+/// Runs new stations, and does not gather them.
+fn run_apart<R: Threads>(rt: &HostRuntime, threads: &R, shape: &Count) -> Result<()> {
+    let all = stations::<Ricart>(rt.alloc(), shape, &SETTINGS)?;
+    let links = fair_links(rt.alloc(), all.len())?;
+    let jobs = jobs_of(rt.alloc())?;
+    call(rt, "run_stations");
+    let ended = run_stations(threads, rt.alloc(), all, jobs, links, FEW_TURNS);
+    back(rt);
+    match &ended {
+        Ok(ran) => {
+            let nodes = usize::from(NODES);
+            expect("run_stations", ran.stations.len() == nodes && ran.jobs.len() == nodes)
+        }
+        Err(left) => {
+            look(rt, "run_stations", left)?;
             run_again(rt, threads, shape)
         }
     }
@@ -147,5 +173,6 @@ pub(crate) fn each<R: Threads>(rt: &HostRuntime, threads: &R) -> Result<()> {
     call(rt, "run");
     let ended = run(threads, rt.alloc(), all, jobs, links, FEW_TURNS);
     back(rt);
-    look_and_run_again(rt, threads, &shape, &ended)
+    look_and_run_again(rt, threads, &shape, &ended)?;
+    run_apart(rt, threads, &shape)
 }

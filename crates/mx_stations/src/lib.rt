@@ -27,7 +27,7 @@ pub use gathering::{GatherFault, Gathered, Ungathered, gather};
 pub use idling::Patience;
 pub use next::{Becomes, Gives, Learns, Looks, Next, OfCount, OfSlot, TriesToClaim, TriesToTake};
 pub use rule::{HandOn, Knowledge, Law, Setup, Slot, TakeIn};
-pub use settling::work_settling;
+pub use settling::{settle_if_due, work_settling};
 pub use slots::SLOTS;
 pub use station::Station;
 pub use together::Sees;

@@ -77,8 +77,10 @@ fn settle_on<C: Exclusion, G: Gate, F: Fates>(
     Worked::NotYet(turns)
 }
 
-/// Settles all that the journal covers without gaps, where that is due.
-fn settle_if_due<C: Exclusion>(station: &mut Station<C>, before: usize, every: u64)
+/// Settles all that the journal covers without gaps, if that is due: a section was left since the
+/// station had `before` receipts, and `every` divides how many it has now. With 0 it never is. A
+/// worker calls it at the end of each of its turns.
+pub fn settle_if_due<C: Exclusion>(station: &mut Station<C>, before: usize, every: u64)
     ensures { SettlesIfDue C.core every before station.old station.new }
 {
     if is_due(before, station.receipts().len(), every) {

@@ -1,16 +1,22 @@
 use Rattle.std.proofs.Common.{refl, ap, length}
 use Rattle.std.proofs.lemmas.List.{take_all}
+use Rattle.mx_member.specs.declared.acts.Act.TheVariants.{Read}
 use Rattle.mx_jobs.proofs.Members.{all_read, drafts_here, nothing_read, read_drafts, read_on, read_there}
+use Rattle.mx_jobs.proofs.Rounding.{acted_on, no_act, one_act}
 use Rattle.mx_jobs.proofs.tries.read_all.Goals as goal
 
 pub loop-register-init : goal.loop-register-init
-loop-register-init g c = (drafts_here g.C.Exclusion.core _ _ refl, nothing_read _ _ _ c.new-values.ensures c.requires.empty, ap length c.new-values.ensures)
+loop-register-init g c = (drafts_here g.C.Exclusion.core _ _ refl, nothing_read _ _ _ c.new-values.ensures c.requires.empty, ap length c.new-values.ensures, no_act g.C.Exclusion.core _ _ refl)
 
 pub loop-register-preserved : goal.loop-register-preserved
 loop-register-preserved g c =
     let core = g.C.Exclusion.core in
     let did = read_drafts core _ c.in_ok-value.value c.loop-register.station c.read.new.self c.in_ok-value.ensures.answer c.in_ok-value.ensures.done in
-    read_on core c.args.registers.now c.loop-register.values.items _ c.loop-register.register-index c.in_ok-value.value _ c.loop-register.station _ c.loop-register-test.true (read_there core _ c.in_ok-value.value c.loop-register.station c.in_ok-value.ensures.answer) c.loop-register.invariant did c.push.ensures.items
+    let so_far = c.loop-register.invariant in
+    let more =
+    read_on core c.args.registers.now c.loop-register.values.items _ c.loop-register.register-index c.in_ok-value.value _ c.loop-register.station _ c.loop-register-test.true (read_there core _ c.in_ok-value.value c.loop-register.station c.in_ok-value.ensures.answer)
+    (so_far.0, so_far.1, so_far.2) did c.push.ensures.items in
+    (more.0, more.1, more.2, acted_on core _ _ _ so_far.3 (one_act core (Read _) _ _ tt c.in_ok-value.ensures.done))
 
 pub returns-clause-read : goal.returns-clause-read
 returns-clause-read g c =

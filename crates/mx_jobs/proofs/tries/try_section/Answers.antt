@@ -1,11 +1,14 @@
-use Rattle.std.proofs.Common.{◌++◌, List, ℕ, map, refl, sym, subst}
+use Rattle.std.proofs.Common.{◌++◌, List, ℕ, inl, inr, map, refl, sym, subst}
 use Rattle.mx_journal.specs.declared.records.Write.{Write as OneWrite}
+use Rattle.mx_member.specs.declared.acts.Act.TheVariants.{Restart}
+use Rattle.mx_stamps.proofs.Choices.{bool_cases}
 use Rattle.mx_stations.specs.Turns.{Station}
 use Rattle.mx_jobs.specs.declared.tries.JobFault.{JobFault}
 use Rattle.mx_jobs.specs.Laws.{AreThere, KeepsLaw}
 use Rattle.mx_jobs.specs.Sections.{Drafts, Pends, Rests}
 use Rattle.mx_jobs.proofs.Members.{apart_pending, apart_tries, restarted, rests_on, same_ok}
 use Rattle.mx_jobs.proofs.Made.{pending_left, section_pends}
+use Rattle.mx_jobs.proofs.Rounding.{acted_on, if_err, no_act, one_act, serves_acting, serves_leaving}
 use Rattle.mx_jobs.proofs.tries.try_section.Goals as goal
 
 pub read_all-requires : goal.read_all-requires
@@ -32,7 +35,7 @@ returns-in_ok-write_all-in-Ok-clause-left g c = λ e.
     (subst (λ (vs : List ℕ). g.J.Job.makes job number vs writes after) c.as_slice.ensures.value c.section-writes.ensures.made)
     (subst (λ (vs : List ℕ). KeepsLaw g.J.Job.asks_for g.J.Job.holds job number vs writes) c.as_slice.ensures.value c.section-writes.ensures.keeps)
     (restarted core _ _ c.restart.ensures) c.in-Ok.ensures.read
-    (subst (λ (ws : List OneWrite). Drafts core read (record { reads = d.reads; writes = d.writes ++ ws }) c.write_all.new.station × AreThere read.me.member.setting.registers (map (λ (w : OneWrite). w.register) ws)) c.as_slice-in-Ok.ensures.value c.in_ok-write_all-in-Ok.ensures) in
+    (subst (λ (ws : List OneWrite). Drafts core read (record { reads = d.reads; writes = d.writes ++ ws }) c.write_all.new.station × AreThere read.me.member.setting.registers (map (λ (w : OneWrite). w.register) ws)) c.as_slice-in-Ok.ensures.value c.in_ok-write_all-in-Ok.ensures.drafts) in
     let has = c.try_leave-has_left.ensures.left (c.outcome_of.ensures.left (same_ok {F = JobFault} _ _ e)) in
     pending_left g.J.Job.asks_for g.J.Job.makes g.J.Job.holds core job after has.0 c.args.station.now c.write_all.new.station c.try_leave-has_left.new.station made.0 made.1 has.1 has.2
 
@@ -51,14 +54,49 @@ returns-in_ok-write_all-in-Ok-clause-pending g c = λ e.
     (subst (λ (vs : List ℕ). g.J.Job.makes job number vs writes after) c.as_slice.ensures.value c.section-writes.ensures.made)
     (subst (λ (vs : List ℕ). KeepsLaw g.J.Job.asks_for g.J.Job.holds job number vs writes) c.as_slice.ensures.value c.section-writes.ensures.keeps)
     (restarted core _ _ c.restart.ensures) c.in-Ok.ensures.read
-    (subst (λ (ws : List OneWrite). Drafts core read (record { reads = d.reads; writes = d.writes ++ ws }) c.write_all.new.station × AreThere read.me.member.setting.registers (map (λ (w : OneWrite). w.register) ws)) c.as_slice-in-Ok.ensures.value c.in_ok-write_all-in-Ok.ensures) in
+    (subst (λ (ws : List OneWrite). Drafts core read (record { reads = d.reads; writes = d.writes ++ ws }) c.write_all.new.station × AreThere read.me.member.setting.registers (map (λ (w : OneWrite). w.register) ws)) c.as_slice-in-Ok.ensures.value c.in_ok-write_all-in-Ok.ensures.drafts) in
     subst (λ (z : Station core). Rests core c.args.station.now z × Pends g.J.Job.asks_for g.J.Job.makes g.J.Job.holds core job z after)
     (sym (c.try_leave-has_left.ensures.kept (c.outcome_of.ensures.pending (same_ok {F = JobFault} _ _ e)))) made
 
 pub returns-in-Err : goal.returns-in-Err
 returns-in-Err g c =
-    let rests = rests_on g.C.Exclusion.core _ _ _ (restarted g.C.Exclusion.core _ _ c.restart.ensures).rests c.read_all.ensures.rests in
-    record { left = λ e. absurd (apart_tries e); pending = λ e. absurd (apart_pending e); outside = λ e. (refl, rests); gap = λ e. (refl, rests) }
+    let core = g.C.Exclusion.core in
+    let rests = rests_on core _ _ _ (restarted core _ _ c.restart.ensures).rests c.read_all.ensures.rests in
+    let acts = acted_on core _ _ _ (one_act core Restart c.args.station.now c.restart.new.self tt c.restart.ensures) c.read_all.ensures.acts in
+    record {
+      left = λ e. absurd (apart_tries e);
+      pending = λ e. absurd (apart_pending e);
+      outside = λ e. (refl, rests);
+      gap = λ e. (refl, rests);
+      serves = serves_acting core _ _ acts;
+      acts = λ e. acts;
+      broken = tt;
+    }
+
+pub returns-in_default-clause-serves : goal.returns-in_default-clause-serves
+returns-in_default-clause-serves g c = serves_acting g.C.Exclusion.core _ _ (no_act g.C.Exclusion.core c.args.station.now c.args.station.now refl)
+
+pub returns-in-Err-NoRegister-clause-broken : goal.returns-in-Err-NoRegister-clause-broken
+returns-in-Err-NoRegister-clause-broken g c =
+    let core = g.C.Exclusion.core in
+    acted_on core _ _ _ (one_act core Restart c.args.station.now c.restart.new.self tt c.restart.ensures) c.read_all.ensures.acts
+
+pub returns-in_err-write_all-in-Ok-clause-broken : goal.returns-in_err-write_all-in-Ok-clause-broken
+returns-in_err-write_all-in-Ok-clause-broken g c =
+    let core = g.C.Exclusion.core in
+    if_err c.from_residual.result
+    (acted_on core _ _ _ (acted_on core _ _ _ (one_act core Restart c.args.station.now c.restart.new.self tt c.restart.ensures) c.read_all.ensures.acts) c.write_all.ensures.acts)
+
+pub returns-in_ok-write_all-in-Ok-clause-serves : goal.returns-in_ok-write_all-in-Ok-clause-serves
+returns-in_ok-write_all-in-Ok-clause-serves g c =
+    let core = g.C.Exclusion.core in
+    let tried = c.try_leave-has_left.ensures in
+    serves_leaving core _ _ _
+    (acted_on core _ _ _ (acted_on core _ _ _ (one_act core Restart c.args.station.now c.restart.new.self tt c.restart.ensures) c.read_all.ensures.acts) c.write_all.ensures.acts)
+    (elim (bool_cases c.try_leave-has_left.result) [
+      | inl t ↦ inr (tried.left t).2
+      | inr f ↦ inl (tried.kept f)
+    ])
 
 pub section-writes-requires : goal.section-writes-requires
 section-writes-requires g c = c.requires.ready c.args.job.now

@@ -1,6 +1,7 @@
 use Rattle.std.proofs.Common.{◌++◌, map, take}
 use Rattle.mx_journal.specs.declared.records.Write.{Write as OneWrite}
 use Rattle.mx_jobs.specs.Laws.{AreThere}
+use Rattle.mx_jobs.specs.Rounds.{ActsForJob}
 use Rattle.mx_jobs.specs.Sections.{Drafts}
 use Rattle.mx_jobs.proofs.tries.write_all.Given as goal
 
@@ -11,3 +12,4 @@ invariant-loop-write g l =
       writes = l.fn.station.me.member.draft.writes ++ take l.write-index l.writes;
     }) l.station
     × AreThere l.fn.station.me.member.setting.registers (map (λ (w : OneWrite). w.register) (take l.write-index l.writes))
+    × ActsForJob g.C.Exclusion.core l.fn.station l.station

@@ -1,0 +1,24 @@
+use Rattle.std.proofs.Common.{Bool, IfSome, refl, subst, sym}
+use Rattle.mx_jobs.specs.Sections.{Reaches}
+use Rattle.mx_jobs.proofs.Advancing.{settled, stands}
+use Rattle.mx_jobs.proofs.Members.{rests_here}
+use Rattle.mx_jobs.proofs.Rounding.{no_act, serves_acting}
+use Rattle.mx_jobs.proofs.worker.go_on.Goals as goal
+
+pub next_section-requires : goal.next_section-requires
+next_section-requires g c = (
+  search (c.requires-raw),
+  (
+    c.as_slice.ensures.fits,
+    (subst (g.J.Job.asks_for c.args.job.now) (sym c.as_slice.ensures.value) (subst (λ o. IfSome o (λ rs. g.J.Job.asks_for c.args.job.now rs.items)) c.in-Some.is c.asks-asked.ensures.some), (c.requires.ready, c.requires.left)),
+  ),
+)
+
+pub returns-in-None-clause-reaches : goal.returns-in-None-clause-reaches
+returns-in-None-clause-reaches g c =
+    let core = g.C.Exclusion.core in
+    subst (λ (p : Bool). Reaches g.J.Job.asks_for g.J.Job.makes g.J.Job.holds core p c.args.job.now c.args.station.now c.args.job.now c.args.station.now) (sym c.requires.left)
+    (settled g.J.Job.asks_for g.J.Job.makes g.J.Job.holds core _ _ _ _ (stands g.J.Job.asks_for g.J.Job.makes g.J.Job.holds core _ _ _ _ refl (rests_here core _ _ refl)))
+
+pub returns-in-None-clause-serves : goal.returns-in-None-clause-serves
+returns-in-None-clause-serves g c = serves_acting g.C.Exclusion.core _ _ (no_act g.C.Exclusion.core _ _ refl)

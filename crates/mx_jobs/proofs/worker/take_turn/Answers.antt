@@ -1,0 +1,23 @@
+use Rattle.mx_stations.proofs.Leaving.{has_turned}
+use Rattle.mx_jobs.proofs.Advancing.{turned}
+use Rattle.mx_jobs.proofs.Rounding.{one_round}
+use Rattle.mx_jobs.proofs.worker.take_turn.Goals as goal
+
+pub returns-clause-reaches : goal.returns-clause-reaches
+returns-clause-reaches g c = λ first from so_far.
+    turned g.J.Job.asks_for g.J.Job.makes g.J.Job.holds g.C.Exclusion.core g.met.C.Exclusion.phases c.args.every _ _ _ _ _ _ _ _ c.turn-report.ensures.goes c.settle_if_due.ensures (c.in_ok-idle.ensures.reaches first from so_far)
+
+pub returns-clause-round : goal.returns-clause-round
+returns-clause-round g c =
+    let report = c.turn-report.ensures in
+    one_round g.C.Exclusion.core c.args.every _ _ _ _ _ c.receipts-before.ensures c.in_ok-idle.ensures.serves
+    (has_turned g.C.Exclusion.core c.turn-report.result _ _ report.turns report.goes report.kept) c.settle_if_due.ensures
+
+pub rest-requires : goal.rest-requires
+rest-requires g c = search (c.requires-raw)
+
+pub settle_if_due-requires : goal.settle_if_due-requires
+settle_if_due-requires g c = search (c.requires-raw)
+
+pub turn-report-requires : goal.turn-report-requires
+turn-report-requires g c = search (c.requires-raw)

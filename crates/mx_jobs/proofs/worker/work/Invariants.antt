@@ -1,0 +1,8 @@
+use Rattle.mx_jobs.specs.Rounds.{Rounds}
+use Rattle.mx_jobs.specs.Sections.{Reaches}
+use Rattle.mx_jobs.proofs.worker.work.Given as goal
+
+abbrev pub invariant-loop-turn : goal.invariant-loop-turn
+invariant-loop-turn g l =
+    Reaches g.J.Job.asks_for g.J.Job.makes g.J.Job.holds g.C.Exclusion.core l.stance.pending l.fn.job l.fn.station l.job l.station
+    × Rounds g.C.Exclusion.core l.fn.options.settle_every l._turn l.fn.station l.station

@@ -1,0 +1,41 @@
+-- Which fault is told of a run.
+use Rattle.std.specs.Prelude.{◌≡◌, ◌⊎◌, List, Option, None, Some}
+use Rattle.mx_stamps.specs.Lists.{IsIn}
+use Rattle.mx_jobs.specs.declared.faults.RunFault.{RunFault}
+use Rattle.mx_jobs.specs.declared.faults.RunFault.TheVariants as fault
+use Rattle.mx_jobs.specs.declared.worker.Ended.{Ended}
+use Rattle.mx_jobs.specs.declared.worker.Ended.TheVariants.{Broken, Done, GateShut, NotYet, Stopped}
+
+-- the job of a worker that ended so, or another's, cannot go on
+abbrev pub IsBroken : Ended → Type 0
+IsBroken Done = ⊥
+IsBroken NotYet = ⊥
+IsBroken GateShut = ⊥
+IsBroken (Broken why) = Unit {0}
+IsBroken (Stopped why) = Unit {0}
+
+-- all jobs could go on
+abbrev pub NoneBroken : List Ended → Type 0
+NoneBroken ends = (e : Ended) → IsIn e ends → IsBroken e → ⊥
+
+-- What is told of workers that ended so: nothing only if all are done, and turns spent only if a
+-- worker made all its turns, no job broke the run off, and the gate was shut for nobody. Want of
+-- memory may always be told.
+abbrev pub Tells : Option RunFault → List Ended → Type 0
+Tells None ends = (e : Ended) → IsIn e ends → e ≡ Done
+Tells (Some fault.NotAJobEach) ends = ⊥
+Tells (Some fault.Memory) ends = Unit {0}
+Tells (Some fault.NoThread) ends = ⊥
+Tells (Some (fault.Job why)) ends = IsIn (Broken why) ends ⊎ IsIn (Stopped why) ends
+Tells (Some fault.GateShut) ends = IsIn GateShut ends × NoneBroken ends
+Tells (Some fault.TurnsSpent) ends =
+    IsIn NotYet ends × NoneBroken ends × (IsIn GateShut ends → ⊥)
+
+-- this is so if the fault is told of how workers ended
+abbrev pub IfOfEnds : RunFault → Type 0 → Type 0
+IfOfEnds fault.NotAJobEach P = Unit {0}
+IfOfEnds fault.Memory P = Unit {0}
+IfOfEnds fault.NoThread P = Unit {0}
+IfOfEnds (fault.Job why) P = P
+IfOfEnds fault.GateShut P = P
+IfOfEnds fault.TurnsSpent P = P

@@ -1,0 +1,79 @@
+-- Rounds of a worker: acts for its job, a turn of its station, and settling where that is due.
+use Rattle.std.specs.Prelude.{◌≡◌, ◌<◌, ◌≤◌, ℕ, zero, suc, List, [], ◌∷◌, length}
+use Rattle.mx_nodelaws.specs.Core.{Core}
+use Rattle.mx_member.specs.declared.acts.Act.{Act}
+use Rattle.mx_member.specs.declared.acts.Act.TheVariants as act
+use Rattle.mx_stations.specs.Posts.{does}
+use Rattle.mx_stations.specs.Turns.{Station}
+use Rattle.mx_stations.specs.Works.{HasTurned, MayLeave, SettlesIfDue}
+use Rattle.mx_jobs.specs.declared.worker.Ended.{Ended}
+use Rattle.mx_jobs.specs.declared.worker.Ended.TheVariants.{Broken, Done, GateShut, NotYet, Stopped}
+use Rattle.mx_jobs.specs.declared.worker.RunOptions.{RunOptions}
+
+-- an act for a job, by which no section is left, of one of n nodes: it asks, enters, empties its
+-- draft, reads or writes, or asks a node for records
+abbrev pub IsForJob : {M : Type 0} → ℕ → Act M → Type 0
+IsForJob n act.Ask = Unit {0}
+IsForJob n act.Enter = Unit {0}
+IsForJob n (act.Read register) = Unit {0}
+IsForJob n (act.Write register value) = Unit {0}
+IsForJob n act.Leave = ⊥
+IsForJob n act.Cancel = ⊥
+IsForJob n (act.Settle k) = ⊥
+IsForJob n act.Tick = ⊥
+IsForJob n (act.Want to) = to < n
+IsForJob n (act.Deliver from p) = ⊥
+IsForJob n act.Restart = Unit {0}
+
+module _ {H S M : Type 0} (core : Core H S M) where
+  -- these acts for a job, one after another
+  abbrev pub Acts : List (Act M) → Station core → Station core → Type 0
+  Acts [] s t = t ≡ s
+  Acts (a ∷ more) s t = IsForJob s.nodes a × Acts more (does core a s) t
+
+  -- some list of them
+  abbrev pub ActsForJob : Station core → Station core → Type 0
+  ActsForJob s t = (acts : List (Act M)) × Acts acts s t
+
+  -- the acts of a round: by some no section is left, and then one may be
+  pub record Serves (s t : Station core) : Type 0 where
+    pub acted : Station core
+    pub acts : ActsForJob s acted
+    pub leaves : MayLeave core acted t
+
+  -- One round: acts for the job, one turn of the station, and at its end the station settles, if
+  -- a section was left that makes it due.
+  pub record Round (every : ℕ) (s t : Station core) : Type 0 where
+    pub served : Station core
+    pub turned : Station core
+    pub serves : Serves s served
+    pub turns : HasTurned core served turned
+    pub settles : SettlesIfDue core every (length s.me.receipts) turned t
+
+  -- just so many rounds, one after another
+  abbrev pub Rounds : ℕ → ℕ → Station core → Station core → Type 0
+  Rounds every zero s t = t ≡ s
+  Rounds every (suc made) s t = (m : Station core) × Rounds every made s m × Round every m t
+
+  -- no more rounds than there are turns
+  pub record WorksAtMost (options : RunOptions) (s t : Station core) : Type 0 where
+    pub made : ℕ
+    pub most : made ≤ options.turns
+    pub rounds : Rounds options.settle_every made s t
+
+  -- fewer rounds, and then acts for a job that cannot go on
+  pub record BreaksOff (options : RunOptions) (s t : Station core) : Type 0 where
+    pub made : ℕ
+    pub fewer : made < options.turns
+    pub last : Station core
+    pub rounds : Rounds options.settle_every made s last
+    pub acts : ActsForJob last t
+
+  -- What a worker makes of its station that ends so. If it is not done yet, it has made all its
+  -- turns: just so many rounds.
+  abbrev pub Works : RunOptions → Ended → Station core → Station core → Type 0
+  Works options Done s t = WorksAtMost options s t
+  Works options NotYet s t = Rounds options.settle_every options.turns s t
+  Works options GateShut s t = t ≡ s
+  Works options (Broken why) s t = BreaksOff options s t
+  Works options (Stopped why) s t = WorksAtMost options s t

@@ -1,0 +1,237 @@
+//! A run: a thread for each station of a cluster, and what all have together.
+
+ghost use Rattle.std.specs.Prelude.{◌≡◌, ◌≢◌, ◌<◌, List, ℕ, length, replicate, IfErr, IfOk, IsErrAnd, OnOk};
+ghost use Rattle.mx_member.specs.Member.{MemberState};
+ghost use Rattle.mx_member.specs.declared.parcel.Parcel.{Parcel};
+ghost use Rattle.mx_stations.specs.Gathered.{OfOneTable};
+ghost use Rattle.mx_stations.specs.Posts.{Post};
+ghost use Rattle.mx_jobs.specs.declared.worker.RunOptions.{RunOptions as TheOptions};
+ghost use Rattle.mx_jobs.specs.Faults.{IfOfEnds};
+ghost use Rattle.mx_jobs.specs.Laws.{contents_of};
+ghost use Rattle.mx_jobs.specs.Runs.{AreDone, AreEach, AreNew, AreNotDone, HaveRun, IsAtRest, Opening, registers_at};
+
+use crate::assembly::Assembly;
+use crate::ends::join_all;
+use crate::faults::{RunFault, Unfinished};
+use crate::job::Job;
+use crate::threads::{Worker, all_taken, start_each};
+use crate::worker::RunOptions;
+use mx_letters::{Fair, Fates};
+use mx_nodelaws::Exclusion;
+use mx_stations::{Gathered, Station, gather};
+use std::alloc::{AllocError, Global};
+use std::sync::Arc;
+use std::thread::Threads;
+
+/// What a run came to: the receipts of all sections, in order, their journal, and what the jobs
+/// have become.
+#[derive(Drop)]
+pub struct Finished<J: Drop> {
+    pub gathered: Gathered,
+    pub jobs: Vec<J>,
+}
+
+/// What the threads of a run leave, all of which are done: the k-th station and the k-th job are
+/// what the k-th that were handed in have become.
+#[derive(Drop)]
+pub struct Ran<C: Exclusion, J: Drop> {
+    pub stations: Vec<Station<C>>,
+    pub jobs: Vec<J>,
+}
+
+/// Runs a cluster from its new stations, each in a thread of its own, and gathers what they have. The
+/// k-th job is that of node k, and the k-th fates are those of the parcels that reach it. A node
+/// goes through the sections of its job, and then answers the others until all jobs are done. No
+/// node makes more turns than the options say.
+///
+/// # Errors
+///
+/// `RunFault` says why the run came to no end. The stations and the jobs come back.
+pub fn run<
+    C: Exclusion + Send + 'static,
+    J: Job + Send + 'static,
+    F: Fates + Send + Drop + 'static,
+    R: Threads,
+>(
+    rt: &R,
+    alloc: Global,
+    stations: Vec<Station<C>>,
+    jobs: Vec<J>,
+    fates: Vec<F>,
+    options: RunOptions,
+) -> Result<Finished<J>, Unfinished<C, J>>
+where
+    C::Msg: Send + 'static,
+    C::Shape: Send + 'static,
+    requires new { AreNew C.core stations.items }
+    requires ready { (j : J) → J.ready j }
+    requires begins { (count : ℕ) → J.holds 0 (replicate count 0) }
+    ensures ran { IfOk result (λ out. HaveRun J.asks_for J.makes J.holds J.finished
+        (registers_at stations.items) jobs.items
+        out.gathered.receipts.items out.gathered.journal out.jobs.items) }
+    ensures law { IfOk result (λ out. J.holds (length out.gathered.receipts.items)
+        (contents_of (registers_at stations.items) out.gathered.journal)) }
+    ensures told { IfErr result (λ back. IfOfEnds back.fault
+        (AreNotDone J.asks_for J.makes J.holds J.finished C.core options
+        stations.items jobs.items back.fault back.stations.items back.jobs.items)) }
+    ensures not_each { length jobs.items ≢ length stations.items
+        → IsErrAnd result (λ back. (back.fault ≡ RunFault.NotAJobEach)
+        × (back.stations ≡ stations) × (back.jobs ≡ jobs)) }
+{
+    match run_stations(rt, alloc, stations, jobs, fates, options) {
+        Ok(ran) => finish(alloc, ran.stations, ran.jobs),
+        Err(left) => Err(left),
+    }
+}
+
+/// Runs stations, each in a thread of its own, until all jobs are done. The k-th job and the k-th
+/// fates are those of the k-th station.
+///
+/// # Errors
+///
+/// `RunFault` says why the run came to no end. The stations and the jobs come back.
+pub fn run_stations<
+    C: Exclusion + Send + 'static,
+    J: Job + Send + 'static,
+    F: Fates + Send + Drop + 'static,
+    R: Threads,
+>(
+    rt: &R,
+    alloc: Global,
+    mut stations: Vec<Station<C>>,
+    mut jobs: Vec<J>,
+    fates: Vec<F>,
+    options: RunOptions,
+) -> Result<Ran<C, J>, Unfinished<C, J>>
+where
+    C::Msg: Send + 'static,
+    C::Shape: Send + 'static,
+    requires { (j : J) → J.ready j }
+    ensures done { IfOk result (λ ran. AreDone J.asks_for J.makes J.holds J.finished C.core options
+        stations.items jobs.items ran.stations.items ran.jobs.items) }
+    ensures told { IfErr result (λ back. IfOfEnds back.fault
+        (AreNotDone J.asks_for J.makes J.holds J.finished C.core options
+        stations.items jobs.items back.fault back.stations.items back.jobs.items)) }
+    ensures not_each { length jobs.items ≢ length stations.items
+        → IsErrAnd result (λ back. (back.fault ≡ RunFault.NotAJobEach)
+        × (back.stations ≡ stations) × (back.jobs ≡ jobs)) }
+{
+    if jobs.len() != stations.len() {
+        return Err(Unfinished {
+            fault: RunFault::NotAJobEach,
+            stations,
+            jobs,
+        });
+    }
+    match run_all(rt, alloc, &mut stations, &mut jobs, fates, options) {
+        Ok(()) => Ok(Ran { stations, jobs }),
+        Err(fault) => Err(Unfinished {
+            fault,
+            stations,
+            jobs,
+        }),
+    }
+}
+
+/// Fair links to each of this many nodes, which lose and repeat nothing.
+pub fn fair_links(alloc: Global, count: usize) -> Result<Vec<Fair>, AllocError> {
+    let mut links = Vec::new(alloc);
+    for _node in 0..count {
+        links.push(Fair)?;
+    }
+    Ok(links)
+}
+
+/// Runs each station in a thread of its own, until all threads have ended.
+fn run_all<
+    C: Exclusion + Send + 'static,
+    J: Job + Send + 'static,
+    F: Fates + Send + Drop + 'static,
+    R: Threads,
+>(
+    rt: &R,
+    alloc: Global,
+    stations: &mut Vec<Station<C>>,
+    jobs: &mut Vec<J>,
+    mut fates: Vec<F>,
+    options: RunOptions,
+) -> Result<(), RunFault>
+where
+    C::Msg: Send + 'static,
+    C::Shape: Send + 'static,
+    requires { (j : J) → J.ready j }
+    ensures ok { length jobs.old.items ≡ length stations.old.items
+        → OnOk result (AreDone J.asks_for J.makes J.holds J.finished C.core options
+        stations.old.items jobs.old.items stations.new.items jobs.new.items) }
+    ensures err { length jobs.old.items ≡ length stations.old.items
+        → IfErr result (λ fault. IfOfEnds fault
+        (AreNotDone J.asks_for J.makes J.holds J.finished C.core options
+        stations.old.items jobs.old.items fault stations.new.items jobs.new.items)) }
+{
+    let Ok(gate) = Arc::new(alloc, Assembly::new(count_of(stations.as_slice()))) else {
+        return Err(RunFault::Memory);
+    };
+    let mut workers = Vec::new(alloc);
+    match start_each(rt, &mut workers, stations, jobs, &mut fates, &gate, options) {
+        Ok(()) => {}
+        Err(fault) => return Err(give_up(rt, workers, stations, jobs, &*gate, fault)),
+    }
+    match all_taken(jobs) {
+        Ok(()) => {}
+        Err(fault) => return Err(give_up(rt, workers, stations, jobs, &*gate, fault)),
+    }
+    join_all(rt, workers, stations, jobs)
+}
+
+/// Joins the threads that were started, where others could not be: the gate lets none of them
+/// begin.
+fn give_up<C: Exclusion, J: Job, R: Threads>(
+    rt: &R,
+    workers: Vec<Worker<C, J>>,
+    stations: &mut Vec<Station<C>>,
+    jobs: &mut Vec<J>,
+    gate: &Assembly,
+    fault: RunFault,
+) -> RunFault
+    ensures { result ≡ fault }
+{
+    gate.shut();
+    let _ = join_all(rt, workers, stations, jobs);
+    fault
+}
+
+/// How many nodes there are, 1 where there is no station.
+fn count_of<C: Exclusion>(stations: &[Station<C>]) -> u8
+    ensures { result < 22 }
+{
+    match stations.first() {
+        Some(station) => station.nodes(),
+        None => 1,
+    }
+}
+
+/// Gathers what the nodes did, all of which are done.
+fn finish<C: Exclusion, J: Job>(
+    alloc: Global,
+    stations: Vec<Station<C>>,
+    jobs: Vec<J>,
+) -> Result<Finished<J>, Unfinished<C, J>>
+    requires { OfOneTable stations.items }
+    ensures ok { (o : Opening C.Shape) (options : TheOptions)
+        (posts : List (Post (MemberState C) (Parcel C.Msg))) (all : List J)
+        → AreEach (IsAtRest C.core o) 0 posts
+        → AreDone J.asks_for J.makes J.holds J.finished C.core options posts all
+        stations.items jobs.items
+        → IfOk result (λ out. HaveRun J.asks_for J.makes J.holds J.finished o.registers all
+        out.gathered.receipts.items out.gathered.journal out.jobs.items) }
+    ensures err { IfErr result (λ back. back.fault ≡ RunFault.Memory) }
+{
+    match gather(alloc, stations) {
+        Ok(gathered) => Ok(Finished { gathered, jobs }),
+        Err(refused) => Err(Unfinished {
+            fault: RunFault::Memory,
+            stations: refused.stations,
+            jobs,
+        }),
+    }
+}

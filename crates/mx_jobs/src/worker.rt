@@ -1,0 +1,262 @@
+//! A worker: it takes a station through the sections of a job, and answers the other nodes until
+//! all are done.
+
+ghost use Rattle.std.specs.Prelude.{◌≡◌, ◌≤◌, ◌<◌, ◌↔◌, Bool, false, true, IfOk, OnErr, OnOk, IsTrue, length};
+ghost use Rattle.mx_member.specs.Member.{MemberState};
+ghost use Rattle.mx_member.specs.declared.parcel.Parcel.{Parcel};
+ghost use Rattle.mx_nodelaws.specs.Core.{IsInside};
+ghost use Rattle.mx_stations.specs.Posts.{Post};
+ghost use Rattle.mx_jobs.specs.Rounds.{ActsForJob, Round, Serves, Works};
+ghost use Rattle.mx_jobs.specs.Sections.{Advances, Reaches, Rests};
+
+use crate::job::Job;
+use crate::tries::{JobFault, Tried, try_leave, try_section};
+use mx_letters::Fates;
+use mx_nodelaws::{EnterFault, Exclusion, Phase};
+use mx_stamps::NodeId;
+use mx_stations::{Patience, Station, TakeFault, TurnReport, settle_if_due};
+
+/// When workers begin, and when they may stop. Each call may wait for other workers.
+pub trait Gate {
+    /// Whether the worker of this node may begin. It is asked once, before the first act.
+    fn arrive(&self, node: NodeId) -> bool;
+
+    /// Whether the worker of this node, whose job is done, may stop. It is asked on each turn.
+    fn done(&self, node: NodeId) -> bool;
+
+    /// Why all workers are to stop: the job of one cannot go on. It is asked after each turn.
+    fn broken(&self) -> Option<JobFault>;
+}
+
+/// How far a worker may go.
+#[derive(Clone, Copy, Debug, PartialEq, Eq)]
+pub struct RunOptions {
+    /// How many turns it makes at the most.
+    pub turns: u64,
+    /// After every so many sections of its own its station settles: the registers after all
+    /// sections that its journal has without gaps come in place of their records. With 0 it never
+    /// settles.
+    pub settle_every: u64,
+}
+
+/// How a worker ended.
+#[derive(Clone, Copy, Debug, PartialEq, Eq)]
+pub enum Ended {
+    /// The job is done, and the gate let the worker stop.
+    Done,
+    /// All turns were made.
+    NotYet,
+    /// The gate did not let it begin.
+    GateShut,
+    /// The job cannot go on.
+    Broken(JobFault),
+    /// The job of another cannot go on.
+    Stopped(JobFault),
+}
+
+/// How far a worker is: whether a section of its job is made and not left yet, which node it asked
+/// last for the records that it lacks, and how long it waits between two turns.
+#[derive(Drop)]
+struct Stance {
+    pending: bool,
+    wanted: NodeId,
+    patience: Patience,
+}
+
+/// Waits at the gate, and then works at the job for at most as many turns as the options say, under
+/// these fates of parcels. In each turn the acts that are due come first: it asks, enters, and
+/// inside makes the job's next section and leaves. If records are missing, it asks the next node in
+/// the circle for them. If memory is refused when it leaves, it tries again on the next turn. Then
+/// the station takes a turn, and settles if that is due.
+pub fn work<C: Exclusion, J: Job, G: Gate, F: Fates>(
+    station: &mut Station<C>,
+    job: &mut J,
+    gate: &G,
+    fates: &mut F,
+    options: RunOptions,
+) -> Ended
+    requires ready { (j : J) → J.ready j }
+    ensures works { Works C.core options result station.old station.new }
+    ensures done { result ≡ Ended.Done
+        → Advances J.asks_for J.makes J.holds C.core job.old station.old job.new station.new }
+    ensures finished { result ≡ Ended.Done → J.finished job.new }
+    ensures outside { result ≡ Ended.Done → IsInside C.core station.new.me.member.core → ⊥ }
+    ensures not_yet { result ≡ Ended.NotYet → (pending : Bool)
+        × Reaches J.asks_for J.makes J.holds C.core
+        pending job.old station.old job.new station.new }
+    ensures shut { result ≡ Ended.GateShut → job.new ≡ job.old }
+{
+    let node = station.node();
+    if !gate.arrive(node) {
+        return Ended::GateShut;
+    }
+    let mut stance = Stance {
+        pending: false,
+        wanted: node,
+        patience: Patience::new(),
+    };
+    for _turn in 0..options.turns {
+        match take_turn(station, job, &mut stance, fates, options.settle_every) {
+            Ok(idle) => {
+                if idle && !is_inside(station) && gate.done(node) {
+                    return Ended::Done;
+                }
+            }
+            Err(fault) => return Ended::Broken(fault),
+        }
+        if let Some(fault) = gate.broken() {
+            return Ended::Stopped(fault);
+        }
+    }
+    Ended::NotYet
+}
+
+/// Whether the node is inside.
+fn is_inside<C: Exclusion>(station: &Station<C>) -> bool
+    ensures { IsTrue result ↔ IsInside C.core station.now.me.member.core }
+{
+    matches!(station.phase(), Phase::Inside(_))
+}
+
+/// The acts that are due, and a turn of the station, which settles at its end if that is due.
+/// Returns whether the job has no more sections.
+fn take_turn<C: Exclusion, J: Job, F: Fates>(
+    station: &mut Station<C>,
+    job: &mut J,
+    stance: &mut Stance,
+    fates: &mut F,
+    every: u64,
+) -> Result<bool, JobFault>
+    requires ready { (j : J) → J.ready j }
+    ensures reaches { (first : J) (from : Post (MemberState C) (Parcel C.Msg))
+        → Reaches J.asks_for J.makes J.holds C.core
+        stance.old.pending first from job.old station.old
+        → OnOk result (Reaches J.asks_for J.makes J.holds C.core
+        stance.new.pending first from job.new station.new) }
+    ensures finished { IfOk result (λ idle. idle ≡ true
+        → (stance.new.pending ≡ false) × J.finished job.new) }
+    ensures round { OnOk result (Round C.core every station.old station.new) }
+    ensures broken { OnErr result (ActsForJob C.core station.old station.new) }
+{
+    let before = station.receipts().len();
+    let idle = act(station, job, stance)?;
+    let report = station.turn(fates);
+    settle_if_due(station, before, every);
+    rest(station, &mut stance.patience, &report, idle);
+    Ok(idle)
+}
+
+/// Waits after a turn of the station, which gave this report.
+fn rest<C: Exclusion>(
+    station: &Station<C>,
+    patience: &mut Patience,
+    report: &Result<TurnReport, TakeFault>,
+    idle: bool,
+) {
+    let asks = !idle && matches!(station.phase(), Phase::Idle);
+    patience.wait(station, report, asks);
+}
+
+/// The acts that are due. Returns whether the job has no more sections.
+fn act<C: Exclusion, J: Job>(
+    station: &mut Station<C>,
+    job: &mut J,
+    stance: &mut Stance,
+) -> Result<bool, JobFault>
+    requires ready { (j : J) → J.ready j }
+    ensures reaches { (first : J) (from : Post (MemberState C) (Parcel C.Msg))
+        → Reaches J.asks_for J.makes J.holds C.core
+        stance.old.pending first from job.old station.old
+        → OnOk result (Reaches J.asks_for J.makes J.holds C.core
+        stance.new.pending first from job.new station.new) }
+    ensures finished { IfOk result (λ idle. idle ≡ true
+        → (stance.new.pending ≡ false) × J.finished job.new) }
+    ensures serves { OnOk result (Serves C.core station.old station.new) }
+    ensures broken { OnErr result (ActsForJob C.core station.old station.new) }
+{
+    if stance.pending {
+        let has_left = try_leave(station);
+        stance.pending = !has_left;
+        return Ok(false);
+    }
+    go_on(station, job, stance)
+}
+
+/// Goes on with the job's next section, if there is one. Returns whether there is none.
+fn go_on<C: Exclusion, J: Job>(
+    station: &mut Station<C>,
+    job: &mut J,
+    stance: &mut Stance,
+) -> Result<bool, JobFault>
+    requires ready { (j : J) → J.ready j }
+    requires left { stance.old.pending ≡ false }
+    ensures reaches { OnOk result (Reaches J.asks_for J.makes J.holds C.core
+        stance.new.pending job.old station.old job.new station.new) }
+    ensures finished { IfOk result (λ idle. idle ≡ true
+        → (stance.new.pending ≡ false) × J.finished job.new) }
+    ensures serves { OnOk result (Serves C.core station.old station.new) }
+    ensures broken { OnErr result (ActsForJob C.core station.old station.new) }
+{
+    let asked = job.asks();
+    match &asked {
+        Some(registers) => {
+            next_section(station, job, registers.as_slice(), stance)?;
+            Ok(false)
+        }
+        None => Ok(true),
+    }
+}
+
+/// Asks, enters, and makes the next section, as far as each is due. If records are missing, it asks
+/// the next node in the circle for them.
+fn next_section<C: Exclusion, J: Job>(
+    station: &mut Station<C>,
+    job: &mut J,
+    registers: &[u8],
+    stance: &mut Stance,
+) -> Result<(), JobFault>
+    requires few { length registers.now ≤ 8 }
+    requires asked { J.asks_for job.old registers.now }
+    requires ready { (j : J) → J.ready j }
+    requires left { stance.old.pending ≡ false }
+    ensures reaches { OnOk result (Reaches J.asks_for J.makes J.holds C.core
+        stance.new.pending job.old station.old job.new station.new) }
+    ensures serves { OnOk result (Serves C.core station.old station.new) }
+    ensures broken { OnErr result (ActsForJob C.core station.old station.new) }
+{
+    let _ = station.ask();
+    if station.enter() == Err(EnterFault::NumbersSpent) {
+        return Err(JobFault::NumbersSpent);
+    }
+    match try_section(station, job, registers)? {
+        Tried::Left | Tried::Outside => {}
+        Tried::Pending => stance.pending = true,
+        Tried::Gap => want_next(station, stance),
+    }
+    Ok(())
+}
+
+/// Asks the next node in the circle for the records that are missing.
+fn want_next<C: Exclusion>(station: &mut Station<C>, stance: &mut Stance)
+    ensures rests { Rests C.core station.old station.new }
+    ensures acts { ActsForJob C.core station.old station.new }
+    ensures same { stance.new.pending ≡ stance.old.pending }
+{
+    let next = node_after(stance.wanted, station.node(), station.nodes());
+    station.want(next);
+    stance.wanted = next;
+}
+
+/// The next node in the circle of this many, of which `other` is one.
+fn node_after(node: NodeId, other: NodeId, nodes: u8) -> NodeId
+    requires { other < nodes }
+    ensures { result < nodes }
+{
+    match NodeId::of(node.get() + 1) {
+        Some(next) if next.get() < nodes => next,
+        _ => match NodeId::of(0) {
+            Some(first) if 0 < nodes => first,
+            _ => other,
+        },
+    }
+}
