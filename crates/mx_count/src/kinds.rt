@@ -6,9 +6,8 @@ ghost use Rattle.mx_plan.specs.Text.{Text};
 ghost use Rattle.mx_count.specs.Kinds.{is_refused_under, is_under, maekawa_kind, maekawa_names, raymond_kind, raymond_names, refusal_names, ricart_kind, ricart_names};
 
 use mx_letters::{MaekawaMsg, RaymondMsg, RicartMsg};
-use mx_member::Parcel;
+use mx_member::{Parcel, SentParcel};
 use mx_network::Outcome;
-use mx_stamps::NodeId;
 use mx_texts::Letter;
 
 /// A letter that has a kind.
@@ -130,11 +129,12 @@ pub(crate) fn refusal_names() -> &'static [&'static str]
 
 /// Whether a parcel is counted under a name. A letter that a node sends to itself is one of its
 /// own, and counts under that alone.
-pub(crate) fn is_under<M: Kinded>(name: &str, from: NodeId, to: NodeId, parcel: &Parcel<M>) -> bool
-    ensures { result ≡ is_under M.kind_text name.now (from, to, parcel.now) }
+pub(crate) fn is_under<M: Kinded>(name: &str, sent: &SentParcel<'_, M>) -> bool
+    ensures { result ≡ is_under M.kind_text name.now
+        (sent.now.from, sent.now.to, sent.now.parcel.now) }
 {
-    match parcel {
-        Parcel::Guard(_) if from.get() == to.get() => name == "own",
+    match sent.parcel {
+        Parcel::Guard(_) if sent.from.get() == sent.to.get() => name == "own",
         Parcel::Guard(letter) => is_either(name, "letters", letter.kind()),
         Parcel::Want(_) => is_either(name, "gossip", "want"),
         Parcel::Base(_) => is_either(name, "gossip", "base"),
