@@ -5,9 +5,8 @@ ghost use Rattle.std.specs.Str.{bytes_eq};
 ghost use Rattle.mx_texts.specs.Parts.{word_by};
 ghost use Rattle.mx_count.specs.Kinds.{is_refused_under, is_under, letter_names, other_names, refusal_names};
 
-use mx_member::Parcel;
+use mx_member::{Parcel, SentParcel};
 use mx_network::Outcome;
-use mx_stamps::NodeId;
 use mx_texts::Letter;
 
 /// The name of all letters that went from one node to another, in whose first line their count is.
@@ -45,11 +44,12 @@ pub(crate) fn refusal_names() -> &'static [&'static str]
 
 /// Whether a parcel is counted under a name. A letter that a node sends to itself is one of its
 /// own, and counts under that alone.
-pub(crate) fn is_under<M: Letter>(name: &str, from: NodeId, to: NodeId, parcel: &Parcel<M>) -> bool
-    ensures { result ≡ is_under (word_by M.parts) name.now (from, to, parcel.now) }
+pub(crate) fn is_under<M: Letter>(name: &str, sent: &SentParcel<'_, M>) -> bool
+    ensures { result ≡ is_under (word_by M.parts) name.now
+        (sent.now.from, sent.now.to, sent.now.parcel.now) }
 {
-    match parcel {
-        Parcel::Guard(_) if from.get() == to.get() => name == "own",
+    match sent.parcel {
+        Parcel::Guard(_) if sent.from.get() == sent.to.get() => name == "own",
         Parcel::Guard(letter) => is_either(name, "letters", letter.parts().word),
         Parcel::Want(_) => is_either(name, "gossip", "want"),
         Parcel::Base(_) => is_either(name, "gossip", "base"),

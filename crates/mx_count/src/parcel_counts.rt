@@ -73,8 +73,8 @@ where
         (drop (number + 1) cluster.now.sent)
         ≡ count_by (is_under (word_by C.Msg.parts) name.now) (drop number cluster.now.sent) }
 {
-    match cluster.parcel(number) {
-        Some(parcel) => u64::from(is_under(name, parcel.0, parcel.1, parcel.2)),
+    match cluster.sent_parcel(number) {
+        Some(sent) => u64::from(is_under(name, &sent)),
         None => unreachable!(),
     }
 }

@@ -11,7 +11,7 @@ ghost use Rattle.mx_play.specs.Sessions.{is_to, standing_lines, waiting_line, wa
 
 use crate::moment::Moment;
 use mx_commands::{add_closing, add_nodes, verdict_status};
-use mx_member::Parcel;
+use mx_member::SentParcel;
 use mx_network::Cluster;
 use mx_nodelaws::Exclusion;
 use mx_plan::Plan;
@@ -140,8 +140,8 @@ where
         ++ texts_from (waiting_line C.core (letter_text C.Msg.parts) plan.now to.now moment.now)
         (number + 1) (drop (number + 1) moment.now.cluster.sent)) }
 {
-    match moment.cluster().parcel(number) {
-        Some(parcel) => add_parcel(plan, to, moment, number, parcel, text),
+    match moment.cluster().sent_parcel(number) {
+        Some(sent) => add_parcel(plan, to, moment, number, &sent, text),
         None => unreachable!(),
     }
 }
@@ -152,17 +152,17 @@ fn add_parcel<C: Exclusion>(
     to: &Option<NodeId>,
     moment: &Moment<C>,
     number: u64,
-    parcel: (NodeId, NodeId, &Parcel<C::Msg>),
+    sent: &SentParcel<'_, C::Msg>,
     text: &mut String,
 ) -> Result<(), AllocError>
 where
     C::Msg: Letter,
     ensures { OnOk result (string_bytes text.new ≡ string_bytes text.old
         ++ waiting_line C.core (letter_text C.Msg.parts) plan.now to.now moment.now
-        number (parcel.entry.0, parcel.entry.1, parcel.entry.2.now)) }
+        number (sent.now.from, sent.now.to, sent.now.parcel.now)) }
 {
-    if is_waiting(to, moment, number, parcel.1) {
-        return add_parcel_line(plan, number, parcel.0, parcel.1, parcel.2, text);
+    if is_waiting(to, moment, number, sent.to) {
+        return add_parcel_line(plan, number, sent, text);
     }
     Ok(())
 }

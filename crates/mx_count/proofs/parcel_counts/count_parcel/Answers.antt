@@ -6,7 +6,7 @@ use Rattle.mx_count.proofs.parcel_counts.count_parcel.Goals as goal
 
 pub returns : goal.returns
 returns g c =
-    count_more (is_under (word_by g.C.Msg.Letter.parts) c.args.name.now) c.args.cluster.now.sent c.args.number (c.in-Some.parcel.0, c.in-Some.parcel.1, c.in-Some.parcel.2.now)
+    count_more (is_under (word_by g.C.Msg.Letter.parts) c.args.name.now) c.args.cluster.now.sent c.args.number (c.in-Some.sent.from, c.in-Some.sent.to, c.in-Some.sent.parcel.now)
     c.is_under.result c.from.result c.in-Some.ensures c.is_under.ensures c.from.ensures
 
 pub unreachable-requires : goal.unreachable-requires

@@ -11,7 +11,7 @@ cluster-requires g c = (search rules, search rules)
 pub returns : goal.returns
 returns g c =
     place_written (waiting_line g.C.Exclusion.core (letter_text g.C.Msg.Letter.parts) c.args.plan.now c.args.to.now c.args.moment.now) c.args.moment.now.cluster.sent c.args.number c.add_parcel.result
-    (c.in-Some.parcel.0, c.in-Some.parcel.1, c.in-Some.parcel.2.now)
+    (c.in-Some.sent.from, c.in-Some.sent.to, c.in-Some.sent.parcel.now)
     (string_bytes c.args.text.now) (string_bytes c.add_parcel.new.text)
     (ap (λ (k : ClusterState g.row.C.Denot g.row.C-Msg.Denot). slice_get k.sent c.args.number) (sym c.cluster.ensures) ∙ c.in-Some.ensures) c.add_parcel.ensures
 

@@ -14,7 +14,7 @@ not_shown b line text is = subst (λ (q : Bool). text ≡ text ++ (if q then lin
 pub returns : goal.returns
 returns g c =
     let m = c.args.moment.now in
-    let parcel = c.args.parcel in
-    not_shown (is_under_way m.fates c.args.number && is_to c.args.to.now parcel.1)
-    (parcel_line (letter_text g.C.Msg.Letter.parts) c.args.plan.now c.args.number (parcel.0, parcel.1, parcel.2.now))
+    let sent = c.args.sent.now in
+    not_shown (is_under_way m.fates c.args.number && is_to c.args.to.now sent.to)
+    (parcel_line (letter_text g.C.Msg.Letter.parts) c.args.plan.now c.args.number (sent.from, sent.to, sent.parcel.now))
     (string_bytes c.args.text.now) (sym c.is_waiting.ensures ∙ c.if-is_waiting.false)
