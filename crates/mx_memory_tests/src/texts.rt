@@ -80,10 +80,11 @@ fn base() -> Parcel<RicartMsg> {
 fn add_line(plan: &Plan, text: &mut String) -> Result<(), AllocError> {
     let zero = NodeId::default();
     let one = NodeId::of(1).unwrap_or(zero);
+    let parcel = want();
     let sent = SentParcel {
         from: zero,
         to: one,
-        parcel: &want(),
+        parcel: &parcel,
     };
     add_parcel_line(plan, 7, &sent, text)
 }
