@@ -7,7 +7,7 @@ use anyhow::{Result, bail};
 use arrayvec::ArrayVec;
 use mx_journal::{Base, Cell, Range};
 use mx_letters::{MaekawaMsg, RaymondMsg, RicartMsg};
-use mx_member::{Member, Parcel};
+use mx_member::{Member, Parcel, SentParcel};
 use mx_plan::Plan;
 use mx_ricart::Ricart;
 use mx_stamps::{NodeId, Stamp};
@@ -80,7 +80,13 @@ fn base() -> Parcel<RicartMsg> {
 fn add_line(plan: &Plan, text: &mut String) -> Result<(), AllocError> {
     let zero = NodeId::default();
     let one = NodeId::of(1).unwrap_or(zero);
-    add_parcel_line(plan, 7, zero, one, &want(), text)
+    let parcel = want();
+    let sent = SentParcel {
+        from: zero,
+        to: one,
+        parcel: &parcel,
+    };
+    add_parcel_line(plan, 7, &sent, text)
 }
 
 /// Appends a letter.

@@ -1,4 +1,4 @@
-//! Events that can't happen in a cluster, and the calls of a node alone.
+//! Events that can't happen in a cluster, parcels that were sent, and the calls of a node alone.
 
 use crate::given::node;
 use mx_letters::Outbox;
@@ -44,6 +44,27 @@ fn step_faults_and_clock(rt: HostRuntime) -> Result<(), Fail> {
     let all_refused = refuse_all(&mut two_nodes(rt.alloc())?);
     assert!(rt; all_refused);
     assert_eq!(rt; drawn_after_five(), Some((6, 2)));
+    Ok(())
+}
+
+/// Whether node 0, which asks, sends one request to node 1, of which both calls tell the same.
+fn tells_of_the_request(cluster: &mut Cluster<Ricart>) -> Result<bool, StepFault> {
+    cluster.advance(Event::Ask(node(0)))?;
+    let is_told = match cluster.parcel(0) {
+        Some(parcel) => parcel.0 == node(0) && parcel.1 == node(1),
+        None => false,
+    };
+    let is_named = match cluster.sent_parcel(0) {
+        Some(sent) => sent.from == node(0) && sent.to == node(1),
+        None => false,
+    };
+    Ok(is_told && is_named && cluster.parcel(1).is_none() && cluster.sent_parcel(1).is_none())
+}
+
+#[test]
+fn sent_parcel_is_told_by_both_calls(rt: HostRuntime) -> Result<(), Fail> {
+    let are_told = tells_of_the_request(&mut two_nodes(rt.alloc())?)?;
+    assert!(rt; are_told);
     Ok(())
 }
 
