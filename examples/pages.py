@@ -1,7 +1,7 @@
 """Runs the commands that a page of docs/ shows, and compares what they print with what the page has below them.
 
-Each block of commands is run by itself, at the top of the repository; what a reader keeps in /tmp is kept in a folder
-of its own. Below a block stands the text that it prints; where none stands, nothing may be printed.
+Each block of commands is run by itself, in a folder that has what is at the top of the repository. A block's /tmp is a
+room of the check. Below a block stands the text that it prints; where none stands, nothing may be printed.
 """
 import difflib
 import os
@@ -17,11 +17,11 @@ def content(path):
     return open(path, encoding="utf-8").read() if os.path.exists(path) else ""
 
 
-def run(commands, room, errors):
-    """The block as it has to stand in the page; none where its commands end badly. `errors` is where standard error
-    goes: to the text too, or elsewhere."""
+def run(commands, folder, room, errors):
+    """The block as it has to stand in the page, run in the folder; none where its commands end badly. `errors` is where
+    standard error goes: to the text too, or elsewhere."""
     words = ["bash", "-euo", "pipefail", "-c", commands.replace("/tmp/", room + "/")]
-    ended = subprocess.run(words, stdin=subprocess.DEVNULL, stdout=subprocess.PIPE, stderr=errors, cwd=ROOT)
+    ended = subprocess.run(words, stdin=subprocess.DEVNULL, stdout=subprocess.PIPE, stderr=errors, cwd=folder)
     printed = ended.stdout.decode().replace(room + "/", "/tmp/")
     if ended.returncode:
         print(f"{printed}status {ended.returncode}")
@@ -29,11 +29,11 @@ def run(commands, room, errors):
     return f"```sh\n{commands}```\n" + (f"\n```text\n{printed}```\n" if printed else "")
 
 
-def checks_of(path, room, errors):
+def checks_of(path, room, errors, folder=ROOT):
     """For each block of a page its first line, the page, and the block as it stands there and as it has to; and one
     more check, that each block of the page is read."""
     page = content(path)
-    checks = [(it[1].split("\n")[0], path, it[0], run(it[1], room, errors)) for it in BLOCK.finditer(page)]
+    checks = [(it[1].split("\n")[0], path, it[0], run(it[1], folder, room, errors)) for it in BLOCK.finditer(page)]
     fences = sum(shown.count("```") for _, _, shown, _ in checks)
     wanted = page.count("```") - 2 * page.count("```rust\n")
     return [*checks, ("a block that can't be read", "", str(wanted), str(fences or ""))]
