@@ -2,8 +2,10 @@
 //! that the first word names, and to `command` where it names none of the others.
 #![tactic(auto)]
 
+mod hints;
 mod kept;
 
+use crate::hints::tell_hint;
 use crate::kept::Kept;
 use mx_commands::command;
 use mx_count::count;
@@ -14,6 +16,7 @@ use mx_picture::picture;
 use mx_play::{Typed, play};
 use mx_scripts::event_file;
 use mx_views::replay_view;
+use std::alloc::AllocError;
 use std::io;
 use std::io::{BufWriter, IsTerminal, Write};
 use std::process::ExitCode;
@@ -56,21 +59,36 @@ where
     Typed::new(reader, is_terminal)
 }
 
-/// Runs the command line of the process. An `Err` means that memory ran out, or that an argument is
-/// not UTF-8.
+/// Runs the command line of the process. If its files are at fault, a reader at a terminal is told
+/// which command explains it. An `Err` means that memory ran out, or that an argument is not UTF-8.
 fn run_words<
     R: Files + Env + Clock + Input + AllocGlobal + Threads,
     O: Write + Drop,
-    E: Write + Drop,
+    E: Write + IsTerminal + Drop,
 >(rt: &R, out: O, err: E) -> io::Result<u8>
 where
     R::Reader: IsTerminal,
 {
     let alloc = rt.alloc();
     let given = given_words(rt)?;
-    let words = as_slices(alloc, given.as_slice())?;
+    let words = with_help(as_slices(alloc, given.as_slice())?)?;
+    let is_terminal = err.is_terminal();
     let mut out = Stream(BufWriter::new(alloc, out)?);
-    Ok(carry_out(rt, words.as_slice(), &mut out, &mut Stream(err)))
+    let mut err = Stream(err);
+    let status = carry_out(rt, words.as_slice(), &mut out, &mut err);
+    if status == 1 && is_terminal {
+        tell_hint(alloc, words.as_slice(), &mut err);
+    }
+    Ok(status)
+}
+
+/// The words, of which `help` is `--help`, and `help` before a command its option `--help`.
+fn with_help(mut words: Vec<&str>) -> Result<Vec<&str>, AllocError> {
+    if first_of(words.as_slice()) == "help" {
+        words.remove(0);
+        words.push("--help")?;
+    }
+    Ok(words)
 }
 
 /// The first word, or nothing where there is none.
