@@ -7,7 +7,10 @@ ghost use Rattle.mx_ricart.specs.Step.{ricart_core};
 use crate::telling::{back, call, expect, refused};
 use anyhow::{Result, bail};
 use arrayvec::ArrayVec;
-use mx_jobs::{Finished, Job, RunFault, RunOptions, Settings, Unfinished, fair_links, run, run_stations, stations};
+use mx_jobs::{
+    Finished, Job, RunFault, RunOptions, Settings, Unfinished, fair_links, run, run_stations,
+    stations,
+};
 use mx_journal::Write;
 use mx_letters::Fair;
 use mx_ricart::{Count, Ricart};
@@ -154,7 +157,10 @@ fn run_apart<R: Threads>(rt: &HostRuntime, threads: &R, shape: &Count) -> Result
     match &ended {
         Ok(ran) => {
             let nodes = usize::from(NODES);
-            expect("run_stations", ran.stations.len() == nodes && ran.jobs.len() == nodes)
+            expect(
+                "run_stations",
+                ran.stations.len() == nodes && ran.jobs.len() == nodes,
+            )
         }
         Err(left) => {
             look(rt, "run_stations", left)?;
