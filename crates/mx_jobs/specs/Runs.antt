@@ -98,7 +98,8 @@ module _ {J : Type 0} (AsksFor : J → List ℕ → Type 0)
     -- A worker that is done: sections of its job, one after another, led from this job to the one
     -- left, which has no more, and its rounds from this station to the one left, whose node is
     -- outside.
-    pub record IsDone (from : Station core) (job : J) (left : Station core) (after : J) : Type 0 where
+    pub record IsDone (from : Station core) (job : J) (left : Station core) (after : J)
+        : Type 0 where
       pub advanced : Advances AsksFor Makes Holds core job from after left
       pub finished : Finished after
       pub outside : IsInside core left.me.member.core → ⊥

@@ -39,10 +39,10 @@ pub struct Ran<C: Exclusion, J: Drop> {
     pub jobs: Vec<J>,
 }
 
-/// Runs a cluster from its new stations, each in a thread of its own, and gathers what they have. The
-/// k-th job is that of node k, and the k-th fates are those of the parcels that reach it. A node
-/// goes through the sections of its job, and then answers the others until all jobs are done. No
-/// node makes more turns than the options say.
+/// Runs a cluster from its new stations, each in a thread of its own, and gathers what they have.
+/// The k-th job is that of node k, and the k-th fates are those of the parcels that reach it. A
+/// node goes through the sections of its job, and then answers the others until all jobs are done.
+/// No node makes more turns than the options say.
 ///
 /// # Errors
 ///
