@@ -21,13 +21,14 @@ use Rattle.mx_cli.specs.Outputs.{refused_after}
 use Rattle.mx_io.specs.Told.{Telling}
 use Rattle.mx_stations.specs.declared.working.Worked.{Worked}
 use Rattle.mx_stations.specs.declared.working.Worked.TheVariants as worked
+use Rattle.mx_jobs.specs.Serial.{AreSerial}
 use Rattle.mx_live.specs.declared.halts.Halt.{Halt}
 use Rattle.mx_live.specs.declared.halts.Halt.TheVariants.{Plan, TooFewSections, TurnsSpent, GateShut, Writer, Memory}
 use Rattle.mx_live.specs.declared.threads.Orders.{Orders}
 use Rattle.mx_live.specs.Halts.{Fails, HasNone, InVain, InVainBy, IsWhy, RunsInVain, halt_of_stop}
 use Rattle.mx_live.specs.Workers.{orders_in}
 use Rattle.mx_live.specs.Shown.{live_text}
-use Rattle.mx_live.specs.Together.{AreSerial, ComeOf, HaveSections}
+use Rattle.mx_live.specs.Together.{ComeOf, HaveSections}
 use Rattle.mx_live.specs.Lives.{Ends, Fits, Halts, Prints, Shows}
 
 -- a worker that is not done has spent its turns, or was not let in

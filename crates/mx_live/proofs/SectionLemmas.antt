@@ -16,11 +16,12 @@ use Rattle.mx_stations.specs.declared.working.Worked.{Worked}
 use Rattle.mx_stations.specs.Gathered.{IsGathered, receipts_of}
 use Rattle.mx_stations.specs.Posts.{Post}
 use Rattle.mx_stations.specs.Turns.{Station}
+use Rattle.mx_jobs.specs.Serial.{AreSerial}
 use Rattle.mx_live.specs.declared.halts.Halt.{Halt}
 use Rattle.mx_live.specs.declared.halts.Halt.TheVariants.{Memory}
 use Rattle.mx_live.specs.declared.threads.Orders.{Orders}
 use Rattle.mx_live.specs.Halts.{HasNone, InVainBy}
-use Rattle.mx_live.specs.Together.{AreGathered, AreSerial, ComeOf, GatheredBy, HaveSections}
+use Rattle.mx_live.specs.Together.{AreGathered, ComeOf, GatheredBy, HaveSections}
 use Rattle.mx_live.specs.Workers.{AreDone, HaveRun, stations_of}
 use Rattle.mx_live.proofs.StationLemmas.{unmapped}
 use Rattle.mx_live.proofs.WorkerLemmas.{done_just, left_home, left_many}

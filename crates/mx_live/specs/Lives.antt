@@ -12,12 +12,13 @@ use Rattle.mx_io.specs.Told.{Telling}
 use Rattle.mx_io.specs.Outputs.{Held}
 use Rattle.mx_cli.specs.Reading.{IsPlanOf, Reads}
 use Rattle.mx_cli.specs.Told.{Seen}
+use Rattle.mx_jobs.specs.Serial.{AreSerial}
 use Rattle.mx_live.specs.declared.halts.Halt.{Halt}
 use Rattle.mx_live.specs.declared.halts.Halt.TheVariants.{Plan, TooFewSections, TurnsSpent, GateShut, Writer, Memory}
 use Rattle.mx_live.specs.Halts.{InVain, TellsHalt}
 use Rattle.mx_live.specs.Progress.{TellsProgress}
 use Rattle.mx_live.specs.Shown.{live_text}
-use Rattle.mx_live.specs.Together.{AreSerial, ComeOf, HaveSections}
+use Rattle.mx_live.specs.Together.{ComeOf, HaveSections}
 use Rattle.mx_live.specs.Workers.{orders_in}
 
 -- each node's sections fit into the plan

@@ -4,10 +4,11 @@ ghost use Rattle.std.specs.Prelude.{◌≡◌, ◌≤◌, ◌⊎◌, length, IfE
 ghost use Rattle.mx_stamps.specs.declared.limits.TheConstants.{MOST_NODES};
 ghost use Rattle.mx_cli.specs.LiveWords.{request_of};
 ghost use Rattle.mx_stations.specs.Gathered.{IsGathered, OfOneTable};
+ghost use Rattle.mx_jobs.specs.Serial.{AreSerial};
 ghost use Rattle.mx_live.specs.Halts.{EndInVain, HaltsIn, HasNone, RunsInVain};
 ghost use Rattle.mx_live.specs.Progress.{TellsProgress};
 ghost use Rattle.mx_live.specs.Stations.{AreAtRest};
-ghost use Rattle.mx_live.specs.Together.{AreGathered, AreSerial, ComeOf, HaveSections};
+ghost use Rattle.mx_live.specs.Together.{AreGathered, ComeOf, HaveSections};
 ghost use Rattle.mx_live.specs.Workers.{AreDone, AreLeft, orders_in, stations_of};
 
 use crate::assembly::{Assembly, MOST_LOOKS};
