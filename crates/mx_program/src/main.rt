@@ -84,10 +84,11 @@ where
 
 /// The words, of which `help` is `--help`, and `help` before a command its option `--help`.
 fn with_help(mut words: Vec<&str>) -> Result<Vec<&str>, AllocError> {
-    if first_of(words.as_slice()) == "help" {
-        words.remove(0);
-        words.push("--help")?;
+    if words.is_empty() || first_of(words.as_slice()) != "help" {
+        return Ok(words);
     }
+    words.remove(0);
+    words.push("--help")?;
     Ok(words)
 }
 
