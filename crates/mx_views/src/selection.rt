@@ -1,5 +1,8 @@
 //! What is shown of a run.
 
+ghost use Rattle.std.specs.Prelude.{◌≡◌};
+ghost use Rattle.mx_views.specs.Shown.{shows};
+
 use mx_events::Event;
 use mx_member::SentParcel;
 use mx_network::Cluster;
@@ -19,7 +22,9 @@ pub(crate) struct Selection<'a> {
 
 impl Selection<'_> {
     /// Whether what is of this node is shown.
-    pub(crate) fn shows_node(&self, node: NodeId) -> bool {
+    pub(crate) fn shows_node(&self, node: NodeId) -> bool
+        ensures { result ≡ shows self.now.node node }
+    {
         match self.node {
             Some(wanted) => wanted.get() == node.get(),
             None => true,

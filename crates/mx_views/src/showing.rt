@@ -1,6 +1,9 @@
 //! A run that is shown: events of a cluster, one after another.
 
-ghost use Rattle.std.specs.Prelude.{◌≡◌, IfOk};
+ghost use Rattle.std.specs.Prelude.{◌≡◌, [], Ok, true, false, length, string_bytes, IfOk, OnOk};
+ghost use Rattle.std.specs.Io.KnownBytes.{Appends};
+ghost use Rattle.mx_network.specs.Step.{RunsTo, step_of};
+ghost use Rattle.mx_views.specs.Shown.{PrintsClosing, closing_text};
 
 use crate::closing_lines::add_closing;
 use crate::event_json::add_event_json;
@@ -24,6 +27,11 @@ pub(crate) fn show<C: Exclusion, O: Output>(
 ) -> Result<u8, Stop>
 where
     C::Msg: Letter,
+    requires { length cluster.members ≡ length selection.now.plan.now.nodes }
+    ensures quiet { IfOk result (λ _.
+        selection.now.is_quiet ≡ true → selection.now.is_json ≡ false
+        → PrintsClosing C.core selection.now.plan.now selection.now.node events.now cluster
+        (O.written out.old) (O.written out.new)) }
     ensures zero { IfOk result (λ status. status ≡ 0) }
 {
     show_events(alloc, selection, &mut cluster, events, out)?;
@@ -40,6 +48,9 @@ fn show_events<C: Exclusion, O: Output>(
 ) -> Result<(), Stop>
 where
     C::Msg: Letter,
+    ensures runs { OnOk result (RunsTo C.core cluster.old events.now cluster.new) }
+    ensures quiet { selection.now.is_quiet ≡ true
+        → OnOk result (Appends (O.written out.old) (O.written out.new) []) }
 {
     let mut text = String::new(alloc);
     for (index, event) in events.iter().enumerate() {
@@ -57,6 +68,10 @@ fn show_closing<C: Exclusion, O: Output>(
     cluster: &Cluster<C>,
     out: &mut O,
 ) -> Result<u8, Stop>
+    requires { length cluster.now.members ≡ length selection.now.plan.now.nodes }
+    ensures text { IfOk result (λ _. selection.now.is_json ≡ false
+        → Appends (O.written out.old) (O.written out.new)
+        (closing_text C.core selection.now.plan.now selection.now.node cluster.now)) }
     ensures zero { IfOk result (λ status. status ≡ 0) }
 {
     let mut text = String::new(alloc);
@@ -75,6 +90,9 @@ fn show_event<C: Exclusion>(
 ) -> Result<(), Stop>
 where
     C::Msg: Letter,
+    ensures ok { OnOk result (step_of C.core cluster.old event.now ≡ Ok cluster.new) }
+    ensures quiet { selection.now.is_quiet ≡ true
+        → OnOk result (string_bytes text.new ≡ string_bytes text.old) }
 {
     let before = cluster.sent();
     match cluster.advance(*event) {

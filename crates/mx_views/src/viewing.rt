@@ -1,11 +1,14 @@
 //! `replay` with `--quiet`, `--node` or `--json`: from words, named bytes and two outputs to a
 //! status.
 
-ghost use Rattle.std.specs.Prelude.{◌≡◌, IsSome, IfOk};
+ghost use Rattle.std.specs.Prelude.{◌≡◌, Ok, true, false, option_map, IsSome, IfSome, IfOk};
+ghost use Rattle.mx_plan.specs.Events.{events_at};
 ghost use Rattle.mx_cli.specs.Words.{texts_of};
 ghost use Rattle.mx_cli.specs.Told.{Answers, seen};
 ghost use Rattle.mx_cli.specs.Closed.{IsRunStatus, PassesOn};
-ghost use Rattle.mx_views.specs.ViewWords.{request_asked, view_line};
+ghost use Rattle.mx_views.specs.Printed.{IsNodeOf, PrintsPlanned, PrintsView};
+ghost use Rattle.mx_views.specs.Shown.{PrintsClosingBy};
+ghost use Rattle.mx_views.specs.ViewWords.{request_asked, request_of, view_line};
 
 use crate::halts::{Halt, Stranger};
 use crate::selection::Selection;
@@ -31,6 +34,9 @@ pub fn replay_view<S: Source, O: Output, E: Output>(
     out: &mut O,
     err: &mut E,
 ) -> u8
+    ensures printed { IfSome (request_asked (texts_of words.entry.now)) (λ request.
+        result ≡ 0
+        → PrintsView (S.told source.old) request (O.written out.old) (O.written out.new)) }
     ensures passed { IsSome (request_asked (texts_of words.entry.now))
         → PassesOn (E.written err.old) (E.written err.new) (O.keeps_back out.new) result }
     ensures status { IsSome (request_asked (texts_of words.entry.now)) → IsRunStatus result }
@@ -52,6 +58,8 @@ fn view_and_close<S: Source, O: Output, E: Output>(
     out: &mut O,
     err: &mut E,
 ) -> u8
+    ensures printed { result ≡ 0 → PrintsView (S.told source.old) (request_of request.now)
+        (O.written out.old) (O.written out.new) }
     ensures passed { PassesOn (E.written err.old) (E.written err.new) (O.keeps_back out.new)
         result }
     ensures status { IsRunStatus result }
@@ -70,6 +78,8 @@ fn view_run<S: Source, O: Output>(
     source: &mut S,
     out: &mut O,
 ) -> Result<u8, Halt>
+    ensures printed { IfOk result (λ _. PrintsView (S.told source.old) (request_of request.now)
+        (O.written out.old) (O.written out.new)) }
     ensures zero { IfOk result (λ status. status ≡ 0) }
 {
     let both = fetch_named(alloc, source, &request.names)?;
@@ -78,7 +88,9 @@ fn view_run<S: Source, O: Output>(
 }
 
 /// The events that a text lists. One that is no JSON is named.
-fn events_in(alloc: Global, text: &[u8], plan: &Plan) -> Result<Vec<Event>, Stop> {
+fn events_in(alloc: Global, text: &[u8], plan: &Plan) -> Result<Vec<Event>, Stop>
+    ensures { IfOk result (λ events. events_at plan.now text.now ≡ Ok events.items) }
+{
     match read_events(alloc, text, plan) {
         Ok(events) => Ok(events),
         Err(fault) => Err(stop_named(Stop::from(fault), Named::Events)),
@@ -93,6 +105,8 @@ fn view_events<O: Output>(
     events: &[Event],
     out: &mut O,
 ) -> Result<u8, Halt>
+    ensures printed { IfOk result (λ _. PrintsPlanned plan.now events.now (request_of request.now)
+        (O.written out.old) (O.written out.new)) }
     ensures zero { IfOk result (λ status. status ≡ 0) }
 {
     let selection = Selection {
@@ -106,7 +120,10 @@ fn view_events<O: Output>(
 }
 
 /// The node of this name, where one is named.
-fn node_in(alloc: Global, plan: &Plan, name: Option<&str>) -> Result<Option<NodeId>, Halt> {
+fn node_in(alloc: Global, plan: &Plan, name: Option<&str>) -> Result<Option<NodeId>, Halt>
+    ensures { IfOk result
+        (IsNodeOf plan.now (option_map (λ text. text.now) name.entry)) }
+{
     let Some(name) = name else {
         return Ok(None);
     };
@@ -123,6 +140,10 @@ fn show_by_shape<O: Output>(
     events: &[Event],
     out: &mut O,
 ) -> Result<u8, Stop>
+    ensures quiet { IfOk result (λ _.
+        selection.now.is_quiet ≡ true → selection.now.is_json ≡ false
+        → PrintsClosingBy selection.now.plan.now selection.now.node events.now
+        (O.written out.old) (O.written out.new) selection.now.plan.now.shape) }
     ensures zero { IfOk result (λ status. status ≡ 0) }
 {
     by_shape!(

@@ -1,0 +1,32 @@
+use Rattle.std.proofs.Common.{◌≡◌, ◌∙◌, ◌<◌, ◌≤◌, arith, length, rules, string_bytes, sym}
+use Rattle.mx_texts.proofs.Places.{place_end}
+use Rattle.mx_views.specs.Shown.{shown_member}
+use Rattle.mx_views.proofs.closing_lines.add_nodes.Goals as goal
+
+pub add_node-requires : goal.add_node-requires
+add_node-requires g c =
+    let count : c.nodes-index-end.result ≡ length c.args.selection.now.plan.now.nodes = c.nodes-index-end.ensures.value in
+    let same : length c.args.cluster.now.members ≡ length c.args.selection.now.plan.now.nodes = c.requires in
+    let before : c.loop-index.index < c.nodes-index-end.result = c.loop-index-test.true in
+    (search rules, (omega (arith, before, c.nodes-index-end.ensures.high), omega (arith, before, count, same)))
+
+pub loop-index-preserved : goal.loop-index-preserved
+loop-index-preserved g c =
+    let count : c.nodes-index-end.result ≡ length c.args.selection.now.plan.now.nodes = c.nodes-index-end.ensures.value in
+    let same : length c.args.cluster.now.members ≡ length c.args.selection.now.plan.now.nodes = c.requires in
+    let before : c.loop-index.index < c.nodes-index-end.result = c.loop-index-test.true in
+    record {
+      in_range = omega (arith, before, count, same);
+      written = λ plain. c.loop-index.invariant.written plain ∙ c.in_ok-add_node.ensures plain;
+    }
+
+pub returns : goal.returns
+returns g c = λ plain.
+    let selection = c.args.selection.now in
+    let members = c.args.cluster.now.members in
+    let k = c.loop-index.index in
+    let count : c.nodes-index-end.result ≡ length selection.plan.now.nodes = c.nodes-index-end.ensures.value in
+    let same : length members ≡ length selection.plan.now.nodes = c.requires in
+    let past = c.loop-index-test.false in
+    let end : length members ≤ k = omega (arith, count, same, past) in
+    sym (c.loop-index.invariant.written plain ∙ place_end (shown_member g.C.Exclusion.core selection.plan.now selection.node) members k (string_bytes c.loop-index.text) end)

@@ -1,0 +1,41 @@
+use Rattle.std.proofs.Common.{◌≡◌, ◌∙◌, ◌+◌, ◌++◌, [], ◌∷◌, ℕ, List, ap, refl, subst, sym, take}
+use Rattle.std.specs.Io.KnownBytes.{Appends}
+use Rattle.std.proofs.lemmas.List.{take_all, take_more}
+use Rattle.mx_events.specs.declared.event.Event.{Event}
+use Rattle.mx_network.specs.Step.{RunsTo}
+use Rattle.mx_network.proofs.Keeps.{RunsTo-snoc}
+use Rattle.mx_cli.proofs.OutputLemmas.{Appends-nil, Appends-trans}
+use Rattle.mx_views.proofs.showing.show_events.Goals as goal
+
+pub loop-index-init : goal.loop-index-init
+loop-index-init g c = record {
+  runs = refl;
+  quiet = λ quiet. Appends-nil (g.O.Output.written c.args.out.now);
+}
+
+pub loop-index-preserved : goal.loop-index-preserved
+loop-index-preserved g c =
+    let i = c.loop-index.invariant in
+    let core = g.C.Exclusion.core in
+    let es = c.args.events.now in
+    let k = c.loop-index.index in
+    let event = c.index-events-index.result in
+    let so_far = take k es in
+    let more : take (k + 1) es ≡ so_far ++ event ∷ [] =
+    take_more es k event c.loop-index-test.true ∙ ap (λ (x : Event). so_far ++ x ∷ []) (sym c.index-events-index.is) in
+    record {
+      runs = subst (λ (l : List Event). RunsTo core c.args.cluster.now l c.show_event.new.cluster) (sym more)
+          (RunsTo-snoc core c.args.cluster.now c.loop-index.cluster c.show_event.new.cluster so_far event i.runs c.in_ok-show_event.ensures.ok);
+      quiet = λ quiet.
+          let bytes : c.as_bytes.result.now ≡ [] = c.as_bytes.ensures.value ∙ c.in_ok-show_event.ensures.quiet quiet ∙ c.clear.ensures.bytes in
+          let put = subst (λ (l : List ℕ). Appends (g.O.Output.written c.loop-index.out) (g.O.Output.written c.put.new.self) l) bytes c.in_ok-put.ensures.ok in
+          Appends-trans (g.O.Output.written c.args.out.now) (g.O.Output.written c.loop-index.out) (g.O.Output.written c.put.new.self) [] [] (i.quiet quiet) put;
+    }
+
+pub returns-clause-runs : goal.returns-clause-runs
+returns-clause-runs g c =
+    subst (λ (es : List Event). RunsTo g.C.Exclusion.core c.args.cluster.now es c.loop-index.cluster)
+    (take_all c.loop-index.index c.args.events.now c.loop-index-test.false) c.loop-index.invariant.runs
+
+pub returns-clause-quiet : goal.returns-clause-quiet
+returns-clause-quiet g c = c.loop-index.invariant.quiet
