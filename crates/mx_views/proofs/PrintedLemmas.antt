@@ -1,5 +1,6 @@
 -- What was printed, of what was read.
-use Rattle.std.proofs.Common.{◌≡◌, ℕ, true, false, Ok, Err, Result, Option, None, Some, List, IfOk, IfSome, subst, sym}
+use Rattle.std.proofs.Common.{◌≡◌, ◌++◌, ℕ, Bool, [], Ok, Err, Result, Option, None, Some, List, IfOk, IfSome, subst, sym}
+use Rattle.std.specs.Prelude.{if◌then◌else◌}
 use Rattle.std.specs.Io.KnownBytes.{Keeps}
 use Rattle.mx_events.specs.declared.event.Event.{Event}
 use Rattle.mx_nodelaws.specs.Core.{Core}
@@ -12,14 +13,15 @@ use Rattle.mx_plan.specs.Fields.{Fields}
 use Rattle.mx_plan.specs.Events.{events_at}
 use Rattle.mx_plan.specs.declared.shape.Shape.{Shape}
 use Rattle.mx_plan.specs.declared.shape.Shape.TheVariants.{Ricart, Maekawa, Raymond}
+use Rattle.mx_texts.specs.LetterTexts.{maekawa_text, raymond_text, ricart_text}
 use Rattle.mx_cli.specs.declared.planning.PlanAndText.{PlanAndText}
 use Rattle.mx_cli.specs.Reading.{ReadsBoth, plan_told, text_told}
 use Rattle.mx_io.specs.Outputs.{Held}
 use Rattle.mx_io.specs.Told.{Telling}
 use Rattle.mx_commands.specs.Runs.{at_rest}
 use Rattle.mx_cli.proofs.OutputLemmas.{Appends-keeps}
-use Rattle.mx_views.specs.Shown.{PrintsClosing, PrintsClosingBy, closing_text}
-use Rattle.mx_views.specs.Printed.{IsNodeOf, Lists, PrintsPlanned, PrintsView}
+use Rattle.mx_views.specs.Shown.{Prints, PrintsBy, closing_text, shown_from}
+use Rattle.mx_views.specs.Printed.{Lists, PrintsPlanned, PrintsView}
 use Rattle.mx_views.specs.ViewWords.{Request}
 
 listed_of : (o : Option Telling) (p : Fields) (bytes : Text) (es : List Event) → IfSome o (λ telling. telling ≡ Some bytes) → events_at p bytes ≡ Ok es
@@ -37,24 +39,20 @@ planned_printed a b told request both es read listed h =
 -- ---- what was kept back is passed on
 
 module _ (a b c : Held) (same : Keeps b c) where
-  closing_keeps : {H S M : Type 0} (core : Core H S M) (p : Fields) (node : Option ℕ) (es : List Event) (start : ClusterState S M)
-      → PrintsClosing core p node es start a b → PrintsClosing core p node es start a c
-  closing_keeps core p node es start h = (h.0, h.1, Appends-keeps a b c (closing_text core p node h.0) h.2 same)
+  prints_keep : {H S M : Type 0} (core : Core H S M) (letter : Fields → M → Text) (p : Fields) (node : Option ℕ) (is_quiet : Bool) (es : List Event) (start : ClusterState S M)
+      → Prints core letter p node is_quiet es start a b → Prints core letter p node is_quiet es start a c
+  prints_keep core letter p node is_quiet es start h =
+      (h.0, h.1, Appends-keeps a b c ((if is_quiet then [] else shown_from core letter p node 0 start es) ++ closing_text core p node h.0) h.2 same)
 
-  closing_keeps_by : (p : Fields) (node : Option ℕ) (es : List Event) (shape : Shape) → PrintsClosingBy p node es a b shape → PrintsClosingBy p node es a c shape
-  closing_keeps_by p node es (Ricart count) h = closing_keeps ricart_core p node es (at_rest ricart_core p count) h
-  closing_keeps_by p node es (Maekawa family) h = closing_keeps maekawa_core p node es (at_rest maekawa_core p family) h
-  closing_keeps_by p node es (Raymond tree) h = closing_keeps raymond_core p node es (at_rest raymond_core p tree) h
+  prints_keep_by : (p : Fields) (node : Option ℕ) (is_quiet : Bool) (es : List Event) (shape : Shape) → PrintsBy p node is_quiet es a b shape → PrintsBy p node is_quiet es a c shape
+  prints_keep_by p node is_quiet es (Ricart count) h = prints_keep ricart_core ricart_text p node is_quiet es (at_rest ricart_core p count) h
+  prints_keep_by p node is_quiet es (Maekawa family) h = prints_keep maekawa_core maekawa_text p node is_quiet es (at_rest maekawa_core p family) h
+  prints_keep_by p node is_quiet es (Raymond tree) h = prints_keep raymond_core raymond_text p node is_quiet es (at_rest raymond_core p tree) h
 
   pub view_keeps : (told : Text → Option Telling) (request : Request) → PrintsView told request a b → PrintsView told request a c
-  view_keeps told request (p, es, read, h) = (p, es, read, (h.0, h.1, λ quiet plain. closing_keeps_by p h.0 es p.shape (h.2 quiet plain)))
+  view_keeps told request (p, es, read, h) = (p, es, read, (h.0, h.1, λ plain. prints_keep_by p h.0 request.is_quiet es p.shape (h.2 plain)))
 
 -- the run has not stopped
 pub on_ok : {E A B : Type 0} (r : Result ℕ E) → (A → B) → IfOk r (λ _. A) → IfOk r (λ _. B)
 on_ok (Ok status) f h = f h
 on_ok (Err end) f h = tt
-
--- a node that is there, and what was printed of it
-pub node_printed : (p : Fields) (es : List Event) (request : Request) (node : Option ℕ) (a b : Held) → IsNodeOf p request.node node
-    → (request.is_quiet ≡ true → request.is_json ≡ false → PrintsClosingBy p node es a b p.shape) → PrintsPlanned p es request a b
-node_printed p es request node a b named h = (node, named, h)

@@ -1,5 +1,5 @@
 -- What is printed of the plan and the events that the words ask to show.
-use Rattle.std.specs.Prelude.{◌≡◌, ℕ, true, false, List, Option, Some, None, Ok, IfSome}
+use Rattle.std.specs.Prelude.{◌≡◌, ℕ, false, List, Option, Some, None, Ok, IfSome}
 use Rattle.mx_events.specs.declared.event.Event.{Event}
 use Rattle.mx_plan.specs.Text.{Text}
 use Rattle.mx_plan.specs.Fields.{Fields, node_of}
@@ -7,7 +7,7 @@ use Rattle.mx_plan.specs.Events.{events_at}
 use Rattle.mx_cli.specs.Reading.{IsPlanOf, plan_told, text_told}
 use Rattle.mx_io.specs.Outputs.{Held}
 use Rattle.mx_io.specs.Told.{Telling}
-use Rattle.mx_views.specs.Shown.{PrintsClosingBy}
+use Rattle.mx_views.specs.Shown.{PrintsBy}
 use Rattle.mx_views.specs.ViewWords.{Request}
 
 -- these events of the plan were read
@@ -25,12 +25,12 @@ abbrev pub IsNodeOf : Fields → Option Text → Option ℕ → Type 0
 IsNodeOf p None node = node ≡ None
 IsNodeOf p (Some name) node = (i : ℕ) × (node_of p name ≡ Some i) × (node ≡ Some i)
 
--- a run of these events of the plan was shown, of the node of this name or of all; a quiet view
--- without JSON is the closing lines, and nothing else
+-- a run of these events of the plan was shown, of the node of this name or of all; a view without
+-- JSON is the lines of its events, unless it is quiet, and the closing lines, and nothing else
 abbrev pub PrintsPlanned : Fields → List Event → Request → Held → Held → Type 0
 PrintsPlanned p es request old new =
     (node : Option ℕ) × IsNodeOf p request.node node
-    × (request.is_quiet ≡ true → request.is_json ≡ false → PrintsClosingBy p node es old new p.shape)
+    × (request.is_json ≡ false → PrintsBy p node request.is_quiet es old new p.shape)
 
 -- the plan and the events were read, and shown
 abbrev pub PrintsView : (Text → Option Telling) → Request → Held → Held → Type 0

@@ -1,7 +1,8 @@
 //! What is shown of a run.
 
-ghost use Rattle.std.specs.Prelude.{◌≡◌};
-ghost use Rattle.mx_views.specs.Shown.{shows};
+ghost use Rattle.std.specs.Prelude.{◌≡◌, false};
+ghost use Rattle.std.specs.Option.{option_map_or};
+ghost use Rattle.mx_views.specs.Shown.{addressee_of, shows, shows_event, shows_parcel};
 
 use mx_events::Event;
 use mx_member::SentParcel;
@@ -32,12 +33,17 @@ impl Selection<'_> {
     }
 
     /// Whether a parcel is shown: it is from or to a node that is shown.
-    pub(crate) fn shows_parcel<M>(&self, sent: &SentParcel<'_, M>) -> bool {
+    pub(crate) fn shows_parcel<M>(&self, sent: &SentParcel<'_, M>) -> bool
+        ensures { result ≡ shows_parcel self.now.node
+            (sent.now.from, sent.now.to, sent.now.parcel.now) }
+    {
         self.shows_node(sent.from) || self.shows_node(sent.to)
     }
 
     /// Whether an event is shown that has happened in this cluster.
-    pub(crate) fn shows_event<C: Exclusion>(&self, cluster: &Cluster<C>, event: &Event) -> bool {
+    pub(crate) fn shows_event<C: Exclusion>(&self, cluster: &Cluster<C>, event: &Event) -> bool
+        ensures { result ≡ shows_event self.now.node cluster.now.sent event.now }
+    {
         match event.node() {
             Some(node) => self.shows_node(node),
             None => self.shows_delivery(cluster, event),
@@ -45,7 +51,10 @@ impl Selection<'_> {
     }
 
     /// Whether a delivery is shown: an event of the addressee of the parcel.
-    fn shows_delivery<C: Exclusion>(&self, cluster: &Cluster<C>, event: &Event) -> bool {
+    fn shows_delivery<C: Exclusion>(&self, cluster: &Cluster<C>, event: &Event) -> bool
+        ensures { result ≡ option_map_or (shows self.now.node)
+            (addressee_of cluster.now.sent event.now) false }
+    {
         let Event::Deliver(number) = event else {
             return false;
         };

@@ -1,9 +1,11 @@
 //! A run that is shown: events of a cluster, one after another.
 
-ghost use Rattle.std.specs.Prelude.{◌≡◌, [], Ok, true, false, length, string_bytes, IfOk, OnOk};
+ghost use Rattle.std.specs.Prelude.{◌≡◌, ◌+◌, ◌<◌, ◌≤◌, List, [], ◌∷◌, ◌++◌, Ok, true, false, drop, length, string_bytes, IfOk, OnOk};
 ghost use Rattle.std.specs.Io.KnownBytes.{Appends};
 ghost use Rattle.mx_network.specs.Step.{RunsTo, step_of};
-ghost use Rattle.mx_views.specs.Shown.{PrintsClosing, closing_text};
+ghost use Rattle.mx_texts.specs.LetterTexts.{letter_text};
+ghost use Rattle.mx_texts.specs.Lines.{texts_from};
+ghost use Rattle.mx_views.specs.Shown.{Prints, closing_text, shown_entry, shown_from, shown_parcel, shown_text};
 
 use crate::closing_lines::add_closing;
 use crate::event_json::add_event_json;
@@ -12,6 +14,7 @@ use crate::selection::Selection;
 use mx_cli::{Fault, Stop};
 use mx_commands::verdict_status;
 use mx_io::Output;
+use mx_member::SentParcel;
 use mx_network::{Cluster, Entry, Event, StepFault};
 use mx_nodelaws::Exclusion;
 use mx_texts::{EventLine, Letter, add_parcel_line};
@@ -28,10 +31,9 @@ pub(crate) fn show<C: Exclusion, O: Output>(
 where
     C::Msg: Letter,
     requires { length cluster.members ≡ length selection.now.plan.now.nodes }
-    ensures quiet { IfOk result (λ _.
-        selection.now.is_quiet ≡ true → selection.now.is_json ≡ false
-        → PrintsClosing C.core selection.now.plan.now selection.now.node events.now cluster
-        (O.written out.old) (O.written out.new)) }
+    ensures prints { IfOk result (λ _. selection.now.is_json ≡ false
+        → Prints C.core (letter_text C.Msg.parts) selection.now.plan.now selection.now.node
+        selection.now.is_quiet events.now cluster (O.written out.old) (O.written out.new)) }
     ensures zero { IfOk result (λ status. status ≡ 0) }
 {
     show_events(alloc, selection, &mut cluster, events, out)?;
@@ -51,6 +53,10 @@ where
     ensures runs { OnOk result (RunsTo C.core cluster.old events.now cluster.new) }
     ensures quiet { selection.now.is_quiet ≡ true
         → OnOk result (Appends (O.written out.old) (O.written out.new) []) }
+    ensures lines { selection.now.is_quiet ≡ false → selection.now.is_json ≡ false
+        → OnOk result (Appends (O.written out.old) (O.written out.new)
+        (shown_from C.core (letter_text C.Msg.parts) selection.now.plan.now selection.now.node 0
+        cluster.old events.now)) }
 {
     let mut text = String::new(alloc);
     for (index, event) in events.iter().enumerate() {
@@ -93,6 +99,10 @@ where
     ensures ok { OnOk result (step_of C.core cluster.old event.now ≡ Ok cluster.new) }
     ensures quiet { selection.now.is_quiet ≡ true
         → OnOk result (string_bytes text.new ≡ string_bytes text.old) }
+    ensures lines { selection.now.is_quiet ≡ false → selection.now.is_json ≡ false
+        → OnOk result (string_bytes text.new ≡ string_bytes text.old
+        ++ shown_text (letter_text C.Msg.parts) selection.now.plan.now selection.now.node index
+        cluster.old cluster.new) }
 {
     let before = cluster.sent();
     match cluster.advance(*event) {
@@ -114,23 +124,44 @@ fn add_newest<C: Exclusion>(
 ) -> Result<(), AllocError>
 where
     C::Msg: Letter,
+    requires noted { 0 < length cluster.now.trace }
+    requires sent { before ≤ length cluster.now.sent }
+    ensures { selection.now.is_json ≡ false → (front : List Entry) (entry : Entry)
+        → cluster.now.trace ≡ front ++ entry ∷ [] → OnOk result (string_bytes text.new
+        ≡ string_bytes text.old
+        ++ (shown_entry selection.now.plan.now selection.now.node cluster.now.sent index entry
+        ++ texts_from
+        (shown_parcel (letter_text C.Msg.parts) selection.now.plan.now selection.now.node) before
+        (drop before cluster.now.sent))) }
 {
-    match cluster.trace().last() {
-        Some(entry) if selection.shows_event(cluster, &entry.event) => {
-            add_event(selection, index, entry, text)?;
-        }
-        _ => {}
-    }
+    add_event(selection, index, cluster, newest(cluster.trace()), text)?;
     add_parcels(selection, cluster, before, text)
 }
 
-/// Appends the line of an event.
-fn add_event(
+/// The newest item of a trace that has one.
+fn newest(trace: &[Entry]) -> &Entry
+    requires { 0 < length trace.now }
+    ensures { (front : List Entry) (entry : Entry) → trace.now ≡ front ++ entry ∷ []
+        → result.now ≡ entry }
+{
+    &trace[trace.len() - 1]
+}
+
+/// Appends the line of an event that has happened in this cluster, where it is shown.
+fn add_event<C: Exclusion>(
     selection: &Selection<'_>,
     index: u64,
+    cluster: &Cluster<C>,
     entry: &Entry,
     text: &mut String,
-) -> Result<(), AllocError> {
+) -> Result<(), AllocError>
+    ensures { selection.now.is_json ≡ false → OnOk result (string_bytes text.new
+        ≡ string_bytes text.old
+        ++ shown_entry selection.now.plan.now selection.now.node cluster.now.sent index entry.now) }
+{
+    if !selection.shows_event(cluster, &entry.event) {
+        return Ok(());
+    }
     if selection.is_json {
         return add_event_json(selection.plan, index, entry, text);
     }
@@ -151,6 +182,11 @@ fn add_parcels<C: Exclusion>(
 ) -> Result<(), AllocError>
 where
     C::Msg: Letter,
+    requires { before ≤ length cluster.now.sent }
+    ensures { selection.now.is_json ≡ false → OnOk result (string_bytes text.new
+        ≡ string_bytes text.old ++ texts_from
+        (shown_parcel (letter_text C.Msg.parts) selection.now.plan.now selection.now.node) before
+        (drop before cluster.now.sent)) }
 {
     for number in before..cluster.sent() {
         add_numbered(selection, cluster, number, text)?;
@@ -167,14 +203,38 @@ fn add_numbered<C: Exclusion>(
 ) -> Result<(), AllocError>
 where
     C::Msg: Letter,
+    requires { number < length cluster.now.sent }
+    ensures { selection.now.is_json ≡ false → OnOk result (string_bytes text.old
+        ++ texts_from
+        (shown_parcel (letter_text C.Msg.parts) selection.now.plan.now selection.now.node) number
+        (drop number cluster.now.sent)
+        ≡ string_bytes text.new
+        ++ texts_from
+        (shown_parcel (letter_text C.Msg.parts) selection.now.plan.now selection.now.node)
+        (number + 1) (drop (number + 1) cluster.now.sent)) }
 {
     match cluster.sent_parcel(number) {
-        Some(sent) if selection.shows_parcel(&sent) => {
-            if selection.is_json {
-                return add_parcel_json(selection.plan, number, &sent, text);
-            }
-            add_parcel_line(selection.plan, number, &sent, text)
-        }
-        _ => Ok(()),
+        Some(sent) => add_sent(selection, number, &sent, text),
+        None => unreachable!(),
     }
+}
+
+/// Appends the line of a parcel, where it is shown.
+fn add_sent<M: Letter>(
+    selection: &Selection<'_>,
+    number: u64,
+    sent: &SentParcel<'_, M>,
+    text: &mut String,
+) -> Result<(), AllocError>
+    ensures { selection.now.is_json ≡ false → OnOk result (string_bytes text.new
+        ≡ string_bytes text.old ++ shown_parcel (letter_text M.parts) selection.now.plan.now
+        selection.now.node number (sent.now.from, sent.now.to, sent.now.parcel.now)) }
+{
+    if !selection.shows_parcel(sent) {
+        return Ok(());
+    }
+    if selection.is_json {
+        return add_parcel_json(selection.plan, number, sent, text);
+    }
+    add_parcel_line(selection.plan, number, sent, text)
 }

@@ -1,13 +1,13 @@
 //! `replay` with `--quiet`, `--node` or `--json`: from words, named bytes and two outputs to a
 //! status.
 
-ghost use Rattle.std.specs.Prelude.{◌≡◌, Ok, true, false, option_map, IsSome, IfSome, IfOk};
+ghost use Rattle.std.specs.Prelude.{◌≡◌, Ok, false, option_map, IsSome, IfSome, IfOk};
 ghost use Rattle.mx_plan.specs.Events.{events_at};
 ghost use Rattle.mx_cli.specs.Words.{texts_of};
 ghost use Rattle.mx_cli.specs.Told.{Answers, seen};
 ghost use Rattle.mx_cli.specs.Closed.{IsRunStatus, PassesOn};
 ghost use Rattle.mx_views.specs.Printed.{IsNodeOf, PrintsPlanned, PrintsView};
-ghost use Rattle.mx_views.specs.Shown.{PrintsClosingBy};
+ghost use Rattle.mx_views.specs.Shown.{PrintsBy};
 ghost use Rattle.mx_views.specs.ViewWords.{request_asked, request_of, view_line};
 
 use crate::halts::{Halt, Stranger};
@@ -140,9 +140,8 @@ fn show_by_shape<O: Output>(
     events: &[Event],
     out: &mut O,
 ) -> Result<u8, Stop>
-    ensures quiet { IfOk result (λ _.
-        selection.now.is_quiet ≡ true → selection.now.is_json ≡ false
-        → PrintsClosingBy selection.now.plan.now selection.now.node events.now
+    ensures prints { IfOk result (λ _. selection.now.is_json ≡ false
+        → PrintsBy selection.now.plan.now selection.now.node selection.now.is_quiet events.now
         (O.written out.old) (O.written out.new) selection.now.plan.now.shape) }
     ensures zero { IfOk result (λ status. status ≡ 0) }
 {
