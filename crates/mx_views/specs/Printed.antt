@@ -18,7 +18,8 @@ Lists p (Some bytes) es = events_at p bytes ≡ Ok es
 -- the plan and the events of two names, where the source tells of them
 abbrev pub IsRunOf : (Text → Option Telling) → Text × Text → Fields → List Event → Type 0
 IsRunOf told names p es =
-    IsPlanOf (plan_told told names) p × IfSome (text_told told names) (λ telling. Lists p telling es)
+    IsPlanOf (plan_told told names) p
+    × IfSome (text_told told names) (λ telling. Lists p telling es)
 
 -- the node of this name in the plan, where one is named
 abbrev pub IsNodeOf : Fields → Option Text → Option ℕ → Type 0

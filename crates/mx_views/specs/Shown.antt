@@ -1,4 +1,4 @@
--- What is shown of a run of events: the closing lines alone or all, the lines of one node or of all.
+-- What is shown of a run: the closing lines alone or all lines, of one node or of all.
 use Rattle.std.specs.Prelude.{◌||◌, ℕ, ◌+◌, Bool, true, false, List, [], ◌∷◌, ◌++◌, Option, Some, None, Result, Ok, Err, drop, if◌then◌else◌, length, nat_eq, option_map, slice_get}
 use Rattle.std.specs.Option.{option_map_or}
 use Rattle.std.specs.Io.KnownBytes.{Appends}
@@ -101,7 +101,8 @@ module _ {H S M : Type 0} (core : Core H S M) (letter_text : Fields → M → Te
   abbrev pub Prints : Bool → List Event → ClusterState S M → Held → Held → Type 0
   Prints is_quiet es start old new =
       (g : ClusterState S M) × RunsTo core start es g
-      × Appends old new ((if is_quiet then [] else shown_from 0 start es) ++ closing_text core p node g)
+      × Appends old new
+      ((if is_quiet then [] else shown_from 0 start es) ++ closing_text core p node g)
 
 -- the same of events that lead from the cluster of a plan, at rest, by its algorithm
 abbrev pub PrintsBy : Fields → Option ℕ → Bool → List Event → Held → Held → Shape → Type 0
