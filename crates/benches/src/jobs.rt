@@ -25,7 +25,7 @@ const SETTINGS: Settings = Settings {
     registers: 1,
 };
 
-/// Adds 1 to register 0 in each of so many sections.
+/// Adds 1 to register 0, in this many sections.
 #[derive(Drop)]
 struct Adder {
     left: u64,

@@ -33,8 +33,8 @@ const LOST: u16 = 16;
 
 const TWICE: u16 = 16;
 
-/// A node takes only so many turns, so that the program ends whatever happens. After each 50 of its
-/// sections the registers come in place of the records in its journal, which stays short so.
+/// Bounds the turns of each node, so that the program ends in any case. A node settles after every
+/// 50 of its sections, which keeps its journal short.
 const OPTIONS: RunOptions = RunOptions {
     turns: 100_000_000,
     settle_every: 50,

@@ -10,7 +10,7 @@ use mx_ricart::{Count, Ricart};
 
 const NODES: u8 = 5;
 
-/// A node takes only so many turns, so that the program ends whatever happens.
+/// Bounds the turns of each node, so that the program ends in any case.
 const OPTIONS: RunOptions = RunOptions {
     turns: 100_000_000,
     settle_every: 0,

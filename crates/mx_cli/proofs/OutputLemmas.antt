@@ -56,7 +56,7 @@ pub told_ok : (o : Option Text) (takes : Bool) (a b : Held) → IfSome o (Append
 told_ok None takes a b h = tt
 told_ok (Some text) takes a b h = inl (refl, h)
 
--- ---- a fault that is told
+-- ---- a reported fault
 
 and_right : (t u : Bool) → u ≡ false → (t && u) ≡ false
 and_right true u e = e

@@ -6,7 +6,7 @@ use Rattle.mx_cli.specs.Reading.{is_dash}
 use Rattle.mx_cli.specs.declared.faults.Stop.{Stop}
 use Rattle.mx_cli.specs.declared.planning.PlanAndText.{PlanAndText}
 
--- one after the other, each once; where there is no plan, its name alone may have been
+-- both names were asked for once, the plan's first; if that failed, perhaps the plan's alone
 abbrev pub AsksInTurn : Text × Text → Option (List Text) → Option (List Text)
     → Result PlanAndText Stop → Type 0
 AsksInTurn names old new (Ok both) = Asks old new (names.0 ∷ names.1 ∷ [])

@@ -18,8 +18,8 @@ FallsShort takes_all old new status =
 abbrev pub IsRunStatus : ℕ → Type 0
 IsRunStatus status = (status ≡ 0) ⊎ (status ≡ 1) ⊎ (status ≡ 5)
 
--- what an output kept back is passed on where all went well, and where it is told why it did not;
--- it may not be where nothing is told since an output refused, status 1, or memory ran out, status 5
+-- An output passes on what it kept back, if the command succeeds or reports its fault. It may not,
+-- if an output refuses, so that nothing is reported (status 1), or if memory runs out (status 5).
 abbrev pub PassesOn : Held → Held → Bool → ℕ → Type 0
 PassesOn old new kept_back status =
     (kept_back ≡ false) ⊎ ((status ≡ 1) × Keeps old new) ⊎ (status ≡ 5)

@@ -79,7 +79,7 @@ head_text events sections parcels =
     tally_line (codes "events") events ++ tally_line (codes "sections") sections
     ++ tally_line (codes "parcels") parcels
 
--- what is counted of a cluster of which this many sections were entered, by the words of its
+-- the counts of a cluster in which this many sections were entered, for each word of the
 -- algorithm's letters
 abbrev pub tallies_text : {S M : Type 0} → (M → Text) → List Text → ClusterState S M → ℕ → Text
 tallies_text kind_text words g sections =
