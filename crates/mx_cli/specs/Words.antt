@@ -162,7 +162,8 @@ with_others line =
     let live = with_listed line (codes "live") in
     let drawn = with_listed (with_listed live (codes "draw")) (codes "script") in
     let shown = with_listed (with_listed drawn (codes "play")) (codes "picture") in
-    with_listed (with_listed shown (codes "count")) (codes "explain")
+    let counted = with_listed (with_listed shown (codes "count")) (codes "judge") in
+    with_listed counted (codes "explain")
 
 -- the commands whose words are read by the whole command line
 abbrev pub with_read : App → App

@@ -17,5 +17,7 @@ pub const ABOUT_PICTURE: &str =
 pub const ABOUT_COUNT: &str =
     "Counts the letters of each kind, the refusals by cause, and the longest wait";
 
+pub const ABOUT_JUDGE: &str = "Judges the trace of a run, whoever has written it";
+
 pub const ABOUT_EXPLAIN: &str =
     "Tells what is wrong in a plan and its events, where it stands, and what was expected";

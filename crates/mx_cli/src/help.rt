@@ -29,11 +29,12 @@ pub(crate) const MX_EXAMPLE: &str =
   mx explain plan.json events.json
   mx picture plan.json events.json > picture.svg
   mx count plan.json events.json
+  mx replay plan.json events.json --json | mx judge plan.json -
   mx play plan.json
   mx draw plan.json --seed 1 --steps 100 > drawn.json
   mx script plan.json script.txt > scripted.json
   mx explore plan.json --seed 1 --steps 1000
-  mx live plan.json --sections 3 --seed 1 --turns 10000000
+  mx live plan.json --sections 3
 
 A name - is standard input. `mx COMMAND --help` tells what a command reads; docs/FORMATS.md has all formats.
 
@@ -102,7 +103,7 @@ pub(crate) const LIVE_EXAMPLE: &str =
 
   plan.json    {\"algorithm\":\"ricart\",\"nodes\":[\"a\",\"b\",\"c\"],\"registers\":[\"count\"],\"sections\":10}
 
-  mx live plan.json --sections 3 --seed 1 --turns 10000000
+  mx live plan.json --sections 3
 
 prints
 
@@ -110,7 +111,8 @@ prints
   gapless 9
   count=9
 
-The links between the threads lose a parcel in 16 and repeat one in 16, as the seed draws it. The first line
+The links between the threads lose a parcel in 16 and repeat one in 16, as the seed draws it (`--seed`, 1 if it
+is not given). Each node may take 10000000 turns, or as many as `--turns` says. The first line
 counts the receipts of the sections that were left; then comes up to which number the gathered journal has no
 gap, and what it shows of each register. Nothing is printed where a node is not done once its turns are spent:
 `mx: turns spent`, status 3. The plan has to allow as many sections as all nodes together want, else

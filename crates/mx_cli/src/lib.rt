@@ -18,7 +18,9 @@ mod telling;
 mod tips;
 mod words;
 
-pub use about::{ABOUT_COUNT, ABOUT_DRAW, ABOUT_EXPLAIN, ABOUT_PICTURE, ABOUT_PLAY, ABOUT_SCRIPT};
+pub use about::{
+    ABOUT_COUNT, ABOUT_DRAW, ABOUT_EXPLAIN, ABOUT_JUDGE, ABOUT_PICTURE, ABOUT_PLAY, ABOUT_SCRIPT,
+};
 pub use arguments::{
     events_arg, file_arg, flag_arg, number_arg, plan_arg, seed_arg, steps_arg, text_arg,
 };

@@ -3,16 +3,22 @@
 ghost use Rattle.std.specs.Prelude.{◌≡◌, IfOk, option_map};
 ghost use Rattle.clap.specs.Words.{found_of, rows_of, subcommand_rows_of};
 ghost use Rattle.mx_cli.specs.Words.{Asks, IsArgument, IsCommand, IsLine, texts_of};
-ghost use Rattle.mx_cli.specs.LiveWords.{live_app, live_in, live_line, request_asked, request_in, request_of, progress_rule, sections_rule, settle_in, settle_rule, turns_rule};
+ghost use Rattle.mx_cli.specs.LiveWords.{link_seed_rule, live_app, live_in, live_line, number_or, request_asked, request_in, request_of, progress_rule, sections_rule, settle_rule, turns_rule};
 
 use crate::about::ABOUT_LIVE;
-use crate::arguments::{flag_arg, number_arg, seed_arg};
+use crate::arguments::{flag_arg, number_arg};
 use crate::help;
 use crate::line::{line_of, matches_in, plan_command, with_arg};
 use crate::words::{is_given, number_at, text_at};
 use clap::{Arg, ArgMatches, Command, Error};
 use mx_stamps::MOST_SECTIONS;
 use std::alloc::{AllocError, Global};
+
+/// The seed, if none is given.
+const SEED: u64 = 1;
+
+/// How many turns each node may take, if nothing is said of that.
+const TURNS: u64 = 10_000_000;
 
 /// What is to be run: the name of a plan, how many sections each node is to have, the seed of the
 /// first node's links, how many turns each node may take, after how many of its sections it
@@ -34,11 +40,19 @@ fn sections_arg<'a>(alloc: Global) -> Arg<'a>
     number_arg(alloc, "sections", help, MOST_SECTIONS).required(true)
 }
 
+fn link_seed_arg<'a>(alloc: Global) -> Arg<'a>
+    ensures { IsArgument link_seed_rule result }
+{
+    let help = "The seed that is drawn from, a whole number of 64 bits; 1 if not given";
+    number_arg(alloc, "seed", help, u64::MAX)
+}
+
 fn turns_arg<'a>(alloc: Global) -> Arg<'a>
     ensures { IsArgument turns_rule result }
 {
-    let help = "How many turns each node may take, a whole number of 64 bits";
-    number_arg(alloc, "turns", help, u64::MAX).required(true)
+    let help =
+        "How many turns each node may take, a whole number of 64 bits; 10000000 if not given";
+    number_arg(alloc, "turns", help, u64::MAX)
 }
 
 fn settle_arg<'a>(alloc: Global) -> Arg<'a>
@@ -61,7 +75,7 @@ fn live_command<'a>(alloc: Global) -> Result<Command<'a>, AllocError>
 {
     let begun = plan_command(alloc, "live", ABOUT_LIVE, help::LIVE_EXAMPLE);
     let with_sections = with_arg(begun, sections_arg(alloc));
-    let with_seed = with_arg(with_sections, seed_arg(alloc));
+    let with_seed = with_arg(with_sections, link_seed_arg(alloc));
     let with_turns = with_arg(with_seed, turns_arg(alloc));
     let with_settle = with_arg(with_turns, settle_arg(alloc));
     with_arg(with_settle, progress_arg(alloc))
@@ -102,25 +116,19 @@ fn live_in<'a>(matches: &ArgMatches<'a>) -> Option<LiveRequest<'a>>
     let Some(sections) = number_at(matches, "sections") else {
         return None;
     };
-    let Some(seed) = number_at(matches, "seed") else {
-        return None;
-    };
-    let Some(turns) = number_at(matches, "turns") else {
-        return None;
-    };
     Some(LiveRequest {
         plan,
         sections,
-        seed,
-        turns,
-        settle: settle_at(matches),
+        seed: number_or(matches, "seed", SEED),
+        turns: number_or(matches, "turns", TURNS),
+        settle: number_or(matches, "settle", 0),
         progress: is_given(matches, "progress"),
     })
 }
 
-/// The number that was given for `--settle`, or 0.
-fn settle_at(matches: &ArgMatches<'_>) -> u64
-    ensures { result ≡ settle_in (rows_of (found_of matches.now)) }
+/// The number that was given for an option, or another.
+fn number_or(matches: &ArgMatches<'_>, id: &str, other: u64) -> u64
+    ensures { result ≡ number_or id.now other (rows_of (found_of matches.now)) }
 {
-    number_at(matches, "settle").unwrap_or(0)
+    number_at(matches, id).unwrap_or(other)
 }

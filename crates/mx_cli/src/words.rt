@@ -7,7 +7,8 @@ ghost use Rattle.mx_cli.specs.Words.{check_in, exploration_at, explore_in, explo
 ghost use Rattle.mx_cli.specs.Words.{Asks, IsLine, request_asked, request_in, request_of, texts_of};
 
 use crate::about::{
-    ABOUT_COUNT, ABOUT_DRAW, ABOUT_EXPLAIN, ABOUT_LIVE, ABOUT_PICTURE, ABOUT_PLAY, ABOUT_SCRIPT,
+    ABOUT_COUNT, ABOUT_DRAW, ABOUT_EXPLAIN, ABOUT_JUDGE, ABOUT_LIVE, ABOUT_PICTURE, ABOUT_PLAY,
+    ABOUT_SCRIPT,
 };
 use crate::arguments::{events_arg, flag_arg, seed_arg, steps_arg, text_arg};
 use crate::help;
@@ -114,7 +115,8 @@ fn with_others<'a>(
     let with_play = with_listed(alloc, with_script, "play", ABOUT_PLAY);
     let with_picture = with_listed(alloc, with_play, "picture", ABOUT_PICTURE);
     let with_count = with_listed(alloc, with_picture, "count", ABOUT_COUNT);
-    with_listed(alloc, with_count, "explain", ABOUT_EXPLAIN)
+    let with_judge = with_listed(alloc, with_count, "judge", ABOUT_JUDGE);
+    with_listed(alloc, with_judge, "explain", ABOUT_EXPLAIN)
 }
 
 /// The command line with a command of this name, none of whose arguments is read.

@@ -72,7 +72,7 @@ fn run_alone<R: Threads + Clock>(rt: &R, alloc: Global, seed: &str, turns: &str)
 
 /// One node alone sends letters to itself, and no other thread has a part in that: what its links
 /// lose and repeat, by their seed, decides how many turns it takes. They are those that
-/// `examples/alone.py` takes, a model of one station.
+/// `tests/alone.py` takes, a model of one station.
 #[test]
 fn one_node_alone_takes_the_turns_of_its_seed(rt: HostRuntime) {
     for (seed, fewer, turns) in [

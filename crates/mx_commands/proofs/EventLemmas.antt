@@ -1,153 +1,157 @@
 -- Events that were read name nodes of the plan.
-use Rattle.std.proofs.Common.{◌≡◌, ◌<◌, ◌+◌, ℕ, Bool, true, false, List, [], ◌∷◌, Option, Some, None, Result, Ok, Err, length, subst, refl, nat_lt}
-use Rattle.std.specs.Prelude.{◌&&◌, if◌then◌else◌, position}
-use Rattle.std.specs.Option.{option_map_or}
+use Rattle.std.proofs.Common.{◌≡◌, ◌<◌, ◌+◌, ℕ, Bool, true, false, List, [], ◌∷◌, Option, Some, None, Result, Ok, Err, IfOk, IfSome, length, subst, refl, nat_lt, option_map}
+use Rattle.std.specs.Prelude.{if◌then◌else◌, position}
+use Rattle.std.specs.Option.{option_and_then, option_map_or}
 use Rattle.std.specs.Str.{bytes_eq}
 use Rattle.std.proofs.lemmas.List.Quantifiers.{position-Some}
 use Rattle.serde_json.specs.Data.{Data}
+use Rattle.mx_events.specs.Arguments.{arguments_of, event_of, node_in, number_in, register_in}
+use Rattle.mx_events.specs.declared.argument.Argument.{Argument}
+use Rattle.mx_events.specs.declared.argument.Argument.TheVariants.{Node, Register, Number}
+use Rattle.mx_events.specs.declared.argument.ArgumentKind.{ArgumentKind}
+use Rattle.mx_events.specs.declared.argument.ArgumentKind.TheVariants as wanted
 use Rattle.mx_events.specs.declared.event.Event.{Event}
-use Rattle.mx_events.specs.declared.event.Event.TheVariants.{Ask, Enter, Leave, Cancel, Tick, Settle, Restart}
+use Rattle.mx_events.specs.declared.event.Event.TheVariants.{Ask, Enter, Read, Write, Leave, Cancel, Tick, Want, Settle, Deliver, Restart}
 use Rattle.mx_events.specs.declared.kind.EventKind.{EventKind}
 use Rattle.mx_events.specs.declared.kind.EventKind.TheVariants as kind
-use Rattle.mx_plan.specs.Text.{Text}
 use Rattle.mx_plan.specs.Fields.{Fields}
-use Rattle.mx_plan.specs.NameLists.{is_name_value}
+use Rattle.mx_plan.specs.NameLists as names
 use Rattle.mx_plan.specs.Values.{and_then, each_from, elements, list_in, number_of, text_of, value_of}
-use Rattle.mx_plan.specs.Events.{acting, event_of, events_at, events_from, events_of, few, kind_in, listed, misfit, node_in, reading, register_in, settling, wanting, with_one, with_two, with_three, writing_of}
+use Rattle.mx_plan.specs.Events.{argument_in, arguments_in, events_at, events_from, events_of, few, have_form, kind_in, listed}
+use Rattle.mx_plan.specs.Events as read
 use Rattle.mx_plan.specs.declared.place.Place.TheVariants as place
 use Rattle.mx_plan.specs.declared.faults.PlanFault.{PlanFault}
-use Rattle.mx_plan.specs.declared.faults.PlanFault.TheVariants.{NotJson, NotPlan, UnknownName}
 use Rattle.mx_commands.specs.Runs.{NamesNodes, AllNameNodes}
 
+-- what holds of a value, and what then holds of what is made of it
+module _ {A B : Type 0} (P : A → Type 0) (Q : B → Type 0) where
+  step : (r : Result A PlanFault) (f : A → Result B PlanFault) → IfOk r P → ((a : A) → P a → IfOk (f a) Q) → IfOk (and_then r f) Q
+  step (Ok a) f holds next = next a holds
+  step (Err fault) f holds next = tt
+
+  look : (o : Option A) (f : A → Result B PlanFault) (fault : PlanFault) → IfSome o P → ((a : A) → P a → IfOk (f a) Q) → IfOk (option_map_or f o (Err fault)) Q
+  look (Some a) f fault holds next = next a holds
+  look None f fault holds next = tt
+
+  go_on : (o : Option A) (f : A → Option B) → IfSome o P → ((a : A) → P a → IfSome (f a) Q) → IfSome (option_and_then f o) Q
+  go_on (Some a) f holds next = next a holds
+  go_on None f holds next = tt
+
+  end : (o : Option A) (f : A → B) → IfSome o P → ((a : A) → P a → Q (f a)) → IfSome (option_map f o) Q
+  end (Some a) f holds next = next a holds
+  end None f holds next = tt
+
+abbrev Any : {A : Type 0} → A → Type 0
+Any _ = Unit {0}
+
+any : {A : Type 0} (o : Option A) → IfSome o Any
+any (Some a) = tt
+any None = tt
+
+any_number : (r : Result ℕ PlanFault) → IfOk r Any
+any_number (Ok n) = tt
+any_number (Err fault) = tt
+
+module _ (n : ℕ) where
+  abbrev Below : ℕ → Type 0
+  Below i = i < n
+
+  -- what is made of arguments names nodes below n where these do
+  abbrev Given : Argument → Type 0
+  Given (Node i) = Below i
+  Given (Register j) = Unit {0}
+  Given (Number m) = Unit {0}
+
+  abbrev AllGiven : List Argument → Type 0
+  AllGiven [] = Unit {0}
+  AllGiven (a ∷ rest) = Given a × AllGiven rest
+
+  node : (a : Argument) → Given a → IfSome (node_in a) Below
+  node (Node i) lt = lt
+  node (Register j) lt = tt
+  node (Number m) lt = tt
+
+  made : (k : EventKind) (given : List Argument) → AllGiven given → IfSome (event_of k given) (NamesNodes n)
+  made kind.Ask (a ∷ []) h = end Below (NamesNodes n) (node_in a) Ask (node a h.0) (λ i lt. lt)
+  made kind.Enter (a ∷ []) h = end Below (NamesNodes n) (node_in a) Enter (node a h.0) (λ i lt. lt)
+  made kind.Leave (a ∷ []) h = end Below (NamesNodes n) (node_in a) Leave (node a h.0) (λ i lt. lt)
+  made kind.Cancel (a ∷ []) h = end Below (NamesNodes n) (node_in a) Cancel (node a h.0) (λ i lt. lt)
+  made kind.Tick (a ∷ []) h = end Below (NamesNodes n) (node_in a) Tick (node a h.0) (λ i lt. lt)
+  made kind.Restart (a ∷ []) h = end Below (NamesNodes n) (node_in a) Restart (node a h.0) (λ i lt. lt)
+  made kind.Deliver (a ∷ []) h = end Any (NamesNodes n) (number_in a) Deliver (any (number_in a)) (λ m is. tt)
+  made kind.Read (a ∷ b ∷ []) h =
+      go_on Below (NamesNodes n) (node_in a) _ (node a h.0) (λ i lt. end Any (NamesNodes n) (register_in b) (Read i) (any (register_in b)) (λ j is. lt))
+  made kind.Settle (a ∷ b ∷ []) h =
+      go_on Below (NamesNodes n) (node_in a) _ (node a h.0) (λ i lt. end Any (NamesNodes n) (number_in b) (Settle i) (any (number_in b)) (λ m is. lt))
+  made kind.Want (a ∷ b ∷ []) h =
+      go_on Below (NamesNodes n) (node_in a) _ (node a h.0) (λ i lt. end Below (NamesNodes n) (node_in b) (Want i) (node b h.1.0) (λ j less. (lt, less)))
+  made kind.Write (a ∷ b ∷ c ∷ []) h =
+      go_on Below (NamesNodes n) (node_in a) _ (node a h.0) (λ i lt.
+      go_on Any (NamesNodes n) (register_in b) _ (any (register_in b)) (λ j is. end Any (NamesNodes n) (number_in c) (Write i j) (any (number_in c)) (λ m is. lt)))
+  made _ _ h = tt
+
 module _ (p : Fields) where
-  -- what is read names nodes of the plan, if anything is
-  abbrev Named : Result Event PlanFault → Type 0
-  Named (Ok e) = NamesNodes (length p.nodes) e
-  Named (Err fault) = Unit {0}
-
-  either : (b : Bool) (x y : Result Event PlanFault) → Named x → Named y → Named (if b then x else y)
-  either true x y first second = first
-  either false x y first second = second
-
-  with_number : (o : Option ℕ) (make : ℕ → Result Event PlanFault) (fault : PlanFault) → ((number : ℕ) → Named (make number)) → Named (option_map_or make o (Err fault))
-  with_number None make fault h = tt
-  with_number (Some number) make fault h = h number
-
-  with_register : (r : Result ℕ PlanFault) (make : ℕ → Result Event PlanFault) → ((j : ℕ) → Named (make j)) → Named (and_then r make)
-  with_register (Err fault) make h = tt
-  with_register (Ok j) make h = h j
+  abbrev Named : Event → Type 0
+  Named = NamesNodes (length p.nodes)
 
   module _ (k : ℕ) where
-    found : (name : Text) (o : Option ℕ) → position (bytes_eq name) p.nodes ≡ o → (make : ℕ → Result Event PlanFault) → ((i : ℕ) → i < length p.nodes → Named (make i))
-        → Named (and_then (option_map_or (λ n. Ok n) o (Err (UnknownName (place.Event k)))) make)
-    found name None is make h = tt
-    found name (Some i) is make h = h i (position-Some (bytes_eq name) p.nodes i [] is).0
+    found : (name : List ℕ) (o : Option ℕ) → position (bytes_eq name) p.nodes ≡ o → IfSome o (Below (length p.nodes))
+    found name None is = tt
+    found name (Some i) is = (position-Some (bytes_eq name) p.nodes i [] is).0
 
-    -- a name that is read is that of a node of the plan
-    with_node : (d : Data) (make : ℕ → Result Event PlanFault) → ((i : ℕ) → i < length p.nodes → Named (make i)) → Named (and_then (node_in p k d) make)
-    with_node d make h = found (text_of d) (position (bytes_eq (text_of d)) p.nodes) refl make h
+    number : (o : Option ℕ) (fault : PlanFault) → IfOk (option_map_or (λ m. Ok (Number m)) o (Err fault)) (Given (length p.nodes))
+    number o fault = look Any (Given (length p.nodes)) o _ fault (any o) (λ m is. tt)
 
-    alone : (make : ℕ → Event) (n : Data) (b : Bool) → ((i : ℕ) → i < length p.nodes → Named (Ok (make i))) → Named (and_then (if b then node_in p k n else misfit k) (λ i. Ok (make i)))
-    alone make n true h = with_node n (λ i. Ok (make i)) h
-    alone make n false h = tt
+    one : (w : ArgumentKind) (d : Data) → IfOk (argument_in p k w d) (Given (length p.nodes))
+    one wanted.Node d =
+        step (Below (length p.nodes)) (Given (length p.nodes)) (names.number_in (place.Event k) p.nodes d) _
+        (look (Below (length p.nodes)) (Below (length p.nodes)) (position (bytes_eq (text_of d)) p.nodes) _ _ (found (text_of d) _ refl) (λ i lt. lt)) (λ i lt. lt)
+    one wanted.Register d =
+        step Any (Given (length p.nodes)) (names.number_in (place.Event k) p.registers d) _ (any_number (names.number_in (place.Event k) p.registers d)) (λ j is. tt)
+    one wanted.Value d = number (number_of (Some d)) _
+    one wanted.Section d = number (number_of (Some d)) _
+    one wanted.Parcel d = number (number_of (Some d)) _
 
-    acting_named : (make : ℕ → Event) (n : Data) → ((i : ℕ) → i < length p.nodes → Named (Ok (make i))) → Named (acting p k make n)
-    acting_named make n h = alone make n (is_name_value n) h
+    each : (ws : List ArgumentKind) (ds : List Data) → IfOk (arguments_in p k ws ds) (AllGiven (length p.nodes))
+    each [] ds = tt
+    each (w ∷ ws) [] = tt
+    each (w ∷ ws) (d ∷ ds) =
+        step (Given (length p.nodes)) (AllGiven (length p.nodes)) (argument_in p k w d) _ (one w d) (λ a here.
+        step (AllGiven (length p.nodes)) (AllGiven (length p.nodes)) (arguments_in p k ws ds) _ (each ws ds) (λ rest more. (here, more)))
 
-    reading_named : (n r : Data) → Named (reading p k n r)
-    reading_named n r =
-        either (is_name_value n && is_name_value r) _ _ (with_node n _ (λ i lt. with_register (register_in p k r) _ (λ j. lt))) tt
+    formed : (w : EventKind) (ds : List Data) (b : Bool)
+        → IfOk (if b then and_then (arguments_in p k (arguments_of w) ds) (λ given. option_map_or (λ e. Ok e) (event_of w given) (read.misfit k)) else read.misfit k) Named
+    formed w ds true =
+        step (AllGiven (length p.nodes)) Named (arguments_in p k (arguments_of w) ds) _ (each (arguments_of w) ds) (λ given h.
+        look Named Named (event_of w given) _ _ (made (length p.nodes) w given h) (λ e is. is))
+    formed w ds false = tt
 
-    wanting_named : (n m : Data) → Named (wanting p k n m)
-    wanting_named n m = either (is_name_value n && is_name_value m) _ _ (with_node n _ (λ i lt. with_node m _ (λ j less. (lt, less)))) tt
-
-    settling_named : (n v : Data) → Named (settling p k n v)
-    settling_named n v = with_number (number_of (Some v)) _ _ (λ upto. acting_named (λ i. Settle i upto) n (λ i lt. lt))
-
-    writing_named : (n r : Data) (value : ℕ) → Named (writing_of p k n r value)
-    writing_named n r value =
-        either (is_name_value n && is_name_value r) _ _ (with_node n _ (λ i lt. with_register (register_in p k r) _ (λ j. lt))) tt
-
-    one_named : (o : Option EventKind) (a : Data) → Named (with_one p k o a)
-    one_named None a = tt
-    one_named (Some kind.Ask) a = acting_named Ask a (λ i lt. lt)
-    one_named (Some kind.Enter) a = acting_named Enter a (λ i lt. lt)
-    one_named (Some kind.Read) a = tt
-    one_named (Some kind.Write) a = tt
-    one_named (Some kind.Leave) a = acting_named Leave a (λ i lt. lt)
-    one_named (Some kind.Cancel) a = acting_named Cancel a (λ i lt. lt)
-    one_named (Some kind.Settle) a = tt
-    one_named (Some kind.Tick) a = acting_named Tick a (λ i lt. lt)
-    one_named (Some kind.Want) a = tt
-    one_named (Some kind.Deliver) a = with_number (number_of (Some a)) _ _ (λ number. tt)
-    one_named (Some kind.Restart) a = acting_named Restart a (λ i lt. lt)
-
-    two_named : (o : Option EventKind) (a b : Data) → Named (with_two p k o a b)
-    two_named None a b = tt
-    two_named (Some kind.Ask) a b = tt
-    two_named (Some kind.Enter) a b = tt
-    two_named (Some kind.Read) a b = reading_named a b
-    two_named (Some kind.Write) a b = tt
-    two_named (Some kind.Leave) a b = tt
-    two_named (Some kind.Cancel) a b = tt
-    two_named (Some kind.Settle) a b = settling_named a b
-    two_named (Some kind.Tick) a b = tt
-    two_named (Some kind.Want) a b = wanting_named a b
-    two_named (Some kind.Deliver) a b = tt
-    two_named (Some kind.Restart) a b = tt
-
-    three_named : (o : Option EventKind) (a b c : Data) → Named (with_three p k o a b c)
-    three_named None a b c = tt
-    three_named (Some kind.Ask) a b c = tt
-    three_named (Some kind.Enter) a b c = tt
-    three_named (Some kind.Read) a b c = tt
-    three_named (Some kind.Write) a b c = with_number (number_of (Some c)) _ _ (writing_named a b)
-    three_named (Some kind.Leave) a b c = tt
-    three_named (Some kind.Cancel) a b c = tt
-    three_named (Some kind.Settle) a b c = tt
-    three_named (Some kind.Tick) a b c = tt
-    three_named (Some kind.Want) a b c = tt
-    three_named (Some kind.Deliver) a b c = tt
-    three_named (Some kind.Restart) a b c = tt
-
-    listed_named : (ds : List Data) → Named (listed p k ds)
+    listed_named : (ds : List Data) → IfOk (listed p k ds) Named
     listed_named [] = tt
-    listed_named (w ∷ []) = tt
-    listed_named (w ∷ a ∷ []) = one_named (kind_in w) a
-    listed_named (w ∷ a ∷ b ∷ []) = two_named (kind_in w) a b
-    listed_named (w ∷ a ∷ b ∷ c ∷ []) = three_named (kind_in w) a b c
-    listed_named (w ∷ a ∷ b ∷ c ∷ d ∷ ds) = tt
+    listed_named (w ∷ ds) = look Any Named (kind_in w) _ _ (any (kind_in w)) (λ o is. formed o ds (have_form (arguments_of o) ds))
 
-    event_named : (d : Data) → Named (event_of p k d)
-    unfolding event_of
+    event_named : (d : Data) → IfOk (read.event_of p k d) Named
+    unfolding read.event_of
     event_named d = listed_named (list_in d)
 
-  abbrev AllNamed : Result (List Event) PlanFault → Type 0
-  AllNamed (Ok es) = AllNameNodes (length p.nodes) es
-  AllNamed (Err fault) = Unit {0}
+  abbrev AllNamed : List Event → Type 0
+  AllNamed = AllNameNodes (length p.nodes)
 
-  joined : (r : Result Event PlanFault) (q : Result (List Event) PlanFault) → Named r → AllNamed q → AllNamed (and_then r (λ e. and_then q (λ es. Ok (e ∷ es))))
-  joined (Err fault) q one all = tt
-  joined (Ok e) (Err fault) one all = tt
-  joined (Ok e) (Ok es) one all = (one, all)
-
-  all_named_from : (k : ℕ) (ds : List Data) → AllNamed (events_from p k ds)
+  all_named_from : (k : ℕ) (ds : List Data) → IfOk (events_from p k ds) AllNamed
   unfolding each_from
   all_named_from k [] = tt
-  all_named_from k (d ∷ ds) = joined (event_of p k d) (events_from p (k + 1) ds) (event_named k d) (all_named_from (k + 1) ds)
+  all_named_from k (d ∷ ds) =
+      step Named AllNamed (read.event_of p k d) _ (event_named k d) (λ e one.
+      step AllNamed AllNamed (events_from p (k + 1) ds) _ (all_named_from (k + 1) ds) (λ es all. (one, all)))
 
-  few_named : (ds : List Data) (b : Bool) → AllNamed (if b then Err (NotPlan (place.Event 1000000)) else events_from p 0 ds)
-  few_named ds true = tt
-  few_named ds false = all_named_from 0 ds
+  few_named : (ds : List Data) (fault : PlanFault) (b : Bool) → IfOk (if b then Err fault else events_from p 0 ds) AllNamed
+  few_named ds fault true = tt
+  few_named ds fault false = all_named_from 0 ds
 
-  array_named : (o : Option (List Data)) → AllNamed (option_map_or (few p) o (Err (NotPlan place.Events)))
-  array_named None = tt
-  array_named (Some ds) = few_named ds (nat_lt 1000000 (length ds))
-
-  value_named : (o : Option Data) → AllNamed (option_map_or (events_of p) o (Err NotJson))
-  value_named None = tt
-  value_named (Some d) = array_named (elements d)
+  value_named : (d : Data) → IfOk (events_of p d) AllNamed
+  value_named d = look Any AllNamed (elements d) (few p) _ (any (elements d)) (λ ds is. few_named ds _ (nat_lt 1000000 (length ds)))
 
 -- the events of a text name nodes of its plan
 pub events_named : (p : Fields) (text : List ℕ) (es : List Event) → events_at p text ≡ Ok es → AllNameNodes (length p.nodes) es
-events_named p text es h = subst (AllNamed p) h (value_named p (value_of text))
+events_named p text es h =
+    subst (λ r. IfOk r (AllNamed p)) h (look Any (AllNamed p) (value_of text) (events_of p) _ (any (value_of text)) (λ d is. value_named p d))

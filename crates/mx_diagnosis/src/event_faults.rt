@@ -9,14 +9,12 @@ use mx_stamps::MOST_EVENTS;
 use serde_json::Value;
 use std::alloc::AllocError;
 
-/// What an item of an event is, or a word of a script.
+/// What an item of an event is.
 #[derive(Clone, Copy)]
 pub(crate) enum Wanted {
     Node,
     Register,
     Number,
-    /// The number of a parcel, or `all`, which a script alone has.
-    Parcel,
 }
 
 /// What follows the word of an event.
@@ -158,7 +156,7 @@ fn explain_argument<'a>(
         Wanted::Register => {
             expect_word(page, path, found, known.registers, "a register of the plan")
         }
-        Wanted::Number | Wanted::Parcel => {
+        Wanted::Number => {
             let expected = "a whole number of 64 bits without a sign";
             expect_number(page, path, found, 0, u64::MAX, expected)
         }

@@ -4,9 +4,9 @@ ghost use Rattle.std.specs.Prelude.{IfOk, IfSome};
 ghost use Rattle.std.specs.List.{Contains};
 
 use crate::lines::{Expected, Path, Unread};
-use crate::nearest::nearest;
 use crate::page::Page;
 use crate::values::{is_among, text_in};
+use mx_lines::nearest;
 use serde_json::Value;
 use std::alloc::AllocError;
 

@@ -2,8 +2,11 @@
 
 use crate::event_faults::Known;
 use crate::page::Page;
-use crate::script_lines::wrong_words;
 use crate::values::names_at;
+use mx_lines::{
+    Expected, FirstWords, LineError, NameLists, first_error, message, next_error, place_of_word,
+    words_in,
+};
 use mx_stamps::{MOST_NODES, MOST_REGISTERS};
 use serde_json::Value;
 use std::alloc::AllocError;
@@ -51,15 +54,54 @@ fn explain_line(
     }
 }
 
+/// Each wrong word of a line. Where no nodes are known, names of nodes are not looked at; so too with
+/// registers.
 fn explain_words(
     page: &mut Page<'_>,
     known: Known<'_>,
     line: &str,
     begins: usize,
 ) -> Result<(), AllocError> {
-    let wrong = wrong_words(page.alloc, known, line, !page.is_full())?;
-    for word in wrong.iter() {
-        page.say_at(begins.saturating_add(word.word.at), *word)?;
+    let names = NameLists {
+        nodes: known.nodes,
+        registers: known.registers,
+    };
+    let words = words_in(page.alloc, line)?;
+    let mut wrong = first_error(&names, words.as_slice());
+    for _ in 0..words.len().saturating_add(1) {
+        let Some(error) = wrong else {
+            return Ok(());
+        };
+        if is_known(known, &error) {
+            explain_word(page, &names, line, words.as_slice(), &error, begins)?;
+        }
+        wrong = next_error(&names, words.as_slice(), &error);
     }
     Ok(())
+}
+
+/// Whether any names are known of the kind that was expected.
+fn is_known(known: Known<'_>, error: &LineError) -> bool {
+    match error.expected {
+        Expected::Node => !known.nodes.is_empty(),
+        Expected::Register => !known.registers.is_empty(),
+        _ => true,
+    }
+}
+
+/// A wrong word of a line that begins at a byte of the text.
+fn explain_word(
+    page: &mut Page<'_>,
+    names: &NameLists<'_>,
+    line: &str,
+    words: &[&str],
+    error: &LineError,
+    begins: usize,
+) -> Result<(), AllocError> {
+    if page.is_full() {
+        return page.say("");
+    }
+    let place = place_of_word(line, error.word).unwrap_or(0);
+    let text = message(page.alloc, names, FirstWords::OfScripts, words, error)?;
+    page.say_at(begins.saturating_add(place), text.as_str())
 }

@@ -1,9 +1,12 @@
 //! What may happen in a cluster.
 
-ghost use Rattle.std.specs.Prelude.{◌≡◌};
+ghost use Rattle.std.specs.Prelude.{◌≡◌, ◌↔◌, ◌∷◌, [], IfSome, IsSome, IsTrue, Some};
+ghost use Rattle.mx_events.specs.Arguments.{are_of, arguments_of, event_of, given};
 ghost use Rattle.mx_events.specs.Events.{kind_of, node_of};
 
+use crate::argument::Argument;
 use crate::kind::EventKind;
+use arrayvec::ArrayVec;
 use mx_stamps::NodeId;
 
 /// An event. Each is of one node; that of `Deliver` is the addressee of the parcel. Registers are
@@ -69,5 +72,91 @@ impl Event {
             | Event::Want(node, _)
             | Event::Restart(node) => Some(*node),
         }
+    }
+
+    /// What stands after its word, in order.
+    pub fn arguments(&self) -> ArrayVec<Argument, 3>
+        ensures value { result.items ≡ given self.now }
+        ensures fit { IsTrue (are_of (arguments_of (kind_of self.now)) result.items) }
+        ensures back { event_of (kind_of self.now) result.items ≡ Some self.now }
+    {
+        let mut arguments = ArrayVec::new();
+        if let Some(node) = self.node() {
+            arguments.push(Argument::Node(node));
+        }
+        match self {
+            Event::Read(_, register) => arguments.push(Argument::Register(*register)),
+            Event::Write(_, register, value) => {
+                arguments.push(Argument::Register(*register));
+                arguments.push(Argument::Number(*value));
+            }
+            Event::Want(_, other) => arguments.push(Argument::Node(*other)),
+            Event::Settle(_, number) | Event::Deliver(number) => {
+                arguments.push(Argument::Number(*number));
+            }
+            _ => {}
+        }
+        arguments
+    }
+
+    /// The event of a kind with these arguments. None if their number or a kind of them is not what
+    /// the kind of event wants.
+    pub fn of(kind: EventKind, arguments: &[Argument]) -> Option<Event>
+        ensures value { result ≡ event_of kind arguments.now }
+        ensures some { IsSome result ↔ IsTrue (are_of (arguments_of kind) arguments.now) }
+        ensures kind { IfSome result (λ event. kind_of event ≡ kind) }
+        ensures given { IfSome result (λ event. given event ≡ arguments.now) }
+    {
+        match arguments {
+            [a] => of_one(kind, a),
+            [a, b] => of_two(kind, a, b),
+            [a, b, c] => of_three(kind, a, b, c),
+            _ => None,
+        }
+    }
+}
+
+fn of_one(kind: EventKind, a: &Argument) -> Option<Event>
+    ensures value { result ≡ event_of kind (a.now ∷ []) }
+    ensures some { IsSome result ↔ IsTrue (are_of (arguments_of kind) (a.now ∷ [])) }
+    ensures kind { IfSome result (λ event. kind_of event ≡ kind) }
+    ensures given { IfSome result (λ event. given event ≡ a.now ∷ []) }
+{
+    match kind {
+        EventKind::Ask => Some(Event::Ask(a.node()?)),
+        EventKind::Enter => Some(Event::Enter(a.node()?)),
+        EventKind::Leave => Some(Event::Leave(a.node()?)),
+        EventKind::Cancel => Some(Event::Cancel(a.node()?)),
+        EventKind::Tick => Some(Event::Tick(a.node()?)),
+        EventKind::Restart => Some(Event::Restart(a.node()?)),
+        EventKind::Deliver => Some(Event::Deliver(a.number()?)),
+        _ => None,
+    }
+}
+
+fn of_two(kind: EventKind, a: &Argument, b: &Argument) -> Option<Event>
+    ensures value { result ≡ event_of kind (a.now ∷ b.now ∷ []) }
+    ensures some { IsSome result ↔ IsTrue (are_of (arguments_of kind) (a.now ∷ b.now ∷ [])) }
+    ensures kind { IfSome result (λ event. kind_of event ≡ kind) }
+    ensures given { IfSome result (λ event. given event ≡ a.now ∷ b.now ∷ []) }
+{
+    match kind {
+        EventKind::Read => Some(Event::Read(a.node()?, b.register()?)),
+        EventKind::Settle => Some(Event::Settle(a.node()?, b.number()?)),
+        EventKind::Want => Some(Event::Want(a.node()?, b.node()?)),
+        _ => None,
+    }
+}
+
+fn of_three(kind: EventKind, a: &Argument, b: &Argument, c: &Argument) -> Option<Event>
+    ensures value { result ≡ event_of kind (a.now ∷ b.now ∷ c.now ∷ []) }
+    ensures some { IsSome result
+        ↔ IsTrue (are_of (arguments_of kind) (a.now ∷ b.now ∷ c.now ∷ [])) }
+    ensures kind { IfSome result (λ event. kind_of event ≡ kind) }
+    ensures given { IfSome result (λ event. given event ≡ a.now ∷ b.now ∷ c.now ∷ []) }
+{
+    match kind {
+        EventKind::Write => Some(Event::Write(a.node()?, b.register()?, c.number()?)),
+        _ => None,
     }
 }

@@ -1,7 +1,10 @@
 //! The kinds of events, and their words.
 
-ghost use Rattle.std.specs.Prelude.{◌≡◌};
+ghost use Rattle.std.specs.Prelude.{◌≡◌, ◌≤◌, length};
+ghost use Rattle.mx_events.specs.Arguments.{arguments_of};
 ghost use Rattle.mx_events.specs.Words.{kind_named, word_of};
+
+use crate::argument::ArgumentKind;
 
 /// What an event is, without its nodes, registers and numbers.
 #[derive(Clone, Copy, Debug, PartialEq, Eq)]
@@ -64,5 +67,29 @@ impl EventKind {
             }
         }
         None
+    }
+
+    /// What its events want after the word, in order: 1 to 3 arguments.
+    pub fn arguments(self) -> &'static [ArgumentKind]
+        ensures value { result.now ≡ arguments_of self }
+        ensures few { length result.now ≤ 3 }
+    {
+        match self {
+            EventKind::Ask
+            | EventKind::Enter
+            | EventKind::Leave
+            | EventKind::Cancel
+            | EventKind::Tick
+            | EventKind::Restart => &[ArgumentKind::Node],
+            EventKind::Read => &[ArgumentKind::Node, ArgumentKind::Register],
+            EventKind::Write => &[
+                ArgumentKind::Node,
+                ArgumentKind::Register,
+                ArgumentKind::Value,
+            ],
+            EventKind::Settle => &[ArgumentKind::Node, ArgumentKind::Section],
+            EventKind::Want => &[ArgumentKind::Node, ArgumentKind::Node],
+            EventKind::Deliver => &[ArgumentKind::Parcel],
+        }
     }
 }

@@ -7,6 +7,8 @@ use mx_letters::{MaekawaMsg, Outbox};
 use mx_stamps::{MOST_NODES, NodeId, Stamp};
 use std::marker::Model;
 
+mod knowledge;
+
 /// The request that a node has granted as an arbiter, and the requests that wait for its grant.
 #[derive(Drop)]
 pub(crate) struct Arbiter {

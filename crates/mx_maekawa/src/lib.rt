@@ -22,6 +22,7 @@
 
 mod arbiter;
 mod exclusion;
+mod knowledge;
 mod lock;
 mod maekawa;
 mod requester;

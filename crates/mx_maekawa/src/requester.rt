@@ -6,6 +6,7 @@ use mx_stamps::{Clock, MOST_NODES, NodeId, Stamp};
 use std::marker::Model;
 
 mod answers;
+mod knowledge;
 
 /// What a node has asked for, and what its arbiters have answered.
 #[derive(Drop)]

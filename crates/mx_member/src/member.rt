@@ -149,6 +149,13 @@ impl<C: Exclusion> Member<C> {
         self.core.mine()
     }
 
+    /// The node of its algorithm.
+    pub fn core(&self) -> &C
+        ensures { result.now ≡ self.now.core }
+    {
+        &self.core
+    }
+
     /// The sections that it knows.
     pub fn journal(&self) -> &Journal
         ensures { result.now ≡ self.now.journal }

@@ -1,5 +1,5 @@
 -- Reading the elements of a list one by one.
-use Rattle.std.proofs.Common.{◌≡◌, ◌∙◌, Global, IfOk, IsErr, IsErrAnd, Vec, inl, subst, ℕ, ◌+◌, ◌<◌, List, [], ◌∷◌, ◌++◌, length, map, drop, get_or, ap, sym, refl, append_assoc, add-one, drop-cons, ◌≤◌, Result, Ok, Err}
+use Rattle.std.proofs.Common.{◌≡◌, ◌∙◌, Global, IfErr, IfOk, IsErr, IsErrAnd, Vec, inl, subst, ℕ, ◌+◌, ◌<◌, List, [], ◌∷◌, ◌++◌, length, map, drop, get_or, ap, sym, refl, append_assoc, add-one, drop-cons, ◌≤◌, Result, Ok, Err}
 use Rattle.std.proofs.lemmas.List.{drop_all}
 use Rattle.mx_plan.specs.Values.{Gives, and_then, each_from}
 use Rattle.mx_plan.specs.declared.faults.PlanFault.{PlanFault}
@@ -13,7 +13,7 @@ pub after-nil : {B : Type 0} (r : Result (List B) PlanFault) → r ≡ after [] 
 after-nil (Ok ys) = refl
 after-nil (Err e) = refl
 
-after_one : {B : Type 0} (done : List B) (y : B) (r : Result (List B) PlanFault)
+pub after_one : {B : Type 0} (done : List B) (y : B) (r : Result (List B) PlanFault)
     → after done (and_then r (λ ys. Ok (y ∷ ys))) ≡ after (done ++ y ∷ []) r
 after_one done y (Ok ys) = ap Ok (sym (append_assoc done (y ∷ []) ys))
 after_one done y (Err f) = refl
@@ -52,3 +52,8 @@ gives_fault wanted e (Err f) is why = inl (subst (λ (x : PlanFault). wanted ≡
 pub no_value : {X E : Type 0} (r : Result X E) (P : X → Type 0) → IsErr r → IfOk r P
 no_value (Ok x) P e = absurd (let f = e in cc)
 no_value (Err fault) P e = tt
+
+-- a fault that is passed on is the fault
+pub is_fault : {T U : Type 0} (wanted : Result U PlanFault) (e : PlanFault) (answer : Result T PlanFault) → IsErrAnd answer (λ f. f ≡ e) → wanted ≡ Err e → IfErr answer (λ f. wanted ≡ Err f)
+is_fault wanted e (Ok x) is why = tt
+is_fault wanted e (Err f) is why = subst (λ (x : PlanFault). wanted ≡ Err x) (sym is) why

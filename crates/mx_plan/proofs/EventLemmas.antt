@@ -1,56 +1,77 @@
 -- The k-th event, from the values that it lists.
-use Rattle.std.proofs.Common.{◌≡◌, ◌∙◌, ℕ, ◌≤◌, ◌<◌, List, [], ◌∷◌, length, map, get_or, ap, sym, arith, nat_lt, false, Some, Result, Vec, Global}
+use Rattle.std.proofs.Common.{◌≡◌, ◌∙◌, ◌&&◌, ◌+◌, ◌<◌, ◌≤◌, ℕ, Bool, true, false, List, [], ◌∷◌, ◌++◌, length, map, drop, get_or, ap, refl, add-one, drop-cons, arith, nat_lt, Some, Result, Ok, Err, Vec, Global}
+use Rattle.std.proofs.lemmas.Bool.{and_parts}
 use Rattle.std.proofs.lemmas.Bool.Decides.{nat_tests}
+use Rattle.std.proofs.lemmas.List.{drop_all}
 use Rattle.serde_json.specs.Data.{Data}
 use Rattle.mx_plan.specs.Fields.{Fields}
-use Rattle.mx_plan.specs.Values.{Gives, elements, list_in}
-use Rattle.mx_plan.specs.Events.{event_of, events_from, events_of, kind_in, listed, with_one, with_two, with_three}
+use Rattle.mx_plan.specs.Values.{Gives, and_then, elements}
+use Rattle.mx_plan.specs.Events.{argument_in, arguments_in, events_from, events_of, has_form, have_form}
 use Rattle.mx_plan.specs.declared.faults.PlanFault.{PlanFault}
+use Rattle.mx_plan.proofs.EachLemmas.{after, after_one}
+use Rattle.mx_events.specs.declared.argument.Argument.{Argument}
+use Rattle.mx_events.specs.declared.argument.ArgumentKind.{ArgumentKind}
 use Rattle.mx_events.specs.declared.event.Event.{Event}
 
--- a list as long as these values that has them in its places is the list of them
-module _ {X : Type 0} where
-  two : (xs : List X) (x y : X) → 2 ≤ length xs → length xs < 3 → x ≡ get_or xs 0 x → y ≡ get_or xs 1 y → xs ≡ x ∷ y ∷ []
-  two [] x y some few first second = let bad : ⊥ = omega (arith, some) in absurd bad
-  two (a ∷ []) x y some few first second = let bad : ⊥ = omega (arith, some) in absurd bad
-  two (a ∷ b ∷ []) x y some few first second = cc
-  two (a ∷ b ∷ c ∷ xs) x y some few first second = let bad : ⊥ = omega (arith, few) in absurd bad
+-- values that have the form are as many as are wanted
+pub as_many : (kinds : List ArgumentKind) (ds : List Data) → have_form kinds ds ≡ true → length kinds ≡ length ds
+as_many [] [] form = refl
+as_many [] (d ∷ ds) form = cc
+as_many (kind ∷ kinds) [] form = cc
+as_many (kind ∷ kinds) (d ∷ ds) form =
+    grind (arith, as_many kinds ds (and_parts (has_form kind d) (have_form kinds ds) form).1)
 
-  three : (xs : List X) (x y z : X) → 3 ≤ length xs → length xs < 4
-      → x ≡ get_or xs 0 x → y ≡ get_or xs 1 y → z ≡ get_or xs 2 z → xs ≡ x ∷ y ∷ z ∷ []
-  three [] x y z some few first second third = let bad : ⊥ = omega (arith, some) in absurd bad
-  three (a ∷ []) x y z some few first second third = let bad : ⊥ = omega (arith, some) in absurd bad
-  three (a ∷ b ∷ []) x y z some few first second third = let bad : ⊥ = omega (arith, some) in absurd bad
-  three (a ∷ b ∷ c ∷ []) x y z some few first second third = cc
-  three (a ∷ b ∷ c ∷ d ∷ xs) x y z some few first second third = let bad : ⊥ = omega (arith, few) in absurd bad
+-- other values have not
+pub unlike : (kinds : List ArgumentKind) (ds : List Data) → ¬ (length kinds ≡ length ds) → have_form kinds ds ≡ false
+unlike [] [] other = absurd (other refl)
+unlike [] (d ∷ ds) other = refl
+unlike (kind ∷ kinds) [] other = refl
+unlike (kind ∷ kinds) (d ∷ ds) other =
+    rw (unlike kinds ds (λ same. other (grind (arith, same)))) (and_false (has_form kind d))
+  where
+    and_false : (b : Bool) → (b && false) ≡ false
+    and_false true = refl
+    and_false false = refl
 
-  four : (xs : List X) (x y z w : X) → 4 ≤ length xs → length xs < 5
-      → x ≡ get_or xs 0 x → y ≡ get_or xs 1 y → z ≡ get_or xs 2 z → w ≡ get_or xs 3 w → xs ≡ x ∷ y ∷ z ∷ w ∷ []
-  four [] x y z w some few first second third fourth = let bad : ⊥ = omega (arith, some) in absurd bad
-  four (a ∷ []) x y z w some few first second third fourth = let bad : ⊥ = omega (arith, some) in absurd bad
-  four (a ∷ b ∷ []) x y z w some few first second third fourth = let bad : ⊥ = omega (arith, some) in absurd bad
-  four (a ∷ b ∷ c ∷ []) x y z w some few first second third fourth = let bad : ⊥ = omega (arith, some) in absurd bad
-  four (a ∷ b ∷ c ∷ d ∷ []) x y z w some few first second third fourth = cc
-  four (a ∷ b ∷ c ∷ d ∷ e ∷ xs) x y z w some few first second third fourth = let bad : ⊥ = omega (arith, few) in absurd bad
+module _ {X : Type 0} (view : X → Data) (kinds : List ArgumentKind) (xs : List X) where
+  -- the i-th kind and the i-th value, and those behind them
+  heads : {R : Type 0} (f : List ArgumentKind → List Data → R) (i : ℕ) (kind : ArgumentKind) (x : X) → i < length kinds → i < length xs
+      → f (drop i kinds) (map view (drop i xs)) ≡ f (get_or kinds i kind ∷ drop (i + 1) kinds) (view (get_or xs i x) ∷ map view (drop (i + 1) xs))
+  heads f i kind x in_kinds in_values =
+      rw (drop-cons kinds i kind in_kinds, drop-cons xs i x in_values, add-one i) refl
 
-module _ {X : Type 0} (view : X → Data) (p : Fields) (k : ℕ) (d : Data) (xs : List X) (lists : map view xs ≡ list_in d) where
-  of_list : (ys : List X) → xs ≡ ys → event_of p k d ≡ listed p k (map view ys)
-  unfolding event_of
-  of_list ys is = ap (listed p k) (sym lists ∙ ap (map view) is)
+  -- what the kinds from the i-th on say of the values from there on
+  abbrev pub form_from : ℕ → Bool
+  form_from i = have_form (drop i kinds) (map view (drop i xs))
 
-  pub of_two : (x y : X) → 2 ≤ length xs → length xs < 3 → x ≡ get_or xs 0 x → y ≡ get_or xs 1 y
-      → event_of p k d ≡ with_one p k (kind_in (view x)) (view y)
-  of_two x y some few first second = of_list (x ∷ y ∷ []) (two xs x y some few first second)
+  pub form_at : (i : ℕ) (kind : ArgumentKind) (x : X) → i < length kinds → i < length xs
+      → form_from i ≡ (has_form (get_or kinds i kind) (view (get_or xs i x)) && form_from (i + 1))
+  form_at i kind x in_kinds in_values = heads have_form i kind x in_kinds in_values
 
-  pub of_three : (x y z : X) → 3 ≤ length xs → length xs < 4 → x ≡ get_or xs 0 x → y ≡ get_or xs 1 y → z ≡ get_or xs 2 z
-      → event_of p k d ≡ with_two p k (kind_in (view x)) (view y) (view z)
-  of_three x y z some few first second third = of_list (x ∷ y ∷ z ∷ []) (three xs x y z some few first second third)
+  pub form_end : (i : ℕ) → length kinds ≤ i → length xs ≤ i → form_from i ≡ true
+  form_end i no_kinds no_values = rw (drop_all i kinds no_kinds, drop_all i xs no_values) refl
 
-  pub of_four : (x y z w : X) → 4 ≤ length xs → length xs < 5
-      → x ≡ get_or xs 0 x → y ≡ get_or xs 1 y → z ≡ get_or xs 2 z → w ≡ get_or xs 3 w
-      → event_of p k d ≡ with_three p k (kind_in (view x)) (view y) (view z) (view w)
-  of_four x y z w some few first second third fourth =
-      of_list (x ∷ y ∷ z ∷ w ∷ []) (four xs x y z w some few first second third fourth)
+  module _ (p : Fields) (k : ℕ) where
+    abbrev pub arguments_from : ℕ → Result (List Argument) PlanFault
+    arguments_from i = arguments_in p k (drop i kinds) (map view (drop i xs))
+
+    one_more : (i : ℕ) (kind : ArgumentKind) (x : X) → i < length kinds → i < length xs
+        → arguments_from i ≡ and_then (argument_in p k (get_or kinds i kind) (view (get_or xs i x))) (λ a. and_then (arguments_from (i + 1)) (λ rest. Ok (a ∷ rest)))
+    one_more i kind x in_kinds in_values = heads (arguments_in p k) i kind x in_kinds in_values
+
+    pub argument_ok : (done : List Argument) (i : ℕ) (kind : ArgumentKind) (x : X) (a : Argument) → i < length kinds → i < length xs
+        → argument_in p k (get_or kinds i kind) (view (get_or xs i x)) ≡ Ok a → after done (arguments_from i) ≡ after (done ++ a ∷ []) (arguments_from (i + 1))
+    argument_ok done i kind x a in_kinds in_values is =
+        ap (after done) (one_more i kind x in_kinds in_values ∙ ap (λ r. and_then r (λ b. and_then (arguments_from (i + 1)) (λ rest. Ok (b ∷ rest)))) is)
+        ∙ after_one done a (arguments_from (i + 1))
+
+    pub argument_err : (done : List Argument) (i : ℕ) (kind : ArgumentKind) (x : X) (fault : PlanFault) → i < length kinds → i < length xs
+        → argument_in p k (get_or kinds i kind) (view (get_or xs i x)) ≡ Err fault → after done (arguments_from i) ≡ Err fault
+    argument_err done i kind x fault in_kinds in_values is =
+        ap (after done) (one_more i kind x in_kinds in_values ∙ ap (λ r. and_then r (λ b. and_then (arguments_from (i + 1)) (λ rest. Ok (b ∷ rest)))) is)
+
+    pub arguments_end : (i : ℕ) → length kinds ≤ i → arguments_from i ≡ Ok []
+    arguments_end i no_kinds = rw (drop_all i kinds no_kinds) refl
 
 -- few enough events are read one by one
 pub few_read : (p : Fields) (d : Data) (ds : List Data) (r : Result (Vec Event Global) PlanFault)

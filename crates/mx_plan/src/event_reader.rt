@@ -1,16 +1,19 @@
 //! Reading events.
 
-ghost use Rattle.std.specs.Prelude.{◌≡◌, map};
+ghost use Rattle.std.specs.Prelude.{◌≡◌, ◌≤◌, ◌∷◌, IfErr, IfOk, IsTrue, Err, Ok, length, map};
 ghost use Rattle.serde_json.specs.View.{view};
 ghost use Rattle.mx_plan.specs.Values.{Gives};
+ghost use Rattle.mx_plan.specs.NameLists.{number_in};
 ghost use Rattle.mx_plan.specs.Events as spec;
+ghost use Rattle.mx_plan.specs.declared.place.Place.TheVariants as place;
 
 use crate::faults::PlanFault;
 use crate::name_reader::is_name_value;
 use crate::place::Place;
 use crate::plan::Plan;
 use crate::values::{elements, list_in, parse, text_in};
-use mx_events::{Event, EventKind};
+use arrayvec::ArrayVec;
+use mx_events::{Argument, ArgumentKind, Event, EventKind};
 use mx_stamps::{MOST_EVENTS, NodeId};
 use serde_json::Value;
 use std::alloc::Global;
@@ -53,154 +56,108 @@ fn each_event(alloc: Global, values: &[Value], plan: &Plan) -> Result<Vec<Event>
     Ok(events)
 }
 
-/// The k-th event, by how many values it lists.
+/// The k-th event: a word, and the values after it.
 #[tactic(auto, unfolding(crate::specs::Events::event_of))]
 fn event_in(plan: &Plan, value: &Value, k: u64) -> Result<Event, PlanFault>
     ensures { result ≡ spec.event_of plan.now k (view value.now) }
 {
-    match list_in(value) {
-        [word, a] => with_one(plan, kind_in(word), a, k),
-        [word, a, b] => with_two(plan, kind_in(word), a, b, k),
-        [word, a, b, c] => with_three(plan, kind_in(word), a, b, c, k),
-        _ => Err(PlanFault::NotPlan(Place::Event(k))),
-    }
-}
-
-/// The kind of event that a word names.
-fn kind_in(word: &Value) -> Option<EventKind>
-    ensures { result ≡ spec.kind_in (view word.now) }
-{
-    EventKind::of_word(text_in(word))
-}
-
-/// What a node does alone, or a delivery. What is wrong with the node's name counts only after a
-/// word that wants one.
-fn with_one(plan: &Plan, kind: Option<EventKind>, a: &Value, k: u64) -> Result<Event, PlanFault>
-    ensures { result ≡ spec.with_one plan.now k kind (view a.now) }
-{
-    let node = lone_node(plan, a, k);
-    match kind {
-        Some(EventKind::Ask) => Ok(Event::Ask(node?)),
-        Some(EventKind::Enter) => Ok(Event::Enter(node?)),
-        Some(EventKind::Leave) => Ok(Event::Leave(node?)),
-        Some(EventKind::Cancel) => Ok(Event::Cancel(node?)),
-        Some(EventKind::Tick) => Ok(Event::Tick(node?)),
-        Some(EventKind::Restart) => Ok(Event::Restart(node?)),
-        Some(EventKind::Deliver) => delivery(a, k),
-        _ => Err(PlanFault::NotPlan(Place::Event(k))),
-    }
-}
-
-fn with_two(
-    plan: &Plan,
-    kind: Option<EventKind>,
-    a: &Value,
-    b: &Value,
-    k: u64,
-) -> Result<Event, PlanFault>
-    ensures { result ≡ spec.with_two plan.now k kind (view a.now) (view b.now) }
-{
-    match kind {
-        Some(EventKind::Read) => reading(plan, a, b, k),
-        Some(EventKind::Want) => wanting(plan, a, b, k),
-        Some(EventKind::Settle) => settling(plan, a, b, k),
-        _ => Err(PlanFault::NotPlan(Place::Event(k))),
-    }
-}
-
-fn with_three(
-    plan: &Plan,
-    kind: Option<EventKind>,
-    a: &Value,
-    b: &Value,
-    c: &Value,
-    k: u64,
-) -> Result<Event, PlanFault>
-    ensures { result
-        ≡ spec.with_three plan.now k kind (view a.now) (view b.now) (view c.now) }
-{
-    match kind {
-        Some(EventKind::Write) => writing(plan, a, b, c, k),
-        _ => Err(PlanFault::NotPlan(Place::Event(k))),
-    }
-}
-
-fn delivery(number: &Value, k: u64) -> Result<Event, PlanFault>
-    ensures { result ≡ spec.delivery k (view number.now) }
-{
-    match number.as_u64() {
-        Some(number) => Ok(Event::Deliver(number)),
+    let [word, values @ ..] = list_in(value) else {
+        return Err(PlanFault::NotPlan(Place::Event(k)));
+    };
+    match EventKind::of_word(text_in(word)) {
+        Some(kind) => event_with(plan, kind, values, k),
         None => Err(PlanFault::NotPlan(Place::Event(k))),
     }
 }
 
-/// The node of an event that names no other node and no register.
-fn lone_node(plan: &Plan, name: &Value, k: u64) -> Result<NodeId, PlanFault>
-    ensures { result ≡ spec.lone_node plan.now k (view name.now) }
+/// The event of a kind with these values after its word. Their form counts first, then the names.
+fn event_with(plan: &Plan, kind: EventKind, values: &[Value], k: u64) -> Result<Event, PlanFault>
+    ensures { result ≡ spec.event_with plan.now k kind (map view values.now) }
 {
-    if is_name_value(name) {
-        node_in(plan, name, k)
-    } else {
-        Err(PlanFault::NotPlan(Place::Event(k)))
+    let kinds = kind.arguments();
+    if !have_form(kinds, values) {
+        return Err(PlanFault::NotPlan(Place::Event(k)));
+    }
+    let arguments = arguments_in(plan, kinds, values, k)?;
+    match Event::of(kind, arguments.as_slice()) {
+        Some(event) => Ok(event),
+        None => Err(PlanFault::NotPlan(Place::Event(k))),
     }
 }
 
-fn reading(plan: &Plan, node: &Value, register: &Value, k: u64) -> Result<Event, PlanFault>
-    ensures { result ≡ spec.reading plan.now k (view node.now) (view register.now) }
+/// Whether there are as many values as are wanted, each of its form.
+fn have_form(kinds: &[ArgumentKind], values: &[Value]) -> bool
+    ensures { result ≡ spec.have_form kinds.now (map view values.now) }
 {
-    if !is_name_value(node) || !is_name_value(register) {
-        return Err(PlanFault::NotPlan(Place::Event(k)));
+    if kinds.len() != values.len() {
+        return false;
     }
-    let node = node_in(plan, node, k)?;
-    let register = register_in(plan, register, k)?;
-    Ok(Event::Read(node, register))
-}
-
-fn wanting(plan: &Plan, node: &Value, other: &Value, k: u64) -> Result<Event, PlanFault>
-    ensures { result ≡ spec.wanting plan.now k (view node.now) (view other.now) }
-{
-    if !is_name_value(node) || !is_name_value(other) {
-        return Err(PlanFault::NotPlan(Place::Event(k)));
+    for (i, kind) in kinds.iter().enumerate() {
+        if !has_form(*kind, &values[i]) {
+            return false;
+        }
     }
-    let node = node_in(plan, node, k)?;
-    let other = node_in(plan, other, k)?;
-    Ok(Event::Want(node, other))
+    true
 }
 
-fn settling(plan: &Plan, node: &Value, upto: &Value, k: u64) -> Result<Event, PlanFault>
-    ensures { result ≡ spec.settling plan.now k (view node.now) (view upto.now) }
+/// Whether a value is a name where a name is wanted, and a whole number elsewhere.
+fn has_form(kind: ArgumentKind, value: &Value) -> bool
+    ensures { result ≡ spec.has_form kind (view value.now) }
 {
-    let Some(upto) = upto.as_u64() else {
-        return Err(PlanFault::NotPlan(Place::Event(k)));
-    };
-    let node = lone_node(plan, node, k)?;
-    Ok(Event::Settle(node, upto))
+    match kind {
+        ArgumentKind::Node | ArgumentKind::Register => is_name_value(value),
+        ArgumentKind::Value | ArgumentKind::Section | ArgumentKind::Parcel => {
+            value.as_u64().is_some()
+        }
+    }
 }
 
-fn writing(
+/// The arguments that values are.
+fn arguments_in(
     plan: &Plan,
-    node: &Value,
-    register: &Value,
+    kinds: &[ArgumentKind],
+    values: &[Value],
+    k: u64,
+) -> Result<ArrayVec<Argument, 3>, PlanFault>
+    requires few { length kinds.now ≤ 3 }
+    requires form { IsTrue (spec.have_form kinds.now (map view values.now)) }
+    ensures ok { IfOk result (λ arguments.
+        spec.arguments_in plan.now k kinds.now (map view values.now) ≡ Ok arguments.items) }
+    ensures err { IfErr result (λ fault.
+        spec.arguments_in plan.now k kinds.now (map view values.now) ≡ Err fault) }
+{
+    let mut arguments = ArrayVec::new();
+    for (i, kind) in kinds.iter().enumerate() {
+        let argument = argument_in(plan, *kind, &values[i], k)?;
+        arguments.push(argument);
+    }
+    Ok(arguments)
+}
+
+/// The argument that a value is.
+fn argument_in(
+    plan: &Plan,
+    kind: ArgumentKind,
     value: &Value,
     k: u64,
-) -> Result<Event, PlanFault>
-    ensures { result
-        ≡ spec.writing plan.now k (view node.now) (view register.now) (view value.now) }
+) -> Result<Argument, PlanFault>
+    ensures { result ≡ spec.argument_in plan.now k kind (view value.now) }
 {
-    let Some(value) = value.as_u64() else {
-        return Err(PlanFault::NotPlan(Place::Event(k)));
-    };
-    if !is_name_value(node) || !is_name_value(register) {
-        return Err(PlanFault::NotPlan(Place::Event(k)));
+    match kind {
+        ArgumentKind::Node => Ok(Argument::Node(node_in(plan, value, k)?)),
+        ArgumentKind::Register => Ok(Argument::Register(register_in(plan, value, k)?)),
+        ArgumentKind::Value | ArgumentKind::Section | ArgumentKind::Parcel => {
+            match value.as_u64() {
+                Some(number) => Ok(Argument::Number(number)),
+                None => Err(PlanFault::NotPlan(Place::Event(k))),
+            }
+        }
     }
-    let node = node_in(plan, node, k)?;
-    let register = register_in(plan, register, k)?;
-    Ok(Event::Write(node, register, value))
 }
 
 /// The node of a name.
 fn node_in(plan: &Plan, name: &Value, k: u64) -> Result<NodeId, PlanFault>
-    ensures { result ≡ spec.node_in plan.now k (view name.now) }
+    ensures { result ≡ number_in (place.Event k) plan.now.nodes (view name.now) }
 {
     match plan.node(text_in(name)) {
         Some(node) => Ok(node),
@@ -210,7 +167,7 @@ fn node_in(plan: &Plan, name: &Value, k: u64) -> Result<NodeId, PlanFault>
 
 /// The register of a name.
 fn register_in(plan: &Plan, name: &Value, k: u64) -> Result<u8, PlanFault>
-    ensures { result ≡ spec.register_in plan.now k (view name.now) }
+    ensures { result ≡ number_in (place.Event k) plan.now.registers (view name.now) }
 {
     match plan.register(text_in(name)) {
         Some(register) => Ok(register),

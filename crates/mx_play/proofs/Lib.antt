@@ -1,3 +1,4 @@
 pub mod MomentLemmas
 pub mod SessionLemmas
 pub mod PlayedLemmas
+mod CommandLemmas

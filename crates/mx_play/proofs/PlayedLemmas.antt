@@ -4,9 +4,13 @@ use Rattle.std.specs.Prelude.{Vec}
 use Rattle.std.specs.declared.alloc.Global.{Global}
 use Rattle.std.specs.Io.KnownBytes.{Keeps}
 use Rattle.mx_nodelaws.specs.Core.{Core}
+use Rattle.mx_knowledge.specs.Facts.{Known}
 use Rattle.mx_ricart.specs.Step.{ricart_core}
+use Rattle.mx_ricart.specs.Knows.{known_of as ricart_known}
 use Rattle.mx_maekawa.specs.Step.{maekawa_core}
+use Rattle.mx_maekawa.specs.Knows.{known_of as maekawa_known}
 use Rattle.mx_raymond.specs.Step.{raymond_core}
+use Rattle.mx_raymond.specs.Knows.{known_of as raymond_known}
 use Rattle.mx_plan.specs.Text.{Text}
 use Rattle.mx_plan.specs.Fields.{Fields}
 use Rattle.mx_plan.specs.declared.shape.Shape.{Shape}
@@ -22,8 +26,8 @@ use Rattle.mx_io.specs.Told.{Telling}
 use Rattle.mx_play.specs.Played.{IsLinePlan, IsPlayedBy, IsScriptOf}
 use Rattle.mx_play.specs.Sessions.{IsPlayed}
 
-module _ {H S M : Type 0} (core : Core H S M) (letter_text : Fields → M → Text) (p : Fields) (shape : H) (a b c : Held) where
-  played_keeps : IsPlayed core letter_text p shape a b → Keeps b c → IsPlayed core letter_text p shape a c
+module _ {H S M : Type 0} (core : Core H S M) (letter_text : Fields → M → Text) (knows : S → List Known) (p : Fields) (shape : H) (a b c : Held) where
+  played_keeps : IsPlayed core letter_text knows p shape a b → Keeps b c → IsPlayed core letter_text knows p shape a c
   played_keeps x same = record {
     turns = x.turns;
     last = x.last;
@@ -35,9 +39,9 @@ module _ {H S M : Type 0} (core : Core H S M) (letter_text : Fields → M → Te
   }
 
 pub by_keeps : (p : Fields) (a b c : Held) (shape : Shape) → IsPlayedBy p a b shape → Keeps b c → IsPlayedBy p a c shape
-by_keeps p a b c (Ricart count) = played_keeps ricart_core ricart_text p count a b c
-by_keeps p a b c (Maekawa family) = played_keeps maekawa_core maekawa_text p family a b c
-by_keeps p a b c (Raymond tree) = played_keeps raymond_core raymond_text p tree a b c
+by_keeps p a b c (Ricart count) = played_keeps ricart_core ricart_text ricart_known p count a b c
+by_keeps p a b c (Maekawa family) = played_keeps maekawa_core maekawa_text maekawa_known p family a b c
+by_keeps p a b c (Raymond tree) = played_keeps raymond_core raymond_text raymond_known p tree a b c
 
 -- a line that is read as a plan
 pub line_plan : (line : List ℕ) (r : Result Fields Stop) → Reads (Some line) r → IfOk r IsLinePlan

@@ -5,6 +5,7 @@ use Rattle.std.specs.Bool.{⊤}
 use Rattle.mx_stamps.specs.Lists.{IsIn}
 use Rattle.mx_stamps.proofs.Lists.{append_nil}
 use Rattle.mx_nodelaws.specs.Core.{Core}
+use Rattle.mx_knowledge.specs.Facts.{Known}
 use Rattle.mx_events.specs.declared.event.Event.{Event}
 use Rattle.mx_events.specs.declared.event.Event.TheVariants as event
 use Rattle.mx_explorer.specs.Drawn.{IsDrawn}
@@ -16,7 +17,7 @@ use Rattle.mx_cli.proofs.OutputLemmas.{Appends-nil, Appends-trans}
 use Rattle.mx_commands.specs.Runs.{NamesNodes, closing_text}
 use Rattle.mx_commands.proofs.RunLemmas.{members_at_rest}
 use Rattle.mx_scripts.specs.Played.{AreOver}
-use Rattle.mx_scripts.specs.declared.line_faults.LineFault.{LineFault}
+use Rattle.mx_scripts.specs.declared.halts.LineStop.{LineStop}
 use Rattle.mx_play.specs.Moments.{Brings, CanLead, Leads, Makes, MomentState, first_moment, shown}
 use Rattle.mx_play.specs.Sessions.{Adds, Comes, Extends, HasTalked, HasTurned, IsDone, IsPlayed, IsSession, Loses, SaysTurn, SessionState, Talks, Turn, at_start, events_in, rests, state}
 use Rattle.mx_play.specs.declared.happening.Happening.{Happening}
@@ -135,14 +136,14 @@ module _ {H S M : Type 0} (core : Core H S M) (letter_text : Fields → M → Te
   }
 
   -- a mail that was asked has not changed
-  pub adds_from : (r : Result ⊤ LineFault) (a a' b : MomentState S M) (d d' : List Happening) (t t' : Text) → a' ≡ a → OnOk r (A a' b d d' t t') → OnOk r (A a b d d' t t')
+  pub adds_from : (r : Result ⊤ LineStop) (a a' b : MomentState S M) (d d' : List Happening) (t t' : Text) → a' ≡ a → OnOk r (A a' b d d' t t') → OnOk r (A a b d d' t t')
   adds_from r a a' b d d' t t' same x = subst (λ (m : MomentState S M). OnOk r (A m b d d' t t')) same x
 
-  pub loss_adds : (r : Result ⊤ LineFault) (a b : MomentState S M) (d d' : List Happening) (t : Text) → OnOk r (Loses core a b d d') → OnOk r (A a b d d' t t)
+  pub loss_adds : (r : Result ⊤ LineStop) (a b : MomentState S M) (d d' : List Happening) (t : Text) → OnOk r (Loses core a b d d') → OnOk r (A a b d d' t t)
   loss_adds (Ok u) a b d d' t x = adds_one (IsLost x.parcel) a b d d' t t x.brings x.listed (sym (append_nil t)) (over_none (length p.nodes) (length p.registers))
   loss_adds (Err fault) a b d d' t x = tt
 
-  module _ (shape : H) where
+  module _ (knows : S → List Known) (shape : H) where
     abbrev first : MomentState S M
     first = first_moment core p shape
 
@@ -211,13 +212,13 @@ module _ {H S M : Type 0} (core : Core H S M) (letter_text : Fields → M → Te
     same_holds a b same g = subst (λ (s : SessionState S M). G s) (sym same) g
 
     abbrev W : SessionState S M → SessionState S M → Held → Held → Type 0
-    W = HasTalked core letter_text p shape
+    W = HasTalked core letter_text knows p shape
 
-    talks_on : (ts us : List Turn) (a b c : SessionState S M) (t s : Text) → Talks core letter_text p shape a ts b t → Talks core letter_text p shape b us c s
-        → Talks core letter_text p shape a (ts ++ us) c (t ++ s)
+    talks_on : (ts us : List Turn) (a b c : SessionState S M) (t s : Text) → Talks core letter_text knows p shape a ts b t → Talks core letter_text knows p shape b us c s
+        → Talks core letter_text knows p shape a (ts ++ us) c (t ++ s)
     talks_on [] us a b c t s x y =
-        subst (λ (m : SessionState S M). Talks core letter_text p shape m us c (t ++ s)) x.0
-        (subst (λ (r : Text). Talks core letter_text p shape b us c (r ++ s)) (sym x.1) y)
+        subst (λ (m : SessionState S M). Talks core letter_text knows p shape m us c (t ++ s)) x.0
+        (subst (λ (r : Text). Talks core letter_text knows p shape b us c (r ++ s)) (sym x.1) y)
     talks_on (u ∷ ts) us a b c t s x y =
         let mid : SessionState S M = x.0 in
         let one : Text = x.1 in
@@ -235,7 +236,7 @@ module _ {H S M : Type 0} (core : Core H S M) (letter_text : Fields → M → Te
       printed = Appends-trans o o' o'' x.text y.text x.printed y.printed;
     }
 
-    pub turn_talks : (a b : SessionState S M) (o o' : Held) → SaysTurn core letter_text p shape a b o o' → W a b o o'
+    pub turn_talks : (a b : SessionState S M) (o o' : Held) → SaysTurn core letter_text knows p shape a b o o' → W a b o o'
     turn_talks a b o o' x = record {
       turns = x.turned.turn ∷ [];
       text = x.text;
@@ -244,31 +245,31 @@ module _ {H S M : Type 0} (core : Core H S M) (letter_text : Fields → M → Te
     }
 
     pub whole_session : (s last : SessionState S M) (o o' o'' : Held) → s ≡ at_start core p shape → W s last o o' → G last
-        → Appends o' o'' (closing_text core letter_text p last.now.cluster) → IsPlayed core letter_text p shape o o''
+        → Appends o' o'' (closing_text core letter_text p last.now.cluster) → IsPlayed core letter_text knows p shape o o''
     whole_session s last o o' o'' is x g closes = record {
       turns = x.turns;
       last = last;
       text = x.text;
-      talks = subst (λ (q : SessionState S M). Talks core letter_text p shape q x.turns last x.text) is x.talks;
+      talks = subst (λ (q : SessionState S M). Talks core letter_text knows p shape q x.turns last x.text) is x.talks;
       replays = leads_runs core last.done first last.now g.leads;
       over = g.over;
       printed = Appends-trans o o' o'' x.text (closing_text core letter_text p last.now.cluster) x.printed closes;
     }
 
     pub whole_on_ok : {T E : Type 0} (r : Result T E) (s last : SessionState S M) (o o' o'' : Held) → s ≡ at_start core p shape → W s last o o' → G last
-        → IfOk r (λ _. Appends o' o'' (closing_text core letter_text p last.now.cluster)) → IfOk r (λ _. IsPlayed core letter_text p shape o o'')
+        → IfOk r (λ _. Appends o' o'' (closing_text core letter_text p last.now.cluster)) → IfOk r (λ _. IsPlayed core letter_text knows p shape o o'')
     whole_on_ok (Ok t) s last o o' o'' is x g closes = whole_session s last o o' o'' is x g closes
     whole_on_ok (Err e) s last o o' o'' is x g closes = tt
 
     -- a line that was done or taken back, or one at fault
     pub turned_by : {K E : Type 0} (r : Result (Option K) E) (t : Turn) (a b : SessionState S M) (text : Text)
-        → IfOk r (λ fault. MatchOption fault (Comes core letter_text p shape t a b text) (λ _. Comes core letter_text p shape rests a b text))
-        → IfOk r (λ _. HasTurned core letter_text p shape a b text)
+        → IfOk r (λ fault. MatchOption fault (Comes core letter_text knows p shape t a b text) (λ _. Comes core letter_text knows p shape rests a b text))
+        → IfOk r (λ _. HasTurned core letter_text knows p shape a b text)
     turned_by (Ok None) t a b text x = record { turn = t; comes = x }
     turned_by (Ok (Some k)) t a b text x = record { turn = rests; comes = x }
     turned_by (Err e) t a b text x = tt
 
     pub turned_silently : {K E : Type 0} (r : Result (Option K) E) (t : Turn) (a b : SessionState S M) (text : Text) → text ≡ []
-        → IfOk r (λ fault. MatchOption fault (Comes core letter_text p shape t a b []) (λ _. Comes core letter_text p shape rests a b []))
-        → IfOk r (λ _. HasTurned core letter_text p shape a b text)
-    turned_silently r t a b text empty x = subst (λ (l : Text). IfOk r (λ _. HasTurned core letter_text p shape a b l)) (sym empty) (turned_by r t a b [] x)
+        → IfOk r (λ fault. MatchOption fault (Comes core letter_text knows p shape t a b []) (λ _. Comes core letter_text knows p shape rests a b []))
+        → IfOk r (λ _. HasTurned core letter_text knows p shape a b text)
+    turned_silently r t a b text empty x = subst (λ (l : Text). IfOk r (λ _. HasTurned core letter_text knows p shape a b l)) (sym empty) (turned_by r t a b [] x)

@@ -1,8 +1,11 @@
 -- What comes of the words of `play`.
 use Rattle.std.specs.Prelude.{◌≡◌, ℕ, Bool, true, false, List, [], Option, Some, None, Ok, IfSome, if◌then◌else◌}
 use Rattle.mx_ricart.specs.Step.{ricart_core}
+use Rattle.mx_ricart.specs.Knows.{known_of as ricart_known}
 use Rattle.mx_maekawa.specs.Step.{maekawa_core}
+use Rattle.mx_maekawa.specs.Knows.{known_of as maekawa_known}
 use Rattle.mx_raymond.specs.Step.{raymond_core}
+use Rattle.mx_raymond.specs.Knows.{known_of as raymond_known}
 use Rattle.mx_plan.specs.Text.{Text}
 use Rattle.mx_plan.specs.Fields.{Fields}
 use Rattle.mx_plan.specs.declared.shape.Shape.{Shape}
@@ -16,11 +19,11 @@ use Rattle.mx_play.specs.Sessions.{IsPlayed}
 
 -- a session was played in the cluster of the plan, by its algorithm
 abbrev pub IsPlayedBy : Fields → Held → Held → Shape → Type 0
-IsPlayedBy p old new (Ricart count) = IsPlayed ricart_core ricart_text p count old new
+IsPlayedBy p old new (Ricart count) = IsPlayed ricart_core ricart_text ricart_known p count old new
 IsPlayedBy p old new (Maekawa family) =
-    IsPlayed maekawa_core maekawa_text p family old new
+    IsPlayed maekawa_core maekawa_text maekawa_known p family old new
 IsPlayedBy p old new (Raymond tree) =
-    IsPlayed raymond_core raymond_text p tree old new
+    IsPlayed raymond_core raymond_text raymond_known p tree old new
 
 -- the plan is what some line says, by the rules of plans
 abbrev pub IsLinePlan : Fields → Type 0

@@ -3,13 +3,16 @@ use Rattle.std.specs.Prelude.{ℕ, ◌≡◌, ◌≤◌, ◌-◌, ◌==◌, ◌&
 use Rattle.std.specs.Option.{option_map_or}
 use Rattle.std.specs.Io.KnownBytes.{Appends}
 use Rattle.mx_nodelaws.specs.Core.{Core}
+use Rattle.mx_member.specs.Member.{MemberState}
 use Rattle.mx_member.specs.declared.parcel.Parcel.{Parcel}
 use Rattle.mx_events.specs.declared.event.Event.{Event}
 use Rattle.mx_network.specs.Step.{ClusterState, RunsTo}
 use Rattle.mx_plan.specs.Text.{Text}
 use Rattle.mx_plan.specs.Fields.{Fields}
 use Rattle.mx_texts.specs.Lines.{texts_from}
-use Rattle.mx_texts.specs.NodeTexts.{member_line, node_lines}
+use Rattle.mx_knowledge.specs.Facts.{Known}
+use Rattle.mx_texts.specs.FactTexts.{facts_line}
+use Rattle.mx_texts.specs.NodeTexts.{member_line}
 use Rattle.mx_texts.specs.ParcelTexts.{parcel_line}
 use Rattle.mx_io.specs.Outputs.{Held}
 use Rattle.mx_commands.specs.Runs.{closing_text}
@@ -68,6 +71,16 @@ abbrev pub is_to : Option ℕ → ℕ → Bool
 is_to None addressee = true
 is_to (Some node) addressee = addressee == node
 
+module _ {H S M : Type 0} (core : Core H S M) (knows : S → List Known) (p : Fields) where
+  -- the line of a node, and that of what it knows
+  abbrev pub node_shown : ℕ → MemberState S → Text
+  node_shown i m = member_line core p i m ++ facts_line p (knows m.core)
+
+  -- those of the node that is named, or of each
+  abbrev pub standing_lines : Option ℕ → ClusterState S M → Text
+  standing_lines None g = texts_from node_shown 0 g.members
+  standing_lines (Some node) g = option_map_or (node_shown node) (slice_get g.members node) []
+
 module _ {H S M : Type 0} (core : Core H S M) (letter_text : Fields → M → Text) (p : Fields) where
   -- the line of a parcel, where it is under way to the node that is named
   abbrev pub waiting_line : Option ℕ → MomentState S M → ℕ → ℕ × ℕ × Parcel M → Text
@@ -78,12 +91,6 @@ module _ {H S M : Type 0} (core : Core H S M) (letter_text : Fields → M → Te
   -- the lines of the parcels under way, the oldest first
   abbrev pub waiting_lines : Option ℕ → MomentState S M → Text
   waiting_lines to now = texts_from (waiting_line to now) 0 now.cluster.sent
-
-  -- the line of the node that is named, or of each
-  abbrev pub standing_lines : Option ℕ → ClusterState S M → Text
-  standing_lines None g = node_lines core p g.members
-  standing_lines (Some node) g =
-      option_map_or (member_line core p node) (slice_get g.members node) []
 
   -- ---- the lines of a session
 
@@ -134,15 +141,15 @@ pub data Turn : Type 0 where
   helps : Turn
   rests : Turn
 
-module _ {H S M : Type 0} (core : Core H S M) (letter_text : Fields → M → Text) (p : Fields)
-    (shape : H) where
+module _ {H S M : Type 0} (core : Core H S M) (letter_text : Fields → M → Text)
+    (knows : S → List Known) (p : Fields) (shape : H) where
   abbrev pub Comes : Turn → SessionState S M → SessionState S M → Text → Type 0
   Comes does old new text = IsDone core letter_text p old new text
   Comes (takes_back count) old new text =
       IsTakenBack core letter_text p shape count old new text
   Comes (shows to) old new text =
       IsShown core letter_text p
-      (standing_lines core letter_text p to old.now.cluster
+      (standing_lines core knows p to old.now.cluster
       ++ waiting_lines core letter_text p to old.now) old new text
   Comes lists old new text =
       IsShown core letter_text p (file_text p (events_of old.now.cluster.trace)) old new text

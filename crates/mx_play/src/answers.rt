@@ -6,27 +6,28 @@ ghost use Rattle.mx_scripts.specs.Scripts.{IsOver};
 ghost use Rattle.mx_play.specs.Moments.{CanLead, Leads, first_moment};
 ghost use Rattle.mx_play.specs.Sessions.{Comes, HasTurned, IsSession, state};
 ghost use Rattle.mx_play.specs.Sessions as turn;
-ghost use Rattle.mx_play.specs.Wishes.{IsWish};
+ghost use Rattle.mx_play.specs.Commands.{IsCommand};
 
 use crate::faults::Complaint;
 use crate::help::add_words;
 use crate::moment::go_back;
 use crate::orders::repeat;
 use crate::session::{Session, list_session, show_session};
-use crate::wishes::Wish;
+use mx_knowledge::Knowledge;
+use mx_lines::{Line, SessionCommand};
 use mx_nodelaws::Exclusion;
 use mx_plan::Plan;
-use mx_scripts::{Line, LineFault};
+use mx_scripts::LineStop;
 use mx_texts::Letter;
 use std::alloc::{AllocError, Global};
 
 /// Does what a line asks for, and adds what is printed of it. Where it can't be done, nothing
 /// changes, and nothing is printed.
-pub(crate) fn answer<C: Exclusion>(
+pub(crate) fn answer<C: Exclusion + Knowledge>(
     alloc: Global,
     plan: &Plan,
     shape: &C::Shape,
-    wish: &Wish,
+    command: &SessionCommand,
     session: &mut Session<C>,
     text: &mut String,
 ) -> Result<Option<Complaint>, AllocError>
@@ -34,36 +35,37 @@ where
     C::Msg: Letter,
     requires is { IsSession C.core plan.now shape.now
         (state session.old.moment session.old.done.items session.old.marks.items) }
-    requires over { IsWish (length plan.now.nodes) (length plan.now.registers) wish.now }
+    requires over { IsCommand (length plan.now.nodes) (length plan.now.registers) command.now }
     requires empty { string_bytes text.old ≡ [] }
-    ensures turned { IfOk result (λ _. HasTurned C.core (letter_text C.Msg.parts) plan.now shape.now
+    ensures turned { IfOk result (λ _. HasTurned C.core (letter_text C.Msg.parts)
+        C.knows plan.now shape.now
         (state session.old.moment session.old.done.items session.old.marks.items)
         (state session.new.moment session.new.done.items session.new.marks.items)
         (string_bytes text.new)) }
     ensures is { IfOk result (λ _. IsSession C.core plan.now shape.now
         (state session.new.moment session.new.done.items session.new.marks.items)) }
 {
-    match wish {
-        Wish::Does(line) => do_line(alloc, plan, shape, line, session, text),
-        Wish::Undo(count) => take_back(alloc, plan, shape, *count, session),
-        Wish::Show(to) => {
-            show_session(plan, to, session, text)?;
+    match command {
+        SessionCommand::Does(line) => do_line(alloc, plan, shape, line, session, text),
+        SessionCommand::Undo(count) => take_back(alloc, plan, shape, *count, session),
+        SessionCommand::Show(to) => {
+            show_session(alloc, plan, to, session, text)?;
             Ok(None)
         }
-        Wish::Events => {
+        SessionCommand::Events => {
             list_session(plan, session, text)?;
             Ok(None)
         }
-        Wish::Help => {
+        SessionCommand::Help => {
             add_words(text)?;
             Ok(None)
         }
-        Wish::End | Wish::Nothing => Ok(None),
+        SessionCommand::End | SessionCommand::Nothing => Ok(None),
     }
 }
 
 /// A line of a script happens, and its events are printed; or nothing happens.
-fn do_line<C: Exclusion>(
+fn do_line<C: Exclusion + Knowledge>(
     alloc: Global,
     plan: &Plan,
     shape: &C::Shape,
@@ -78,11 +80,11 @@ where
     requires over { IsOver (length plan.now.nodes) (length plan.now.registers) line.now.order }
     requires empty { string_bytes text.old ≡ [] }
     ensures turned { IfOk result (λ fault. MatchOption fault
-        (Comes C.core (letter_text C.Msg.parts) plan.now shape.now turn.does
+        (Comes C.core (letter_text C.Msg.parts) C.knows plan.now shape.now turn.does
         (state session.old.moment session.old.done.items session.old.marks.items)
         (state session.new.moment session.new.done.items session.new.marks.items)
         (string_bytes text.new))
-        (λ _. Comes C.core (letter_text C.Msg.parts) plan.now shape.now turn.rests
+        (λ _. Comes C.core (letter_text C.Msg.parts) C.knows plan.now shape.now turn.rests
         (state session.old.moment session.old.done.items session.old.marks.items)
         (state session.new.moment session.new.done.items session.new.marks.items)
         (string_bytes text.new))) }
@@ -102,17 +104,17 @@ where
             session.marks.push(before)?;
             Ok(None)
         }
-        Err(LineFault::Memory) => Err(AllocError),
-        Err(fault) => {
+        Err(LineStop::Memory) => Err(AllocError),
+        Err(stop) => {
             take_to(alloc, plan, shape, before, session)?;
             text.clear();
-            Ok(Some(Complaint::Line(fault)))
+            Ok(Some(Complaint::Stop(stop)))
         }
     }
 }
 
 /// The last lines never happened; or nothing changes, where there are fewer.
-fn take_back<C: Exclusion>(
+fn take_back<C: Exclusion + Knowledge>(
     alloc: Global,
     plan: &Plan,
     shape: &C::Shape,
@@ -124,10 +126,10 @@ where
     requires is { IsSession C.core plan.now shape.now
         (state session.old.moment session.old.done.items session.old.marks.items) }
     ensures turned { IfOk result (λ fault. MatchOption fault
-        (Comes C.core (letter_text C.Msg.parts) plan.now shape.now (turn.takes_back count)
+        (Comes C.core (letter_text C.Msg.parts) C.knows plan.now shape.now (turn.takes_back count)
         (state session.old.moment session.old.done.items session.old.marks.items)
         (state session.new.moment session.new.done.items session.new.marks.items) [])
-        (λ _. Comes C.core (letter_text C.Msg.parts) plan.now shape.now turn.rests
+        (λ _. Comes C.core (letter_text C.Msg.parts) C.knows plan.now shape.now turn.rests
         (state session.old.moment session.old.done.items session.old.marks.items)
         (state session.new.moment session.new.done.items session.new.marks.items) [])) }
     ensures is { IfOk result (λ _. IsSession C.core plan.now shape.now
@@ -145,7 +147,7 @@ where
 }
 
 /// What happened beyond this much never happened.
-fn take_to<C: Exclusion>(
+fn take_to<C: Exclusion + Knowledge>(
     alloc: Global,
     plan: &Plan,
     shape: &C::Shape,

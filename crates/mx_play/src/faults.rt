@@ -1,16 +1,18 @@
 //! Why a line of a session does nothing.
 
-use mx_diagnosis::told_of_session_line;
+use mx_lines::{FirstWords, LineFault};
 use mx_plan::Plan;
-use mx_scripts::LineFault;
+use mx_scripts::{LineStop, message_of};
 use std::alloc::{AllocError, Global};
 use std::{fmt, str};
 
 /// Why a line of a session does nothing.
 #[derive(Clone, Copy)]
 pub(crate) enum Complaint {
-    /// As of a line of a script.
-    Line(LineFault),
+    /// It is not in UTF-8.
+    NotText,
+    /// One of its words is wrong, or what it asks for can't be done.
+    Stop(LineStop),
     /// It has more than 65,536 bytes.
     TooLong,
     /// So many lines were done, and more are to be taken back.
@@ -20,7 +22,8 @@ pub(crate) enum Complaint {
 impl fmt::Display for Complaint {
     fn fmt<W: fmt::Write>(&self, f: &mut fmt::Formatter<W>) -> fmt::Result {
         match self {
-            Complaint::Line(fault) => write!(f, "{fault}"),
+            Complaint::NotText => write!(f, "{}", LineFault::NotText),
+            Complaint::Stop(stop) => write!(f, "{stop}"),
             Complaint::TooLong => f.write_str("more than 65536 bytes"),
             Complaint::TooFew(lines) => write!(f, "only {lines} to take back"),
         }
@@ -32,8 +35,8 @@ impl fmt::Display for Complaint {
 pub(crate) struct ComplaintLine {
     number: u64,
     complaint: Complaint,
-    /// The word that is wrong, and what was expected, behind a colon; or nothing.
-    told: String,
+    /// The message about its words, after a colon; or nothing.
+    message: String,
 }
 
 impl ComplaintLine {
@@ -48,7 +51,7 @@ impl ComplaintLine {
         Ok(ComplaintLine {
             number,
             complaint,
-            told: told_of(alloc, plan, &complaint, line)?,
+            message: message_about(alloc, plan, &complaint, line)?,
         })
     }
 }
@@ -56,27 +59,21 @@ impl ComplaintLine {
 impl fmt::Display for ComplaintLine {
     fn fmt<W: fmt::Write>(&self, f: &mut fmt::Formatter<W>) -> fmt::Result {
         let fault = self.complaint;
-        writeln!(f, "mx: play: line {}: {fault}{}", self.number, self.told)
+        writeln!(f, "mx: play: line {}: {fault}{}", self.number, self.message)
     }
 }
 
-/// What is told behind a fault, where it is one of words.
-fn told_of(
+/// The message about the words of a line, if they are at fault.
+fn message_about(
     alloc: Global,
     plan: &Plan,
     complaint: &Complaint,
     line: &[u8],
 ) -> Result<String, AllocError> {
     match (complaint, str::from_utf8(line)) {
-        (Complaint::Line(_), Ok(text)) => told_of_words(alloc, plan, text),
+        (Complaint::Stop(stop), Ok(text)) => {
+            message_of(alloc, plan, FirstWords::OfSessions, stop, text)
+        }
         _ => Ok(String::new(alloc)),
     }
-}
-
-fn told_of_words(alloc: Global, plan: &Plan, line: &str) -> Result<String, AllocError> {
-    let words = told_of_session_line(alloc, plan, line)?;
-    let mut told = String::new(alloc);
-    told.push_str(":")?;
-    told.push_str(words.as_str())?;
-    Ok(told)
 }

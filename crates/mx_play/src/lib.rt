@@ -14,7 +14,6 @@ mod session;
 mod showing;
 mod starting;
 mod talking;
-mod wishes;
 mod words;
 
 pub use command::play;

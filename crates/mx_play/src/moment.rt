@@ -10,10 +10,11 @@ ghost use Rattle.mx_play.specs.Moments.{Brings, CanHappen, CanLead, Leads, first
 use crate::happening::Happening;
 use mx_cli::Stop;
 use mx_commands::{start, step};
+use mx_lines::LineFault;
 use mx_network::{Cluster, Event, StepFault};
 use mx_nodelaws::Exclusion;
 use mx_plan::Plan;
-use mx_scripts::{LineFault, Mail};
+use mx_scripts::{LineStop, Mail};
 use mx_stamps::NodeId;
 use mx_texts::Letter;
 use std::alloc::{AllocError, Global};
@@ -86,7 +87,7 @@ impl<C: Exclusion> Moment<C> {
         plan: &Plan,
         event: &Event,
         text: &mut String,
-    ) -> Result<(), LineFault>
+    ) -> Result<(), LineStop>
     where
         C::Msg: Letter,
         requires { NamesNodes (length self.old.cluster.members) event.now }
@@ -126,7 +127,7 @@ fn add_event<C: Exclusion>(
     event: &Event,
     cluster: &mut Cluster<C>,
     text: &mut String,
-) -> Result<(), LineFault>
+) -> Result<(), LineStop>
 where
     C::Msg: Letter,
     requires { NamesNodes (length cluster.old.members) event.now }
@@ -139,8 +140,8 @@ where
     let index = cluster.trace().len() as u64;
     match step(plan, index, event, cluster, &mut one) {
         Ok(()) => Ok(text.push_str(one.as_str())?),
-        Err(Stop::Memory) => Err(LineFault::Memory),
-        Err(_) => Err(LineFault::NoParcel),
+        Err(Stop::Memory) => Err(LineStop::Memory),
+        Err(_) => Err(LineStop::Undone(LineFault::NoParcel)),
     }
 }
 

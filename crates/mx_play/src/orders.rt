@@ -8,10 +8,11 @@ ghost use Rattle.mx_play.specs.Sessions.{Adds, Extends, Loses};
 
 use crate::happening::Happening;
 use crate::moment::Moment;
+use mx_lines::{Line, LineFault, Order};
 use mx_network::Event;
 use mx_nodelaws::Exclusion;
 use mx_plan::Plan;
-use mx_scripts::{Line, LineFault, Order};
+use mx_scripts::LineStop;
 use mx_stamps::{MOST_EVENTS, NodeId};
 use mx_texts::Letter;
 use std::alloc::Global;
@@ -25,7 +26,7 @@ pub(crate) fn repeat<C: Exclusion>(
     moment: &mut Moment<C>,
     done: &mut Vec<Happening>,
     text: &mut String,
-) -> Result<(), LineFault>
+) -> Result<(), LineStop>
 where
     C::Msg: Letter,
     requires members { length moment.old.cluster.members ≡ length plan.now.nodes }
@@ -48,7 +49,7 @@ fn obey<C: Exclusion>(
     moment: &mut Moment<C>,
     done: &mut Vec<Happening>,
     text: &mut String,
-) -> Result<(), LineFault>
+) -> Result<(), LineStop>
 where
     C::Msg: Letter,
     requires members { length moment.old.cluster.members ≡ length plan.now.nodes }
@@ -96,7 +97,7 @@ fn happen<C: Exclusion>(
     moment: &mut Moment<C>,
     done: &mut Vec<Happening>,
     text: &mut String,
-) -> Result<(), LineFault>
+) -> Result<(), LineStop>
 where
     C::Msg: Letter,
     requires members { length moment.old.cluster.members ≡ length plan.now.nodes }
@@ -106,7 +107,7 @@ where
     ensures err { OnErr result (Extends done.old.items done.new.items) }
 {
     if moment.cluster().trace().len() >= MOST_EVENTS {
-        return Err(LineFault::TooMany);
+        return Err(LineStop::Undone(LineFault::TooMany));
     }
     moment.happen(alloc, plan, event, text)?;
     done.push(Happening::Happens(*event))?;
@@ -122,7 +123,7 @@ fn arrive<C: Exclusion>(
     moment: &mut Moment<C>,
     done: &mut Vec<Happening>,
     text: &mut String,
-) -> Result<(), LineFault>
+) -> Result<(), LineStop>
 where
     C::Msg: Letter,
     requires members { length moment.old.cluster.members ≡ length plan.now.nodes }
@@ -132,7 +133,7 @@ where
 {
     match number {
         Some(number) => happen(alloc, plan, &Event::Deliver(number), moment, done, text),
-        None => Err(fault),
+        None => Err(LineStop::Undone(fault)),
     }
 }
 
@@ -143,7 +144,7 @@ fn all_arrive<C: Exclusion>(
     moment: &mut Moment<C>,
     done: &mut Vec<Happening>,
     text: &mut String,
-) -> Result<(), LineFault>
+) -> Result<(), LineStop>
 where
     C::Msg: Letter,
     requires members { length moment.old.cluster.members ≡ length plan.now.nodes }
@@ -166,12 +167,12 @@ fn lose<C: Exclusion>(
     to: NodeId,
     moment: &mut Moment<C>,
     done: &mut Vec<Happening>,
-) -> Result<(), LineFault>
+) -> Result<(), LineStop>
     ensures ok { OnOk result (Loses C.core moment.old moment.new done.old.items done.new.items) }
     ensures err { OnErr result (Extends done.old.items done.new.items) }
 {
     let Some(number) = moment.oldest_between(from, to) else {
-        return Err(LineFault::NotUnderWay);
+        return Err(LineStop::Undone(LineFault::NotUnderWay));
     };
     moment.lose(number);
     done.push(Happening::IsLost(number))?;

@@ -10,6 +10,7 @@ use crate::session::{Session, begin};
 use crate::talking::{finish, talk};
 use mx_cli::Stop;
 use mx_io::Output;
+use mx_knowledge::Knowledge;
 use mx_maekawa::Maekawa;
 use mx_nodelaws::Exclusion;
 use mx_plan::{Plan, Shape};
@@ -49,7 +50,7 @@ pub(crate) fn play_by<L: Lines, O: Output, E: Output>(
 }
 
 /// Plays a session that has not begun yet, in the cluster of a shape. Returns the status.
-fn play_in<C: Exclusion, L: Lines, O: Output, E: Output>(
+fn play_in<C: Exclusion + Knowledge, L: Lines, O: Output, E: Output>(
     alloc: Global,
     plan: &Plan,
     shape: &C::Shape,
@@ -64,7 +65,8 @@ where
     requires count { C.core.count shape.now ≡ length plan.now.nodes }
     requires start { state session.old.moment session.old.done.items session.old.marks.items
         ≡ at_start C.core plan.now shape.now }
-    ensures played { IfOk result (λ _. IsPlayed C.core (letter_text C.Msg.parts) plan.now shape.now
+    ensures played { IfOk result (λ _. IsPlayed C.core (letter_text C.Msg.parts)
+        C.knows plan.now shape.now
         (O.written out.old) (O.written out.new)) }
     ensures zero { IfOk result (λ status. status ≡ 0) }
 {
@@ -73,7 +75,7 @@ where
 }
 
 /// The lines of a script are answered, and then those that come.
-fn play_lines<C: Exclusion, L: Lines, O: Output, E: Output>(
+fn play_lines<C: Exclusion + Knowledge, L: Lines, O: Output, E: Output>(
     alloc: Global,
     plan: &Plan,
     shape: &C::Shape,
@@ -87,7 +89,8 @@ where
     C::Msg: Letter,
     requires { IsSession C.core plan.now shape.now
         (state session.old.moment session.old.done.items session.old.marks.items) }
-    ensures talked { OnOk result (HasTalked C.core (letter_text C.Msg.parts) plan.now shape.now
+    ensures talked { OnOk result (HasTalked C.core (letter_text C.Msg.parts)
+        C.knows plan.now shape.now
         (state session.old.moment session.old.done.items session.old.marks.items)
         (state session.new.moment session.new.done.items session.new.marks.items)
         (O.written out.old) (O.written out.new)) }
@@ -101,7 +104,7 @@ where
 }
 
 /// The lines that come are answered, where the session has not ended.
-fn go_on<C: Exclusion, L: Lines, O: Output, E: Output>(
+fn go_on<C: Exclusion + Knowledge, L: Lines, O: Output, E: Output>(
     alloc: Global,
     plan: &Plan,
     shape: &C::Shape,
@@ -115,7 +118,8 @@ where
     C::Msg: Letter,
     requires { IsSession C.core plan.now shape.now
         (state session.old.moment session.old.done.items session.old.marks.items) }
-    ensures talked { OnOk result (HasTalked C.core (letter_text C.Msg.parts) plan.now shape.now
+    ensures talked { OnOk result (HasTalked C.core (letter_text C.Msg.parts)
+        C.knows plan.now shape.now
         (state session.old.moment session.old.done.items session.old.marks.items)
         (state session.new.moment session.new.done.items session.new.marks.items)
         (O.written out.old) (O.written out.new)) }

@@ -10,6 +10,7 @@ ghost use Rattle.mx_play.specs.Sessions.{at_start, standing_lines, state, waitin
 use crate::happening::Happening;
 use crate::moment::Moment;
 use crate::showing::{add_end, add_events, show};
+use mx_knowledge::Knowledge;
 use mx_nodelaws::Exclusion;
 use mx_plan::Plan;
 use mx_stamps::NodeId;
@@ -43,7 +44,8 @@ pub(crate) fn begin<C: Exclusion>(
 }
 
 /// Appends the line of each node, or of one, and those of the parcels under way to it.
-pub(crate) fn show_session<C: Exclusion>(
+pub(crate) fn show_session<C: Exclusion + Knowledge>(
+    alloc: Global,
     plan: &Plan,
     to: &Option<NodeId>,
     session: &Session<C>,
@@ -53,11 +55,11 @@ where
     C::Msg: Letter,
     requires { length session.now.moment.cluster.members ≡ length plan.now.nodes }
     ensures { OnOk result (string_bytes text.new ≡ string_bytes text.old
-        ++ (standing_lines C.core (letter_text C.Msg.parts) plan.now to.now
+        ++ (standing_lines C.core C.knows plan.now to.now
         session.now.moment.cluster
         ++ waiting_lines C.core (letter_text C.Msg.parts) plan.now to.now session.now.moment)) }
 {
-    show(plan, to, &session.moment, text)
+    show(alloc, plan, to, &session.moment, text)
 }
 
 /// Appends the events as a file.

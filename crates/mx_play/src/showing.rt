@@ -2,26 +2,29 @@
 
 ghost use Rattle.std.specs.Prelude.{◌≡◌, ◌+◌, ◌<◌, ◌++◌, ◌&&◌, drop, length, string_bytes, IfOk, OnOk, Some};
 ghost use Rattle.mx_texts.specs.LetterTexts.{letter_text};
+ghost use Rattle.mx_texts.specs.FactTexts.{facts_line};
 ghost use Rattle.mx_texts.specs.Lines.{texts_from};
 ghost use Rattle.mx_commands.specs.Runs.{closing_text};
 ghost use Rattle.mx_scripts.specs.Fates.{is_under_way};
 ghost use Rattle.mx_scripts.specs.Files.{file_text};
 ghost use Rattle.mx_scripts.specs.Played.{events_of};
-ghost use Rattle.mx_play.specs.Sessions.{is_to, standing_lines, waiting_line, waiting_lines};
+ghost use Rattle.mx_play.specs.Sessions.{is_to, node_shown, standing_lines, waiting_line, waiting_lines};
 
 use crate::moment::Moment;
-use mx_commands::{add_closing, add_nodes, verdict_status};
-use mx_member::SentParcel;
+use mx_commands::{add_closing, verdict_status};
+use mx_knowledge::Knowledge;
+use mx_member::{Member, SentParcel};
 use mx_network::Cluster;
 use mx_nodelaws::Exclusion;
 use mx_plan::Plan;
 use mx_scripts::add_file;
-use mx_stamps::NodeId;
-use mx_texts::{Letter, add_member_line, add_parcel_line};
-use std::alloc::AllocError;
+use mx_stamps::{MOST_NODES, NodeId};
+use mx_texts::{Letter, add_facts_line, add_member_line, add_parcel_line};
+use std::alloc::{AllocError, Global};
 
 /// Appends the line of each node, or of one, and those of the parcels under way to it.
-pub(crate) fn show<C: Exclusion>(
+pub(crate) fn show<C: Exclusion + Knowledge>(
+    alloc: Global,
     plan: &Plan,
     to: &Option<NodeId>,
     moment: &Moment<C>,
@@ -31,10 +34,10 @@ where
     C::Msg: Letter,
     requires { length moment.now.cluster.members ≡ length plan.now.nodes }
     ensures { OnOk result (string_bytes text.new ≡ string_bytes text.old
-        ++ (standing_lines C.core (letter_text C.Msg.parts) plan.now to.now moment.now.cluster
+        ++ (standing_lines C.core C.knows plan.now to.now moment.now.cluster
         ++ waiting_lines C.core (letter_text C.Msg.parts) plan.now to.now moment.now)) }
 {
-    add_standing(plan, to, moment.cluster(), text)?;
+    add_standing(alloc, plan, to, moment.cluster(), text)?;
     add_waiting(plan, to, moment, text)
 }
 
@@ -68,7 +71,8 @@ where
 }
 
 /// Appends the line of each node, or of one.
-fn add_standing<C: Exclusion>(
+fn add_standing<C: Exclusion + Knowledge>(
+    alloc: Global,
     plan: &Plan,
     to: &Option<NodeId>,
     cluster: &Cluster<C>,
@@ -78,16 +82,86 @@ where
     C::Msg: Letter,
     requires { length cluster.now.members ≡ length plan.now.nodes }
     ensures { OnOk result (string_bytes text.new ≡ string_bytes text.old
-        ++ standing_lines C.core (letter_text C.Msg.parts) plan.now to.now cluster.now) }
+        ++ standing_lines C.core C.knows plan.now to.now cluster.now) }
 {
     match to {
-        Some(node) => add_one(plan, *node, cluster, text),
-        None => add_nodes(plan, cluster, text),
+        Some(node) => add_one(alloc, plan, *node, cluster, text),
+        None => add_each(alloc, plan, cluster, text),
     }
 }
 
+/// Appends the lines of each node.
+fn add_each<C: Exclusion + Knowledge>(
+    alloc: Global,
+    plan: &Plan,
+    cluster: &Cluster<C>,
+    text: &mut String,
+) -> Result<(), AllocError>
+    requires { length cluster.now.members ≡ length plan.now.nodes }
+    ensures { OnOk result (string_bytes text.new ≡ string_bytes text.old
+        ++ standing_lines C.core C.knows plan.now None cluster.now) }
+{
+    for index in 0..plan.nodes() {
+        add_member(alloc, plan, cluster, index, text)?;
+    }
+    Ok(())
+}
+
+/// Appends the lines of the node of this index.
+fn add_member<C: Exclusion + Knowledge>(
+    alloc: Global,
+    plan: &Plan,
+    cluster: &Cluster<C>,
+    index: u8,
+    text: &mut String,
+) -> Result<(), AllocError>
+    requires few { index < MOST_NODES }
+    requires there { index < length cluster.now.members }
+    ensures { OnOk result (string_bytes text.old
+        ++ texts_from (node_shown C.core C.knows plan.now) index (drop index cluster.now.members)
+        ≡ string_bytes text.new
+        ++ texts_from (node_shown C.core C.knows plan.now) (index + 1)
+        (drop (index + 1) cluster.now.members)) }
+{
+    let node = NodeId::of(index).unwrap();
+    match cluster.member(node) {
+        Some(member) => add_shown(alloc, plan, node, member, text),
+        None => unreachable!(),
+    }
+}
+
+/// Appends the line of a node, and that of what it knows.
+fn add_shown<C: Exclusion + Knowledge>(
+    alloc: Global,
+    plan: &Plan,
+    node: NodeId,
+    member: &Member<C>,
+    text: &mut String,
+) -> Result<(), AllocError>
+    ensures { OnOk result (string_bytes text.new ≡ string_bytes text.old
+        ++ node_shown C.core C.knows plan.now node member.now) }
+{
+    add_member_line(plan, node, member, text)?;
+    add_known(alloc, plan, member, text)
+}
+
+/// Appends the line of what a node knows.
+fn add_known<C: Exclusion + Knowledge>(
+    alloc: Global,
+    plan: &Plan,
+    member: &Member<C>,
+    text: &mut String,
+) -> Result<(), AllocError>
+    ensures { OnOk result (string_bytes text.new ≡ string_bytes text.old
+        ++ facts_line plan.now (C.knows member.now.core)) }
+{
+    let facts = member.core().facts(alloc)?;
+    add_facts_line(plan, &facts, text)
+}
+
 /// Appends the line of a node.
-fn add_one<C: Exclusion>(
+fn add_one<C: Exclusion + Knowledge>(
+    alloc: Global,
     plan: &Plan,
     node: NodeId,
     cluster: &Cluster<C>,
@@ -96,10 +170,10 @@ fn add_one<C: Exclusion>(
 where
     C::Msg: Letter,
     ensures { OnOk result (string_bytes text.new ≡ string_bytes text.old
-        ++ standing_lines C.core (letter_text C.Msg.parts) plan.now (Some node) cluster.now) }
+        ++ standing_lines C.core C.knows plan.now (Some node) cluster.now) }
 {
     match cluster.member(node) {
-        Some(member) => add_member_line(plan, node, member, text),
+        Some(member) => add_shown(alloc, plan, node, member, text),
         None => Ok(()),
     }
 }

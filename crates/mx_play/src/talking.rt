@@ -5,25 +5,27 @@ ghost use Rattle.std.specs.Io.KnownBytes.{Appends};
 ghost use Rattle.mx_texts.specs.LetterTexts.{letter_text};
 ghost use Rattle.mx_commands.specs.Runs.{closing_text};
 ghost use Rattle.mx_play.specs.Sessions.{HasTalked, HasTurned, IsSession, SaysTurn, state};
-ghost use Rattle.mx_play.specs.Wishes.{IsHeard};
+ghost use Rattle.mx_play.specs.Commands.{IsHeard};
 
 use crate::answers::answer;
 use crate::faults::{Complaint, ComplaintLine};
 use crate::reading::{Given, Lines};
 use crate::session::{Session, end_session};
-use crate::wishes::{Wish, read_wish};
 use mx_cli::{Fault, Named, Stop, put_line};
 use mx_io::{Output, OutputFault};
+use mx_knowledge::Knowledge;
+use mx_lines::{SessionCommand, read_command, words_in};
 use mx_nodelaws::Exclusion;
 use mx_plan::Plan;
-use mx_scripts::LineFault;
+use mx_scripts::LineStop;
 use mx_texts::Letter;
 use std::alloc::{AllocError, Global};
+use std::str;
 
 /// What is heard of a line.
 #[derive(Clone, Copy)]
 pub(crate) enum Heard {
-    Wish(Wish),
+    Command(SessionCommand),
     Fault(Complaint),
     /// There are no more lines.
     Silence,
@@ -31,7 +33,7 @@ pub(crate) enum Heard {
 
 /// The lines are answered, the first of which has this number, until there are no more, or one ends
 /// the session. Returns the number of the next line, where the session may go on.
-pub(crate) fn talk<C: Exclusion, L: Lines, O: Output, E: Output>(
+pub(crate) fn talk<C: Exclusion + Knowledge, L: Lines, O: Output, E: Output>(
     alloc: Global,
     plan: &Plan,
     shape: &C::Shape,
@@ -45,7 +47,8 @@ where
     C::Msg: Letter,
     requires { IsSession C.core plan.now shape.now
         (state session.old.moment session.old.done.items session.old.marks.items) }
-    ensures talked { IfOk result (λ _. HasTalked C.core (letter_text C.Msg.parts) plan.now shape.now
+    ensures talked { IfOk result (λ _. HasTalked C.core (letter_text C.Msg.parts)
+        C.knows plan.now shape.now
         (state session.old.moment session.old.done.items session.old.marks.items)
         (state session.new.moment session.new.done.items session.new.marks.items)
         (O.written out.old) (O.written out.new)) }
@@ -66,7 +69,7 @@ where
 
 /// Reads the line of this number, which is put in the place of the one before, answers it, and
 /// tells what is wrong with it. Returns what was heard.
-fn turn<C: Exclusion, L: Lines, O: Output, E: Output>(
+fn turn<C: Exclusion + Knowledge, L: Lines, O: Output, E: Output>(
     alloc: Global,
     plan: &Plan,
     shape: &C::Shape,
@@ -81,7 +84,8 @@ where
     C::Msg: Letter,
     requires { IsSession C.core plan.now shape.now
         (state session.old.moment session.old.done.items session.old.marks.items) }
-    ensures says { IfOk result (λ _. SaysTurn C.core (letter_text C.Msg.parts) plan.now shape.now
+    ensures says { IfOk result (λ _. SaysTurn C.core (letter_text C.Msg.parts)
+        C.knows plan.now shape.now
         (state session.old.moment session.old.done.items session.old.marks.items)
         (state session.new.moment session.new.done.items session.new.marks.items)
         (O.written out.old) (O.written out.new)) }
@@ -126,16 +130,26 @@ fn prompt<E: Output>(err: &mut E) -> Result<(), OutputFault> {
 fn heard_in(alloc: Global, plan: &Plan, line: &[u8]) -> Result<Heard, Stop>
     ensures { IfOk result (IsHeard (length plan.now.nodes) (length plan.now.registers)) }
 {
-    match read_wish(alloc, plan, line) {
-        Ok(wish) => Ok(Heard::Wish(wish)),
-        Err(LineFault::Memory) => Err(Stop::Memory),
-        Err(fault) => Ok(Heard::Fault(Complaint::Line(fault))),
+    match str::from_utf8(line) {
+        Ok(text) => heard_in_text(alloc, plan, text),
+        Err(_) => Ok(Heard::Fault(Complaint::NotText)),
+    }
+}
+
+/// What a text asks for.
+fn heard_in_text(alloc: Global, plan: &Plan, text: &str) -> Result<Heard, Stop>
+    ensures { IfOk result (IsHeard (length plan.now.nodes) (length plan.now.registers)) }
+{
+    let words = words_in(alloc, text)?;
+    match read_command(plan, words.as_slice()) {
+        Ok(command) => Ok(Heard::Command(command)),
+        Err(error) => Ok(Heard::Fault(Complaint::Stop(LineStop::Unread(error)))),
     }
 }
 
 /// Whether the lines end here.
 fn is_end(heard: &Heard) -> bool {
-    matches!(heard, Heard::Silence | Heard::Wish(Wish::End))
+    matches!(heard, Heard::Silence | Heard::Command(SessionCommand::End))
 }
 
 /// The number of the next line, where the lines have ended here, but not the session.
@@ -147,7 +161,7 @@ fn next_of(heard: &Heard, number: u64) -> Option<u64> {
 }
 
 /// Does what was heard, prints what came of it, and passes that on before anything else is read.
-fn reply<C: Exclusion, O: Output>(
+fn reply<C: Exclusion + Knowledge, O: Output>(
     alloc: Global,
     plan: &Plan,
     shape: &C::Shape,
@@ -160,7 +174,8 @@ where
     requires is { IsSession C.core plan.now shape.now
         (state session.old.moment session.old.done.items session.old.marks.items) }
     requires heard { IsHeard (length plan.now.nodes) (length plan.now.registers) heard.now }
-    ensures says { IfOk result (λ _. SaysTurn C.core (letter_text C.Msg.parts) plan.now shape.now
+    ensures says { IfOk result (λ _. SaysTurn C.core (letter_text C.Msg.parts)
+        C.knows plan.now shape.now
         (state session.old.moment session.old.done.items session.old.marks.items)
         (state session.new.moment session.new.done.items session.new.marks.items)
         (O.written out.old) (O.written out.new)) }
@@ -175,7 +190,7 @@ where
 }
 
 /// Does what was heard, and adds what is to be printed of it.
-fn respond<C: Exclusion>(
+fn respond<C: Exclusion + Knowledge>(
     alloc: Global,
     plan: &Plan,
     shape: &C::Shape,
@@ -189,7 +204,8 @@ where
         (state session.old.moment session.old.done.items session.old.marks.items) }
     requires heard { IsHeard (length plan.now.nodes) (length plan.now.registers) heard.now }
     requires empty { string_bytes text.old ≡ [] }
-    ensures turned { IfOk result (λ _. HasTurned C.core (letter_text C.Msg.parts) plan.now shape.now
+    ensures turned { IfOk result (λ _. HasTurned C.core (letter_text C.Msg.parts)
+        C.knows plan.now shape.now
         (state session.old.moment session.old.done.items session.old.marks.items)
         (state session.new.moment session.new.done.items session.new.marks.items)
         (string_bytes text.new)) }
@@ -197,7 +213,7 @@ where
         (state session.new.moment session.new.done.items session.new.marks.items)) }
 {
     match heard {
-        Heard::Wish(wish) => answer(alloc, plan, shape, wish, session, text),
+        Heard::Command(command) => answer(alloc, plan, shape, command, session, text),
         Heard::Fault(complaint) => Ok(Some(*complaint)),
         Heard::Silence => Ok(None),
     }
@@ -232,7 +248,7 @@ fn complain<E: Output>(
 }
 
 /// Prints the closing lines and the verdict. Returns the status.
-pub(crate) fn finish<C: Exclusion, O: Output>(
+pub(crate) fn finish<C: Exclusion + Knowledge, O: Output>(
     alloc: Global,
     plan: &Plan,
     session: &Session<C>,

@@ -11,6 +11,7 @@ use mx_commands::command;
 use mx_count::count;
 use mx_explain::explain;
 use mx_io::{Output, Stream, Streams, as_slices, given_words, status_of};
+use mx_judge::judge_trace;
 use mx_live::live;
 use mx_picture::picture;
 use mx_play::{Typed, play};
@@ -41,6 +42,7 @@ where
         "draw" | "script" => event_file(alloc, words, &mut source, out, err),
         "explain" => explain(alloc, words, &mut Kept::new(alloc, source), out, err),
         "explore" if has_word(words, "--count") => count(alloc, words, &mut source, out, err),
+        "judge" => judge_trace(alloc, words, &mut source, out, err),
         "live" => live(rt, alloc, words, &mut source, out, err),
         "picture" => picture(alloc, words, &mut source, out, err),
         "play" => play(alloc, words, &mut source, &mut typed_lines(rt), out, err),

@@ -16,6 +16,7 @@
 #![tactic(auto)]
 
 mod exclusion;
+mod knowledge;
 mod queue;
 mod raymond;
 mod unacked;

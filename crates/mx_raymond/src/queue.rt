@@ -1,10 +1,12 @@
 //! The queue of a node.
 
-ghost use Rattle.std.specs.Prelude.{ℕ, ◌≡◌, false, [], ◌∷◌, ◌++◌, Some};
-ghost use Rattle.mx_raymond.specs.Queue.{is_queued, is_empty, head_of, rest_of, joined, without};
+ghost use Rattle.std.specs.Prelude.{ℕ, ◌≡◌, false, [], ◌∷◌, ◌++◌, Some, IfOk};
+ghost use Rattle.mx_raymond.specs.Queue.{is_queued, is_empty, head_of, rest_of, joined, queue_items, without};
 
 use arrayvec::ArrayVec;
+use mx_knowledge::Item;
 use mx_stamps::{MOST_NODES, NodeId};
+use std::alloc::{AllocError, Global};
 use std::marker::Model;
 
 /// How many names there may be: each node is in it at most once.
@@ -57,6 +59,17 @@ impl Queue {
         ensures { result ≡ head_of self.now }
     {
         self.names.as_slice().first().copied()
+    }
+
+    /// The names, as the values of a fact.
+    pub fn items(&self, alloc: Global) -> Result<Vec<Item>, AllocError>
+        ensures { IfOk result (λ items. items.items ≡ queue_items self.now) }
+    {
+        let mut items = Vec::new(alloc);
+        for name in self.names.as_slice() {
+            items.push(Item::Node(*name))?;
+        }
+        Ok(items)
     }
 
     /// Adds a name at the end. As no name is in it twice, there is room for it.

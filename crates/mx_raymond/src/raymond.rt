@@ -100,7 +100,7 @@ impl Raymond {
     ghost use Rattle.mx_raymond.specs.Step.{is_holder, HasPermission, has_permission, assign_privilege, make_request, withdrawing, privilege_again, request_again, is_neighbour, take_request, take_privilege, take_got};
 
     /// Whether the node has the privilege.
-    fn is_holder(&self) -> bool
+    pub(crate) fn is_holder(&self) -> bool
         ensures { result ≡ is_holder self.now }
     {
         self.holder.get() == self.me.get()

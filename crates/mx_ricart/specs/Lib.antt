@@ -1,5 +1,6 @@
--- Node (the state), Step (the step table), Good (the invariant); laws (their proofs).
+-- Node (the state), Step (the step table), Knows (what it shows), Good (the invariant); laws (their proofs).
 pub mod Node
 pub mod Step
+pub mod Knows
 pub mod Good
 pub mod laws

@@ -18,6 +18,7 @@
 
 mod count;
 mod exclusion;
+mod knowledge;
 mod ricart;
 
 pub use count::Count;

@@ -7,3 +7,4 @@ pub mod DrawnLemmas
 pub mod PrintedLemmas
 pub mod RefusedLemmas
 pub mod EndedLemmas
+pub mod OverLemmas

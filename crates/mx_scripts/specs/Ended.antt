@@ -55,7 +55,7 @@ ClosesScript takes_all names (Err (halt.Stop end)) old new status =
     Closes takes_all names (Err end) old new status
 ClosesScript takes_all names (Err (halt.AtLine line)) old new status =
     TellsFault takes_all (script_line line.number line.fault
-    (string_bytes line.told)) old new status
+    (string_bytes line.message)) old new status
 
 -- the status of a script of these names, and what standard error gets
 abbrev pub ScriptsOf : Bool → Bool → (Text → Option Telling) → Text × Text → Held → Held → ℕ

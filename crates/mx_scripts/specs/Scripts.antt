@@ -1,13 +1,20 @@
--- The lines of a script, and their faults.
-use Rattle.std.specs.Prelude.{ℕ, ◌++◌, codes, decimal, ⊤}
+-- The lines of a script, and why one is not done.
+use Rattle.std.specs.Prelude.{◌≡◌, ℕ, ◌++◌, Option, Some, None, codes, decimal, ⊤}
 use Rattle.mx_network.specs.declared.faults.StepFault.{StepFault}
 use Rattle.mx_network.specs.declared.faults.StepFault.TheVariants as step_fault
 use Rattle.mx_plan.specs.Text.{Text, line_feed}
 use Rattle.mx_explorer.specs.Drawn.{IsDrawn}
-use Rattle.mx_scripts.specs.declared.lines.Order.{Order}
-use Rattle.mx_scripts.specs.declared.lines.Order.TheVariants.{Happens, Arrives, AllArrive, IsLost, ArrivesAgain}
-use Rattle.mx_scripts.specs.declared.line_faults.LineFault.{LineFault}
-use Rattle.mx_scripts.specs.declared.line_faults.LineFault.TheVariants.{NotText, NoWord, WordCount, NoNode, NoRegister, NotNumber, NoParcel, NotUnderWay, NotDelivered, TooMany, Memory}
+use Rattle.mx_lines.specs.Texts.{fault_text}
+use Rattle.mx_lines.specs.declared.errors.LineFault.{LineFault}
+use Rattle.mx_lines.specs.declared.errors.LineFault.TheVariants.{NoNode, NoParcel}
+use Rattle.mx_lines.specs.declared.orders.Order.{Order}
+use Rattle.mx_lines.specs.declared.orders.Order.TheVariants.{Happens, Arrives, AllArrive, IsLost, ArrivesAgain}
+use Rattle.mx_cli.specs.declared.faults.Stop.TheVariants as end
+use Rattle.mx_scripts.specs.declared.halts.BadLine.{BadLine}
+use Rattle.mx_scripts.specs.declared.halts.Halt.{Halt}
+use Rattle.mx_scripts.specs.declared.halts.Halt.TheVariants as halt
+use Rattle.mx_scripts.specs.declared.halts.LineStop.{LineStop}
+use Rattle.mx_scripts.specs.declared.halts.LineStop.TheVariants as stop
 
 -- an event of an order names nodes below `nodes` and registers below `registers`
 abbrev pub IsOver : ℕ → ℕ → Order → Type 0
@@ -17,26 +24,29 @@ IsOver nodes registers AllArrive = ⊤
 IsOver nodes registers (IsLost from to) = ⊤
 IsOver nodes registers (ArrivesAgain from to) = ⊤
 
-abbrev pub fault_of_step : StepFault → LineFault
-fault_of_step step_fault.NoNode = NoNode
-fault_of_step step_fault.NoParcel = NoParcel
-fault_of_step step_fault.Memory = Memory
+abbrev pub stop_of_step : StepFault → LineStop
+stop_of_step step_fault.NoNode = stop.Undone NoNode
+stop_of_step step_fault.NoParcel = stop.Undone NoParcel
+stop_of_step step_fault.Memory = stop.Memory
 
-abbrev pub line_fault_text : LineFault → Text
-line_fault_text NotText = codes "not UTF-8"
-line_fault_text NoWord = codes "no such word"
-line_fault_text WordCount = codes "words missing or too many"
-line_fault_text NoNode = codes "no such node"
-line_fault_text NoRegister = codes "no such register"
-line_fault_text NotNumber = codes "not a number"
-line_fault_text NoParcel = codes "no such parcel"
-line_fault_text NotUnderWay = codes "no such parcel under way"
-line_fault_text NotDelivered = codes "no such parcel delivered"
-line_fault_text TooMany = codes "more than 1000000"
-line_fault_text Memory = codes "out of memory"
+-- why a line is refused that is not done; not at all, where memory ran out
+abbrev pub fault_of_stop : LineStop → Option LineFault
+fault_of_stop (stop.Unread error) = Some error.fault
+fault_of_stop (stop.Undone fault) = Some fault
+fault_of_stop stop.Memory = None
 
--- the line of a fault in the k-th line of a script, with what is told of its words
+-- a refused line, by its number and its fault
+abbrev pub IsRefused : ℕ → LineStop → BadLine → Type 0
+IsRefused number stop line =
+    (line.number ≡ number) × (fault_of_stop stop ≡ Some line.fault)
+
+-- the line of this number is not done: it is refused, or memory ran out
+abbrev pub IsHaltAt : ℕ → LineStop → Halt → Type 0
+IsHaltAt number stop (halt.Stop why) = why ≡ end.Memory
+IsHaltAt number stop (halt.AtLine line) = IsRefused number stop line
+
+-- the line of a fault in the k-th line of a script, with the message about its words
 abbrev pub script_line : ℕ → LineFault → Text → Text
-script_line k fault told =
-    codes "mx: script: line " ++ decimal k ++ codes ": " ++ line_fault_text fault ++ told
+script_line k fault message =
+    codes "mx: script: line " ++ decimal k ++ codes ": " ++ fault_text fault ++ message
     ++ line_feed

@@ -1,16 +1,15 @@
 //! `script`: the events that the lines of a script ask for, as a file.
 
-ghost use Rattle.std.specs.Prelude.{◌≡◌, ℕ, Ok, [], length, string_bytes, IfOk, OnOk};
+ghost use Rattle.std.specs.Prelude.{◌≡◌, ℕ, Ok, [], length, string_bytes, IfOk, IfSome, OnOk};
 ghost use Rattle.mx_network.specs.Step.{step_of};
 ghost use Rattle.mx_scripts.specs.Played.{IsEventFile, IsFileOf, Plays};
 ghost use Rattle.mx_scripts.specs.Scripts.{IsOver};
 
 use crate::files::file_of;
-use crate::halts::Halt;
-use crate::line_faults::LineFault;
-use crate::lines::{Order, read_line};
+use crate::halts::{Halt, LineStop};
 use crate::mail::Mail;
 use mx_commands::by_shape;
+use mx_lines::{Line, LineFault, Order, read_line, words_in};
 use mx_network::{Cluster, Event};
 use mx_nodelaws::Exclusion;
 use mx_plan::Plan;
@@ -85,13 +84,39 @@ fn one_line<C: Exclusion>(
     line: &str,
     cluster: &mut Cluster<C>,
     mail: &mut Mail,
-) -> Result<(), LineFault>
+) -> Result<(), LineStop>
     ensures { OnOk result
         (Plays C.core (length plan.now.nodes) (length plan.now.registers) cluster.old cluster.new) }
 {
-    let Some(line) = read_line(alloc, plan, line)? else {
-        return Ok(());
-    };
+    match line_in(alloc, plan, line)? {
+        Some(line) => repeat(plan, &line, cluster, mail),
+        None => Ok(()),
+    }
+}
+
+/// What a line asks for.
+fn line_in(alloc: Global, plan: &Plan, line: &str) -> Result<Option<Line>, LineStop>
+    ensures over { IfOk result (λ read. IfSome read (λ line.
+        IsOver (length plan.now.nodes) (length plan.now.registers) line.order)) }
+{
+    let words = words_in(alloc, line)?;
+    match read_line(plan, words.as_slice()) {
+        Ok(line) => Ok(line),
+        Err(error) => Err(LineStop::Unread(error)),
+    }
+}
+
+/// What a line asks for, as often as it asks.
+fn repeat<C: Exclusion>(
+    plan: &Plan,
+    line: &Line,
+    cluster: &mut Cluster<C>,
+    mail: &mut Mail,
+) -> Result<(), LineStop>
+    requires { IsOver (length plan.now.nodes) (length plan.now.registers) line.now.order }
+    ensures { OnOk result
+        (Plays C.core (length plan.now.nodes) (length plan.now.registers) cluster.old cluster.new) }
+{
     for _ in 0..line.times {
         obey(plan, &line.order, cluster, mail)?;
     }
@@ -104,7 +129,7 @@ fn obey<C: Exclusion>(
     order: &Order,
     cluster: &mut Cluster<C>,
     mail: &mut Mail,
-) -> Result<(), LineFault>
+) -> Result<(), LineStop>
     requires { IsOver (length plan.now.nodes) (length plan.now.registers) order.now }
     ensures { OnOk result
         (Plays C.core (length plan.now.nodes) (length plan.now.registers) cluster.old cluster.new) }
@@ -123,11 +148,11 @@ fn happen<C: Exclusion>(
     event: &Event,
     cluster: &mut Cluster<C>,
     mail: &mut Mail,
-) -> Result<(), LineFault>
+) -> Result<(), LineStop>
     ensures { OnOk result (step_of C.core cluster.old event.now ≡ Ok cluster.new) }
 {
     if cluster.trace().len() >= MOST_EVENTS {
-        return Err(LineFault::TooMany);
+        return Err(LineStop::Undone(LineFault::TooMany));
     }
     cluster.advance(*event)?;
     mail.note(event, cluster)?;
@@ -139,7 +164,7 @@ fn all_arrive<C: Exclusion>(
     plan: &Plan,
     cluster: &mut Cluster<C>,
     mail: &mut Mail,
-) -> Result<(), LineFault>
+) -> Result<(), LineStop>
     ensures { OnOk result
         (Plays C.core (length plan.now.nodes) (length plan.now.registers) cluster.old cluster.new) }
 {
@@ -158,13 +183,13 @@ fn arrive<C: Exclusion>(
     to: NodeId,
     cluster: &mut Cluster<C>,
     mail: &mut Mail,
-) -> Result<(), LineFault>
+) -> Result<(), LineStop>
     ensures { (nodes registers : ℕ)
         → OnOk result (Plays C.core nodes registers cluster.old cluster.new) }
 {
     match mail.oldest_between(cluster, from, to) {
         Some(number) => happen(&Event::Deliver(number), cluster, mail),
-        None => Err(LineFault::NotUnderWay),
+        None => Err(LineStop::Undone(LineFault::NotUnderWay)),
     }
 }
 
@@ -174,13 +199,13 @@ fn lose<C: Exclusion>(
     to: NodeId,
     cluster: &Cluster<C>,
     mail: &mut Mail,
-) -> Result<(), LineFault> {
+) -> Result<(), LineStop> {
     match mail.oldest_between(cluster, from, to) {
         Some(number) => {
             mail.lose(number);
             Ok(())
         }
-        None => Err(LineFault::NotUnderWay),
+        None => Err(LineStop::Undone(LineFault::NotUnderWay)),
     }
 }
 
@@ -190,12 +215,12 @@ fn arrive_again<C: Exclusion>(
     to: NodeId,
     cluster: &mut Cluster<C>,
     mail: &mut Mail,
-) -> Result<(), LineFault>
+) -> Result<(), LineStop>
     ensures { (nodes registers : ℕ)
         → OnOk result (Plays C.core nodes registers cluster.old cluster.new) }
 {
     match mail.last_between(from, to) {
         Some(number) => happen(&Event::Deliver(number), cluster, mail),
-        None => Err(LineFault::NotDelivered),
+        None => Err(LineStop::Undone(LineFault::NotDelivered)),
     }
 }

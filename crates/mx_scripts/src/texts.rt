@@ -1,7 +1,7 @@
 //! The text of a script.
 
-use crate::halts::Halt;
-use crate::line_faults::{BadLine, LineFault};
+use crate::halts::{BadLine, Halt};
+use mx_lines::LineFault;
 use std::alloc::Global;
 use std::str;
 
@@ -13,7 +13,8 @@ pub(crate) fn text_in(alloc: Global, bytes: &[u8]) -> Result<&str, Halt> {
         Err(e) => Err(Halt::AtLine(BadLine {
             number: line_at(bytes, e.valid_up_to()),
             fault: LineFault::NotText,
-            told: String::new(alloc),
+            is_unread: true,
+            message: String::new(alloc),
         })),
     }
 }

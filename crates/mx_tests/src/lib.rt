@@ -22,8 +22,6 @@ mod losing;
 #[cfg(test)]
 mod members;
 #[cfg(test)]
-mod plans;
-#[cfg(test)]
 mod registers;
 #[cfg(test)]
 mod runs;

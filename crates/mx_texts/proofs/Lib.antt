@@ -1,3 +1,4 @@
 pub mod Places
 pub mod NodeLemmas
 pub mod PlanLemmas
+pub mod FactLemmas

@@ -1,8 +1,10 @@
 -- The lines of events.
 use Rattle.std.specs.Prelude.{ℕ, [], ◌++◌, Option, Some, None, codes, decimal, length, slice_get, unwrap_or}
+use Rattle.mx_events.specs.declared.argument.Argument.{Argument}
+use Rattle.mx_events.specs.declared.argument.Argument.TheVariants.{Node, Register, Number}
 use Rattle.mx_events.specs.declared.event.Event.{Event}
-use Rattle.mx_events.specs.declared.event.Event.TheVariants.{Ask, Enter, Read, Write, Leave, Cancel, Tick, Want, Settle, Restart, Deliver}
-use Rattle.mx_events.specs.declared.kind.EventKind.TheVariants as kind
+use Rattle.mx_events.specs.Arguments.{given}
+use Rattle.mx_events.specs.Events.{kind_of}
 use Rattle.mx_events.specs.Words.{word_of}
 use Rattle.mx_sections.specs.declared.outcome.Cause.{Cause}
 use Rattle.mx_sections.specs.Causes.{cause_number, cause_words}
@@ -10,6 +12,7 @@ use Rattle.mx_sections.specs.declared.outcome.Outcome.{Outcome}
 use Rattle.mx_sections.specs.declared.outcome.Outcome.TheVariants.{Asked, Entered, Value, Written, Left, Cancelled, Sent, Settled, Delivered, Woken, Refused}
 use Rattle.mx_plan.specs.Text.{Text, line_feed}
 use Rattle.mx_plan.specs.Fields.{Fields}
+use Rattle.mx_texts.specs.Lines.{each_text}
 
 -- the name that the plan gives a node
 abbrev pub name_of : Fields → ℕ → Text
@@ -50,24 +53,16 @@ outcome_text Delivered = codes "delivered"
 outcome_text Woken = codes "woken"
 outcome_text (Refused cause) = codes "refused " ++ cause_text cause
 
--- an event, as a file of events has it, without brackets and quotes
+-- an argument: a name, or a number
+abbrev pub argument_text : Fields → Argument → Text
+argument_text p (Node node) = name_of p node
+argument_text p (Register register) = register_name_of p register
+argument_text p (Number number) = decimal number
+
+-- an event, as a file of events has it, without brackets, quotes and commas
 abbrev pub event_text : Fields → Event → Text
-event_text p (Ask node) = named (word_of kind.Ask) (name_of p node)
-event_text p (Enter node) = named (word_of kind.Enter) (name_of p node)
-event_text p (Read node register) =
-    named (word_of kind.Read) (name_of p node) ++ codes " " ++ register_name_of p register
-event_text p (Write node register value) =
-    named (word_of kind.Write) (name_of p node)
-    ++ codes " " ++ register_name_of p register ++ codes " " ++ decimal value
-event_text p (Leave node) = named (word_of kind.Leave) (name_of p node)
-event_text p (Cancel node) = named (word_of kind.Cancel) (name_of p node)
-event_text p (Tick node) = named (word_of kind.Tick) (name_of p node)
-event_text p (Want node other) =
-    named (word_of kind.Want) (name_of p node) ++ codes " " ++ name_of p other
-event_text p (Settle node upto) =
-    named (word_of kind.Settle) (name_of p node) ++ codes " " ++ decimal upto
-event_text p (Restart node) = named (word_of kind.Restart) (name_of p node)
-event_text p (Deliver k) = numbered (word_of kind.Deliver) k
+event_text p event =
+    word_of (kind_of event) ++ each_text (λ a. codes " " ++ argument_text p a) (given event)
 
 -- the line of the k-th event
 abbrev pub event_line : Fields → ℕ → Event → Outcome → Text

@@ -1,6 +1,6 @@
 -- Lines: texts of lists. Parts: what letters say. EventTexts, Words, LetterTexts, ParcelTexts,
 -- NodeTexts: each line of a replay. PlanTexts: the lines of a check, and that of an exploration.
--- AskTexts: whom nodes ask.
+-- AskTexts: whom nodes ask. FactTexts: what a node knows.
 pub mod Lines
 pub mod EventTexts
 pub mod Words
@@ -10,3 +10,4 @@ pub mod ParcelTexts
 pub mod NodeTexts
 pub mod PlanTexts
 pub mod AskTexts
+pub mod FactTexts

@@ -2,7 +2,7 @@
 use Rattle.std.specs.Prelude.{◌++◌, codes, decimal}
 use Rattle.mx_plan.specs.Text.{Text}
 use Rattle.mx_texts.specs.declared.words.Words.{Words}
-use Rattle.mx_texts.specs.declared.words.Words.TheVariants.{Word, Number, Numbers, Name, NameAndNumber, Names, NamesAndNumber}
+use Rattle.mx_texts.specs.declared.words.Words.TheVariants.{Word, Number, Numbers, Name, NameAndNumber}
 use Rattle.mx_texts.specs.EventTexts.{named, numbered}
 
 abbrev pub words_text : Words → Text
@@ -12,6 +12,3 @@ words_text (Numbers word number second other) =
     numbered word.now number ++ codes " " ++ numbered second.now other
 words_text (Name word name) = named word.now name.now
 words_text (NameAndNumber word name number) = named word.now name.now ++ codes " " ++ decimal number
-words_text (Names word name other) = named word.now name.now ++ codes " " ++ other.now
-words_text (NamesAndNumber word name other number) =
-    named word.now name.now ++ codes " " ++ other.now ++ codes " " ++ decimal number

@@ -2,9 +2,10 @@
 
 ghost use Rattle.std.specs.Prelude.{◌≡◌, ◌++◌, Some, codes};
 ghost use Rattle.mx_texts.specs.Words.{words_text};
-ghost use Rattle.mx_texts.specs.EventTexts.{name_of, register_name_of, cause_text, outcome_text, event_text, event_line};
+ghost use Rattle.mx_texts.specs.EventTexts.{name_of, register_name_of, argument_text, cause_text, outcome_text, event_text, event_line};
 
 use crate::words::Words;
+use mx_events::Argument;
 use mx_plan::Plan;
 use mx_sections::{Cause, Event, Outcome};
 use mx_stamps::NodeId;
@@ -69,48 +70,41 @@ impl fmt::Display for OutcomeText<'_> {
     }
 }
 
-/// An event, as a file of events has it, without brackets and quotes.
+/// An argument of an event: a name, or a number.
+#[derive(Clone, Copy)]
+pub struct ArgumentText<'a> {
+    pub plan: &'a Plan,
+    pub argument: &'a Argument,
+}
+
+impl fmt::Display for ArgumentText<'_> {
+    ghost output = { λ a. Some (argument_text a.plan.now a.argument.now) };
+
+    fn fmt<W: fmt::Write>(&self, f: &mut fmt::Formatter<W>) -> fmt::Result {
+        match self.argument {
+            Argument::Node(node) => f.write_str(name_of(self.plan, *node)),
+            Argument::Register(register) => f.write_str(register_name_of(self.plan, *register)),
+            Argument::Number(number) => write!(f, "{number}"),
+        }
+    }
+}
+
+/// An event, as a file of events has it, without brackets, quotes and commas.
 #[derive(Clone, Copy)]
 pub struct EventText<'a> {
     pub plan: &'a Plan,
     pub event: &'a Event,
 }
 
-impl<'a> EventText<'a> {
-    fn words(&self) -> Words<'a>
-        ensures { words_text result ≡ event_text self.now.plan.now self.now.event.now }
+impl EventText<'_> {
+    fn argument<'a>(&'a self, argument: &'a Argument) -> ArgumentText<'a>
+        ensures plan { result.plan.now ≡ self.now.plan.now }
+        ensures argument { result.argument.now ≡ argument.now }
     {
-        let word = self.event.kind().word();
-        match self.event {
-            Event::Ask(node)
-            | Event::Enter(node)
-            | Event::Leave(node)
-            | Event::Cancel(node)
-            | Event::Tick(node)
-            | Event::Restart(node) => Words::Name(word, self.name(*node)),
-            Event::Read(node, register) => {
-                Words::Names(word, self.name(*node), self.register(*register))
-            }
-            Event::Write(node, register, value) => {
-                let register = self.register(*register);
-                Words::NamesAndNumber(word, self.name(*node), register, *value)
-            }
-            Event::Want(node, other) => Words::Names(word, self.name(*node), self.name(*other)),
-            Event::Settle(node, upto) => Words::NameAndNumber(word, self.name(*node), *upto),
-            Event::Deliver(number) => Words::Number(word, *number),
+        ArgumentText {
+            plan: self.plan,
+            argument,
         }
-    }
-
-    fn name(&self, node: NodeId) -> &'a str
-        ensures { result.now ≡ name_of self.now.plan.now node }
-    {
-        name_of(self.plan, node)
-    }
-
-    fn register(&self, register: u8) -> &'a str
-        ensures { result.now ≡ register_name_of self.now.plan.now register }
-    {
-        register_name_of(self.plan, register)
     }
 }
 
@@ -118,7 +112,17 @@ impl fmt::Display for EventText<'_> {
     ghost output = { λ e. Some (event_text e.plan.now e.event.now) };
 
     fn fmt<W: fmt::Write>(&self, f: &mut fmt::Formatter<W>) -> fmt::Result {
-        self.words().fmt(f)
+        let word = self.event.kind().word();
+        let arguments = self.event.arguments();
+        match arguments.as_slice() {
+            [a] => write!(f, "{word} {}", self.argument(a)),
+            [a, b] => write!(f, "{word} {} {}", self.argument(a), self.argument(b)),
+            [a, b, c] => {
+                let (a, b, c) = (self.argument(a), self.argument(b), self.argument(c));
+                write!(f, "{word} {a} {b} {c}")
+            }
+            _ => f.write_str(word),
+        }
     }
 }
 

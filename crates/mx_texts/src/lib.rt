@@ -3,6 +3,7 @@
 
 mod asking;
 mod events;
+mod facts;
 mod letters;
 mod nodes;
 mod parcels;
@@ -13,7 +14,8 @@ mod standings;
 mod words;
 
 pub use asking::add_asks;
-pub use events::{EventLine, EventText, OutcomeText, name_of, register_name_of};
+pub use events::{ArgumentText, EventLine, EventText, OutcomeText, name_of, register_name_of};
+pub use facts::add_facts_line;
 pub use letters::Letter;
 pub use nodes::add_member_line;
 pub use parcels::{add_parcel, add_parcel_line};

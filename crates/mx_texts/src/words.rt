@@ -13,8 +13,6 @@ pub enum Words<'a> {
     Numbers(&'static str, u64, &'static str, u64),
     Name(&'static str, &'a str),
     NameAndNumber(&'static str, &'a str, u64),
-    Names(&'static str, &'a str, &'a str),
-    NamesAndNumber(&'static str, &'a str, &'a str, u64),
 }
 
 impl fmt::Display for Words<'_> {
@@ -29,10 +27,6 @@ impl fmt::Display for Words<'_> {
             }
             Words::Name(word, name) => write!(f, "{word} {name}"),
             Words::NameAndNumber(word, name, number) => write!(f, "{word} {name} {number}"),
-            Words::Names(word, name, other) => write!(f, "{word} {name} {other}"),
-            Words::NamesAndNumber(word, name, other, number) => {
-                write!(f, "{word} {name} {other} {number}")
-            }
         }
     }
 }

@@ -13,4 +13,6 @@ returns c = λ app is.
     let drawn = c.with_listed-with_draw.ensures live (c.with_listed-with_live.ensures app is) in
     let played = c.with_listed-with_play.ensures script (c.with_listed-with_script.ensures draw drawn) in
     let pictured = c.with_listed-with_picture.ensures play played in
-    c.with_listed.ensures count (c.with_listed-with_count.ensures picture pictured)
+    let judge = with_listed count (codes "judge") in
+    let counted = c.with_listed-with_count.ensures picture pictured in
+    c.with_listed.ensures judge (c.with_listed-with_judge.ensures count counted)

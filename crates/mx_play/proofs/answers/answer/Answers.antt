@@ -12,20 +12,20 @@ pub returns-in-Does-clause-turned : goal.returns-in-Does-clause-turned
 returns-in-Does-clause-turned g c =
     let s = c.args.session.now in
     let n = c.do_line.new.session in
-    turned_by g.C.Exclusion.core (letter_text g.C.Msg.Letter.parts) c.args.plan.now c.args.shape.now c.do_line.result does (state s.moment s.done.items s.marks.items)
+    turned_by g.C.Exclusion.core (letter_text g.C.Msg.Letter.parts) c.args.plan.now g.C.Knowledge.knows c.args.shape.now c.do_line.result does (state s.moment s.done.items s.marks.items)
     (state n.moment n.done.items n.marks.items) (string_bytes c.do_line.new.text) c.do_line.ensures.turned
 
 pub returns-in-Undo-clause-turned : goal.returns-in-Undo-clause-turned
 returns-in-Undo-clause-turned g c =
     let s = c.args.session.now in
     let n = c.take_back.new.session in
-    turned_silently g.C.Exclusion.core (letter_text g.C.Msg.Letter.parts) c.args.plan.now c.args.shape.now c.take_back.result (takes_back c.in-Undo.count) (state s.moment s.done.items s.marks.items)
+    turned_silently g.C.Exclusion.core (letter_text g.C.Msg.Letter.parts) c.args.plan.now g.C.Knowledge.knows c.args.shape.now c.take_back.result (takes_back c.in-Undo.count) (state s.moment s.done.items s.marks.items)
     (state n.moment n.done.items n.marks.items) (string_bytes c.args.text.now) c.requires.empty c.take_back.ensures.turned
 
 pub returns-in_ok-show_session-in-Show-clause-turned : goal.returns-in_ok-show_session-in-Show-clause-turned
 returns-in_ok-show_session-in-Show-clause-turned g c =
     let m = c.args.session.now.moment in
-    let what = standing_lines g.C.Exclusion.core (letter_text g.C.Msg.Letter.parts) c.args.plan.now c.in-Show.to m.cluster
+    let what = standing_lines g.C.Exclusion.core g.C.Knowledge.knows c.args.plan.now c.in-Show.to m.cluster
     ++ waiting_lines g.C.Exclusion.core (letter_text g.C.Msg.Letter.parts) c.args.plan.now c.in-Show.to m in
     record {
       turn = shows c.in-Show.to;

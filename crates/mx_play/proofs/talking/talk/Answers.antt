@@ -8,7 +8,7 @@ pub loop-number-init : goal.loop-number-init
 loop-number-init g c =
     let s = c.args.session.now in
     record {
-      talked = talked_not g.C.Exclusion.core (letter_text g.C.Msg.Letter.parts) c.args.plan.now c.args.shape.now (state s.moment s.done.items s.marks.items) (g.O.Output.written c.args.out.now);
+      talked = talked_not g.C.Exclusion.core (letter_text g.C.Msg.Letter.parts) c.args.plan.now g.C.Knowledge.knows c.args.shape.now (state s.moment s.done.items s.marks.items) (g.O.Output.written c.args.out.now);
       is = c.requires;
     }
 
@@ -27,7 +27,7 @@ returns-then-is_end-clause-talked g c =
     let o = g.O.Output.written c.args.out.now in
     let o' = g.O.Output.written c.loop-number.out in
     let o'' = g.O.Output.written c.turn.new.out in
-    talked_on core letter p shape first before after o o' o'' c.loop-number.invariant.talked (turn_talks core letter p shape before after o' o'' c.in_ok-heard.ensures.says)
+    talked_on core letter p g.C.Knowledge.knows shape first before after o o' o'' c.loop-number.invariant.talked (turn_talks core letter p g.C.Knowledge.knows shape before after o' o'' c.in_ok-heard.ensures.says)
 
 pub loop-number-preserved : goal.loop-number-preserved
 loop-number-preserved g c =
@@ -42,6 +42,6 @@ loop-number-preserved g c =
     let o' = g.O.Output.written c.loop-number.out in
     let o'' = g.O.Output.written c.turn.new.out in
     record {
-      talked = talked_on core letter p shape first before after o o' o'' c.loop-number.invariant.talked (turn_talks core letter p shape before after o' o'' c.in_ok-heard.ensures.says);
+      talked = talked_on core letter p g.C.Knowledge.knows shape first before after o o' o'' c.loop-number.invariant.talked (turn_talks core letter p g.C.Knowledge.knows shape before after o' o'' c.in_ok-heard.ensures.says);
       is = c.in_ok-heard.ensures.is;
     }

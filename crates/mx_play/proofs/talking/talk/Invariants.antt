@@ -7,7 +7,7 @@ invariant-loop-number g l =
     let core = g.C.Exclusion.core in
     let now = state l.session.moment l.session.done.items l.session.marks.items in
     record {
-      talked : HasTalked core (letter_text g.C.Msg.Letter.parts) l.plan l.shape
+      talked : HasTalked core (letter_text g.C.Msg.Letter.parts) g.C.Knowledge.knows l.plan l.shape
           (state l.initial.session.moment l.initial.session.done.items l.initial.session.marks.items) now
           (g.O.Output.written l.initial.out) (g.O.Output.written l.out);
       is : IsSession core l.plan l.shape now;

@@ -1,0 +1,3 @@
+mod ItemLemmas
+mod LineLemmas
+mod JudgeLemmas

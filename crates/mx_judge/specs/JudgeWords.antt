@@ -1,0 +1,28 @@
+-- What the words of `judge` ask for, as `clap` reads them.
+use Rattle.std.specs.Prelude.{List, Option, codes, option_map, option_and_then}
+use Rattle.clap.specs.Words.{App, Row, Rule, Text, first_of, new_app, with_rule}
+use Rattle.mx_cli.specs.Words.{asked_of, by_name, file_rule, line_with, plan_rule}
+
+abbrev pub trace_rule : Rule
+trace_rule = file_rule (codes "TRACE")
+
+-- `judge PLAN TRACE`
+abbrev pub judge_app : App
+judge_app = with_rule (with_rule (new_app (codes "judge")) plan_rule) trace_rule
+
+-- the whole command line
+unfoldable pub judge_line : App
+judge_line = line_with judge_app
+
+-- the names that were given for the plan and the trace
+abbrev pub judge_in : List Row → Option (Text × Text)
+judge_in rows =
+    option_and_then (λ plan. option_map (λ trace. (plan, trace)) (first_of (codes "TRACE") rows))
+    (first_of (codes "PLAN") rows)
+
+abbrev pub names_in : Option (Text × List Row) → Option (Text × Text)
+names_in met = by_name (codes "judge") judge_in met
+
+-- the names of what the words ask to judge, where they ask for that
+unfoldable pub names_asked : List Text → Option (Text × Text)
+names_asked words = asked_of judge_line names_in words

@@ -1,0 +1,98 @@
+-- What comes of the words that ask to judge a trace.
+use Rattle.std.specs.Prelude.{◌≡◌, ◌⊎◌, ◌↔◌, ◌&&◌, ℕ, List, Bool, false, Option, Some, None, IfSome, Result, Ok, Err}
+use Rattle.std.specs.Io.KnownBytes.{Appends, Keeps}
+use Rattle.mx_plan.specs.Text.{Text}
+use Rattle.mx_plan.specs.Fields.{Fields}
+use Rattle.mx_io.specs.Told.{Telling}
+use Rattle.mx_io.specs.Outputs.{Held}
+use Rattle.mx_sections.specs.declared.outcome.Entry.{Entry}
+use Rattle.mx_explorer.specs.Verdict.{IsFirstBroken, IsSoundTrace}
+use Rattle.mx_explorer.specs.declared.verdict.Clause.{Clause}
+use Rattle.mx_explorer.specs.declared.verdict.Verdict.{Verdict}
+use Rattle.mx_explorer.specs.declared.verdict.Verdict.TheVariants.{Sound, Broken}
+use Rattle.mx_cli.specs.declared.faults.Stop.{Stop}
+use Rattle.mx_cli.specs.declared.faults.Stop.TheVariants as stop
+use Rattle.mx_cli.specs.Closed.{Closes, PassesOn}
+use Rattle.mx_cli.specs.Naming.{IsUnread}
+use Rattle.mx_cli.specs.Reading.{IsPlanOf, plan_told, text_told}
+use Rattle.mx_cli.specs.Told.{Seen, TellsFault}
+use Rattle.mx_commands.specs.Ran.{verdict_status}
+use Rattle.mx_commands.specs.VerdictLines.{verdict_line}
+use Rattle.mx_judge.specs.Faults.{trace_line}
+use Rattle.mx_judge.specs.Traces.{trace_at}
+use Rattle.mx_judge.specs.declared.errors.JudgeError.{JudgeError}
+use Rattle.mx_judge.specs.declared.errors.JudgeError.TheVariants as error
+use Rattle.mx_judge.specs.declared.faults.TraceFault.{TraceFault}
+use Rattle.mx_judge.specs.declared.faults.TraceFault.TheVariants as fault
+
+-- why there is no verdict on a trace that is at fault
+abbrev pub error_of : TraceFault → JudgeError
+error_of fault.Memory = error.Stop stop.Memory
+error_of other = error.Trace other
+
+-- the verdict on a trace: sound exactly if the trace is, and else where and by what it is first
+-- broken
+abbrev pub IsVerdictOf : List Entry → Verdict → Type 0
+IsVerdictOf trace verdict =
+    ((verdict ≡ Sound) ↔ IsSoundTrace trace)
+    × ((k : ℕ) (clause : Clause) → (verdict ≡ Broken k clause) ↔ IsFirstBroken trace k clause)
+
+-- the verdict on these entries was printed, and nothing else; its status is 0 if they are sound,
+-- and 4 if they are broken
+abbrev pub PrintsVerdict : List Entry → Held → Held → ℕ → Type 0
+PrintsVerdict trace old new status =
+    (verdict : Verdict) × IsVerdictOf trace verdict × (status ≡ verdict_status verdict)
+    × Appends old new (verdict_line verdict)
+
+-- why a text was not printed: memory ran out, or the output refused, which one that takes all bytes
+-- never does
+abbrev pub IsUnprinted : Bool → Stop → Type 0
+IsUnprinted takes_all end = (end ≡ stop.Memory) ⊎ ((end ≡ stop.Writer) × (takes_all ≡ false))
+
+-- the verdict on the trace that a text lists was printed; or the text lists none, for this fault; or
+-- the verdict was not printed
+abbrev pub JudgesText : Bool → Fields → Text → Held → Held → Result ℕ JudgeError → Type 0
+JudgesText takes_all p text old new (Ok status) =
+    (trace : List Entry) × (trace_at p text ≡ Ok trace) × PrintsVerdict trace old new status
+JudgesText takes_all p text old new (Err (error.Trace fault)) =
+    (trace_at p text ≡ Err fault) × Keeps old new
+JudgesText takes_all p text old new (Err (error.Stop end)) =
+    IsUnprinted takes_all end × Keeps old new
+
+-- the same for the fault of a trace
+abbrev pub JudgesTold : Bool → Fields → Telling → Held → Held → Result ℕ JudgeError → Type 0
+JudgesTold takes_all p None old new ended = ⊥
+JudgesTold takes_all p (Some text) old new ended = JudgesText takes_all p text old new ended
+
+-- plan or trace cannot be read, or memory ran out, and nothing was printed
+abbrev pub IsUnjudged : (Text → Option Telling) → Text × Text → Held → Held
+    → Result ℕ JudgeError → Type 0
+IsUnjudged told names old new (Ok status) = ⊥
+IsUnjudged told names old new (Err (error.Trace fault)) = ⊥
+IsUnjudged told names old new (Err (error.Stop end)) =
+    ((end ≡ stop.Memory) ⊎ IsUnread told names end) × Keeps old new
+
+-- the trace of the second name was judged by the plan of the first, or one of them cannot be read
+abbrev pub JudgesNames : Bool → (Text → Option Telling) → Text × Text → Held → Held
+    → Result ℕ JudgeError → Type 0
+JudgesNames takes_all told names old new ended =
+    IsUnjudged told names old new ended
+    ⊎ ((p : Fields) × IsPlanOf (plan_told told names) p
+    × IfSome (text_told told names) (λ telling. JudgesTold takes_all p telling old new ended))
+
+-- what standard error gets, and the status: as of any run; or the line of the trace's fault is
+-- written, status 1, or memory ran out, or an output refused
+abbrev pub ClosesJudged : Bool → Text × Text → Result ℕ JudgeError → Held → Held → ℕ → Type 0
+ClosesJudged takes_all names (Ok own) old new status = Closes takes_all names (Ok own) old new status
+ClosesJudged takes_all names (Err (error.Stop end)) old new status =
+    Closes takes_all names (Err end) old new status
+ClosesJudged takes_all names (Err (error.Trace fault)) old new status =
+    TellsFault takes_all (trace_line fault) old new status
+
+-- the verdict on the trace of these names is printed and passed on, status 0 or 4; else the line of
+-- a fault is written, status 1, or memory ran out, or an output refused
+abbrev pub Judges : Bool → Bool → (Text → Option Telling) → Text × Text → Seen → Seen → ℕ → Type 0
+Judges takes_out takes_err told names old new status =
+    (ended : Result ℕ JudgeError) × JudgesNames takes_out told names old.out new.out ended
+    × ClosesJudged (takes_out && takes_err) names ended old.err new.err status
+    × PassesOn old.err new.err new.kept_back status

@@ -1,0 +1,56 @@
+-- The members of the object of an event.
+use Rattle.std.specs.Prelude.{ℕ, [], Bool, Result, Ok, Err, codes, is_some, unwrap_or, option_and_then}
+use Rattle.std.specs.Option.{ok_or}
+use Rattle.serde_json.specs.Data.{Data}
+use Rattle.serde_json.specs.Find.{as_number, as_str, as_u64, get}
+use Rattle.mx_plan.specs.Text.{Text}
+use Rattle.mx_judge.specs.declared.members.Member.{Member}
+use Rattle.mx_judge.specs.declared.members.Member.TheVariants.{Act, Node, From, Register, Value, Upto, Parcel, Outcome, Number, Count, Cause}
+use Rattle.mx_judge.specs.declared.faults.ItemFault.{ItemFault}
+use Rattle.mx_judge.specs.declared.faults.ItemFault.TheVariants.{Wrong}
+
+abbrev pub key_of : Member → Text
+key_of Act = codes "act"
+key_of Node = codes "node"
+key_of From = codes "from"
+key_of Register = codes "register"
+key_of Value = codes "value"
+key_of Upto = codes "upto"
+key_of Parcel = codes "parcel"
+key_of Outcome = codes "outcome"
+key_of Number = codes "number"
+key_of Count = codes "count"
+key_of Cause = codes "cause"
+
+-- what is wrong with it, if something is
+abbrev pub message_of : Member → Text
+message_of Act = codes "no such word"
+message_of Node = codes "no such node"
+message_of From = codes "no such node"
+message_of Register = codes "no such register"
+message_of Value = codes "not a number"
+message_of Upto = codes "not a number"
+message_of Parcel = codes "not a number"
+message_of Outcome = codes "not one of its act"
+message_of Number = codes "not a number"
+message_of Count = codes "not a number"
+message_of Cause = codes "no such word"
+
+-- an object has a member of this key
+abbrev pub has_member : Text → Data → Bool
+has_member key d = is_some (get key d)
+
+-- the text of a member, empty if it is missing or no text
+abbrev pub text_at : Member → Data → Text
+text_at m d = unwrap_or (option_and_then as_str (get (key_of m) d)) []
+
+-- the number of a member
+abbrev pub number_at : Member → Data → Result ℕ ItemFault
+number_at m d =
+    ok_or (option_and_then as_u64 (option_and_then as_number (get (key_of m) d))) (Wrong m)
+
+-- goes on where the first step succeeded
+abbrev pub and_then : {A B : Type 0} → Result A ItemFault → (A → Result B ItemFault)
+    → Result B ItemFault
+and_then (Ok a) f = f a
+and_then (Err fault) f = Err fault

@@ -1,0 +1,84 @@
+-- The outcome that an object tells of its event.
+use Rattle.std.specs.Prelude.{ℕ, Result, Ok, Err, codes, if◌then◌else◌}
+use Rattle.std.specs.Str.{bytes_eq}
+use Rattle.serde_json.specs.Data.{Data}
+use Rattle.mx_plan.specs.Text.{Text}
+use Rattle.mx_events.specs.Events.{kind_of}
+use Rattle.mx_events.specs.declared.event.Event.{Event}
+use Rattle.mx_events.specs.declared.event.Event.TheVariants.{Ask, Enter, Read, Write, Leave, Cancel, Settle, Tick, Want, Deliver, Restart}
+use Rattle.mx_events.specs.declared.kind.EventKind.{EventKind}
+use Rattle.mx_events.specs.declared.kind.EventKind.TheVariants as kind
+use Rattle.mx_journal.specs.Drafted.{fresh, receipt_of}
+use Rattle.mx_sections.specs.declared.outcome.Cause.{Cause}
+use Rattle.mx_sections.specs.declared.outcome.Cause.TheVariants.{NotIdle, StampsSpent, NotWaiting, NotGranted, NumbersSpent, NotInside, NoRegister, Gap, Full, Below}
+use Rattle.mx_sections.specs.declared.outcome.Outcome.{Outcome}
+use Rattle.mx_sections.specs.declared.outcome.Outcome.TheVariants.{Asked, Entered, Value, Written, Left, Cancelled, Settled, Sent, Delivered, Woken, Refused}
+use Rattle.mx_judge.specs.Members.{and_then, number_at, text_at}
+use Rattle.mx_judge.specs.declared.members.Member.TheVariants as member
+use Rattle.mx_judge.specs.declared.faults.ItemFault.{ItemFault}
+use Rattle.mx_judge.specs.declared.faults.ItemFault.TheVariants.{Wrong}
+
+-- the first word of the outcome of an event that was not refused
+abbrev pub word_of_done : EventKind → Text
+word_of_done kind.Ask = codes "asked"
+word_of_done kind.Enter = codes "entered"
+word_of_done kind.Read = codes "value"
+word_of_done kind.Write = codes "written"
+word_of_done kind.Leave = codes "left"
+word_of_done kind.Cancel = codes "cancelled"
+word_of_done kind.Settle = codes "settled"
+word_of_done kind.Tick = codes "sent"
+word_of_done kind.Want = codes "sent"
+word_of_done kind.Deliver = codes "delivered"
+word_of_done kind.Restart = codes "woken"
+
+-- a request, by the number of its stamp
+abbrev pub asked : ℕ → Data → Result Outcome ItemFault
+asked i d = and_then (number_at member.Number d) (λ n. Ok (Asked (record { number = n; node = i })))
+
+-- a section that was left, by its number; the receipt's reads and writes are not told
+abbrev pub left : ℕ → Data → Result Outcome ItemFault
+left i d = and_then (number_at member.Number d) (λ n. Ok (Left (receipt_of n i fresh)))
+
+-- the outcome of an event that was not refused
+abbrev pub done : Event → Data → Result Outcome ItemFault
+done (Ask i) d = asked i d
+done (Enter i) d = and_then (number_at member.Number d) (λ n. Ok (Entered n))
+done (Read i register) d = and_then (number_at member.Value d) (λ value. Ok (Value value))
+done (Write i register value) d = Ok Written
+done (Leave i) d = left i d
+done (Cancel i) d = Ok Cancelled
+done (Settle i upto) d = Ok Settled
+done (Tick i) d = and_then (number_at member.Count d) (λ count. Ok (Sent count))
+done (Want i other) d = and_then (number_at member.Count d) (λ count. Ok (Sent count))
+done (Deliver k) d = Ok Delivered
+done (Restart i) d = Ok Woken
+
+-- the cause that its words name; a gap and a base have a number
+abbrev pub cause_named : Data → Text → Result Cause ItemFault
+cause_named d word =
+    if bytes_eq word (codes "not idle") then Ok NotIdle
+    else if bytes_eq word (codes "stamps spent") then Ok StampsSpent
+    else if bytes_eq word (codes "not waiting") then Ok NotWaiting
+    else if bytes_eq word (codes "not granted") then Ok NotGranted
+    else if bytes_eq word (codes "numbers spent") then Ok NumbersSpent
+    else if bytes_eq word (codes "not inside") then Ok NotInside
+    else if bytes_eq word (codes "no register") then Ok NoRegister
+    else if bytes_eq word (codes "gap") then and_then (number_at member.Number d) (λ n. Ok (Gap n))
+    else if bytes_eq word (codes "full") then Ok Full
+    else if bytes_eq word (codes "below")
+    then and_then (number_at member.Number d) (λ n. Ok (Below n))
+    else Err (Wrong member.Cause)
+
+abbrev pub cause_in : Data → Result Cause ItemFault
+cause_in d = cause_named d (text_at member.Cause d)
+
+abbrev pub refusal : Data → Result Outcome ItemFault
+refusal d = and_then (cause_in d) (λ cause. Ok (Refused cause))
+
+-- the outcome of an event: a refusal, or what its act can come to
+abbrev pub outcome_of : Event → Data → Result Outcome ItemFault
+outcome_of event d =
+    if bytes_eq (text_at member.Outcome d) (codes "refused") then refusal d
+    else if bytes_eq (text_at member.Outcome d) (word_of_done (kind_of event)) then done event d
+    else Err (Wrong member.Outcome)

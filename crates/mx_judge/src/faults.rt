@@ -1,0 +1,82 @@
+//! What is wrong with a trace.
+
+ghost use Rattle.std.specs.Prelude.{◌≡◌, Some};
+ghost use Rattle.mx_judge.specs.Faults.{item_text, line_fault, list_fault, trace_line};
+
+use crate::members::Member;
+use std::fmt;
+
+/// What is wrong with a line of a trace, or with an item of an array.
+#[derive(Clone, Copy)]
+pub enum ItemFault {
+    /// It is not JSON, or not in UTF-8.
+    NotJson,
+    /// It is no object of an event, a parcel, a node or a verdict.
+    NotEvent,
+    /// This member of an event is missing, or not as it should be.
+    Wrong(Member),
+    /// There were 1,000,000 events before.
+    TooMany,
+    /// Memory ran out. This is no fault of the item.
+    Memory,
+}
+
+impl fmt::Display for ItemFault {
+    ghost output = { λ fault. Some (item_text fault) };
+
+    fn fmt<W: fmt::Write>(&self, f: &mut fmt::Formatter<W>) -> fmt::Result {
+        match self {
+            ItemFault::NotJson => f.write_str("not json"),
+            ItemFault::NotEvent => f.write_str("no event"),
+            ItemFault::Wrong(member) => write!(f, "{}: {}", member.key(), member.message()),
+            ItemFault::TooMany => f.write_str("more than 1000000 events"),
+            ItemFault::Memory => f.write_str("out of memory"),
+        }
+    }
+}
+
+/// What is wrong with a trace. Lines and items are numbered from 1.
+#[derive(Clone, Copy)]
+pub enum TraceFault {
+    /// The array is not JSON, or not in UTF-8.
+    NotJson,
+    Line(u64, ItemFault),
+    Item(u64, ItemFault),
+    /// Memory ran out. This is no fault of the trace.
+    Memory,
+}
+
+impl TraceFault {
+    /// The fault of the line of this number.
+    pub(crate) fn of_line(number: u64, fault: ItemFault) -> TraceFault
+        ensures { result ≡ line_fault number fault }
+    {
+        match fault {
+            ItemFault::Memory => TraceFault::Memory,
+            _ => TraceFault::Line(number, fault),
+        }
+    }
+
+    /// The fault of the item of this number.
+    pub(crate) fn of_item(number: u64, fault: ItemFault) -> TraceFault
+        ensures { result ≡ list_fault number fault }
+    {
+        match fault {
+            ItemFault::Memory => TraceFault::Memory,
+            _ => TraceFault::Item(number, fault),
+        }
+    }
+}
+
+impl fmt::Display for TraceFault {
+    ghost output = { λ fault. Some (trace_line fault) };
+
+    fn fmt<W: fmt::Write>(&self, f: &mut fmt::Formatter<W>) -> fmt::Result {
+        match self {
+            TraceFault::NotJson => f.write_str("mx: trace: not json\n"),
+            TraceFault::Line(number, fault) => writeln!(f, "mx: trace: line {number}: {fault}"),
+            TraceFault::Item(number, fault) => writeln!(f, "mx: trace: item {number}: {fault}"),
+            TraceFault::Memory => f.write_str("mx: trace: out of memory\n"),
+        }
+    }
+}

@@ -1,0 +1,14 @@
+//! `mx judge`: the verdict on a trace, whoever has written it.
+#![tactic(auto)]
+
+mod entry_reader;
+mod errors;
+mod faults;
+mod help;
+mod judge_command;
+mod members;
+mod outcome_reader;
+mod trace_reader;
+mod words;
+
+pub use judge_command::judge_trace;

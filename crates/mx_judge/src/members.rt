@@ -1,0 +1,86 @@
+//! The members of the object of an event.
+
+ghost use Rattle.std.specs.Prelude.{◌≡◌};
+ghost use Rattle.serde_json.specs.View.{view};
+ghost use Rattle.mx_judge.specs.Members as spec;
+
+use crate::faults::ItemFault;
+use serde_json::Value;
+
+/// A member of the object of an event.
+#[derive(Clone, Copy)]
+pub enum Member {
+    Act,
+    Node,
+    From,
+    Register,
+    Value,
+    Upto,
+    Parcel,
+    Outcome,
+    Number,
+    Count,
+    Cause,
+}
+
+impl Member {
+    /// Its key.
+    pub fn key(self) -> &'static str
+        ensures { result.now ≡ spec.key_of self }
+    {
+        match self {
+            Member::Act => "act",
+            Member::Node => "node",
+            Member::From => "from",
+            Member::Register => "register",
+            Member::Value => "value",
+            Member::Upto => "upto",
+            Member::Parcel => "parcel",
+            Member::Outcome => "outcome",
+            Member::Number => "number",
+            Member::Count => "count",
+            Member::Cause => "cause",
+        }
+    }
+
+    /// What is wrong with it, if something is.
+    pub fn message(self) -> &'static str
+        ensures { result.now ≡ spec.message_of self }
+    {
+        match self {
+            Member::Act | Member::Cause => "no such word",
+            Member::Node | Member::From => "no such node",
+            Member::Register => "no such register",
+            Member::Outcome => "not one of its act",
+            Member::Value | Member::Upto | Member::Parcel | Member::Number | Member::Count =>
+                "not a number",
+        }
+    }
+}
+
+/// Whether an object has a member of this key.
+pub(crate) fn has_member(value: &Value, key: &str) -> bool
+    ensures { result ≡ spec.has_member key.now (view value.now) }
+{
+    value.get(key).is_some()
+}
+
+/// The text of a member, empty if it is missing or no text.
+pub(crate) fn text_at(value: &Value, member: Member) -> &str
+    ensures { result.now ≡ spec.text_at member (view value.now) }
+{
+    value
+        .get(member.key())
+        .and_then(Value::as_str)
+        .unwrap_or("")
+}
+
+/// The number of a member, a whole one of 64 bits.
+pub(crate) fn number_at(value: &Value, member: Member) -> Result<u64, ItemFault>
+    ensures { result ≡ spec.number_at member (view value.now) }
+{
+    match value.get(member.key()).and_then(Value::as_u64) {
+        Some(number) => Ok(number),
+        None => Err(ItemFault::Wrong(member)),
+    }
+}

@@ -1,0 +1,112 @@
+//! Reading the outcome of an event.
+
+ghost use Rattle.std.specs.Prelude.{◌≡◌};
+ghost use Rattle.serde_json.specs.View.{view};
+ghost use Rattle.mx_judge.specs.Outcomes as spec;
+
+use crate::faults::ItemFault;
+use crate::members::{Member, number_at, text_at};
+use arrayvec::ArrayVec;
+use mx_events::{Event, EventKind};
+use mx_journal::Receipt;
+use mx_sections::{Cause, Outcome};
+use mx_stamps::{NodeId, Stamp};
+use serde_json::Value;
+
+/// The outcome of an event: a refusal, or what its act can come to.
+pub(crate) fn outcome_in(event: &Event, value: &Value) -> Result<Outcome, ItemFault>
+    ensures { result ≡ spec.outcome_of event.now (view value.now) }
+{
+    let word = text_at(value, Member::Outcome);
+    if word == "refused" {
+        return refusal(value);
+    }
+    if word == word_of_done(event.kind()) {
+        return done(event, value);
+    }
+    Err(ItemFault::Wrong(Member::Outcome))
+}
+
+/// The first word of the outcome of an event that was not refused.
+fn word_of_done(kind: EventKind) -> &'static str
+    ensures { result.now ≡ spec.word_of_done kind }
+{
+    match kind {
+        EventKind::Ask => "asked",
+        EventKind::Enter => "entered",
+        EventKind::Read => "value",
+        EventKind::Write => "written",
+        EventKind::Leave => "left",
+        EventKind::Cancel => "cancelled",
+        EventKind::Settle => "settled",
+        EventKind::Tick | EventKind::Want => "sent",
+        EventKind::Deliver => "delivered",
+        EventKind::Restart => "woken",
+    }
+}
+
+/// The outcome of an event that was not refused.
+fn done(event: &Event, value: &Value) -> Result<Outcome, ItemFault>
+    ensures { result ≡ spec.done event.now (view value.now) }
+{
+    match event {
+        Event::Ask(node) => asked(*node, value),
+        Event::Enter(_) => Ok(Outcome::Entered(number_at(value, Member::Number)?)),
+        Event::Read(_, _) => Ok(Outcome::Value(number_at(value, Member::Value)?)),
+        Event::Write(_, _, _) => Ok(Outcome::Written),
+        Event::Leave(node) => left(*node, value),
+        Event::Cancel(_) => Ok(Outcome::Cancelled),
+        Event::Settle(_, _) => Ok(Outcome::Settled),
+        Event::Tick(_) | Event::Want(_, _) => {
+            Ok(Outcome::Sent(number_at(value, Member::Count)?))
+        }
+        Event::Deliver(_) => Ok(Outcome::Delivered),
+        Event::Restart(_) => Ok(Outcome::Woken),
+    }
+}
+
+fn asked(node: NodeId, value: &Value) -> Result<Outcome, ItemFault>
+    ensures { result ≡ spec.asked node (view value.now) }
+{
+    let number = number_at(value, Member::Number)?;
+    Ok(Outcome::Asked(Stamp { number, node }))
+}
+
+/// A section that was left. Its receipt has the number alone, which is all that the judge looks at.
+fn left(node: NodeId, value: &Value) -> Result<Outcome, ItemFault>
+    ensures { result ≡ spec.left node (view value.now) }
+{
+    let number = number_at(value, Member::Number)?;
+    Ok(Outcome::Left(Receipt {
+        number,
+        node,
+        reads: ArrayVec::new(),
+        writes: ArrayVec::new(),
+    }))
+}
+
+/// A refusal, by its cause.
+fn refusal(value: &Value) -> Result<Outcome, ItemFault>
+    ensures { result ≡ spec.refusal (view value.now) }
+{
+    Ok(Outcome::Refused(cause_in(value)?))
+}
+
+/// The cause that the words of a refusal name. A gap and a base have a number.
+fn cause_in(value: &Value) -> Result<Cause, ItemFault>
+    ensures { result ≡ spec.cause_in (view value.now) }
+{
+    match text_at(value, Member::Cause) {
+        "not idle" => Ok(Cause::NotIdle),
+        "stamps spent" => Ok(Cause::StampsSpent),
+        "not waiting" => Ok(Cause::NotWaiting),
+        "not granted" => Ok(Cause::NotGranted),
+        "numbers spent" => Ok(Cause::NumbersSpent),
+        "not inside" => Ok(Cause::NotInside),
+        "no register" => Ok(Cause::NoRegister),
+        "gap" => Ok(Cause::Gap(number_at(value, Member::Number)?)),
+        "full" => Ok(Cause::Full),
+        "below" => Ok(Cause::Below(number_at(value, Member::Number)?)),
+        _ => Err(ItemFault::Wrong(Member::Cause)),
+    }
+}

@@ -1,0 +1,163 @@
+//! Reading a trace: an entry for each line, or for each item of an array.
+
+ghost use Rattle.std.specs.Prelude.{◌≡◌, ◌⊎◌, [], Some, None, Ok, IfOk, IfErr, OnOk, map, option_map};
+ghost use Rattle.std.specs.List.{list_all};
+ghost use Rattle.serde_json.specs.View.{view};
+ghost use Rattle.mx_plan.specs.Values.{list_in, value_of};
+ghost use Rattle.mx_judge.specs.Entries.{item_of};
+ghost use Rattle.mx_judge.specs.Faults.{line_fault, list_fault};
+ghost use Rattle.mx_judge.specs.Traces as spec;
+
+use crate::entry_reader::item_in;
+use crate::faults::{ItemFault, TraceFault};
+use mx_cli::split_line;
+use mx_plan::Plan;
+use mx_sections::Entry;
+use mx_stamps::MOST_EVENTS;
+use serde_json::Value;
+use std::alloc::Global;
+
+/// Reads a trace of at most 1,000,000 events: an array of JSON, if the text begins so, and else
+/// lines, each an object of JSON or blank. Objects of parcels, nodes and verdicts are passed over.
+/// Of several faults the first is returned.
+pub(crate) fn read_trace(alloc: Global, text: &[u8], plan: &Plan) -> Result<Vec<Entry>, TraceFault>
+    ensures { spec.Gives (spec.trace_at plan.now text.now) result }
+{
+    if begins_array(text) {
+        read_array(alloc, text, plan)
+    } else {
+        read_lines(alloc, text, plan)
+    }
+}
+
+/// Whether the first byte that is not blank begins an array.
+fn begins_array(text: &[u8]) -> bool
+    ensures { result ≡ spec.begins_array text.now }
+{
+    match first_mark(text) {
+        Some(byte) => *byte == b'[',
+        None => false,
+    }
+}
+
+/// The first byte that is not blank.
+fn first_mark(text: &[u8]) -> Option<&u8>
+    ensures { option_map (λ byte. byte.now) result ≡ spec.first_mark text.now }
+{
+    text.iter().find(|byte| !is_blank(**byte))
+}
+
+/// Whether a byte is a space, a tab, a line feed or a carriage return.
+fn is_blank(byte: u8) -> bool
+    ensures { result ≡ spec.is_blank byte }
+{
+    byte == b' ' || byte == b'\t' || byte == b'\n' || byte == b'\r'
+}
+
+/// Whether all bytes are blank.
+fn is_blank_line(line: &[u8]) -> bool
+    ensures { result ≡ list_all spec.is_blank line.now }
+{
+    line.iter().all(|byte| is_blank(*byte))
+}
+
+/// The entries of an array.
+fn read_array(alloc: Global, text: &[u8], plan: &Plan) -> Result<Vec<Entry>, TraceFault>
+    ensures { spec.Gives (spec.array_at plan.now text.now) result }
+{
+    match parse(alloc, text) {
+        Ok(value) => read_items(alloc, items_in(&value), plan),
+        Err(ItemFault::Memory) => Err(TraceFault::Memory),
+        Err(_) => Err(TraceFault::NotJson),
+    }
+}
+
+/// The items of an array, none if the value is no array.
+fn items_in(value: &Value) -> &[Value]
+    ensures { map view result.now ≡ list_in (view value.now) }
+{
+    match value.as_array() {
+        Some(items) => items.as_slice(),
+        None => &[],
+    }
+}
+
+/// The entries of items.
+fn read_items(alloc: Global, items: &[Value], plan: &Plan) -> Result<Vec<Entry>, TraceFault>
+    ensures { spec.Gives
+        (spec.entries_from list_fault [] 1 (map (item_of plan.now) (map view items.now))) result }
+{
+    let mut entries = Vec::new(alloc);
+    for (index, value) in items.iter().enumerate() {
+        if let Err(fault) = add_item(&mut entries, item_in(plan, value)) {
+            return Err(TraceFault::of_item(index as u64 + 1, fault));
+        }
+    }
+    Ok(entries)
+}
+
+/// The entries of lines.
+fn read_lines(alloc: Global, text: &[u8], plan: &Plan) -> Result<Vec<Entry>, TraceFault>
+    ensures { spec.Gives (spec.lines_at plan.now text.now) result }
+{
+    let mut entries = Vec::new(alloc);
+    let mut rest = text;
+    let mut number = 1u64;
+    'lines: loop {
+        let (line, after) = split_line(rest);
+        if let Err(fault) = add_item(&mut entries, line_in(alloc, plan, line)) {
+            return Err(TraceFault::of_line(number, fault));
+        }
+        if line.len() == rest.len() {
+            return Ok(entries);
+        }
+        rest = after;
+        number += 1;
+    }
+}
+
+/// The entry of a line. None for a blank one.
+#[tactic(auto, unfolding(crate::specs::Traces::line_item))]
+fn line_in(alloc: Global, plan: &Plan, line: &[u8]) -> Result<Option<Entry>, ItemFault>
+    ensures { spec.Answers (spec.line_item plan.now line.now) result }
+{
+    if is_blank_line(line) {
+        return Ok(None);
+    }
+    match parse(alloc, line) {
+        Ok(value) => item_in(plan, &value),
+        Err(fault) => Err(fault),
+    }
+}
+
+/// The value of a text.
+#[tactic(auto, unfolding(mx_plan::specs::Values::value_of))]
+fn parse(alloc: Global, text: &[u8]) -> Result<Value, ItemFault>
+    ensures ok { IfOk result (λ v. value_of text.now ≡ Some (view v)) }
+    ensures err { IfErr result (λ e. (e ≡ ItemFault.Memory)
+        ⊎ ((e ≡ ItemFault.NotJson) × (value_of text.now ≡ None))) }
+{
+    match Value::from_slice(alloc, text) {
+        Ok(value) => Ok(value),
+        Err(e) if e.is_memory() => Err(ItemFault::Memory),
+        Err(_) => Err(ItemFault::NotJson),
+    }
+}
+
+/// Adds the entry of an item, if it has one.
+fn add_item(
+    entries: &mut Vec<Entry>,
+    item: Result<Option<Entry>, ItemFault>,
+) -> Result<(), ItemFault>
+    ensures ok { OnOk result (spec.with_item entries.old.items item ≡ Ok entries.new.items) }
+    ensures err { IfErr result (spec.Refuses (spec.with_item entries.old.items item)) }
+{
+    match item? {
+        None => Ok(()),
+        Some(_) if entries.len() >= MOST_EVENTS => Err(ItemFault::TooMany),
+        Some(entry) => match entries.push(entry) {
+            Ok(()) => Ok(()),
+            Err(_) => Err(ItemFault::Memory),
+        },
+    }
+}

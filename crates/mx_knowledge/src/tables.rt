@@ -1,0 +1,67 @@
+//! The values that a table has, which has an entry for each node.
+
+ghost use Rattle.std.specs.Prelude.{◌≡◌, ◌≤◌, IfOk, length};
+ghost use Rattle.mx_stamps.specs.declared.limits.TheConstants.{MOST_NODES};
+ghost use Rattle.mx_knowledge.specs.Tables.{below, node_at, number_at, stamp_at};
+
+use crate::fact::Item;
+use mx_stamps::{MOST_NODES, NodeId, Stamp};
+use std::alloc::{AllocError, Global};
+
+/// The nodes below `count` that a table marks.
+pub fn nodes_in(
+    alloc: Global,
+    marks: &[bool; MOST_NODES as usize],
+    count: u8,
+) -> Result<Vec<Item>, AllocError>
+    requires { count ≤ MOST_NODES }
+    ensures { IfOk result (λ items. items.items ≡ below (node_at marks.now) count) }
+{
+    let mut items = Vec::new(alloc);
+    for i in 0..count {
+        if let Some(node) = NodeId::of(i) {
+            if marks[i as usize] {
+                items.push(Item::Node(node))?;
+            }
+        }
+    }
+    Ok(items)
+}
+
+/// The stamps that a table has at the nodes below `count`.
+pub fn stamps_in(
+    alloc: Global,
+    stamps: &[Option<Stamp>; MOST_NODES as usize],
+    count: u8,
+) -> Result<Vec<Item>, AllocError>
+    requires { count ≤ MOST_NODES }
+    ensures { IfOk result (λ items. items.items ≡ below (stamp_at stamps.now) count) }
+{
+    let mut items = Vec::new(alloc);
+    for i in 0..count {
+        if let Some(stamp) = stamps[i as usize] {
+            items.push(Item::Stamp(stamp))?;
+        }
+    }
+    Ok(items)
+}
+
+/// The nodes below `count` at which a table has a number, each with that number.
+pub fn numbers_in(
+    alloc: Global,
+    numbers: &[Option<u64>; MOST_NODES as usize],
+    count: u8,
+) -> Result<Vec<Item>, AllocError>
+    requires { count ≤ MOST_NODES }
+    ensures { IfOk result (λ items. items.items ≡ below (number_at numbers.now) count) }
+{
+    let mut items = Vec::new(alloc);
+    for i in 0..count {
+        if let Some(node) = NodeId::of(i) {
+            if let Some(number) = numbers[i as usize] {
+                items.push(Item::Numbered(node, number))?;
+            }
+        }
+    }
+    Ok(items)
+}

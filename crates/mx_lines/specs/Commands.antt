@@ -1,0 +1,76 @@
+-- What the words of a line of a session ask for.
+use Rattle.std.specs.Prelude.{◌==◌, Bool, true, List, [], ◌∷◌, Option, Some, None, Result, Ok, codes, length, position, if◌then◌else◌}
+use Rattle.std.specs.Option.{option_map_or}
+use Rattle.std.specs.Str.{bytes_eq}
+use Rattle.mx_plan.specs.Text.{Text}
+use Rattle.mx_lines.specs.Lines.{line_of}
+use Rattle.mx_lines.specs.Names.{Known}
+use Rattle.mx_lines.specs.Numbers.{number_of}
+use Rattle.mx_lines.specs.Orders.{and_then, refused}
+use Rattle.mx_lines.specs.declared.commands.SessionCommand.{SessionCommand}
+use Rattle.mx_lines.specs.declared.commands.SessionCommand.TheVariants as command
+use Rattle.mx_lines.specs.declared.errors.Expected.TheVariants as expected
+use Rattle.mx_lines.specs.declared.errors.LineError.{LineError}
+use Rattle.mx_lines.specs.declared.errors.LineFault.TheVariants as fault
+use Rattle.mx_lines.specs.declared.errors.OwnWord.{OwnWord}
+use Rattle.mx_lines.specs.declared.errors.OwnWord.TheVariants.{Show, Undo, Events, Help, End}
+use Rattle.mx_lines.specs.declared.lines.Line.{Line}
+
+-- the word of a session that a text is
+abbrev pub own_word : Text → Option OwnWord
+own_word text =
+    if bytes_eq text (codes "show") then Some Show
+    else if bytes_eq text (codes "undo") then Some Undo
+    else if bytes_eq text (codes "events") then Some Events
+    else if bytes_eq text (codes "help") then Some Help
+    else if bytes_eq text (codes "end") then Some End
+    else None
+
+-- what a word of a session asks for alone
+abbrev pub alone : OwnWord → SessionCommand
+alone Show = command.Show None
+alone Undo = command.Undo 1
+alone Events = command.Events
+alone Help = command.Help
+alone End = command.End
+
+-- this many lines are undone
+abbrev pub taken_back : Text → Result SessionCommand LineError
+taken_back count =
+    option_map_or (λ number. Ok (command.Undo number)) (number_of count)
+    (refused fault.NotNumber 1 expected.Number)
+
+module _ (names : Known) where
+  -- a node is shown
+  abbrev pub shown : Text → Result SessionCommand LineError
+  shown name =
+      option_map_or (λ node. Ok (command.Show (Some node)))
+      (position (bytes_eq name) names.nodes) (refused fault.NoNode 1 expected.Node)
+
+  -- what a word of a session asks for with another, after which there are some more, or none
+  abbrev pub with_one : OwnWord → Text → Bool → Result SessionCommand LineError
+  with_one Show name true = shown name
+  with_one Undo count true = taken_back count
+  with_one word text is_last = refused fault.WordCount 0 (expected.OwnArguments word)
+
+  -- what it asks for with those after it
+  abbrev pub own_command : OwnWord → List Text → Result SessionCommand LineError
+  own_command word [] = Ok (alone word)
+  own_command word (text ∷ more) = with_one word text (length more == 0)
+
+-- what is done that a line of a script asks for
+abbrev pub doing : Option Line → SessionCommand
+doing None = command.Nothing
+doing (Some line) = command.Does line
+
+module _ (names : Known) where
+  -- what a line asks for whose first word is one of a session, or none
+  abbrev pub command_by : List Text → Text → List Text → Result SessionCommand LineError
+  command_by words word arguments =
+      option_map_or (λ own. own_command names own arguments) (own_word word)
+      (and_then (line_of names words) (λ line. Ok (doing line)))
+
+  -- what the words of a line ask for
+  abbrev pub command_of : List Text → Result SessionCommand LineError
+  command_of [] = Ok command.Nothing
+  command_of (word ∷ arguments) = command_by (word ∷ arguments) word arguments

@@ -1,0 +1,43 @@
+-- What the words of a line of a script ask for.
+use Rattle.std.specs.Prelude.{ℕ, List, [], ◌∷◌, Option, Some, None, Result, Ok, codes, nat_le, if◌then◌else◌}
+use Rattle.std.specs.Option.{option_map_or}
+use Rattle.std.specs.Str.{bytes_eq}
+use Rattle.mx_stamps.specs.declared.limits.TheConstants.{MOST_EVENTS}
+use Rattle.mx_plan.specs.Text.{Text}
+use Rattle.mx_lines.specs.Names.{Known}
+use Rattle.mx_lines.specs.Numbers.{number_of}
+use Rattle.mx_lines.specs.Orders.{and_then, order_at, refused}
+use Rattle.mx_lines.specs.declared.errors.Expected.TheVariants as expected
+use Rattle.mx_lines.specs.declared.errors.LineError.{LineError}
+use Rattle.mx_lines.specs.declared.errors.LineFault.TheVariants as fault
+use Rattle.mx_lines.specs.declared.lines.Line.{Line}
+
+-- how often a line is done: at most a million times
+abbrev pub times_of : Text → Result ℕ LineError
+times_of text =
+    option_map_or
+    (λ times. if nat_le times MOST_EVENTS then Ok times else refused fault.TooMany 1 expected.Times)
+    (number_of text) (refused fault.NotNumber 1 expected.Times)
+
+module _ (names : Known) where
+  -- a line that is done so often, where its first word has this number
+  abbrev pub line_at : ℕ → ℕ → Text → List Text → Result (Option Line) LineError
+  line_at times place word words =
+      and_then (order_at names place word words)
+      (λ order. Ok (Some (record { times = times; order = order })))
+
+  -- after the number of times
+  abbrev pub done_times : List Text → ℕ → Result (Option Line) LineError
+  done_times [] times = refused fault.WordCount 0 expected.Repetition
+  done_times (word ∷ words) times = line_at times 2 word words
+
+  -- after the word `times`
+  abbrev pub repeated : List Text → Result (Option Line) LineError
+  repeated [] = refused fault.WordCount 0 expected.Repetition
+  repeated (count ∷ words) = and_then (times_of count) (done_times words)
+
+  -- what the words of a line ask for; none where there are no words
+  abbrev pub line_of : List Text → Result (Option Line) LineError
+  line_of [] = Ok None
+  line_of (word ∷ words) =
+      if bytes_eq word (codes "times") then repeated words else line_at 1 0 word words

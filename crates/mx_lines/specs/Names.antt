@@ -1,0 +1,21 @@
+-- The names that a line may have.
+use Rattle.std.specs.Prelude.{ℕ, List, map, take}
+use Rattle.std.specs.Borrow.{Bor}
+use Rattle.mx_plan.specs.Text.{Text}
+use Rattle.mx_plan.specs.Fields.{Fields}
+
+-- the names of nodes and registers, in order
+pub record Known : Type 0 where
+  pub nodes : List Text
+  pub registers : List Text
+
+-- those of a plan
+abbrev pub known_of : Fields → Known
+known_of p = record { nodes = p.nodes; registers = p.registers }
+
+-- what texts say
+abbrev pub texts_of : List (Bor Text) → List Text
+texts_of = map (λ text. text.now)
+
+abbrev pub first_texts : ℕ → List (Bor Text) → List Text
+first_texts most texts = texts_of (take most texts)

@@ -1,0 +1,104 @@
+-- What the words of a line ask for, once, or which of them is wrong.
+use Rattle.std.specs.Prelude.{◌≡◌, ◌&&◌, ◌==◌, ℕ, ◌+◌, Bool, List, [], ◌∷◌, Option, Result, Ok, Err, codes, length, position, if◌then◌else◌, option_map, option_and_then, slice_get, slice_index_or}
+use Rattle.std.specs.Option.{option_map_or}
+use Rattle.std.specs.Str.{bytes_eq}
+use Rattle.arrayvec.specs.ArrayVec.{ArrayVec}
+use Rattle.mx_plan.specs.Text.{Text}
+use Rattle.mx_lines.specs.Arguments.{event_of, node_in}
+use Rattle.mx_lines.specs.Names.{Known}
+use Rattle.mx_lines.specs.Numbers.{number_of}
+use Rattle.mx_lines.specs.Verbs.{kinds_of, verb_of}
+use Rattle.mx_events.specs.declared.argument.Argument.{Argument}
+use Rattle.mx_events.specs.declared.argument.Argument.TheVariants as argument
+use Rattle.mx_events.specs.declared.argument.ArgumentKind.{ArgumentKind}
+use Rattle.mx_events.specs.declared.argument.ArgumentKind.TheVariants as kind
+use Rattle.mx_lines.specs.declared.errors.Expected.{Expected}
+use Rattle.mx_lines.specs.declared.errors.Expected.TheVariants as expected
+use Rattle.mx_lines.specs.declared.errors.LineError.{LineError}
+use Rattle.mx_lines.specs.declared.errors.LineFault.{LineFault}
+use Rattle.mx_lines.specs.declared.errors.LineFault.TheVariants as fault
+use Rattle.mx_lines.specs.declared.orders.Order.{Order}
+use Rattle.mx_lines.specs.declared.orders.Order.TheVariants.{Happens, Arrives, AllArrive, IsLost, ArrivesAgain}
+use Rattle.mx_lines.specs.declared.verbs.Verb.{Verb}
+use Rattle.mx_lines.specs.declared.verbs.Verb.TheVariants as verb
+
+-- the word of this number is wrong
+abbrev pub refused : {T : Type 0} → LineFault → ℕ → Expected → Result T LineError
+refused fault word expected = Err (record { fault = fault; word = word; expected = expected })
+
+-- goes on where nothing was wrong
+abbrev pub and_then : {A B : Type 0} → Result A LineError → (A → Result B LineError)
+    → Result B LineError
+and_then (Ok a) f = f a
+and_then (Err e) f = Err e
+
+-- a number, the word of this number in its line
+abbrev pub number_at : ℕ → Text → Expected → Result Argument LineError
+number_at place word wanted =
+    option_map_or (λ number. Ok (argument.Number number)) (number_of word)
+    (refused fault.NotNumber place wanted)
+
+module _ (names : Known) where
+  -- an argument of this kind
+  abbrev pub argument_at : ArgumentKind → ℕ → Text → Result Argument LineError
+  argument_at kind.Node place word =
+      option_map_or (λ node. Ok (argument.Node node)) (position (bytes_eq word) names.nodes)
+      (refused fault.NoNode place expected.Node)
+  argument_at kind.Register place word =
+      option_map_or (λ register. Ok (argument.Register register))
+      (position (bytes_eq word) names.registers)
+      (refused fault.NoRegister place expected.Register)
+  argument_at kind.Value place word = number_at place word expected.Number
+  argument_at kind.Section place word = number_at place word expected.Number
+  argument_at kind.Parcel place word = number_at place word expected.Parcel
+
+  -- arguments of these kinds, from this word on: the first wrong one decides
+  abbrev pub arguments_at : List ArgumentKind → ℕ → List Text → Result (List Argument) LineError
+  arguments_at [] place words = Ok []
+  arguments_at (kind ∷ kinds) place [] = Ok []
+  arguments_at (kind ∷ kinds) place (word ∷ words) =
+      and_then (argument_at kind place word) (λ argument.
+      and_then (arguments_at kinds (place + 1) words) (λ arguments. Ok (argument ∷ arguments)))
+
+-- an order between the two nodes that are the arguments
+abbrev pub between : (ℕ → ℕ → Order) → List Argument → Option Order
+between make arguments =
+    option_and_then (λ from. option_map (make from) (node_in (slice_get arguments 1)))
+    (node_in (slice_get arguments 0))
+
+-- the order of a verb with these arguments
+abbrev pub order_by : Verb → List Argument → Option Order
+order_by (verb.Event kind) arguments = option_map Happens (event_of kind arguments)
+order_by verb.Deliver arguments = between Arrives arguments
+order_by verb.Lose arguments = between IsLost arguments
+order_by verb.Again arguments = between ArrivesAgain arguments
+
+-- `deliver all`
+abbrev pub is_all : Text → List Text → Bool
+is_all word arguments =
+    bytes_eq word (codes "deliver")
+    && ((length arguments == 1) && bytes_eq (slice_index_or arguments 0 []) (codes "all"))
+
+module _ (names : Known) (place : ℕ) where
+  -- what a verb asks for: its arguments have to be as many as it wants
+  abbrev pub order_with : Verb → List Text → Result Order LineError
+  order_with verb words =
+      if length (kinds_of verb) == length words
+      then and_then (arguments_at names (kinds_of verb) (place + 1) words) (λ arguments.
+      option_map_or (λ order. Ok order) (order_by verb arguments)
+      (refused fault.WordCount place (expected.Arguments verb)))
+      else refused fault.WordCount place (expected.Arguments verb)
+
+  -- what a word of this number asks for with those after it
+  abbrev pub order_at : Text → List Text → Result Order LineError
+  order_at word arguments =
+      if bytes_eq word (codes "times") then refused fault.WordCount place expected.Single
+      else if is_all word arguments then Ok AllArrive
+      else option_map_or (λ verb. order_with verb arguments) (verb_of word (length arguments))
+      (refused fault.NoWord place expected.Word)
+
+-- the arguments were read, or this is wrong
+abbrev pub Gives : Result (List Argument) LineError → Result (ArrayVec Argument) LineError
+    → Type 0
+Gives wanted (Ok read) = wanted ≡ Ok read.items
+Gives wanted (Err e) = wanted ≡ Err e

@@ -1,0 +1,122 @@
+//! What a line of a session asks for.
+
+ghost use Rattle.std.specs.Prelude.{◌≡◌};
+ghost use Rattle.mx_lines.specs.Commands.{alone, command_of, own_command, own_word, shown, taken_back};
+ghost use Rattle.mx_lines.specs.Names.{texts_of};
+
+use crate::errors::{Expected, LineError, LineFault, OwnWord, refuse};
+use crate::lines::{Line, read_line};
+use crate::names::Names;
+use crate::numbers::number_of;
+use mx_stamps::NodeId;
+
+/// What a line of a session asks for.
+#[derive(Clone, Copy)]
+pub enum SessionCommand {
+    /// What a line of a script asks for.
+    Does(Line),
+    /// This many lines are undone.
+    Undo(u64),
+    /// One node is shown, or all.
+    Show(Option<NodeId>),
+    /// The events are shown as a file.
+    Events,
+    /// The words are shown.
+    Help,
+    End,
+    /// The line has no words.
+    Nothing,
+}
+
+/// What the words of a line of a session ask for: as of a script, or by a word of its own.
+///
+/// # Errors
+///
+/// As of `read_line`.
+pub fn read_command<N: Names>(names: &N, words: &[&str]) -> Result<SessionCommand, LineError>
+    ensures { result ≡ command_of (N.known names.now) (texts_of words.now) }
+{
+    let Some((first, arguments)) = words.split_first() else {
+        return Ok(SessionCommand::Nothing);
+    };
+    if let Some(word) = own_word(first) {
+        return own_command(names, word, arguments);
+    }
+    match read_line(names, words)? {
+        Some(line) => Ok(SessionCommand::Does(line)),
+        None => Ok(SessionCommand::Nothing),
+    }
+}
+
+/// The word of a session that a text is.
+fn own_word(text: &str) -> Option<OwnWord>
+    ensures { result ≡ own_word text.now }
+{
+    if text == "show" {
+        return Some(OwnWord::Show);
+    }
+    if text == "undo" {
+        return Some(OwnWord::Undo);
+    }
+    if text == "events" {
+        return Some(OwnWord::Events);
+    }
+    if text == "help" {
+        return Some(OwnWord::Help);
+    }
+    if text == "end" {
+        return Some(OwnWord::End);
+    }
+    None
+}
+
+/// What a word of a session asks for with those after it.
+fn own_command<N: Names>(
+    names: &N,
+    word: OwnWord,
+    arguments: &[&str],
+) -> Result<SessionCommand, LineError>
+    ensures { result ≡ own_command (N.known names.now) word (texts_of arguments.now) }
+{
+    let Some((argument, more)) = arguments.split_first() else {
+        return Ok(alone(word));
+    };
+    match word {
+        OwnWord::Show if more.is_empty() => shown(names, argument),
+        OwnWord::Undo if more.is_empty() => taken_back(argument),
+        _ => refuse(LineFault::WordCount, 0, Expected::OwnArguments(word)),
+    }
+}
+
+/// What a word of a session asks for alone.
+fn alone(word: OwnWord) -> SessionCommand
+    ensures { result ≡ alone word }
+{
+    match word {
+        OwnWord::Show => SessionCommand::Show(None),
+        OwnWord::Undo => SessionCommand::Undo(1),
+        OwnWord::Events => SessionCommand::Events,
+        OwnWord::Help => SessionCommand::Help,
+        OwnWord::End => SessionCommand::End,
+    }
+}
+
+/// A node is shown.
+fn shown<N: Names>(names: &N, name: &str) -> Result<SessionCommand, LineError>
+    ensures { result ≡ shown (N.known names.now) name.now }
+{
+    match names.node_named(name) {
+        Some(node) => Ok(SessionCommand::Show(Some(node))),
+        None => refuse(LineFault::NoNode, 1, Expected::Node),
+    }
+}
+
+/// This many lines are undone.
+fn taken_back(count: &str) -> Result<SessionCommand, LineError>
+    ensures { result ≡ taken_back count.now }
+{
+    match number_of(count) {
+        Some(count) => Ok(SessionCommand::Undo(count)),
+        None => refuse(LineFault::NotNumber, 1, Expected::Number),
+    }
+}

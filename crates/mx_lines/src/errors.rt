@@ -1,0 +1,112 @@
+//! Why a line is refused.
+
+ghost use Rattle.std.specs.Prelude.{◌≡◌, Some};
+ghost use Rattle.mx_lines.specs.Orders.{refused};
+ghost use Rattle.mx_lines.specs.Texts.{fault_text};
+
+use crate::verbs::Verb;
+use std::fmt;
+
+/// Why a line is refused.
+#[derive(Clone, Copy, PartialEq, Eq)]
+pub enum LineFault {
+    /// It is not in UTF-8.
+    NotText,
+    /// No line begins with such a word.
+    NoWord,
+    /// Words are missing, or there are too many.
+    WordCount,
+    /// The plan has no such node.
+    NoNode,
+    /// The plan has no such register.
+    NoRegister,
+    /// It is no whole number of 64 bits.
+    NotNumber,
+    /// No parcel of this number was sent.
+    NoParcel,
+    /// No parcel from the one node to the other is under way.
+    NotUnderWay,
+    /// No parcel from the one node to the other was delivered.
+    NotDelivered,
+    /// The script has more than 1,000,000 events, or repeats a line more often.
+    TooMany,
+}
+
+impl fmt::Display for LineFault {
+    ghost output = { λ e. Some (fault_text e) };
+
+    fn fmt<W: fmt::Write>(&self, f: &mut fmt::Formatter<W>) -> fmt::Result {
+        match self {
+            LineFault::NotText => f.write_str("not UTF-8"),
+            LineFault::NoWord => f.write_str("no such word"),
+            LineFault::WordCount => f.write_str("words missing or too many"),
+            LineFault::NoNode => f.write_str("no such node"),
+            LineFault::NoRegister => f.write_str("no such register"),
+            LineFault::NotNumber => f.write_str("not a number"),
+            LineFault::NoParcel => f.write_str("no such parcel"),
+            LineFault::NotUnderWay => f.write_str("no such parcel under way"),
+            LineFault::NotDelivered => f.write_str("no such parcel delivered"),
+            LineFault::TooMany => f.write_str("more than 1000000"),
+        }
+    }
+}
+
+/// A word with which a line of a session begins, and none of a script.
+#[derive(Clone, Copy)]
+pub enum OwnWord {
+    Show,
+    Undo,
+    Events,
+    Help,
+    End,
+}
+
+/// What is expected of a word, or after it.
+#[derive(Clone, Copy)]
+pub enum Expected {
+    /// A word with which a line may begin.
+    Word,
+    /// A line that is no repetition itself.
+    Single,
+    /// A node of the plan.
+    Node,
+    /// A register of the plan.
+    Register,
+    /// A whole number of 64 bits.
+    Number,
+    /// `all`, or the number of a parcel.
+    Parcel,
+    /// A whole number, 0 to 1,000,000.
+    Times,
+    /// After `times`: a number and a line.
+    Repetition,
+    /// After a word of a script: its arguments.
+    Arguments(Verb),
+    /// After a word of a session: its arguments.
+    OwnArguments(OwnWord),
+}
+
+/// A word of a line that is wrong.
+#[derive(Clone, Copy)]
+pub struct LineError {
+    pub fault: LineFault,
+    /// Which word of the line it is, counted from 0.
+    pub word: usize,
+    /// What was expected of this word, or after it.
+    pub expected: Expected,
+}
+
+/// The error of this word.
+pub(crate) fn refuse<T: Drop>(
+    fault: LineFault,
+    word: usize,
+    expected: Expected,
+) -> Result<T, LineError>
+    ensures { result ≡ refused fault word expected }
+{
+    Err(LineError {
+        fault,
+        word,
+        expected,
+    })
+}

@@ -1,0 +1,25 @@
+//! The lines of scripts and of sessions: what a line asks for, or which of its words is wrong, and
+//! what was expected there.
+#![tactic(auto)]
+
+mod arguments;
+mod commands;
+mod edits;
+mod errors;
+mod lines;
+mod messages;
+mod names;
+mod numbers;
+mod orders;
+mod verbs;
+mod words;
+
+pub use commands::{SessionCommand, read_command};
+pub use edits::nearest;
+pub use errors::{Expected, LineError, LineFault, OwnWord};
+pub use lines::{Line, first_error, next_error, read_line};
+pub use messages::{FirstWords, message, message_of_line};
+pub use names::{NameLists, Names};
+pub use orders::Order;
+pub use verbs::Verb;
+pub use words::{place_of_word, words_in};

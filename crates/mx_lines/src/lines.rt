@@ -1,0 +1,100 @@
+//! What a line of a script asks for.
+
+ghost use Rattle.std.specs.Prelude.{◌≡◌, Err, IfNone, IfSome, IsOk};
+ghost use Rattle.mx_lines.specs.Lines.{line_of, repeated, times_of};
+ghost use Rattle.mx_lines.specs.Names.{texts_of};
+
+use crate::errors::{Expected, LineError, LineFault, refuse};
+use crate::names::Names;
+use crate::numbers::number_of;
+use crate::orders::{Order, error_after, order_at};
+use mx_stamps::MOST_EVENTS;
+
+/// A line: what it asks for, and how often.
+#[derive(Clone, Copy)]
+pub struct Line {
+    pub times: u64,
+    pub order: Order,
+}
+
+/// What the words of a line ask for. A line without words asks for nothing.
+///
+/// # Errors
+///
+/// The first word that is wrong, from the left. What is wrong with the number of the words counts
+/// first, and is an error of the word after which they stand.
+pub fn read_line<N: Names>(names: &N, words: &[&str]) -> Result<Option<Line>, LineError>
+    ensures { result ≡ line_of (N.known names.now) (texts_of words.now) }
+{
+    let Some((first, rest)) = words.split_first() else {
+        return Ok(None);
+    };
+    if *first == "times" {
+        return repeated(names, rest);
+    }
+    let order = order_at(names, 0, first, rest)?;
+    Ok(Some(Line { times: 1, order }))
+}
+
+/// What a line asks for that has these words after `times`.
+fn repeated<N: Names>(names: &N, words: &[&str]) -> Result<Option<Line>, LineError>
+    ensures { result ≡ repeated (N.known names.now) (texts_of words.now) }
+{
+    let Some((count, order)) = words.split_first() else {
+        return refuse(LineFault::WordCount, 0, Expected::Repetition);
+    };
+    let times = times_of(count)?;
+    let Some((first, rest)) = order.split_first() else {
+        return refuse(LineFault::WordCount, 0, Expected::Repetition);
+    };
+    let order = order_at(names, 2, first, rest)?;
+    Ok(Some(Line { times, order }))
+}
+
+/// How often a line is done.
+fn times_of(text: &str) -> Result<u64, LineError>
+    ensures { result ≡ times_of text.now }
+{
+    match number_of(text) {
+        Some(times) if times <= MOST_EVENTS as u64 => Ok(times),
+        Some(_) => refuse(LineFault::TooMany, 1, Expected::Times),
+        None => refuse(LineFault::NotNumber, 1, Expected::Times),
+    }
+}
+
+/// The first wrong word of a line, if one is wrong.
+pub fn first_error<N: Names>(names: &N, words: &[&str]) -> Option<LineError>
+    ensures some { IfSome result
+        (λ error. line_of (N.known names.now) (texts_of words.now) ≡ Err error) }
+    ensures none { IfNone result (IsOk (line_of (N.known names.now) (texts_of words.now))) }
+{
+    match read_line(names, words) {
+        Ok(_) => None,
+        Err(error) => Some(error),
+    }
+}
+
+/// The next word that is wrong after that of an error. Where the number of words is wrong, there is
+/// none.
+pub fn next_error<N: Names>(names: &N, words: &[&str], error: &LineError) -> Option<LineError> {
+    match error.expected {
+        Expected::Times => error_after_times(names, words),
+        Expected::Node | Expected::Register | Expected::Number | Expected::Parcel => {
+            let first = if words.first() == Some(&"times") {
+                2
+            } else {
+                0
+            };
+            error_after(names, words, first, error.word)
+        }
+        _ => None,
+    }
+}
+
+/// The error of a line that is repeated.
+fn error_after_times<N: Names>(names: &N, words: &[&str]) -> Option<LineError> {
+    match words.get(2..)?.split_first() {
+        Some((first, rest)) => order_at(names, 2, first, rest).err(),
+        None => refuse::<Line>(LineFault::WordCount, 0, Expected::Repetition).err(),
+    }
+}

@@ -1,0 +1,230 @@
+//! What is reported of a line that is refused.
+
+use crate::edits::nearest;
+use crate::errors::{Expected, LineError, LineFault, OwnWord};
+use crate::names::Names;
+use crate::verbs::Verb;
+use crate::words::before_comment;
+use mx_events::{EVENT_KINDS, EventKind};
+use std::alloc::{AllocError, Global};
+use std::fmt;
+use std::fmt::Display;
+
+/// A longer word is not shown.
+const MOST_BYTES: usize = 40;
+
+/// The words of scripts that are none of events, and those of sessions alone.
+const SCRIPT_WORDS: [&str; 3] = ["lose", "again", "times"];
+
+const SESSION_WORDS: [&str; 5] = ["show", "undo", "events", "help", "end"];
+
+/// With which words a line may begin.
+#[derive(Clone, Copy, PartialEq, Eq)]
+pub enum FirstWords {
+    OfScripts,
+    OfSessions,
+}
+
+impl FirstWords {
+    /// The words, as they are listed for a reader.
+    fn listed(self, alloc: Global) -> Result<Vec<&'static str>, AllocError> {
+        let mut words = Vec::new(alloc);
+        for kind in &EVENT_KINDS {
+            words.push(kind.word())?;
+        }
+        words.extend_from_slice(&SCRIPT_WORDS)?;
+        if self == FirstWords::OfSessions {
+            words.extend_from_slice(&SESSION_WORDS)?;
+        }
+        Ok(words)
+    }
+}
+
+/// The message for a wrong word of a line with these words. It begins with a space.
+pub fn message<N: Names>(
+    alloc: Global,
+    names: &N,
+    first_words: FirstWords,
+    words: &[&str],
+    error: &LineError,
+) -> Result<String, AllocError> {
+    let word = words.get(error.word).copied().unwrap_or("");
+    let known = match error.expected {
+        Expected::Word if error.word == 0 => first_words.listed(alloc)?,
+        Expected::Word => FirstWords::OfScripts.listed(alloc)?,
+        Expected::Node => names.node_names(alloc)?,
+        Expected::Register => names.register_names(alloc)?,
+        _ => Vec::new(alloc),
+    };
+    let mut text = String::new(alloc);
+    text.write(Wrong {
+        word,
+        after: words_after(words, error),
+        expected: expected_text(error.expected),
+        known: known.as_slice(),
+        nearest: nearest(alloc, word, known.as_slice())?,
+        is_list: matches!(error.expected, Expected::Word),
+    })?;
+    Ok(text)
+}
+
+/// The message for a line whose words are as they should be: what it says. It begins with a space.
+pub fn message_of_line(alloc: Global, line: &str) -> Result<String, AllocError> {
+    let mut text = String::new(alloc);
+    text.push_str(" ")?;
+    text.write(Shown(before_comment(line).trim()))?;
+    Ok(text)
+}
+
+/// How many words stand after a word, if that is what is wrong with it.
+fn words_after(words: &[&str], error: &LineError) -> Option<usize> {
+    match error.expected {
+        Expected::Repetition | Expected::Arguments(_) | Expected::OwnArguments(_) => {
+            Some(words.len().saturating_sub(error.word).saturating_sub(1))
+        }
+        _ => None,
+    }
+}
+
+/// What is expected, in words. The words with which a line may begin are listed instead.
+fn expected_text(expected: Expected) -> &'static str {
+    match expected {
+        Expected::Word => "",
+        Expected::Single => "a line that is repeated once",
+        Expected::Node => "a node of the plan",
+        Expected::Register => "a register of the plan",
+        Expected::Number => "a whole number of 64 bits without a sign",
+        Expected::Parcel => "all, or the number of a parcel",
+        Expected::Times => "a whole number, 0 to 1000000",
+        Expected::Repetition => "a number and a line behind the word",
+        Expected::Arguments(Verb::Event(kind)) => arguments_text(kind),
+        Expected::Arguments(_) => "two nodes behind the word",
+        Expected::OwnArguments(OwnWord::Show) => "a node or nothing behind the word",
+        Expected::OwnArguments(OwnWord::Undo) => "a number or nothing behind the word",
+        Expected::OwnArguments(_) => "nothing behind the word",
+    }
+}
+
+/// What stands after the word of an event, in words.
+fn arguments_text(kind: EventKind) -> &'static str {
+    match kind {
+        EventKind::Ask
+        | EventKind::Enter
+        | EventKind::Leave
+        | EventKind::Cancel
+        | EventKind::Tick
+        | EventKind::Restart => "a node behind the word, and no more",
+        EventKind::Read => "a node and a register behind the word",
+        EventKind::Write => "a node, a register and a number behind the word",
+        EventKind::Want => "two nodes behind the word",
+        EventKind::Settle => "a node and the number of a section behind the word",
+        EventKind::Deliver => "all, the number of a parcel, or two nodes behind the word",
+    }
+}
+
+/// A word that is wrong, or after which there are too few or too many, with what was expected.
+#[derive(Clone, Copy)]
+struct Wrong<'a> {
+    word: &'a str,
+    after: Option<usize>,
+    expected: &'a str,
+    known: &'a [&'a str],
+    nearest: Option<&'a str>,
+    /// Whether what was expected is one of the known words.
+    is_list: bool,
+}
+
+impl Display for Wrong<'_> {
+    fn fmt<W: fmt::Write>(&self, f: &mut fmt::Formatter<W>) -> fmt::Result {
+        write!(f, " {}", Quoted(self.word))?;
+        write!(f, "{} stands here, expected ", WordsAfter(self.after))?;
+        if self.is_list {
+            write!(f, "{}", Listed(self.known))?;
+        } else {
+            f.write_str(self.expected)?;
+        }
+        write!(f, "{}", Nearest(self.nearest))
+    }
+}
+
+/// How many words stand after one, if that is wrong.
+#[derive(Clone, Copy)]
+struct WordsAfter(Option<usize>);
+
+impl Display for WordsAfter {
+    fn fmt<W: fmt::Write>(&self, f: &mut fmt::Formatter<W>) -> fmt::Result {
+        match self.0 {
+            Some(0) => f.write_str(" without words behind it"),
+            Some(1) => f.write_str(" with 1 word behind it"),
+            Some(count) => write!(f, " with {count} words behind it"),
+            None => Ok(()),
+        }
+    }
+}
+
+/// Words in a sentence: with commas, and an `or` before the last.
+#[derive(Clone, Copy)]
+struct Listed<'a>(&'a [&'a str]);
+
+impl Display for Listed<'_> {
+    fn fmt<W: fmt::Write>(&self, f: &mut fmt::Formatter<W>) -> fmt::Result {
+        for (k, word) in self.0.iter().enumerate() {
+            f.write_str(separator(k, self.0.len()))?;
+            f.write_str(word)?;
+        }
+        Ok(())
+    }
+}
+
+/// What a sentence has before the k-th of this many words.
+fn separator(k: usize, count: usize) -> &'static str {
+    match count.saturating_sub(k) {
+        _ if k == 0 => "",
+        1 => " or ",
+        _ => ", ",
+    }
+}
+
+/// A word in quotes, or how long it is.
+#[derive(Clone, Copy)]
+struct Quoted<'a>(&'a str);
+
+impl Display for Quoted<'_> {
+    fn fmt<W: fmt::Write>(&self, f: &mut fmt::Formatter<W>) -> fmt::Result {
+        let text = self.0;
+        if text.len() > MOST_BYTES {
+            return write!(f, "a text of {} bytes", text.len());
+        }
+        write!(f, "{text:?}")
+    }
+}
+
+/// The word that was meant, if one is near.
+#[derive(Clone, Copy)]
+struct Nearest<'a>(Option<&'a str>);
+
+impl Display for Nearest<'_> {
+    fn fmt<W: fmt::Write>(&self, f: &mut fmt::Formatter<W>) -> fmt::Result {
+        match self.0 {
+            Some(name) => write!(f, "; the nearest is {name:?}"),
+            None => Ok(()),
+        }
+    }
+}
+
+/// A text, with its control characters escaped.
+#[derive(Clone, Copy)]
+struct Shown<'a>(&'a str);
+
+impl Display for Shown<'_> {
+    fn fmt<W: fmt::Write>(&self, f: &mut fmt::Formatter<W>) -> fmt::Result {
+        for character in self.0.chars() {
+            if character.is_control() {
+                write!(f, "{}", character.escape_debug())?;
+            } else {
+                f.write_char(character)?;
+            }
+        }
+        Ok(())
+    }
+}

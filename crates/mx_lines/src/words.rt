@@ -1,0 +1,42 @@
+//! The words of a line.
+
+ghost use Rattle.std.specs.Prelude.{◌≡◌, IfOk};
+ghost use Rattle.mx_lines.specs.Words.{AreWords, before_comment};
+
+use std::alloc::{AllocError, Global};
+
+/// What a line says before its comment, which begins with `#`.
+pub(crate) fn before_comment(line: &str) -> &str
+    ensures { result.now ≡ before_comment line.now }
+{
+    match line.split_once('#') {
+        Some((before, _)) => before,
+        None => line,
+    }
+}
+
+/// The words of a line, in order: what white space separates before its comment.
+pub fn words_in(alloc: Global, line: &str) -> Result<Vec<&str>, AllocError>
+    ensures { IfOk result (λ words. AreWords (before_comment line.now) words.items) }
+{
+    before_comment(line).split_whitespace().collect(alloc)
+}
+
+/// The byte of a line with which its word of this number begins, counted from 0; none where there
+/// are fewer words.
+pub fn place_of_word(line: &str, number: usize) -> Option<usize> {
+    let mut left = number;
+    let mut is_inside = false;
+    for (place, character) in before_comment(line).char_indices() {
+        if character.is_whitespace() {
+            is_inside = false;
+        } else if !is_inside {
+            if left == 0 {
+                return Some(place);
+            }
+            left -= 1;
+            is_inside = true;
+        }
+    }
+    None
+}

@@ -1,0 +1,70 @@
+-- What a line of a session asks for is over the names by which it is read.
+use Rattle.std.proofs.Common.{◌≡◌, ◌∙◌, ℕ, Bool, true, false, List, [], ◌∷◌, Option, Some, None, Result, Ok, IfOk, IfSome, length, subst, sym}
+use Rattle.std.specs.Bool.{⊤}
+use Rattle.std.specs.List.{position}
+use Rattle.std.specs.Option.{option_map_or}
+use Rattle.std.specs.Prelude.{◌==◌}
+use Rattle.std.specs.Str.{bytes_eq}
+use Rattle.mx_plan.specs.Text.{Text}
+use Rattle.mx_lines.specs.Commands.{alone, command_of, doing, own_command, own_word, with_one}
+use Rattle.mx_lines.specs.Lines.{line_of}
+use Rattle.mx_lines.specs.Names.{Known}
+use Rattle.mx_lines.specs.Numbers.{number_of}
+use Rattle.mx_lines.specs.declared.commands.SessionCommand.{SessionCommand}
+use Rattle.mx_lines.specs.declared.errors.LineError.{LineError}
+use Rattle.mx_lines.specs.declared.errors.OwnWord.{OwnWord}
+use Rattle.mx_lines.specs.declared.errors.OwnWord.TheVariants.{Show, Undo, Events, Help, End}
+use Rattle.mx_lines.specs.declared.lines.Line.{Line}
+use Rattle.mx_scripts.specs.Scripts.{IsOver}
+use Rattle.mx_scripts.proofs.OverLemmas.{any, line_is_over, line_over, LineOver, or_wrong, passed}
+use Rattle.mx_play.specs.Commands.{IsCommand}
+
+module _ (names : Known) where
+  abbrev Over : SessionCommand → Type 0
+  Over command = IsCommand (length names.nodes) (length names.registers) command
+
+  alone_over : (word : OwnWord) → Over (alone word)
+  alone_over Show = tt
+  alone_over Undo = tt
+  alone_over Events = tt
+  alone_over Help = tt
+  alone_over End = tt
+
+  one_over : (word : OwnWord) (text : Text) (is_last : Bool) → IfOk (with_one names word text is_last) Over
+  one_over Show text true = or_wrong (λ n. ⊤) Over (position (bytes_eq text) names.nodes) _ _ (any (position (bytes_eq text) names.nodes)) (λ n h. tt)
+  one_over Show text false = tt
+  one_over Undo text true = or_wrong (λ n. ⊤) Over (number_of text) _ _ (any (number_of text)) (λ n h. tt)
+  one_over Undo text false = tt
+  one_over Events text true = tt
+  one_over Events text false = tt
+  one_over Help text true = tt
+  one_over Help text false = tt
+  one_over End text true = tt
+  one_over End text false = tt
+
+  own_over : (word : OwnWord) (arguments : List Text) → IfOk (own_command names word arguments) Over
+  own_over word [] = alone_over word
+  own_over word (text ∷ more) = one_over word text (length more == 0)
+
+  doing_over : (line : Option Line) → IfSome line (λ l. IsOver (length names.nodes) (length names.registers) l.order) → Over (doing line)
+  doing_over None h = tt
+  doing_over (Some line) h = h
+
+  either_over : (o : Option OwnWord) (f : OwnWord → Result SessionCommand LineError) (r : Result SessionCommand LineError)
+      → ((word : OwnWord) → IfOk (f word) Over) → IfOk r Over → IfOk (option_map_or f o r) Over
+  either_over None f r own line = line
+  either_over (Some word) f r own line = own word
+
+  command_over : (words : List Text) → IfOk (command_of names words) Over
+  command_over [] = tt
+  command_over (word ∷ arguments) =
+      either_over (own_word word) _ _ (λ own. own_over own arguments)
+      (passed (LineOver names) Over (line_of names (word ∷ arguments)) _
+      (line_over names (word ∷ arguments)) (λ line over. doing_over line (line_is_over names line over)))
+
+  -- what the words of a line ask for is over the names
+  pub heard_over : (words : List Text) (command : SessionCommand)
+      → ◌≡◌ {A = Result SessionCommand LineError} (Ok command) (command_of names words)
+      → Over command
+  heard_over words command is =
+      subst (λ (x : Result SessionCommand LineError). IfOk x Over) (sym is) (command_over words)

@@ -1,0 +1,247 @@
+-- What a line asks for is over the names by which it is read.
+use Rattle.std.proofs.Common.{◌≡◌, ◌∙◌, ◌<◌, subst, sym, ℕ, zero, suc, ◌+◌, ◌==◌, Bool, true, false, List, [], ◌∷◌, Option, Some, None, Result, Ok, Err, IfOk, IfSome, length, refl, slice_get}
+use Rattle.std.specs.Bool.{⊤}
+use Rattle.std.specs.List.{position, position_or_len}
+use Rattle.std.specs.Option.{option_map_or}
+use Rattle.std.specs.Prelude.{if◌then◌else◌, nat_lt, option_map, option_and_then, codes}
+use Rattle.std.specs.Str.{bytes_eq}
+use Rattle.std.proofs.lemmas.Bool.{ltb-true}
+use Rattle.mx_events.specs.declared.event.Event.{Event}
+use Rattle.mx_events.specs.declared.event.Event.TheVariants as event
+use Rattle.mx_events.specs.declared.kind.EventKind.{EventKind}
+use Rattle.mx_events.specs.declared.kind.EventKind.TheVariants as kind
+use Rattle.mx_plan.specs.Text.{Text}
+use Rattle.mx_explorer.specs.Drawn.{IsDrawn}
+use Rattle.mx_lines.specs.Arguments.{event_of, node_in, number_in, of_node, of_nodes, of_register, of_section, of_value, register_in}
+use Rattle.mx_lines.specs.Lines.{done_times, line_at, line_of, repeated, times_of}
+use Rattle.mx_lines.specs.Names.{Known}
+use Rattle.mx_lines.specs.Numbers.{number_of}
+use Rattle.mx_lines.specs.Orders.{and_then, argument_at, arguments_at, between, is_all, number_at, order_at, order_by, order_with}
+use Rattle.mx_lines.specs.Verbs.{kinds_of, verb_of}
+use Rattle.mx_events.specs.declared.argument.Argument.{Argument}
+use Rattle.mx_events.specs.declared.argument.Argument.TheVariants as argument
+use Rattle.mx_events.specs.declared.argument.ArgumentKind.{ArgumentKind}
+use Rattle.mx_events.specs.declared.argument.ArgumentKind.TheVariants as wanted
+use Rattle.mx_lines.specs.declared.errors.Expected.{Expected}
+use Rattle.mx_lines.specs.declared.errors.LineError.{LineError}
+use Rattle.mx_lines.specs.declared.lines.Line.{Line}
+use Rattle.mx_lines.specs.declared.orders.Order.{Order}
+use Rattle.mx_lines.specs.declared.orders.Order.TheVariants as order
+use Rattle.mx_lines.specs.declared.verbs.Verb.{Verb}
+use Rattle.mx_lines.specs.declared.verbs.Verb.TheVariants as verb
+use Rattle.mx_scripts.specs.Scripts.{IsOver}
+
+-- ---- steps
+
+-- what follows from a value that was read, and from a fault
+pub passed : {A B : Type 0} (P : A → Type 0) (Q : B → Type 0) (r : Result A LineError) (f : A → Result B LineError)
+    → IfOk r P → ((a : A) → P a → IfOk (f a) Q) → IfOk (and_then r f) Q
+passed P Q (Ok a) f h more = more a h
+passed P Q (Err e) f h more = tt
+
+-- either way
+choice : {A : Type 0} (P : A → Type 0) (b : Bool) (r s : Result A LineError) → IfOk r P → IfOk s P
+    → IfOk (if b then r else s) P
+choice P true r s h k = h
+choice P false r s h k = k
+
+pub or_wrong : {A B : Type 0} (P : A → Type 0) (Q : B → Type 0) (o : Option A) (f : A → Result B LineError) (e : LineError)
+    → IfSome o P → ((a : A) → P a → IfOk (f a) Q) → IfOk (option_map_or f o (Err e)) Q
+or_wrong P Q None f e h more = tt
+or_wrong P Q (Some a) f e h more = more a h
+
+mapped : {A B : Type 0} (P : A → Type 0) (Q : B → Type 0) (o : Option A) (f : A → B) → IfSome o P
+    → ((a : A) → P a → Q (f a)) → IfSome (option_map f o) Q
+mapped P Q None f h more = tt
+mapped P Q (Some a) f h more = more a h
+
+chained : {A B : Type 0} (P : A → Type 0) (Q : B → Type 0) (o : Option A) (f : A → Option B) → IfSome o P
+    → ((a : A) → P a → IfSome (f a) Q) → IfSome (option_and_then f o) Q
+chained P Q None f h more = tt
+chained P Q (Some a) f h more = more a h
+
+pub any : {A : Type 0} (o : Option A) → IfSome o (λ _. ⊤)
+any None = tt
+any (Some a) = tt
+
+-- ---- names
+
+placed : (k n : ℕ) (b : Bool) → nat_lt k n ≡ b → IfSome (if b then Some k else None) (λ i. i < n)
+placed k n true e = ltb-true k n e
+placed k n false e = tt
+
+named : (p : Text → Bool) (names : List Text) → IfSome (position p names) (λ i. i < length names)
+named p names = placed (position_or_len p names) (length names) (nat_lt (position_or_len p names) (length names)) refl
+
+-- ---- arguments
+
+-- an argument names a node below `nodes`, or a register below `registers`
+IsWithin : ℕ → ℕ → Argument → Type 0
+IsWithin nodes registers (argument.Node node) = node < nodes
+IsWithin nodes registers (argument.Register register) = register < registers
+IsWithin nodes registers (argument.Number number) = ⊤
+
+AreWithin : ℕ → ℕ → List Argument → Type 0
+AreWithin nodes registers [] = ⊤
+AreWithin nodes registers (a ∷ others) = IsWithin nodes registers a × AreWithin nodes registers others
+
+module _ (nodes registers : ℕ) where
+  at : (arguments : List Argument) (k : ℕ) → AreWithin nodes registers arguments
+      → IfSome (slice_get arguments k) (IsWithin nodes registers)
+  unfolding IsWithin AreWithin
+  at [] k h = tt
+  at (a ∷ others) zero h = h.0
+  at (a ∷ others) (suc k) h = at others k h.1
+
+  a_node : (o : Option Argument) → IfSome o (IsWithin nodes registers) → IfSome (node_in o) (λ n. n < nodes)
+  unfolding IsWithin
+  a_node None h = tt
+  a_node (Some (argument.Node node)) h = h
+  a_node (Some (argument.Register register)) h = tt
+  a_node (Some (argument.Number number)) h = tt
+
+  a_register : (o : Option Argument) → IfSome o (IsWithin nodes registers) → IfSome (register_in o) (λ r. r < registers)
+  unfolding IsWithin
+  a_register None h = tt
+  a_register (Some (argument.Node node)) h = tt
+  a_register (Some (argument.Register register)) h = h
+  a_register (Some (argument.Number number)) h = tt
+
+  module _ (arguments : List Argument) (h : AreWithin nodes registers arguments) where
+    node_at : (k : ℕ) → IfSome (node_in (slice_get arguments k)) (λ n. n < nodes)
+    node_at k = a_node (slice_get arguments k) (at arguments k h)
+
+    register_at : (k : ℕ) → IfSome (register_in (slice_get arguments k)) (λ r. r < registers)
+    register_at k = a_register (slice_get arguments k) (at arguments k h)
+
+    lone : (make : ℕ → Event) → ((n : ℕ) → n < nodes → IsDrawn nodes registers (make n))
+        → IfSome (of_node arguments make) (IsDrawn nodes registers)
+    lone make over = mapped (λ n. n < nodes) (IsDrawn nodes registers) _ make (node_at 0) over
+
+    -- the event of a kind with these arguments
+    event_over : (kind : EventKind) → IfSome (event_of kind arguments) (IsDrawn nodes registers)
+    event_over kind.Ask = lone event.Ask (λ n lt. lt)
+    event_over kind.Enter = lone event.Enter (λ n lt. lt)
+    event_over kind.Read =
+        chained (λ n. n < nodes) (IsDrawn nodes registers) _ _ (node_at 0)
+        (λ n lt. mapped (λ r. r < registers) (IsDrawn nodes registers) _ (event.Read n) (register_at 1) (λ r below. (lt, below)))
+    event_over kind.Write =
+        chained (λ n. n < nodes) (IsDrawn nodes registers) _ _ (node_at 0)
+        (λ n lt. chained (λ r. r < registers) (IsDrawn nodes registers) _ _ (register_at 1)
+        (λ r below. mapped (λ v. ⊤) (IsDrawn nodes registers) _ (event.Write n r) (any _) (λ v h. (lt, below))))
+    event_over kind.Leave = lone event.Leave (λ n lt. lt)
+    event_over kind.Cancel = lone event.Cancel (λ n lt. lt)
+    event_over kind.Settle =
+        chained (λ n. n < nodes) (IsDrawn nodes registers) _ _ (node_at 0)
+        (λ n lt. mapped (λ v. ⊤) (IsDrawn nodes registers) _ (event.Settle n) (any _) (λ v h. lt))
+    event_over kind.Tick = lone event.Tick (λ n lt. lt)
+    event_over kind.Want =
+        chained (λ n. n < nodes) (IsDrawn nodes registers) _ _ (node_at 0)
+        (λ n lt. mapped (λ m. m < nodes) (IsDrawn nodes registers) _ (event.Want n) (node_at 1) (λ m below. (lt, below)))
+    event_over kind.Deliver = mapped (λ v. ⊤) (IsDrawn nodes registers) _ event.Deliver (any _) (λ v h. tt)
+    event_over kind.Restart = lone event.Restart (λ n lt. lt)
+
+    linked : (make : ℕ → ℕ → Order) → ((n m : ℕ) → IsOver nodes registers (make n m))
+        → IfSome (between make arguments) (IsOver nodes registers)
+    linked make over =
+        chained (λ n. ⊤) (IsOver nodes registers) (node_in (slice_get arguments 0))
+        (λ n. option_map (make n) (node_in (slice_get arguments 1))) (any (node_in (slice_get arguments 0)))
+        (λ n h. mapped (λ m. ⊤) (IsOver nodes registers) (node_in (slice_get arguments 1)) (make n)
+        (any (node_in (slice_get arguments 1))) (λ m k. over n m))
+
+    order_over : (verb : Verb) → IfSome (order_by verb arguments) (IsOver nodes registers)
+    order_over (verb.Event kind) =
+        mapped (IsDrawn nodes registers) (IsOver nodes registers) _ order.Happens (event_over kind) (λ e over. over)
+    order_over verb.Deliver = linked order.Arrives (λ n m. tt)
+    order_over verb.Lose = linked order.IsLost (λ n m. tt)
+    order_over verb.Again = linked order.ArrivesAgain (λ n m. tt)
+
+-- ---- lines
+
+module _ (names : Known) where
+  number_within : (nodes registers place : ℕ) (word : Text) (expected : Expected)
+      → IfOk (number_at place word expected) (IsWithin nodes registers)
+  unfolding IsWithin
+  number_within nodes registers place word expected =
+      or_wrong (λ v. ⊤) (IsWithin nodes registers) (number_of word) _ _ (any (number_of word)) (λ v h. tt)
+
+  argument_within : (kind : ArgumentKind) (place : ℕ) (word : Text)
+      → IfOk (argument_at names kind place word) (IsWithin (length names.nodes) (length names.registers))
+  unfolding IsWithin
+  argument_within wanted.Node place word =
+      or_wrong (λ n. n < length names.nodes) (IsWithin (length names.nodes) (length names.registers)) _ _ _ (named (bytes_eq word) names.nodes) (λ n h. h)
+  argument_within wanted.Register place word =
+      or_wrong (λ n. n < length names.registers) (IsWithin (length names.nodes) (length names.registers)) _ _ _ (named (bytes_eq word) names.registers) (λ n h. h)
+  argument_within wanted.Value place word = number_within _ _ place word _
+  argument_within wanted.Section place word = number_within _ _ place word _
+  argument_within wanted.Parcel place word = number_within _ _ place word _
+
+  arguments_within : (kinds : List ArgumentKind) (place : ℕ) (words : List Text)
+      → IfOk (arguments_at names kinds place words) (AreWithin (length names.nodes) (length names.registers))
+  unfolding AreWithin
+  arguments_within [] place words = tt
+  arguments_within (kind ∷ kinds) place [] = tt
+  arguments_within (kind ∷ kinds) place (word ∷ words) =
+      passed (IsWithin (length names.nodes) (length names.registers)) (AreWithin (length names.nodes) (length names.registers)) (argument_at names kind place word) _
+      (argument_within kind place word)
+      (λ a h. passed (AreWithin (length names.nodes) (length names.registers)) (AreWithin (length names.nodes) (length names.registers)) (arguments_at names kinds (place + 1) words) _
+      (arguments_within kinds (place + 1) words) (λ others more. (h, more)))
+
+  with_over : (place : ℕ) (verb : Verb) (words : List Text)
+      → IfOk (order_with names place verb words) (IsOver (length names.nodes) (length names.registers))
+  with_over place verb words =
+      choice (IsOver (length names.nodes) (length names.registers)) (length (kinds_of verb) == length words) _ _
+      (passed (AreWithin (length names.nodes) (length names.registers)) (IsOver (length names.nodes) (length names.registers)) (arguments_at names (kinds_of verb) (place + 1) words) _
+      (arguments_within (kinds_of verb) (place + 1) words)
+      (λ arguments h. or_wrong (IsOver (length names.nodes) (length names.registers)) (IsOver (length names.nodes) (length names.registers)) (order_by verb arguments) _ _
+      (order_over (length names.nodes) (length names.registers) arguments h verb) (λ o over. over)))
+      tt
+
+  at_over : (place : ℕ) (word : Text) (words : List Text)
+      → IfOk (order_at names place word words) (IsOver (length names.nodes) (length names.registers))
+  at_over place word words =
+      choice (IsOver (length names.nodes) (length names.registers)) (bytes_eq word (codes "times")) _ _ tt
+      (choice (IsOver (length names.nodes) (length names.registers)) (is_all word words) _ _ tt
+      (or_wrong (λ v. ⊤) (IsOver (length names.nodes) (length names.registers)) (verb_of word (length words)) _ _
+      (any (verb_of word (length words))) (λ v h. with_over place v words)))
+
+  pub LineOver : Option Line → Type 0
+  LineOver read = IfSome read (λ line. IsOver (length names.nodes) (length names.registers) line.order)
+
+  single_over : (times place : ℕ) (word : Text) (words : List Text) → IfOk (line_at names times place word words) LineOver
+  unfolding LineOver
+  single_over times place word words =
+      passed (IsOver (length names.nodes) (length names.registers)) LineOver (order_at names place word words) _
+      (at_over place word words) (λ o over. over)
+
+  done_over : (words : List Text) (times : ℕ) → IfOk (done_times names words times) LineOver
+  done_over [] times = tt
+  done_over (word ∷ words) times = single_over times 2 word words
+
+  repeated_over : (words : List Text) → IfOk (repeated names words) LineOver
+  repeated_over [] = tt
+  repeated_over (count ∷ words) =
+      passed (λ t. ⊤) LineOver (times_of count) (done_times names words) (any_ok (times_of count)) (λ t h. done_over words t)
+    where
+      any_ok : (r : Result ℕ LineError) → IfOk r (λ _. ⊤)
+      any_ok (Ok t) = tt
+      any_ok (Err e) = tt
+
+  pub line_over : (words : List Text) → IfOk (line_of names words) LineOver
+  unfolding LineOver
+  line_over [] = tt
+  line_over (word ∷ words) =
+      choice LineOver (bytes_eq word (codes "times")) _ _ (repeated_over words) (single_over 1 0 word words)
+
+  -- what the words of a line ask for is over the names
+  pub read_over : (words : List Text) (line : Option Line)
+      → ◌≡◌ {A = Result (Option Line) LineError} (Ok line) (line_of names words)
+      → IfSome line (λ l. IsOver (length names.nodes) (length names.registers) l.order)
+  unfolding LineOver
+  read_over words line is =
+      subst (λ (x : Result (Option Line) LineError). IfOk x LineOver) (sym is) (line_over words)
+
+  -- the same of a line, in words that others can read
+  pub line_is_over : (read : Option Line) → LineOver read → IfSome read (λ line. IsOver (length names.nodes) (length names.registers) line.order)
+  unfolding LineOver
+  line_is_over read h = h

@@ -1,0 +1,144 @@
+"""A model of a session of `mx play`, over tests/oracle.py: what each line prints, as docs/FORMATS.md says it. It
+knows no faults but those of lines that find no parcel, or too few lines to take back.
+"""
+import json
+
+import oracle
+
+
+class Fault(Exception):
+    """Why a line does nothing."""
+
+
+class Session:
+    """A cluster that is led line by line."""
+
+    def __init__(self, plan):
+        self.plan = plan
+        self.names = plan["nodes"]
+        self.done = []  # of each line that was done, what happened: events, and ["lost", k]
+        self.begin()
+
+    def begin(self):
+        self.put = []
+        self.cluster = oracle.Replay(self.plan, self.put.append)
+        self.events = []
+        self.gone = set()  # the parcels that are no longer under way
+        self.last = {}  # of each link, the parcel that was delivered last
+
+    def happen(self, happening):
+        if happening[0] == "lost":
+            self.gone.add(happening[1])
+            return
+        if happening[0] == "deliver":
+            number = happening[1]
+            if number >= len(self.cluster.parcels):
+                raise Fault("no such parcel")
+            self.gone.add(number)
+            self.last[self.cluster.parcels[number][:2]] = number
+        self.cluster.happen(len(self.events), happening)
+        self.events.append(happening)
+
+    def begin_again(self):
+        self.begin()
+        for line in self.done:
+            for happening in line:
+                self.happen(happening)
+
+    def under_way(self):
+        return [number for number in range(len(self.cluster.parcels)) if number not in self.gone]
+
+    def oldest(self, sender, addressee):
+        link = self.names.index(sender), self.names.index(addressee)
+        found = [number for number in self.under_way() if self.cluster.parcels[number][:2] == link]
+        if not found:
+            raise Fault("no such parcel under way")
+        return found[0]
+
+    def happenings(self, words):
+        """What the words of a line ask for, once; each is found when those before have happened."""
+        word, *others = words
+        if words == ["deliver", "all"]:
+            while found := self.under_way():
+                yield ["deliver", found[0]]
+        elif word == "deliver" and len(words) == 2:
+            yield ["deliver", int(others[0])]
+        elif word == "deliver":
+            yield ["deliver", self.oldest(*others)]
+        elif word == "lose":
+            yield ["lost", self.oldest(*others)]
+        elif word == "again":
+            link = tuple(self.names.index(name) for name in others)
+            if link not in self.last:
+                raise Fault("no such parcel delivered")
+            yield ["deliver", self.last[link]]
+        else:
+            yield [word, *(int(it) if it.isdigit() else it for it in others)]
+
+    def do(self, words):
+        """Does a line of a script; gives what is printed, or raises a fault, and then nothing has changed."""
+        times = 1
+        if words[0] == "times":
+            times, words = int(words[1]), words[2:]
+        before, made = len(self.put), []
+        try:
+            for _ in range(times):
+                for happening in self.happenings(words):
+                    self.happen(happening)
+                    made.append(happening)
+        except Fault:
+            self.begin_again()
+            raise
+        self.done.append(made)
+        return self.put[before:]
+
+    def undo(self, count):
+        if count > len(self.done):
+            raise Fault(f"only {len(self.done)} to take back")
+        del self.done[len(self.done) - count :]
+        self.begin_again()
+        return []
+
+    def standing(self, name):
+        return self.cluster.members[self.names.index(name)].closing(name, self.plan["registers"])
+
+    def show(self, *named):
+        lines = []
+        for name in named or self.names:
+            member = self.cluster.members[self.names.index(name)]
+            lines += [self.standing(name), member.knowledge(self.names)]
+        for number in self.under_way():
+            sender, addressee, letter = self.cluster.parcels[number]
+            if not named or self.names[addressee] in named:
+                way = f"{self.names[sender]}>{self.names[addressee]}"
+                lines.append(f"  #{number} {way} {oracle.text(letter, self.names)}")
+        return lines
+
+    def listed(self):
+        if not self.events:
+            return ["[]"]
+        texts = [json.dumps(event, separators=(",", ":")) for event in self.events]
+        return ["[", *(text + "," for text in texts[:-1]), texts[-1], "]"]
+
+    def answer(self, line):
+        """The lines that a line prints."""
+        words = line.split("#")[0].split()
+        if not words:
+            return []
+        if words[0] == "show":
+            return self.show(*words[1:])
+        if words[0] == "undo":
+            return self.undo(int(words[1]) if len(words) > 1 else 1)
+        if words[0] == "events":
+            return self.listed()
+        return self.do(words)
+
+    def close(self):
+        return [*(self.standing(name) for name in self.names), "verdict sound"]
+
+
+def played(plan, lines):
+    """What each line prints, in lines with their ends, and what the end prints."""
+    session = Session(plan)
+    answers = [session.answer(line) for line in lines]
+    return ["".join(it + "\n" for it in answer) for answer in [*answers, session.close()]]
