@@ -238,6 +238,7 @@ def main():
     title = f"{ALGORITHMS[plan['algorithm']]} algorithm, nodes: {' '.join(run.names)}, events: {len(run.events)}"
     entered = sum(outcome.startswith("entered") for _, _, outcome, _ in run.events)
     heading = f"{ALGORITHMS[plan['algorithm']]} algorithm, nodes: {len(run.names)}, sections entered: {entered}"
+    heading += "" if run.events else ", no events"
     wanted, best = shown(run)
     wanted += Counter([("title", title), ("heading", heading)])
     there, sides = read_back(picture)

@@ -162,8 +162,8 @@ fn add_head(frame: &Frame, text: &mut String) -> Result<(), AllocError> {
     text.push_str("</g>\n</g>\n")
 }
 
-/// Appends what the picture shows: the algorithm, how many nodes there are and how many sections
-/// were entered, and which part of the events it is.
+/// Appends what the picture shows: the algorithm, the number of nodes, the number of sections
+/// entered, which part of the events it is, and whether that part is empty.
 fn add_heading(
     plan: &Plan,
     part: &Part,
@@ -181,6 +181,9 @@ fn add_heading(
         "{algorithm} algorithm, nodes: {nodes}, sections entered: {entered}"
     )?;
     add_part(plan, part, text)?;
+    if sheet.marks.is_empty() {
+        text.push_str(", no events")?;
+    }
     text.push_str("</text>\n")
 }
 
