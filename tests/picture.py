@@ -12,10 +12,12 @@ from collections import Counter
 
 LANE, ROW = 180, 13  # how far apart nodes and rows are
 NAMED_ROWS = 50  # after how many rows the names of the nodes come again
+LONG_ROWS, LONG_NODES = 26, 6  # from how many rows, or nodes, on an arrow is long, so that its text names the sender
+EDGE = 60  # the room at each edge for the indices of the events
 SVG = "{http://www.w3.org/2000/svg}"
-PARTS = "svg title desc style defs marker g path text circle".split()
+PARTS = "svg title desc style defs marker g path text circle use".split()
 TRAITS = """width height viewBox role transform class style id d x y dx dy cx cy r marker-end refX refY
-markerWidth markerHeight markerUnits orient""".split()
+markerWidth markerHeight markerUnits orient href""".split()
 ALGORITHMS = {"ricart": "Ricart and Agrawala's", "maekawa": "Maekawa's", "raymond": "Raymond's"}
 INKS = {"request": "request", "reply": "grant", "locked": "grant", "privilege": "grant"}
 
@@ -52,25 +54,30 @@ def shown(run):
         word, args, outcome, told = event
         node = run.node_of(event)
         if row - named >= NAMED_ROWS:
-            things += [("named", at, row, name) for at, name in enumerate(run.names)]
+            outside = [at for at in range(len(run.names)) if not since.get(at, (0, ""))[1].startswith("inside")]
+            things += [("named", at, row, run.names[at]) for at in outside]
             named, row = row, row + 1
         things.append(("index", row, str(index)))
         goes_right = {to > start for by, start, to, _ in run.parcels if by == index}
         if index % 10 == 0:
             things.append(("guide", row))
-        if not outcome.startswith("entered"):
-            things.append(("dot", node, row))
         if word == "deliver":
             number = int(args[0])
             _, start, _, text = run.parcels[number]
             look = INKS.get(text.split()[0], "other") + (" again" if number in delivered else "")
             delivered.add(number)
+            ends_of_arrow = f" from {run.names[start]}", f" to {run.names[node]}"
             things.append(("arrow", look, start, sent_in[number], node, row))
-            things.append(("text", node, row, f"#{number} {text}"))
+            things.append(("title", f"#{number} {text}{ends_of_arrow[0]}{ends_of_arrow[1]}"))
+            is_far = abs(start - node) >= LONG_NODES or row - sent_in[number] >= LONG_ROWS
+            told = f"#{number} {text}" + (ends_of_arrow[0] if is_far else "")
+            things.append(("text", node, row, told))
             best[node, row] = "right" if start <= node else "left"
         else:
             things.append(("text", node, row, told))
             best[node, row] = "left" if goes_right == {True} else "right"
+        if not outcome.startswith("entered"):
+            things.append(("hollow dot" if outcome.startswith("refused") else "dot", node, row, told))
         if outcome.startswith(("entered", "left")):
             story.append(f" {index} {told}.")
         if outcome.startswith("asked"):
@@ -177,7 +184,7 @@ def read_back(picture):
     assert all(part.tag.removeprefix(SVG) in PARTS and set(part.keys()) <= set(TRAITS) for part in root.iter())
     left, top, width, height = map(int, root.get("viewBox").split())
     assert (root.get("width"), root.get("height")) == (str(width), str(height))
-    things, sections, boxes, sides = [], {}, [], {}
+    things, sections, boxes, box_titles, sides = [], {}, [], [], {}
     assert [part.tag for part in root[:2]] == [SVG + "title", SVG + "desc"] and root.get("role") == "img"
     things.append(("title", root[0].text))
     things.append(("story", root[1].text.removeprefix("Time goes down, and each event is told beside its node. ")))
@@ -188,7 +195,10 @@ def read_back(picture):
     for part in root:
         look = part.get("class", "")
         if part.tag == SVG + "circle":
-            things.append(("dot", place(part.get("cx"), LANE), place(part.get("cy"), ROW)))
+            dot = "hollow dot" if look == "refused" else "dot"
+            things.append((dot, place(part.get("cx"), LANE), place(part.get("cy"), ROW), part[0].text))
+        elif part.tag == SVG + "use":
+            assert (part.get("href"), int(part.get("x"))) == ("#" + groups[1].get("id"), width - EDGE)
         elif look == "guide":
             across = f"M-{-left} (\\d+)h{width}"
             assert re.fullmatch(f"({across})*", part.get("d"))
@@ -196,6 +206,10 @@ def read_back(picture):
         elif part.tag == SVG + "path":
             thing = path_of(look, part.get("d"))
             (boxes if thing[0] == "inside" else things).append(thing)
+            if thing[0] == "arrow":
+                things.append(("title", part[0].text))
+            if thing[0] == "inside":
+                box_titles.append(part[0].text)
             marker = part.get("marker-end")
             assert (marker == f"url(#{look.split()[0]})") if thing[0] == "arrow" else marker is None
         elif part.tag == SVG + "text":
@@ -221,10 +235,12 @@ def read_back(picture):
                 things.append(("text", place(x, LANE), place(y, ROW), part.text))
                 sides[place(x, LANE), place(y, ROW)] = side
             reach = x - 33 - wide if side == "left" else x + 33 + wide
-            assert left + 60 <= reach <= left + width, f"too wide: {part.text}"
+            assert left + EDGE <= reach <= left + width - EDGE, f"too wide: {part.text}"
             assert 0 <= y <= top + height
-    for _, node, begun, ended in boxes:
-        things.append(("inside " + sections.pop((node, begun)), node, begun, ended))
+    for (_, node, begun, ended), titled in zip(boxes, box_titles):
+        section = sections.pop((node, begun))
+        assert titled == f"section {section}"
+        things.append(("inside " + section, node, begun, ended))
     assert not sections
     return Counter(things), sides
 

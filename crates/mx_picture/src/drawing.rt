@@ -198,7 +198,7 @@ where
             tell_section(&entry.outcome, drawing)?;
             tell_journal(cluster, node, drawing)?;
             drawing.sheet.text(node, spot, drawing.label.as_str())?;
-            draw_outcome(node, &entry.outcome, &mut drawing.sheet)
+            draw_outcome(node, &entry.outcome, drawing)
         }
     }
 }
@@ -260,12 +260,16 @@ fn tell_section(outcome: &Outcome, drawing: &mut Drawing) -> Result<(), AllocErr
     }
 }
 
-/// What came of an act at its node: another phase, or a dot. The number of a section that it
-/// entered is in place of the dot.
-fn draw_outcome(node: NodeId, outcome: &Outcome, sheet: &mut Sheet) -> Result<(), AllocError> {
+/// Draws the outcome of an act at its node: another phase, or a dot. The number of a section that
+/// it entered is in place of the dot.
+fn draw_outcome(node: NodeId, outcome: &Outcome, drawing: &mut Drawing) -> Result<(), AllocError> {
+    let title = drawing.label.as_str();
     match phase_after(outcome) {
-        Some(Phase::Inside(number)) => sheet.enter(node, number),
-        Some(phase) => sheet.turn(node, phase),
-        None => sheet.dot(node),
+        Some(Phase::Inside(number)) => drawing.sheet.enter(node, number),
+        Some(phase) => drawing.sheet.turn(node, phase, title),
+        None => {
+            let is_refused = matches!(outcome, Outcome::Refused(_));
+            drawing.sheet.dot(node, is_refused, title)
+        }
     }
 }

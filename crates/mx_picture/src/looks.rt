@@ -8,6 +8,7 @@ text{font:12px Helvetica,Arial,sans-serif;stroke:#fff;stroke-width:3px;stroke-li
 path{fill:none;stroke-width:1.4px}
 .paper{fill:#fff}.guide{stroke:#ddd;stroke-width:1px}.node{stroke:#999}
 .heading{font-weight:bold;font-size:14px}.name{font-weight:bold;text-anchor:middle}.index{fill:#555;text-anchor:end}
+.refused{fill:#fff;stroke:#000;stroke-width:1.2px}
 .waits{stroke:#56b4e9;stroke-width:6px}.inside{fill:#f0e442;stroke:#000}
 .section{font-weight:bold;text-anchor:middle;stroke:none}
 .request{stroke:#0072b2}.grant{stroke:#009e73;stroke-width:2.4px}.other{stroke:#cc79a7}

@@ -7,7 +7,7 @@ use crate::escaping::add_escaped;
 use crate::looks::{LEGEND, LEGEND_WIDTH, STYLES};
 use crate::part::Part;
 use crate::places::{LANE, y_of};
-use crate::sheet::Sheet;
+use crate::sheet::{NameRow, Sheet};
 use mx_plan::{Plan, Shape};
 use std::alloc::AllocError;
 
@@ -17,7 +17,7 @@ const HEAD: u64 = 86;
 /// What is below the last row: the names again.
 const FOOT: u64 = 30;
 
-/// What is at the left: the indices of the events.
+/// The room at each edge for the indices of the events.
 const INDICES: u64 = 60;
 
 /// How far from the edge the indices end.
@@ -68,7 +68,7 @@ fn add_ground(
     add_head(frame, text)?;
     add_heading(plan, part, sheet, frame, text)?;
     add_guides(sheet, frame, text)?;
-    add_indices(sheet, frame.left, text)?;
+    add_indices(sheet, frame, text)?;
     add_lanes(plan, y_of(sheet.row), text)
 }
 
@@ -76,8 +76,8 @@ fn add_ground(
 fn add_lines(plan: &Plan, sheet: &Sheet, text: &mut String) -> Result<(), AllocError> {
     text.push_str(sheet.bars.as_str())?;
     text.push_str(sheet.arrows.as_str())?;
-    for y in &sheet.headings {
-        add_names(plan, *y, text)?;
+    for row in &sheet.headings {
+        add_names(plan, row, text)?;
     }
     Ok(())
 }
@@ -97,7 +97,11 @@ fn frame_of(plan: &Plan, sheet: &Sheet) -> Frame {
         .max(NAME)
         .saturating_add(INDICES);
     let last = LANE * u64::from(plan.nodes() - 1);
-    let right = sheet.right.saturating_add(MARGIN).max(last + NAME);
+    let right = sheet
+        .right
+        .saturating_add(MARGIN)
+        .max(last + NAME)
+        .saturating_add(INDICES);
     Frame {
         left,
         width: left.saturating_add(right).max(LEGEND_WIDTH),
@@ -209,13 +213,16 @@ fn add_node(name: &str, text: &mut String) -> Result<(), AllocError> {
     add_escaped(name, text)
 }
 
-/// Appends the names of the nodes in this row.
-fn add_names(plan: &Plan, y: u64, text: &mut String) -> Result<(), AllocError> {
+/// Appends the names of the nodes in a row that shows them.
+fn add_names(plan: &Plan, row: &NameRow, text: &mut String) -> Result<(), AllocError> {
+    let y = row.y;
     for index in 0..plan.nodes() {
-        let x = LANE * u64::from(index);
-        write!(text, "<text class=\"name\" x=\"{x}\" y=\"{y}\" dy=\"4\">")?;
-        add_escaped(plan.node_name(index).unwrap_or(""), text)?;
-        text.push_str("</text>\n")?;
+        if row.has_name(index) {
+            let x = LANE * u64::from(index);
+            write!(text, "<text class=\"name\" x=\"{x}\" y=\"{y}\" dy=\"4\">")?;
+            add_escaped(plan.node_name(index).unwrap_or(""), text)?;
+            text.push_str("</text>\n")?;
+        }
     }
     Ok(())
 }
@@ -231,15 +238,16 @@ fn add_guides(sheet: &Sheet, frame: &Frame, text: &mut String) -> Result<(), All
     text.push_str("\"/>\n")
 }
 
-/// Appends the indices of the events.
-fn add_indices(sheet: &Sheet, left: u64, text: &mut String) -> Result<(), AllocError> {
-    let aside = left.saturating_sub(INDEX_END);
+/// Appends the indices of the events, at the left edge and at the right one.
+fn add_indices(sheet: &Sheet, frame: &Frame, text: &mut String) -> Result<(), AllocError> {
+    let aside = frame.left.saturating_sub(INDEX_END);
     write!(
         text,
-        "<g class=\"index\" transform=\"translate(-{aside})\">\n<text y=\"-18\">event</text>\n"
+        "<g id=\"indices\" class=\"index\" transform=\"translate(-{aside})\">\n<text y=\"-18\">event</text>\n"
     )?;
     text.push_str(sheet.indices.as_str())?;
-    text.push_str("</g>\n")
+    let across = frame.width.saturating_sub(INDICES);
+    write!(text, "</g>\n<use href=\"#indices\" x=\"{across}\"/>\n")
 }
 
 /// Appends the line of each node, with its name above and below.

@@ -8,6 +8,7 @@ use mx_member::{Parcel, SentParcel};
 use mx_network::Cluster;
 use mx_nodelaws::Exclusion;
 use mx_plan::Plan;
+use mx_stamps::NodeId;
 use mx_texts::{Letter, add_parcel};
 use std::alloc::AllocError;
 
@@ -29,12 +30,34 @@ where
     } else {
         Spot::Left
     };
+    draw_arrow(plan, number, &sent, drawing)?;
     tell_parcel(plan, number, sent.parcel, &mut drawing.label)?;
+    if drawing.sheet.is_far(number, sent.from, sent.to) {
+        name_end(plan, "from", sent.from, &mut drawing.label)?;
+    }
     tell_journal(cluster, sent.to, drawing)?;
-    drawing
-        .sheet
-        .arrow(number, sent.from, sent.to, ink_of(sent.parcel))?;
     drawing.sheet.mark(sent.to, spot, drawing.label.as_str())
+}
+
+/// Draws the arrow of a parcel to its delivery. Its title has the text of the parcel and both ends.
+fn draw_arrow<M: Letter>(
+    plan: &Plan,
+    number: u64,
+    sent: &SentParcel<'_, M>,
+    drawing: &mut Drawing,
+) -> Result<(), AllocError> {
+    tell_parcel(plan, number, sent.parcel, &mut drawing.label)?;
+    name_end(plan, "from", sent.from, &mut drawing.label)?;
+    name_end(plan, "to", sent.to, &mut drawing.label)?;
+    let ink = ink_of(sent.parcel);
+    let title = drawing.label.as_str();
+    drawing.sheet.arrow(number, sent.from, sent.to, ink, title)
+}
+
+/// Appends the name of a node where a parcel comes from or goes to.
+fn name_end(plan: &Plan, word: &str, node: NodeId, label: &mut String) -> Result<(), AllocError> {
+    let name = plan.node_name(node.get()).unwrap_or("");
+    write!(label, " {word} {name}")
 }
 
 /// The parcels from `before` on, which the present event sent.
@@ -88,8 +111,7 @@ fn tell_loss<M: Letter>(
     label: &mut String,
 ) -> Result<(), AllocError> {
     tell_parcel(plan, number, sent.parcel, label)?;
-    let name = plan.node_name(sent.to.get()).unwrap_or("");
-    write!(label, " to {name}")
+    name_end(plan, "to", sent.to, label)
 }
 
 /// Puts the number and the text of a parcel in place of the label.

@@ -28,6 +28,28 @@ struct Trip {
 /// After how many rows the names of the nodes are shown again.
 const NAMED_ROWS: u64 = 50;
 
+/// The number of rows, and of nodes, from which on an arrow is long.
+const LONG_ROWS: u64 = 26;
+
+const LONG_NODES: u8 = 6;
+
+/// A row that shows the names of the nodes again, but for those that are inside: a box is there.
+#[derive(Clone, Copy)]
+pub(crate) struct NameRow {
+    pub(crate) y: u64,
+    inside: [bool; MOST_NODES as usize],
+}
+
+impl NameRow {
+    /// Whether the row shows the name of this node.
+    pub(crate) fn has_name(&self, node: u8) -> bool {
+        match self.inside.get(usize::from(node)) {
+            Some(is_inside) => !*is_inside,
+            None => true,
+        }
+    }
+}
+
 /// The parts of a picture, of which each lies over those before it, and what has to be known of the
 /// rows above.
 #[derive(Drop)]
@@ -41,8 +63,8 @@ pub(crate) struct Sheet {
     pub(crate) story: String,
     /// Where lines go across the page, so that an index is found from afar.
     pub(crate) guides: Vec<u64>,
-    /// Where the names of the nodes are shown again, and the row in which they were last.
-    pub(crate) headings: Vec<u64>,
+    /// The rows in which the names of the nodes are shown again, and the last of them.
+    pub(crate) headings: Vec<NameRow>,
     heading: u64,
     /// How many sections were entered.
     pub(crate) entered: u64,
@@ -113,8 +135,21 @@ impl Sheet {
             return Ok(());
         }
         self.heading = self.row;
-        self.headings.push(y_of(self.row))?;
+        let row = self.name_row();
+        self.headings.push(row)?;
         self.go_down()
+    }
+
+    /// The present row, as one that shows names.
+    fn name_row(&self) -> NameRow {
+        let mut inside = [false; MOST_NODES as usize];
+        for index in 0..MOST_NODES as usize {
+            inside[index] = matches!(self.stays[index].phase, Phase::Inside(_));
+        }
+        NameRow {
+            y: y_of(self.row),
+            inside,
+        }
     }
 
     /// A row of its own for events that are not shown.
@@ -138,11 +173,23 @@ impl Sheet {
         Ok(())
     }
 
-    /// The dot of an event at its node.
-    pub(crate) fn dot(&mut self, node: NodeId) -> Result<(), AllocError> {
+    /// Draws the dot of an event at its node. The dot has this title, and is hollow if the event is
+    /// refused.
+    pub(crate) fn dot(
+        &mut self,
+        node: NodeId,
+        is_refused: bool,
+        title: &str,
+    ) -> Result<(), AllocError> {
         let x = x_of(node);
         let y = y_of(self.row);
-        write!(self.marks, "<circle cx=\"{x}\" cy=\"{y}\" r=\"2.5\"/>\n")
+        let style = if is_refused { " class=\"refused\"" } else { "" };
+        write!(
+            self.marks,
+            "<circle{style} cx=\"{x}\" cy=\"{y}\" r=\"2.5\">"
+        )?;
+        add_title(title, &mut self.marks)?;
+        self.marks.push_str("</circle>\n")
     }
 
     /// A text beside a node.
@@ -154,7 +201,7 @@ impl Sheet {
 
     /// The dot of an event at its node, and a text beside it.
     pub(crate) fn mark(&mut self, node: NodeId, spot: Spot, text: &str) -> Result<(), AllocError> {
-        self.dot(node)?;
+        self.dot(node, false, text)?;
         self.text(node, spot, text)
     }
 
@@ -211,6 +258,7 @@ impl Sheet {
         from: NodeId,
         to: NodeId,
         ink: &str,
+        title: &str,
     ) -> Result<(), AllocError> {
         let index = number as usize;
         if index >= self.trips.len() {
@@ -218,9 +266,23 @@ impl Sheet {
         }
         let trip = self.deliver(index);
         if trip.shown {
-            self.join(trip, from, to, ink)
+            self.join(trip, from, to, ink)?;
         } else {
-            self.come_in(from, to, ink)
+            self.come_in(from, to, ink)?;
+        }
+        add_title(title, &mut self.arrows)?;
+        self.arrows.push_str("</path>\n")
+    }
+
+    /// Whether the arrow of a parcel to the present row is long, or begins in a row that is not
+    /// shown.
+    pub(crate) fn is_far(&self, number: u64, from: NodeId, to: NodeId) -> bool {
+        let apart = from.get().abs_diff(to.get());
+        match self.trips.get(number as usize) {
+            Some(trip) => {
+                !trip.shown || apart >= LONG_NODES || self.row.saturating_sub(trip.row) >= LONG_ROWS
+            }
+            None => false,
         }
     }
 
@@ -235,7 +297,7 @@ impl Sheet {
         let arrows = &mut self.arrows;
         write!(arrows, "<path class=\"{ink}{again}\" d=\"M{x} {y}")?;
         add_way(x, x_of(to), down, arrows)?;
-        write!(arrows, "\" marker-end=\"url(#{ink})\"/>\n")?;
+        write!(arrows, "\" marker-end=\"url(#{ink})\">")?;
         self.labels.add_way(way_of(x, y, x_of(to), down))
     }
 
@@ -250,7 +312,7 @@ impl Sheet {
         };
         write!(
             self.arrows,
-            "<path class=\"{ink}\" d=\"M{x} {y}m{back}-13l{aside} 13\" marker-end=\"url(#{ink})\"/>\n"
+            "<path class=\"{ink}\" d=\"M{x} {y}m{back}-13l{aside} 13\" marker-end=\"url(#{ink})\">"
         )
     }
 
@@ -313,8 +375,13 @@ impl Sheet {
     }
 
     /// The phase of a node changes, at the dot of the event by which it does.
-    pub(crate) fn turn(&mut self, node: NodeId, phase: Phase) -> Result<(), AllocError> {
-        self.dot(node)?;
+    pub(crate) fn turn(
+        &mut self,
+        node: NodeId,
+        phase: Phase,
+        title: &str,
+    ) -> Result<(), AllocError> {
+        self.dot(node, false, title)?;
         self.change(node, phase)
     }
 
@@ -350,13 +417,20 @@ impl Sheet {
         let high = y_of(self.row - since) + 12;
         write!(
             self.bars,
-            "<path class=\"inside\" d=\"M{x} {y}m-12-6h24v{high}h-24z\"/>\n"
+            "<path class=\"inside\" d=\"M{x} {y}m-12-6h24v{high}h-24z\"><title>section {number}</title></path>\n"
         )?;
         write!(
             self.marks,
             "<text class=\"section\" x=\"{x}\" y=\"{y}\" dy=\"4\">{number}</text>\n"
         )
     }
+}
+
+/// Appends the title of a part of the picture, which a viewer shows beside the pointer.
+fn add_title(title: &str, text: &mut String) -> Result<(), AllocError> {
+    text.push_str("<title>")?;
+    add_escaped(title, text)?;
+    text.push_str("</title>")
 }
 
 /// The way of an arrow: straight down to the other node, or by a bow back to its own.
