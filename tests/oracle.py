@@ -1,8 +1,8 @@
 """A second implementation of `mx replay` and `mx explore`, written from the step tables alone, to compare
 printouts with.
 
-Usage: tests/oracle.py PLAN EVENTS, for a plan and events that are well-formed, or
-tests/oracle.py explore PLAN SEED STEPS.
+Usage: tests/oracle.py PLAN EVENTS, or tests/oracle.py state PLAN EVENTS for `replay --state`, for a plan and events that
+are well-formed, or tests/oracle.py explore PLAN SEED STEPS.
 
 From the bottom up: letters, which nodes send to each other; cores, one class for each algorithm, which
 take the letters and say when their node may enter the section; members, which are a core with the journal
@@ -885,21 +885,23 @@ class Replay:
         self.put(f"  #{len(self.parcels)} {way} {text(letter, self.names)}")
         self.parcels.append((sender, addressee, letter))
 
-    def close(self):
-        """Prints how the nodes stand, and the verdict."""
+    def close(self, with_state=False):
+        """Prints how the nodes stand, perhaps with what each knows, and the verdict."""
         for name, member in zip(self.names, self.members):
             self.put(member.closing(name, self.registers))
+            if with_state:
+                self.put(member.knowledge(self.names))
         self.put("verdict sound")
 
 
-def replay(plan, events, put):
+def replay(plan, events, put, with_state=False):
     """Lets all events happen and puts each line that is printed; gives the fault, where there is one."""
     cluster = Replay(plan, put)
     for index, event in enumerate(events):
         if event[0] == "deliver" and event[1] >= len(cluster.parcels):
             return f"mx: no parcel: event {index}"
         cluster.happen(index, event)
-    cluster.close()
+    cluster.close(with_state)
     return None
 
 
@@ -1016,7 +1018,9 @@ def main():
         explore(load(sys.argv[2]), int(sys.argv[3]), int(sys.argv[4]), lines.append)
         sys.stdout.write("".join(line + "\n" for line in lines))
         return
-    fault = replay(load(sys.argv[1]), load(sys.argv[2]), lines.append)
+    with_state = sys.argv[1] == "state"
+    plan, events = sys.argv[2:] if with_state else sys.argv[1:]
+    fault = replay(load(plan), load(events), lines.append, with_state)
     sys.stdout.write("".join(line + "\n" for line in lines))
     if fault is not None:
         sys.stderr.write(fault + "\n")

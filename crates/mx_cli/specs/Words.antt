@@ -96,11 +96,16 @@ json_rule = flag_rule (codes "json")
 abbrev pub count_rule : Rule
 count_rule = flag_rule (codes "count")
 
--- `replay PLAN EVENTS`, and perhaps `--quiet`, `--node NAME` and `--json`
+-- `--state`
+abbrev pub state_rule : Rule
+state_rule = flag_rule (codes "state")
+
+-- `replay PLAN EVENTS`, and perhaps `--quiet`, `--node NAME`, `--json` and `--state`
 abbrev pub replay_app : App
 replay_app =
     let named = with_rule (with_rule (new_app (codes "replay")) plan_rule) events_rule in
-    with_rule (with_rule (with_rule named quiet_rule) node_rule) json_rule
+    let shown = with_rule (with_rule named quiet_rule) node_rule in
+    with_rule (with_rule shown json_rule) state_rule
 
 -- `explore PLAN --seed S --steps K`, and perhaps `--count`
 abbrev pub explore_app : App
@@ -216,12 +221,13 @@ number_at id rows = option_and_then number_of (one_of id rows)
 abbrev pub is_given : Text → List Row → Bool
 is_given id rows = option_map_or (λ text. bytes_eq text (codes "true")) (first_of id rows) false
 
--- a replay is to be shown otherwise: by its closing lines, by the lines of one node, or as JSON
+-- a replay is to be shown otherwise: by its closing lines, by the lines of one node, as JSON, or
+-- with what each node knows
 abbrev pub is_view : List Row → Bool
 is_view rows =
     is_given (codes "quiet") rows
     || option_map_or (λ _. true) (first_of (codes "node") rows) false
-    || is_given (codes "json") rows
+    || is_given (codes "json") rows || is_given (codes "state") rows
 
 -- the names that were given for a plan and its events
 abbrev pub names_at : List Row → Option (Text × Text)
@@ -244,7 +250,7 @@ checking with_asks plan = if with_asks then asks plan else check plan
 abbrev pub check_in : List Row → Option Request
 check_in rows = option_map (checking (is_given (codes "asks") rows)) (first_of (codes "PLAN") rows)
 
--- a replay, but not one with `--quiet`, `--node` or `--json`
+-- a replay, but not one with `--quiet`, `--node`, `--json` or `--state`
 abbrev pub replay_in : List Row → Option Request
 replay_in rows = if is_view rows then None else option_map replay (names_at rows)
 

@@ -83,9 +83,11 @@ Where something is wrong, `mx explain PLAN EVENTS` says where it stands and what
 
 With --quiet only the lines at the end are printed; with --node NAME only those of this node: its events,
 the parcels that it sends or that are sent to it, and its line at the end; with --json an object of JSON
-in place of each line. They may stand together:
+in place of each line; with --state a line below that of each node at the end tells what the node knows by
+its algorithm, as `show` of `mx play` does. An object of JSON tells it too. They may stand together:
 
-  mx replay plan.json events.json --node a --json";
+  mx replay plan.json events.json --node a --json
+  mx replay plan.json events.json --quiet --state";
 
 pub(crate) const EXPLORE_EXAMPLE: &str = "Example: a thousand steps drawn from the seed 1.
 

@@ -7,7 +7,7 @@ use std::alloc::{AllocError, Global};
 const OPTIONS: [(&str, &[&str]); 8] = [
     ("<COMMAND>", &["--version"]),
     ("check", &["--asks"]),
-    ("replay", &["--quiet", "--node", "--json"]),
+    ("replay", &["--quiet", "--node", "--json", "--state"]),
     ("explain", &["--script"]),
     ("explore", &["--seed", "--steps", "--count"]),
     ("draw", &["--seed", "--steps", "--walk"]),

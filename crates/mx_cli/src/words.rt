@@ -51,7 +51,7 @@ fn check_command<'a>(alloc: Global) -> Result<Command<'a>, AllocError>
     with_arg(begun, asks)
 }
 
-/// `replay PLAN EVENTS`, which may have `--quiet`, `--node NAME` and `--json`.
+/// `replay PLAN EVENTS`, which may have `--quiet`, `--node NAME`, `--json` and `--state`.
 pub fn replay_command<'a>(alloc: Global) -> Result<Command<'a>, AllocError>
     ensures { IfOk result (IsCommand replay_app) }
 {
@@ -70,7 +70,9 @@ pub fn replay_command<'a>(alloc: Global) -> Result<Command<'a>, AllocError>
         "json",
         "Prints an object of JSON in place of each line",
     );
-    with_arg(with_node, json)
+    let with_json = with_arg(with_node, json);
+    let state = flag_arg(alloc, "state", "Prints what each node knows at the end");
+    with_arg(with_json, state)
 }
 
 /// `explore PLAN --seed S --steps K`, which may have `--count`.
@@ -202,11 +204,15 @@ fn explore_in<'a>(matches: &ArgMatches<'a>) -> Option<Request<'a>>
     exploration_at(matches).map(Request::Explore)
 }
 
-/// Whether a replay is to be shown by its closing lines, by the lines of one node, or as JSON.
+/// Whether a replay is to be shown by its closing lines, by the lines of one node, as JSON, or with
+/// what each node knows.
 fn is_view(matches: &ArgMatches<'_>) -> bool
     ensures { result ≡ is_view (rows_of (found_of matches.now)) }
 {
-    is_given(matches, "quiet") || text_at(matches, "node").is_some() || is_given(matches, "json")
+    is_given(matches, "quiet")
+        || text_at(matches, "node").is_some()
+        || is_given(matches, "json")
+        || is_given(matches, "state")
 }
 
 /// The names that were given for a plan and its events.

@@ -104,7 +104,9 @@ fn first_of<'a>(words: &[&'a str]) -> &'a str {
 
 /// Whether one of the words says how a replay is to be shown.
 fn is_view(words: &[&str]) -> bool {
-    words.iter().any(|word| *word == "--quiet" || *word == "--json" || word.starts_with("--node"))
+    words.iter().any(|word| {
+        *word == "--quiet" || *word == "--json" || *word == "--state" || word.starts_with("--node")
+    })
 }
 
 /// Whether this is among the words.

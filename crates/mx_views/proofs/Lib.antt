@@ -1,2 +1,5 @@
+pub mod JsonLemmas
+pub mod ClosingLemmas
 pub mod ShownLemmas
-pub mod PrintedLemmas
+pub mod ViewedLemmas
+pub mod EndLemmas

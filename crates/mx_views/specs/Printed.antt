@@ -1,5 +1,5 @@
 -- What is printed of the plan and the events that the words ask to show.
-use Rattle.std.specs.Prelude.{◌≡◌, ℕ, false, List, Option, Some, None, Ok, IfSome}
+use Rattle.std.specs.Prelude.{◌≡◌, ℕ, List, Option, Some, None, Ok, IfSome, option_map}
 use Rattle.mx_events.specs.declared.event.Event.{Event}
 use Rattle.mx_plan.specs.Text.{Text}
 use Rattle.mx_plan.specs.Fields.{Fields, node_of}
@@ -9,6 +9,7 @@ use Rattle.mx_io.specs.Outputs.{Held}
 use Rattle.mx_io.specs.Told.{Telling}
 use Rattle.mx_views.specs.Shown.{PrintsBy}
 use Rattle.mx_views.specs.ViewWords.{Request}
+use Rattle.mx_views.specs.declared.selection.View.{View}
 
 -- these events of the plan were read
 abbrev pub Lists : Fields → Telling → List Event → Type 0
@@ -21,17 +22,32 @@ IsRunOf told names p es =
     IsPlanOf (plan_told told names) p
     × IfSome (text_told told names) (λ telling. Lists p telling es)
 
--- the node of this name in the plan, where one is named
-abbrev pub IsNodeOf : Fields → Option Text → Option ℕ → Type 0
-IsNodeOf p None node = node ≡ None
-IsNodeOf p (Some name) node = (i : ℕ) × (node_of p name ≡ Some i) × (node ≡ Some i)
+-- the node of this name, where one is named and the plan has it
+abbrev pub node_in : Fields → Option Text → Option (Option ℕ)
+node_in p None = Some None
+node_in p (Some name) = option_map Some (node_of p name)
 
--- a run of these events of the plan was shown, of the node of this name or of all; a view without
--- JSON is the lines of its events, unless it is quiet, and the closing lines, and nothing else
+-- how a run is shown, of this node or of all
+abbrev pub view_on : Request → Option ℕ → View
+view_on request node =
+    record {
+      node = node;
+      is_quiet = request.is_quiet;
+      is_json = request.is_json;
+      has_state = request.has_state;
+    }
+
+-- a run of these events of the plan was shown, of the node of this name or of all: the lines of its
+-- events, unless it is quiet, and the closing lines, and nothing else
 abbrev pub PrintsPlanned : Fields → List Event → Request → Held → Held → Type 0
 PrintsPlanned p es request old new =
-    (node : Option ℕ) × IsNodeOf p request.node node
-    × (request.is_json ≡ false → PrintsBy p node request.is_quiet es old new p.shape)
+    (node : Option ℕ) × (node_in p request.node ≡ Some node)
+    × PrintsBy p (view_on request node) es old new p.shape
+
+-- the same of events that a text lists
+abbrev pub PrintsText : Fields → List ℕ → Request → Held → Held → Type 0
+PrintsText p bytes request old new =
+    (es : List Event) × (events_at p bytes ≡ Ok es) × PrintsPlanned p es request old new
 
 -- the plan and the events were read, and shown
 abbrev pub PrintsView : (Text → Option Telling) → Request → Held → Held → Type 0

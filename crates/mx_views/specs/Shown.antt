@@ -1,11 +1,16 @@
--- What is shown of a run: the closing lines alone or all lines, of one node or of all.
+-- What is shown of a run: the closing lines alone or all lines, of one node or of all, as texts or
+-- as JSON, with what each node knows at the end or without.
 use Rattle.std.specs.Prelude.{◌||◌, ℕ, ◌+◌, Bool, true, false, List, [], ◌∷◌, ◌++◌, Option, Some, None, Result, Ok, Err, drop, if◌then◌else◌, length, nat_eq, option_map, slice_get}
 use Rattle.std.specs.Option.{option_map_or}
 use Rattle.std.specs.Io.KnownBytes.{Appends}
+use Rattle.mx_knowledge.specs.Facts.{Known}
 use Rattle.mx_nodelaws.specs.Core.{Core}
 use Rattle.mx_ricart.specs.Step.{ricart_core}
+use Rattle.mx_ricart.specs.Knows.{known_of as ricart_known}
 use Rattle.mx_maekawa.specs.Step.{maekawa_core}
+use Rattle.mx_maekawa.specs.Knows.{known_of as maekawa_known}
 use Rattle.mx_raymond.specs.Step.{raymond_core}
+use Rattle.mx_raymond.specs.Knows.{known_of as raymond_known}
 use Rattle.mx_member.specs.Member.{MemberState}
 use Rattle.mx_member.specs.declared.parcel.Parcel.{Parcel}
 use Rattle.mx_events.specs.Events.{node_of}
@@ -14,6 +19,7 @@ use Rattle.mx_events.specs.declared.event.Event.TheVariants.{Deliver}
 use Rattle.mx_network.specs.Step.{ClusterState, RunsTo, step_of}
 use Rattle.mx_network.specs.declared.faults.StepFault.{StepFault}
 use Rattle.mx_sections.specs.declared.outcome.Entry.{Entry}
+use Rattle.mx_explorer.specs.declared.verdict.Verdict.{Verdict}
 use Rattle.mx_explorer.specs.declared.verdict.Verdict.TheVariants.{Sound}
 use Rattle.mx_plan.specs.Text.{Text}
 use Rattle.mx_plan.specs.Fields.{Fields}
@@ -21,12 +27,19 @@ use Rattle.mx_plan.specs.declared.shape.Shape.{Shape}
 use Rattle.mx_plan.specs.declared.shape.Shape.TheVariants.{Ricart, Maekawa, Raymond}
 use Rattle.mx_io.specs.Outputs.{Held}
 use Rattle.mx_texts.specs.EventTexts.{event_line}
-use Rattle.mx_texts.specs.LetterTexts.{maekawa_text, raymond_text, ricart_text}
+use Rattle.mx_texts.specs.FactTexts.{facts_line}
+use Rattle.mx_texts.specs.LetterTexts.{letter_text}
 use Rattle.mx_texts.specs.Lines.{texts_from}
 use Rattle.mx_texts.specs.NodeTexts.{member_line}
 use Rattle.mx_texts.specs.ParcelTexts.{parcel_line}
-use Rattle.mx_commands.specs.Runs.{at_rest}
+use Rattle.mx_texts.specs.Parts.{Parts, maekawa_parts, raymond_parts, ricart_parts}
+use Rattle.mx_cli.specs.declared.faults.Fault.TheVariants.{NoParcel}
+use Rattle.mx_commands.specs.Runs.{Report, after_texts, at_rest, ends_with, whole}
 use Rattle.mx_commands.specs.VerdictLines.{verdict_line}
+use Rattle.mx_views.specs.EventJson.{event_json}
+use Rattle.mx_views.specs.NodeJson.{member_json, verdict_json}
+use Rattle.mx_views.specs.ParcelJson.{parcel_json}
+use Rattle.mx_views.specs.declared.selection.View.{View}
 
 -- what is of a node is shown, where none is named or it is that one
 abbrev pub shows : Option ℕ → ℕ → Bool
@@ -55,32 +68,72 @@ module _ {M : Type 0} where
   abbrev pub shows_event : Option ℕ → List (ℕ × ℕ × Parcel M) → Event → Bool
   shows_event node sent event = option_map_or (shows node) (owner_of sent event) false
 
+-- ---- lines
+
+-- the line of the verdict
+abbrev pub verdict_text : View → Verdict → Text
+verdict_text view verdict = if view.is_json then verdict_json verdict else verdict_line verdict
+
+module _ (p : Fields) (view : View) where
+  -- the line of the k-th event
+  abbrev pub entry_text : ℕ → Entry → Text
+  entry_text k entry =
+      if view.is_json then event_json p k entry else event_line p k entry.event entry.outcome
+
+  -- the line of what a node knows, if it is asked for
+  abbrev pub state_text : List Known → Text
+  state_text facts = if view.has_state then facts_line p facts else []
+
   -- the line of the k-th event, where it is shown
-  abbrev pub shown_entry : Fields → Option ℕ → List (ℕ × ℕ × Parcel M) → ℕ → Entry → Text
-  shown_entry p node sent k entry =
-      where_shown (shows_event node sent entry.event) (event_line p k entry.event entry.outcome)
+  abbrev pub shown_entry : {M : Type 0} → List (ℕ × ℕ × Parcel M) → ℕ → Entry → Text
+  shown_entry sent k entry =
+      where_shown (shows_event view.node sent entry.event) (entry_text k entry)
+
+module _ {M : Type 0} (p : Fields) (view : View) (parts : M → Parts) where
+  -- the line of the k-th parcel
+  abbrev pub sent_text : ℕ → ℕ × ℕ × Parcel M → Text
+  sent_text k parcel =
+      if view.is_json then parcel_json parts p k parcel
+      else parcel_line (letter_text parts) p k parcel
 
   -- the line of the k-th parcel, where it is shown
-  abbrev pub shown_parcel : (Fields → M → Text) → Fields → Option ℕ → ℕ → ℕ × ℕ × Parcel M → Text
-  shown_parcel letter_text p node k parcel =
-      where_shown (shows_parcel node parcel) (parcel_line letter_text p k parcel)
+  abbrev pub shown_parcel : ℕ → ℕ × ℕ × Parcel M → Text
+  shown_parcel k parcel = where_shown (shows_parcel view.node parcel) (sent_text k parcel)
 
-module _ {H S M : Type 0} (core : Core H S M) (p : Fields) (node : Option ℕ) where
-  -- the line of the i-th node, where it is shown
-  abbrev pub shown_member : ℕ → MemberState S → Text
-  shown_member i m = where_shown (shows node i) (member_line core p i m)
+module _ {H S M : Type 0} (p : Fields) (view : View) (core : Core H S M) (knows : S → List Known)
+  where
+    -- the lines of the i-th node; its object of JSON has what it knows
+    abbrev pub member_text : ℕ → MemberState S → Text
+    member_text i m =
+        if view.is_json then member_json core knows p i m
+        else (member_line core p i m ++ state_text p view (knows m.core))
 
-  -- the lines of the nodes that are shown, and the verdict, which is sound
-  abbrev pub closing_text : ClusterState S M → Text
-  closing_text g = texts_from shown_member 0 g.members ++ verdict_line Sound
+    -- the lines of the i-th node, where it is shown
+    abbrev pub shown_member : ℕ → MemberState S → Text
+    shown_member i m = where_shown (shows view.node i) (member_text i m)
 
-module _ {S M : Type 0} (letter_text : Fields → M → Text) (p : Fields) (node : Option ℕ) where
+    -- the lines of the nodes that are shown, and the verdict, which is sound
+    abbrev pub closing_text : ClusterState S M → Text
+    closing_text g = texts_from shown_member 0 g.members ++ verdict_text view Sound
+
+-- ---- runs
+
+module _ {S M : Type 0} (parts : M → Parts) (p : Fields) (view : View) where
   -- what is shown of one event: its line, and those of the parcels that are new
   abbrev pub shown_text : ℕ → ClusterState S M → ClusterState S M → Text
   shown_text k old new =
-      texts_from (shown_entry p node new.sent) k (drop (length old.trace) new.trace)
-      ++ texts_from (shown_parcel letter_text p node) (length old.sent)
-      (drop (length old.sent) new.sent)
+      texts_from (shown_entry p view new.sent) k (drop (length old.trace) new.trace)
+      ++ texts_from (shown_parcel p view parts) (length old.sent) (drop (length old.sent) new.sent)
+
+  -- nothing is shown of it, if the view is quiet
+  abbrev pub step_text : ℕ → ClusterState S M → ClusterState S M → Text
+  step_text k old new = if view.is_quiet then [] else shown_text k old new
+
+  -- the text of one event, and then the rest; or there is no such parcel
+  abbrev pub view_step : ℕ → ClusterState S M → Result (ClusterState S M) StepFault
+      → (ClusterState S M → Report) → Report
+  view_step k old (Ok new) rest = after_texts (step_text k old new ∷ []) (rest new)
+  view_step k old (Err fault) rest = ends_with (Some (NoParcel k))
 
   -- what is shown of one event, and then of the rest
   abbrev pub shown_step : ℕ → ClusterState S M → Result (ClusterState S M) StepFault
@@ -88,27 +141,47 @@ module _ {S M : Type 0} (letter_text : Fields → M → Text) (p : Fields) (node
   shown_step k old (Ok new) rest = shown_text k old new ++ rest new
   shown_step k old (Err fault) rest = []
 
-module _ {H S M : Type 0} (core : Core H S M) (letter_text : Fields → M → Text) (p : Fields)
-    (node : Option ℕ) where
-  -- what is shown of the events from the k-th on, from a state
-  unfoldable pub shown_from : ℕ → ClusterState S M → List Event → Text
-  shown_from k g [] = []
-  shown_from k g (e ∷ es) =
-      shown_step letter_text p node k g (step_of core g e) (λ new. shown_from (k + 1) new es)
+module _ {H S M : Type 0} (core : Core H S M) (parts : M → Parts) (p : Fields) (view : View)
+  where
+    -- what is shown of the events from the k-th on, from a state
+    unfoldable pub shown_from : ℕ → ClusterState S M → List Event → Text
+    shown_from k g [] = []
+    shown_from k g (e ∷ es) =
+        shown_step parts p view k g (step_of core g e) (λ new. shown_from (k + 1) new es)
+
+module _ {H S M : Type 0} (core : Core H S M) (parts : M → Parts) (p : Fields) (view : View)
+    (knows : S → List Known) where
+  -- the report of the events from the k-th on, from a state: their texts, and then the closing
+  -- lines; or the fault at which a replay ends too
+  unfoldable pub view_from : ℕ → ClusterState S M → List Event → Report
+  view_from k g [] = whole (closing_text p view core knows g)
+  view_from k g (e ∷ es) =
+      view_step parts p view k g (step_of core g e) (λ new. view_from (k + 1) new es)
 
   -- the lines of these events, which a quiet view has not, and the closing lines of the cluster to
   -- which they lead were printed, and nothing else
-  abbrev pub Prints : Bool → List Event → ClusterState S M → Held → Held → Type 0
-  Prints is_quiet es start old new =
+  abbrev pub Prints : List Event → ClusterState S M → Held → Held → Type 0
+  Prints es start old new =
       (g : ClusterState S M) × RunsTo core start es g
       × Appends old new
-      ((if is_quiet then [] else shown_from 0 start es) ++ closing_text core p node g)
+      ((if view.is_quiet then [] else shown_from core parts p view 0 start es)
+      ++ closing_text p view core knows g)
 
--- the same of events that lead from the cluster of a plan, at rest, by its algorithm
-abbrev pub PrintsBy : Fields → Option ℕ → Bool → List Event → Held → Held → Shape → Type 0
-PrintsBy p node is_quiet es old new (Ricart count) =
-    Prints ricart_core ricart_text p node is_quiet es (at_rest ricart_core p count) old new
-PrintsBy p node is_quiet es old new (Maekawa family) =
-    Prints maekawa_core maekawa_text p node is_quiet es (at_rest maekawa_core p family) old new
-PrintsBy p node is_quiet es old new (Raymond tree) =
-    Prints raymond_core raymond_text p node is_quiet es (at_rest raymond_core p tree) old new
+-- the report of events that lead from the cluster of a plan, at rest, by its algorithm
+abbrev pub view_by : Fields → View → Shape → List Event → Report
+view_by p view (Ricart count) =
+    view_from ricart_core ricart_parts p view ricart_known 0 (at_rest ricart_core p count)
+view_by p view (Maekawa family) =
+    view_from maekawa_core maekawa_parts p view maekawa_known 0 (at_rest maekawa_core p family)
+view_by p view (Raymond tree) =
+    view_from raymond_core raymond_parts p view raymond_known 0 (at_rest raymond_core p tree)
+
+-- the lines of such events were printed
+abbrev pub PrintsBy : Fields → View → List Event → Held → Held → Shape → Type 0
+PrintsBy p view es old new (Ricart count) =
+    Prints ricart_core ricart_parts p view ricart_known es (at_rest ricart_core p count) old new
+PrintsBy p view es old new (Maekawa family) =
+    Prints maekawa_core maekawa_parts p view maekawa_known es (at_rest maekawa_core p family)
+    old new
+PrintsBy p view es old new (Raymond tree) =
+    Prints raymond_core raymond_parts p view raymond_known es (at_rest raymond_core p tree) old new

@@ -1,4 +1,5 @@
--- What the words of `replay` with `--quiet`, `--node` or `--json` ask for, as `clap` reads them.
+-- What the words of `replay` with `--quiet`, `--node`, `--json` or `--state` ask for, as `clap` reads
+-- them.
 use Rattle.std.specs.Prelude.{Bool, List, Option, codes, option_map}
 use Rattle.clap.specs.Words.{App, Row, Text, first_of}
 use Rattle.mx_cli.specs.Words.{asked_of, by_name, is_given, line_with, names_at, names_of, replay_app}
@@ -9,27 +10,34 @@ unfoldable pub view_line : App
 view_line = line_with replay_app
 
 -- the names of the plan and of the events; whether the closing lines alone are to be shown, of
--- which node alone, and whether as JSON
+-- which node alone, whether as JSON, and whether with what each node knows
 pub record Request : Type 0 where
   pub names : Text × Text
   pub is_quiet : Bool
   pub node : Option Text
   pub is_json : Bool
-
-abbrev pub request : Text × Text → Bool → Option Text → Bool → Request
-request names is_quiet node is_json =
-    record { names = names; is_quiet = is_quiet; node = node; is_json = is_json }
+  pub has_state : Bool
 
 abbrev pub request_of : Told → Request
 request_of told =
-    request (names_of told.names) told.is_quiet
-    (option_map (λ name. name.now) told.node) told.is_json
+    record {
+      names = names_of told.names;
+      is_quiet = told.is_quiet;
+      node = option_map (λ name. name.now) told.node;
+      is_json = told.is_json;
+      has_state = told.has_state;
+    }
 
 -- what was given for the arguments
 abbrev pub view_of : List Row → Text × Text → Request
 view_of rows names =
-    request names (is_given (codes "quiet") rows) (first_of (codes "node") rows)
-    (is_given (codes "json") rows)
+    record {
+      names = names;
+      is_quiet = is_given (codes "quiet") rows;
+      node = first_of (codes "node") rows;
+      is_json = is_given (codes "json") rows;
+      has_state = is_given (codes "state") rows;
+    }
 
 abbrev pub view_in : List Row → Option Request
 view_in rows = option_map (view_of rows) (names_at rows)

@@ -1,53 +1,56 @@
 //! The closing lines that are shown.
 
-ghost use Rattle.std.specs.Prelude.{◌≡◌, ◌+◌, ◌<◌, ◌++◌, false, length, drop, string_bytes, IfOk, OnOk};
+ghost use Rattle.std.specs.Prelude.{◌≡◌, ◌+◌, ◌<◌, ◌++◌, length, drop, string_bytes, IfOk, OnOk};
 ghost use Rattle.mx_texts.specs.Lines.{texts_from};
-ghost use Rattle.mx_commands.specs.VerdictLines.{verdict_line};
-ghost use Rattle.mx_views.specs.Shown.{closing_text, shown_member};
+ghost use Rattle.mx_texts.specs.NodeTexts.{member_line};
+ghost use Rattle.mx_views.specs.Shown.{closing_text, member_text, shown_member, state_text, verdict_text};
 
 use crate::node_json::{VerdictJson, add_node_json};
 use crate::selection::Selection;
 use mx_commands::VerdictLine;
 use mx_explorer::{Verdict, judge};
+use mx_knowledge::Knowledge;
 use mx_member::Member;
 use mx_network::Cluster;
 use mx_nodelaws::Exclusion;
 use mx_stamps::{MOST_NODES, NodeId};
-use mx_texts::add_member_line;
-use std::alloc::AllocError;
+use mx_texts::{add_facts_line, add_member_line};
+use std::alloc::{AllocError, Global};
 
-/// Appends the lines of the nodes that are shown, and that of the verdict, which is answered.
-pub(crate) fn add_closing<C: Exclusion>(
+/// Appends the lines of the nodes that are shown and of the verdict. Returns the verdict.
+pub(crate) fn add_closing<C: Exclusion + Knowledge>(
+    alloc: Global,
     selection: &Selection<'_>,
     cluster: &Cluster<C>,
     text: &mut String,
 ) -> Result<Verdict, AllocError>
     requires { length cluster.now.members ≡ length selection.now.plan.now.nodes }
-    ensures text { selection.now.is_json ≡ false → OnOk result (string_bytes text.new
+    ensures text { OnOk result (string_bytes text.new
         ≡ string_bytes text.old
-        ++ closing_text C.core selection.now.plan.now selection.now.node cluster.now) }
+        ++ closing_text selection.now.plan.now selection.now.view C.core C.knows cluster.now) }
     ensures sound { IfOk result (λ verdict. verdict ≡ Verdict.Sound) }
 {
-    add_nodes(selection, cluster, text)?;
+    add_nodes(alloc, selection, cluster, text)?;
     let verdict = judge(cluster.trace());
     add_verdict(selection, verdict, text)?;
     Ok(verdict)
 }
 
 /// Appends the lines of the nodes that are shown.
-fn add_nodes<C: Exclusion>(
+fn add_nodes<C: Exclusion + Knowledge>(
+    alloc: Global,
     selection: &Selection<'_>,
     cluster: &Cluster<C>,
     text: &mut String,
 ) -> Result<(), AllocError>
     requires { length cluster.now.members ≡ length selection.now.plan.now.nodes }
-    ensures { selection.now.is_json ≡ false → OnOk result (string_bytes text.new
+    ensures { OnOk result (string_bytes text.new
         ≡ string_bytes text.old
-        ++ texts_from (shown_member C.core selection.now.plan.now selection.now.node) 0
+        ++ texts_from (shown_member selection.now.plan.now selection.now.view C.core C.knows) 0
         cluster.now.members) }
 {
     for index in 0..selection.plan.nodes() {
-        add_node(selection, cluster, index, text)?;
+        add_node(alloc, selection, cluster, index, text)?;
     }
     Ok(())
 }
@@ -58,17 +61,18 @@ fn add_verdict(
     verdict: Verdict,
     text: &mut String,
 ) -> Result<(), AllocError>
-    ensures { selection.now.is_json ≡ false → OnOk result (string_bytes text.new
-        ≡ string_bytes text.old ++ verdict_line verdict) }
+    ensures { OnOk result (string_bytes text.new
+        ≡ string_bytes text.old ++ verdict_text selection.now.view verdict) }
 {
-    if selection.is_json {
+    if selection.view.is_json {
         return text.write(VerdictJson(verdict));
     }
     text.write(VerdictLine(verdict))
 }
 
 /// Appends the line of the node of this index, where it is shown.
-fn add_node<C: Exclusion>(
+fn add_node<C: Exclusion + Knowledge>(
+    alloc: Global,
     selection: &Selection<'_>,
     cluster: &Cluster<C>,
     index: u8,
@@ -76,36 +80,83 @@ fn add_node<C: Exclusion>(
 ) -> Result<(), AllocError>
     requires few { index < MOST_NODES }
     requires there { index < length cluster.now.members }
-    ensures { selection.now.is_json ≡ false → OnOk result (string_bytes text.old
-        ++ texts_from (shown_member C.core selection.now.plan.now selection.now.node) index
-        (drop index cluster.now.members)
+    ensures { OnOk result (string_bytes text.old
+        ++ texts_from (shown_member selection.now.plan.now selection.now.view C.core C.knows)
+        index (drop index cluster.now.members)
         ≡ string_bytes text.new
-        ++ texts_from (shown_member C.core selection.now.plan.now selection.now.node) (index + 1)
-        (drop (index + 1) cluster.now.members)) }
+        ++ texts_from (shown_member selection.now.plan.now selection.now.view C.core C.knows)
+        (index + 1) (drop (index + 1) cluster.now.members)) }
 {
     let node = NodeId::of(index).unwrap();
     match cluster.member(node) {
-        Some(member) => add_member(selection, node, member, text),
+        Some(member) => add_member(alloc, selection, node, member, text),
         None => unreachable!(),
     }
 }
 
-/// Appends the line of a node, where it is shown.
-fn add_member<C: Exclusion>(
+/// Appends the lines of a node, where it is shown.
+fn add_member<C: Exclusion + Knowledge>(
+    alloc: Global,
     selection: &Selection<'_>,
     node: NodeId,
     member: &Member<C>,
     text: &mut String,
 ) -> Result<(), AllocError>
-    ensures { selection.now.is_json ≡ false → OnOk result (string_bytes text.new
-        ≡ string_bytes text.old
-        ++ shown_member C.core selection.now.plan.now selection.now.node node member.now) }
+    ensures { OnOk result (string_bytes text.new ≡ string_bytes text.old
+        ++ shown_member selection.now.plan.now selection.now.view C.core C.knows node member.now) }
 {
     if !selection.shows_node(node) {
         return Ok(());
     }
-    if selection.is_json {
-        return add_node_json(selection.plan, node, member, text);
+    add_shown(alloc, selection, node, member, text)
+}
+
+/// Appends the lines of a node.
+fn add_shown<C: Exclusion + Knowledge>(
+    alloc: Global,
+    selection: &Selection<'_>,
+    node: NodeId,
+    member: &Member<C>,
+    text: &mut String,
+) -> Result<(), AllocError>
+    ensures { OnOk result (string_bytes text.new ≡ string_bytes text.old
+        ++ member_text selection.now.plan.now selection.now.view C.core C.knows node member.now) }
+{
+    if selection.view.is_json {
+        return add_node_json(alloc, selection.plan, node, member, text);
     }
-    add_member_line(selection.plan, node, member, text)
+    add_lines(alloc, selection, node, member, text)
+}
+
+/// Appends the line of a node, and that of what it knows, if it is asked for.
+fn add_lines<C: Exclusion + Knowledge>(
+    alloc: Global,
+    selection: &Selection<'_>,
+    node: NodeId,
+    member: &Member<C>,
+    text: &mut String,
+) -> Result<(), AllocError>
+    ensures { OnOk result (string_bytes text.new ≡ string_bytes text.old
+        ++ (member_line C.core selection.now.plan.now node member.now
+        ++ state_text selection.now.plan.now selection.now.view (C.knows member.now.core))) }
+{
+    add_member_line(selection.plan, node, member, text)?;
+    add_state(alloc, selection, member, text)
+}
+
+/// Appends the line of what a node knows, if it is asked for.
+fn add_state<C: Exclusion + Knowledge>(
+    alloc: Global,
+    selection: &Selection<'_>,
+    member: &Member<C>,
+    text: &mut String,
+) -> Result<(), AllocError>
+    ensures { OnOk result (string_bytes text.new ≡ string_bytes text.old
+        ++ state_text selection.now.plan.now selection.now.view (C.knows member.now.core)) }
+{
+    if !selection.view.has_state {
+        return Ok(());
+    }
+    let facts = member.core().facts(alloc)?;
+    add_facts_line(selection.plan, &facts, text)
 }

@@ -1,36 +1,58 @@
-//! Events, and what came of them, as JSON.
+//! Events and their outcomes as JSON.
 
-use crate::json::{Begun, add_node_name, add_number, add_register_name, add_word};
+ghost use Rattle.std.specs.Prelude.{◌≡◌, ◌++◌, OnOk, string_bytes};
+ghost use Rattle.mx_views.specs.EventJson.{act_json, bare_json, event_json, left_json, number_json, outcome_json, owner_json, refusal_json, rest_json, with_json};
+
+use crate::json::{NumberStart, add_node_name, add_number, add_register_name, add_word};
 use mx_events::Event;
 use mx_journal::Receipt;
 use mx_network::{Cause, Entry, Outcome};
 use mx_plan::Plan;
+use mx_stamps::NodeId;
 use std::alloc::AllocError;
 
-/// Appends the line of an event and of what came of it.
+/// Appends the line of an event and of its outcome.
 pub(crate) fn add_event_json(
     plan: &Plan,
     index: u64,
     entry: &Entry,
     text: &mut String,
-) -> Result<(), AllocError> {
-    text.write(Begun("event", index))?;
+) -> Result<(), AllocError>
+    ensures { OnOk result (string_bytes text.new
+        ≡ string_bytes text.old ++ event_json plan.now index entry.now) }
+{
+    text.write(NumberStart("event", index))?;
     add_act(plan, &entry.event, text)?;
     add_outcome(&entry.outcome, text)?;
     text.push_str("}\n")
 }
 
 /// Appends what happens, to which node and with what.
-fn add_act(plan: &Plan, event: &Event, text: &mut String) -> Result<(), AllocError> {
+fn add_act(plan: &Plan, event: &Event, text: &mut String) -> Result<(), AllocError>
+    ensures { OnOk result (string_bytes text.new
+        ≡ string_bytes text.old ++ act_json plan.now event.now) }
+{
     add_word("act", event.kind().word(), text)?;
-    if let Some(node) = event.node() {
-        add_node_name(plan, "node", node, text)?;
-    }
+    add_owner(plan, event.node(), text)?;
     add_rest(plan, event, text)
 }
 
+/// Appends the node whose event it is, if it has one.
+fn add_owner(plan: &Plan, owner: Option<NodeId>, text: &mut String) -> Result<(), AllocError>
+    ensures { OnOk result (string_bytes text.new
+        ≡ string_bytes text.old ++ owner_json plan.now owner) }
+{
+    match owner {
+        Some(node) => add_node_name(plan, "node", node, text),
+        None => Ok(()),
+    }
+}
+
 /// Appends what an event says beside its word and its node.
-fn add_rest(plan: &Plan, event: &Event, text: &mut String) -> Result<(), AllocError> {
+fn add_rest(plan: &Plan, event: &Event, text: &mut String) -> Result<(), AllocError>
+    ensures { OnOk result (string_bytes text.new
+        ≡ string_bytes text.old ++ rest_json plan.now event.now) }
+{
     match event {
         Event::Read(_, register) => add_register_name(plan, *register, text),
         Event::Write(_, register, value) => {
@@ -40,12 +62,20 @@ fn add_rest(plan: &Plan, event: &Event, text: &mut String) -> Result<(), AllocEr
         Event::Settle(_, upto) => add_number("upto", *upto, text),
         Event::Want(_, other) => add_node_name(plan, "from", *other, text),
         Event::Deliver(number) => add_number("parcel", *number, text),
-        _ => Ok(()),
+        Event::Ask(_)
+        | Event::Enter(_)
+        | Event::Leave(_)
+        | Event::Cancel(_)
+        | Event::Tick(_)
+        | Event::Restart(_) => Ok(()),
     }
 }
 
-/// Appends what came of an event.
-fn add_outcome(outcome: &Outcome, text: &mut String) -> Result<(), AllocError> {
+/// Appends the outcome of an event.
+fn add_outcome(outcome: &Outcome, text: &mut String) -> Result<(), AllocError>
+    ensures { OnOk result (string_bytes text.new
+        ≡ string_bytes text.old ++ outcome_json outcome.now) }
+{
     match outcome {
         Outcome::Asked(stamp) => add_with("asked", "number", stamp.number, text),
         Outcome::Entered(number) => add_with("entered", "number", *number, text),
@@ -61,25 +91,45 @@ fn add_outcome(outcome: &Outcome, text: &mut String) -> Result<(), AllocError> {
     }
 }
 
-fn add_bare(outcome: &str, text: &mut String) -> Result<(), AllocError> {
+fn add_bare(outcome: &str, text: &mut String) -> Result<(), AllocError>
+    ensures { OnOk result (string_bytes text.new
+        ≡ string_bytes text.old ++ bare_json outcome.now) }
+{
     add_word("outcome", outcome, text)
 }
 
-fn add_with(outcome: &str, key: &str, number: u64, text: &mut String) -> Result<(), AllocError> {
+fn add_with(outcome: &str, key: &str, number: u64, text: &mut String) -> Result<(), AllocError>
+    ensures { OnOk result (string_bytes text.new
+        ≡ string_bytes text.old ++ with_json outcome.now key.now number) }
+{
     add_bare(outcome, text)?;
     add_number(key, number, text)
 }
 
-fn add_left(receipt: &Receipt, text: &mut String) -> Result<(), AllocError> {
+fn add_left(receipt: &Receipt, text: &mut String) -> Result<(), AllocError>
+    ensures { OnOk result (string_bytes text.new
+        ≡ string_bytes text.old ++ left_json receipt.now) }
+{
     add_with("left", "number", receipt.number, text)?;
     add_number("writes", receipt.writes.len() as u64, text)
 }
 
 /// Appends a refusal and its cause.
-fn add_refusal(cause: &Cause, text: &mut String) -> Result<(), AllocError> {
+fn add_refusal(cause: &Cause, text: &mut String) -> Result<(), AllocError>
+    ensures { OnOk result (string_bytes text.new
+        ≡ string_bytes text.old ++ refusal_json cause.now) }
+{
     add_bare("refused", text)?;
     add_word("cause", cause.words(), text)?;
-    match cause.number() {
+    add_if_some(cause.number(), text)
+}
+
+/// Appends the number of a cause, if it has one.
+fn add_if_some(number: Option<u64>, text: &mut String) -> Result<(), AllocError>
+    ensures { OnOk result (string_bytes text.new
+        ≡ string_bytes text.old ++ number_json number) }
+{
+    match number {
         Some(number) => add_number("number", number, text),
         None => Ok(()),
     }

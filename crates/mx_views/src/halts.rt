@@ -1,7 +1,8 @@
 //! Why nothing is shown.
 
+ghost use Rattle.std.specs.Prelude.{◌++◌, Some, codes, string_bytes};
+
 use mx_cli::Stop;
-use std::alloc::AllocError;
 use std::fmt;
 
 /// Why nothing is shown.
@@ -12,23 +13,13 @@ pub(crate) enum Halt {
     NoNode(Stranger),
 }
 
-impl From<AllocError> for Halt {
-    fn from(_e: AllocError) -> Halt {
-        Halt::Stop(Stop::Memory)
-    }
-}
-
-impl From<Stop> for Halt {
-    fn from(stop: Stop) -> Halt {
-        Halt::Stop(stop)
-    }
-}
-
 /// A name that no node has: what is told of it.
 #[derive(Drop)]
 pub(crate) struct Stranger(pub(crate) String);
 
 impl fmt::Display for Stranger {
+    ghost output = { λ s. Some (codes "mx: unknown name:" ++ string_bytes s.0 ++ codes "\n") };
+
     fn fmt<W: fmt::Write>(&self, f: &mut fmt::Formatter<W>) -> fmt::Result {
         writeln!(f, "mx: unknown name:{}", self.0)
     }

@@ -1,5 +1,9 @@
 //! Letters as JSON, by their parts.
 
+ghost use Rattle.std.specs.Prelude.{◌≡◌, ◌++◌, OnOk, string_bytes};
+ghost use Rattle.mx_texts.specs.Parts.{numbers_of, parts_of, subject_of};
+ghost use Rattle.mx_views.specs.LetterJson.{about_json, letter_json, numbers_json};
+
 use crate::json::{add_node_name, add_number, add_word};
 use mx_plan::Plan;
 use mx_texts::{LetterParts, Numbers, Subject};
@@ -10,14 +14,20 @@ pub(crate) fn add_letter_json(
     plan: &Plan,
     parts: &LetterParts,
     text: &mut String,
-) -> Result<(), AllocError> {
+) -> Result<(), AllocError>
+    ensures { OnOk result (string_bytes text.new
+        ≡ string_bytes text.old ++ letter_json plan.now (parts_of parts.now)) }
+{
     add_word("kind", parts.word, text)?;
     add_subject(plan, &parts.subject, text)?;
     add_numbers(&parts.numbers, text)
 }
 
 /// Appends what a letter is about: the number and the node of a stamp, or a number by its name.
-fn add_subject(plan: &Plan, subject: &Subject, text: &mut String) -> Result<(), AllocError> {
+fn add_subject(plan: &Plan, subject: &Subject, text: &mut String) -> Result<(), AllocError>
+    ensures { OnOk result (string_bytes text.new
+        ≡ string_bytes text.old ++ about_json plan.now (subject_of subject.now)) }
+{
     match subject {
         Subject::Stamp(stamp) => {
             add_number("stamp", stamp.number, text)?;
@@ -28,7 +38,10 @@ fn add_subject(plan: &Plan, subject: &Subject, text: &mut String) -> Result<(), 
 }
 
 /// Appends each further number of a letter, by its name.
-fn add_numbers(numbers: &Numbers, text: &mut String) -> Result<(), AllocError> {
+fn add_numbers(numbers: &Numbers, text: &mut String) -> Result<(), AllocError>
+    ensures { OnOk result (string_bytes text.new
+        ≡ string_bytes text.old ++ numbers_json (numbers_of numbers.now)) }
+{
     match numbers {
         Numbers::None => Ok(()),
         Numbers::One(name, number) => add_number(name, *number, text),

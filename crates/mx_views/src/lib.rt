@@ -1,11 +1,13 @@
-//! `mx replay` with `--quiet`, `--node` or `--json`: fewer lines, the lines of one node, or lines
-//! of JSON.
+//! `mx replay` with `--quiet`, `--node`, `--json` or `--state`: fewer lines, the lines of one node,
+//! lines of JSON, or with what each node knows.
 #![tactic(auto)]
 
 mod closing_lines;
 mod event_json;
+mod fact_json;
 mod halts;
 mod json;
+mod laws;
 mod letter_json;
 mod node_json;
 mod parcel_json;
@@ -14,4 +16,5 @@ mod showing;
 mod viewing;
 mod words;
 
+pub use laws::ends_as_replay;
 pub use viewing::replay_view;

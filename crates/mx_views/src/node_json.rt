@@ -1,101 +1,155 @@
-//! Where nodes stand, and the verdict, as JSON.
+//! Nodes and the verdict as JSON.
 
-use crate::json::{add_number, add_word};
+ghost use Rattle.std.specs.Prelude.{◌≡◌, ◌++◌, OnOk, Some, string_bytes};
+ghost use Rattle.mx_commands.specs.VerdictLines.{clause_text};
+ghost use Rattle.mx_views.specs.FactJson.{knows_json};
+ghost use Rattle.mx_views.specs.NodeJson.{broken_json, comma_at, contents_json, inside_json, journal_json, member_json, phase_json, register_json, registers_json, standing_json, values_of, verdict_json};
+
+use crate::fact_json::add_knows_json;
+use crate::json::{NodeStart, Number, Word, add_number, add_word};
 use mx_explorer::{Clause, Verdict};
 use mx_journal::Journal;
+use mx_knowledge::Knowledge;
 use mx_member::Member;
 use mx_nodelaws::{Exclusion, Phase};
 use mx_plan::Plan;
 use mx_registers::view;
 use mx_stamps::NodeId;
-use std::alloc::AllocError;
+use mx_texts::register_name_of;
+use std::alloc::{AllocError, Global};
 use std::fmt;
 
-/// Appends the line of a node.
-pub(crate) fn add_node_json<C: Exclusion>(
+/// Appends the line of a node, with what it knows.
+pub(crate) fn add_node_json<C: Exclusion + Knowledge>(
+    alloc: Global,
     plan: &Plan,
     node: NodeId,
     member: &Member<C>,
     text: &mut String,
-) -> Result<(), AllocError> {
-    add_name(plan, node, text)?;
-    add_member(plan, member, text)?;
+) -> Result<(), AllocError>
+    ensures { OnOk result (string_bytes text.new
+        ≡ string_bytes text.old ++ member_json C.core C.knows plan.now node member.now) }
+{
+    add_standing(plan, node, member, text)?;
+    add_contents(plan, member.journal(), text)?;
+    add_known(alloc, plan, member, text)?;
     text.push_str("}\n")
 }
 
-/// Begins the line of a node with its name.
-fn add_name(plan: &Plan, node: NodeId, text: &mut String) -> Result<(), AllocError> {
-    text.push_str("{\"node\":\"")?;
-    text.push_str(plan.node_name(node.get()).unwrap_or(""))?;
-    text.push('"')
-}
-
-/// Appends the phase of a node and what its journal has, without its name.
-fn add_member<C: Exclusion>(
+/// Begins the line of a node: its name, its phase, and the last section that it entered.
+fn add_standing<C: Exclusion>(
     plan: &Plan,
+    node: NodeId,
     member: &Member<C>,
     text: &mut String,
-) -> Result<(), AllocError> {
+) -> Result<(), AllocError>
+    ensures { OnOk result (string_bytes text.new
+        ≡ string_bytes text.old ++ standing_json C.core plan.now node member.now.core) }
+{
+    text.write(NodeStart(plan, node))?;
     add_phase(member.phase(), text)?;
-    add_number("mine", member.mine(), text)?;
-    add_journal(member.journal(), text)?;
-    add_registers(plan, member, text)
+    add_number("mine", member.mine(), text)
+}
+
+/// Appends what a journal has, and what it shows.
+fn add_contents(plan: &Plan, journal: &Journal, text: &mut String) -> Result<(), AllocError>
+    ensures { OnOk result (string_bytes text.new
+        ≡ string_bytes text.old ++ contents_json plan.now journal.now) }
+{
+    add_journal(journal, text)?;
+    add_registers(plan, journal, text)
 }
 
 /// Appends how many records a journal has, and up to where it has no gap.
-fn add_journal(journal: &Journal, text: &mut String) -> Result<(), AllocError> {
+fn add_journal(journal: &Journal, text: &mut String) -> Result<(), AllocError>
+    ensures { OnOk result (string_bytes text.new
+        ≡ string_bytes text.old ++ journal_json journal.now) }
+{
     add_number("records", journal.len() as u64, text)?;
     add_number("gapless", journal.gapless_to(), text)
 }
 
-/// Appends a phase, with the number of the section inside.
-fn add_phase(phase: Phase, text: &mut String) -> Result<(), AllocError> {
+/// Appends a phase.
+fn add_phase(phase: Phase, text: &mut String) -> Result<(), AllocError>
+    ensures { OnOk result (string_bytes text.new ≡ string_bytes text.old ++ phase_json phase) }
+{
     match phase {
         Phase::Idle => add_word("phase", "idle", text),
         Phase::Waiting => add_word("phase", "waiting", text),
-        Phase::Inside(number) => {
-            add_word("phase", "inside", text)?;
-            add_number("number", number, text)
-        }
+        Phase::Inside(number) => add_inside(number, text),
     }
+}
+
+/// Appends that a node is inside, with the number of the section.
+fn add_inside(number: u64, text: &mut String) -> Result<(), AllocError>
+    ensures { OnOk result (string_bytes text.new ≡ string_bytes text.old ++ inside_json number) }
+{
+    add_word("phase", "inside", text)?;
+    add_number("number", number, text)
 }
 
 /// Appends an object that has the value of each register.
-fn add_registers<C: Exclusion>(
+fn add_registers(plan: &Plan, journal: &Journal, text: &mut String) -> Result<(), AllocError>
+    ensures { OnOk result (string_bytes text.new
+        ≡ string_bytes text.old ++ registers_json plan.now journal.now) }
+{
+    text.push_str(",\"registers\":{")?;
+    add_values(plan, journal, text)?;
+    text.push_str("}")
+}
+
+/// Appends what a node knows.
+fn add_known<C: Exclusion + Knowledge>(
+    alloc: Global,
     plan: &Plan,
     member: &Member<C>,
     text: &mut String,
-) -> Result<(), AllocError> {
-    text.push_str(",\"registers\":{")?;
-    let shown = view(member.journal(), plan.registers());
+) -> Result<(), AllocError>
+    ensures { OnOk result (string_bytes text.new
+        ≡ string_bytes text.old ++ knows_json plan.now (C.knows member.now.core)) }
+{
+    let facts = member.core().facts(alloc)?;
+    add_knows_json(plan, &facts, text)
+}
+
+/// Appends the name and the value of each register.
+fn add_values(plan: &Plan, journal: &Journal, text: &mut String) -> Result<(), AllocError>
+    ensures { OnOk result (string_bytes text.new
+        ≡ string_bytes text.old ++ values_of plan.now journal.now) }
+{
+    let shown = view(journal, plan.registers());
     for register in 0..plan.registers() {
-        add_value(plan, register, shown.value(register).unwrap_or(0), text)?;
+        text.write(RegisterJson {
+            register,
+            name: register_name_of(plan, register),
+            value: shown.value(register).unwrap_or(0),
+        })?;
     }
-    text.push('}')
+    Ok(())
 }
 
-/// Appends the value of a register, behind a comma where it is not the first.
-fn add_value(plan: &Plan, register: u8, value: u64, text: &mut String) -> Result<(), AllocError> {
-    if register > 0 {
-        text.push(',')?;
-    }
-    text.write(ValueJson {
-        name: plan.register_name(register).unwrap_or(""),
-        value,
-    })
-}
-
-/// The name of a register and its value.
+/// The name of a register and its value, after a comma where it is not the first.
 #[derive(Clone, Copy)]
-struct ValueJson<'a> {
+struct RegisterJson<'a> {
+    register: u8,
     name: &'a str,
     value: u64,
 }
 
-impl fmt::Display for ValueJson<'_> {
+impl fmt::Display for RegisterJson<'_> {
+    ghost output = { λ r. Some (register_json r.register r.name.now r.value) };
+
     fn fmt<W: fmt::Write>(&self, f: &mut fmt::Formatter<W>) -> fmt::Result {
-        write!(f, "\"{}\":{}", self.name, self.value)
+        let comma = comma_at(self.register);
+        write!(f, "{comma}\"{}\":{}", self.name, self.value)
     }
+}
+
+/// What comes before the member of this place in an object.
+fn comma_at(place: u8) -> &'static str
+    ensures { result.now ≡ comma_at place }
+{
+    if place == 0 { "" } else { "," }
 }
 
 /// The line of a verdict.
@@ -103,20 +157,41 @@ impl fmt::Display for ValueJson<'_> {
 pub(crate) struct VerdictJson(pub(crate) Verdict);
 
 impl fmt::Display for VerdictJson {
+    ghost output = { λ v. Some (verdict_json v.0) };
+
     fn fmt<W: fmt::Write>(&self, f: &mut fmt::Formatter<W>) -> fmt::Result {
         match self.0 {
             Verdict::Sound => f.write_str("{\"verdict\":\"sound\"}\n"),
-            Verdict::Broken(index, clause) => writeln!(
-                f,
-                "{{\"verdict\":\"broken\",\"index\":{index},\"clause\":\"{}\"}}",
-                clause_name(clause)
-            ),
+            Verdict::Broken(index, clause) => BrokenJson {
+                index,
+                name: clause_name(clause),
+            }
+            .fmt(f),
         }
     }
 }
 
+/// The line of a verdict that something is broken at an event.
+#[derive(Clone, Copy)]
+struct BrokenJson<'a> {
+    index: u64,
+    name: &'a str,
+}
+
+impl fmt::Display for BrokenJson<'_> {
+    ghost output = { λ b. Some (broken_json b.index b.name.now) };
+
+    fn fmt<W: fmt::Write>(&self, f: &mut fmt::Formatter<W>) -> fmt::Result {
+        let index = Number("index", self.index);
+        let clause = Word("clause", self.name);
+        write!(f, "{{\"verdict\":\"broken\"{index}{clause}}}\n")
+    }
+}
+
 /// What is broken.
-fn clause_name(clause: Clause) -> &'static str {
+fn clause_name(clause: Clause) -> &'static str
+    ensures { result.now ≡ clause_text clause }
+{
     match clause {
         Clause::Overlap => "overlap",
         Clause::Number => "number",

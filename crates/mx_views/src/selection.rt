@@ -11,22 +11,29 @@ use mx_nodelaws::Exclusion;
 use mx_plan::Plan;
 use mx_stamps::NodeId;
 
-/// What is shown of a run of a plan: the closing lines alone or all, the lines of one node or of
-/// all, as texts or as JSON.
+/// What is shown of a run: the lines of one node or of all, the closing lines alone or all, as JSON
+/// or as texts, with what each node knows or without.
+#[derive(Clone, Copy)]
+pub(crate) struct View {
+    pub(crate) node: Option<NodeId>,
+    pub(crate) is_quiet: bool,
+    pub(crate) is_json: bool,
+    pub(crate) has_state: bool,
+}
+
+/// What is shown of a run of a plan.
 #[derive(Clone, Copy)]
 pub(crate) struct Selection<'a> {
     pub(crate) plan: &'a Plan,
-    pub(crate) is_quiet: bool,
-    pub(crate) node: Option<NodeId>,
-    pub(crate) is_json: bool,
+    pub(crate) view: View,
 }
 
 impl Selection<'_> {
     /// Whether what is of this node is shown.
     pub(crate) fn shows_node(&self, node: NodeId) -> bool
-        ensures { result ≡ shows self.now.node node }
+        ensures { result ≡ shows self.now.view.node node }
     {
-        match self.node {
+        match self.view.node {
             Some(wanted) => wanted.get() == node.get(),
             None => true,
         }
@@ -34,7 +41,7 @@ impl Selection<'_> {
 
     /// Whether a parcel is shown: it is from or to a node that is shown.
     pub(crate) fn shows_parcel<M>(&self, sent: &SentParcel<'_, M>) -> bool
-        ensures { result ≡ shows_parcel self.now.node
+        ensures { result ≡ shows_parcel self.now.view.node
             (sent.now.from, sent.now.to, sent.now.parcel.now) }
     {
         self.shows_node(sent.from) || self.shows_node(sent.to)
@@ -42,7 +49,7 @@ impl Selection<'_> {
 
     /// Whether an event is shown that has happened in this cluster.
     pub(crate) fn shows_event<C: Exclusion>(&self, cluster: &Cluster<C>, event: &Event) -> bool
-        ensures { result ≡ shows_event self.now.node cluster.now.sent event.now }
+        ensures { result ≡ shows_event self.now.view.node cluster.now.sent event.now }
     {
         match event.node() {
             Some(node) => self.shows_node(node),
@@ -52,7 +59,7 @@ impl Selection<'_> {
 
     /// Whether a delivery is shown: an event of the addressee of the parcel.
     fn shows_delivery<C: Exclusion>(&self, cluster: &Cluster<C>, event: &Event) -> bool
-        ensures { result ≡ option_map_or (shows self.now.node)
+        ensures { result ≡ option_map_or (shows self.now.view.node)
             (addressee_of cluster.now.sent event.now) false }
     {
         let Event::Deliver(number) = event else {

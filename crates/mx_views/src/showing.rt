@@ -1,11 +1,11 @@
 //! A run that is shown: events of a cluster, one after another.
 
-ghost use Rattle.std.specs.Prelude.{◌≡◌, ◌+◌, ◌<◌, ◌≤◌, List, [], ◌∷◌, ◌++◌, Ok, true, false, drop, length, string_bytes, IfOk, OnOk};
-ghost use Rattle.std.specs.Io.KnownBytes.{Appends};
-ghost use Rattle.mx_network.specs.Step.{RunsTo, step_of};
-ghost use Rattle.mx_texts.specs.LetterTexts.{letter_text};
+ghost use Rattle.std.specs.Prelude.{◌≡◌, ◌+◌, ◌<◌, ◌≤◌, List, [], ◌∷◌, ◌++◌, Ok, drop, if◌then◌else◌, length, string_bytes, IfErr, IfOk, OnOk};
+ghost use Rattle.mx_network.specs.Step.{step_of};
 ghost use Rattle.mx_texts.specs.Lines.{texts_from};
-ghost use Rattle.mx_views.specs.Shown.{Prints, closing_text, shown_entry, shown_from, shown_parcel, shown_text};
+ghost use Rattle.mx_commands.specs.Runs.{AllNameNodes, NamesNodes};
+ghost use Rattle.mx_commands.specs.Ran.{Ran, StopsAt};
+ghost use Rattle.mx_views.specs.Shown.{Prints, shown_entry, shown_parcel, step_text, view_from};
 
 use crate::closing_lines::add_closing;
 use crate::event_json::add_event_json;
@@ -14,14 +14,15 @@ use crate::selection::Selection;
 use mx_cli::{Fault, Stop};
 use mx_commands::verdict_status;
 use mx_io::Output;
+use mx_knowledge::Knowledge;
 use mx_member::SentParcel;
 use mx_network::{Cluster, Entry, Event, StepFault};
 use mx_nodelaws::Exclusion;
 use mx_texts::{EventLine, Letter, add_parcel_line};
 use std::alloc::{AllocError, Global};
 
-/// Each event in turn, and its lines in one piece; then the closing lines. Returns the status.
-pub(crate) fn show<C: Exclusion, O: Output>(
+/// Shows events from a cluster on. Returns the status.
+pub(crate) fn show<C: Exclusion + Knowledge, O: Output>(
     alloc: Global,
     selection: &Selection<'_>,
     mut cluster: Cluster<C>,
@@ -30,33 +31,36 @@ pub(crate) fn show<C: Exclusion, O: Output>(
 ) -> Result<u8, Stop>
 where
     C::Msg: Letter,
-    requires { length cluster.members ≡ length selection.now.plan.now.nodes }
-    ensures prints { IfOk result (λ _. selection.now.is_json ≡ false
-        → Prints C.core (letter_text C.Msg.parts) selection.now.plan.now selection.now.node
-        selection.now.is_quiet events.now cluster (O.written out.old) (O.written out.new)) }
+    requires members { length cluster.members ≡ length selection.now.plan.now.nodes }
+    requires named { AllNameNodes (length selection.now.plan.now.nodes) events.now }
+    ensures ran { Ran (O.takes_all out.old) (O.written out.old) (O.written out.new)
+        (view_from C.core C.Msg.parts selection.now.plan.now selection.now.view C.knows 0 cluster
+        events.now) result }
+    ensures prints { IfOk result (λ _. Prints C.core C.Msg.parts selection.now.plan.now
+        selection.now.view C.knows events.now cluster (O.written out.old) (O.written out.new)) }
     ensures zero { IfOk result (λ status. status ≡ 0) }
+    ensures stays { O.takes_all out.new ≡ O.takes_all out.old }
 {
-    show_events(alloc, selection, &mut cluster, events, out)?;
-    show_closing(alloc, selection, &cluster, out)
+    show_events(alloc, selection, &mut cluster, events, out)
 }
 
-/// Each event in turn, and its lines in one piece.
-fn show_events<C: Exclusion, O: Output>(
+/// Each event in turn, and its lines in one piece; then the closing lines. Returns the status.
+fn show_events<C: Exclusion + Knowledge, O: Output>(
     alloc: Global,
     selection: &Selection<'_>,
     cluster: &mut Cluster<C>,
     events: &[Event],
     out: &mut O,
-) -> Result<(), Stop>
+) -> Result<u8, Stop>
 where
     C::Msg: Letter,
-    ensures runs { OnOk result (RunsTo C.core cluster.old events.now cluster.new) }
-    ensures quiet { selection.now.is_quiet ≡ true
-        → OnOk result (Appends (O.written out.old) (O.written out.new) []) }
-    ensures lines { selection.now.is_quiet ≡ false → selection.now.is_json ≡ false
-        → OnOk result (Appends (O.written out.old) (O.written out.new)
-        (shown_from C.core (letter_text C.Msg.parts) selection.now.plan.now selection.now.node 0
-        cluster.old events.now)) }
+    requires members { length cluster.old.members ≡ length selection.now.plan.now.nodes }
+    requires named { AllNameNodes (length selection.now.plan.now.nodes) events.now }
+    ensures ran { Ran (O.takes_all out.old) (O.written out.old) (O.written out.new)
+        (view_from C.core C.Msg.parts selection.now.plan.now selection.now.view C.knows 0 cluster.old
+        events.now) result }
+    ensures zero { IfOk result (λ status. status ≡ 0) }
+    ensures stays { O.takes_all out.new ≡ O.takes_all out.old }
 {
     let mut text = String::new(alloc);
     for (index, event) in events.iter().enumerate() {
@@ -64,24 +68,8 @@ where
         show_event(selection, index as u64, event, cluster, &mut text)?;
         out.put(text.as_bytes())?;
     }
-    Ok(())
-}
-
-/// The closing lines. Returns the status.
-fn show_closing<C: Exclusion, O: Output>(
-    alloc: Global,
-    selection: &Selection<'_>,
-    cluster: &Cluster<C>,
-    out: &mut O,
-) -> Result<u8, Stop>
-    requires { length cluster.now.members ≡ length selection.now.plan.now.nodes }
-    ensures text { IfOk result (λ _. selection.now.is_json ≡ false
-        → Appends (O.written out.old) (O.written out.new)
-        (closing_text C.core selection.now.plan.now selection.now.node cluster.now)) }
-    ensures zero { IfOk result (λ status. status ≡ 0) }
-{
-    let mut text = String::new(alloc);
-    let verdict = add_closing(selection, cluster, &mut text)?;
+    text.clear();
+    let verdict = add_closing(alloc, selection, cluster, &mut text)?;
     out.put(text.as_bytes())?;
     Ok(verdict_status(verdict))
 }
@@ -96,21 +84,47 @@ fn show_event<C: Exclusion>(
 ) -> Result<(), Stop>
 where
     C::Msg: Letter,
+    requires named { NamesNodes (length cluster.old.members) event.now }
+    requires empty { string_bytes text.old ≡ [] }
     ensures ok { OnOk result (step_of C.core cluster.old event.now ≡ Ok cluster.new) }
-    ensures quiet { selection.now.is_quiet ≡ true
-        → OnOk result (string_bytes text.new ≡ string_bytes text.old) }
-    ensures lines { selection.now.is_quiet ≡ false → selection.now.is_json ≡ false
-        → OnOk result (string_bytes text.new ≡ string_bytes text.old
-        ++ shown_text (letter_text C.Msg.parts) selection.now.plan.now selection.now.node index
+    ensures text { OnOk result (string_bytes text.new
+        ≡ step_text C.Msg.parts selection.now.plan.now selection.now.view index
         cluster.old cluster.new) }
+    ensures err { IfErr result (StopsAt index (step_of C.core cluster.old event.now)) }
 {
     let before = cluster.sent();
     match cluster.advance(*event) {
-        Ok(()) if selection.is_quiet => Ok(()),
-        Ok(()) => Ok(add_newest(selection, index, before, cluster, text)?),
+        Ok(()) => Ok(add_step(selection, index, before, cluster, text)?),
+        Err(StepFault::NoParcel) => Err(Stop::Fault(Fault::NoParcel(index))),
         Err(StepFault::Memory) => Err(Stop::Memory),
-        Err(StepFault::NoParcel | StepFault::NoNode) => Err(Stop::Fault(Fault::NoParcel(index))),
+        Err(StepFault::NoNode) => unreachable!(),
     }
+}
+
+/// Appends what is shown of the newest event, which sent the parcels from `before` on. Nothing is,
+/// if the view is quiet.
+fn add_step<C: Exclusion>(
+    selection: &Selection<'_>,
+    index: u64,
+    before: u64,
+    cluster: &Cluster<C>,
+    text: &mut String,
+) -> Result<(), AllocError>
+where
+    C::Msg: Letter,
+    requires noted { 0 < length cluster.now.trace }
+    requires sent { before ≤ length cluster.now.sent }
+    ensures { (front : List Entry) (entry : Entry)
+        → cluster.now.trace ≡ front ++ entry ∷ [] → OnOk result (string_bytes text.new
+        ≡ string_bytes text.old ++ (if selection.now.view.is_quiet then []
+        else (shown_entry selection.now.plan.now selection.now.view cluster.now.sent index entry
+        ++ texts_from (shown_parcel selection.now.plan.now selection.now.view C.Msg.parts) before
+        (drop before cluster.now.sent)))) }
+{
+    if selection.view.is_quiet {
+        return Ok(());
+    }
+    add_newest(selection, index, before, cluster, text)
 }
 
 /// Appends the line of the newest event, where it is shown, and those of the parcels from `before`
@@ -126,12 +140,11 @@ where
     C::Msg: Letter,
     requires noted { 0 < length cluster.now.trace }
     requires sent { before ≤ length cluster.now.sent }
-    ensures { selection.now.is_json ≡ false → (front : List Entry) (entry : Entry)
+    ensures { (front : List Entry) (entry : Entry)
         → cluster.now.trace ≡ front ++ entry ∷ [] → OnOk result (string_bytes text.new
         ≡ string_bytes text.old
-        ++ (shown_entry selection.now.plan.now selection.now.node cluster.now.sent index entry
-        ++ texts_from
-        (shown_parcel (letter_text C.Msg.parts) selection.now.plan.now selection.now.node) before
+        ++ (shown_entry selection.now.plan.now selection.now.view cluster.now.sent index entry
+        ++ texts_from (shown_parcel selection.now.plan.now selection.now.view C.Msg.parts) before
         (drop before cluster.now.sent))) }
 {
     add_event(selection, index, cluster, newest(cluster.trace()), text)?;
@@ -155,14 +168,13 @@ fn add_event<C: Exclusion>(
     entry: &Entry,
     text: &mut String,
 ) -> Result<(), AllocError>
-    ensures { selection.now.is_json ≡ false → OnOk result (string_bytes text.new
-        ≡ string_bytes text.old
-        ++ shown_entry selection.now.plan.now selection.now.node cluster.now.sent index entry.now) }
+    ensures { OnOk result (string_bytes text.new ≡ string_bytes text.old
+        ++ shown_entry selection.now.plan.now selection.now.view cluster.now.sent index entry.now) }
 {
     if !selection.shows_event(cluster, &entry.event) {
         return Ok(());
     }
-    if selection.is_json {
+    if selection.view.is_json {
         return add_event_json(selection.plan, index, entry, text);
     }
     text.write(EventLine {
@@ -183,9 +195,8 @@ fn add_parcels<C: Exclusion>(
 where
     C::Msg: Letter,
     requires { before ≤ length cluster.now.sent }
-    ensures { selection.now.is_json ≡ false → OnOk result (string_bytes text.new
-        ≡ string_bytes text.old ++ texts_from
-        (shown_parcel (letter_text C.Msg.parts) selection.now.plan.now selection.now.node) before
+    ensures { OnOk result (string_bytes text.new ≡ string_bytes text.old
+        ++ texts_from (shown_parcel selection.now.plan.now selection.now.view C.Msg.parts) before
         (drop before cluster.now.sent)) }
 {
     for number in before..cluster.sent() {
@@ -204,13 +215,11 @@ fn add_numbered<C: Exclusion>(
 where
     C::Msg: Letter,
     requires { number < length cluster.now.sent }
-    ensures { selection.now.is_json ≡ false → OnOk result (string_bytes text.old
-        ++ texts_from
-        (shown_parcel (letter_text C.Msg.parts) selection.now.plan.now selection.now.node) number
+    ensures { OnOk result (string_bytes text.old
+        ++ texts_from (shown_parcel selection.now.plan.now selection.now.view C.Msg.parts) number
         (drop number cluster.now.sent)
         ≡ string_bytes text.new
-        ++ texts_from
-        (shown_parcel (letter_text C.Msg.parts) selection.now.plan.now selection.now.node)
+        ++ texts_from (shown_parcel selection.now.plan.now selection.now.view C.Msg.parts)
         (number + 1) (drop (number + 1) cluster.now.sent)) }
 {
     match cluster.sent_parcel(number) {
@@ -226,14 +235,14 @@ fn add_sent<M: Letter>(
     sent: &SentParcel<'_, M>,
     text: &mut String,
 ) -> Result<(), AllocError>
-    ensures { selection.now.is_json ≡ false → OnOk result (string_bytes text.new
-        ≡ string_bytes text.old ++ shown_parcel (letter_text M.parts) selection.now.plan.now
-        selection.now.node number (sent.now.from, sent.now.to, sent.now.parcel.now)) }
+    ensures { OnOk result (string_bytes text.new ≡ string_bytes text.old
+        ++ shown_parcel selection.now.plan.now selection.now.view M.parts
+        number (sent.now.from, sent.now.to, sent.now.parcel.now)) }
 {
     if !selection.shows_parcel(sent) {
         return Ok(());
     }
-    if selection.is_json {
+    if selection.view.is_json {
         return add_parcel_json(selection.plan, number, sent, text);
     }
     add_parcel_line(selection.plan, number, sent, text)

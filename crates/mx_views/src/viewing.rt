@@ -1,17 +1,20 @@
-//! `replay` with `--quiet`, `--node` or `--json`: from words, named bytes and two outputs to a
-//! status.
+//! `replay` with `--quiet`, `--node`, `--json` or `--state`: from words, named bytes and two outputs
+//! to a status.
 
-ghost use Rattle.std.specs.Prelude.{◌≡◌, Ok, false, option_map, IsSome, IfSome, IfOk};
+ghost use Rattle.std.specs.Prelude.{◌≡◌, ◌&&◌, IsSome, IfSome, IfOk, length, option_map};
 ghost use Rattle.mx_plan.specs.Events.{events_at};
 ghost use Rattle.mx_cli.specs.Words.{texts_of};
 ghost use Rattle.mx_cli.specs.Told.{Answers, seen};
 ghost use Rattle.mx_cli.specs.Closed.{IsRunStatus, PassesOn};
-ghost use Rattle.mx_views.specs.Printed.{IsNodeOf, PrintsPlanned, PrintsView};
-ghost use Rattle.mx_views.specs.Shown.{PrintsBy};
+ghost use Rattle.mx_commands.specs.Ran.{Ran};
+ghost use Rattle.mx_commands.specs.Runs.{AllNameNodes};
+ghost use Rattle.mx_views.specs.Printed.{PrintsPlanned, PrintsText, PrintsView};
+ghost use Rattle.mx_views.specs.Shown.{PrintsBy, view_by};
 ghost use Rattle.mx_views.specs.ViewWords.{request_asked, request_of, view_line};
+ghost use Rattle.mx_views.specs.Viewed.{CourseRan, IsFound, IsStranger, ViewRan, ViewRanOf, Views, course_of, course_on, reports};
 
 use crate::halts::{Halt, Stranger};
-use crate::selection::Selection;
+use crate::selection::{Selection, View};
 use crate::showing::show;
 use crate::words::{Request, asked};
 use mx_cli::{Named, Stop, close, close_with, fetch_named, refuse, stop_named};
@@ -23,10 +26,10 @@ use mx_plan::{Plan, read_events};
 use mx_stamps::NodeId;
 use std::alloc::Global;
 
-/// Runs the words of a command line of which `replay` is the first, with `--quiet`, `--node` or
-/// `--json`, without the program's name, and returns the status: 0 where all went well, or help was
-/// asked for, 1 where the plan, its events, the node, a file or an output is at fault, 2 where the
-/// words are not those of the command, 5 where memory ran out.
+/// Runs the words of a command line of which `replay` is the first, with `--quiet`, `--node`,
+/// `--json` or `--state`, without the program's name, and returns the status: 0 where all went well,
+/// or help was asked for, 1 where the plan, its events, the node, a file or an output is at fault, 2
+/// where the words are not those of the command, 5 where memory ran out.
 pub fn replay_view<S: Source, O: Output, E: Output>(
     alloc: Global,
     words: &[&str],
@@ -34,6 +37,9 @@ pub fn replay_view<S: Source, O: Output, E: Output>(
     out: &mut O,
     err: &mut E,
 ) -> u8
+    ensures views { IfSome (request_asked (texts_of words.entry.now)) (λ request.
+        Views (O.takes_all out.old && E.takes_all err.old) (S.told source.old) request
+        (seen O.Output E.Output out.old err.old) (seen O.Output E.Output out.new err.new) result) }
     ensures printed { IfSome (request_asked (texts_of words.entry.now)) (λ request.
         result ≡ 0
         → PrintsView (S.told source.old) request (O.written out.old) (O.written out.new)) }
@@ -58,6 +64,9 @@ fn view_and_close<S: Source, O: Output, E: Output>(
     out: &mut O,
     err: &mut E,
 ) -> u8
+    ensures views { Views (O.takes_all out.old && E.takes_all err.old) (S.told source.old)
+        (request_of request.now)
+        (seen O.Output E.Output out.old err.old) (seen O.Output E.Output out.new err.new) result }
     ensures printed { result ≡ 0 → PrintsView (S.told source.old) (request_of request.now)
         (O.written out.old) (O.written out.new) }
     ensures passed { PassesOn (E.written err.old) (E.written err.new) (O.keeps_back out.new)
@@ -78,22 +87,38 @@ fn view_run<S: Source, O: Output>(
     source: &mut S,
     out: &mut O,
 ) -> Result<u8, Halt>
+    ensures ran { ViewRanOf (O.takes_all out.old) (O.written out.old) (O.written out.new)
+        (S.told source.old) (request_of request.now) result }
     ensures printed { IfOk result (λ _. PrintsView (S.told source.old) (request_of request.now)
         (O.written out.old) (O.written out.new)) }
     ensures zero { IfOk result (λ status. status ≡ 0) }
+    ensures stays { O.takes_all out.new ≡ O.takes_all out.old }
 {
-    let both = fetch_named(alloc, source, &request.names)?;
-    let events = events_in(alloc, both.text.as_slice(), &both.plan)?;
-    view_events(alloc, request, &both.plan, events.as_slice(), out)
+    match fetch_named(alloc, source, &request.names) {
+        Ok(both) => view_text(alloc, request, &both.plan, both.text.as_slice(), out),
+        Err(stop) => Err(Halt::Stop(stop)),
+    }
 }
 
-/// The events that a text lists. One that is no JSON is named.
-fn events_in(alloc: Global, text: &[u8], plan: &Plan) -> Result<Vec<Event>, Stop>
-    ensures { IfOk result (λ events. events_at plan.now text.now ≡ Ok events.items) }
+/// Reads the events of a plan, and shows what is asked for of their replay. A text that is no JSON
+/// is named.
+fn view_text<O: Output>(
+    alloc: Global,
+    request: &Request<'_>,
+    plan: &Plan,
+    text: &[u8],
+    out: &mut O,
+) -> Result<u8, Halt>
+    ensures ran { CourseRan (O.takes_all out.old) (O.written out.old) (O.written out.new)
+        (course_of (request_of request.now) plan.now (events_at plan.now text.now)) result }
+    ensures printed { IfOk result (λ _. PrintsText plan.now text.now (request_of request.now)
+        (O.written out.old) (O.written out.new)) }
+    ensures zero { IfOk result (λ status. status ≡ 0) }
+    ensures stays { O.takes_all out.new ≡ O.takes_all out.old }
 {
     match read_events(alloc, text, plan) {
-        Ok(events) => Ok(events),
-        Err(fault) => Err(stop_named(Stop::from(fault), Named::Events)),
+        Ok(events) => view_events(alloc, request, plan, events.as_slice(), out),
+        Err(fault) => Err(Halt::Stop(stop_named(Stop::from(fault), Named::Events))),
     }
 }
 
@@ -105,31 +130,73 @@ fn view_events<O: Output>(
     events: &[Event],
     out: &mut O,
 ) -> Result<u8, Halt>
+    requires { AllNameNodes (length plan.now.nodes) events.now }
+    ensures ran { CourseRan (O.takes_all out.old) (O.written out.old) (O.written out.new)
+        (course_on (request_of request.now) plan.now events.now) result }
     ensures printed { IfOk result (λ _. PrintsPlanned plan.now events.now (request_of request.now)
         (O.written out.old) (O.written out.new)) }
     ensures zero { IfOk result (λ status. status ≡ 0) }
+    ensures stays { O.takes_all out.new ≡ O.takes_all out.old }
 {
-    let selection = Selection {
-        plan,
-        is_quiet: request.is_quiet,
-        node: node_in(alloc, plan, request.node)?,
-        is_json: request.is_json,
-    };
-    let status = show_by_shape(alloc, &selection, events, out)?;
-    Ok(status)
+    match node_in(alloc, plan, request.node) {
+        Ok(node) => {
+            let selection = Selection {
+                plan,
+                view: View {
+                    node,
+                    is_quiet: request.is_quiet,
+                    is_json: request.is_json,
+                    has_state: request.has_state,
+                },
+            };
+            show_halting(alloc, &selection, events, out)
+        }
+        Err(halt) => Err(halt),
+    }
 }
 
 /// The node of this name, where one is named.
 fn node_in(alloc: Global, plan: &Plan, name: Option<&str>) -> Result<Option<NodeId>, Halt>
-    ensures { IfOk result
-        (IsNodeOf plan.now (option_map (λ text. text.now) name.entry)) }
+    ensures { IsFound plan.now (option_map (λ text. text.now) name.entry) result }
 {
     let Some(name) = name else {
         return Ok(None);
     };
     match plan.node(name) {
         Some(node) => Ok(Some(node)),
-        None => Err(Halt::NoNode(Stranger(told_of_node(alloc, plan, name)?))),
+        None => Err(stranger_in(alloc, plan, name)),
+    }
+}
+
+/// Why nothing is shown of a name that no node has.
+fn stranger_in(alloc: Global, plan: &Plan, name: &str) -> Halt
+    ensures { IsStranger result }
+{
+    match told_of_node(alloc, plan, name) {
+        Ok(told) => Halt::NoNode(Stranger(told)),
+        Err(_) => Halt::Stop(Stop::Memory),
+    }
+}
+
+/// Replays the events by the plan's algorithm.
+fn show_halting<O: Output>(
+    alloc: Global,
+    selection: &Selection<'_>,
+    events: &[Event],
+    out: &mut O,
+) -> Result<u8, Halt>
+    requires { AllNameNodes (length selection.now.plan.now.nodes) events.now }
+    ensures ran { ViewRan (O.takes_all out.old) (O.written out.old) (O.written out.new)
+        (reports (view_by selection.now.plan.now selection.now.view selection.now.plan.now.shape
+        events.now)) result }
+    ensures prints { IfOk result (λ _. PrintsBy selection.now.plan.now selection.now.view events.now
+        (O.written out.old) (O.written out.new) selection.now.plan.now.shape) }
+    ensures zero { IfOk result (λ status. status ≡ 0) }
+    ensures stays { O.takes_all out.new ≡ O.takes_all out.old }
+{
+    match show_by_shape(alloc, selection, events, out) {
+        Ok(status) => Ok(status),
+        Err(stop) => Err(Halt::Stop(stop)),
     }
 }
 
@@ -140,10 +207,14 @@ fn show_by_shape<O: Output>(
     events: &[Event],
     out: &mut O,
 ) -> Result<u8, Stop>
-    ensures prints { IfOk result (λ _. selection.now.is_json ≡ false
-        → PrintsBy selection.now.plan.now selection.now.node selection.now.is_quiet events.now
+    requires { AllNameNodes (length selection.now.plan.now.nodes) events.now }
+    ensures ran { Ran (O.takes_all out.old) (O.written out.old) (O.written out.new)
+        (view_by selection.now.plan.now selection.now.view selection.now.plan.now.shape events.now)
+        result }
+    ensures prints { IfOk result (λ _. PrintsBy selection.now.plan.now selection.now.view events.now
         (O.written out.old) (O.written out.new) selection.now.plan.now.shape) }
     ensures zero { IfOk result (λ status. status ≡ 0) }
+    ensures stays { O.takes_all out.new ≡ O.takes_all out.old }
 {
     by_shape!(
         alloc,

@@ -1,4 +1,4 @@
-//! The words of `replay` with `--quiet`, `--node` or `--json`.
+//! The words of `replay` with `--quiet`, `--node`, `--json` or `--state`.
 
 ghost use Rattle.std.specs.Prelude.{◌≡◌, IfOk, option_map};
 ghost use Rattle.clap.specs.Words.{found_of, rows_of, subcommand_rows_of};
@@ -10,13 +10,14 @@ use mx_cli::{Names, is_given, line_of, matches_in, names_at, replay_command, tex
 use std::alloc::{AllocError, Global};
 
 /// What is to be shown of a replay: the names of its plan and events, whether the closing lines
-/// alone, of which node alone, and whether as JSON.
+/// alone, of which node alone, whether as JSON, and whether with what each node knows.
 #[derive(Clone, Copy)]
 pub(crate) struct Request<'a> {
     pub(crate) names: Names<'a>,
     pub(crate) is_quiet: bool,
     pub(crate) node: Option<&'a str>,
     pub(crate) is_json: bool,
+    pub(crate) has_state: bool,
 }
 
 /// What the words ask to show. Their faults are those of `clap`, and words that ask for help come
@@ -56,5 +57,6 @@ fn view_in<'a>(matches: &ArgMatches<'a>) -> Option<Request<'a>>
         is_quiet: is_given(matches, "quiet"),
         node: text_at(matches, "node"),
         is_json: is_given(matches, "json"),
+        has_state: is_given(matches, "state"),
     })
 }

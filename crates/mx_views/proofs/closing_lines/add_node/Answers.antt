@@ -17,8 +17,8 @@ unreachable-requires g c =
     is_there members c.unwrap-node.result c.in-None.ensures.value lt
 
 pub returns : goal.returns
-returns g c = λ plain.
-    let line = shown_member g.C.Exclusion.core c.args.selection.now.plan.now c.args.selection.now.node in
+returns g c =
+    let line = shown_member c.args.selection.now.plan.now c.args.selection.now.view g.C.Exclusion.core g.C.Knowledge.knows in
     let members = c.args.cluster.now.members in
     let m = c.in-Some.member.now in
     let r = c.add_member.result in
@@ -26,5 +26,5 @@ returns g c = λ plain.
     let t' = string_bytes c.add_member.new.text in
     let is : c.unwrap-node.result ≡ c.args.index = rw c.unwrap-node.ensures at c.of.ensures.value in
     let there = subst (λ (n : ℕ). slice_get members n ≡ Some m) is c.in-Some.ensures.value in
-    let written = subst (λ (n : ℕ). OnOk r (t' ≡ t ++ line n m)) is (c.add_member.ensures plain) in
+    let written = subst (λ (n : ℕ). OnOk r (t' ≡ t ++ line n m)) is c.add_member.ensures in
     place_written line members c.args.index r m t t' there written

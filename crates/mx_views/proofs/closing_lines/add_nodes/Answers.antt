@@ -17,11 +17,11 @@ loop-index-preserved g c =
     let before : c.loop-index.index < c.nodes-index-end.result = c.loop-index-test.true in
     record {
       in_range = omega (arith, before, count, same);
-      written = λ plain. c.loop-index.invariant.written plain ∙ c.in_ok-add_node.ensures plain;
+      written = c.loop-index.invariant.written ∙ c.in_ok-add_node.ensures;
     }
 
 pub returns : goal.returns
-returns g c = λ plain.
+returns g c =
     let selection = c.args.selection.now in
     let members = c.args.cluster.now.members in
     let k = c.loop-index.index in
@@ -29,4 +29,4 @@ returns g c = λ plain.
     let same : length members ≡ length selection.plan.now.nodes = c.requires in
     let past = c.loop-index-test.false in
     let end : length members ≤ k = omega (arith, count, same, past) in
-    sym (c.loop-index.invariant.written plain ∙ place_end (shown_member g.C.Exclusion.core selection.plan.now selection.node) members k (string_bytes c.loop-index.text) end)
+    sym (c.loop-index.invariant.written ∙ place_end (shown_member selection.plan.now selection.view g.C.Exclusion.core g.C.Knowledge.knows) members k (string_bytes c.loop-index.text) end)

@@ -1,5 +1,4 @@
 use Rattle.std.proofs.Common.{◌≡◌, ◌∙◌, ◌<◌, ◌≤◌, ℕ, arith, length, rules, string_bytes, subst, sym}
-use Rattle.mx_texts.specs.LetterTexts.{letter_text}
 use Rattle.mx_texts.proofs.Places.{place_end}
 use Rattle.mx_views.specs.Shown.{shown_parcel}
 use Rattle.mx_views.proofs.showing.add_parcels.Goals as goal
@@ -14,15 +13,15 @@ loop-number-preserved g c =
     let lt : c.loop-number.number < length sent = subst (λ (n : ℕ). c.loop-number.number < n) c.sent-number-end.ensures c.loop-number-test.true in
     record {
       in_range = omega (arith, lt);
-      written = λ plain. c.loop-number.invariant.written plain ∙ c.in_ok-add_numbered.ensures plain;
+      written = c.loop-number.invariant.written ∙ c.in_ok-add_numbered.ensures;
     }
 
 pub returns : goal.returns
-returns g c = λ plain.
+returns g c =
     let sent = c.args.cluster.now.sent in
     let k = c.loop-number.number in
     let count : c.sent-number-end.result ≡ length sent = c.sent-number-end.ensures in
     let past = c.loop-number-test.false in
     let end : length sent ≤ k = omega (arith, count, past) in
-    sym (c.loop-number.invariant.written plain
-    ∙ place_end (shown_parcel (letter_text g.C.Msg.Letter.parts) c.args.selection.now.plan.now c.args.selection.now.node) sent k (string_bytes c.loop-number.text) end)
+    sym (c.loop-number.invariant.written
+    ∙ place_end (shown_parcel c.args.selection.now.plan.now c.args.selection.now.view g.C.Msg.Letter.parts) sent k (string_bytes c.loop-number.text) end)

@@ -1,5 +1,4 @@
-use Rattle.std.proofs.Common.{◌≡◌, ◌≤◌, ◌++◌, drop, false, length, string_bytes}
-use Rattle.mx_texts.specs.LetterTexts.{letter_text}
+use Rattle.std.proofs.Common.{◌≡◌, ◌≤◌, ◌++◌, drop, length, string_bytes}
 use Rattle.mx_texts.specs.Lines.{texts_from}
 use Rattle.mx_views.specs.Shown.{shown_parcel}
 use Rattle.mx_views.proofs.showing.add_parcels.Given as goal
@@ -7,7 +6,6 @@ use Rattle.mx_views.proofs.showing.add_parcels.Given as goal
 abbrev pub invariant-loop-number : goal.invariant-loop-number
 invariant-loop-number g l = record {
   in_range : l.number ≤ length l.cluster.sent;
-  written : l.selection.is_json ≡ false →
-      string_bytes l.initial.text ++ texts_from (shown_parcel (letter_text g.C.Msg.Letter.parts) l.selection.plan.now l.selection.node) l.before (drop l.before l.cluster.sent)
-      ≡ string_bytes l.text ++ texts_from (shown_parcel (letter_text g.C.Msg.Letter.parts) l.selection.plan.now l.selection.node) l.number (drop l.number l.cluster.sent);
+  written : string_bytes l.initial.text ++ texts_from (shown_parcel l.selection.plan.now l.selection.view g.C.Msg.Letter.parts) l.before (drop l.before l.cluster.sent)
+      ≡ string_bytes l.text ++ texts_from (shown_parcel l.selection.plan.now l.selection.view g.C.Msg.Letter.parts) l.number (drop l.number l.cluster.sent);
 }

@@ -6,10 +6,10 @@ use Rattle.mx_commands.proofs.RunLemmas.{members_at_rest}
 use Rattle.mx_views.proofs.viewing.show_by_shape.Goals as goal
 
 pub show-requires : goal.show-requires
-show-requires g c = (omega arith, search (rules, members_at_rest ricart_core c.args.selection.now.plan.now))
+show-requires g c = (omega arith, (search (rules, members_at_rest ricart_core c.args.selection.now.plan.now), c.requires))
 
 pub show-requires-2 : goal.show-requires-2
-show-requires-2 g c = (omega arith, search (rules, members_at_rest maekawa_core c.args.selection.now.plan.now))
+show-requires-2 g c = (omega arith, (search (rules, members_at_rest maekawa_core c.args.selection.now.plan.now), c.requires))
 
 pub show-requires-3 : goal.show-requires-3
-show-requires-3 g c = (omega arith, search (rules, members_at_rest raymond_core c.args.selection.now.plan.now))
+show-requires-3 g c = (omega arith, (search (rules, members_at_rest raymond_core c.args.selection.now.plan.now), c.requires))

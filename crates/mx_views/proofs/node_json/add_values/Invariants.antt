@@ -1,0 +1,12 @@
+use Rattle.std.proofs.Common.{◌≡◌, ◌≤◌, ◌++◌, drop, length, string_bytes}
+use Rattle.mx_texts.specs.NodeTexts.{register_in}
+use Rattle.mx_texts.specs.Lines.{texts_from}
+use Rattle.mx_views.specs.NodeJson.{register_json, values_of}
+use Rattle.mx_views.proofs.node_json.add_values.Given as goal
+
+abbrev pub invariant-loop-register : goal.invariant-loop-register
+invariant-loop-register l = record {
+  in_range : l.register ≤ length l.plan.registers;
+  written : string_bytes l.initial.text ++ values_of l.plan l.journal
+      ≡ string_bytes l.text ++ texts_from (λ register name. register_json register name (register_in register l.journal).value) l.register (drop l.register l.plan.registers);
+}

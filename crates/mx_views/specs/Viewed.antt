@@ -1,0 +1,141 @@
+-- What a view leaves in the two outputs, and with which status.
+use Rattle.std.specs.Prelude.{◌≡◌, ◌⊎◌, ℕ, ◌++◌, Bool, List, Option, Some, None, ⊤, Result, Ok, Err, IfSome, codes, option_map}
+use Rattle.std.specs.Io.KnownBytes.{Appends, Keeps}
+use Rattle.std.specs.List.{concat}
+use Rattle.std.specs.Option.{option_map_or}
+use Rattle.mx_events.specs.declared.event.Event.{Event}
+use Rattle.mx_plan.specs.Text.{Text}
+use Rattle.mx_plan.specs.Fields.{Fields}
+use Rattle.mx_plan.specs.Events.{events_at}
+use Rattle.mx_plan.specs.declared.faults.PlanFault.{PlanFault}
+use Rattle.mx_io.specs.Told.{Telling}
+use Rattle.mx_io.specs.Outputs.{Held}
+use Rattle.mx_cli.specs.Closed.{FallsShort}
+use Rattle.mx_cli.specs.Naming.{fault_named}
+use Rattle.mx_cli.specs.Outputs.{AppendsSome}
+use Rattle.mx_cli.specs.Reading.{IsRead, fault_of, plan_told, text_told}
+use Rattle.mx_cli.specs.Told.{Seen, TellsFault}
+use Rattle.mx_cli.specs.declared.faults.Fault.TheVariants.{CannotRead}
+use Rattle.mx_cli.specs.declared.faults.Named.{Named}
+use Rattle.mx_cli.specs.declared.faults.Named.TheVariants.{Plan, Events}
+use Rattle.mx_cli.specs.declared.faults.Stop.{Stop}
+use Rattle.mx_cli.specs.declared.faults.Stop.TheVariants.{Memory}
+use Rattle.mx_commands.specs.Ran.{Ran, end_text, status_of}
+use Rattle.mx_commands.specs.Runs.{Report, ends_with}
+use Rattle.mx_views.specs.Printed.{node_in, view_on}
+use Rattle.mx_views.specs.Shown.{view_by}
+use Rattle.mx_views.specs.ViewWords.{Request}
+use Rattle.mx_views.specs.declared.halts.Halt.{Halt}
+use Rattle.mx_views.specs.declared.halts.Halt.TheVariants as halt
+
+-- what comes of a request: a report; or the plan has no node of the name that was given
+pub data Course : Type 0 where
+  reports : Report → Course
+  stranger : Course
+
+-- a text of this name is refused
+abbrev pub refused_text : Named → PlanFault → Course
+refused_text part fault = reports (ends_with (option_map (fault_named part) (fault_of fault)))
+
+-- a file of this name can't be read
+abbrev pub unread : Named → Course
+unread part = reports (ends_with (Some (CannotRead part)))
+
+-- these events happen, and are shown
+abbrev pub course_on : Request → Fields → List Event → Course
+course_on request p es =
+    option_map_or (λ node. reports (view_by p (view_on request node) p.shape es))
+    (node_in p request.node) stranger
+
+abbrev pub course_of : Request → Fields → Result (List Event) PlanFault → Course
+course_of request p (Ok es) = course_on request p es
+course_of request p (Err fault) = refused_text Events fault
+
+-- what comes of what is told of the events
+abbrev pub course_told : Request → Fields → Telling → Course
+course_told request p None = unread Events
+course_told request p (Some bytes) = course_of request p (events_at p bytes)
+
+-- what comes of a plan; one that is refused decides
+abbrev pub course_by : (Fields → Option Course) → Result Fields PlanFault → Option Course
+course_by course (Ok p) = course p
+course_by course (Err fault) = Some (refused_text Plan fault)
+
+-- this holds of what comes of the plan that is told, where enough is told
+abbrev pub HoldsOfPlan : (Fields → Option Course) → Telling → (Course → Type 0) → Type 0
+HoldsOfPlan course None P = P (unread Plan)
+HoldsOfPlan course (Some bytes) P =
+    (planned : Result Fields PlanFault) × IsRead bytes planned × IfSome (course_by course planned) P
+
+-- this holds of what comes of the plan and the events that a source tells
+abbrev pub HoldsOf : (Text → Option Telling) → Request → (Course → Type 0) → Type 0
+HoldsOf told request P = IfSome (plan_told told request.names) (λ plan.
+    HoldsOfPlan (λ p. option_map (course_told request p) (text_told told request.names)) plan P)
+
+-- ---- what was printed
+
+-- the report was printed whole, with its status and the line of its fault; or memory ran out, or an
+-- output refused, and then its first texts were, each whole
+abbrev pub PrintsReport : Bool → Text × Text → Report → Seen → Seen → ℕ → Type 0
+PrintsReport takes_all names r old new status =
+    ((status ≡ status_of r.end) × Appends old.out new.out (concat r.texts)
+    × Appends old.err new.err (end_text names r.end))
+    ⊎ (FallsShort takes_all old.err new.err status × AppendsSome old.out new.out r.texts)
+
+-- a name that no node has is told, behind nothing else
+abbrev pub TellsName : Bool → Seen → Seen → ℕ → Type 0
+TellsName takes_all old new status =
+    Keeps old.out new.out
+    × ((name : Text) × TellsFault takes_all (codes "mx: unknown name:" ++ name) old.err new.err status)
+
+abbrev pub PrintsCourse : Bool → Text × Text → Course → Seen → Seen → ℕ → Type 0
+PrintsCourse takes_all names (reports r) old new status =
+    PrintsReport takes_all names r old new status
+PrintsCourse takes_all names stranger old new status = TellsName takes_all old new status
+
+-- what the words ask to show, of what a source tells; or memory ran out before
+abbrev pub Views : Bool → (Text → Option Telling) → Request → Seen → Seen → ℕ → Type 0
+Views takes_all told request old new status =
+    (FallsShort takes_all old.err new.err status × Keeps old.out new.out)
+    ⊎ HoldsOf told request
+    (λ course. PrintsCourse takes_all request.names course old new status)
+
+-- ---- on the way
+
+-- what is to be shown was written, or the run ended earlier
+abbrev pub ViewRan : Bool → Held → Held → Course → Result ℕ Halt → Type 0
+ViewRan takes_all old new (reports r) (Ok status) = Ran takes_all old new r (Ok status)
+ViewRan takes_all old new (reports r) (Err (halt.Stop end)) = Ran takes_all old new r (Err end)
+ViewRan takes_all old new (reports r) (Err (halt.NoNode name)) = ⊥
+ViewRan takes_all old new stranger (Ok status) = ⊥
+ViewRan takes_all old new stranger (Err (halt.Stop end)) = ⊥
+ViewRan takes_all old new stranger (Err (halt.NoNode name)) = Keeps old new
+
+-- memory ran out before anything was shown
+abbrev pub RunsOut : Held → Held → Result ℕ Halt → Type 0
+RunsOut old new (Ok status) = ⊥
+RunsOut old new (Err (halt.Stop end)) = (end ≡ Memory) × Keeps old new
+RunsOut old new (Err (halt.NoNode name)) = ⊥
+
+-- what comes of a request was written, or memory ran out before anything was
+abbrev pub CourseRan : Bool → Held → Held → Course → Result ℕ Halt → Type 0
+CourseRan takes_all old new course result =
+    RunsOut old new result ⊎ ViewRan takes_all old new course result
+
+-- the same of what a source tells
+abbrev pub ViewRanOf : Bool → Held → Held → (Text → Option Telling) → Request → Result ℕ Halt
+    → Type 0
+ViewRanOf takes_all old new told request result =
+    RunsOut old new result
+    ⊎ HoldsOf told request (λ course. ViewRan takes_all old new course result)
+
+-- the node of this name, where one is named; or the plan does not have it, or memory ran out
+abbrev pub IsFound : Fields → Option Text → Result (Option ℕ) Halt → Type 0
+IsFound p name (Ok node) = node_in p name ≡ Some node
+IsFound p name (Err (halt.Stop end)) = end ≡ Memory
+IsFound p name (Err (halt.NoNode text)) = node_in p name ≡ None
+
+-- a name that no node has is told, or memory ran out
+abbrev pub IsStranger : Halt → Type 0
+IsStranger (halt.Stop end) = end ≡ Memory
+IsStranger (halt.NoNode text) = ⊤
