@@ -1,7 +1,7 @@
-//! Workers at the gate of a live run.
+//! Workers at the gate of a run.
 
+use mx_jobs::StartGate;
 use mx_letters::Fair;
-use mx_live::Assembly;
 use mx_ricart::{Count, Ricart};
 use mx_stamps::NodeId;
 use mx_stations::{Field, Script, Station, Worked, work};
@@ -16,7 +16,7 @@ fn stations_of(alloc: Global, nodes: u8) -> Result<Vec<Station<Ricart>>, Fail> {
 }
 
 /// How a worker ends that has no section of its own.
-fn work_at(station: Station<Ricart>, gate: &Assembly) -> Worked {
+fn work_at(station: Station<Ricart>, gate: &StartGate) -> Worked {
     let script = Script {
         register: 0,
         sections: 0,
@@ -27,7 +27,7 @@ fn work_at(station: Station<Ricart>, gate: &Assembly) -> Worked {
 
 #[test]
 fn gate_of_a_live_run_holds(rt: HostRuntime) -> Result<(), Fail> {
-    let gate = Assembly::new(5, 100_000_000);
+    let gate = StartGate::new(5, 100_000_000);
     let all = stations_of(rt.alloc(), 5)?;
     let ended = thread::map_vec(
         &rt,
@@ -40,7 +40,7 @@ fn gate_of_a_live_run_holds(rt: HostRuntime) -> Result<(), Fail> {
     }
     // workers in one thread: this refuses the wrong body `workers_run_in_turn`, by a gate that
     // stays shut
-    let shut = Assembly::new(5, 1000);
+    let shut = StartGate::new(5, 1000);
     for station in stations_of(rt.alloc(), 5)? {
         assert_eq!(rt; work_at(station, &shut), Worked::GateShut);
     }

@@ -1,9 +1,10 @@
 -- What workers leave, by what they promised.
-use Rattle.std.proofs.Common.{◌≡◌, ◌∙◌, ◌+◌, ◌<◌, ◌++◌, ℕ, zero, suc, List, [], ◌∷◌, Option, None, length, map, slice_get, Some, refl, sym, ap, arith, subst}
-use Rattle.std.proofs.lemmas.List.{length-map, length_push, map_push}
+use Rattle.std.proofs.Common.{◌≡◌, ◌∙◌, ◌+◌, ◌<◌, ◌++◌, ℕ, zero, suc, List, [], ◌∷◌, None, length, map, slice_get, Some, refl, sym, ap, arith, subst}
+use Rattle.std.proofs.lemmas.List.{length-map, length_push}
 use Rattle.std.proofs.lemmas.Option.{same_Some, slice_get_within}
 use mathlib.Core.Option.{some}
 use lib.ListN.{get_elem?}
+use Rattle.mx_stamps.specs.Lists.{IsIn}
 use Rattle.mx_stamps.proofs.Lists.{in_get, none_is_no_some}
 use Rattle.mx_journal.specs.declared.records.Write.{Write}
 use Rattle.mx_journal.specs.declared.receipts.Receipt.{Receipt}
@@ -15,13 +16,16 @@ use Rattle.mx_stations.specs.Opened.{AreFresh}
 use Rattle.mx_stations.specs.Entries.{Node}
 use Rattle.mx_stations.specs.Turns.{Station}
 use Rattle.mx_stations.proofs.Places.{as_slice_at}
-use Rattle.mx_jobs.specs.declared.faults.RunFault.{RunFault}
 use Rattle.mx_jobs.specs.declared.worker.Ended.{Ended}
+use Rattle.mx_jobs.specs.declared.worker.Ended.TheVariants.{Done, GateShut}
 use Rattle.mx_jobs.specs.declared.worker.RunOptions.{RunOptions}
 use Rattle.mx_jobs.specs.Faults.{Tells}
 use Rattle.mx_jobs.specs.Sections.{Runs}
-use Rattle.mx_jobs.specs.Runs.{AreDone, AreEach, AreLeft, AreNotDone, Fit, HasLeft, HaveRun, IsAtRest, IsDone, IsLeft, IsPosted, Opening, own_of, registers_at}
-use Rattle.mx_jobs.proofs.Each.{as_elem, each_at, first_each, none_each, pushed_each, rest_each}
+use Rattle.mx_jobs.specs.declared.threads.WorkAt.{WorkAt}
+use Rattle.mx_jobs.specs.Posted.{AddsWorker, AreEach, ArePosted, Fit, IsPosted}
+use Rattle.mx_jobs.specs.Runs.{AreBack, AreDone, AreLeft, HasLeft, HaveRun, IsAtRest, IsDone, IsLeft, IsUnderWay, Opening, own_of, registers_at}
+use Rattle.mx_jobs.proofs.Each.{as_elem, cons_each, each_at, first_each, last_each, none_each, pushed_each, rest_each}
+use Rattle.mx_jobs.proofs.Telling.{done_is_not_yet, shut_is_done, shut_is_not_yet}
 use Rattle.mx_jobs.proofs.OwnReceipts.{own_receipts, owned}
 
 module _ {X J : Type 0} (stations : List X) (jobs : List J) where
@@ -32,13 +36,30 @@ module _ {X J : Type 0} (stations : List X) (jobs : List J) where
     own = record { each = λ k j at. subst (λ (i : ℕ). slice_get jobs i ≡ Some j) (let e : k ≡ 0 + k = omega arith in e) at };
   }
 
-  -- the first of the stations, with the first of the jobs, and the others
-  pub first_fit : (options : RunOptions) (k : ℕ) (s : X) (ss all : List X) (j : J) (js these : List J) → all ≡ s ∷ ss → these ≡ j ∷ js → Fit stations jobs k all these
-      → IsPosted options stations jobs k s j options × Fit stations jobs (suc k) ss js
-  first_fit options k s ss all j js these is are fit = (
-    record { place = first_each k s ss all is fit.places; own = first_each k j js these are fit.own; as_told = refl },
+  -- the first of the stations and of the jobs, and the others
+  pub first_fit : (k : ℕ) (s : X) (ss all : List X) (j : J) (js these : List J) → all ≡ s ∷ ss → these ≡ j ∷ js → Fit stations jobs k all these
+      → (slice_get stations k ≡ Some s) × (slice_get jobs k ≡ Some j) × Fit stations jobs (suc k) ss js
+  first_fit k s ss all j js these is are fit = (
+    first_each k s ss all is fit.places,
+    first_each k j js these are fit.own,
     record { places = rest_each k s ss all is fit.places; own = rest_each k j js these are fit.own },
   )
+
+  -- one more worker
+  pub posted_on : (options : RunOptions) (s : X) (j : J) (old new : List (WorkAt X J)) → slice_get stations (length old) ≡ Some s → slice_get jobs (length old) ≡ Some j
+      → AddsWorker options s j old new → ArePosted options stations jobs old → ArePosted options stations jobs new
+  posted_on options s j old new place own adds rest =
+      let k = length old in
+      pushed_each 0 old old new adds.promise refl adds.grown rest
+      (subst (λ (i : ℕ). IsPosted options stations jobs i adds.promise) (let e : k ≡ 0 + k = omega arith in e) (record {
+        place = subst (λ x. slice_get stations k ≡ Some x) (sym adds.here) place;
+        own = subst (λ x. slice_get jobs k ≡ Some x) (sym adds.own) own;
+        as_told = adds.as_told;
+      }))
+
+-- so many workers more
+pub one_more : {X J : Type 0} (options : RunOptions) (s : X) (j : J) (old new : List (WorkAt X J)) → AddsWorker options s j old new → suc (length old) ≡ length new
+one_more options s j old new adds = let pushed = length_push old adds.promise in let grown = ap length adds.grown in omega (arith, pushed, grown)
 
 -- the stations of a new table are at rest
 pub new_rests : {H S M : Type 0} (core : Core H S M) (shape : H) (origin limit registers : ℕ) (ss : List (Station core)) (fresh_ones : AreFresh (core.count shape) (λ i. start_of core shape i origin limit registers) ss)
@@ -68,94 +89,162 @@ found_at (x ∷ xs) zero low = (x, refl)
 found_at (x ∷ xs) (suc k) low = found_at xs k (omega (arith, low))
 
 module _ {J : Type 0} (AsksFor : J → List ℕ → Type 0) (Makes : J → ℕ → List ℕ → List Write → J → Type 0) (Holds : ℕ → List ℕ → Type 0) (Finished : J → Type 0) {H S M : Type 0} (core : Core H S M) (options : RunOptions) (stations : List (Station core)) (jobs : List J) where
-  pub none_left : (lefts : List (Station core)) (afters : List J) → lefts ≡ [] → afters ≡ [] → AreLeft AsksFor Makes Holds Finished core options stations jobs None lefts afters
-  none_left lefts afters here there = record { all = []; each = none_each 0 [] refl; stations_are = here; jobs_are = there; told = λ e is. absurd is }
+  none_left : (k : ℕ) → AreLeft AsksFor Makes Holds Finished core options stations jobs k [] [] []
+  none_left k = record { all = []; each = none_each k [] refl; stations_are = refl; jobs_are = refl; ends_are = refl }
 
-  -- one more has ended
-  module _ {W : Type 0} (at : W → Station core) (job_of : W → J) (told_of : W → RunOptions) where
-    pub back_on : (fault now : Option RunFault) (lefts more : List (Station core)) (afters others : List J) (left : Station core × J × Ended) (worker : W) (rest all : List W) → IsLeft AsksFor Makes Holds Finished core (told_of worker) (at worker) (job_of worker) left
-        → ((ends : List Ended) → Tells fault ends → Tells now (ends ++ left.2 ∷ []))
-        → all ≡ worker ∷ rest → more ≡ lefts ++ left.0 ∷ [] → others ≡ afters ++ left.1 ∷ []
-        → AreLeft AsksFor Makes Holds Finished core options stations jobs fault lefts afters × AreEach (λ k w. IsPosted options stations jobs k (at w) (job_of w) (told_of w)) (length lefts) all
-        → AreLeft AsksFor Makes Holds Finished core options stations jobs now more others × AreEach (λ k w. IsPosted options stations jobs k (at w) (job_of w) (told_of w)) (length more) rest
-    back_on fault now lefts more afters others left worker rest all kept tells is grown and so =
-        let ended : List (Station core × J × Ended) = so.0.all in
-        let count : length lefts ≡ length ended = ap length so.0.stations_are ∙ length-map ended (λ (one : Station core × J × Ended). one.0) in
-        let posted = first_each (length lefts) worker rest all is so.1 in
-        let has : HasLeft AsksFor Makes Holds Finished core options stations jobs (length lefts) left = record {
-          from = at worker;
-          job = job_of worker;
-          place = posted.place;
-          own = posted.own;
-          is_left = subst (λ (o : RunOptions). IsLeft AsksFor Makes Holds Finished core o (at worker) (job_of worker) left) posted.as_told kept;
-        } in (
-          record {
-            all = ended ++ left ∷ [];
-            each =
-                pushed_each 0 ended ended (ended ++ left ∷ []) left refl refl so.0.each
-                (subst (λ (i : ℕ). HasLeft AsksFor Makes Holds Finished core options stations jobs i left) (let e : length lefts ≡ 0 + length ended = omega (arith, count) in e) has);
-            stations_are = grown ∙ ap (λ (ss : List (Station core)). ss ++ left.0 ∷ []) so.0.stations_are ∙ sym (map_push (λ (one : Station core × J × Ended). one.0) ended left);
-            jobs_are = and ∙ ap (λ (l : List J). l ++ left.1 ∷ []) so.0.jobs_are ∙ sym (map_push (λ (one : Station core × J × Ended). one.1) ended left);
-            told = subst (λ (es : List Ended). Tells now es) (sym (map_push (λ (one : Station core × J × Ended). one.2) ended left)) (tells (map (λ (one : Station core × J × Ended). one.2) ended) so.0.told);
-          },
-          subst (λ (i : ℕ). AreEach (λ k w. IsPosted options stations jobs k (at w) (job_of w) (told_of w)) i rest) (let e = length_push lefts left.0 in let f = ap length grown in let g : suc (length lefts) ≡ length more = omega (arith, e, f) in g) (rest_each (length lefts) worker rest all is so.1),
-        )
-
-  module _ (fault : Option RunFault) (lefts : List (Station core)) (afters : List J) (are : AreLeft AsksFor Makes Holds Finished core options stations jobs fault lefts afters) where
-    -- the k-th that was left, with its station, its job and its end
-    module _ (k : ℕ) (from left : Station core) (job after : J) (place : slice_get stations k ≡ Some from) (own : slice_get jobs k ≡ Some job) (here : slice_get lefts k ≡ Some left) (there : slice_get afters k ≡ Some after) where
-      one_left : (end : Ended) × (slice_get (map (λ (one : Station core × J × Ended). one.2) are.all) k ≡ Some end) × IsLeft AsksFor Makes Holds Finished core options from job (left, after, end)
-      one_left =
-          let w = was_at (λ (one : Station core × J × Ended). one.0) are.all k left (ap (λ (l : List (Station core)). slice_get l k) (sym are.stations_are) ∙ here) in
-          let v = was_at (λ (one : Station core × J × Ended). one.1) are.all k after (ap (λ (l : List J). slice_get l k) (sym are.jobs_are) ∙ there) in
-          let same : v.0 ≡ w.0 = same_Some v.0 w.0 (sym v.1 ∙ w.1) in
-          let has : HasLeft AsksFor Makes Holds Finished core options stations jobs k w.0 = each_at k are.all w.0 w.1 are.each in
-          let is_from : has.from ≡ from = same_Some has.from from (sym has.place ∙ place) in
-          let is_job : has.job ≡ job = same_Some has.job job (sym has.own ∙ own) in
-          let is_after : w.0.1 ≡ after = ap (λ (one : Station core × J × Ended). one.1) (sym same) ∙ v.2 in (
-            w.0.2,
-            is_at (λ (one : Station core × J × Ended). one.2) are.all k w.0 w.1,
-            subst (λ (z : Station core). IsLeft AsksFor Makes Holds Finished core options z job (left, after, w.0.2)) is_from
-                (subst (λ (z : J). IsLeft AsksFor Makes Holds Finished core options has.from z (left, after, w.0.2)) is_job
-                (subst (λ (z : J). IsLeft AsksFor Makes Holds Finished core options has.from has.job (left, z, w.0.2)) is_after
-                (subst (λ (z : Station core). IsLeft AsksFor Makes Holds Finished core options has.from has.job (z, w.0.1, w.0.2)) w.2 has.is_left))),
-          )
-
-    module _ (many : length lefts ≡ length stations) where
-      afters_many : length afters ≡ length stations
-      afters_many =
-          let e = ap length are.stations_are ∙ length-map are.all (λ (one : Station core × J × Ended). one.0) in
-          let f = ap length are.jobs_are ∙ length-map are.all (λ (one : Station core × J × Ended). one.1) in omega (arith, e, f, many)
-
-      ends_many : length (map (λ (one : Station core × J × Ended). one.2) are.all) ≡ length stations
-      ends_many =
-          let e = ap length are.stations_are ∙ length-map are.all (λ (one : Station core × J × Ended). one.0) in
-          let f = length-map are.all (λ (one : Station core × J × Ended). one.2) in omega (arith, e, f, many)
-
-  -- where nothing is told, all are done
-  pub all_done : (lefts : List (Station core)) (afters : List J) → length jobs ≡ length stations → (length lefts ≡ length stations) × AreLeft AsksFor Makes Holds Finished core options stations jobs None lefts afters → AreDone AsksFor Makes Holds Finished core options stations jobs lefts afters
-  all_done lefts afters each so = record {
-    many = so.0;
-    jobs_many = each;
-    afters_many = afters_many None lefts afters so.1 so.0;
-    each = λ k from left job after place own here there.
-        let one = one_left None lefts afters so.1 k from left job after place own here there in
-        one.2.done (so.1.told one.0 (in_get (map (λ (one : Station core × J × Ended). one.2) so.1.all) k one.0 one.1));
+  -- one more, before the others
+  pub left_on : (k : ℕ) (ends : List Ended) (lefts more : List (Station core)) (afters others : List J) (left : Station core × J × Ended) → HasLeft AsksFor Makes Holds Finished core options stations jobs k left → more ≡ left.0 ∷ lefts → others ≡ left.1 ∷ afters
+      → AreLeft AsksFor Makes Holds Finished core options stations jobs (suc k) ends lefts afters → AreLeft AsksFor Makes Holds Finished core options stations jobs k (left.2 ∷ ends) more others
+  left_on k ends lefts more afters others left has grown and so = record {
+    all = left ∷ so.all;
+    each = cons_each k left so.all has so.each;
+    stations_are = grown ∙ ap (λ (ss : List (Station core)). left.0 ∷ ss) so.stations_are;
+    jobs_are = and ∙ ap (λ (js : List J). left.1 ∷ js) so.jobs_are;
+    ends_are = ap (λ (es : List Ended). left.2 ∷ es) so.ends_are;
   }
 
-  pub not_done : (fault : RunFault) (lefts : List (Station core)) (afters : List J) → length jobs ≡ length stations → (length lefts ≡ length stations) × AreLeft AsksFor Makes Holds Finished core options stations jobs (Some fault) lefts afters
-      → AreNotDone AsksFor Makes Holds Finished core options stations jobs fault lefts afters
-  not_done fault lefts afters each so = record {
-    ends = map (λ (one : Station core × J × Ended). one.2) so.1.all;
-    told = so.1.told;
-    many = so.0;
-    jobs_many = each;
-    afters_many = afters_many (Some fault) lefts afters so.1 so.0;
-    ends_many = ends_many (Some fault) lefts afters so.1 so.0;
+  did_nothing : (s : Station core) (j : J) → IsLeft AsksFor Makes Holds Finished core options s j (s, j, GateShut)
+  did_nothing s j = record { works = refl; done = λ e. absurd (shut_is_done e); reached = λ e. absurd (shut_is_not_yet e); shut = λ e. refl }
+
+  -- with no thread nothing is done
+  pub unstarted : (k : ℕ) (ss : List (Station core)) (js : List J) → length js ≡ length ss → Fit stations jobs k ss js → (ends : List Ended) × AreLeft AsksFor Makes Holds Finished core options stations jobs k ends ss js
+  unstarted k [] [] same fit = ([], none_left k)
+  unstarted k [] (j ∷ js) same fit = absurd (omega (arith, same))
+  unstarted k (s ∷ ss) [] same fit = absurd (omega (arith, same))
+  unstarted k (s ∷ ss) (j ∷ js) same fit =
+      let first = first_fit stations jobs k s ss (s ∷ ss) j js (j ∷ js) refl refl fit in
+      let rest = unstarted (suc k) ss js (omega (arith, same)) first.2 in (
+        GateShut ∷ rest.0,
+        left_on k rest.0 ss (s ∷ ss) js (j ∷ js) (s, j, GateShut) (record { from = s; job = j; place = first.0; own = first.1; is_left = did_nothing s j }) refl refl rest.1,
+      )
+
+  -- before any thread is started
+  pub none_under_way : (lefts : List (Station core)) (afters : List J) → length afters ≡ length stations → lefts ≡ stations → afters ≡ jobs → IsUnderWay AsksFor Makes Holds Finished core options stations jobs [] lefts afters
+  none_under_way lefts afters same here there =
+      let fit = all_fit stations jobs in
+      let all = unstarted 0 lefts afters (omega (arith, same, ap length here)) (subst (λ (ss : List (Station core)). Fit stations jobs 0 ss afters) (sym here) (subst (λ (js : List J). Fit stations jobs 0 stations js) (sym there) fit)) in
+      record { many = (let e = ap length here in omega (arith, e)); posted = none_each 0 [] refl; ends = all.0; left = all.1 }
+
+  -- where no more threads are started
+  pub under_way : (workers : List (WorkAt (Station core) J)) (ss : List (Station core)) (js : List J) → length workers + length ss ≡ length stations → length js ≡ length ss → ArePosted options stations jobs workers
+      → Fit stations jobs (length workers) ss js → IsUnderWay AsksFor Makes Holds Finished core options stations jobs workers ss js
+  under_way workers ss js many same posted fit =
+      let all = unstarted (length workers) ss js same fit in
+      record { many = many; posted = posted; ends = all.0; left = all.1 }
+
+  -- and one ran without a thread
+  pub refused : (workers : List (WorkAt (Station core) J)) (s : Station core) (ss all more : List (Station core)) (j : J) (js these others : List J) (left : Station core × J × Ended)
+      → length workers + length all ≡ length stations → length these ≡ length all → ArePosted options stations jobs workers → Fit stations jobs (length workers) all these
+      → all ≡ s ∷ ss → these ≡ j ∷ js → more ≡ left.0 ∷ ss → others ≡ left.1 ∷ js → IsLeft AsksFor Makes Holds Finished core options s j left → IsUnderWay AsksFor Makes Holds Finished core options stations jobs workers more others
+  refused workers s ss all more j js these others left many same posted fit is are grown and has =
+      let k = length workers in
+      let first = first_fit stations jobs k s ss all j js these is are fit in
+      let one = ap length is in
+      let other = ap length are in
+      let back = ap length grown in
+      let rest = unstarted (suc k) ss js (omega (arith, same, one, other)) first.2 in
+      record {
+        many = omega (arith, many, one, back);
+        posted = posted;
+        ends = left.2 ∷ rest.0;
+        left = left_on k rest.0 ss more js others left (record { from = s; job = j; place = first.0; own = first.1; is_left = has }) grown and rest.1;
+      }
+
+  -- one is joined, the last
+  unfoldable pub joined : (worker : WorkAt (Station core) J) (workers old : List (WorkAt (Station core) J)) (lefts more : List (Station core)) (afters others : List J) (left : Station core × J × Ended)
+      → old ≡ workers ++ worker ∷ [] → IsLeft AsksFor Makes Holds Finished core worker.options worker.at.value worker.job.value left → more ≡ left.0 ∷ lefts → others ≡ left.1 ∷ afters
+      → IsUnderWay AsksFor Makes Holds Finished core options stations jobs old lefts afters → IsUnderWay AsksFor Makes Holds Finished core options stations jobs workers more others
+  joined worker workers old lefts more afters others left is kept grown and was =
+      let both = last_each 0 worker workers old is was.posted in
+      let posted = subst (λ (i : ℕ). IsPosted options stations jobs i worker) (let e : 0 + length workers ≡ length workers = omega arith in e) both.1 in
+      let pushed = length_push workers worker in
+      let fewer = ap length is in
+      let back = ap length grown in
+      let many = was.many in
+      record {
+        many = omega (arith, many, pushed, fewer, back);
+        posted = both.0;
+        ends = left.2 ∷ was.ends;
+        left =
+            left_on (length workers) was.ends lefts more afters others left
+            (record {
+              from = worker.at.value;
+              job = worker.job.value;
+              place = posted.place;
+              own = posted.own;
+              is_left = subst (λ (o : RunOptions). IsLeft AsksFor Makes Holds Finished core o worker.at.value worker.job.value left) posted.as_told kept;
+            })
+            grown and
+            (subst (λ (k : ℕ). AreLeft AsksFor Makes Holds Finished core options stations jobs k was.ends lefts afters) (let e : length old ≡ suc (length workers) = omega (arith, pushed, fewer) in e) was.left);
+      }
+
+  no_ends : (all : List (Station core × J × Ended)) (lefts : List (Station core)) (ends : List Ended) → lefts ≡ [] → lefts ≡ map (λ (one : Station core × J × Ended). one.0) all → ends ≡ map (λ (one : Station core × J × Ended). one.2) all → Tells None ends
+  no_ends [] lefts ends none are is = λ e here. absurd (subst (λ (es : List Ended). IsIn e es) is here)
+  no_ends (x ∷ all) lefts ends none are is = absurd (let e = ap length (sym none ∙ are) in omega (arith, e))
+
+  -- none has ended where none is back
+  pub none_ended : (workers : List (WorkAt (Station core) J)) (lefts : List (Station core)) (afters : List J) (was : IsUnderWay AsksFor Makes Holds Finished core options stations jobs workers lefts afters) → lefts ≡ [] → Tells None was.ends
+  none_ended workers lefts afters was none = no_ends was.left.all lefts was.ends none was.left.stations_are was.left.ends_are
+
+  -- at the end all are back
+  module _ (lefts : List (Station core)) (afters : List J) (each : length jobs ≡ length stations) (now : IsUnderWay AsksFor Makes Holds Finished core options stations jobs [] lefts afters) where
+    is_left_at : (k : ℕ) (from left : Station core) (job after : J) (end : Ended) → slice_get stations k ≡ Some from → slice_get jobs k ≡ Some job → slice_get lefts k ≡ Some left → slice_get afters k ≡ Some after → slice_get now.ends k ≡ Some end
+        → IsLeft AsksFor Makes Holds Finished core options from job (left, after, end)
+    is_left_at k from left job after end place own here there last =
+        let are = now.left in
+        let w = was_at (λ (one : Station core × J × Ended). one.0) are.all k left (ap (λ (l : List (Station core)). slice_get l k) (sym are.stations_are) ∙ here) in
+        let is_after : w.0.1 ≡ after = same_Some w.0.1 after (sym (is_at (λ (one : Station core × J × Ended). one.1) are.all k w.0 w.1) ∙ ap (λ (l : List J). slice_get l k) (sym are.jobs_are) ∙ there) in
+        let is_end : w.0.2 ≡ end = same_Some w.0.2 end (sym (is_at (λ (one : Station core × J × Ended). one.2) are.all k w.0 w.1) ∙ ap (λ (l : List Ended). slice_get l k) (sym are.ends_are) ∙ last) in
+        let has : HasLeft AsksFor Makes Holds Finished core options stations jobs k w.0 = each_at k are.all w.0 w.1 are.each in
+        let is_from : has.from ≡ from = same_Some has.from from (sym has.place ∙ place) in
+        let is_job : has.job ≡ job = same_Some has.job job (sym has.own ∙ own) in
+        subst (λ (z : Station core). IsLeft AsksFor Makes Holds Finished core options z job (left, after, end)) is_from
+        (subst (λ (z : J). IsLeft AsksFor Makes Holds Finished core options has.from z (left, after, end)) is_job
+        (subst (λ (z : Ended). IsLeft AsksFor Makes Holds Finished core options has.from has.job (left, after, z)) is_end
+        (subst (λ (z : J). IsLeft AsksFor Makes Holds Finished core options has.from has.job (left, z, w.0.2)) is_after
+        (subst (λ (z : Station core). IsLeft AsksFor Makes Holds Finished core options has.from has.job (z, w.0.1, w.0.2)) w.2 has.is_left))))
+
+    pub all_back : AreBack AsksFor Makes Holds Finished core options stations jobs now.ends lefts afters
+    all_back =
+        let are = now.left in
+        let many = now.many in
+        let s = ap length are.stations_are ∙ length-map are.all (λ (one : Station core × J × Ended). one.0) in
+        let j = ap length are.jobs_are ∙ length-map are.all (λ (one : Station core × J × Ended). one.1) in
+        let e = ap length are.ends_are ∙ length-map are.all (λ (one : Station core × J × Ended). one.2) in
+        record {
+          many = omega (arith, many);
+          jobs_many = each;
+          afters_many = omega (arith, many, s, j);
+          ends_many = omega (arith, many, s, e);
+          each = is_left_at;
+        }
+
+    -- where nothing is told, all are done
+    pub all_done : Tells None now.ends → AreDone AsksFor Makes Holds Finished core options stations jobs lefts afters
+    all_done told = record {
+      many = all_back.many;
+      jobs_many = each;
+      afters_many = all_back.afters_many;
+      each = λ k from left job after place own here there.
+          let low = slice_get_within lefts k left here in
+          let many = all_back.many in
+          let ends_many = all_back.ends_many in
+          let end = found_at now.ends k (omega (arith, low, many, ends_many)) in
+          (is_left_at k from left job after end.0 place own here there end.1).done (told end.0 (in_get now.ends k end.0 end.1));
+    }
+
+  -- all that are done are back
+  pub done_back : (lefts : List (Station core)) (afters : List J) → AreDone AsksFor Makes Holds Finished core options stations jobs lefts afters → AreBack AsksFor Makes Holds Finished core options stations jobs (map (λ (s : Station core). Done) lefts) lefts afters
+  done_back lefts afters done = record {
+    many = done.many;
+    jobs_many = done.jobs_many;
+    afters_many = done.afters_many;
+    ends_many = length-map lefts (λ (s : Station core). Done) ∙ done.many;
     each = λ k from left job after end place own here there last.
-        let one = one_left (Some fault) lefts afters so.1 k from left job after place own here there in
-        let same : one.0 ≡ end = same_Some one.0 end (sym one.1 ∙ last) in
-        subst (λ (e : Ended). IsLeft AsksFor Makes Holds Finished core options from job (left, after, e)) same one.2;
+        let one = was_at (λ (s : Station core). Done) lefts k end last in
+        let is = done.each k from left job after place own here there in
+        subst (λ (z : Ended). IsLeft AsksFor Makes Holds Finished core options from job (left, after, z)) one.2
+        (record { works = is.works; done = λ e. is; reached = λ e. absurd (done_is_not_yet e); shut = λ e. absurd (shut_is_done (sym e)) });
   }
 
   module _ (o : Opening H) (lefts : List (Station core)) (afters : List J) (rests : AreEach (IsAtRest core o) 0 stations) (done : AreDone AsksFor Makes Holds Finished core options stations jobs lefts afters) where

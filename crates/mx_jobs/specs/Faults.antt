@@ -19,12 +19,11 @@ abbrev pub NoneBroken : List Ended → Type 0
 NoneBroken ends = (e : Ended) → IsIn e ends → IsBroken e → ⊥
 
 -- What is told of workers that ended so: nothing only if all are done, and turns spent only if a
--- worker made all its turns, no job broke the run off, and the gate was shut for nobody. Want of
--- memory may always be told.
+-- worker made all its turns, no job broke the run off, and the gate was shut for nobody.
 abbrev pub Tells : Option RunFault → List Ended → Type 0
 Tells None ends = (e : Ended) → IsIn e ends → e ≡ Done
 Tells (Some fault.NotAJobEach) ends = ⊥
-Tells (Some fault.Memory) ends = Unit {0}
+Tells (Some fault.Memory) ends = ⊥
 Tells (Some fault.NoThread) ends = ⊥
 Tells (Some (fault.Job why)) ends = IsIn (Broken why) ends ⊎ IsIn (Stopped why) ends
 Tells (Some fault.GateShut) ends = IsIn GateShut ends × NoneBroken ends

@@ -1,5 +1,5 @@
 -- A run of jobs in threads: what workers promise and leave, and what all have together.
-use Rattle.std.specs.Prelude.{◌≡◌, ◌<◌, ◌≤◌, ◌+◌, ◌==◌, ℕ, Bool, List, [], ◌∷◌, Option, filter, length, map, slice_get, Some}
+use Rattle.std.specs.Prelude.{◌≡◌, ◌<◌, ◌≤◌, ◌+◌, ◌==◌, ℕ, Bool, List, [], ◌∷◌, filter, length, map, slice_get, Some}
 use Rattle.atomic_table.specs.Seated.{TableId}
 use Rattle.mx_stamps.specs.Lists.{IsIn}
 use Rattle.mx_stamps.specs.declared.limits.TheConstants.{MOST_REGISTERS}
@@ -19,13 +19,11 @@ use Rattle.mx_jobs.specs.declared.worker.Ended.TheVariants.{Done, GateShut, NotY
 use Rattle.mx_jobs.specs.declared.worker.RunOptions.{RunOptions}
 use Rattle.mx_jobs.specs.declared.faults.RunFault.{RunFault}
 use Rattle.mx_jobs.specs.Faults.{Tells}
+use Rattle.mx_jobs.specs.declared.threads.WorkAt.{WorkAt}
+use Rattle.mx_jobs.specs.Posted.{AreEach, ArePosted}
 use Rattle.mx_jobs.specs.Rounds.{Works, WorksAtMost}
 use Rattle.mx_jobs.specs.Sections.{Advances, Reaches, Runs}
 use Rattle.mx_jobs.specs.Serial.{AreSerial}
-
--- each of these is so at its place, where places are counted from this one on
-pub record AreEach {X : Type 0} (IsSo : ℕ → X → Type 0) (from : ℕ) (xs : List X) : Type 0 where
-  pub each : (k : ℕ) (x : X) → slice_get xs k ≡ Some x → IsSo (from + k) x
 
 -- how the stations of a run begin
 pub record Opening (H : Type 0) : Type 0 where
@@ -58,19 +56,6 @@ module _ {H S M : Type 0} (core : Core H S M) (o : Opening H) where
     pub here : s.table ≡ o.table
     pub nodes : s.nodes ≡ core.count o.shape
     pub me : s.me ≡ fresh k (start_of core o.shape k o.origin o.limit o.registers)
-
-module _ {X J : Type 0} (stations : List X) (jobs : List J) where
-  -- the stations and the jobs from the k-th on
-  pub record Fit (k : ℕ) (others : List X) (js : List J) : Type 0 where
-    pub places : AreEach (λ i s. slice_get stations i ≡ Some s) k others
-    pub own : AreEach (λ i job. slice_get jobs i ≡ Some job) k js
-
-module _ {X J : Type 0} (options : RunOptions) (stations : List X) (jobs : List J) where
-  -- the k-th of the stations and of the jobs, for a worker with these options
-  pub record IsPosted (k : ℕ) (at : X) (job : J) (told : RunOptions) : Type 0 where
-    pub place : slice_get stations k ≡ Some at
-    pub own : slice_get jobs k ≡ Some job
-    pub as_told : told ≡ options
 
 -- the receipts of this node, in order
 abbrev pub own_of : ℕ → List Receipt → List Receipt
@@ -125,14 +110,23 @@ module _ {J : Type 0} (AsksFor : J → List ℕ → Type 0)
         pub own : slice_get jobs k ≡ Some job
         pub is_left : IsLeft from job left
 
-      -- what workers left, one after another, and what is told of it
-      pub record AreLeft (fault : Option RunFault) (lefts : List (Station core)) (afters : List J)
-          : Type 0 where
+      -- what the workers from the k-th on left, one after another, and how each ended
+      pub record AreLeft (k : ℕ) (ends : List Ended) (lefts : List (Station core))
+          (afters : List J) : Type 0 where
         pub all : List (Station core × J × Ended)
-        pub each : AreEach HasLeft 0 all
+        pub each : AreEach HasLeft k all
         pub stations_are : lefts ≡ map (λ (one : Station core × J × Ended). one.0) all
         pub jobs_are : afters ≡ map (λ (one : Station core × J × Ended). one.1) all
-        pub told : Tells fault (map (λ (one : Station core × J × Ended). one.2) all)
+        pub ends_are : ends ≡ map (λ (one : Station core × J × Ended). one.2) all
+
+      -- A run that is under way: workers at the first stations, and what came back of the others.
+      -- With no thread, nothing was done.
+      pub record IsUnderWay (workers : List (WorkAt (Station core) J))
+          (lefts : List (Station core)) (afters : List J) : Type 0 where
+        pub many : length workers + length lefts ≡ length stations
+        pub posted : ArePosted options stations jobs workers
+        pub ends : List Ended
+        pub left : AreLeft (length workers) ends lefts afters
 
       -- All workers are done. For each k, rounds led from the k-th station handed in to the k-th
       -- that comes back, and sections of the k-th job to the k-th job that comes back.
@@ -145,12 +139,11 @@ module _ {J : Type 0} (AsksFor : J → List ℕ → Type 0)
             → slice_get lefts k ≡ Some left → slice_get afters k ≡ Some after
             → IsDone from job left after
 
-      -- The same of workers of which some are not done, with how each ended, of which this fault is
-      -- told.
-      pub record AreNotDone (fault : RunFault) (lefts : List (Station core)) (afters : List J)
+      -- What comes back of any run. For each k, a worker that ended so led from the k-th station and
+      -- job handed in to the k-th that come back. One at which the gate was shut, and a station that
+      -- got no thread, did nothing.
+      pub record AreBack (ends : List Ended) (lefts : List (Station core)) (afters : List J)
           : Type 0 where
-        pub ends : List Ended
-        pub told : Tells (Some fault) ends
         pub many : length lefts ≡ length stations
         pub jobs_many : length jobs ≡ length stations
         pub afters_many : length afters ≡ length stations
@@ -159,3 +152,10 @@ module _ {J : Type 0} (AsksFor : J → List ℕ → Type 0)
             → slice_get stations k ≡ Some from → slice_get jobs k ≡ Some job
             → slice_get lefts k ≡ Some left → slice_get afters k ≡ Some after
             → slice_get ends k ≡ Some end → IsLeft from job (left, after, end)
+
+      -- the same of workers of which some are not done, of which this fault is told
+      pub record AreNotDone (fault : RunFault) (lefts : List (Station core)) (afters : List J)
+          : Type 0 where
+        pub ends : List Ended
+        pub told : Tells (Some fault) ends
+        pub back : AreBack ends lefts afters

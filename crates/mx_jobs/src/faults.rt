@@ -2,7 +2,9 @@
 
 ghost use Rattle.std.specs.Prelude.{◌≡◌, ◌≢◌, Some};
 ghost use Rattle.mx_jobs.specs.declared.tries.JobFault.{JobFault as TheFault};
+ghost use Rattle.mx_jobs.specs.Faults.{IfOfEnds};
 
+use crate::thread_group::StartFault;
 use crate::tries::JobFault;
 use crate::worker::Ended;
 use mx_nodelaws::Exclusion;
@@ -32,6 +34,16 @@ pub enum RunFault {
     TurnsSpent,
 }
 
+/// The fault of a run of which a thread was not started.
+pub(crate) fn fault_of(refused: StartFault) -> RunFault
+    ensures { IfOfEnds result ⊥ }
+{
+    match refused {
+        StartFault::Memory => RunFault::Memory,
+        StartFault::NoThread => RunFault::NoThread,
+    }
+}
+
 /// What is left of a run that came to no end: the k-th job is that of the k-th station's node.
 #[derive(Drop)]
 pub struct Unfinished<C: Exclusion, J: Drop> {
@@ -42,23 +54,21 @@ pub struct Unfinished<C: Exclusion, J: Drop> {
 
 /// The fault to report after one more worker has ended: the first in the order of `RunFault`.
 pub(crate) fn with_end(fault: Option<RunFault>, ended: Ended) -> Option<RunFault>
-    ensures memory { fault ≡ Some RunFault.Memory → result ≡ fault }
     ensures job { (why : TheFault) → fault ≡ Some (RunFault.Job why) → result ≡ fault }
     ensures done { ended ≡ Ended.Done → result ≡ fault }
-    ensures broken { (why : TheFault) → ended ≡ Ended.Broken why → fault ≢ Some RunFault.Memory
+    ensures broken { (why : TheFault) → ended ≡ Ended.Broken why
         → ((w : TheFault) → fault ≢ Some (RunFault.Job w)) → result ≡ Some (RunFault.Job why) }
-    ensures stopped { (why : TheFault) → ended ≡ Ended.Stopped why → fault ≢ Some RunFault.Memory
+    ensures stopped { (why : TheFault) → ended ≡ Ended.Stopped why
         → ((w : TheFault) → fault ≢ Some (RunFault.Job w)) → result ≡ Some (RunFault.Job why) }
-    ensures shut { ended ≡ Ended.GateShut → fault ≢ Some RunFault.Memory
+    ensures shut { ended ≡ Ended.GateShut
         → ((w : TheFault) → fault ≢ Some (RunFault.Job w)) → result ≡ Some RunFault.GateShut }
     ensures still_shut { ended ≡ Ended.NotYet → fault ≡ Some RunFault.GateShut → result ≡ fault }
-    ensures spent { ended ≡ Ended.NotYet → fault ≢ Some RunFault.Memory
-        → ((w : TheFault) → fault ≢ Some (RunFault.Job w))
+    ensures spent { ended ≡ Ended.NotYet → ((w : TheFault) → fault ≢ Some (RunFault.Job w))
         → fault ≢ Some RunFault.GateShut → result ≡ Some RunFault.TurnsSpent }
 {
     match (ended, fault) {
         (Ended::Done, _) => fault,
-        (_, Some(RunFault::Memory | RunFault::Job(_))) => fault,
+        (_, Some(RunFault::Job(_))) => fault,
         (Ended::Broken(why), _) => Some(RunFault::Job(why)),
         (Ended::Stopped(why), _) => Some(RunFault::Job(why)),
         (Ended::GateShut, _) => Some(RunFault::GateShut),

@@ -1,7 +1,6 @@
 //! Jobs: what the nodes of a cluster do in sections of their own, each in a thread.
 #![tactic(auto)]
 
-mod assembly;
 mod calls;
 mod ends;
 mod faults;
@@ -9,6 +8,8 @@ mod job;
 mod registers;
 mod runs;
 mod settings;
+mod start_gate;
+mod thread_group;
 mod threads;
 mod tries;
 mod worker;
@@ -19,5 +20,7 @@ pub use job::Job;
 pub use registers::contents;
 pub use runs::{Finished, Ran, fair_links, run, run_stations};
 pub use settings::{Settings, stations};
+pub use start_gate::StartGate;
+pub use thread_group::{NotStarted, StartFault, ThreadGroup};
 pub use tries::JobFault;
 pub use worker::{Ended, Gate, RunOptions, work};

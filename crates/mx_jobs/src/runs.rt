@@ -5,22 +5,23 @@ ghost use Rattle.mx_member.specs.Member.{MemberState};
 ghost use Rattle.mx_member.specs.declared.parcel.Parcel.{Parcel};
 ghost use Rattle.mx_stations.specs.Gathered.{OfOneTable};
 ghost use Rattle.mx_stations.specs.Posts.{Post};
+ghost use Rattle.mx_jobs.specs.declared.worker.Ended.{Ended as TheEnd};
 ghost use Rattle.mx_jobs.specs.declared.worker.RunOptions.{RunOptions as TheOptions};
 ghost use Rattle.mx_jobs.specs.Faults.{IfOfEnds};
 ghost use Rattle.mx_jobs.specs.Laws.{contents_of};
-ghost use Rattle.mx_jobs.specs.Runs.{AreDone, AreEach, AreNew, AreNotDone, HaveRun, IsAtRest, Opening, registers_at};
+ghost use Rattle.mx_jobs.specs.Posted.{AreEach};
+ghost use Rattle.mx_jobs.specs.Runs.{AreBack, AreDone, AreNew, AreNotDone, HaveRun, IsAtRest, Opening, registers_at};
 
-use crate::assembly::Assembly;
 use crate::ends::join_all;
 use crate::faults::{RunFault, Unfinished};
 use crate::job::Job;
-use crate::threads::{Worker, all_taken, start_each};
+use crate::thread_group::ThreadGroup;
+use crate::threads::start_each;
 use crate::worker::RunOptions;
 use mx_letters::{Fair, Fates};
 use mx_nodelaws::Exclusion;
 use mx_stations::{Gathered, Station, gather};
 use std::alloc::{AllocError, Global};
-use std::sync::Arc;
 use std::thread::Threads;
 
 /// What a run came to: the receipts of all sections, in order, their journal, and what the jobs
@@ -46,7 +47,7 @@ pub struct Ran<C: Exclusion, J: Drop> {
 ///
 /// # Errors
 ///
-/// `RunFault` says why the run came to no end. The stations and the jobs come back.
+/// `RunFault` says why the run came to no end. The stations and the jobs come back, in order.
 pub fn run<
     C: Exclusion + Send + 'static,
     J: Job + Send + 'static,
@@ -74,6 +75,10 @@ where
     ensures told { IfErr result (λ back. IfOfEnds back.fault
         (AreNotDone J.asks_for J.makes J.holds J.finished C.core options
         stations.items jobs.items back.fault back.stations.items back.jobs.items)) }
+    ensures back { length jobs.items ≡ length stations.items
+        → IfErr result (λ back. (ends : List TheEnd)
+        × AreBack J.asks_for J.makes J.holds J.finished C.core options
+        stations.items jobs.items ends back.stations.items back.jobs.items) }
     ensures not_each { length jobs.items ≢ length stations.items
         → IsErrAnd result (λ back. (back.fault ≡ RunFault.NotAJobEach)
         × (back.stations ≡ stations) × (back.jobs ≡ jobs)) }
@@ -89,7 +94,7 @@ where
 ///
 /// # Errors
 ///
-/// `RunFault` says why the run came to no end. The stations and the jobs come back.
+/// `RunFault` says why the run came to no end. The stations and the jobs come back, in order.
 pub fn run_stations<
     C: Exclusion + Send + 'static,
     J: Job + Send + 'static,
@@ -112,6 +117,10 @@ where
     ensures told { IfErr result (λ back. IfOfEnds back.fault
         (AreNotDone J.asks_for J.makes J.holds J.finished C.core options
         stations.items jobs.items back.fault back.stations.items back.jobs.items)) }
+    ensures back { length jobs.items ≡ length stations.items
+        → IfErr result (λ back. (ends : List TheEnd)
+        × AreBack J.asks_for J.makes J.holds J.finished C.core options
+        stations.items jobs.items ends back.stations.items back.jobs.items) }
     ensures not_each { length jobs.items ≢ length stations.items
         → IsErrAnd result (λ back. (back.fault ≡ RunFault.NotAJobEach)
         × (back.stations ≡ stations) × (back.jobs ≡ jobs)) }
@@ -159,45 +168,30 @@ fn run_all<
 where
     C::Msg: Send + 'static,
     C::Shape: Send + 'static,
-    requires { (j : J) → J.ready j }
-    ensures ok { length jobs.old.items ≡ length stations.old.items
-        → OnOk result (AreDone J.asks_for J.makes J.holds J.finished C.core options
+    requires ready { (j : J) → J.ready j }
+    requires each { length jobs.old.items ≡ length stations.old.items }
+    ensures ok { OnOk result (AreDone J.asks_for J.makes J.holds J.finished C.core options
         stations.old.items jobs.old.items stations.new.items jobs.new.items) }
-    ensures err { length jobs.old.items ≡ length stations.old.items
-        → IfErr result (λ fault. IfOfEnds fault
+    ensures err { IfErr result (λ fault. IfOfEnds fault
         (AreNotDone J.asks_for J.makes J.holds J.finished C.core options
         stations.old.items jobs.old.items fault stations.new.items jobs.new.items)) }
+    ensures back { (ends : List TheEnd)
+        × AreBack J.asks_for J.makes J.holds J.finished C.core options
+        stations.old.items jobs.old.items ends stations.new.items jobs.new.items }
 {
-    let Ok(gate) = Arc::new(alloc, Assembly::new(count_of(stations.as_slice()))) else {
+    let Ok(mut workers) = ThreadGroup::new(alloc, count_of(stations.as_slice())) else {
         return Err(RunFault::Memory);
     };
-    let mut workers = Vec::new(alloc);
-    match start_each(rt, &mut workers, stations, jobs, &mut fates, &gate, options) {
+    let started = start_each(rt, &mut workers, stations, jobs, &mut fates, options);
+    let ended = join_all(rt, workers, stations, jobs);
+    match started {
         Ok(()) => {}
-        Err(fault) => return Err(give_up(rt, workers, stations, jobs, &*gate, fault)),
+        Err(fault) => return Err(fault),
     }
-    match all_taken(jobs) {
-        Ok(()) => {}
-        Err(fault) => return Err(give_up(rt, workers, stations, jobs, &*gate, fault)),
+    match ended {
+        None => Ok(()),
+        Some(fault) => Err(fault),
     }
-    join_all(rt, workers, stations, jobs)
-}
-
-/// Joins the threads that were started, where others could not be: the gate lets none of them
-/// begin.
-fn give_up<C: Exclusion, J: Job, R: Threads>(
-    rt: &R,
-    workers: Vec<Worker<C, J>>,
-    stations: &mut Vec<Station<C>>,
-    jobs: &mut Vec<J>,
-    gate: &Assembly,
-    fault: RunFault,
-) -> RunFault
-    ensures { result ≡ fault }
-{
-    gate.shut();
-    let _ = join_all(rt, workers, stations, jobs);
-    fault
 }
 
 /// How many nodes there are, 1 where there is no station.
@@ -224,7 +218,8 @@ fn finish<C: Exclusion, J: Job>(
         stations.items jobs.items
         → IfOk result (λ out. HaveRun J.asks_for J.makes J.holds J.finished o.registers all
         out.gathered.receipts.items out.gathered.journal out.jobs.items) }
-    ensures err { IfErr result (λ back. back.fault ≡ RunFault.Memory) }
+    ensures err { IfErr result (λ back. (back.fault ≡ RunFault.Memory)
+        × (back.stations.items ≡ stations.items) × (back.jobs ≡ jobs)) }
 {
     match gather(alloc, stations) {
         Ok(gathered) => Ok(Finished { gathered, jobs }),

@@ -1,27 +1,20 @@
 //! The threads of a run, one for each station and its job.
 
-ghost use Rattle.std.specs.Prelude.{◌≡◌, ◌+◌, ◌++◌, ◌∷◌, [], List, suc, length, IfErr, IfNone, IfOk, IfSome, OnOk};
-ghost use Rattle.mx_member.specs.Member.{MemberState};
-ghost use Rattle.mx_member.specs.declared.parcel.Parcel.{Parcel};
-ghost use Rattle.mx_stations.specs.Posts.{Post};
+ghost use Rattle.std.specs.Prelude.{◌≡◌, ◌<◌, ◌≤◌, ◌∷◌, [], length, vec_capacity, IfErr, IfNone, IfSome, OnErr, OnOk};
 ghost use Rattle.mx_jobs.specs.Faults.{IfOfEnds};
-ghost use Rattle.mx_jobs.specs.Runs.{AreEach, Fit, IsLeft, IsPosted};
+ghost use Rattle.mx_jobs.specs.Posted.{AddsWorker, HaveRoom};
+ghost use Rattle.mx_jobs.specs.Runs.{IsLeft, IsUnderWay};
 
-use crate::assembly::Assembly;
-use crate::faults::RunFault;
+use crate::faults::{RunFault, fault_of};
 use crate::job::Job;
+use crate::start_gate::StartGate;
+use crate::thread_group::{NotStarted, ThreadGroup};
 use crate::worker::{Ended, RunOptions, work};
 use mx_letters::Fates;
 use mx_nodelaws::Exclusion;
 use mx_stations::Station;
-use std::alloc::{AllocError, Global};
 use std::snapshot::Snapshot;
-use std::sync::Arc;
-use std::thread;
-use std::thread::{Promise, PromisedHandle, Threads};
-
-/// What comes back if no thread is started, and why.
-type Back<C, J> = (Station<C>, J, RunFault);
+use std::thread::{Promise, Threads};
 
 /// What a worker leaves.
 pub(crate) type Left<C, J> = (Station<C>, J, Ended);
@@ -42,100 +35,26 @@ impl<C: Exclusion, J: Job> Promise<Left<C, J>> for WorkAt<Station<C>, J> {
         p.options p.at.value p.job.value left };
 }
 
-/// A thread that works at a station.
-pub(crate) type Worker<C, J> = PromisedHandle<Left<C, J>, WorkAt<Station<C>, J>>;
+/// The threads of a run.
+pub(crate) type Workers<C, J> = ThreadGroup<Left<C, J>, WorkAt<Station<C>, J>>;
 
-/// Does the work at a station.
+/// Does the work at a station, and breaks the run off if the job cannot go on.
 fn do_work<C: Exclusion, J: Job, F: Fates + Drop>(
     mut station: Station<C>,
     mut job: J,
     mut fates: F,
-    gate: &Assembly,
+    gate: &StartGate,
     options: RunOptions,
 ) -> Left<C, J>
     requires { (j : J) → J.ready j }
     ensures { IsLeft J.asks_for J.makes J.holds J.finished C.core options station job result }
 {
     let ended = work(&mut station, &mut job, gate, &mut fates, options);
-    gate.note_end(ended);
+    gate.heed(ended);
     (station, job, ended)
 }
 
-/// Starts a thread for a station. If it cannot be started, the gate is shut, and station and job
-/// come back.
-fn start<
-    C: Exclusion + Send + 'static,
-    J: Job + Send + 'static,
-    F: Fates + Send + Drop + 'static,
-    R: Threads,
->(
-    rt: &R,
-    station: Station<C>,
-    job: J,
-    fates: F,
-    gate: &Assembly,
-    share: Arc<Assembly, Global>,
-    options: RunOptions,
-) -> Result<Worker<C, J>, Left<C, J>>
-where
-    C::Msg: Send + 'static,
-    C::Shape: Send + 'static,
-    requires { (j : J) → J.ready j }
-    ensures at { IfOk result (λ worker. worker.promise.at.value ≡ station) }
-    ensures told { IfOk result (λ worker. worker.promise.job.value ≡ job) }
-    ensures options { IfOk result (λ worker. worker.promise.options ≡ options) }
-{
-    let promise = WorkAt {
-        at: Snapshot::of(&station),
-        job: Snapshot::of(&job),
-        options,
-    };
-    let started = thread::spawn_with(
-        rt,
-        promise,
-        move || -> Left<C, J>
-            requires { (j : J) → J.ready j }
-            ensures { IsLeft J.asks_for J.makes J.holds J.finished C.core
-                options station job result }
-        { do_work(station, job, fates, &*share, options) },
-    );
-    match started {
-        Ok(worker) => Ok(worker),
-        Err(refused) => {
-            gate.shut();
-            Err((refused.value)())
-        }
-    }
-}
-
-/// Takes the first out.
-fn take_first<T: Drop>(items: &mut Vec<T>) -> Option<T>
-    ensures some { IfSome result (λ item. items.old.items ≡ item ∷ items.new.items) }
-    ensures none { IfNone result (items.new.items ≡ []) }
-    ensures empty { IfNone result (items.old.items ≡ []) }
-{
-    if items.is_empty() {
-        return None;
-    }
-    Some(items.remove(0))
-}
-
-/// Puts both behind the others.
-pub(crate) fn keep<C: Exclusion, J: Job>(
-    stations: &mut Vec<Station<C>>,
-    jobs: &mut Vec<J>,
-    station: Station<C>,
-    job: J,
-) -> Result<(), AllocError>
-    ensures stations { OnOk result (stations.new.items ≡ stations.old.items ++ station ∷ []) }
-    ensures jobs { OnOk result (jobs.new.items ≡ jobs.old.items ++ job ∷ []) }
-{
-    stations.push(station)?;
-    jobs.push(job)?;
-    Ok(())
-}
-
-/// Starts a thread for a station, with a share of the gate, beside those that were started.
+/// Starts a thread for a station beside the others.
 fn start_one<
     C: Exclusion + Send + 'static,
     J: Job + Send + 'static,
@@ -143,52 +62,68 @@ fn start_one<
     R: Threads,
 >(
     rt: &R,
-    workers: &mut Vec<Worker<C, J>>,
+    workers: &mut Workers<C, J>,
     station: Station<C>,
     job: J,
     fates: F,
-    gate: &Arc<Assembly, Global>,
     options: RunOptions,
-) -> Result<(), Back<C, J>>
+) -> Result<(), NotStarted<Left<C, J>>>
 where
     C::Msg: Send + 'static,
     C::Shape: Send + 'static,
     requires { (j : J) → J.ready j }
-    ensures one { OnOk result (length workers.new.items ≡ suc (length workers.old.items)) }
-    ensures posted { (posts : List (Post (MemberState C) (Parcel C.Msg))) (all : List J)
-        → IsPosted options posts all (length workers.old.items) station job options
-        → AreEach (λ k worker. IsPosted options posts all k worker.promise.at.value
-        worker.promise.job.value worker.promise.options) 0 workers.old.items
-        → OnOk result (AreEach (λ k worker. IsPosted options posts all k worker.promise.at.value
-        worker.promise.job.value worker.promise.options) 0 workers.new.items) }
-    ensures err { IfErr result (λ back. IfOfEnds back.2 ⊥) }
+    ensures ok { OnOk result (AddsWorker options station job workers.old workers.new) }
+    ensures same { OnErr result (workers.new ≡ workers.old) }
+    ensures err { IfErr result (λ back. IsLeft J.asks_for J.makes J.holds J.finished C.core
+        options station job back.left) }
 {
-    let Ok(()) = workers.reserve(1) else {
-        return Err((station, job, RunFault::Memory));
+    let promise = WorkAt {
+        at: Snapshot::of(&station),
+        job: Snapshot::of(&job),
+        options,
     };
-    let Ok(share) = Arc::try_clone(gate) else {
-        return Err((station, job, RunFault::Memory));
-    };
-    match start(rt, station, job, fates, &**gate, share, options) {
-        Ok(worker) => {
-            workers.push_reserved(worker);
-            Ok(())
-        }
-        Err(left) => Err((left.0, left.1, RunFault::NoThread)),
-    }
+    workers.start(
+        rt,
+        promise,
+        move |gate: &StartGate| -> Left<C, J>
+            requires { (j : J) → J.ready j }
+            ensures { IsLeft J.asks_for J.makes J.holds J.finished C.core
+                options station job result }
+        { do_work(station, job, fates, gate, options) },
+    )
 }
-
-/// Takes the first of the jobs and of the fates.
-fn take_both<J: Drop, F: Drop>(jobs: &mut Vec<J>, fates: &mut Vec<F>) -> Option<(J, F)>
-    ensures { IfSome result (λ both. jobs.old.items ≡ both.0 ∷ jobs.new.items) }
+/// Takes the first of each out. None if there is none.
+fn take_next<S: Drop, J: Drop, F: Drop>(
+    stations: &mut Vec<S>,
+    jobs: &mut Vec<J>,
+    fates: &mut Vec<F>,
+) -> Option<(S, J, F)>
+    ensures station { IfSome result (λ next. stations.old.items ≡ next.0 ∷ stations.new.items) }
+    ensures job { IfSome result (λ next. jobs.old.items ≡ next.1 ∷ jobs.new.items) }
+    ensures none { IfNone result ((stations.new.items ≡ stations.old.items)
+        × (jobs.new.items ≡ jobs.old.items)) }
+    ensures room { (vec_capacity stations.new ≡ vec_capacity stations.old)
+        × (vec_capacity jobs.new ≡ vec_capacity jobs.old) }
 {
-    if jobs.is_empty() || fates.is_empty() {
+    if stations.is_empty() || jobs.is_empty() || fates.is_empty() {
         return None;
     }
-    Some((jobs.remove(0), fates.remove(0)))
+    Some((stations.remove(0), jobs.remove(0), fates.remove(0)))
 }
 
-/// Starts a thread for each station, until one cannot be started.
+/// Puts an item before the others. There is room for it.
+pub(crate) fn put_first<T: Drop>(items: &mut Vec<T>, item: T)
+    requires { length items.old.items < vec_capacity items.old }
+    ensures items { items.new.items ≡ item ∷ items.old.items }
+    ensures room { vec_capacity items.old ≤ vec_capacity items.new }
+{
+    let Ok(()) = items.insert(0, item) else {
+        unreachable!();
+    };
+}
+
+/// Starts a thread for each station, with its job and its fates, until one cannot be started. Then
+/// the gate is shut, and what has no thread stays, in order.
 pub(crate) fn start_each<
     C: Exclusion + Send + 'static,
     J: Job + Send + 'static,
@@ -196,52 +131,48 @@ pub(crate) fn start_each<
     R: Threads,
 >(
     rt: &R,
-    workers: &mut Vec<Worker<C, J>>,
+    workers: &mut Workers<C, J>,
     stations: &mut Vec<Station<C>>,
     jobs: &mut Vec<J>,
     fates: &mut Vec<F>,
-    gate: &Arc<Assembly, Global>,
     options: RunOptions,
 ) -> Result<(), RunFault>
 where
     C::Msg: Send + 'static,
     C::Shape: Send + 'static,
-    requires { (j : J) → J.ready j }
-    ensures stations { OnOk result (stations.new.items ≡ []) }
-    ensures many { OnOk result (length workers.new.items
-        ≡ length workers.old.items + length stations.old.items) }
-    ensures posted { (posts : List (Post (MemberState C) (Parcel C.Msg))) (all : List J)
-        → Fit posts all (length workers.old.items) stations.old.items jobs.old.items
-        → AreEach (λ k worker. IsPosted options posts all k worker.promise.at.value
-        worker.promise.job.value worker.promise.options) 0 workers.old.items
-        → OnOk result (AreEach (λ k worker. IsPosted options posts all k worker.promise.at.value
-        worker.promise.job.value worker.promise.options) 0 workers.new.items) }
+    requires ready { (j : J) → J.ready j }
+    requires none { workers.old ≡ [] }
+    requires each { length jobs.old.items ≡ length stations.old.items }
+    ensures started { IsUnderWay J.asks_for J.makes J.holds J.finished C.core
+        options stations.old.items jobs.old.items workers.new stations.new.items jobs.new.items }
+    ensures room { HaveRoom (length workers.new) stations.new jobs.new }
+    ensures ok { OnOk result (stations.new.items ≡ []) }
     ensures err { IfErr result (λ fault. IfOfEnds fault ⊥) }
 {
-    while let Some(station) = take_first(stations) {
-        let Some((job, own)) = take_both(jobs, fates) else {
-            let _ = stations.push(station);
-            return Err(RunFault::NotAJobEach);
-        };
-        match start_one(rt, workers, station, job, own, gate, options) {
+    while let Some((station, job, own)) = take_next(stations, jobs, fates) {
+        match start_one(rt, workers, station, job, own, options) {
             Ok(()) => {}
             Err(back) => {
-                let _ = keep(stations, jobs, back.0, back.1);
-                return Err(back.2);
+                put_first(stations, back.left.0);
+                put_first(jobs, back.left.1);
+                return Err(fault_of(back.fault));
             }
         }
     }
-    Ok(())
+    all_taken(stations, workers)
 }
 
-/// Refuses jobs that are left over.
-pub(crate) fn all_taken<J: Drop>(jobs: &Vec<J>) -> Result<(), RunFault>
-    ensures ok { OnOk result (jobs.now.items ≡ []) }
+/// Shuts the gate if stations are left.
+fn all_taken<C: Exclusion, J: Job>(
+    stations: &Vec<Station<C>>,
+    workers: &Workers<C, J>,
+) -> Result<(), RunFault>
+    ensures ok { OnOk result (stations.now.items ≡ []) }
     ensures err { IfErr result (λ fault. IfOfEnds fault ⊥) }
 {
-    if jobs.is_empty() {
-        Ok(())
-    } else {
-        Err(RunFault::NotAJobEach)
+    if stations.is_empty() {
+        return Ok(());
     }
+    workers.shut();
+    Err(RunFault::NotAJobEach)
 }

@@ -16,14 +16,9 @@ use mx_nodelaws::{EnterFault, Exclusion, Phase};
 use mx_stamps::NodeId;
 use mx_stations::{Patience, Station, TakeFault, TurnReport, settle_if_due};
 
-/// When workers begin, and when they may stop. Each call may wait for other workers.
-pub trait Gate {
-    /// Whether the worker of this node may begin. It is asked once, before the first act.
-    fn arrive(&self, node: NodeId) -> bool;
-
-    /// Whether the worker of this node, whose job is done, may stop. It is asked on each turn.
-    fn done(&self, node: NodeId) -> bool;
-
+/// When workers begin, when they may stop, and whether they have to. Each call may wait for other
+/// workers.
+pub trait Gate: mx_stations::Gate {
     /// Why all workers are to stop: the job of one cannot go on. It is asked after each turn.
     fn broken(&self) -> Option<JobFault>;
 }

@@ -1,5 +1,6 @@
 -- Lists by place.
-use Rattle.std.proofs.Common.{◌≡◌, ◌∙◌, ◌<◌, ◌++◌, ℕ, zero, suc, List, [], ◌∷◌, length, get_or, map, ap, refl, sym, append_assoc, arith}
+use Rattle.std.proofs.Common.{◌≡◌, ◌∙◌, ◌<◌, ◌++◌, ℕ, zero, suc, List, [], ◌∷◌, length, get_or, map, ap, refl, subst, sym, append_assoc, arith}
+use Rattle.std.specs.List.{AllZip}
 use Rattle.std.proofs.lemmas.List.{append-nil, map-append}
 use mathlib.Core.Option.{some, some-injective, some-ne-none}
 use lib.ListN.{get_elem?}
@@ -11,22 +12,38 @@ module _ {X : Type 0} where
   there (y ∷ l) zero x is = (omega arith, some-injective y x is)
   there (y ∷ l) (suc k) x is = let t = there l k x is in (omega (arith, t.0), t.1)
 
-  pub found : (l : List X) (k : ℕ) → k < length l → (x : X) × (get_elem? l k ≡ some x)
-  found [] k low = absurd (omega arith)
-  found (y ∷ l) zero low = (y, refl)
-  found (y ∷ l) (suc k) low = found l k (omega arith)
-
   -- and what it was made of
   pub unmapped : {Y : Type 0} (f : X → Y) (l : List X) (k : ℕ) (y : Y) → get_elem? (map f l) k ≡ some y → (x : X) × (get_elem? l k ≡ some x) × (y ≡ f x)
   unmapped f [] k y is = absurd (some-ne-none y (sym is))
   unmapped f (x ∷ l) zero y is = (x, refl, sym (some-injective (f x) y is))
   unmapped f (x ∷ l) (suc k) y is = unmapped f l k y is
 
+  pub first_and_more : {x y : X} {xs ys : List X} → x ∷ xs ≡ y ∷ ys → (x ≡ y) × (xs ≡ ys)
+  first_and_more e = (cc, cc)
+
+  pub nil_is_no_more : {x : X} {xs : List X} → [] ≡ x ∷ xs → ⊥
+  nil_is_no_more e = cc
+
+module _ {A B : Type 0} {R : A → B → Type 0} where
+  -- as many
+  pub zip_many : (xs : List A) (ys : List B) → AllZip R xs ys → length ys ≡ length xs
+  zip_many [] [] all = refl
+  zip_many [] (y ∷ ys) all = absurd all
+  zip_many (x ∷ xs) [] all = absurd all
+  zip_many (x ∷ xs) (y ∷ ys) all = ap suc (zip_many xs ys all.1)
+
+  -- and of each the other at its place
+  pub zip_at : (xs : List A) (ys : List B) → AllZip R xs ys → (k : ℕ) (y : B) → get_elem? ys k ≡ some y → (x : A) × (get_elem? xs k ≡ some x) × R x y
+  zip_at [] [] all k y is = absurd (some-ne-none y (sym is))
+  zip_at [] (z ∷ ys) all k y is = absurd all
+  zip_at (x ∷ xs) [] all k y is = absurd all
+  zip_at (x ∷ xs) (z ∷ ys) all zero y is = (x, refl, subst (R x) (some-injective z y is) all.0)
+  zip_at (x ∷ xs) (z ∷ ys) all (suc k) y is = zip_at xs ys all.1 k y is
+
 module _ {W X : Type 0} (f : W → X) where
   -- one more at the end
-  pub pushed : (old mid new : List W) (w : W) (x : X) → mid ≡ old → new ≡ mid ++ w ∷ [] → f w ≡ x → map f new ≡ map f old ++ x ∷ []
-  pushed old mid new w x same grown is =
-      ap (λ (l : List W). map f l) (grown ∙ ap (λ (l : List W). l ++ w ∷ []) same) ∙ map-append f old (w ∷ []) ∙ ap (λ (y : X). map f old ++ y ∷ []) is
+  pub pushed : (old new : List W) (w : W) (x : X) → new ≡ old ++ w ∷ [] → f w ≡ x → map f new ≡ map f old ++ x ∷ []
+  pushed old new w x grown is = ap (λ (l : List W). map f l) grown ∙ map-append f old (w ∷ []) ∙ ap (λ (y : X). map f old ++ y ∷ []) is
 
   -- before the first
   pub from_none : (old : List W) (new all : List X) → old ≡ [] → new ≡ map f old ++ all → new ≡ all

@@ -1,9 +1,9 @@
 -- What workers left of the stations of a plan.
-use Rattle.std.proofs.Common.{◌≡◌, ◌∙◌, ◌<◌, ◌≤◌, ℕ, zero, suc, length, get_or, map, inl, inr, sym, subst, ap, arith, List, Result, Ok, Err, IfOk}
+use Rattle.std.proofs.Common.{◌≡◌, ◌∙◌, ◌<◌, ◌≤◌, ℕ, zero, suc, length, map, inl, inr, sym, subst, ap, arith, List, [], ◌∷◌, Result, Ok, Err, IfOk}
+use Rattle.std.specs.List.{AllZip}
 use Rattle.std.proofs.lemmas.List.{length-map}
 use mathlib.Core.Option.{some, some-injective}
 use lib.ListN.{get_elem?}
-use Rattle.atomic_table.proofs.Lists.{at_index, at_map}
 use Rattle.std.specs.Prelude.{Vec}
 use Rattle.std.specs.declared.alloc.Global.{Global}
 use Rattle.mx_nodelaws.specs.Core.{Core, KeepsPhases}
@@ -22,38 +22,33 @@ use Rattle.mx_stations.specs.Works.{IsWithin}
 use Rattle.mx_stations.proofs.Rounding.{rounds_kept, rounds_node, rounds_some}
 use Rattle.mx_live.specs.declared.threads.Orders.{Orders}
 use Rattle.mx_live.specs.Stations.{AreAtRest}
-use Rattle.mx_live.specs.Workers.{AreDone, AreLeft, AreLeftOf, HaveRun, IsLeft, ordered, stations_of}
-use Rattle.mx_live.proofs.StationLemmas.{found, there, unmapped}
+use Rattle.mx_live.specs.declared.threads.WorkAt.{WorkAt}
+use Rattle.mx_live.specs.Workers.{AreDone, AreLeft, HaveRun, IsLeft, ordered, stations_of, told}
+use Rattle.mx_live.proofs.StationLemmas.{first_and_more, nil_is_no_more, there, unmapped, zip_at, zip_many}
 
 -- what a thread was told
 pub told_as : {X : Type 0} (x x' : X) (orders orders' : Orders) → x ≡ x' → orders ≡ orders' → ordered x orders ≡ ordered x' orders'
 told_as x x' orders orders' one other = ap (λ z. ordered z orders) one ∙ ap (λ o. ordered x' o) other
 
 module _ {H S M : Type 0} (core : Core H S M) where
-  -- what workers left by their promises
-  pub left_by : {W : Type 0} (told : W → Station core × Orders) (workers : List W) (left : List (Station core × Worked)) → length left ≡ length workers
-      → ((k : ℕ) (d : Station core × Worked) → k < length workers → (w : W) × (w ≡ get_or workers k w) × IsLeft core (told w).1 (told w).0 (get_or left k d)) → AreLeftOf core (map told workers) left
-  left_by told workers left many each =
-      record {
-        many = many ∙ sym (length-map workers told);
-        each = λ k one ended at_told at_left.
-            let place = there left k ended at_left in
-            let low : k < length workers = (let l = place.0 in omega (arith, l, many)) in
-            let kept = each k ended low in
-            let at = at_map told workers k kept.0 (at_index workers k kept.0 low kept.1) in
-            let is : told kept.0 ≡ one = some-injective (told kept.0) one (sym at ∙ at_told) in
-            subst (λ (x : Station core × Orders). IsLeft core x.1 x.0 ended) is (subst (λ (e : Station core × Worked). IsLeft core (told kept.0).1 (told kept.0).0 e) place.1 kept.2);
-      }
+  -- what workers with these orders left by their promises
+  pub left_by : (orders : Orders) (workers : List (WorkAt (Station core))) (stations : List (Station core)) (left : List (Station core × Worked)) → map told workers ≡ map (λ (s : Station core). ordered s orders) stations
+      → AllZip (λ (w : WorkAt (Station core)) ended. IsLeft core w.orders w.at.value ended) workers left → AreLeft core orders stations left
+  left_by orders [] [] [] same all = tt
+  left_by orders [] [] (e ∷ left) same all = absurd all
+  left_by orders [] (s ∷ stations) left same all = absurd (nil_is_no_more same)
+  left_by orders (w ∷ workers) [] left same all = absurd (nil_is_no_more (sym same))
+  left_by orders (w ∷ workers) (s ∷ stations) [] same all = absurd all
+  left_by orders (w ∷ workers) (s ∷ stations) (e ∷ left) same all =
+      let both = first_and_more same in (
+        subst (λ (x : Station core × Orders). IsLeft core x.1 x.0 e) both.0 all.0,
+        left_by orders workers stations left both.1 all.1,
+      )
 
-module _ {H S M : Type 0} (core : Core H S M) where
   -- what a worker left is of the station at its place
   pub left_at : (orders : Orders) (stations : List (Station core)) (left : List (Station core × Worked)) → AreLeft core orders stations left → (k : ℕ) (ended : Station core × Worked) → get_elem? left k ≡ some ended
       → (from : Station core) × (get_elem? stations k ≡ some from) × IsLeft core orders from ended
-  left_at orders stations left all k ended at =
-      let low = (there left k ended at).0 in
-      let long = length-map stations (λ (s : Station core). ordered s orders) in
-      let from = found stations k (omega (arith, low, long, all.many)) in
-      (from.0, from.1, all.each k (ordered from.0 orders) ended (at_map (λ (s : Station core). ordered s orders) stations k from.0 from.1) at)
+  left_at orders stations left all k ended at = zip_at stations left all k ended at
 
   within_most : (most : ℕ) (s : Station core) → IsWithin core most s → length s.me.receipts ≤ most
   within_most most s (inl low) = omega (arith, low)
@@ -83,7 +78,7 @@ module _ {H S M : Type 0} (core : Core H S M) (shape : H) (p : Fields) (orders :
       (kept.0 ∙ rest.here, kept.1 ∙ rest.nodes, rounds_node core 0 orders.settle one.0 ended.0 works ∙ ap (λ (e : Entry (MemberState S) (Parcel M)). e.node) rest.me)
 
   pub left_many : (left : List (Station core × Worked)) → HaveRun core shape p orders left → length (stations_of left) ≡ length p.nodes
-  left_many left run = length-map left (λ (ended : Station core × Worked). ended.0) ∙ run.worked.many ∙ length-map run.stations (λ (s : Station core). ordered s orders) ∙ run.rested.many
+  left_many left run = length-map left (λ (ended : Station core × Worked). ended.0) ∙ zip_many run.stations left run.worked ∙ run.rested.many
 
   -- stations at one table
   pub of_one_table : (left : List (Station core × Worked)) → HaveRun core shape p orders left → OfOneTable (stations_of left)

@@ -1,8 +1,6 @@
 -- What workers are told, and what they leave.
 use Rattle.std.specs.Prelude.{◌≡◌, ℕ, ◌+◌, ◌%◌, ◌^◌, ◌≤◌, List, length, map}
-use Rattle.std.specs.List.{All}
-use mathlib.Core.Option.{some}
-use lib.ListN.{get_elem?}
+use Rattle.std.specs.List.{All, AllZip}
 use Rattle.mx_explorer.specs.Weather.{Climate, generator_of}
 use Rattle.mx_nodelaws.specs.Core.{Core}
 use Rattle.mx_member.specs.Steps.{start_of}
@@ -14,6 +12,7 @@ use Rattle.mx_stations.specs.Turns.{Station}
 use Rattle.mx_stations.specs.Running.{fresh}
 use Rattle.mx_stations.specs.Works.{WorksAtMost, WorksFor}
 use Rattle.mx_live.specs.declared.threads.Orders.{Orders}
+use Rattle.mx_live.specs.declared.threads.WorkAt.{WorkAt}
 use Rattle.mx_live.specs.Stations.{AreAtRest}
 
 -- what the words order of each worker
@@ -35,6 +34,10 @@ weather_of seed i = record { words = generator_of ((seed + i) % 2 ^ 64); lost = 
 abbrev pub ordered : {X : Type 0} → X → Orders → X × Orders
 ordered x orders = (x, orders)
 
+-- the same of a worker
+abbrev pub told : {X : Type 0} → WorkAt X → X × Orders
+told promise = ordered promise.at.value promise.orders
+
 module _ {H S M : Type 0} (core : Core H S M) where
   -- What a worker of the first register left of a station, and how it ended. In at most the turns
   -- ordered it led from the one to the other, and it settled as ordered.
@@ -53,17 +56,9 @@ module _ {H S M : Type 0} (core : Core H S M) where
     -- and where the gate was shut, it did nothing
     pub shut : ended.1 ≡ GateShut → ended.0 ≡ from
 
-  -- what workers left of these stations, with these orders, each of its own, in order
-  pub record AreLeftOf (told : List (Station core × Orders)) (left : List (Station core × Worked))
-      : Type 0 where
-    pub many : length left ≡ length told
-    pub each : (k : ℕ) (one : Station core × Orders) (ended : Station core × Worked)
-        → get_elem? told k ≡ some one → get_elem? left k ≡ some ended
-        → IsLeft one.1 one.0 ended
-
-  -- the same, where all have the same orders
+  -- what workers with these orders left of these stations, each of its own, in order
   abbrev pub AreLeft : Orders → List (Station core) → List (Station core × Worked) → Type 0
-  AreLeft orders stations left = AreLeftOf (map (λ s. ordered s orders) stations) left
+  AreLeft orders stations left = AllZip (IsLeft orders) stations left
 
   -- what the threads of a run of this plan left: of each node in order its station, to which its
   -- worker led from rest, and how the worker ended

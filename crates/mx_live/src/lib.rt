@@ -2,7 +2,6 @@
 //! sections of its own; then their journals are gathered.
 #![tactic(auto)]
 
-mod assembly;
 mod halts;
 mod living;
 mod progress;
@@ -10,7 +9,6 @@ mod running;
 mod shown;
 mod threads;
 
-pub use assembly::Assembly;
 pub use halts::{Halt, tell};
 pub use living::live;
 pub use running::{gather_left, run_stations, stations_in};

@@ -3,7 +3,7 @@
 ghost use Rattle.std.specs.Prelude.{◌≡◌, Some};
 ghost use Rattle.mx_live.specs.Progress.{Progresses, TellsProgress, progress_line};
 
-use crate::assembly::Assembly;
+use crate::threads::Workers;
 use mx_cli::put_line;
 use mx_io::Output;
 use mx_nodelaws::Exclusion;
@@ -35,7 +35,7 @@ pub(crate) fn tell_if_asked<C: Exclusion, K: Clock, E: Output>(
     alloc: Global,
     asked: bool,
     watch: Option<Watch<C>>,
-    gate: &Assembly,
+    workers: &Workers<C>,
     err: &mut E,
 )
     ensures progress { TellsProgress asked (E.written err.old) (E.written err.new) }
@@ -45,7 +45,7 @@ pub(crate) fn tell_if_asked<C: Exclusion, K: Clock, E: Output>(
         return;
     }
     if let Some(watch) = watch {
-        tell_progress(clock, alloc, &watch, gate, err);
+        tell_progress(clock, alloc, &watch, workers, err);
     }
 }
 
@@ -55,14 +55,14 @@ fn tell_progress<C: Exclusion, K: Clock, E: Output>(
     clock: &K,
     alloc: Global,
     watch: &Watch<C>,
-    gate: &Assembly,
+    workers: &Workers<C>,
     err: &mut E,
 )
     ensures progress { Progresses (E.written err.old) (E.written err.new) }
     ensures stays { E.takes_all err.new ≡ E.takes_all err.old }
 {
     for _second in 0..u64::MAX {
-        if is_over(clock, gate) {
+        if is_over(clock, workers) {
             return;
         }
         tell_sections(alloc, watch.sections(), err);
@@ -78,9 +78,9 @@ fn tell_sections<E: Output>(alloc: Global, sections: u64, err: &mut E)
 }
 
 /// Waits for a second, or until all workers have ended. True where they have.
-fn is_over<K: Clock>(clock: &K, gate: &Assembly) -> bool {
+fn is_over<C: Exclusion, K: Clock>(clock: &K, workers: &Workers<C>) -> bool {
     for _look in 0..LOOKS_A_SECOND {
-        if gate.is_left() {
+        if workers.has_ended() {
             return true;
         }
         sleep(clock, Duration::from_millis(50));

@@ -1,7 +1,6 @@
 //! The nodes of a plan, each run in a thread of its own, and what they have together.
 
-ghost use Rattle.std.specs.Prelude.{◌≡◌, ◌≤◌, ◌⊎◌, length, IfErr, IfNone, IfOk, IfSome};
-ghost use Rattle.mx_stamps.specs.declared.limits.TheConstants.{MOST_NODES};
+ghost use Rattle.std.specs.Prelude.{◌≡◌, ◌⊎◌, length, IfErr, IfNone, IfOk, IfSome};
 ghost use Rattle.mx_cli.specs.LiveWords.{request_of};
 ghost use Rattle.mx_stations.specs.Gathered.{IsGathered, OfOneTable};
 ghost use Rattle.mx_jobs.specs.Serial.{AreSerial};
@@ -11,10 +10,9 @@ ghost use Rattle.mx_live.specs.Stations.{AreAtRest};
 ghost use Rattle.mx_live.specs.Together.{AreGathered, ComeOf, HaveSections};
 ghost use Rattle.mx_live.specs.Workers.{AreDone, AreLeft, orders_in, stations_of};
 
-use crate::assembly::{Assembly, MOST_LOOKS};
 use crate::halts::Halt;
 use crate::progress::tell_if_asked;
-use crate::threads::{Ended, Orders, join_all, start_all};
+use crate::threads::{Ended, Orders, start_all};
 use mx_cli::LiveRequest;
 use mx_io::Output;
 use mx_maekawa::Maekawa;
@@ -25,7 +23,6 @@ use mx_ricart::Ricart;
 use mx_stations::{Field, Gathered, Station, Watch, Worked, gather};
 use std::alloc::{AllocError, Global};
 use std::rt::Clock;
-use std::sync::Arc;
 use std::thread::Threads;
 
 /// Runs the nodes of a plan, by its algorithm, and gathers them.
@@ -134,10 +131,9 @@ where
     ensures stays { E.takes_all err.new ≡ E.takes_all err.old }
 {
     let watch = watch_over(stations.as_slice())?;
-    let gate = shared_gate(alloc, plan.nodes())?;
-    let workers = start_all(rt, alloc, stations, &gate, orders_of(request))?;
-    tell_if_asked(rt, alloc, request.progress, watch, &*gate, err);
-    join_all(rt, workers)
+    let workers = start_all(rt, alloc, plan.nodes(), stations, orders_of(request))?;
+    tell_if_asked(rt, alloc, request.progress, watch, &workers, err);
+    workers.join_all(rt)
 }
 
 /// What is ordered of each worker.
@@ -191,14 +187,6 @@ fn watch_over<C: Exclusion>(stations: &[Station<C>]) -> Result<Option<Watch<C>>,
         Some(station) => Ok(Some(station.watch()?)),
         None => Ok(None),
     }
-}
-
-/// The gate of this many nodes.
-fn shared_gate(alloc: Global, nodes: u8) -> Result<Arc<Assembly, Global>, AllocError>
-    requires { nodes ≤ MOST_NODES }
-{
-    let gate = Arc::new(alloc, Assembly::new(nodes, MOST_LOOKS))?;
-    Ok(gate)
 }
 
 /// Why the first worker that is not done is not.

@@ -1,9 +1,11 @@
-use Rattle.std.proofs.Common.{◌≤◌, ℕ, IfOk, subst}
+use Rattle.std.proofs.Common.{◌≤◌, ℕ, IfOk, map, subst, sym}
 use Rattle.std.proofs.lemmas.Result.{IfErr-weaker, IfOk-weaker}
 use Rattle.mx_stamps.specs.declared.limits.TheConstants.{MOST_REGISTERS}
-use Rattle.mx_jobs.specs.Runs.{HaveRun}
+use Rattle.mx_stations.specs.Turns.{Station}
+use Rattle.mx_jobs.specs.declared.worker.Ended.TheVariants.{Done}
+use Rattle.mx_jobs.specs.Runs.{AreBack, HaveRun}
 use Rattle.mx_jobs.proofs.Laws.{law_holds}
-use Rattle.mx_jobs.proofs.Promised.{new_rests, of_one_table}
+use Rattle.mx_jobs.proofs.Promised.{done_back, new_rests, of_one_table}
 use Rattle.mx_jobs.proofs.Telling.{memory_told}
 use Rattle.mx_jobs.proofs.runs.run.Goals as goal
 
@@ -29,7 +31,21 @@ returns-in-Ok-clause-law g c =
     IfOk-weaker c.finish.result _ _ (λ out ran. law_holds g.J.Job.asks_for g.J.Job.makes g.J.Job.holds g.J.Job.finished _ c.args.jobs.items _ _ _ ran c.requires.begins few) (returns-in-Ok-clause-ran g c)
 
 pub returns-in-Ok-clause-told : goal.returns-in-Ok-clause-told
-returns-in-Ok-clause-told g c = IfErr-weaker c.finish.result _ _ (λ back memory. memory_told back.fault _ memory) c.finish.ensures.err
+returns-in-Ok-clause-told g c = IfErr-weaker c.finish.result _ _ (λ back so. memory_told back.fault _ so.0) c.finish.ensures.err
+
+pub returns-in-Ok-clause-back : goal.returns-in-Ok-clause-back
+returns-in-Ok-clause-back g c = λ each.
+    let posts = c.args.stations.items in
+    let all = c.args.jobs.items in
+    let ran = c.in-Ok.ran in
+    let ends = map (λ (s : Station g.C.Exclusion.core). Done) ran.stations.items in
+    IfErr-weaker c.finish.result _ _
+    (λ back so. (
+      ends,
+      subst (λ ss. AreBack g.J.Job.asks_for g.J.Job.makes g.J.Job.holds g.J.Job.finished g.C.Exclusion.core c.args.options posts all ends ss back.jobs.items) (sym so.1)
+          (subst (λ js. AreBack g.J.Job.asks_for g.J.Job.makes g.J.Job.holds g.J.Job.finished g.C.Exclusion.core c.args.options posts all ends ran.stations.items js.items) (sym so.2) (done_back g.J.Job.asks_for g.J.Job.makes g.J.Job.holds g.J.Job.finished g.C.Exclusion.core c.args.options posts all _ _ c.in-Ok.ensures.done)),
+    ))
+    c.finish.ensures.err
 
 pub run_stations-requires-send-C : goal.run_stations-requires-send-C
 run_stations-requires-send-C g c κs within = c.type_bounds.send-C

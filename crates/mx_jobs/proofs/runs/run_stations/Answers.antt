@@ -17,14 +17,12 @@ pub run_all-requires-send-C-Shape : goal.run_all-requires-send-C-Shape
 run_all-requires-send-C-Shape g c κs within = c.type_bounds.send-C-Shape
 
 pub run_all-requires-after_bounds : goal.run_all-requires-after_bounds
-run_all-requires-after_bounds g c κs within = (search (c.requires-raw.1.1.1.1.1.1.1.1.1.1.1.1.1.1.1.1, c.requires-raw.1.1.1.1.1.1.1.1.1.1.1.1.1.1.1.1.0), c.requires)
+run_all-requires-after_bounds g c κs within =
+    let each : length c.args.jobs.items ≡ length c.args.stations.items = omega (arith, c.args.stations.ok, c.args.jobs.ok, c.if-len.false, c.len.ensures, c.len-2.ensures) in
+    (search (c.requires-raw.1.1.1.1.1.1.1.1.1.1.1.1.1.1.1.1, c.requires-raw.1.1.1.1.1.1.1.1.1.1.1.1.1.1.1.1.0), (c.requires, each))
 
 pub returns-in-Ok-clause-done : goal.returns-in-Ok-clause-done
-returns-in-Ok-clause-done g c =
-    let each : length c.args.jobs.items ≡ length c.args.stations.items = omega (arith, c.args.stations.ok, c.args.jobs.ok, c.if-len.false, c.len.ensures, c.len-2.ensures) in
-    c.in-Ok.ensures.ok each
+returns-in-Ok-clause-done g c = c.in-Ok.ensures.ok
 
 pub returns-in-Err-clause-told : goal.returns-in-Err-clause-told
-returns-in-Err-clause-told g c =
-    let each : length c.args.jobs.items ≡ length c.args.stations.items = omega (arith, c.args.stations.ok, c.args.jobs.ok, c.if-len.false, c.len.ensures, c.len-2.ensures) in
-    c.in-Err.ensures.err each
+returns-in-Err-clause-told g c = c.in-Err.ensures.err

@@ -1,15 +1,14 @@
-use Rattle.std.proofs.Common.{◌≡◌, ◌+◌, List, length}
-use Rattle.mx_stations.specs.Turns.{Station}
-use Rattle.mx_jobs.specs.Runs.{AreEach, Fit, IsPosted}
+use Rattle.std.proofs.Common.{◌≡◌, ◌+◌, length}
+use Rattle.mx_jobs.specs.Posted.{ArePosted, Fit, HaveRoom}
 use Rattle.mx_jobs.proofs.threads.start_each.Given as goal
 
 abbrev pub invariant-loop-station : goal.invariant-loop-station
 invariant-loop-station g l = record {
-  many : length l.workers.items + length l.stations.items ≡ length l.fn.workers.items + length l.fn.stations.items;
-  posted : (posts : List (Station g.C.Exclusion.core)) (all : List g.row.J.Denot) → Fit posts all (length l.fn.workers.items) l.fn.stations.items l.fn.jobs.items
-      → AreEach (λ k worker. IsPosted l.fn.options posts all k worker.promise.at.value worker.promise.job.value worker.promise.options) 0 l.fn.workers.items
-      → AreEach (λ k worker. IsPosted l.fn.options posts all k worker.promise.at.value worker.promise.job.value worker.promise.options) 0 l.workers.items
-      × Fit posts all (length l.workers.items) l.stations.items l.jobs.items;
+  many : length l.workers + length l.stations.items ≡ length l.fn.stations.items;
+  each : length l.jobs.items ≡ length l.stations.items;
+  posted : ArePosted l.fn.options l.fn.stations.items l.fn.jobs.items l.workers;
+  fit : Fit l.fn.stations.items l.fn.jobs.items (length l.workers) l.stations.items l.jobs.items;
+  room : HaveRoom (length l.workers) l.stations l.jobs;
 }
 
 abbrev pub decreases-loop-station : goal.decreases-loop-station

@@ -1,35 +1,31 @@
-use Rattle.std.proofs.Common.{◌+◌, ◌≡◌, ℕ, Some, length, slice_get, arith, subst, sym}
-use Rattle.mx_jobs.specs.Runs.{IsPosted}
-use Rattle.mx_jobs.proofs.Each.{pushed_each}
+use Rattle.std.proofs.Common.{refl, subst}
+use Rattle.std.proofs.lemmas.Result.{IfErr-weaker, on_ok_weaker}
+use Rattle.mx_jobs.specs.Runs.{IsLeft}
 use Rattle.mx_jobs.proofs.threads.start_one.Goals as goal
 
-pub returns-in-Ok-start-clause-posted : goal.returns-in-Ok-start-clause-posted
-returns-in-Ok-start-clause-posted g c = λ posts all posted rest.
-    let promised = c.in-Ok-start.ensures in
-    let worker = c.in-Ok-start.worker in
-    let count = length c.args.workers.now.items in
-    let own : IsPosted c.args.options posts all count worker.promise.at.value worker.promise.job.value worker.promise.options = record {
-      place = subst (λ s. slice_get posts count ≡ Some s) (sym promised.at) posted.place;
-      own = subst (λ job. slice_get all count ≡ Some job) (sym promised.told) posted.own;
-      as_told = promised.options;
-    } in
-    pushed_each 0 _ _ _ _ c.reserve.ensures.items c.push_reserved.ensures.items rest
-    (subst (λ (k : ℕ). IsPosted c.args.options posts all k worker.promise.at.value worker.promise.job.value worker.promise.options) (let e : count ≡ 0 + count = omega arith in e) own)
+pub start-requires-room-P-Promise : goal.start-requires-room-P-Promise
+start-requires-room-P-Promise g c κs within = search (c.requires-raw.1.1.1.1.1.1.1.1.1.1.1.1.1.1.1.1, c.requires-raw.1.1.1.1.1.1.1.1.1.1.1.1.1.1.1.1.0)
 
-pub start-requires-send-C : goal.start-requires-send-C
-start-requires-send-C g c κs within = c.type_bounds.send-C
+pub start-requires-room-T-Destruct : goal.start-requires-room-T-Destruct
+start-requires-room-T-Destruct g c κs within = search (c.requires-raw.1.1.1.1.1.1.1.1.1.1.1.1.1.1.1.1, c.requires-raw.1.1.1.1.1.1.1.1.1.1.1.1.1.1.1.1.0)
 
-pub start-requires-send-J : goal.start-requires-send-J
-start-requires-send-J g c κs within = c.type_bounds.send-J
+pub start-requires-room-P-Destruct : goal.start-requires-room-P-Destruct
+start-requires-room-P-Destruct g c κs within = search (c.requires-raw.1.1.1.1.1.1.1.1.1.1.1.1.1.1.1.1, c.requires-raw.1.1.1.1.1.1.1.1.1.1.1.1.1.1.1.1.0)
 
-pub start-requires-send-F : goal.start-requires-send-F
-start-requires-send-F g c κs within = c.type_bounds.send-F
+pub start-requires-room-F-FnOnce : goal.start-requires-room-F-FnOnce
+start-requires-room-F-FnOnce g c κs within = search (c.requires-raw.1.1.1.1.1.1.1.1.1.1.1.1.1.1.1.1, c.requires-raw.1.1.1.1.1.1.1.1.1.1.1.1.1.1.1.1.0)
 
-pub start-requires-send-C-Msg : goal.start-requires-send-C-Msg
-start-requires-send-C-Msg g c κs within = c.type_bounds.send-C-Msg
+pub start-requires-room-F-Destruct : goal.start-requires-room-F-Destruct
+start-requires-room-F-Destruct g c κs within = search (c.requires-raw.1.1.1.1.1.1.1.1.1.1.1.1.1.1.1.1, c.requires-raw.1.1.1.1.1.1.1.1.1.1.1.1.1.1.1.1.0)
 
-pub start-requires-send-C-Shape : goal.start-requires-send-C-Shape
-start-requires-send-C-Shape g c κs within = c.type_bounds.send-C-Shape
+pub start-requires-clause-runs : goal.start-requires-clause-runs
+start-requires-clause-runs g c κs within = record { at = λ gate. (search (c.requires-raw.1.1.1.1.1.1.1.1.1.1.1.1.1.1.1.1, c.requires-raw.1.1.1.1.1.1.1.1.1.1.1.1.1.1.1.1.0), c.requires) }
 
-pub start-requires-after_bounds : goal.start-requires-after_bounds
-start-requires-after_bounds g c κs within = (search (c.requires-raw.1.1.1.1.1.1.1.1.1.1.1.1.1.1.1.1, c.requires-raw.1.1.1.1.1.1.1.1.1.1.1.1.1.1.1.1.0), c.requires)
+pub returns-clause-ok : goal.returns-clause-ok
+returns-clause-ok g c = on_ok_weaker c.start.result (λ grown. record { promise = _; grown = grown; here = c.of.ensures; own = c.of-2.ensures; as_told = refl }) c.start.ensures.ok
+
+pub returns-clause-err : goal.returns-clause-err
+returns-clause-err g c =
+    IfErr-weaker c.start.result _ _
+    (λ back kept. subst (λ s. IsLeft g.J.Job.asks_for g.J.Job.makes g.J.Job.holds g.J.Job.finished g.C.Exclusion.core c.args.options s c.args.job back.left) c.of.ensures (subst (λ j. IsLeft g.J.Job.asks_for g.J.Job.makes g.J.Job.holds g.J.Job.finished g.C.Exclusion.core c.args.options c.of.result.value j back.left) c.of-2.ensures kept))
+    c.start.ensures.err

@@ -1,7 +1,8 @@
-use Rattle.std.proofs.Common.{IfOk, List, subst}
-use Rattle.mx_stations.specs.Turns.{Station}
+use Rattle.std.proofs.Common.{IfOk, subst}
+use Rattle.std.proofs.lemmas.Result.{IfOk-weaker}
 use Rattle.mx_live.specs.declared.threads.Orders.{Orders}
-use Rattle.mx_live.specs.Workers.{AreLeft, AreLeftOf}
+use Rattle.mx_live.specs.Workers.{AreLeft}
+use Rattle.mx_live.proofs.WorkerLemmas.{left_by}
 use Rattle.mx_live.proofs.running.run_stations.Goals as goal
 
 pub start_all-requires-send-C : goal.start_all-requires-send-C
@@ -16,7 +17,7 @@ start_all-requires-send-C-Shape g c κs within = record { owned = c.type_bounds.
 pub returns-clause-left : goal.returns-clause-left
 returns-clause-left g c =
     subst (λ (o : Orders). IfOk c.join_all.result (λ all. AreLeft g.C.Exclusion.core o c.args.stations.items all.items)) c.orders_of.ensures
-    (subst (λ (told : List (Station g.C.Exclusion.core × Orders)). IfOk c.join_all.result (λ all. AreLeftOf g.C.Exclusion.core told all.items)) c.in_ok-workers.ensures c.join_all.ensures)
+    (IfOk-weaker c.join_all.result _ _ (λ all kept. left_by g.C.Exclusion.core _ _ _ all.items c.in_ok-workers.ensures kept) c.join_all.ensures)
 
 pub start_all-requires-after_bounds : goal.start_all-requires-after_bounds
 start_all-requires-after_bounds g c κs within = search (c.requires-raw)

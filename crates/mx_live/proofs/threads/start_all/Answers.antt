@@ -16,6 +16,3 @@ start_each-requires-send-C-Shape g c κs within = c.type_bounds.send-C-Shape
 
 pub start_each-requires-after_bounds : goal.start_each-requires-after_bounds
 start_each-requires-after_bounds g c κs within = search (c.requires-raw)
-
-pub join_each-requires : goal.join_each-requires
-join_each-requires g c = search (c.requires-raw)

@@ -1,0 +1,42 @@
+-- The workers of a run, each at the place of its station and its job.
+use Rattle.std.specs.Prelude.{◌≡◌, ◌≤◌, ◌+◌, ◌++◌, ◌∷◌, [], ℕ, List, Vec, length, slice_get, Some, vec_capacity}
+use Rattle.std.specs.declared.alloc.Global.{Global}
+use Rattle.mx_jobs.specs.declared.threads.WorkAt.{WorkAt}
+use Rattle.mx_jobs.specs.declared.worker.RunOptions.{RunOptions}
+
+-- each of these is so at its place, where places are counted from this one on
+pub record AreEach {X : Type 0} (IsSo : ℕ → X → Type 0) (from : ℕ) (xs : List X) : Type 0 where
+  pub each : (k : ℕ) (x : X) → slice_get xs k ≡ Some x → IsSo (from + k) x
+
+module _ {X J : Type 0} where
+  -- one more worker, at this station, with this job
+  pub record AddsWorker (options : RunOptions) (at : X) (job : J) (old new : List (WorkAt X J))
+      : Type 0 where
+    pub promise : WorkAt X J
+    pub grown : new ≡ old ++ promise ∷ []
+    pub here : promise.at.value ≡ at
+    pub own : promise.job.value ≡ job
+    pub as_told : promise.options ≡ options
+
+  module _ (stations : List X) (jobs : List J) where
+    -- the stations and the jobs from the k-th on
+    pub record Fit (k : ℕ) (others : List X) (js : List J) : Type 0 where
+      pub places : AreEach (λ i s. slice_get stations i ≡ Some s) k others
+      pub own : AreEach (λ i job. slice_get jobs i ≡ Some job) k js
+
+  module _ (options : RunOptions) (stations : List X) (jobs : List J) where
+    -- a worker at the k-th of the stations, with the k-th of the jobs
+    pub record IsPosted (k : ℕ) (promise : WorkAt X J) : Type 0 where
+      pub place : slice_get stations k ≡ Some promise.at.value
+      pub own : slice_get jobs k ≡ Some promise.job.value
+      pub as_told : promise.options ≡ options
+
+    -- workers at the first of the stations, in order
+    abbrev pub ArePosted : List (WorkAt X J) → Type 0
+    ArePosted promises = AreEach IsPosted 0 promises
+
+-- there is room for this many more of each
+abbrev pub HaveRoom : {X J : Type 0} → ℕ → Vec X Global → Vec J Global → Type 0
+HaveRoom more stations jobs =
+    (more + length stations.items ≤ vec_capacity stations)
+    × (more + length jobs.items ≤ vec_capacity jobs)
