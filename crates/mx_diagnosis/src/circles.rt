@@ -1,7 +1,7 @@
 //! Edges that close a circle.
 
+use crate::file_report::FileReport;
 use crate::lines::{Found, Path};
-use crate::page::Page;
 use crate::values::{index_in, items_in, text_in};
 use serde_json::Value;
 use std::alloc::{AllocError, Global};
@@ -38,20 +38,20 @@ impl Parts {
 
 /// Says which edges join two nodes that edges before them have joined.
 pub(crate) fn explain_circles(
-    page: &mut Page<'_>,
+    report: &mut FileReport<'_>,
     edges: &[Value],
     nodes: &[&str],
 ) -> Result<(), AllocError> {
-    let mut parts = Parts::new(page.alloc, nodes.len())?;
+    let mut parts = Parts::new(report.alloc(), nodes.len())?;
     for (k, edge) in edges.iter().enumerate() {
-        explain_circle(page, k, items_in(Some(edge)), nodes, &mut parts)?;
+        explain_circle(report, k, items_in(Some(edge)), nodes, &mut parts)?;
     }
     Ok(())
 }
 
 /// The k-th edge, where its ends are two nodes.
 fn explain_circle(
-    page: &mut Page<'_>,
+    report: &mut FileReport<'_>,
     k: usize,
     edge: &[Value],
     nodes: &[&str],
@@ -61,7 +61,7 @@ fn explain_circle(
         return Ok(());
     };
     if closes_circle(first, second, nodes, parts) {
-        return page.say_of(&Path::Item("edges", k), Circle { k, first, second });
+        return report.fault_of(&Path::Item("edges", k), Circle { k, first, second });
     }
     Ok(())
 }

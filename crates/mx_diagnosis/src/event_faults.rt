@@ -1,10 +1,11 @@
 //! What is wrong in the events, each by itself.
 
 use crate::expecting::{expect, expect_number, expect_word};
+use crate::file_report::FileReport;
 use crate::lines::Path;
-use crate::page::Page;
 use crate::values::{elements, items_in, text_in};
-use mx_events::{EVENT_KINDS, EventKind};
+use crate::words::{event_words, listed, word_meant};
+use mx_events::EventKind;
 use mx_stamps::MOST_EVENTS;
 use serde_json::Value;
 use std::alloc::AllocError;
@@ -68,83 +69,88 @@ pub(crate) struct Known<'a> {
 
 /// Says what is wrong in each event.
 pub(crate) fn explain_events(
-    page: &mut Page<'_>,
+    report: &mut FileReport<'_>,
     value: &Value,
     known: Known<'_>,
 ) -> Result<(), AllocError> {
     let expected = match elements(Some(value)) {
-        Some(events) if events.len() <= MOST_EVENTS => return explain_each(page, events, known),
+        Some(events) if events.len() <= MOST_EVENTS => return explain_each(report, events, known),
         Some(_) => "at most 1000000 events",
         None => "an array of events, as [[\"ask\",NODE],[\"deliver\",0]]",
     };
-    expect(page, Path::Member("events"), Some(value), expected)
+    expect(report, Path::Member("events"), Some(value), expected)
 }
 
-fn explain_each(page: &mut Page<'_>, events: &[Value], known: Known<'_>) -> Result<(), AllocError> {
+fn explain_each(
+    report: &mut FileReport<'_>,
+    events: &[Value],
+    known: Known<'_>,
+) -> Result<(), AllocError> {
     for (k, event) in events.iter().enumerate() {
-        explain_event(page, k, event, known)?;
+        explain_event(report, k, event, known)?;
     }
     Ok(())
 }
 
 fn explain_event(
-    page: &mut Page<'_>,
+    report: &mut FileReport<'_>,
     k: usize,
     event: &Value,
     known: Known<'_>,
 ) -> Result<(), AllocError> {
     let Some((first, arguments)) = items_in(Some(event)).split_first() else {
         let expected = "an array of a word and its arguments, as [\"ask\",NODE]";
-        return expect(page, Path::Item("events", k), Some(event), expected);
+        return expect(report, Path::Item("events", k), Some(event), expected);
     };
     let Some(kind) = EventKind::of_word(text_in(Some(first))) else {
-        return explain_word(page, Path::Inner("events", k, 0), first);
+        return explain_word(report, Path::Inner("events", k, 0), first);
     };
     let form = form_of(kind);
     if form.items.len() == arguments.len() {
-        explain_arguments(page, k, form.items, arguments, known)
+        explain_arguments(report, k, form.items, arguments, known)
     } else {
-        expect(page, Path::Item("events", k), Some(event), form.expected)
+        expect(report, Path::Item("events", k), Some(event), form.expected)
     }
 }
 
 /// Says that a word of an event is expected at a place, and lists them.
-fn explain_word(page: &mut Page<'_>, path: Path<'_>, found: &Value) -> Result<(), AllocError> {
-    let mut words = [""; 11];
-    let mut listed = String::new(page.alloc);
-    for (k, kind) in EVENT_KINDS.iter().enumerate() {
-        words[k] = kind.word();
-        listed.push_str(before(k, words.len()))?;
-        listed.push_str(kind.word())?;
+fn explain_word(
+    report: &mut FileReport<'_>,
+    path: Path<'_>,
+    found: &Value,
+) -> Result<(), AllocError> {
+    let alloc = report.alloc();
+    let words = event_words(alloc)?;
+    let meant = word_meant(text_in(Some(found)), words.as_slice());
+    let listed = listed(alloc, words.as_slice(), meant)?;
+    if meant.is_some() {
+        return expect(report, path, Some(found), listed.as_str());
     }
-    expect_word(page, path, Some(found), &words, listed.as_str())
-}
-
-/// What a sentence has before the k-th of this many words.
-fn before(k: usize, count: usize) -> &'static str {
-    match count.saturating_sub(k) {
-        1 => " or ",
-        _ if k == 0 => "",
-        _ => ", ",
-    }
+    expect_word(report, path, Some(found), words.as_slice(), listed.as_str())
 }
 
 /// What follows the word of the k-th event, of which each item is wanted.
 fn explain_arguments(
-    page: &mut Page<'_>,
+    report: &mut FileReport<'_>,
     k: usize,
     items: &[Wanted],
     arguments: &[Value],
     known: Known<'_>,
 ) -> Result<(), AllocError> {
     for (i, (wanted, value)) in items.iter().zip(arguments).enumerate() {
-        explain_argument(page, Path::Inner("events", k, i + 1), *wanted, value, known)?;
+        explain_argument(
+            report,
+            Path::Inner("events", k, i + 1),
+            *wanted,
+            value,
+            known,
+        )?;
     }
     Ok(())
 }
 
 fn explain_argument<'a>(
-    page: &mut Page<'_>,
+    report: &mut FileReport<'_>,
     path: Path<'a>,
     wanted: Wanted,
     value: &'a Value,
@@ -152,13 +158,19 @@ fn explain_argument<'a>(
 ) -> Result<(), AllocError> {
     let found = Some(value);
     match wanted {
-        Wanted::Node => expect_word(page, path, found, known.nodes, "a node of the plan"),
+        Wanted::Node => expect_word(report, path, found, known.nodes, "a node of the plan"),
         Wanted::Register => {
-            expect_word(page, path, found, known.registers, "a register of the plan")
+            expect_word(
+                report,
+                path,
+                found,
+                known.registers,
+                "a register of the plan",
+            )
         }
         Wanted::Number => {
             let expected = "a whole number of 64 bits without a sign";
-            expect_number(page, path, found, 0, u64::MAX, expected)
+            expect_number(report, path, found, 0, u64::MAX, expected)
         }
     }
 }

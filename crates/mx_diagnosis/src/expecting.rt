@@ -3,8 +3,8 @@
 ghost use Rattle.std.specs.Prelude.{IfOk, IfSome};
 ghost use Rattle.std.specs.List.{Contains};
 
+use crate::file_report::FileReport;
 use crate::lines::{Expected, Path, Unread};
-use crate::page::Page;
 use crate::values::{is_among, text_in};
 use mx_lines::nearest;
 use serde_json::Value;
@@ -12,27 +12,27 @@ use std::alloc::AllocError;
 
 /// Says that something else is expected at a place.
 pub(crate) fn expect<'a>(
-    page: &mut Page<'_>,
+    report: &mut FileReport<'_>,
     path: Path<'a>,
     found: Option<&'a Value>,
     expected: &'a str,
 ) -> Result<(), AllocError> {
-    say_expected(page, path, found, expected, None)
+    say_expected(report, path, found, expected, None)
 }
 
 /// Says that something else is expected at a place, and which word is the nearest.
 fn say_expected<'a>(
-    page: &mut Page<'_>,
+    report: &mut FileReport<'_>,
     path: Path<'a>,
     found: Option<&'a Value>,
     expected: &'a str,
     nearest: Option<&str>,
 ) -> Result<(), AllocError> {
-    if found.is_none() && page.is_begin() {
+    if found.is_none() && report.is_begin() {
         return Ok(());
     }
-    if page.is_full() {
-        return page.say(Expected {
+    if report.is_full() {
+        return report.fault(Expected {
             path,
             found,
             written: "",
@@ -40,8 +40,8 @@ fn say_expected<'a>(
             nearest,
         });
     }
-    let offset = page.offset(&path)?;
-    let word = page.word_at(offset)?;
+    let offset = report.offset(&path)?;
+    let word = report.word_at(offset)?;
     let said = Expected {
         path,
         found,
@@ -49,13 +49,13 @@ fn say_expected<'a>(
         expected,
         nearest,
     };
-    page.say_at(offset, said)
+    report.fault_at(offset, said)
 }
 
 /// Says that one of these words is expected at a place, where another is found. Where there are
 /// none, as in a plan that lists no nodes, that is told elsewhere.
 pub(crate) fn expect_word<'a, 'w>(
-    page: &mut Page<'_>,
+    report: &mut FileReport<'_>,
     path: Path<'a>,
     found: Option<&'a Value>,
     words: &[&'w str],
@@ -65,23 +65,27 @@ pub(crate) fn expect_word<'a, 'w>(
     if words.is_empty() || is_among(word, words) {
         return Ok(());
     }
-    let nearest = meant(page, word, words)?;
-    say_expected(page, path, found, expected, nearest)
+    let nearest = meant(report, word, words)?;
+    say_expected(report, path, found, expected, nearest)
 }
 
 /// The word of these that was meant, which nobody asks for where lines are only counted.
-fn meant<'a>(page: &Page<'_>, word: &str, words: &[&'a str]) -> Result<Option<&'a str>, AllocError>
+fn meant<'a>(
+    report: &FileReport<'_>,
+    word: &str,
+    words: &[&'a str],
+) -> Result<Option<&'a str>, AllocError>
     ensures { IfOk result (λ found. IfSome found (Contains words.now)) }
 {
-    if page.is_full() {
+    if report.is_full() {
         return Ok(None);
     }
-    nearest(page.alloc, word, words)
+    nearest(report.alloc(), word, words)
 }
 
 /// Says that a number in this range is expected at a place, where none is found.
 pub(crate) fn expect_number<'a>(
-    page: &mut Page<'_>,
+    report: &mut FileReport<'_>,
     path: Path<'a>,
     found: Option<&'a Value>,
     least: u64,
@@ -90,7 +94,7 @@ pub(crate) fn expect_number<'a>(
 ) -> Result<(), AllocError> {
     match number_in(found) {
         Some(n) if least <= n && n <= most => Ok(()),
-        _ => expect(page, path, found, expected),
+        _ => expect(report, path, found, expected),
     }
 }
 
@@ -102,7 +106,7 @@ pub(crate) fn number_in(value: Option<&Value>) -> Option<u64> {
 /// Warns of the members of an object, which is the plan or "of" a member of it, that are none of
 /// those that are read.
 pub(crate) fn warn_of_unread<'a>(
-    page: &mut Page<'_>,
+    report: &mut FileReport<'_>,
     of: &'static str,
     object: &'a Value,
     read: &[&'a str],
@@ -112,10 +116,10 @@ pub(crate) fn warn_of_unread<'a>(
     };
     for (key, _) in members.iter() {
         if !is_among(key.as_str(), read) {
-            let nearest = meant(page, key.as_str(), read)?;
+            let nearest = meant(report, key.as_str(), read)?;
             let path = Path::Key(of, key.as_str());
             let key = key.as_str();
-            page.say_of(&path, Unread { key, of, nearest })?;
+            report.warn_of(&path, Unread { key, of, nearest })?;
         }
     }
     Ok(())

@@ -1,9 +1,8 @@
 //! Where a text stops to be JSON.
 
-use crate::page::Page;
+use crate::file_report::FileReport;
 use crate::places::{LineColumn, offset_of, place_of};
 use crate::scan::{Scan, is_of_word, scanned};
-use crate::shown::write_shown;
 use crate::whole::whole_before;
 use serde_json::{Error, Value};
 use std::alloc::{AllocError, Global};
@@ -46,51 +45,57 @@ impl<'a> Part<'a> {
     }
 }
 
-/// The value of a text, which the page looks at from now on; where it is not JSON a line of that,
+/// The value of a text, which the report looks at from now on; where it is not JSON a line of that,
 /// and what is before the place. A byte order mark is told, and then passed over.
-pub(crate) fn value_in(page: &mut Page<'_>, part: Part<'_>) -> Result<Option<Value>, AllocError> {
+pub(crate) fn value_in(
+    report: &mut FileReport<'_>,
+    part: Part<'_>,
+) -> Result<Option<Value>, AllocError> {
     match part.text.strip_prefix(&MARK) {
         Some(text) => {
-            let _ = say_at(page, &part, 0, "a byte order mark stands here")?;
+            let _ = say_at(report, &part, 0, "a byte order mark stands here")?;
             let behind = Part {
                 text,
                 above: part.above,
                 nesting: part.nesting,
                 is_object: part.is_object,
             };
-            value_behind_mark(page, behind)
+            value_behind_mark(report, behind)
         }
-        None => value_behind_mark(page, part),
+        None => value_behind_mark(report, part),
     }
 }
 
-fn value_behind_mark(page: &mut Page<'_>, part: Part<'_>) -> Result<Option<Value>, AllocError> {
-    match Value::from_slice(page.alloc, part.text) {
+fn value_behind_mark(
+    report: &mut FileReport<'_>,
+    part: Part<'_>,
+) -> Result<Option<Value>, AllocError> {
+    match Value::from_slice(report.alloc(), part.text) {
         Ok(value) => {
-            page.look_at(part.text, part.above)?;
+            report.look_at(part.text, part.above)?;
             Ok(Some(value))
         }
         Err(e) if e.is_memory() => Err(AllocError),
         Err(e) => {
-            let stop = say_no_json(page, &part, &e)?;
-            value_before(page, &part, stop)
+            let stop = say_no_json(report, &part, &e)?;
+            value_before(report, &part, stop)
         }
     }
 }
 
 /// The value of what stands whole before a place, if there is some.
 fn value_before(
-    page: &mut Page<'_>,
+    report: &mut FileReport<'_>,
     part: &Part<'_>,
     stop: usize,
 ) -> Result<Option<Value>, AllocError> {
     let (before, _) = part.split_at(stop);
-    let Some(text) = whole_before(page.alloc, before, part.is_object)? else {
+    let Some(text) = whole_before(report.alloc(), before, part.is_object)? else {
         return Ok(None);
     };
-    match Value::from_slice(page.alloc, text.as_slice()) {
+    match Value::from_slice(report.alloc(), text.as_slice()) {
         Ok(value) => {
-            page.look_at_begin(text.as_slice(), part.above)?;
+            report.look_at_begin(text.as_slice(), part.above)?;
             Ok(Some(value))
         }
         Err(e) if e.is_memory() => Err(AllocError),
@@ -100,16 +105,20 @@ fn value_before(
 
 /// Says why a text is not JSON, and at which byte. The reader's place may lie behind the token that
 /// does not fit.
-fn say_no_json(page: &mut Page<'_>, part: &Part<'_>, e: &Error) -> Result<usize, AllocError> {
+fn say_no_json(
+    report: &mut FileReport<'_>,
+    part: &Part<'_>,
+    e: &Error,
+) -> Result<usize, AllocError> {
     let offset = offset_of(part.text, e.line(), e.column().max(1));
     if str::from_utf8(part.text).is_err() {
-        return say_at(page, part, offset, "bytes that are not UTF-8 stand here");
+        return say_at(report, part, offset, "bytes that are not UTF-8 stand here");
     }
-    if is_out_of_range(page.alloc, e)? {
-        let number = last_word(page.alloc, part, offset)?;
-        return say_at(page, part, number, "too large a number stands here");
+    if is_out_of_range(report.alloc(), e)? {
+        let number = last_word(report.alloc(), part, offset)?;
+        return say_at(report, part, number, "too large a number stands here");
     }
-    say_refused(page, part, offset, e.is_eof())
+    say_refused(report, part, offset, e.is_eof())
 }
 
 /// Whether a number is too large for the reader.
@@ -127,51 +136,51 @@ fn last_word(alloc: Global, part: &Part<'_>, offset: usize) -> Result<usize, All
 
 /// Says which bracket opens within as many as there may be, or what else is refused.
 fn say_refused(
-    page: &mut Page<'_>,
+    report: &mut FileReport<'_>,
     part: &Part<'_>,
     offset: usize,
     is_cut: bool,
 ) -> Result<usize, AllocError> {
-    let scan = scanned(page.alloc, part.text)?;
+    let scan = scanned(report.alloc(), part.text)?;
     match scan.first_within(DEEPEST) {
         Some(bracket) if bracket <= offset => {
-            page.say(TooDeep(part.place(bracket)))?;
+            report.fault(TooDeep(part.place(bracket)))?;
             Ok(bracket)
         }
-        _ => say_expected(page, part, &scan, offset, is_cut),
+        _ => say_expected(report, part, &scan, offset, is_cut),
     }
 }
 
 /// Says what is expected in place of the first token that does not fit, or that the text is cut
 /// off. The token may be before the reader's place.
 fn say_expected(
-    page: &mut Page<'_>,
+    report: &mut FileReport<'_>,
     part: &Part<'_>,
     scan: &Scan,
     offset: usize,
     is_cut: bool,
 ) -> Result<usize, AllocError> {
     match scan.misfit() {
-        Some(misfit) if misfit <= offset => say_misfit(page, part, misfit, scan.expected()),
-        None if is_cut => say_cut(page, part, scan),
-        Some(misfit) => say_before(page, part, scan, offset, misfit),
-        None => say_unread(page, part, offset),
+        Some(misfit) if misfit <= offset => say_misfit(report, part, misfit, scan.expected()),
+        None if is_cut => say_cut(report, part, scan),
+        Some(misfit) => say_before(report, part, scan, offset, misfit),
+        None => say_unread(report, part, offset),
     }
 }
 
 /// Says what is wrong where the reader stops before the first token that does not fit: that token,
 /// where what is before it is a value, as in `1"a"`, of which the reader makes one word.
 fn say_before(
-    page: &mut Page<'_>,
+    report: &mut FileReport<'_>,
     part: &Part<'_>,
     scan: &Scan,
     offset: usize,
     misfit: usize,
 ) -> Result<usize, AllocError> {
-    if is_value(page.alloc, part.text.get(offset..misfit).unwrap_or(&[]))? {
-        return say_misfit(page, part, misfit, scan.expected());
+    if is_value(report.alloc(), part.text.get(offset..misfit).unwrap_or(&[]))? {
+        return say_misfit(report, part, misfit, scan.expected());
     }
-    say_unread(page, part, offset)
+    say_unread(report, part, offset)
 }
 
 /// Whether a text is a value of JSON.
@@ -185,26 +194,30 @@ fn is_value(alloc: Global, text: &[u8]) -> Result<bool, AllocError> {
 
 /// Says what is wrong with the token at a place, up to which all tokens fit: it is a text, a number
 /// or a word that is none of JSON.
-fn say_unread(page: &mut Page<'_>, part: &Part<'_>, offset: usize) -> Result<usize, AllocError> {
+fn say_unread(
+    report: &mut FileReport<'_>,
+    part: &Part<'_>,
+    offset: usize,
+) -> Result<usize, AllocError> {
     let (before, rest) = part.split_at(offset);
     match rest {
-        [b'"', ..] => say_misfit(page, part, offset, TEXT),
+        [b'"', ..] => say_misfit(report, part, offset, TEXT),
         [byte, ..] if is_of_word(*byte) => {
-            let scan = scanned(page.alloc, before)?;
-            say_misfit(page, part, offset, scan.expected())
+            let scan = scanned(report.alloc(), before)?;
+            say_misfit(report, part, offset, scan.expected())
         }
-        _ => say_at(page, part, offset, "the reader of JSON stops here"),
+        _ => say_at(report, part, offset, "the reader of JSON stops here"),
     }
 }
 
 /// Says that something else is expected at a place.
 fn say_misfit(
-    page: &mut Page<'_>,
+    report: &mut FileReport<'_>,
     part: &Part<'_>,
     offset: usize,
     expected: &'static str,
 ) -> Result<usize, AllocError> {
-    page.say(Misfit {
+    report.fault(Misfit {
         place: part.place(offset),
         expected,
         rest: rest_of_line(part, offset),
@@ -213,12 +226,12 @@ fn say_misfit(
 }
 
 /// Says that a text ends too early, and what is still open.
-fn say_cut(page: &mut Page<'_>, part: &Part<'_>, scan: &Scan) -> Result<usize, AllocError> {
+fn say_cut(report: &mut FileReport<'_>, part: &Part<'_>, scan: &Scan) -> Result<usize, AllocError> {
     let end = part.text.len();
     let Some(offset) = scan.opened() else {
-        return say_at(page, part, end, "the text ends here, expected a value");
+        return say_at(report, part, end, "the text ends here, expected a value");
     };
-    page.say(Cut {
+    report.fault(Cut {
         place: part.place(end),
         opened: part.place(offset),
         missing: Missing(deep_in(part, scan)),
@@ -243,12 +256,12 @@ fn rest_of_line<'a>(part: &Part<'a>, offset: usize) -> &'a str {
 
 /// Says why a text is not JSON, by what is at a place. Returns the place.
 fn say_at(
-    page: &mut Page<'_>,
+    report: &mut FileReport<'_>,
     part: &Part<'_>,
     offset: usize,
     said: &'static str,
 ) -> Result<usize, AllocError> {
-    page.say(NoJson {
+    report.fault(NoJson {
         place: part.place(offset),
         said,
     })?;
@@ -292,7 +305,7 @@ impl fmt::Display for Rest<'_> {
             return f.write_str("the end of the line");
         }
         for character in self.0.chars().take(SHOWN) {
-            write_shown(character, f)?;
+            f.write_char(character)?;
         }
         Ok(())
     }

@@ -1,8 +1,8 @@
 //! What is wrong in the members of a plan, each by itself.
 
 use crate::expecting::{expect, expect_number, expect_word, warn_of_unread};
+use crate::file_report::FileReport;
 use crate::lines::{Foreign, Path};
-use crate::page::Page;
 use crate::shape_members::explain_shape;
 use crate::values::{is_among, items_in, member_of, names_at, names_in, text_in};
 use mx_plan::is_name;
@@ -34,21 +34,21 @@ const OWNED: [(&str, &str); 3] = [
 const NAMES: &str = "a name: 1 to 16 of letters, digits, _ and -";
 
 /// Says what is wrong in each member, and which ones nobody reads.
-pub(crate) fn explain_plan(page: &mut Page<'_>, plan: &Value) -> Result<(), AllocError> {
+pub(crate) fn explain_plan(report: &mut FileReport<'_>, plan: &Value) -> Result<(), AllocError> {
     if !plan.is_object() {
         let expected = "an object with algorithm, nodes, registers and sections";
-        return expect(page, Path::Member("the plan"), Some(plan), expected);
+        return expect(report, Path::Member("the plan"), Some(plan), expected);
     }
     let algorithm = member_of(plan, "algorithm");
-    explain_algorithm(page, algorithm)?;
-    explain_members(page, text_in(algorithm), plan)?;
-    warn_of_foreign(page, text_in(algorithm), plan)
+    explain_algorithm(report, algorithm)?;
+    explain_members(report, text_in(algorithm), plan)?;
+    warn_of_foreign(report, text_in(algorithm), plan)
 }
 
-fn explain_algorithm(page: &mut Page<'_>, value: Option<&Value>) -> Result<(), AllocError> {
+fn explain_algorithm(report: &mut FileReport<'_>, value: Option<&Value>) -> Result<(), AllocError> {
     let expected = "an algorithm: ricart, maekawa or raymond";
     expect_word(
-        page,
+        report,
         Path::Member("algorithm"),
         value,
         &ALGORITHMS,
@@ -57,53 +57,67 @@ fn explain_algorithm(page: &mut Page<'_>, value: Option<&Value>) -> Result<(), A
 }
 
 /// The other members of a plan for an algorithm, and which ones nobody reads.
-fn explain_members(page: &mut Page<'_>, algorithm: &str, plan: &Value) -> Result<(), AllocError> {
-    explain_lists(page, plan)?;
-    explain_numbers(page, plan)?;
-    explain_shape_of(page, algorithm, plan)?;
-    warn_of_unread(page, "", plan, &MEMBERS)
+fn explain_members(
+    report: &mut FileReport<'_>,
+    algorithm: &str,
+    plan: &Value,
+) -> Result<(), AllocError> {
+    explain_lists(report, plan)?;
+    explain_numbers(report, plan)?;
+    explain_shape_of(report, algorithm, plan)?;
+    warn_of_unread(report, "", plan, &MEMBERS)
 }
 
 /// The names of a plan.
-fn explain_lists(page: &mut Page<'_>, plan: &Value) -> Result<(), AllocError> {
+fn explain_lists(report: &mut FileReport<'_>, plan: &Value) -> Result<(), AllocError> {
     let (nodes, registers) = ("an array of 1 to 21 names", "an array of 1 to 32 names");
-    explain_names(page, "nodes", plan, MOST_NODES as usize, nodes)?;
-    explain_names(page, "registers", plan, MOST_REGISTERS as usize, registers)
+    explain_names(report, "nodes", plan, MOST_NODES as usize, nodes)?;
+    explain_names(
+        report,
+        "registers",
+        plan,
+        MOST_REGISTERS as usize,
+        registers,
+    )
 }
 
 /// The shape of its nodes.
-fn explain_shape_of(page: &mut Page<'_>, algorithm: &str, plan: &Value) -> Result<(), AllocError> {
-    let nodes = names_at(page.alloc, Some(plan), "nodes", MOST_NODES as usize)?;
-    explain_shape(page, algorithm, plan, nodes.as_slice())
+fn explain_shape_of(
+    report: &mut FileReport<'_>,
+    algorithm: &str,
+    plan: &Value,
+) -> Result<(), AllocError> {
+    let nodes = names_at(report.alloc(), Some(plan), "nodes", MOST_NODES as usize)?;
+    explain_shape(report, algorithm, plan, nodes.as_slice())
 }
 
 /// The bounds of a plan.
-fn explain_numbers(page: &mut Page<'_>, plan: &Value) -> Result<(), AllocError> {
+fn explain_numbers(report: &mut FileReport<'_>, plan: &Value) -> Result<(), AllocError> {
     let sections = member_of(plan, "sections");
     let expected = "a whole number, 1 to 1000000";
     expect_number(
-        page,
+        report,
         Path::Member("sections"),
         sections,
         1,
         MOST_SECTIONS,
         expected,
     )?;
-    explain_origin(page, member_of(plan, "origin"))
+    explain_origin(report, member_of(plan, "origin"))
 }
 
 /// The number of the first section, which a plan may leave out.
-fn explain_origin(page: &mut Page<'_>, value: Option<&Value>) -> Result<(), AllocError> {
+fn explain_origin(report: &mut FileReport<'_>, value: Option<&Value>) -> Result<(), AllocError> {
     if value.is_none() {
         return Ok(());
     }
     let expected = "a whole number of 64 bits without a sign";
-    expect_number(page, Path::Member("origin"), value, 0, u64::MAX, expected)
+    expect_number(report, Path::Member("origin"), value, 0, u64::MAX, expected)
 }
 
 /// A list of names, no two equal.
 fn explain_names<'a>(
-    page: &mut Page<'_>,
+    report: &mut FileReport<'_>,
     key: &'a str,
     plan: &'a Value,
     most: usize,
@@ -112,22 +126,22 @@ fn explain_names<'a>(
     let value = member_of(plan, key);
     let list = items_in(value);
     if list.is_empty() || list.len() > most {
-        return expect(page, Path::Member(key), value, expected);
+        return expect(report, Path::Member(key), value, expected);
     }
-    let names = names_in(page.alloc, list, most)?;
-    explain_each_name(page, key, list, names.as_slice())
+    let names = names_in(report.alloc(), list, most)?;
+    explain_each_name(report, key, list, names.as_slice())
 }
 
 /// Each of these names.
 fn explain_each_name(
-    page: &mut Page<'_>,
+    report: &mut FileReport<'_>,
     key: &str,
     list: &[Value],
     names: &[&str],
 ) -> Result<(), AllocError> {
     for (i, value) in list.iter().enumerate() {
         explain_name(
-            page,
+            report,
             Path::Item(key, i),
             value,
             names.get(..i).unwrap_or(&[]),
@@ -138,35 +152,44 @@ fn explain_each_name(
 
 /// A name, which none of the earlier ones equals.
 fn explain_name<'a>(
-    page: &mut Page<'_>,
+    report: &mut FileReport<'_>,
     path: Path<'a>,
     value: &'a Value,
     earlier: &[&str],
 ) -> Result<(), AllocError> {
     let name = text_in(Some(value));
     if !is_name(name) {
-        return expect(page, path, Some(value), NAMES);
+        return expect(report, path, Some(value), NAMES);
     }
     if is_among(name, earlier) {
-        return expect(page, path, Some(value), "a name that no earlier one equals");
+        return expect(
+            report,
+            path,
+            Some(value),
+            "a name that no earlier one equals",
+        );
     }
     Ok(())
 }
 
 /// Warns of the members that are for another algorithm.
-fn warn_of_foreign(page: &mut Page<'_>, algorithm: &str, plan: &Value) -> Result<(), AllocError> {
+fn warn_of_foreign(
+    report: &mut FileReport<'_>,
+    algorithm: &str,
+    plan: &Value,
+) -> Result<(), AllocError> {
     if !is_among(algorithm, &ALGORITHMS) {
         return Ok(());
     }
     for (key, owner) in &OWNED {
-        warn_of_owned(page, *key, *owner, algorithm, plan)?;
+        warn_of_owned(report, *key, *owner, algorithm, plan)?;
     }
     Ok(())
 }
 
 /// Warns of a member that is read for its owner alone, where a plan for another algorithm has it.
 fn warn_of_owned(
-    page: &mut Page<'_>,
+    report: &mut FileReport<'_>,
     key: &str,
     owner: &str,
     algorithm: &str,
@@ -180,5 +203,5 @@ fn warn_of_owned(
         owner,
         algorithm,
     };
-    page.say_of(&Path::Member(key), foreign)
+    report.warn_of(&Path::Member(key), foreign)
 }

@@ -1,7 +1,7 @@
 //! Members that one object has twice.
 
+use crate::file_report::FileReport;
 use crate::lines::Key;
-use crate::page::Page;
 use crate::places::{LineColumn, place_of};
 use crate::scan::{Member, scanned};
 use crate::values::text_in;
@@ -11,18 +11,18 @@ use std::collections::BTreeSet;
 use std::fmt;
 
 /// Warns of each member of the text that is looked at whose key comes earlier in the same object.
-pub(crate) fn warn_of_repeated(page: &mut Page<'_>) -> Result<(), AllocError> {
-    let text = page.copied()?;
-    warn_of_members(page, text.as_slice())
+pub(crate) fn warn_of_repeated(report: &mut FileReport<'_>) -> Result<(), AllocError> {
+    let text = report.copied()?;
+    warn_of_members(report, text.as_slice())
 }
 
-fn warn_of_members(page: &mut Page<'_>, text: &[u8]) -> Result<(), AllocError> {
-    let scan = scanned(page.alloc, text)?;
-    let mut seen = BTreeSet::new(page.alloc);
+fn warn_of_members(report: &mut FileReport<'_>, text: &[u8]) -> Result<(), AllocError> {
+    let scan = scanned(report.alloc(), text)?;
+    let mut seen = BTreeSet::new(report.alloc());
     for member in scan.members() {
         let key = key_of(text, member);
         if !seen.insert((member.object, key))? {
-            say_repeated(page, text, member)?;
+            say_repeated(report, text, member)?;
         }
     }
     Ok(())
@@ -36,16 +36,20 @@ pub(crate) fn key_of<'a>(text: &'a [u8], member: &Member) -> &'a [u8] {
     }
 }
 
-/// Where the page is full neither the place nor the key matters.
-fn say_repeated(page: &mut Page<'_>, text: &[u8], member: &Member) -> Result<(), AllocError> {
-    if page.is_full() {
-        return page.say(Repeated {
+/// Where the report is full neither the place nor the key matters.
+fn say_repeated(
+    report: &mut FileReport<'_>,
+    text: &[u8],
+    member: &Member,
+) -> Result<(), AllocError> {
+    if report.is_full() {
+        return report.warn(Repeated {
             place: place_of(text, 0),
             key: "",
         });
     }
-    let key = read_key(page.alloc, text, member)?;
-    page.say(Repeated {
+    let key = read_key(report.alloc(), text, member)?;
+    report.warn(Repeated {
         place: place_of(text, member.from),
         key: text_in(Some(&key)),
     })

@@ -1,7 +1,7 @@
 //! Why nodes have no such shape.
 
+use crate::file_report::FileReport;
 use crate::lines::Path;
-use crate::page::Page;
 use crate::values::{items_in, member_of, names_at};
 use mx_plan::ShapeFault;
 use mx_quorums::QuorumFault;
@@ -13,24 +13,24 @@ use std::fmt;
 
 /// Says why the nodes of a plan have no such shape, by their names.
 pub(crate) fn explain_shape_fault(
-    page: &mut Page<'_>,
+    report: &mut FileReport<'_>,
     plan: &Value,
     fault: ShapeFault,
 ) -> Result<(), AllocError> {
-    let nodes = names_at(page.alloc, Some(plan), "nodes", MOST_NODES as usize)?;
+    let nodes = names_at(report.alloc(), Some(plan), "nodes", MOST_NODES as usize)?;
     let edges = items_in(member_of(plan, "edges")).len();
-    say_fault(page, nodes.as_slice(), edges, fault)
+    say_fault(report, nodes.as_slice(), edges, fault)
 }
 
 fn say_fault(
-    page: &mut Page<'_>,
+    report: &mut FileReport<'_>,
     nodes: &[&str],
     edges: usize,
     fault: ShapeFault,
 ) -> Result<(), AllocError> {
     match fault {
         ShapeFault::Quorum(fault) => {
-            page.say_of(&quorum_path(fault), QuorumWords { fault, nodes })
+            report.fault_of(&quorum_path(fault), QuorumWords { fault, nodes })
         }
         ShapeFault::Tree(fault) => {
             let words = TreeWords {
@@ -38,7 +38,7 @@ fn say_fault(
                 nodes,
                 edges,
             };
-            page.say_of(&tree_path(fault), words)
+            report.fault_of(&tree_path(fault), words)
         }
     }
 }

@@ -2,8 +2,8 @@
 
 use crate::circles::explain_circles;
 use crate::expecting::{expect, expect_number, expect_word, number_in, warn_of_unread};
+use crate::file_report::FileReport;
 use crate::lines::Path;
-use crate::page::Page;
 use crate::values::{elements, items_in, member_of, text_in};
 use mx_stamps::MOST_NODES;
 use serde_json::Value;
@@ -13,52 +13,62 @@ const KINDS: [&str; 3] = ["plane", "grid", "listed"];
 
 /// Says what is wrong in the members for the shape of these nodes.
 pub(crate) fn explain_shape(
-    page: &mut Page<'_>,
+    report: &mut FileReport<'_>,
     algorithm: &str,
     plan: &Value,
     nodes: &[&str],
 ) -> Result<(), AllocError> {
     match algorithm {
-        "maekawa" => explain_quorums(page, member_of(plan, "quorums"), nodes),
-        "raymond" => explain_tree(page, plan, nodes),
+        "maekawa" => explain_quorums(report, member_of(plan, "quorums"), nodes),
+        "raymond" => explain_tree(report, plan, nodes),
         _ => Ok(()),
     }
 }
 
 fn explain_quorums(
-    page: &mut Page<'_>,
+    report: &mut FileReport<'_>,
     value: Option<&Value>,
     nodes: &[&str],
 ) -> Result<(), AllocError> {
     match value {
-        Some(quorums) if quorums.is_object() => explain_family(page, quorums, nodes),
+        Some(quorums) if quorums.is_object() => explain_family(report, quorums, nodes),
         _ => {
             let expected = "an object: {\"kind\":\"plane\"}, or of kind grid or listed";
-            expect(page, Path::Member("quorums"), value, expected)
+            expect(report, Path::Member("quorums"), value, expected)
         }
     }
 }
 
 /// The kind of quorums, and what is read for it.
-fn explain_family(page: &mut Page<'_>, quorums: &Value, nodes: &[&str]) -> Result<(), AllocError> {
+fn explain_family(
+    report: &mut FileReport<'_>,
+    quorums: &Value,
+    nodes: &[&str],
+) -> Result<(), AllocError> {
     let value = member_of(quorums, "kind");
     let expected = "a kind: plane, grid or listed";
-    expect_word(page, Path::Member("quorums.kind"), value, &KINDS, expected)?;
+    expect_word(
+        report,
+        Path::Member("quorums.kind"),
+        value,
+        &KINDS,
+        expected,
+    )?;
     let kind = text_in(value);
-    explain_kind(page, kind, quorums, nodes)?;
-    warn_of_unread(page, "quorums", quorums, members_of(kind))
+    explain_kind(report, kind, quorums, nodes)?;
+    warn_of_unread(report, "quorums", quorums, members_of(kind))
 }
 
 /// What is read for a kind of quorums.
 fn explain_kind(
-    page: &mut Page<'_>,
+    report: &mut FileReport<'_>,
     kind: &str,
     quorums: &Value,
     nodes: &[&str],
 ) -> Result<(), AllocError> {
     match kind {
-        "grid" => explain_grid(page, quorums, nodes.len()),
-        "listed" => explain_sets(page, member_of(quorums, "sets"), nodes),
+        "grid" => explain_grid(report, quorums, nodes.len()),
+        "listed" => explain_sets(report, member_of(quorums, "sets"), nodes),
         _ => Ok(()),
     }
 }
@@ -74,26 +84,30 @@ fn members_of(kind: &str) -> &'static [&'static str] {
 }
 
 /// Rows and columns, which together have as many places as there are nodes, where nodes are known.
-fn explain_grid(page: &mut Page<'_>, quorums: &Value, nodes: usize) -> Result<(), AllocError> {
+fn explain_grid(
+    report: &mut FileReport<'_>,
+    quorums: &Value,
+    nodes: usize,
+) -> Result<(), AllocError> {
     let (rows, cols) = (member_of(quorums, "rows"), member_of(quorums, "cols"));
-    explain_side(page, "quorums.rows", rows)?;
-    explain_side(page, "quorums.cols", cols)?;
+    explain_side(report, "quorums.rows", rows)?;
+    explain_side(report, "quorums.cols", cols)?;
     if has_places(number_in(rows), number_in(cols), nodes) {
         return Ok(());
     }
     let expected = "such rows that rows times cols is the number of nodes";
-    expect(page, Path::Member("quorums.rows"), rows, expected)
+    expect(report, Path::Member("quorums.rows"), rows, expected)
 }
 
 /// The number of rows or columns.
 fn explain_side(
-    page: &mut Page<'_>,
+    report: &mut FileReport<'_>,
     member: &str,
     value: Option<&Value>,
 ) -> Result<(), AllocError> {
     let expected = "a whole number, 1 to 21";
     expect_number(
-        page,
+        report,
         Path::Member(member),
         value,
         1,
@@ -111,20 +125,20 @@ fn has_places(rows: Option<u64>, cols: Option<u64>, nodes: usize) -> bool {
 }
 
 fn explain_sets(
-    page: &mut Page<'_>,
+    report: &mut FileReport<'_>,
     value: Option<&Value>,
     nodes: &[&str],
 ) -> Result<(), AllocError> {
-    explain_set_count(page, value, nodes.len())?;
+    explain_set_count(report, value, nodes.len())?;
     for (i, set) in items_in(value).iter().enumerate() {
-        explain_nodes(page, "quorums.sets", i, set, nodes)?;
+        explain_nodes(report, "quorums.sets", i, set, nodes)?;
     }
     Ok(())
 }
 
 /// How many sets there are, where nodes are known.
 fn explain_set_count(
-    page: &mut Page<'_>,
+    report: &mut FileReport<'_>,
     value: Option<&Value>,
     nodes: usize,
 ) -> Result<(), AllocError> {
@@ -132,75 +146,79 @@ fn explain_set_count(
         Some(sets) if nodes == 0 || sets.len() == nodes => Ok(()),
         _ => {
             let expected = "an array with a set for each node, in the order of nodes";
-            expect(page, Path::Member("quorums.sets"), value, expected)
+            expect(report, Path::Member("quorums.sets"), value, expected)
         }
     }
 }
 
 /// Edges, and the node that has the privilege first.
-fn explain_tree(page: &mut Page<'_>, plan: &Value, nodes: &[&str]) -> Result<(), AllocError> {
-    explain_edges(page, member_of(plan, "edges"), nodes)?;
+fn explain_tree(
+    report: &mut FileReport<'_>,
+    plan: &Value,
+    nodes: &[&str],
+) -> Result<(), AllocError> {
+    explain_edges(report, member_of(plan, "edges"), nodes)?;
     let holder = member_of(plan, "holder");
     let expected = "a node of the plan";
-    expect_word(page, Path::Member("holder"), holder, nodes, expected)
+    expect_word(report, Path::Member("holder"), holder, nodes, expected)
 }
 
 fn explain_edges(
-    page: &mut Page<'_>,
+    report: &mut FileReport<'_>,
     value: Option<&Value>,
     nodes: &[&str],
 ) -> Result<(), AllocError> {
     let Some(edges) = elements(value) else {
         let expected = "an array of edges, each an array of two nodes";
-        return expect(page, Path::Member("edges"), value, expected);
+        return expect(report, Path::Member("edges"), value, expected);
     };
-    explain_each_edge(page, edges, nodes)?;
-    explain_circles(page, edges, nodes)
+    explain_each_edge(report, edges, nodes)?;
+    explain_circles(report, edges, nodes)
 }
 
 fn explain_each_edge(
-    page: &mut Page<'_>,
+    report: &mut FileReport<'_>,
     edges: &[Value],
     nodes: &[&str],
 ) -> Result<(), AllocError> {
     for (i, edge) in edges.iter().enumerate() {
-        explain_edge(page, i, edge, nodes)?;
+        explain_edge(report, i, edge, nodes)?;
     }
     Ok(())
 }
 
 /// The i-th edge.
 fn explain_edge(
-    page: &mut Page<'_>,
+    report: &mut FileReport<'_>,
     i: usize,
     edge: &Value,
     nodes: &[&str],
 ) -> Result<(), AllocError> {
     if items_in(Some(edge)).len() != 2 {
         return expect(
-            page,
+            report,
             Path::Item("edges", i),
             Some(edge),
             "an array of two nodes",
         );
     }
-    explain_nodes(page, "edges", i, edge, nodes)
+    explain_nodes(report, "edges", i, edge, nodes)
 }
 
 /// The i-th of several arrays of nodes.
 fn explain_nodes(
-    page: &mut Page<'_>,
+    report: &mut FileReport<'_>,
     key: &'static str,
     i: usize,
     value: &Value,
     nodes: &[&str],
 ) -> Result<(), AllocError> {
     let Some(names) = elements(Some(value)) else {
-        return expect(page, Path::Item(key, i), Some(value), "an array of nodes");
+        return expect(report, Path::Item(key, i), Some(value), "an array of nodes");
     };
     for (j, name) in names.iter().enumerate() {
         let path = Path::Inner(key, i, j);
-        expect_word(page, path, Some(name), nodes, "a node of the plan")?;
+        expect_word(report, path, Some(name), nodes, "a node of the plan")?;
     }
     Ok(())
 }

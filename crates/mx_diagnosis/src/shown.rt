@@ -1,29 +1,48 @@
 //! Texts that others wrote, shown without control characters.
 
-use std::fmt;
-use std::fmt::Display;
+ghost use Rattle.std.specs.Prelude.{◌≡◌, ◌++◌, OnOk, codes, false, string_bytes};
+ghost use Rattle.std.specs.Fmt.{digits};
+ghost use Rattle.mx_diagnosis.specs.Shown.{escaped, shown, shown_char};
 
-/// A text as it is, but for its control characters, which are shown escaped: as `\0`, `\t`, `\n` or
-/// `\r`, else by their number, as `\u{1b}`.
-#[derive(Clone, Copy)]
-pub(crate) struct Shown<'a>(pub(crate) &'a str);
+use std::alloc::AllocError;
 
-impl Display for Shown<'_> {
-    fn fmt<W: fmt::Write>(&self, f: &mut fmt::Formatter<W>) -> fmt::Result {
-        for character in self.0.chars() {
-            write_shown(character, f)?;
-        }
-        Ok(())
+/// Appends a text as it is, but for its control characters, which are escaped: as `\0`, `\t`, `\n`
+/// or `\r`, else by their number, as `\u{1b}`.
+pub(crate) fn add_shown(raw: &str, text: &mut String) -> Result<(), AllocError>
+    ensures { OnOk result (string_bytes text.new ≡ string_bytes text.old ++ shown raw.now) }
+{
+    for character in raw.chars() {
+        add_character(character, text)?;
+    }
+    Ok(())
+}
+
+fn add_character(character: char, text: &mut String) -> Result<(), AllocError>
+    ensures { OnOk result (string_bytes text.new ≡ string_bytes text.old ++ shown_char character) }
+{
+    if character.is_control() {
+        add_escaped(character, text)
+    } else {
+        text.push(character)
     }
 }
 
-/// Writes a character, or how it is shown where it is a control character.
-pub(crate) fn write_shown<W: fmt::Write>(
-    character: char,
-    f: &mut fmt::Formatter<W>,
-) -> fmt::Result {
-    if character.is_control() {
-        return write!(f, "{}", character.escape_debug());
+fn add_escaped(control: char, text: &mut String) -> Result<(), AllocError>
+    ensures { OnOk result (string_bytes text.new ≡ string_bytes text.old ++ escaped control) }
+{
+    match control {
+        '\0' => text.push_str("\\0"),
+        '\t' => text.push_str("\\t"),
+        '\n' => text.push_str("\\n"),
+        '\r' => text.push_str("\\r"),
+        _ => add_number(control as u32, text),
     }
-    f.write_char(character)
+}
+
+/// Appends the number of a character.
+fn add_number(number: u32, text: &mut String) -> Result<(), AllocError>
+    ensures { OnOk result (string_bytes text.new
+        ≡ string_bytes text.old ++ (codes "\\u{" ++ digits 16 false number ++ codes "}")) }
+{
+    write!(text, "\\u{{{number:x}}}")
 }

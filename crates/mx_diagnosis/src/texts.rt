@@ -1,22 +1,40 @@
 //! What is wrong in the text of a plan, and in that of its events.
 
+ghost use Rattle.mx_diagnosis.specs.Reports.{IsLonger};
+
 use crate::event_faults::{Known, explain_events};
+use crate::file_report::FileReport;
 use crate::json_faults::{Part, value_in};
-use crate::page::Page;
 use crate::plan_faults::explain_plan;
 use crate::repeated::warn_of_repeated;
+use crate::report::Report;
 use crate::shape_alone::shape_fault_alone;
 use crate::shape_faults::explain_shape_fault;
 use crate::values::names_at;
+use crate::words::first_script_line;
 use mx_plan::ShapeFault;
 use mx_stamps::{MOST_NODES, MOST_REGISTERS};
 use serde_json::Value;
 use std::alloc::AllocError;
 
-/// Says what is wrong in a plan whose nodes have no shape for this fault, or have one, and returns
-/// its value where it is JSON.
+/// Adds what is wrong in a plan whose nodes have no shape for this fault, or have one, and returns
+/// its value if it is JSON.
 pub fn explain_plan_text(
-    page: &mut Page<'_>,
+    report: &mut Report,
+    file: &str,
+    text: &[u8],
+    fault: Option<ShapeFault>,
+) -> Result<Option<Value>, AllocError>
+    ensures longer { IsLonger report.old report.new }
+{
+    let mut lines = FileReport::new(report.alloc(), file);
+    let plan = explain_plan_in(&mut lines, text, fault)?;
+    report.add(lines)?;
+    Ok(plan)
+}
+
+fn explain_plan_in(
+    report: &mut FileReport<'_>,
     text: &[u8],
     fault: Option<ShapeFault>,
 ) -> Result<Option<Value>, AllocError> {
@@ -26,43 +44,57 @@ pub fn explain_plan_text(
         nesting: 4,
         is_object: true,
     };
-    let Some(plan) = value_in(page, part)? else {
+    let Some(plan) = value_in(report, part)? else {
         return Ok(None);
     };
-    explain_read_plan(page, &plan, fault)?;
+    explain_read_plan(report, &plan, fault)?;
     Ok(Some(plan))
 }
 
 /// Says what is wrong in the value of a plan, and in its text.
 fn explain_read_plan(
-    page: &mut Page<'_>,
+    report: &mut FileReport<'_>,
     plan: &Value,
     fault: Option<ShapeFault>,
 ) -> Result<(), AllocError> {
-    explain_plan(page, plan)?;
-    if let Some(fault) = shape_fault_of(page, plan, fault)? {
-        explain_shape_fault(page, plan, fault)?;
+    explain_plan(report, plan)?;
+    if let Some(fault) = shape_fault_of(report, plan, fault)? {
+        explain_shape_fault(report, plan, fault)?;
     }
-    warn_of_repeated(page)
+    warn_of_repeated(report)
 }
 
 /// Why the nodes of a plan have no shape: by this fault, with which it was read, or else by the
 /// members that say it.
 fn shape_fault_of(
-    page: &Page<'_>,
+    report: &FileReport<'_>,
     plan: &Value,
     fault: Option<ShapeFault>,
 ) -> Result<Option<ShapeFault>, AllocError> {
     match fault {
         Some(fault) => Ok(Some(fault)),
-        None => shape_fault_alone(page.alloc, plan),
+        None => shape_fault_alone(report.alloc(), plan),
     }
 }
 
-/// Says what is wrong in events that begin below a number of lines of their file, by the names of
-/// the plan where that is JSON.
+/// Adds what is wrong in events that begin below a number of lines of their file, by the names of
+/// the plan if that is JSON.
 pub fn explain_event_text(
-    page: &mut Page<'_>,
+    report: &mut Report,
+    file: &str,
+    plan: Option<&Value>,
+    text: &[u8],
+    above: usize,
+) -> Result<(), AllocError>
+    ensures longer { IsLonger report.old report.new }
+{
+    let mut lines = FileReport::new(report.alloc(), file);
+    explain_events_in(&mut lines, plan, text, above)?;
+    report.add(lines)
+}
+
+fn explain_events_in(
+    report: &mut FileReport<'_>,
     plan: Option<&Value>,
     text: &[u8],
     above: usize,
@@ -73,23 +105,39 @@ pub fn explain_event_text(
         nesting: 2,
         is_object: false,
     };
-    match value_in(page, part)? {
-        Some(events) => explain_read_events(page, plan, &events),
-        None => Ok(()),
+    match value_in(report, part)? {
+        Some(events) => explain_read_events(report, plan, &events),
+        None => warn_of_script(report, text, above),
     }
+}
+
+/// Warns if a text that is no list of events is a script.
+fn warn_of_script(
+    report: &mut FileReport<'_>,
+    text: &[u8],
+    above: usize,
+) -> Result<(), AllocError> {
+    let Some(number) = first_script_line(report.alloc(), text)? else {
+        return Ok(());
+    };
+    report.look_at(text, above)?;
+    report.warn_of_line(
+        number,
+        " warning: a script stands here, in place of events: explain it with --script",
+    )
 }
 
 /// Says what is wrong in the value of events.
 fn explain_read_events(
-    page: &mut Page<'_>,
+    report: &mut FileReport<'_>,
     plan: Option<&Value>,
     events: &Value,
 ) -> Result<(), AllocError> {
-    let nodes = names_at(page.alloc, plan, "nodes", MOST_NODES as usize)?;
-    let registers = names_at(page.alloc, plan, "registers", MOST_REGISTERS as usize)?;
+    let nodes = names_at(report.alloc(), plan, "nodes", MOST_NODES as usize)?;
+    let registers = names_at(report.alloc(), plan, "registers", MOST_REGISTERS as usize)?;
     let known = Known {
         nodes: nodes.as_slice(),
         registers: registers.as_slice(),
     };
-    explain_events(page, events, known)
+    explain_events(report, events, known)
 }

@@ -1,6 +1,10 @@
 //! The message for a node that the plan does not have.
 
+ghost use Rattle.std.specs.Prelude.{IfOk, string_bytes};
+ghost use Rattle.mx_diagnosis.specs.Shown.{ArePrintable};
+
 use crate::lines::{Nearest, Quoted};
+use crate::shown::add_shown;
 use mx_lines::nearest;
 use mx_plan::Plan;
 use std::alloc::{AllocError, Global};
@@ -15,15 +19,19 @@ fn nodes_of(alloc: Global, plan: &Plan) -> Result<Vec<&str>, AllocError> {
     Ok(names)
 }
 
-/// What is to be told of a node that is named and that the plan does not have.
-pub fn told_of_node(alloc: Global, plan: &Plan, name: &str) -> Result<String, AllocError> {
+/// What is to be told of a node that is named and that the plan does not have: printable text.
+pub fn told_of_node(alloc: Global, plan: &Plan, name: &str) -> Result<String, AllocError>
+    ensures { IfOk result (λ text. ArePrintable (string_bytes text)) }
+{
     let nodes = nodes_of(alloc, plan)?;
     let stranger = Stranger {
         name,
         nearest: nearest(alloc, name, nodes.as_slice())?,
     };
-    let mut told = String::new(alloc);
-    told.write(stranger)?;
+    let mut raw = String::new(alloc);
+    raw.write(stranger)?;
+    let mut told = String::with_capacity(alloc, raw.len())?;
+    add_shown(raw.as_str(), &mut told)?;
     Ok(told)
 }
 

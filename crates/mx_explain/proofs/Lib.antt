@@ -1,1 +1,2 @@
 pub mod ExplainLemmas
+pub mod TellsLemmas

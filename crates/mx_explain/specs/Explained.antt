@@ -1,6 +1,6 @@
 -- With which status an explanation ends, and what standard error gets: those of the check, of the
--- replay or of the script.
-use Rattle.std.specs.Prelude.{◌≡◌, ◌⊎◌, ◌&&◌, ℕ, Bool, false, Option, IfSome}
+-- replay or of the script. What standard output gets.
+use Rattle.std.specs.Prelude.{◌≡◌, ◌≢◌, ◌⊎◌, ◌↔◌, ◌&&◌, ℕ, Bool, false, Option, Result, IfSome, MatchResult}
 use Rattle.std.specs.Io.KnownBytes.{Appends}
 use Rattle.mx_cli.specs.Words.{Request}
 use Rattle.mx_plan.specs.Text.{Text}
@@ -13,6 +13,7 @@ use Rattle.mx_commands.specs.Jobs.{HoldsOfReport, job_of, names_in}
 use Rattle.mx_commands.specs.Ran.{end_text, status_of}
 use Rattle.mx_cli.specs.Closed.{FallsShort}
 use Rattle.mx_scripts.specs.Ended.{ScriptsOf}
+use Rattle.mx_diagnosis.specs.Reports.{AreShown, last_line, nothing_at_fault}
 use Rattle.mx_explain.specs.Asked.{Matter, run, script}
 
 -- the status of this report, and the line of its fault
@@ -40,3 +41,28 @@ ExplainsMatter takes_out takes_err told (script names) old new status =
 -- all bytes never does
 abbrev pub FailsToPrint : Bool → Stop → Type 0
 FailsToPrint takes_all end = (end ≡ Memory) ⊎ ((end ≡ Writer) × (takes_all ≡ false))
+
+-- a report was printed: printable lines, of which the last says that nothing is at fault exactly if
+-- no line is of a fault
+abbrev pub PrintsReport : Held → Held → Bool → Type 0
+PrintsReport old new is_fault =
+    (text : Text) × Appends old new text × AreShown text
+    × ((last_line text ≡ nothing_at_fault) ↔ (is_fault ≡ false))
+
+-- what was printed of files: printable lines, of which the last says that nothing is at fault
+-- exactly if the command succeeds
+abbrev pub Prints : {T E : Type 0} → Held → Held → Result T E → Type 0
+Prints old new ended =
+    (text : Text) × Appends old new text × AreShown text
+    × MatchResult ended (λ _. last_line text ≡ nothing_at_fault) (λ _. last_line text ≢ nothing_at_fault)
+
+-- What standard output gets: printable lines, with no control byte but line feeds. The last is
+-- `nothing is at fault` exactly if the status is 0; it may be too if the explanation falls short
+-- once it is printed.
+pub record TellsLines (takes_all : Bool) (out out' err err' : Held) (status : ℕ) : Type 0 where
+  pub text : Text
+  pub told : Appends out out' text
+  pub printable : AreShown text
+  pub well : status ≡ 0 → last_line text ≡ nothing_at_fault
+  pub zero : last_line text ≡ nothing_at_fault
+      → (status ≡ 0) ⊎ FallsShort takes_all err err' status

@@ -1,12 +1,14 @@
 //! `explain`: from words, named bytes and two outputs to a status.
 
-ghost use Rattle.std.specs.Prelude.{◌≡◌, ◌&&◌, IsSome, IfSome, IfOk, IfErr, None, true, false};
+ghost use Rattle.std.specs.Prelude.{◌≡◌, ◌&&◌, IsSome, IfSome, IfOk, IfErr, OnErr, OnOk, None, is_some, true, false};
 ghost use Rattle.mx_cli.specs.Words.{request_of, texts_of};
 ghost use Rattle.mx_cli.specs.Told.{Answers, seen};
 ghost use Rattle.mx_cli.specs.Closed.{IsRunStatus, PassesOn};
 ghost use Rattle.mx_commands.specs.Ran.{RanOf};
 ghost use Rattle.mx_explain.specs.Asked.{explain_line, matter_of, request_asked};
-ghost use Rattle.mx_explain.specs.Explained.{Explains, ExplainsMatter, FailsToPrint};
+ghost use Rattle.mx_explain.specs.Explained.{Explains, ExplainsMatter, FailsToPrint, Prints, PrintsReport, TellsLines};
+ghost use Rattle.mx_diagnosis.specs.Reports.{has_fault};
+ghost use Rattle.std.specs.Io.KnownBytes.{Keeps};
 
 use crate::asking::{Matter, asked};
 use crate::files::explain_files;
@@ -14,7 +16,7 @@ use crate::reasons::Reasons;
 use crate::scripts::explain_script;
 use mx_cli::{Fault, Request, Stop, close, refuse};
 use mx_commands::{carry_out, names_in};
-use mx_diagnosis::Page;
+use mx_diagnosis::Report;
 use mx_io::{Output, OutputFault, Source};
 use std::alloc::{AllocError, Global};
 
@@ -50,6 +52,9 @@ pub fn explain<S: Source + Reasons, O: Output, E: Output>(
     ensures explains { IfSome (request_asked (texts_of words.entry.now)) (λ matter.
         ExplainsMatter (O.takes_all out.old) (E.takes_all err.old) (S.told source.old) matter
         (E.written err.old) (E.written err.new) result) }
+    ensures told { IsSome (request_asked (texts_of words.entry.now))
+        → TellsLines (O.takes_all out.old && E.takes_all err.old) (O.written out.old)
+        (O.written out.new) (E.written err.old) (E.written err.new) result }
     ensures passed { IsSome (request_asked (texts_of words.entry.now))
         → PassesOn (E.written err.old) (E.written err.new) (O.keeps_back out.new) result }
     ensures status { IsSome (request_asked (texts_of words.entry.now)) → IsRunStatus result }
@@ -72,6 +77,8 @@ fn explain_matter<S: Source + Reasons, O: Output, E: Output>(
 ) -> u8
     ensures explains { ExplainsMatter (O.takes_all out.old) (E.takes_all err.old)
         (S.told source.old) (matter_of matter.now) (E.written err.old) (E.written err.new) result }
+    ensures told { TellsLines (O.takes_all out.old && E.takes_all err.old) (O.written out.old)
+        (O.written out.new) (E.written err.old) (E.written err.new) result }
     ensures passed { PassesOn (E.written err.old) (E.written err.new) (O.keeps_back out.new)
         result }
     ensures status { IsRunStatus result }
@@ -91,6 +98,8 @@ fn explain_request<S: Source + Reasons, O: Output, E: Output>(
 ) -> u8
     ensures explains { Explains (O.takes_all out.old && E.takes_all err.old) (S.told source.old)
         (request_of request.now) (E.written err.old) (E.written err.new) result }
+    ensures told { TellsLines (O.takes_all out.old && E.takes_all err.old) (O.written out.old)
+        (O.written out.new) (E.written err.old) (E.written err.new) result }
     ensures passed { PassesOn (E.written err.old) (E.written err.new) (O.keeps_back out.new)
         result }
     ensures status { IsRunStatus result }
@@ -109,6 +118,7 @@ fn carry_out_and_explain<S: Source + Reasons, O: Output>(
 ) -> Result<u8, Stop>
     ensures ran { RanOf (O.takes_all out.old) None None (S.told source.old) (request_of request.now)
         result }
+    ensures prints { Prints (O.written out.old) (O.written out.new) result }
     ensures zero { IfOk result (λ status. status ≡ 0) }
     ensures stays { O.takes_all out.new ≡ O.takes_all out.old }
 {
@@ -128,6 +138,8 @@ fn print_end<S: Source + Reasons, O: Output>(
     out: &mut O,
 ) -> Result<(), Stop>
     ensures fails { IfErr result (FailsToPrint (O.takes_all out.old)) }
+    ensures prints { OnOk result (Prints (O.written out.old) (O.written out.new) ended.now) }
+    ensures same { OnErr result (Keeps (O.written out.old) (O.written out.new)) }
     ensures stays { O.takes_all out.new ≡ O.takes_all out.old }
 {
     match ended {
@@ -146,30 +158,39 @@ fn print_explanation<S: Source + Reasons, O: Output>(
     out: &mut O,
 ) -> Result<(), Stop>
     ensures fails { IfErr result (FailsToPrint (O.takes_all out.old)) }
+    ensures prints { OnOk result (PrintsReport (O.written out.old) (O.written out.new)
+        (is_some fault)) }
+    ensures same { OnErr result (Keeps (O.written out.old) (O.written out.new)) }
     ensures stays { O.takes_all out.new ≡ O.takes_all out.old }
 {
-    let page = page_of(alloc, request, fault, source)?;
-    put_page(&page, out)
+    let report = report_of(alloc, request, fault, source)?;
+    put_report(&report, out)
 }
 
-/// Prints all that was said.
-pub(crate) fn put_page<O: Output>(page: &Page<'_>, out: &mut O) -> Result<(), Stop>
+/// Prints all lines.
+pub(crate) fn put_report<O: Output>(report: &Report, out: &mut O) -> Result<(), Stop>
     ensures fails { IfErr result (FailsToPrint (O.takes_all out.old)) }
+    ensures prints { OnOk result (PrintsReport (O.written out.old) (O.written out.new)
+        (has_fault report.now.lines)) }
+    ensures same { OnErr result (Keeps (O.written out.old) (O.written out.new)) }
     ensures stays { O.takes_all out.new ≡ O.takes_all out.old }
 {
-    out.put(page.text().as_bytes())?;
+    let text = report.text()?;
+    out.put(text.as_bytes())?;
     Ok(())
 }
 
 /// What is wrong in files that are read with this fault.
-fn page_of<'a, S: Source + Reasons>(
+fn report_of<S: Source + Reasons>(
     alloc: Global,
-    request: &Request<'a>,
+    request: &Request<'_>,
     fault: Option<Fault>,
     source: &mut S,
-) -> Result<Page<'a>, AllocError> {
-    let mut page = Page::new(alloc, names_in(request).plan);
-    explain_files(&mut page, request, fault, source)?;
-    page.end(fault.is_none())?;
-    Ok(page)
+) -> Result<Report, AllocError>
+    ensures { IfOk result (λ report. has_fault report.lines ≡ is_some fault) }
+{
+    let mut report = Report::new(alloc, fault.is_none());
+    explain_files(&mut report, request, fault, source)?;
+    report.end(names_in(request).plan)?;
+    Ok(report)
 }

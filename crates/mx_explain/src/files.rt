@@ -1,159 +1,165 @@
 //! What is wrong in the files that a check, a replay or a script reads.
 
-use crate::parcels::explain_parcel;
+ghost use Rattle.mx_diagnosis.specs.Reports.{IsLonger};
+
 use crate::reasons::Reasons;
-use crate::refused_lines::explain_refused;
+use crate::runs::explain_run;
+use crate::script_runs::explain_script_run;
 use mx_cli::{Fault, Names, Request, are_dashes, split_line};
-use mx_diagnosis::{Page, Unreadable, explain_event_text, explain_plan_text, explain_script_text};
+use mx_diagnosis::{
+    FileReport, Report, Unreadable, explain_event_text, explain_plan_text, explain_script_text,
+};
 use mx_io::{Source, SourceFault};
 use mx_plan::{PlanFault, ShapeFault};
 use mx_scripts::BadLine;
 use serde_json::Value;
 use std::alloc::AllocError;
 
-/// What comes with a plan, and where it ends early.
+/// What comes with a plan. Where both were read they can run.
 #[derive(Clone, Copy)]
-enum Second<'a> {
-    /// Events, that end with this fault.
-    Events(Option<Fault>),
+pub(crate) enum Second<'a> {
+    Events {
+        is_read: bool,
+    },
     /// A script, of which this line is refused.
-    Script(Option<&'a BadLine>),
+    Script {
+        is_read: bool,
+        refused: Option<&'a BadLine>,
+    },
 }
 
-/// Says what is wrong in the files of a check or of a replay that ended with this fault.
-pub(crate) fn explain_files<'a, S: Source + Reasons>(
-    page: &mut Page<'a>,
-    request: &Request<'a>,
+/// Adds what is wrong in the files of a check or of a replay that ended with this fault.
+pub(crate) fn explain_files<S: Source + Reasons>(
+    report: &mut Report,
+    request: &Request<'_>,
     fault: Option<Fault>,
     source: &mut S,
-) -> Result<(), AllocError> {
+) -> Result<(), AllocError>
+    ensures { IsLonger report.old report.new }
+{
+    let shape = shape_fault_in(fault);
     match request {
         Request::Replay(names) => {
-            let second = Second::Events(fault);
-            explain_both(page, names, shape_fault_in(fault), &second, source)
+            let is_read = matches!(fault, None | Some(Fault::NoParcel(_)));
+            explain_both(report, names, shape, &Second::Events { is_read }, source)
         }
-        Request::Check(plan) | Request::Asks(plan) => explain_alone(page, plan, fault, source),
+        Request::Check(plan) | Request::Asks(plan) => explain_alone(report, plan, shape, source),
         Request::Explore(_) => Ok(()),
     }
 }
 
-/// Says what is wrong in the plan of a script that has no shape for this fault, or has one, and in
-/// the script, of which this line is refused.
-pub(crate) fn explain_scripts<'a, S: Source + Reasons>(
-    page: &mut Page<'a>,
-    names: &Names<'a>,
-    shape: Option<ShapeFault>,
-    line: Option<&BadLine>,
-    source: &mut S,
-) -> Result<(), AllocError> {
-    explain_both(page, names, shape, &Second::Script(line), source)
-}
-
-/// A plan and what comes with it.
-fn explain_both<'a, S: Source + Reasons>(
-    page: &mut Page<'a>,
-    names: &Names<'a>,
+/// Adds what is wrong in a plan that has no shape for this fault, or has one, and in what comes with
+/// it.
+pub(crate) fn explain_both<S: Source + Reasons>(
+    report: &mut Report,
+    names: &Names<'_>,
     shape: Option<ShapeFault>,
     second: &Second<'_>,
     source: &mut S,
-) -> Result<(), AllocError> {
+) -> Result<(), AllocError>
+    ensures { IsLonger report.old report.new }
+{
     if are_dashes(names) {
-        explain_one(page, names, shape, second, source)
+        explain_one(report, names, shape, second, source)
     } else {
-        explain_two(page, names, shape, second, source)
+        explain_two(report, names, shape, second, source)
     }
 }
 
 /// A plan without events.
 fn explain_alone<S: Source + Reasons>(
-    page: &mut Page<'_>,
+    report: &mut Report,
     name: &str,
-    fault: Option<Fault>,
+    shape: Option<ShapeFault>,
     source: &mut S,
-) -> Result<(), AllocError> {
-    if let Some(text) = fetched(page, name, source)? {
-        let _ = explain_plan_text(page, text.as_slice(), shape_fault_in(fault))?;
+) -> Result<(), AllocError>
+    ensures { IsLonger report.old report.new }
+{
+    if let Some(text) = fetched(report, name, source)? {
+        let _ = explain_plan_text(report, name, text.as_slice(), shape)?;
     }
     Ok(())
 }
 
 /// A plan in the first line of a text, and what comes with it in the rest.
-fn explain_one<'a, S: Source + Reasons>(
-    page: &mut Page<'a>,
-    names: &Names<'a>,
+fn explain_one<S: Source + Reasons>(
+    report: &mut Report,
+    names: &Names<'_>,
     shape: Option<ShapeFault>,
     second: &Second<'_>,
     source: &mut S,
-) -> Result<(), AllocError> {
-    let Some(text) = fetched(page, names.plan, source)? else {
+) -> Result<(), AllocError>
+    ensures { IsLonger report.old report.new }
+{
+    let Some(text) = fetched(report, names.plan, source)? else {
         return Ok(());
     };
     let (line, rest) = split_line(text.as_slice());
-    let plan = explain_plan_text(page, line, shape)?;
-    page.turn_to(names.events)?;
-    explain_second(page, second, plan.as_ref(), rest, 1)?;
-    explain_end(page, second, line, rest)
+    let plan = explain_plan_text(report, names.plan, line, shape)?;
+    explain_second(report, names.events, second, plan.as_ref(), line, rest, 1)
 }
 
 /// A plan and what comes with it in two files.
-fn explain_two<'a, S: Source + Reasons>(
-    page: &mut Page<'a>,
-    names: &Names<'a>,
+fn explain_two<S: Source + Reasons>(
+    report: &mut Report,
+    names: &Names<'_>,
     shape: Option<ShapeFault>,
     second: &Second<'_>,
     source: &mut S,
-) -> Result<(), AllocError> {
-    let Some(text) = fetched(page, names.plan, source)? else {
+) -> Result<(), AllocError>
+    ensures { IsLonger report.old report.new }
+{
+    let Some(text) = fetched(report, names.plan, source)? else {
         return Ok(());
     };
-    let plan = explain_plan_text(page, text.as_slice(), shape)?;
-    page.turn_to(names.events)?;
-    let Some(events) = fetched(page, names.events, source)? else {
+    let plan = explain_plan_text(report, names.plan, text.as_slice(), shape)?;
+    let Some(rest) = fetched(report, names.events, source)? else {
         return Ok(());
     };
-    explain_second(page, second, plan.as_ref(), events.as_slice(), 0)?;
-    explain_end(page, second, text.as_slice(), events.as_slice())
+    let (text, rest) = (text.as_slice(), rest.as_slice());
+    explain_second(report, names.events, second, plan.as_ref(), text, rest, 0)
 }
 
-/// What is wrong in events or in a script, each event and each line by itself.
+/// What is wrong in events or in a script, each event and each line by itself, and in their run.
 fn explain_second(
-    page: &mut Page<'_>,
+    report: &mut Report,
+    file: &str,
     second: &Second<'_>,
     plan: Option<&Value>,
+    plan_text: &[u8],
     text: &[u8],
     above: usize,
-) -> Result<(), AllocError> {
+) -> Result<(), AllocError>
+    ensures { IsLonger report.old report.new }
+{
     match second {
-        Second::Events(_) => explain_event_text(page, plan, text, above),
-        Second::Script(_) => explain_script_text(page, plan, text, above),
-    }
-}
-
-/// Why events or a script end early.
-fn explain_end(
-    page: &mut Page<'_>,
-    second: &Second<'_>,
-    plan: &[u8],
-    text: &[u8],
-) -> Result<(), AllocError> {
-    match second {
-        Second::Events(fault) => explain_unsent(page, plan, text, *fault),
-        Second::Script(Some(line)) => explain_refused(page, line),
-        Second::Script(None) => Ok(()),
+        Second::Events { is_read: true } => explain_run(report, file, plan_text, text, above),
+        Second::Events { .. } => explain_event_text(report, file, plan, text, above),
+        Second::Script { is_read, refused } => {
+            let alloc = report.alloc();
+            let ran = if *is_read {
+                explain_script_run(alloc, file, plan_text, text, above, *refused)?
+            } else {
+                FileReport::new(alloc, file)
+            };
+            explain_script_text(report, file, plan, text, above, ran)
+        }
     }
 }
 
 /// The bytes of a file, or a line of why it can't be read.
 fn fetched<S: Source + Reasons>(
-    page: &mut Page<'_>,
+    report: &mut Report,
     name: &str,
     source: &mut S,
-) -> Result<Option<Vec<u8>>, AllocError> {
-    match source.bytes(page.alloc, name) {
+) -> Result<Option<Vec<u8>>, AllocError>
+    ensures { IsLonger report.old report.new }
+{
+    match source.bytes(report.alloc(), name) {
         Ok(bytes) => Ok(Some(bytes)),
         Err(SourceFault::Memory) => Err(AllocError),
         Err(SourceFault::Unreadable) => {
-            page.say(Unreadable(source.reason(name)))?;
+            report.add_fault(name, Unreadable(source.reason(name)))?;
             Ok(None)
         }
     }
@@ -164,18 +170,5 @@ pub(crate) fn shape_fault_in(fault: Option<Fault>) -> Option<ShapeFault> {
     match fault {
         Some(Fault::BadText(PlanFault::BadShape(fault))) => Some(fault),
         _ => None,
-    }
-}
-
-/// Says how many parcels there were, where the fault is that one was not sent.
-fn explain_unsent(
-    page: &mut Page<'_>,
-    plan: &[u8],
-    events: &[u8],
-    fault: Option<Fault>,
-) -> Result<(), AllocError> {
-    match fault {
-        Some(Fault::NoParcel(k)) => explain_parcel(page, plan, events, k),
-        _ => Ok(()),
     }
 }

@@ -16,8 +16,10 @@ prints
 
 Without EVENTS the plan alone is looked at. With --script a script comes in place of events, as `mx script`
 reads it: `mx explain --script plan.json lost.txt`. A line names the file, the line and the column, and then, if
-the text is JSON, the place in it, with items counted from 0. Warnings are of what does no harm: members that
-nobody reads, that stand twice, or that are for another algorithm. Of each file the first 20 lines are shown.
+the text is JSON, the place in it, with items counted from 0. Warnings change no status: they are of members that
+nobody reads, that stand twice, or that are for another algorithm; of events that are refused, with what the node
+knows; of a script in place of events, or events in place of a script; and of the parcels under way where a line
+names one that is not. Of each file the first 20 lines are shown.
 Standard error gets the line of the fault that `mx check PLAN` names, `mx replay PLAN EVENTS` or `mx script PLAN
 SCRIPT`, and the status is theirs too. A name - is standard input; where both are -, its first line is the plan
 and the rest is what comes with it.";

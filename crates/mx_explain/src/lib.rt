@@ -6,9 +6,10 @@ mod asking;
 mod explaining;
 mod files;
 mod help;
-mod parcels;
 mod reasons;
 mod refused_lines;
+mod runs;
+mod script_runs;
 mod scripts;
 
 pub use explaining::explain;

@@ -1,16 +1,19 @@
 //! Why a line of a script is refused once it is done.
 
-use mx_diagnosis::Page;
+use mx_diagnosis::FileReport;
 use mx_scripts::BadLine;
 use std::alloc::AllocError;
 use std::fmt;
 
-/// Says why a line is refused whose words are as they should be. Of others that was said before.
-pub(crate) fn explain_refused(page: &mut Page<'_>, line: &BadLine) -> Result<(), AllocError> {
+/// Tells why a line is refused whose words are as they should be. Of others that was told before.
+pub(crate) fn explain_refused(
+    lines: &mut FileReport<'_>,
+    line: &BadLine,
+) -> Result<(), AllocError> {
     if line.is_unread {
         return Ok(());
     }
-    page.say_of_line(line.number, Refused(line))
+    lines.fault_of_line(line.number, Refused(line))
 }
 
 /// A line that is refused.

@@ -1,16 +1,18 @@
 //! `explain --script`: how a script ends, and what is wrong in its lines.
 
-ghost use Rattle.std.specs.Prelude.{◌≡◌, Bool, IfErr, IfOk};
+ghost use Rattle.std.specs.Prelude.{◌≡◌, ◌&&◌, ◌||◌, Bool, IfErr, IfOk, OnErr, OnOk, is_some};
+ghost use Rattle.std.specs.Io.KnownBytes.{Keeps};
 ghost use Rattle.mx_cli.specs.Closed.{IsRunStatus, PassesOn};
 ghost use Rattle.mx_cli.specs.Words.{names_of};
-ghost use Rattle.mx_explain.specs.Explained.{FailsToPrint};
+ghost use Rattle.mx_diagnosis.specs.Reports.{has_fault};
+ghost use Rattle.mx_explain.specs.Explained.{FailsToPrint, Prints, PrintsReport, TellsLines};
 ghost use Rattle.mx_scripts.specs.Ended.{EndsScript, ScriptsOf};
 
-use crate::explaining::put_page;
-use crate::files::{explain_scripts, shape_fault_in};
+use crate::explaining::put_report;
+use crate::files::{Second, explain_both, shape_fault_in};
 use crate::reasons::Reasons;
 use mx_cli::{Fault, Names, Stop};
-use mx_diagnosis::Page;
+use mx_diagnosis::Report;
 use mx_io::{Output, Source};
 use mx_scripts::{BadLine, Halt, close_script, file_of_names};
 use std::alloc::{AllocError, Global};
@@ -25,6 +27,8 @@ pub(crate) fn explain_script<S: Source + Reasons, O: Output, E: Output>(
 ) -> u8
     ensures explains { ScriptsOf (O.takes_all out.old) (E.takes_all err.old) (S.told source.old)
         (names_of names.now) (E.written err.old) (E.written err.new) result }
+    ensures told { TellsLines (O.takes_all out.old && E.takes_all err.old) (O.written out.old)
+        (O.written out.new) (E.written err.old) (E.written err.new) result }
     ensures passed { PassesOn (E.written err.old) (E.written err.new) (O.keeps_back out.new)
         result }
     ensures status { IsRunStatus result }
@@ -42,6 +46,7 @@ fn end_and_explain<S: Source + Reasons, O: Output>(
 ) -> Result<u8, Halt>
     ensures ends { EndsScript (O.takes_all out.old) (S.told source.old)
         (names_of names.now) result }
+    ensures prints { Prints (O.written out.old) (O.written out.new) result }
     ensures zero { IfOk result (λ status. status ≡ 0) }
     ensures stays { O.takes_all out.new ≡ O.takes_all out.old }
 {
@@ -74,6 +79,8 @@ fn print_end<S: Source + Reasons, O: Output>(
     out: &mut O,
 ) -> Result<(), Stop>
     ensures fails { IfErr result (FailsToPrint (O.takes_all out.old)) }
+    ensures prints { OnOk result (Prints (O.written out.old) (O.written out.new) ended.now) }
+    ensures same { OnErr result (Keeps (O.written out.old) (O.written out.new)) }
     ensures stays { O.takes_all out.new ≡ O.takes_all out.old }
 {
     match ended {
@@ -86,7 +93,7 @@ fn print_end<S: Source + Reasons, O: Output>(
     }
 }
 
-/// Prints what is wrong in files that are read with this fault, or of which this line is refused,
+/// Prints what is wrong in files that were read with this fault, or of which this line is refused,
 /// or that nothing is.
 fn print_wrong<S: Source + Reasons, O: Output>(
     alloc: Global,
@@ -97,22 +104,32 @@ fn print_wrong<S: Source + Reasons, O: Output>(
     out: &mut O,
 ) -> Result<(), Stop>
     ensures fails { IfErr result (FailsToPrint (O.takes_all out.old)) }
+    ensures prints { OnOk result (PrintsReport (O.written out.old) (O.written out.new)
+        (is_some fault || is_some line.entry)) }
+    ensures same { OnErr result (Keeps (O.written out.old) (O.written out.new)) }
     ensures stays { O.takes_all out.new ≡ O.takes_all out.old }
 {
-    let page = page_of(alloc, names, fault, line, source)?;
-    put_page(&page, out)
+    let report = report_of(alloc, names, fault, line, source)?;
+    put_report(&report, out)
 }
 
 /// What is wrong in a plan and a script.
-fn page_of<'a, S: Source + Reasons>(
+fn report_of<S: Source + Reasons>(
     alloc: Global,
-    names: &Names<'a>,
+    names: &Names<'_>,
     fault: Option<Fault>,
     line: Option<&BadLine>,
     source: &mut S,
-) -> Result<Page<'a>, AllocError> {
-    let mut page = Page::new(alloc, names.plan);
-    explain_scripts(&mut page, names, shape_fault_in(fault), line, source)?;
-    page.end(fault.is_none() && line.is_none())?;
-    Ok(page)
+) -> Result<Report, AllocError>
+    ensures { IfOk result (λ report.
+        has_fault report.lines ≡ (is_some fault || is_some line.entry)) }
+{
+    let mut report = Report::new(alloc, fault.is_none() && line.is_none());
+    let second = Second::Script {
+        is_read: fault.is_none(),
+        refused: line,
+    };
+    explain_both(&mut report, names, shape_fault_in(fault), &second, source)?;
+    report.end(names.plan)?;
+    Ok(report)
 }

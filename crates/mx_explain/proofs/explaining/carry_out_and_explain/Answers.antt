@@ -1,7 +1,8 @@
-use Rattle.std.proofs.Common.{◌≡◌, Err}
+use Rattle.std.proofs.Common.{◌≡◌, ℕ, Err}
 use Rattle.mx_cli.specs.Words.{request_of}
 use Rattle.mx_commands.proofs.RunLemmas.{err_is}
 use Rattle.mx_explain.proofs.ExplainLemmas.{ran_of_for, ran_unprinted}
+use Rattle.mx_explain.proofs.TellsLemmas.{prints_nothing}
 use Rattle.mx_explain.proofs.explaining.carry_out_and_explain.Goals as goal
 
 pub returns-in_err-print_end-clause-ran : goal.returns-in_err-print_end-clause-ran
@@ -14,3 +15,10 @@ returns-in_err-print_end-clause-ran g c =
 pub returns-clause-ran : goal.returns-clause-ran
 returns-clause-ran g c =
     ran_of_for (g.O.Output.takes_all c.args.out.now) (g.S.Source.told c.args.source.now) (request_of c.args.request.now) c.carry_out-ended.result c.carry_out-ended.ensures.ran
+
+pub returns-in_err-print_end-clause-prints : goal.returns-in_err-print_end-clause-prints
+returns-in_err-print_end-clause-prints g c =
+    let s = c.in_err-print_end.field-0.0 in
+    let final = prints_nothing ℕ (g.O.Output.written c.args.out.now) (g.O.Output.written c.print_end.new.out) s c.in_err-print_end.ensures.same in
+    let is : c.from_residual.result ≡ Err s = err_is c.from_residual.result s c.from_residual.ensures.1 in
+    rw is final

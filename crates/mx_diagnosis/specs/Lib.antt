@@ -1,0 +1,4 @@
+-- Shown: texts of others, shown without control characters. Reports: the lines of a report, and its
+-- text.
+pub mod Shown
+pub mod Reports
