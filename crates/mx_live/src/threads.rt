@@ -40,7 +40,6 @@ pub(crate) struct WorkAt<S> {
 }
 
 impl<C: Exclusion> Promise<Ended<C>> for WorkAt<Station<C>> {
-    ghost use Rattle.std.specs.List.{AllZip};
     ghost use Rattle.mx_live.specs.Workers.{IsLeft};
 
     ghost kept_by = { λ p ended. IsLeft C.core p.orders p.at.value ended };
