@@ -24,7 +24,7 @@ module _ {X : Type 0} where
   pub nil_is_no_more : {x : X} {xs : List X} → [] ≡ x ∷ xs → ⊥
   nil_is_no_more e = cc
 
-module _ {A B : Type 0} {R : A → B → Type 0} where
+module _ {A B : Type 0} (R : A → B → Type 0) where
   -- as many
   pub zip_many : (xs : List A) (ys : List B) → AllZip R xs ys → length ys ≡ length xs
   zip_many [] [] all = refl

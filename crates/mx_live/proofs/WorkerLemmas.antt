@@ -1,8 +1,8 @@
 -- What workers left of the stations of a plan.
-use Rattle.std.proofs.Common.{◌≡◌, ◌∙◌, ◌<◌, ◌≤◌, ℕ, zero, suc, length, map, inl, inr, sym, subst, ap, arith, List, [], ◌∷◌, Result, Ok, Err, IfOk}
+use Rattle.std.proofs.Common.{◌≡◌, ◌∙◌, ◌≤◌, ℕ, zero, suc, length, map, inl, inr, sym, subst, ap, arith, List, [], ◌∷◌, Result, Ok, Err, IfOk}
 use Rattle.std.specs.List.{AllZip}
 use Rattle.std.proofs.lemmas.List.{length-map}
-use mathlib.Core.Option.{some, some-injective}
+use mathlib.Core.Option.{some}
 use lib.ListN.{get_elem?}
 use Rattle.std.specs.Prelude.{Vec}
 use Rattle.std.specs.declared.alloc.Global.{Global}
@@ -48,7 +48,7 @@ module _ {H S M : Type 0} (core : Core H S M) where
   -- what a worker left is of the station at its place
   pub left_at : (orders : Orders) (stations : List (Station core)) (left : List (Station core × Worked)) → AreLeft core orders stations left → (k : ℕ) (ended : Station core × Worked) → get_elem? left k ≡ some ended
       → (from : Station core) × (get_elem? stations k ≡ some from) × IsLeft core orders from ended
-  left_at orders stations left all k ended at = zip_at stations left all k ended at
+  left_at orders stations left all k ended at = zip_at (IsLeft core orders) stations left all k ended at
 
   within_most : (most : ℕ) (s : Station core) → IsWithin core most s → length s.me.receipts ≤ most
   within_most most s (inl low) = omega (arith, low)
@@ -78,7 +78,7 @@ module _ {H S M : Type 0} (core : Core H S M) (shape : H) (p : Fields) (orders :
       (kept.0 ∙ rest.here, kept.1 ∙ rest.nodes, rounds_node core 0 orders.settle one.0 ended.0 works ∙ ap (λ (e : Entry (MemberState S) (Parcel M)). e.node) rest.me)
 
   pub left_many : (left : List (Station core × Worked)) → HaveRun core shape p orders left → length (stations_of left) ≡ length p.nodes
-  left_many left run = length-map left (λ (ended : Station core × Worked). ended.0) ∙ zip_many run.stations left run.worked ∙ run.rested.many
+  left_many left run = length-map left (λ (ended : Station core × Worked). ended.0) ∙ zip_many (IsLeft core orders) run.stations left run.worked ∙ run.rested.many
 
   -- stations at one table
   pub of_one_table : (left : List (Station core × Worked)) → HaveRun core shape p orders left → OfOneTable (stations_of left)

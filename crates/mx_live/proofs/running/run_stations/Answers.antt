@@ -1,4 +1,4 @@
-use Rattle.std.proofs.Common.{IfOk, subst}
+use Rattle.std.proofs.Common.{IfOk, arith, subst}
 use Rattle.std.proofs.lemmas.Result.{IfOk-weaker}
 use Rattle.mx_live.specs.declared.threads.Orders.{Orders}
 use Rattle.mx_live.specs.Workers.{AreLeft}
@@ -20,7 +20,10 @@ returns-clause-left g c =
     (IfOk-weaker c.join_all.result _ _ (λ all kept. left_by g.C.Exclusion.core _ _ _ all.items c.in_ok-workers.ensures kept) c.join_all.ensures)
 
 pub start_all-requires-after_bounds : goal.start_all-requires-after_bounds
-start_all-requires-after_bounds g c κs within = search (c.requires-raw)
+start_all-requires-after_bounds g c κs within = (search (c.requires-raw), omega (arith, c.nodes.ensures.high))
+
+pub tell_if_asked-requires : goal.tell_if_asked-requires
+tell_if_asked-requires g c = search (c.requires-raw)
 
 pub join_all-requires : goal.join_all-requires
 join_all-requires g c = search (c.requires-raw)
