@@ -2,7 +2,10 @@
 printouts with.
 
 Usage: tests/oracle.py PLAN EVENTS, or tests/oracle.py state PLAN EVENTS for `replay --state`, for a plan and events that
-are well-formed, or tests/oracle.py explore PLAN SEED STEPS.
+are well-formed, or
+tests/oracle.py explore PLAN SEED STEPS, or
+tests/oracle.py walk PLAN SEED STEPS [LOSS REPEAT [in-order]], which is `mx explore .. --walk`, or
+tests/oracle.py seeds PLAN FIRST LAST STEPS [walk [LOSS REPEAT [in-order]]], which is `mx explore --seeds`.
 
 From the bottom up: letters, which nodes send to each other; cores, one class for each algorithm, which
 take the letters and say when their node may enter the section; members, which are a core with the journal
@@ -1007,6 +1010,146 @@ def explore(plan, seed, steps, put):
     put("verdict sound")
 
 
+# Walks: events that suit the state of the cluster.
+
+LOSS = 4  # of 256 parcels that are taken up, so many are lost
+REPEAT = 8  # of 256 steps, so many deliver one of the newest parcels, perhaps again
+
+
+def byte(word):
+    """The lowest eight bits of a word as a number, in which the lowest six are worth more than the two above."""
+    low, above = word & 63, word >> 6 & 3
+    return low << 2 | above
+
+
+class Walk:
+    """A cluster in which events are drawn by its state, and the parcels that are under way there."""
+
+    def __init__(self, plan, seed, loss=LOSS, repeat=REPEAT, in_order=False):
+        self.lines, self.events = [], []
+        self.cluster = Replay(plan, self.lines.append)
+        self.words = Words(seed)
+        self.loss, self.repeat, self.in_order = loss, repeat, in_order
+        self.flying = []  # where one is taken out, the last takes its place
+
+    def walk(self, steps):
+        for _ in range(steps):
+            before = len(self.cluster.parcels)
+            event = self.drawn(before)
+            if event is not None:
+                self.cluster.happen(len(self.events), event)
+                self.events.append(event)
+            self.flying += range(before, len(self.cluster.parcels))
+        return self
+
+    def drawn(self, sent):
+        """The event of the next step, or none."""
+        word = self.words.next()
+        if byte(word) < self.repeat:
+            if sent == 0:
+                return None
+            return ["deliver", self.first(sent - 1 - self.words.next() % min(sent, WINDOW))]
+        chance = word % 64
+        if 4 <= chance < 52 and self.flying:
+            return self.taken_up()
+        return self.acts(self.actor(chance))
+
+    def first(self, number):
+        """The parcel that is delivered in place of this one: in order, the oldest under way from and to the same nodes."""
+        if not self.in_order:
+            return number
+        link = self.cluster.parcels[number][:2]
+        return min([k for k in self.flying if self.cluster.parcels[k][:2] == link], default=number)
+
+    def taken_up(self):
+        number = self.first(self.flying[self.words.next() % len(self.flying)])
+        place, last = self.flying.index(number), self.flying.pop()
+        if place < len(self.flying):
+            self.flying[place] = last
+        return None if byte(self.words.next()) < self.loss else ["deliver", number]
+
+    def actor(self, chance):
+        """The place of the node that acts: any, or the next that may enter or is inside."""
+        members = self.cluster.members
+        drawn = self.words.next() % len(members)
+        if chance >= 4:
+            for node in [*range(drawn, len(members)), *range(drawn)]:
+                core = members[node].core
+                if core.phase == INSIDE or core.phase == WAITING and core.permitted():
+                    return node
+        return drawn
+
+    def acts(self, node):
+        """What a node does by itself, if it does something."""
+        name, member = self.cluster.names[node], self.cluster.members[node]
+        if member.core.phase == IDLE:
+            return self.idles(name, member, self.words.next() % 16)
+        if member.core.phase == WAITING:
+            return self.waits(name, member.core, self.words.next() % 64)
+        return self.is_inside(name, self.words.next() % 16)
+
+    def idles(self, name, member, chance):
+        if chance < 2:
+            return ["ask", name]
+        if chance == 2:
+            return ["want", name, self.one_of(self.cluster.names)]
+        if chance == 3:
+            return ["settle", name, member.journal.gapless()]
+        return None
+
+    def waits(self, name, core, chance):
+        if chance == 0:
+            return ["cancel", name]
+        if core.permitted():
+            return ["enter", name]
+        if chance < 4 or not self.flying:
+            return ["tick", name]
+        return None
+
+    def is_inside(self, name, chance):
+        if chance < 5:
+            return ["read", name, self.one_of(self.cluster.registers)]
+        if chance < 9:
+            return ["write", name, self.one_of(self.cluster.registers), self.words.next() % 1000]
+        if chance == 9:
+            return ["want", name, self.one_of(self.cluster.names)]
+        return ["leave", name]
+
+    def one_of(self, names):
+        return names[self.words.next() % len(names)]
+
+    def counts(self):
+        """How many sections were entered, and how many parcels sent."""
+        return sum(": entered " in line for line in self.lines), len(self.cluster.parcels)
+
+
+def conditions(words):
+    """What the words after a number of steps say of the parcels of a walk."""
+    return (*map(int, words[:2] or (LOSS, REPEAT)), words[2:] == ["in-order"])
+
+
+def explore_walk(plan, seed, steps, words, put):
+    """Puts the counts of a walk, and the verdict."""
+    entered, sent = Walk(plan, seed, *conditions(words)).walk(steps).counts()
+    put(f"explored {steps}, entered {entered}, sent {sent}")
+    put("verdict sound")
+
+
+def explore_seeds(plan, first, last, steps, words, put):
+    """Puts the sums of the explorations of some seeds, or of their walks, and the verdict."""
+    entered = sent = 0
+    for seed in range(first, last + 1):
+        if words:
+            counts = Walk(plan, seed, *conditions(words[1:])).walk(steps).counts()
+        else:
+            cluster, lines = run_drawn(plan, seed, steps)
+            counts = sum(": entered " in line for line in lines), len(cluster.parcels)
+        entered, sent = entered + counts[0], sent + counts[1]
+    seeds = last + 1 - first
+    put(f"seeds {seeds}, explored {seeds * steps}, entered {entered}, sent {sent}")
+    put("verdict sound")
+
+
 def load(path):
     with open(path) as file:
         return json.load(file)
@@ -1014,8 +1157,14 @@ def load(path):
 
 def main():
     lines = []
-    if sys.argv[1] == "explore":
-        explore(load(sys.argv[2]), int(sys.argv[3]), int(sys.argv[4]), lines.append)
+    if sys.argv[1] in ("explore", "walk", "seeds"):
+        plan = load(sys.argv[2])
+        if sys.argv[1] == "explore":
+            explore(plan, int(sys.argv[3]), int(sys.argv[4]), lines.append)
+        elif sys.argv[1] == "walk":
+            explore_walk(plan, int(sys.argv[3]), int(sys.argv[4]), sys.argv[5:], lines.append)
+        else:
+            explore_seeds(plan, *map(int, sys.argv[3:6]), sys.argv[6:], lines.append)
         sys.stdout.write("".join(line + "\n" for line in lines))
         return
     with_state = sys.argv[1] == "state"

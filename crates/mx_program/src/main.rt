@@ -17,6 +17,7 @@ use mx_picture::picture;
 use mx_play::{Typed, play};
 use mx_scripts::event_file;
 use mx_views::replay_view;
+use mx_walks::explore_walk;
 use std::alloc::AllocError;
 use std::io;
 use std::io::{BufWriter, IsTerminal, Write};
@@ -41,6 +42,7 @@ where
         "count" => count(alloc, words, &mut source, out, err),
         "draw" | "script" => event_file(alloc, words, &mut source, out, err),
         "explain" => explain(alloc, words, &mut Kept::new(alloc, source), out, err),
+        "explore" if is_walk(words) => explore_walk(alloc, words, &mut source, out, err),
         "explore" if has_word(words, "--count") => count(alloc, words, &mut source, out, err),
         "judge" => judge_trace(alloc, words, &mut source, out, err),
         "live" => live(rt, alloc, words, &mut source, out, err),
@@ -107,6 +109,13 @@ fn is_view(words: &[&str]) -> bool {
     words.iter().any(|word| {
         *word == "--quiet" || *word == "--json" || *word == "--state" || word.starts_with("--node")
     })
+}
+
+/// Whether one of the words is an option of a walk.
+fn is_walk(words: &[&str]) -> bool {
+    has_word(words, "--walk")
+        || has_word(words, "--in-order")
+        || words.iter().any(|word| word.starts_with("--loss") || word.starts_with("--repeat"))
 }
 
 /// Whether this is among the words.

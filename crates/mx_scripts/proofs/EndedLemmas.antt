@@ -79,5 +79,5 @@ short_script t u told names a b status m = (Err (halt.Stop stop.Memory), inl (in
 
 pub short_scripts : (t u : Bool) (told : Text → Option Telling) (request : Request) (a b : Held) (status : ℕ) → (status ≡ 5) × MayTell a b → Scripts t u told request a b status
 short_scripts t u told (draw name seed steps) a b status m = tt
-short_scripts t u told (walk name seed steps) a b status m = tt
+short_scripts t u told (walk name seed steps conditions) a b status m = tt
 short_scripts t u told (script names) a b status m = short_script t u told names a b status m

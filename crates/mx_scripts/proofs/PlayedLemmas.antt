@@ -1,5 +1,5 @@
 -- Events that happened, one after another.
-use Rattle.std.proofs.Common.{◌≡◌, ◌≤◌, ◌∙◌, ◌⊎◌, ℕ, arith, List, [], ◌∷◌, ◌++◌, Option, Some, None, Result, Ok, Err, length, slice_get, ap, subst, sym, refl, inl, inr, IfSome}
+use Rattle.std.proofs.Common.{◌≡◌, ◌≤◌, ◌<◌, ◌∙◌, ◌⊎◌, ℕ, zero, suc, arith, List, [], ◌∷◌, ◌++◌, Option, Some, None, Result, Ok, Err, length, slice_get, ap, subst, sym, refl, inl, inr, IfSome}
 use Rattle.std.specs.Prelude.{IfOk, OnOk}
 use Rattle.std.specs.Bool.{⊤}
 use Rattle.std.proofs.lemmas.List.{length-append, map-append}
@@ -23,6 +23,10 @@ use Rattle.mx_explorer.specs.Drawn.{IsDrawn}
 use Rattle.mx_explorer.specs.Place.{place_of}
 use Rattle.mx_commands.specs.Explored.{after_drawn, after_placed, or_stay}
 use Rattle.mx_commands.specs.Runs.{at_rest}
+use Rattle.mx_walks.specs.declared.conditions.Conditions.{Conditions}
+use Rattle.mx_walks.specs.Walk.{WalkState, next_step}
+use Rattle.mx_walks.specs.Walked.{after_step, walk_after, walked}
+use Rattle.mx_walks.proofs.StepLemmas.{next_named}
 use Rattle.mx_scripts.specs.Files.{file_text}
 use Rattle.mx_scripts.specs.Played.{AreOver, IsFileOf, IsPlayed, Plays, events_of}
 use Rattle.mx_scripts.specs.Drawn.{LeadsAs, placed_in}
@@ -122,12 +126,16 @@ module _ {H S M : Type 0} (core : Core H S M) where
   plays_after nodes registers g None over = λ start played. played
   plays_after nodes registers g (Some e) over = plays_or_stay nodes registers g e (step_of core g e) refl over
 
-  -- an event more, or none
-  pub plays_placed : (nodes registers : ℕ) (g new : ClusterState S M) (o : Option Event) → after_placed core g o ≡ new → IfSome o (IsDrawn nodes registers)
-      → Plays core nodes registers g new
-  plays_placed nodes registers g new o is over = subst (λ (x : ClusterState S M). Plays core nodes registers g x) is (plays_after nodes registers g o over)
+  -- a walk
+  pub plays_walked : (conditions : Conditions) (nodes registers steps : ℕ) (w : WalkState) (g : ClusterState S M) → 0 < nodes → 0 < registers
+      → Plays core nodes registers g (walked core conditions nodes registers steps w g)
+  unfolding walked
+  plays_walked conditions nodes registers zero w g n r = λ start played. played
+  plays_walked conditions nodes registers (suc steps) w g n r = λ start played.
+      plays_walked conditions nodes registers steps (walk_after core conditions nodes registers w g) (after_step core conditions nodes registers w g) n r start
+      (plays_after nodes registers g (next_step core conditions g nodes registers w).event (next_named nodes registers n r core conditions g w) start played)
 
-  -- the same where the event may have failed
+  -- an event more, where it may have failed
   pub plays_on_ok : {E : Type 0} (nodes registers : ℕ) (g new : ClusterState S M) (e : Event) (w : Result ⊤ E) → OnOk w (step_of core g e ≡ Ok new) → IsDrawn nodes registers e
       → OnOk w (Plays core nodes registers g new)
   plays_on_ok nodes registers g new e (Ok done) step over = plays_step nodes registers g new e step over
@@ -156,6 +164,11 @@ module _ {H S M : Type 0} (core : Core H S M) where
       → trace ≡ g.trace → OnOk w (text ≡ old ++ file_text p (events_of trace)) → OnOk w (text ≡ old ++ file_text p (events_of (after_drawn core start es).trace))
   file_drawn p start g es trace old text w drawn same is =
       subst (λ (t : List Entry). OnOk w (text ≡ old ++ file_text p (events_of t))) (same ∙ sym (ap (λ (x : ClusterState S M). x.trace) drawn)) is
+
+-- the file of what the trace has, where there is one
+pub file_of_trace : {A E : Type 0} (bytes : A → Text) (p : Fields) (trace others : List Entry) (r : Result A E) → trace ≡ others
+    → IfOk r (λ text. bytes text ≡ file_text p (events_of trace)) → IfOk r (λ text. bytes text ≡ file_text p (events_of others))
+file_of_trace bytes p trace others r same is = subst (λ (t : List Entry). IfOk r (λ text. bytes text ≡ file_text p (events_of t))) same is
 
 -- the placed schedule leads to the same cluster as the drawn one
 pub leads : (p : Fields) (es : List Event) (shape : Shape) → LeadsAs p es (placed_in p es shape) shape

@@ -1,5 +1,5 @@
 -- What comes of `draw` and `script`.
-use Rattle.std.proofs.Common.{◌≡◌, ℕ, Bool, Option, Result, Ok, Err, IfOk, IfSome, subst, sym}
+use Rattle.std.proofs.Common.{◌≡◌, ◌∙◌, ℕ, Bool, Option, Result, Ok, Err, IfOk, IfSome, subst, sym}
 use Rattle.std.specs.Io.KnownBytes.{Appends, Keeps}
 use Rattle.mx_stamps.proofs.Lists.{append_nil}
 use Rattle.mx_plan.specs.Text.{Text}
@@ -14,7 +14,9 @@ use Rattle.mx_io.specs.Told.{Telling}
 use Rattle.mx_commands.proofs.JobLemmas.{of_jobs}
 use Rattle.mx_commands.proofs.CommandLemmas.{ran_keeps}
 use Rattle.mx_cli.proofs.OutputLemmas.{Appends-keeps, keeps_on}
-use Rattle.mx_scripts.specs.Printed.{HasDone, Prints, PrintsEvents, told_of_plan}
+use Rattle.mx_walks.specs.declared.conditions.Conditions.{Conditions}
+use Rattle.mx_scripts.specs.Drawn.{walked_file}
+use Rattle.mx_scripts.specs.Printed.{HasDone, Prints, PrintsEvents, PrintsWalk, told_of_plan}
 use Rattle.mx_scripts.specs.Played.{IsEventFile}
 use Rattle.mx_scripts.specs.Requests.{Request, draw, walk, script}
 
@@ -29,7 +31,7 @@ job_kept t a b c o res ran same =
 
 prints_keeps : (request : Request) (p : Fields) (a b c : Held) → Prints request p a b → Keeps b c → Prints request p a c
 prints_keeps (draw name seed steps) p a b c h same = Appends-keeps a b c _ h same
-prints_keeps (walk name seed steps) p a b c h same = (h.0, h.1, Appends-keeps a b c h.0 h.2 same)
+prints_keeps (walk name seed steps conditions) p a b c h same = (h.0, Appends-keeps a b c _ h.1 same)
 prints_keeps (script names) p a b c h same = (h.0, h.1, Appends-keeps a b c h.0 h.2 same)
 
 pub done_keeps : (told : Text → Option Telling) (request : Request) (a b c : Held) → HasDone told request a b → Keeps b c → HasDone told request a c
@@ -45,14 +47,15 @@ pub print_done : (told : Text → Option Telling) (request : Request) (p : Field
 print_done told request p takes a b text (Ok status) read prints ran = (p, read, prints (printed takes a b text status ran))
 print_done told request p takes a b text (Err end) read prints ran = tt
 
--- a file of events was printed whole
-pub events_printed : (p : Fields) (takes : Bool) (a b : Held) (text file : Text) (r : Result ℕ Stop) → text ≡ file → IsEventFile p file p.shape → Ran takes a b (whole text) r
-    → IfOk r (λ _. PrintsEvents p a b)
-events_printed p takes a b text file (Ok status) is of_plan ran = (text, subst (λ (x : Text). IsEventFile p x p.shape) (sym is) of_plan, printed takes a b text status ran)
-events_printed p takes a b text file (Err end) is of_plan ran = tt
+-- the file of a walk was printed whole
+pub walk_printed : (p : Fields) (seed steps : ℕ) (conditions : Conditions) (takes : Bool) (a b : Held) (text file : Text) (r : Result ℕ Stop) → text ≡ file → IsEventFile p file p.shape
+    → file ≡ walked_file p conditions seed steps → Ran takes a b (whole text) r → IfOk r (λ _. PrintsWalk p seed steps conditions a b)
+walk_printed p seed steps conditions takes a b text file (Ok status) is of_plan walked ran =
+    (subst (λ (x : Text). IsEventFile p x p.shape) walked of_plan, subst (λ (x : Text). Appends a b x) (is ∙ walked) (printed takes a b text status ran))
+walk_printed p seed steps conditions takes a b text file (Err end) is of_plan walked ran = tt
 
 -- the events of a walk were printed
-pub walk_done : {E : Type 0} (told : Text → Option Telling) (name : Text) (seed steps : ℕ) (p : Fields) (a b : Held) (r : Result ℕ E) → IsPlanOf (told name) p
-    → IfOk r (λ _. PrintsEvents p a b) → IfOk r (λ _. HasDone told (walk name seed steps) a b)
-walk_done told name seed steps p a b (Ok status) read prints = (p, read, prints)
-walk_done told name seed steps p a b (Err end) read prints = tt
+pub walk_done : {E : Type 0} (told : Text → Option Telling) (name : Text) (seed steps : ℕ) (conditions : Conditions) (p : Fields) (a b : Held) (r : Result ℕ E) → IsPlanOf (told name) p
+    → IfOk r (λ _. PrintsWalk p seed steps conditions a b) → IfOk r (λ _. HasDone told (walk name seed steps conditions) a b)
+walk_done told name seed steps conditions p a b (Ok status) read prints = (p, read, prints)
+walk_done told name seed steps conditions p a b (Err end) read prints = tt

@@ -19,5 +19,5 @@ at_once t a b (Some job) same = inl (tt, same)
 pub short_draws : (t u : Bool) (told : Text → Option Telling) (request : Request) (old new : Seen) (status : ℕ)
     → RunsOut old new status → Draws t u told request old.out new.out old.err new.err status
 short_draws t u told (draw name seed steps) old new status m = (Err stop.Memory, at_once t old.out new.out (draw_job told name seed steps) m.1, inl (m.0, m.2))
-short_draws t u told (walk name seed steps) old new status m = tt
+short_draws t u told (walk name seed steps conditions) old new status m = tt
 short_draws t u told (script names) old new status m = tt

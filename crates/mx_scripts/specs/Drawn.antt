@@ -11,6 +11,8 @@ use Rattle.mx_plan.specs.declared.shape.Shape.{Shape}
 use Rattle.mx_plan.specs.declared.shape.Shape.TheVariants.{Ricart, Maekawa, Raymond}
 use Rattle.mx_commands.specs.Explored.{after_drawn, schedule_of}
 use Rattle.mx_commands.specs.Runs.{at_rest}
+use Rattle.mx_walks.specs.declared.conditions.Conditions.{Conditions}
+use Rattle.mx_walks.specs.Walked.{after_walk}
 use Rattle.mx_scripts.specs.Files.{file_text}
 use Rattle.mx_scripts.specs.Played.{events_of}
 
@@ -52,3 +54,16 @@ LeadsAs p drawn es (Raymond tree) =
 -- the file of what `explore` does from a seed
 abbrev pub drawn_file : Fields → ℕ → ℕ → Text
 drawn_file p seed steps = file_text p (placed_schedule p seed steps)
+
+-- what happens in the walk of a seed, in the cluster of a plan
+abbrev pub walked_in : Fields → Conditions → ℕ → ℕ → Shape → List Event
+walked_in p conditions seed steps (Ricart count) =
+    events_of (after_walk ricart_core p conditions seed steps (at_rest ricart_core p count)).trace
+walked_in p conditions seed steps (Maekawa family) =
+    events_of (after_walk maekawa_core p conditions seed steps (at_rest maekawa_core p family)).trace
+walked_in p conditions seed steps (Raymond tree) =
+    events_of (after_walk raymond_core p conditions seed steps (at_rest raymond_core p tree)).trace
+
+-- the file of that
+abbrev pub walked_file : Fields → Conditions → ℕ → ℕ → Text
+walked_file p conditions seed steps = file_text p (walked_in p conditions seed steps p.shape)

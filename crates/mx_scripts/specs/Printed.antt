@@ -10,7 +10,8 @@ use Rattle.mx_io.specs.Outputs.{Held}
 use Rattle.mx_commands.specs.Jobs.{Job, on_plan}
 use Rattle.mx_cli.specs.Reading.{IsPlanOf, plan_told}
 use Rattle.mx_commands.specs.Ran.{RanOn}
-use Rattle.mx_scripts.specs.Drawn.{drawn_file}
+use Rattle.mx_walks.specs.declared.conditions.Conditions.{Conditions}
+use Rattle.mx_scripts.specs.Drawn.{drawn_file, walked_file}
 use Rattle.mx_scripts.specs.Played.{IsEventFile}
 use Rattle.mx_scripts.specs.Ended.{ScriptsOf}
 use Rattle.mx_scripts.specs.Requests.{Request, draw, walk, script}
@@ -18,17 +19,23 @@ use Rattle.mx_scripts.specs.Requests.{Request, draw, walk, script}
 -- what is told of the plan
 abbrev pub told_of_plan : (Text → Option Telling) → Request → Option Telling
 told_of_plan told (draw name seed steps) = told name
-told_of_plan told (walk name seed steps) = told name
+told_of_plan told (walk name seed steps conditions) = told name
 told_of_plan told (script names) = plan_told told names
 
 -- some file of events over the plan's names was printed, which can happen in its cluster
 abbrev pub PrintsEvents : Fields → Held → Held → Type 0
 PrintsEvents p old new = (text : Text) × IsEventFile p text p.shape × Appends old new text
 
+-- the file of the walk of the seed was printed, whose events can happen in the plan's cluster
+abbrev pub PrintsWalk : Fields → ℕ → ℕ → Conditions → Held → Held → Type 0
+PrintsWalk p seed steps conditions old new =
+    IsEventFile p (walked_file p conditions seed steps) p.shape
+    × Appends old new (walked_file p conditions seed steps)
+
 -- what was printed: without a walk the placed schedule of the seed, and nothing else
 abbrev pub Prints : Request → Fields → Held → Held → Type 0
 Prints (draw name seed steps) p old new = Appends old new (drawn_file p seed steps)
-Prints (walk name seed steps) p old new = PrintsEvents p old new
+Prints (walk name seed steps conditions) p old new = PrintsWalk p seed steps conditions old new
 Prints (script names) p old new = PrintsEvents p old new
 
 -- the plan was read, and the file that was asked for was printed

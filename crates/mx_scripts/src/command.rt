@@ -7,6 +7,7 @@ ghost use Rattle.mx_cli.specs.Closed.{IsRunStatus, PassesOn};
 ghost use Rattle.mx_scripts.specs.Printed.{Draws, HasDone, Scripts};
 ghost use Rattle.mx_scripts.specs.Words.{request_asked, request_of, file_line};
 
+use crate::help;
 use crate::printing::{run_draw, run_script, run_walk};
 use crate::words::{Request, asked};
 use mx_cli::refuse;
@@ -40,9 +41,17 @@ pub fn event_file<S: Source, O: Output, E: Output>(
 {
     match asked(alloc, words) {
         Ok(Some(request)) => run_request(alloc, &request, source, out, err),
-        Ok(None) => 2,
+        Ok(None) => need_walk(err),
         Err(e) => refuse(alloc, &e, out, err),
     }
+}
+
+/// Tells that an option needs `--walk`. Returns the status.
+fn need_walk<E: Output>(err: &mut E) -> u8
+    ensures { result ≡ 2 }
+{
+    let _ = err.put(help::NEEDS_WALK.as_bytes());
+    2
 }
 
 /// Does what is asked for, and tells why there is no file where there is none. Returns the status.
@@ -67,7 +76,9 @@ fn run_request<S: Source, O: Output, E: Output>(
 {
     match request {
         Request::Draw(exploration) => run_draw(alloc, exploration, source, out, err),
-        Request::Walk(exploration) => run_walk(alloc, exploration, source, out, err),
+        Request::Walk(exploration, conditions) => {
+            run_walk(alloc, exploration, conditions, source, out, err)
+        }
         Request::Script(names) => run_script(alloc, names, source, out, err),
     }
 }

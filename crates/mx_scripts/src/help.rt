@@ -1,5 +1,14 @@
 //! The texts of help.
 
+/// What is told where it is said what becomes of the parcels of a walk, but no walk is asked for.
+pub(crate) const NEEDS_WALK: &str = "error: the following required arguments were not provided:
+  --walk
+
+Usage: mx draw --seed <seed> --steps <steps> --walk <PLAN>
+
+For more information, try '--help'.
+";
+
 pub(crate) const DRAW_EXAMPLE: &str =
     "Example: a walk of a hundred steps from the seed 1, kept and then replayed.
 
@@ -11,7 +20,8 @@ pub(crate) const DRAW_EXAMPLE: &str =
 Without --walk the events are those that `mx explore` does from the same seed and steps: each is drawn
 alone, so that a node seldom has all permissions when it is its turn to enter. With --walk most steps
 deliver a parcel that is under way, wherever it stands; of 64 parcels taken up one is lost, and now and
-then one is delivered again. In the other steps a node asks, enters, reads, writes, leaves, wants, settles,
+then one is delivered again. --loss and --repeat change how often, --in-order lets the oldest parcel under
+way from and to the same nodes go first. In the other steps a node asks, enters, reads, writes, leaves, wants, settles,
 ticks or, seldom, cancels, whichever it can; one that may enter or is inside comes first. A step in which a
 parcel is lost, or in which the node can but wait, prints no event. One event stands on a line, so that
 the file can be cut. `mx check --help` tells what a plan is; docs/FORMATS.md has all formats.";

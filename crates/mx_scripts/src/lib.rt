@@ -8,11 +8,9 @@ mod files;
 mod halts;
 mod help;
 mod mail;
-mod playing;
 mod printing;
 mod scripting;
 mod texts;
-mod walk;
 mod walking;
 mod words;
 

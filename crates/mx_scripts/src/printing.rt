@@ -5,7 +5,7 @@ ghost use Rattle.std.specs.Io.KnownBytes.{Appends};
 ghost use Rattle.mx_cli.specs.Words.{names_of};
 ghost use Rattle.mx_cli.specs.Closed.{IsRunStatus, PassesOn};
 ghost use Rattle.mx_commands.specs.Ran.{RanOn};
-ghost use Rattle.mx_scripts.specs.Printed.{DrawsPlan, HasDone, PrintsEvents, draw_job};
+ghost use Rattle.mx_scripts.specs.Printed.{DrawsPlan, HasDone, PrintsWalk, draw_job};
 ghost use Rattle.mx_scripts.specs.Ended.{EndsScript, IsPrintHalt, ScriptsOf};
 ghost use Rattle.mx_scripts.specs.Requests as wants;
 
@@ -17,6 +17,7 @@ use mx_cli::{Exploration, Names, Stop, close, fetch_plan};
 use mx_commands::print;
 use mx_io::{Output, Source};
 use mx_plan::Plan;
+use mx_walks::Conditions;
 use std::alloc::Global;
 
 /// Prints what `explore` does, or tells why not. Returns the status.
@@ -47,19 +48,21 @@ pub fn run_draw<S: Source, O: Output, E: Output>(
 pub fn run_walk<S: Source, O: Output, E: Output>(
     alloc: Global,
     exploration: &Exploration<'_>,
+    conditions: &Conditions,
     source: &mut S,
     out: &mut O,
     err: &mut E,
 ) -> u8
     ensures prints { result ≡ 0 → HasDone (S.told source.old)
-        (wants.walk exploration.now.plan.now exploration.now.seed exploration.now.steps)
+        (wants.walk exploration.now.plan.now exploration.now.seed exploration.now.steps
+        conditions.now)
         (O.written out.old) (O.written out.new) }
     ensures passed { PassesOn (E.written err.old) (E.written err.new) (O.keeps_back out.new)
         result }
     ensures status { IsRunStatus result }
 {
     let names = plan_alone(exploration);
-    let ended = print_walk(alloc, exploration, source, out);
+    let ended = print_walk(alloc, exploration, conditions, source, out);
     close(alloc, ended, &names, out, err)
 }
 
@@ -117,31 +120,41 @@ fn draw_file<S: Source, O: Output>(
 fn print_walk<S: Source, O: Output>(
     alloc: Global,
     exploration: &Exploration<'_>,
+    conditions: &Conditions,
     source: &mut S,
     out: &mut O,
 ) -> Result<u8, Stop>
     ensures done { IfOk result (λ _. HasDone (S.told source.old)
-        (wants.walk exploration.now.plan.now exploration.now.seed exploration.now.steps)
+        (wants.walk exploration.now.plan.now exploration.now.seed exploration.now.steps
+        conditions.now)
         (O.written out.old) (O.written out.new)) }
     ensures zero { IfOk result (λ status. status ≡ 0) }
 {
     let plan = fetch_plan(alloc, source, exploration.plan)?;
-    print_walked(alloc, &plan, exploration.seed, exploration.steps, out)
+    print_walked(
+        alloc,
+        &plan,
+        conditions,
+        exploration.seed,
+        exploration.steps,
+        out,
+    )
 }
 
 /// Prints a walk of a plan. Returns the status.
 fn print_walked<O: Output>(
     alloc: Global,
     plan: &Plan,
+    conditions: &Conditions,
     seed: u64,
     steps: u64,
     out: &mut O,
 ) -> Result<u8, Stop>
-    ensures done { IfOk result (λ _.
-        PrintsEvents plan.now (O.written out.old) (O.written out.new)) }
+    ensures done { IfOk result (λ _. PrintsWalk plan.now seed steps conditions.now
+        (O.written out.old) (O.written out.new)) }
     ensures zero { IfOk result (λ status. status ≡ 0) }
 {
-    let file = walk_file(alloc, plan, seed, steps)?;
+    let file = walk_file(alloc, plan, conditions, seed, steps)?;
     print(file.as_bytes(), out)
 }
 

@@ -1,30 +1,35 @@
 //! `draw --walk`: events drawn with purpose, as a file.
 
-ghost use Rattle.std.specs.Prelude.{◌≡◌, [], length, string_bytes, IfOk, OnOk};
-ghost use Rattle.mx_scripts.specs.Played.{IsEventFile, IsFileOf, Plays};
+ghost use Rattle.std.specs.Prelude.{◌≡◌, [], string_bytes, IfOk};
+ghost use Rattle.mx_walks.specs.Walked.{after_walk};
+ghost use Rattle.mx_scripts.specs.Drawn.{walked_file};
+ghost use Rattle.mx_scripts.specs.Files.{file_text};
+ghost use Rattle.mx_scripts.specs.Played.{IsEventFile, IsFileOf, events_of};
 
 use crate::files::file_of;
-use crate::playing::play;
-use crate::walk::Walk;
 use mx_commands::by_shape;
 use mx_network::Cluster;
 use mx_nodelaws::Exclusion;
 use mx_plan::Plan;
+use mx_walks::{Conditions, walk_cluster};
 use std::alloc::{AllocError, Global};
 
-/// The file of a walk of this many steps, by the plan's algorithm.
+/// The file of the walk of a seed, of this many steps, by the plan's algorithm.
 pub(crate) fn walk_file(
     alloc: Global,
     plan: &Plan,
+    conditions: &Conditions,
     seed: u64,
     steps: u64,
 ) -> Result<String, AllocError>
-    ensures { IfOk result (λ text. IsEventFile plan.now (string_bytes text) plan.now.shape) }
+    ensures file { IfOk result (λ text. IsEventFile plan.now (string_bytes text) plan.now.shape) }
+    ensures walked { IfOk result (λ text.
+        string_bytes text ≡ walked_file plan.now conditions.now seed steps) }
 {
     by_shape!(
         alloc,
         plan,
-        |cluster| file_of_walk(alloc, plan, cluster, seed, steps)
+        |cluster| file_of_walk(alloc, plan, cluster, conditions, seed, steps)
     )
 }
 
@@ -33,32 +38,16 @@ fn file_of_walk<C: Exclusion>(
     alloc: Global,
     plan: &Plan,
     mut cluster: Cluster<C>,
+    conditions: &Conditions,
     seed: u64,
     steps: u64,
 ) -> Result<String, AllocError>
     requires { cluster.trace ≡ [] }
-    ensures { IfOk result (λ text. IsFileOf C.core plan.now cluster (string_bytes text)) }
+    ensures file { IfOk result (λ text.
+        IsFileOf C.core plan.now cluster (string_bytes text)) }
+    ensures walked { IfOk result (λ text. string_bytes text ≡ file_text plan.now
+        (events_of (after_walk C.core plan.now conditions.now seed steps cluster).trace)) }
 {
-    walk(alloc, plan, &mut cluster, seed, steps)?;
+    walk_cluster(alloc, plan, &mut cluster, conditions, seed, steps)?;
     file_of(alloc, plan, cluster.trace())
-}
-
-/// So many steps, each of an event or none.
-fn walk<C: Exclusion>(
-    alloc: Global,
-    plan: &Plan,
-    cluster: &mut Cluster<C>,
-    seed: u64,
-    steps: u64,
-) -> Result<(), AllocError>
-    ensures { OnOk result
-        (Plays C.core (length plan.now.nodes) (length plan.now.registers) cluster.old cluster.new) }
-{
-    let mut walk = Walk::of(alloc, seed);
-    for _ in 0..steps {
-        let event = walk.next(plan, cluster);
-        play(cluster, event)?;
-        walk.look(cluster.sent())?;
-    }
-    Ok(())
 }

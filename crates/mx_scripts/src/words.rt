@@ -2,8 +2,8 @@
 
 ghost use Rattle.std.specs.Prelude.{◌≡◌, IfOk, option_map};
 ghost use Rattle.clap.specs.Words.{found_of, rows_of, subcommand_rows_of};
-ghost use Rattle.mx_cli.specs.Words.{Asks, IsCommand, IsLine, texts_of};
-ghost use Rattle.mx_scripts.specs.Words.{draw_app, draw_in, request_asked, request_in, request_of, file_line, script_app, script_in};
+ghost use Rattle.mx_cli.specs.Words.{Asks, IsCommand, IsLine, explored, texts_of};
+ghost use Rattle.mx_scripts.specs.Words.{draw_app, draw_in, drawing, has_conditions, request_asked, request_in, request_of, file_line, script_app, script_in};
 
 use crate::help;
 use clap::{ArgMatches, Command, Error};
@@ -11,6 +11,7 @@ use mx_cli::{
     ABOUT_DRAW, ABOUT_SCRIPT, Exploration, Names, bare_command, exploration_at, file_arg, flag_arg,
     is_given, line_of, matches_in, plan_arg, seed_arg, steps_arg, text_at,
 };
+use mx_walks::{Conditions, conditions_in, with_conditions};
 use std::alloc::{AllocError, Global};
 
 /// Which file of events is asked for.
@@ -18,8 +19,8 @@ use std::alloc::{AllocError, Global};
 pub enum Request<'a> {
     /// What `explore` does.
     Draw(Exploration<'a>),
-    /// A walk of this plan, seed and number of steps.
-    Walk(Exploration<'a>),
+    /// A walk of this plan, seed and number of steps, and what becomes of parcels in it.
+    Walk(Exploration<'a>, Conditions),
     /// What a script says: the names of the plan and of the script.
     Script(Names<'a>),
 }
@@ -32,7 +33,8 @@ fn draw_command<'a>(alloc: Global) -> Result<Command<'a>, AllocError>
     let with_seed = with_plan.arg(seed_arg(alloc))?;
     let with_steps = with_seed.arg(steps_arg(alloc))?;
     let help = "Draws with purpose: parcels arrive, and nodes enter and leave";
-    with_steps.arg(flag_arg(alloc, "walk", help))
+    let with_walk = with_steps.arg(flag_arg(alloc, "walk", help))?;
+    with_conditions(alloc, with_walk)
 }
 
 fn script_command<'a>(alloc: Global) -> Result<Command<'a>, AllocError>
@@ -74,14 +76,33 @@ fn request_in<'a>(matches: &ArgMatches<'a>) -> Option<Request<'a>>
 fn draw_in<'a>(matches: &ArgMatches<'a>) -> Option<Request<'a>>
     ensures { option_map request_of result ≡ draw_in (rows_of (found_of matches.now)) }
 {
-    let Some(exploration) = exploration_at(matches) else {
-        return None;
-    };
+    match exploration_at(matches) {
+        Some(exploration) => drawing(matches, exploration),
+        None => None,
+    }
+}
+
+/// A walk; or what `explore` does, unless it is said what becomes of parcels.
+fn drawing<'a>(matches: &ArgMatches<'a>, exploration: Exploration<'a>) -> Option<Request<'a>>
+    ensures { option_map request_of result
+        ≡ drawing (rows_of (found_of matches.now)) (explored exploration.entry) }
+{
     if is_given(matches, "walk") {
-        Some(Request::Walk(exploration))
+        Some(Request::Walk(exploration, conditions_in(matches)))
+    } else if has_conditions(matches) {
+        None
     } else {
         Some(Request::Draw(exploration))
     }
+}
+
+/// Whether it is said what becomes of parcels.
+fn has_conditions(matches: &ArgMatches<'_>) -> bool
+    ensures { result ≡ has_conditions (rows_of (found_of matches.now)) }
+{
+    text_at(matches, "loss").is_some()
+        || text_at(matches, "repeat").is_some()
+        || is_given(matches, "in-order")
 }
 
 fn script_in<'a>(matches: &ArgMatches<'a>) -> Option<Request<'a>>

@@ -1,0 +1,32 @@
+-- What is printed of the walk that the words ask for.
+use Rattle.std.specs.Prelude.{◌≡◌, ◌&&◌, ℕ, Bool, Option, Result, IfSome, option_map}
+use Rattle.mx_plan.specs.Text.{Text}
+use Rattle.mx_cli.specs.declared.faults.Stop.{Stop}
+use Rattle.mx_cli.specs.Closed.{Closes}
+use Rattle.mx_io.specs.Told.{Telling}
+use Rattle.mx_io.specs.Outputs.{Held}
+use Rattle.mx_commands.specs.Jobs.{Job, on_plan}
+use Rattle.mx_commands.specs.Ran.{RanOn}
+use Rattle.mx_walks.specs.declared.manner.Manner.{Manner}
+use Rattle.mx_walks.specs.declared.manner.Manner.TheVariants.{Walk}
+use Rattle.mx_walks.specs.Summaries.{seed_text}
+use Rattle.mx_walks.specs.WalkWords.{WalkRequest}
+
+-- to print what came of a seed, of what a source tells of the plan
+abbrev pub seed_job : (Text → Option Telling) → Text → Manner → ℕ → ℕ → Option Job
+seed_job told name manner seed steps =
+    option_map (on_plan (λ p. seed_text p manner seed steps)) (told name)
+
+-- that was done: the text was printed whole, status 0; or the line of the plan's fault was told,
+-- status 1; or memory ran out, or an output refused
+abbrev pub Explores : Bool → Bool → Text → Option Job → Held → Held → Held → Held → ℕ → Type 0
+Explores takes_out takes_err name job out out' err err' status =
+    (ended : Result ℕ Stop) × IfSome job (λ j. RanOn takes_out out out' j ended)
+    × Closes (takes_out && takes_err) (name, name) ended err err' status
+
+-- the same of the walk that is asked for
+abbrev pub ExploresWalk : Bool → Bool → (Text → Option Telling) → WalkRequest → Held → Held → Held
+    → Held → ℕ → Type 0
+ExploresWalk takes_out takes_err told request =
+    Explores takes_out takes_err request.plan
+    (seed_job told request.plan (Walk request.conditions) request.seed request.steps)

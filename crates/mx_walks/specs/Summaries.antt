@@ -1,0 +1,54 @@
+-- What came of the events that were drawn from a seed, and its text.
+use Rattle.std.specs.Prelude.{ℕ, ◌++◌, length}
+use Rattle.std.specs.List.{count_by}
+use Rattle.mx_nodelaws.specs.Core.{Core}
+use Rattle.mx_ricart.specs.Step.{ricart_core}
+use Rattle.mx_maekawa.specs.Step.{maekawa_core}
+use Rattle.mx_raymond.specs.Step.{raymond_core}
+use Rattle.mx_network.specs.Step.{ClusterState}
+use Rattle.mx_explorer.specs.declared.verdict.Verdict.TheVariants.{Sound}
+use Rattle.mx_plan.specs.Text.{Text}
+use Rattle.mx_plan.specs.Fields.{Fields}
+use Rattle.mx_plan.specs.declared.shape.Shape.{Shape}
+use Rattle.mx_plan.specs.declared.shape.Shape.TheVariants.{Ricart, Maekawa, Raymond}
+use Rattle.mx_texts.specs.PlanTexts.{explored_line}
+use Rattle.mx_commands.specs.Explored.{after_drawn, is_entry, schedule_of}
+use Rattle.mx_commands.specs.Runs.{at_rest}
+use Rattle.mx_commands.specs.VerdictLines.{verdict_line}
+use Rattle.mx_walks.specs.declared.manner.Manner.{Manner}
+use Rattle.mx_walks.specs.declared.manner.Manner.TheVariants.{Schedule, Walk}
+use Rattle.mx_walks.specs.declared.summary.Summary.{Summary}
+use Rattle.mx_walks.specs.Walked.{after_walk}
+
+-- the cluster after the events of a seed
+abbrev pub after_seed : {H S M : Type 0} → Core H S M → Fields → Manner → ℕ → ℕ
+    → ClusterState S M → ClusterState S M
+after_seed core p Schedule seed steps g = after_drawn core g (schedule_of p seed steps)
+after_seed core p (Walk conditions) seed steps g = after_walk core p conditions seed steps g
+
+-- what came of this many steps in a cluster, whose trace is sound
+abbrev pub summary_in : {S M : Type 0} → ℕ → ClusterState S M → Summary
+summary_in steps g =
+    record {
+      steps = steps;
+      entered = count_by is_entry g.trace;
+      sent = length g.sent;
+      verdict = Sound;
+    }
+
+-- the same of the events of a seed in the cluster of a plan, by its algorithm
+abbrev pub summary_of : Fields → Manner → ℕ → ℕ → Shape → Summary
+summary_of p manner seed steps (Ricart count) =
+    summary_in steps (after_seed ricart_core p manner seed steps (at_rest ricart_core p count))
+summary_of p manner seed steps (Maekawa family) =
+    summary_in steps (after_seed maekawa_core p manner seed steps (at_rest maekawa_core p family))
+summary_of p manner seed steps (Raymond tree) =
+    summary_in steps (after_seed raymond_core p manner seed steps (at_rest raymond_core p tree))
+
+-- the counts, and the verdict
+abbrev pub summary_text : Summary → Text
+summary_text s = explored_line s.steps s.entered s.sent ++ verdict_line s.verdict
+
+-- what is printed of a seed
+abbrev pub seed_text : Fields → Manner → ℕ → ℕ → Text
+seed_text p manner seed steps = summary_text (summary_of p manner seed steps p.shape)

@@ -1,0 +1,119 @@
+//! `explore` with `--walk`: from words, named bytes and two outputs to a status.
+
+ghost use Rattle.std.specs.Prelude.{◌≡◌, IfOk, IfSome, IsSome};
+ghost use Rattle.mx_cli.specs.Closed.{IsRunStatus, PassesOn};
+ghost use Rattle.mx_cli.specs.Told.{Answers, seen};
+ghost use Rattle.mx_cli.specs.Words.{names_of, texts_of};
+ghost use Rattle.mx_commands.specs.Ran.{RanOn};
+ghost use Rattle.mx_walks.specs.Printed.{Explores, ExploresWalk, seed_job};
+ghost use Rattle.mx_walks.specs.WalkWords.{request_asked, request_of, walk_line};
+
+use crate::exploring::explore_plan;
+use crate::manner::Manner;
+use crate::walk_words::{WalkRequest, asked_walk};
+use mx_cli::{Exploration, Names, Stop, close, fetch_plan, refuse};
+use mx_io::{Output, Source};
+use std::alloc::Global;
+
+/// Runs the words of a command line that is `explore` with `--walk`, without the program's name, and
+/// returns the status: 0 if all went well, or help was asked for, 1 if the plan, a file or an output
+/// is at fault, 2 if the words are not those of the command, 4 if the verdict is that the trace is
+/// broken, 5 if memory ran out.
+pub fn explore_walk<S: Source, O: Output, E: Output>(
+    alloc: Global,
+    words: &[&str],
+    source: &mut S,
+    out: &mut O,
+    err: &mut E,
+) -> u8
+    ensures explores { IfSome (request_asked (texts_of words.entry.now)) (λ request.
+        ExploresWalk (O.takes_all out.old) (E.takes_all err.old) (S.told source.old) request
+        (O.written out.old) (O.written out.new) (E.written err.old) (E.written err.new) result) }
+    ensures passed { IsSome (request_asked (texts_of words.entry.now))
+        → PassesOn (E.written err.old) (E.written err.new) (O.keeps_back out.new) result }
+    ensures status { IsSome (request_asked (texts_of words.entry.now)) → IsRunStatus result }
+    ensures answers { Answers walk_line (texts_of words.entry.now) (O.takes_all out.old)
+        (seen O.Output E.Output out.old err.old) (seen O.Output E.Output out.new err.new) result }
+{
+    match asked_walk(alloc, words) {
+        Ok(Some(request)) => run_walk(alloc, &request, source, out, err),
+        Ok(None) => 2,
+        Err(e) => refuse(alloc, &e, out, err),
+    }
+}
+
+/// Walks as asked for, and closes the run. Returns the status.
+fn run_walk<S: Source, O: Output, E: Output>(
+    alloc: Global,
+    request: &WalkRequest<'_>,
+    source: &mut S,
+    out: &mut O,
+    err: &mut E,
+) -> u8
+    ensures explores { ExploresWalk (O.takes_all out.old) (E.takes_all err.old)
+        (S.told source.old) (request_of request.now)
+        (O.written out.old) (O.written out.new) (E.written err.old) (E.written err.new) result }
+    ensures passed { PassesOn (E.written err.old) (E.written err.new) (O.keeps_back out.new)
+        result }
+    ensures status { IsRunStatus result }
+{
+    let manner = Manner::Walk(request.conditions);
+    run_seed(alloc, &request.exploration, &manner, source, out, err)
+}
+
+/// Explores a seed, and closes the run. Returns the status.
+fn run_seed<S: Source, O: Output, E: Output>(
+    alloc: Global,
+    exploration: &Exploration<'_>,
+    manner: &Manner,
+    source: &mut S,
+    out: &mut O,
+    err: &mut E,
+) -> u8
+    ensures explores { Explores (O.takes_all out.old) (E.takes_all err.old) exploration.now.plan.now
+        (seed_job (S.told source.old) exploration.now.plan.now manner.now
+        exploration.now.seed exploration.now.steps)
+        (O.written out.old) (O.written out.new) (E.written err.old) (E.written err.new) result }
+    ensures passed { PassesOn (E.written err.old) (E.written err.new) (O.keeps_back out.new)
+        result }
+    ensures status { IsRunStatus result }
+{
+    let names = plan_alone(exploration);
+    let ended = explore_named(alloc, exploration, manner, source, out);
+    close(alloc, ended, &names, out, err)
+}
+
+/// The names that the lines of faults have, where there is a plan alone.
+fn plan_alone<'a>(exploration: &Exploration<'a>) -> Names<'a>
+    ensures { names_of result ≡ (exploration.now.plan.now, exploration.now.plan.now) }
+{
+    Names {
+        plan: exploration.plan,
+        events: exploration.plan,
+    }
+}
+
+/// Reads the plan, and explores a seed. Returns the status.
+fn explore_named<S: Source, O: Output>(
+    alloc: Global,
+    exploration: &Exploration<'_>,
+    manner: &Manner,
+    source: &mut S,
+    out: &mut O,
+) -> Result<u8, Stop>
+    ensures ran { IfSome (seed_job (S.told source.old) exploration.now.plan.now manner.now
+        exploration.now.seed exploration.now.steps)
+        (λ job. RanOn (O.takes_all out.old) (O.written out.old) (O.written out.new) job result) }
+    ensures zero { IfOk result (λ status. status ≡ 0) }
+    ensures stays { O.takes_all out.new ≡ O.takes_all out.old }
+{
+    let plan = fetch_plan(alloc, source, exploration.plan)?;
+    explore_plan(
+        alloc,
+        &plan,
+        manner,
+        exploration.seed,
+        exploration.steps,
+        out,
+    )
+}

@@ -1,0 +1,41 @@
+//! What came of the events that were drawn from a seed.
+
+ghost use Rattle.std.specs.Prelude.{◌≡◌, Some};
+ghost use Rattle.mx_walks.specs.Summaries.{summary_text};
+
+use mx_commands::VerdictLine;
+use mx_explorer::Verdict;
+use mx_texts::ExploredLine;
+use std::fmt;
+
+/// How many steps there were, how often a node entered, how many parcels were sent, and the verdict.
+#[derive(Clone, Copy)]
+pub struct Summary {
+    pub steps: u64,
+    pub entered: u64,
+    pub sent: u64,
+    pub verdict: Verdict,
+}
+
+impl Summary {
+    /// The line of the counts.
+    fn counts(&self) -> ExploredLine
+        ensures steps { result.steps ≡ self.now.steps }
+        ensures entered { result.entered ≡ self.now.entered }
+        ensures sent { result.sent ≡ self.now.sent }
+    {
+        ExploredLine {
+            steps: self.steps,
+            entered: self.entered,
+            sent: self.sent,
+        }
+    }
+}
+
+impl fmt::Display for Summary {
+    ghost output = { λ s. Some (summary_text s) };
+
+    fn fmt<W: fmt::Write>(&self, f: &mut fmt::Formatter<W>) -> fmt::Result {
+        write!(f, "{}{}", self.counts(), VerdictLine(self.verdict))
+    }
+}

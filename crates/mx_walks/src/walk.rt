@@ -1,0 +1,152 @@
+//! What a walk does next: mostly it delivers a parcel, and where it does not, a node acts that has
+//! something to do.
+
+ghost use Rattle.std.specs.Prelude.{◌≡◌, ◌<◌, ◌≤◌, OnOk, false};
+ghost use Rattle.mx_walks.specs.Walk.{at_first, chosen, is_delivery, is_empty, looked, next_step, repeated, taken_up};
+ghost use Rattle.mx_walks.specs.States.{state_of};
+
+use crate::acting::act;
+use crate::conditions::Conditions;
+use crate::draws::byte_of;
+use crate::parcels::{drawn_of, is_empty, oldest_beside, put_new, take};
+use mx_network::{Cluster, Event};
+use mx_nodelaws::Exclusion;
+use mx_stamps::MOST_NODES;
+use rand_core::SeedableRng;
+use rand_core::utils::NextWord;
+use rand_pcg::Pcg32;
+use std::alloc::{AllocError, Global};
+
+/// Of 64 steps that deliver no parcel again, those from the first up to the second deliver a parcel
+/// that is under way, where there is one. In what is left a node acts.
+const DELIVERIES: (u32, u32) = (4, 52);
+
+/// How many of the newest parcels are repeated.
+const WINDOW: u64 = 64;
+
+/// A generator of words, and the parcels that are under way.
+#[derive(Drop)]
+pub(crate) struct Walk {
+    words: Pcg32,
+    /// The numbers of the parcels that were neither taken up nor lost, in no order.
+    flying: Vec<u64>,
+    /// How many parcels were sent, as far as the walk has looked.
+    seen: u64,
+}
+
+impl Walk {
+    /// The walk of a seed. The generator is `Pcg32` by `seed_from_u64`.
+    pub(crate) fn of(alloc: Global, seed: u64) -> Walk
+        ensures { state_of result ≡ at_first seed }
+    {
+        Walk {
+            words: Pcg32::seed_from_u64(seed),
+            flying: Vec::new(alloc),
+            seen: 0,
+        }
+    }
+
+    /// Takes in the parcels that were sent since the last look.
+    pub(crate) fn look(&mut self, sent: u64) -> Result<(), AllocError>
+        ensures { OnOk result (state_of self.new ≡ looked sent (state_of self.old)) }
+    {
+        put_new(&mut self.flying, self.seen, sent)?;
+        self.seen = sent;
+        Ok(())
+    }
+
+    /// The event of the next step; none where a parcel is lost, or where the node that would act
+    /// can but wait.
+    pub(crate) fn next<C: Exclusion>(
+        &mut self,
+        conditions: &Conditions,
+        nodes: u8,
+        registers: u8,
+        cluster: &Cluster<C>,
+    ) -> Option<Event>
+        requires nodes { (0 < nodes) × (nodes ≤ MOST_NODES) }
+        requires registers { 0 < registers }
+        ensures event { result ≡ (next_step C.core conditions.now cluster.now
+            nodes registers (state_of self.old)).event }
+        ensures after { state_of self.new ≡ (next_step C.core conditions.now cluster.now
+            nodes registers (state_of self.old)).after }
+    {
+        let word = self.words.next_word();
+        if byte_of(word) < conditions.repeat {
+            return self.repeat(conditions, cluster);
+        }
+        let chance = word % 64;
+        let is_calm = is_empty(self.flying.as_slice());
+        if is_delivery(chance, is_calm) {
+            return self.take_up(conditions, cluster);
+        }
+        act(&mut self.words, nodes, registers, cluster, chance, is_calm)
+    }
+
+    /// Delivers one of the newest parcels.
+    fn repeat<C: Exclusion>(
+        &mut self,
+        conditions: &Conditions,
+        cluster: &Cluster<C>,
+    ) -> Option<Event>
+        ensures event { result
+            ≡ (repeated C.core conditions.now cluster.now.sent (state_of self.old)).event }
+        ensures after { state_of self.new
+            ≡ (repeated C.core conditions.now cluster.now.sent (state_of self.old)).after }
+    {
+        let seen = self.seen;
+        if seen == 0 {
+            return None;
+        }
+        let back = u64::from(self.words.next_word()) % seen.min(WINDOW);
+        let number = self.chosen(conditions, cluster, seen - 1 - back);
+        Some(Event::Deliver(number))
+    }
+
+    /// Delivers a parcel that is under way, wherever it stands, or loses it.
+    fn take_up<C: Exclusion>(
+        &mut self,
+        conditions: &Conditions,
+        cluster: &Cluster<C>,
+    ) -> Option<Event>
+        requires { is_empty self.old.flying.items ≡ false }
+        ensures event { result
+            ≡ (taken_up C.core conditions.now cluster.now.sent (state_of self.old)).event }
+        ensures after { state_of self.new
+            ≡ (taken_up C.core conditions.now cluster.now.sent (state_of self.old)).after }
+    {
+        let word = self.words.next_word();
+        let drawn = drawn_of(word, self.flying.as_slice());
+        let number = self.chosen(conditions, cluster, drawn);
+        take(&mut self.flying, number);
+        if byte_of(self.words.next_word()) < conditions.loss {
+            None
+        } else {
+            Some(Event::Deliver(number))
+        }
+    }
+
+    /// The parcel that is delivered in place of this one.
+    fn chosen<C: Exclusion>(
+        &self,
+        conditions: &Conditions,
+        cluster: &Cluster<C>,
+        number: u64,
+    ) -> u64
+        ensures { result ≡ chosen C.core conditions.now cluster.now.sent self.now.flying.items
+            number }
+    {
+        if conditions.in_order {
+            oldest_beside(cluster, self.flying.as_slice(), number)
+        } else {
+            number
+        }
+    }
+}
+
+/// Whether a step delivers a parcel that is under way, by its chance.
+fn is_delivery(chance: u32, is_calm: bool) -> bool
+    ensures { result ≡ is_delivery chance is_calm }
+{
+    !is_calm && chance >= DELIVERIES.0 && chance < DELIVERIES.1
+}
