@@ -1,5 +1,5 @@
 -- What a line of a session asks for is over the names by which it is read.
-use Rattle.std.proofs.Common.{◌≡◌, ◌∙◌, ℕ, Bool, true, false, List, [], ◌∷◌, Option, Some, None, Result, Ok, IfOk, IfSome, length, subst, sym}
+use Rattle.std.proofs.Common.{◌≡◌, Bool, true, false, List, [], ◌∷◌, Option, Some, None, Result, Ok, IfOk, IfSome, length, subst, sym}
 use Rattle.std.specs.Bool.{⊤}
 use Rattle.std.specs.List.{position}
 use Rattle.std.specs.Option.{option_map_or}

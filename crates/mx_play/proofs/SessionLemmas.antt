@@ -1,5 +1,5 @@
 -- What lines make of a session.
-use Rattle.std.proofs.Common.{◌≡◌, ◌∙◌, ◌⊎◌, ℕ, zero, suc, Bool, false, List, [], ◌∷◌, ◌++◌, Result, Ok, Err, OnOk, IfOk, OnErr, length, take, drop, refl, sym, ap, subst, append_assoc, inl, inr}
+use Rattle.std.proofs.Common.{◌≡◌, ◌∙◌, ◌⊎◌, ℕ, zero, suc, false, List, [], ◌∷◌, ◌++◌, Result, Ok, Err, OnOk, IfOk, OnErr, length, take, drop, refl, sym, ap, subst, append_assoc, inl, inr}
 use Rattle.std.specs.Prelude.{MatchOption, Option, Some, None}
 use Rattle.std.specs.Bool.{⊤}
 use Rattle.mx_stamps.specs.Lists.{IsIn}
@@ -25,7 +25,7 @@ use Rattle.mx_scripts.specs.Fates.{Fates, is_waiting, lost}
 use Rattle.mx_scripts.specs.Played.{AreOver}
 use Rattle.mx_scripts.specs.declared.halts.LineStop.{LineStop}
 use Rattle.mx_play.specs.Moments.{Brings, CanLead, Leads, Makes, MomentState, first_moment, shown}
-use Rattle.mx_play.specs.Sessions.{Adds, Comes, Extends, HasTalked, HasTurned, IsBroughtBack, IsDone, IsPlayed, IsSession, IsTakenBack, Joins, Loses, LosesOne, Relinks, SaysTurn, SessionState, Talks, Turn, WaitsLess, at_start, events_in, rests, state, undone_in}
+use Rattle.mx_play.specs.Sessions.{Adds, Comes, Extends, HasTalked, HasTurned, IsDone, IsPlayed, IsSession, Loses, LosesOne, Relinks, SaysTurn, SessionState, Talks, Turn, WaitsLess, at_start, events_in, rests, state, undone_in}
 use Rattle.mx_play.specs.declared.happening.Happening.{Happening}
 use Rattle.mx_play.specs.declared.undone.Undone.{Undone}
 use Rattle.mx_play.specs.declared.happening.Happening.TheVariants.{Happens, IsLost, LinksChange}

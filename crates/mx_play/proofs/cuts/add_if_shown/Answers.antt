@@ -1,4 +1,4 @@
-use Rattle.std.proofs.Common.{◌≡◌, ◌∙◌, string_bytes, sym}
+use Rattle.std.proofs.Common.{◌∙◌, string_bytes, sym}
 use Rattle.mx_play.specs.Cuts.{cut_line, is_shown}
 use Rattle.mx_play.proofs.ShownLemmas.{not_shown}
 use Rattle.mx_play.proofs.cuts.add_if_shown.Goals as goal

@@ -1,4 +1,4 @@
-use Rattle.std.proofs.Common.{◌≡◌, ◌∙◌, ◌≤◌, ◌<◌, ℕ, [], ap, arith, false, length, refl, rules, sym}
+use Rattle.std.proofs.Common.{◌≡◌, ◌∙◌, [], ap, arith, false, length, refl}
 use Rattle.mx_network.specs.Step.{ClusterState}
 use Rattle.mx_texts.specs.LetterTexts.{letter_text}
 use Rattle.mx_scripts.specs.Fates.{is_waiting}

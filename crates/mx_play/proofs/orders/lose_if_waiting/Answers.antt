@@ -1,7 +1,7 @@
-use Rattle.std.proofs.Common.{◌∙◌, rules, string_bytes, sym}
+use Rattle.std.proofs.Common.{◌∙◌, rules, sym}
 use Rattle.mx_texts.specs.LetterTexts.{letter_text}
 use Rattle.mx_scripts.proofs.FateLemmas.{waiting_under_way}
-use Rattle.mx_play.proofs.SessionLemmas.{adds_not, extends_not, loses_waits, losses_one, waits_not}
+use Rattle.mx_play.proofs.SessionLemmas.{adds_not, loses_waits, losses_one, waits_not}
 use Rattle.mx_play.proofs.orders.lose_if_waiting.Goals as goal
 
 pub lose_one-requires : goal.lose_one-requires
