@@ -1,5 +1,5 @@
 -- What a line asks for is over the names by which it is read.
-use Rattle.std.proofs.Common.{◌≡◌, ◌∙◌, ◌<◌, subst, sym, ℕ, zero, suc, ◌+◌, ◌==◌, Bool, true, false, List, [], ◌∷◌, Option, Some, None, Result, Ok, Err, IfOk, IfSome, length, refl, slice_get}
+use Rattle.std.proofs.Common.{◌≡◌, ◌<◌, subst, sym, ℕ, zero, suc, ◌+◌, ◌==◌, Bool, true, false, List, [], ◌∷◌, Option, Some, None, Result, Ok, Err, IfOk, IfSome, length, refl, slice_get}
 use Rattle.std.specs.Bool.{⊤}
 use Rattle.std.specs.List.{position, position_or_len}
 use Rattle.std.specs.Option.{option_map_or}
@@ -12,7 +12,7 @@ use Rattle.mx_events.specs.declared.kind.EventKind.{EventKind}
 use Rattle.mx_events.specs.declared.kind.EventKind.TheVariants as kind
 use Rattle.mx_plan.specs.Text.{Text}
 use Rattle.mx_explorer.specs.Drawn.{IsDrawn}
-use Rattle.mx_lines.specs.Arguments.{event_of, node_in, number_in, of_node, of_nodes, of_register, of_section, of_value, register_in}
+use Rattle.mx_lines.specs.Arguments.{event_of, node_in, of_node, register_in}
 use Rattle.mx_lines.specs.Lines.{done_times, line_at, line_of, repeated, times_of}
 use Rattle.mx_lines.specs.Names.{Known}
 use Rattle.mx_lines.specs.Numbers.{number_of}
@@ -26,7 +26,6 @@ use Rattle.mx_lines.specs.declared.errors.Expected.{Expected}
 use Rattle.mx_lines.specs.declared.errors.LineError.{LineError}
 use Rattle.mx_lines.specs.declared.lines.Line.{Line}
 use Rattle.mx_lines.specs.declared.orders.LinkChange.TheVariants as change
-use Rattle.mx_lines.specs.declared.orders.Order.{Order}
 use Rattle.mx_lines.specs.declared.orders.Order.TheVariants as order
 use Rattle.mx_lines.specs.declared.verbs.Verb.{Verb}
 use Rattle.mx_lines.specs.declared.verbs.Verb.TheVariants as verb
