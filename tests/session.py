@@ -1,5 +1,5 @@
 """A model of a session of `mx play`, over tests/oracle.py: what each line prints, as docs/FORMATS.md says it. It
-knows no faults but those of lines that find no parcel, or too few lines to take back.
+knows no faults but those of lines that find no parcel or a link that is cut, or have nothing to take back.
 """
 import json
 
@@ -16,7 +16,9 @@ class Session:
     def __init__(self, plan):
         self.plan = plan
         self.names = plan["nodes"]
-        self.done = []  # of each line that was done, what happened: events, and ["lost", k]
+        # of each line that was done, what happened: events, ["lost", k], ["cut", a, b], ["heal"]
+        self.done = []
+        self.undone = []  # what each undo took back, the last one last
         self.begin()
 
     def begin(self):
@@ -25,15 +27,24 @@ class Session:
         self.events = []
         self.gone = set()  # the parcels that are no longer under way
         self.last = {}  # of each link, the parcel that was delivered last
+        self.cut = set()  # the links that are cut, as sets of one node or two
 
     def happen(self, happening):
         if happening[0] == "lost":
             self.gone.add(happening[1])
             return
+        if happening[0] == "cut":
+            self.cut.add(frozenset(happening[1:]))
+            return
+        if happening[0] == "heal":
+            self.cut.clear()
+            return
         if happening[0] == "deliver":
             number = happening[1]
             if number >= len(self.cluster.parcels):
                 raise Fault("no such parcel")
+            if self.is_held(number):
+                raise Fault("the link is cut")
             self.gone.add(number)
             self.last[self.cluster.parcels[number][:2]] = number
         self.cluster.happen(len(self.events), happening)
@@ -48,19 +59,33 @@ class Session:
     def under_way(self):
         return [number for number in range(len(self.cluster.parcels)) if number not in self.gone]
 
-    def oldest(self, sender, addressee):
-        link = self.names.index(sender), self.names.index(addressee)
-        found = [number for number in self.under_way() if self.cluster.parcels[number][:2] == link]
-        if not found:
+    def is_held(self, number):
+        return frozenset(self.cluster.parcels[number][:2]) in self.cut
+
+    def between(self, names):
+        """The parcels under way, or those from the first named node to the second."""
+        link = tuple(self.names.index(name) for name in names)
+        return [number for number in self.under_way() if link in ((), self.cluster.parcels[number][:2])]
+
+    def oldest(self, *names):
+        if not (found := self.between(names)):
             raise Fault("no such parcel under way")
         return found[0]
+
+    def links_of(self, names):
+        """The link between two nodes, or all links of one."""
+        one, *other = (self.names.index(name) for name in names)
+        return [(one, node) for node in other or range(len(self.names))]
 
     def happenings(self, words):
         """What the words of a line ask for, once; each is found when those before have happened."""
         word, *others = words
-        if words == ["deliver", "all"]:
-            while found := self.under_way():
-                yield ["deliver", found[0]]
+        if word in ("deliver", "lose") and others[0] == "all" and len(others) in (1, 3):
+            yield from self.happenings_of_all(word, others[1:])
+        elif word == "cut":
+            yield from (["cut", *link] for link in self.links_of(others))
+        elif word == "heal":
+            yield ["heal"]
         elif word == "deliver" and len(words) == 2:
             yield ["deliver", int(others[0])]
         elif word == "deliver":
@@ -74,6 +99,13 @@ class Session:
             yield ["deliver", self.last[link]]
         else:
             yield [word, *(int(it) if it.isdigit() else it for it in others)]
+
+    def happenings_of_all(self, word, names):
+        if word == "lose":
+            yield from (["lost", number] for number in self.between(names))
+            return
+        while found := [number for number in self.between(names) if not self.is_held(number)]:
+            yield ["deliver", found[0]]
 
     def do(self, words):
         """Does a line of a script; gives what is printed, or raises a fault, and then nothing has changed."""
@@ -90,12 +122,22 @@ class Session:
             self.begin_again()
             raise
         self.done.append(made)
+        self.undone = []
         return self.put[before:]
 
     def undo(self, count):
         if count > len(self.done):
             raise Fault(f"only {len(self.done)} to take back")
-        del self.done[len(self.done) - count :]
+        left = len(self.done) - count
+        self.undone.append(self.done[left:])
+        del self.done[left:]
+        self.begin_again()
+        return []
+
+    def redo(self):
+        if not self.undone:
+            raise Fault("no undo to take back")
+        self.done += self.undone.pop()
         self.begin_again()
         return []
 
@@ -107,6 +149,10 @@ class Session:
         for name in named or self.names:
             member = self.cluster.members[self.names.index(name)]
             lines += [self.standing(name), member.knowledge(self.names)]
+        for ends in sorted(sorted(link) for link in self.cut):
+            ends = [self.names[end] for end in (ends[0], ends[-1])]
+            if not named or named[0] in ends:
+                lines.append(f"cut {ends[0]} {ends[1]}")
         for number in self.under_way():
             sender, addressee, letter = self.cluster.parcels[number]
             if not named or self.names[addressee] in named:
@@ -129,6 +175,10 @@ class Session:
             return self.show(*words[1:])
         if words[0] == "undo":
             return self.undo(int(words[1]) if len(words) > 1 else 1)
+        if words[0] == "redo":
+            return self.redo()
+        if words[0] == "mark":
+            return [" ".join(words)]
         if words[0] == "events":
             return self.listed()
         return self.do(words)

@@ -1,5 +1,5 @@
 -- What the words of a line of a session ask for.
-use Rattle.std.specs.Prelude.{◌==◌, Bool, true, List, [], ◌∷◌, Option, Some, None, Result, Ok, codes, length, position, if◌then◌else◌}
+use Rattle.std.specs.Prelude.{◌==◌, ◌||◌, Bool, true, List, [], ◌∷◌, Option, Some, None, Result, Ok, codes, length, position, if◌then◌else◌}
 use Rattle.std.specs.Option.{option_map_or}
 use Rattle.std.specs.Str.{bytes_eq}
 use Rattle.mx_plan.specs.Text.{Text}
@@ -13,26 +13,35 @@ use Rattle.mx_lines.specs.declared.errors.Expected.TheVariants as expected
 use Rattle.mx_lines.specs.declared.errors.LineError.{LineError}
 use Rattle.mx_lines.specs.declared.errors.LineFault.TheVariants as fault
 use Rattle.mx_lines.specs.declared.errors.OwnWord.{OwnWord}
-use Rattle.mx_lines.specs.declared.errors.OwnWord.TheVariants.{Show, Undo, Events, Help, End}
+use Rattle.mx_lines.specs.declared.errors.OwnWord.TheVariants.{Show, Undo, Redo, Events, Mark, Help, End}
 use Rattle.mx_lines.specs.declared.lines.Line.{Line}
+
+-- the words that end a session
+abbrev pub is_end : Text → Bool
+is_end text =
+    bytes_eq text (codes "end") || (bytes_eq text (codes "quit") || bytes_eq text (codes "exit"))
 
 -- the word of a session that a text is
 abbrev pub own_word : Text → Option OwnWord
 own_word text =
     if bytes_eq text (codes "show") then Some Show
     else if bytes_eq text (codes "undo") then Some Undo
+    else if bytes_eq text (codes "redo") then Some Redo
     else if bytes_eq text (codes "events") then Some Events
+    else if bytes_eq text (codes "mark") then Some Mark
     else if bytes_eq text (codes "help") then Some Help
-    else if bytes_eq text (codes "end") then Some End
+    else if is_end text then Some End
     else None
 
 -- what a word of a session asks for alone
-abbrev pub alone : OwnWord → SessionCommand
-alone Show = command.Show None
-alone Undo = command.Undo 1
-alone Events = command.Events
-alone Help = command.Help
-alone End = command.End
+abbrev pub alone : OwnWord → Result SessionCommand LineError
+alone Show = Ok (command.Show None)
+alone Undo = Ok (command.Undo 1)
+alone Redo = Ok command.Redo
+alone Events = Ok command.Events
+alone Mark = refused fault.WordCount 0 (expected.OwnArguments Mark)
+alone Help = Ok command.Help
+alone End = Ok command.End
 
 -- this many lines are undone
 abbrev pub taken_back : Text → Result SessionCommand LineError
@@ -51,11 +60,12 @@ module _ (names : Known) where
   abbrev pub with_one : OwnWord → Text → Bool → Result SessionCommand LineError
   with_one Show name true = shown name
   with_one Undo count true = taken_back count
+  with_one Mark text true = Ok command.Mark
   with_one word text is_last = refused fault.WordCount 0 (expected.OwnArguments word)
 
   -- what it asks for with those after it
   abbrev pub own_command : OwnWord → List Text → Result SessionCommand LineError
-  own_command word [] = Ok (alone word)
+  own_command word [] = alone word
   own_command word (text ∷ more) = with_one word text (length more == 0)
 
 -- what is done that a line of a script asks for

@@ -1,5 +1,5 @@
 -- What the words of a line ask for, once, or which of them is wrong.
-use Rattle.std.specs.Prelude.{◌≡◌, ◌&&◌, ◌==◌, ℕ, ◌+◌, Bool, List, [], ◌∷◌, Option, Result, Ok, Err, codes, length, position, if◌then◌else◌, option_map, option_and_then, slice_get, slice_index_or}
+use Rattle.std.specs.Prelude.{◌≡◌, ◌==◌, ℕ, ◌+◌, List, [], ◌∷◌, Option, Some, Result, Ok, Err, codes, length, position, if◌then◌else◌, option_map, option_and_then, slice_get}
 use Rattle.std.specs.Option.{option_map_or}
 use Rattle.std.specs.Str.{bytes_eq}
 use Rattle.arrayvec.specs.ArrayVec.{ArrayVec}
@@ -7,7 +7,7 @@ use Rattle.mx_plan.specs.Text.{Text}
 use Rattle.mx_lines.specs.Arguments.{event_of, node_in}
 use Rattle.mx_lines.specs.Names.{Known}
 use Rattle.mx_lines.specs.Numbers.{number_of}
-use Rattle.mx_lines.specs.Verbs.{kinds_of, verb_of}
+use Rattle.mx_lines.specs.Verbs.{kinds_of, verb_of, verb_of_all}
 use Rattle.mx_events.specs.declared.argument.Argument.{Argument}
 use Rattle.mx_events.specs.declared.argument.Argument.TheVariants as argument
 use Rattle.mx_events.specs.declared.argument.ArgumentKind.{ArgumentKind}
@@ -18,7 +18,9 @@ use Rattle.mx_lines.specs.declared.errors.LineError.{LineError}
 use Rattle.mx_lines.specs.declared.errors.LineFault.{LineFault}
 use Rattle.mx_lines.specs.declared.errors.LineFault.TheVariants as fault
 use Rattle.mx_lines.specs.declared.orders.Order.{Order}
-use Rattle.mx_lines.specs.declared.orders.Order.TheVariants.{Happens, Arrives, AllArrive, IsLost, ArrivesAgain}
+use Rattle.mx_lines.specs.declared.orders.Order.TheVariants.{Happens, Arrives, AllArrive, IsLost, AllAreLost, ArrivesAgain, LinksChange}
+use Rattle.mx_lines.specs.declared.orders.LinkChange.TheVariants as change
+use Rattle.mx_lines.specs.declared.orders.Scope.TheVariants as scope
 use Rattle.mx_lines.specs.declared.verbs.Verb.{Verb}
 use Rattle.mx_lines.specs.declared.verbs.Verb.TheVariants as verb
 
@@ -60,42 +62,60 @@ module _ (names : Known) where
       and_then (argument_at kind place word) (λ argument.
       and_then (arguments_at kinds (place + 1) words) (λ arguments. Ok (argument ∷ arguments)))
 
--- an order between the two nodes that are the arguments
-abbrev pub between : (ℕ → ℕ → Order) → List Argument → Option Order
-between make arguments =
-    option_and_then (λ from. option_map (make from) (node_in (slice_get arguments 1)))
+-- the order of a verb between two nodes
+abbrev pub order_between : Verb → ℕ → ℕ → Order
+order_between verb.DeliverLink from to = AllArrive (scope.Link from to)
+order_between verb.Lose from to = IsLost from to
+order_between verb.LoseLink from to = AllAreLost (scope.Link from to)
+order_between verb.Again from to = ArrivesAgain from to
+order_between verb.CutLink from to = LinksChange (change.Cut from to)
+order_between _ from to = Arrives from to
+
+-- the same of the two nodes that are the arguments
+abbrev pub between : Verb → List Argument → Option Order
+between verb arguments =
+    option_and_then (λ from. option_map (order_between verb from) (node_in (slice_get arguments 1)))
     (node_in (slice_get arguments 0))
 
 -- the order of a verb with these arguments
 abbrev pub order_by : Verb → List Argument → Option Order
 order_by (verb.Event kind) arguments = option_map Happens (event_of kind arguments)
-order_by verb.Deliver arguments = between Arrives arguments
-order_by verb.Lose arguments = between IsLost arguments
-order_by verb.Again arguments = between ArrivesAgain arguments
+order_by verb.DeliverAll arguments = Some (AllArrive scope.All)
+order_by verb.LoseAll arguments = Some (AllAreLost scope.All)
+order_by verb.Heal arguments = Some (LinksChange change.Heal)
+order_by verb.CutNode arguments =
+    option_map (λ node. LinksChange (change.CutAll node)) (node_in (slice_get arguments 0))
+order_by verb arguments = between verb arguments
 
--- `deliver all`
-abbrev pub is_all : Text → List Text → Bool
-is_all word arguments =
-    bytes_eq word (codes "deliver")
-    && ((length arguments == 1) && bytes_eq (slice_index_or arguments 0 []) (codes "all"))
-
-module _ (names : Known) (place : ℕ) where
-  -- what a verb asks for: its arguments have to be as many as it wants
-  abbrev pub order_with : Verb → List Text → Result Order LineError
-  order_with verb words =
+module _ (names : Known) where
+  -- what a verb asks for, whose last word has this number: its arguments have to be as many as it
+  -- wants
+  abbrev pub order_with : ℕ → Verb → List Text → Result Order LineError
+  order_with place verb words =
       if length (kinds_of verb) == length words
       then and_then (arguments_at names (kinds_of verb) (place + 1) words) (λ arguments.
       option_map_or (λ order. Ok order) (order_by verb arguments)
       (refused fault.WordCount place (expected.Arguments verb)))
       else refused fault.WordCount place (expected.Arguments verb)
 
-  -- what a word of this number asks for with those after it
-  abbrev pub order_at : Text → List Text → Result Order LineError
-  order_at word arguments =
-      if bytes_eq word (codes "times") then refused fault.WordCount place expected.Single
-      else if is_all word arguments then Ok AllArrive
-      else option_map_or (λ verb. order_with verb arguments) (verb_of word (length arguments))
+  -- what a word of this number asks for before its arguments
+  abbrev pub order_of : ℕ → Text → List Text → Result Order LineError
+  order_of place word arguments =
+      option_map_or (λ verb. order_with place verb arguments) (verb_of word (length arguments))
       (refused fault.NoWord place expected.Word)
+
+  -- the same before others, the first of which may be `all`
+  abbrev pub order_before : ℕ → Text → List Text → Result Order LineError
+  order_before place word [] = order_of place word []
+  order_before place word (next ∷ more) =
+      option_map_or (λ verb. order_with (place + 1) verb more)
+      (verb_of_all word next (length more)) (order_of place word (next ∷ more))
+
+  -- what a word of this number asks for with those after it
+  abbrev pub order_at : ℕ → Text → List Text → Result Order LineError
+  order_at place word arguments =
+      if bytes_eq word (codes "times") then refused fault.WordCount place expected.Single
+      else order_before place word arguments
 
 -- the arguments were read, or this is wrong
 abbrev pub Gives : Result (List Argument) LineError → Result (ArrayVec Argument) LineError

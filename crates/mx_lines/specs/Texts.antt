@@ -2,7 +2,7 @@
 use Rattle.std.specs.Prelude.{codes}
 use Rattle.mx_plan.specs.Text.{Text}
 use Rattle.mx_lines.specs.declared.errors.LineFault.{LineFault}
-use Rattle.mx_lines.specs.declared.errors.LineFault.TheVariants.{NotText, NoWord, WordCount, NoNode, NoRegister, NotNumber, NoParcel, NotUnderWay, NotDelivered, TooMany}
+use Rattle.mx_lines.specs.declared.errors.LineFault.TheVariants.{NotText, NoWord, WordCount, NoNode, NoRegister, NotNumber, NoParcel, NotUnderWay, NotDelivered, LinkCut, TooMany}
 
 abbrev pub fault_text : LineFault → Text
 fault_text NotText = codes "not UTF-8"
@@ -14,4 +14,5 @@ fault_text NotNumber = codes "not a number"
 fault_text NoParcel = codes "no such parcel"
 fault_text NotUnderWay = codes "no such parcel under way"
 fault_text NotDelivered = codes "no such parcel delivered"
+fault_text LinkCut = codes "the link is cut"
 fault_text TooMany = codes "more than 1000000"

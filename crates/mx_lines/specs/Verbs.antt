@@ -1,5 +1,5 @@
 -- The words with which a line of a script begins, and what stands after them.
-use Rattle.std.specs.Prelude.{ℕ, ◌==◌, ◌&&◌, List, [], ◌∷◌, Option, Some, codes, if◌then◌else◌, option_map}
+use Rattle.std.specs.Prelude.{ℕ, ◌==◌, ◌&&◌, List, [], ◌∷◌, Option, Some, None, codes, if◌then◌else◌, not, option_map}
 use Rattle.std.specs.Str.{bytes_eq}
 use Rattle.mx_events.specs.Words.{kind_named}
 use Rattle.mx_plan.specs.Text.{Text}
@@ -7,17 +7,40 @@ use Rattle.mx_events.specs.Arguments.{arguments_of}
 use Rattle.mx_events.specs.declared.argument.ArgumentKind.{ArgumentKind}
 use Rattle.mx_events.specs.declared.argument.ArgumentKind.TheVariants.{Node}
 use Rattle.mx_lines.specs.declared.verbs.Verb.{Verb}
-use Rattle.mx_lines.specs.declared.verbs.Verb.TheVariants.{Event, Deliver, Lose, Again}
+use Rattle.mx_lines.specs.declared.verbs.Verb.TheVariants.{Event, Deliver, DeliverAll, DeliverLink, Lose, LoseAll, LoseLink, Again, CutLink, CutNode, Heal}
+
+-- what `cut` asks for before this many others
+abbrev pub verb_of_cut : ℕ → Verb
+verb_of_cut count = if count == 2 then CutLink else CutNode
 
 -- what a word asks for that stands before this many others
 abbrev pub verb_of : Text → ℕ → Option Verb
 verb_of word count =
     if bytes_eq word (codes "lose") then Some Lose
     else if bytes_eq word (codes "again") then Some Again
+    else if bytes_eq word (codes "cut") then Some (verb_of_cut count)
+    else if bytes_eq word (codes "heal") then Some Heal
     else if bytes_eq word (codes "deliver") && (count == 2) then Some Deliver
     else option_map Event (kind_named word)
 
--- what stands after it: the arguments of an event, or two nodes
+-- one verb before no more words, another before two
+abbrev pub by_count : Verb → Verb → ℕ → Option Verb
+by_count of_all of_link count =
+    if count == 0 then Some of_all else if count == 2 then Some of_link else None
+
+-- what a word asks for that stands before `all`, and perhaps two nodes
+abbrev pub verb_of_all : Text → Text → ℕ → Option Verb
+verb_of_all word next count =
+    if not (bytes_eq next (codes "all")) then None
+    else if bytes_eq word (codes "deliver") then by_count DeliverAll DeliverLink count
+    else if bytes_eq word (codes "lose") then by_count LoseAll LoseLink count
+    else None
+
+-- what stands after it: the arguments of an event, nothing, one node, or two
 abbrev pub kinds_of : Verb → List ArgumentKind
 kinds_of (Event kind) = arguments_of kind
+kinds_of DeliverAll = []
+kinds_of LoseAll = []
+kinds_of Heal = []
+kinds_of CutNode = Node ∷ []
 kinds_of _ = Node ∷ Node ∷ []

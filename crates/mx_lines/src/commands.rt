@@ -1,7 +1,7 @@
 //! What a line of a session asks for.
 
 ghost use Rattle.std.specs.Prelude.{◌≡◌};
-ghost use Rattle.mx_lines.specs.Commands.{alone, command_of, own_command, own_word, shown, taken_back};
+ghost use Rattle.mx_lines.specs.Commands.{alone, command_of, is_end, own_command, own_word, shown, taken_back};
 ghost use Rattle.mx_lines.specs.Names.{texts_of};
 
 use crate::errors::{Expected, LineError, LineFault, OwnWord, refuse};
@@ -19,8 +19,12 @@ pub enum SessionCommand {
     Undo(u64),
     /// One node is shown, or all.
     Show(Option<NodeId>),
+    /// The last undo is taken back.
+    Redo,
     /// The events are shown as a file.
     Events,
+    /// The line shows itself: `mark` and its second word.
+    Mark,
     /// The words are shown.
     Help,
     End,
@@ -58,16 +62,29 @@ fn own_word(text: &str) -> Option<OwnWord>
     if text == "undo" {
         return Some(OwnWord::Undo);
     }
+    if text == "redo" {
+        return Some(OwnWord::Redo);
+    }
     if text == "events" {
         return Some(OwnWord::Events);
+    }
+    if text == "mark" {
+        return Some(OwnWord::Mark);
     }
     if text == "help" {
         return Some(OwnWord::Help);
     }
-    if text == "end" {
+    if is_end(text) {
         return Some(OwnWord::End);
     }
     None
+}
+
+/// Whether a text ends a session.
+fn is_end(text: &str) -> bool
+    ensures { result ≡ is_end text.now }
+{
+    text == "end" || text == "quit" || text == "exit"
 }
 
 /// What a word of a session asks for with those after it.
@@ -79,25 +96,28 @@ fn own_command<N: Names>(
     ensures { result ≡ own_command (N.known names.now) word (texts_of arguments.now) }
 {
     let Some((argument, more)) = arguments.split_first() else {
-        return Ok(alone(word));
+        return alone(word);
     };
     match word {
         OwnWord::Show if more.is_empty() => shown(names, argument),
         OwnWord::Undo if more.is_empty() => taken_back(argument),
+        OwnWord::Mark if more.is_empty() => Ok(SessionCommand::Mark),
         _ => refuse(LineFault::WordCount, 0, Expected::OwnArguments(word)),
     }
 }
 
 /// What a word of a session asks for alone.
-fn alone(word: OwnWord) -> SessionCommand
+fn alone(word: OwnWord) -> Result<SessionCommand, LineError>
     ensures { result ≡ alone word }
 {
     match word {
-        OwnWord::Show => SessionCommand::Show(None),
-        OwnWord::Undo => SessionCommand::Undo(1),
-        OwnWord::Events => SessionCommand::Events,
-        OwnWord::Help => SessionCommand::Help,
-        OwnWord::End => SessionCommand::End,
+        OwnWord::Show => Ok(SessionCommand::Show(None)),
+        OwnWord::Undo => Ok(SessionCommand::Undo(1)),
+        OwnWord::Redo => Ok(SessionCommand::Redo),
+        OwnWord::Events => Ok(SessionCommand::Events),
+        OwnWord::Mark => refuse(LineFault::WordCount, 0, Expected::OwnArguments(word)),
+        OwnWord::Help => Ok(SessionCommand::Help),
+        OwnWord::End => Ok(SessionCommand::End),
     }
 }
 

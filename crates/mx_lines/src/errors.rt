@@ -28,6 +28,8 @@ pub enum LineFault {
     NotUnderWay,
     /// No parcel from the one node to the other was delivered.
     NotDelivered,
+    /// The link that bears the parcel is cut.
+    LinkCut,
     /// The script has more than 1,000,000 events, or repeats a line more often.
     TooMany,
 }
@@ -46,6 +48,7 @@ impl fmt::Display for LineFault {
             LineFault::NoParcel => f.write_str("no such parcel"),
             LineFault::NotUnderWay => f.write_str("no such parcel under way"),
             LineFault::NotDelivered => f.write_str("no such parcel delivered"),
+            LineFault::LinkCut => f.write_str("the link is cut"),
             LineFault::TooMany => f.write_str("more than 1000000"),
         }
     }
@@ -56,7 +59,9 @@ impl fmt::Display for LineFault {
 pub enum OwnWord {
     Show,
     Undo,
+    Redo,
     Events,
+    Mark,
     Help,
     End,
 }

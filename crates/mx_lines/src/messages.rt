@@ -14,9 +14,11 @@ use std::fmt::Display;
 const MOST_BYTES: usize = 40;
 
 /// The words of scripts that are none of events, and those of sessions alone.
-const SCRIPT_WORDS: [&str; 3] = ["lose", "again", "times"];
+const SCRIPT_WORDS: [&str; 5] = ["lose", "again", "cut", "heal", "times"];
 
-const SESSION_WORDS: [&str; 5] = ["show", "undo", "events", "help", "end"];
+const SESSION_WORDS: [&str; 9] = [
+    "show", "undo", "redo", "events", "mark", "help", "end", "quit", "exit",
+];
 
 /// With which words a line may begin.
 #[derive(Clone, Copy, PartialEq, Eq)]
@@ -98,9 +100,13 @@ fn expected_text(expected: Expected) -> &'static str {
         Expected::Times => "a whole number, 0 to 1000000",
         Expected::Repetition => "a number and a line behind the word",
         Expected::Arguments(Verb::Event(kind)) => arguments_text(kind),
+        Expected::Arguments(Verb::Lose) => "all, or two nodes behind the word",
+        Expected::Arguments(Verb::CutNode) => "a node or two behind the word",
+        Expected::Arguments(Verb::Heal) => "nothing behind the word",
         Expected::Arguments(_) => "two nodes behind the word",
         Expected::OwnArguments(OwnWord::Show) => "a node or nothing behind the word",
         Expected::OwnArguments(OwnWord::Undo) => "a number or nothing behind the word",
+        Expected::OwnArguments(OwnWord::Mark) => "a word behind the word",
         Expected::OwnArguments(_) => "nothing behind the word",
     }
 }

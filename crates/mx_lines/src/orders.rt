@@ -1,14 +1,14 @@
 //! What a line asks for, once.
 
 ghost use Rattle.std.specs.Prelude.{◌≡◌, ◌≤◌, length};
-ghost use Rattle.mx_lines.specs.Orders.{Gives, argument_at, arguments_at, is_all, number_at, order_at, order_by, order_with};
+ghost use Rattle.mx_lines.specs.Orders.{Gives, argument_at, arguments_at, number_at, order_at, order_before, order_between, order_by, order_of, order_with};
 ghost use Rattle.mx_lines.specs.Names.{texts_of};
 
 use crate::arguments::{event_of, node_at};
 use crate::errors::{Expected, LineError, LineFault, refuse};
 use crate::names::Names;
 use crate::numbers::number_of;
-use crate::verbs::{Verb, verb_of};
+use crate::verbs::{Verb, verb_of, verb_of_all};
 use arrayvec::ArrayVec;
 use mx_events::{Argument, ArgumentKind, Event, EventKind};
 use mx_stamps::NodeId;
@@ -20,12 +20,36 @@ pub enum Order {
     Happens(Event),
     /// The oldest parcel from the first node to the second that is under way is delivered.
     Arrives(NodeId, NodeId),
-    /// All parcels under way are delivered, and those that they bring about.
-    AllArrive,
+    /// All parcels under way over links that are not cut are delivered, and those that they bring
+    /// about.
+    AllArrive(Scope),
     /// The oldest parcel from the first node to the second that is under way is lost.
     IsLost(NodeId, NodeId),
+    /// All parcels under way are lost.
+    AllAreLost(Scope),
     /// The parcel from the first node to the second that was delivered last is delivered again.
     ArrivesAgain(NodeId, NodeId),
+    /// Links are cut, or heal.
+    LinksChange(LinkChange),
+}
+
+/// Which parcels `all` speaks of.
+#[derive(Clone, Copy)]
+pub enum Scope {
+    All,
+    /// Those from the first node to the second.
+    Link(NodeId, NodeId),
+}
+
+/// Which links are cut, or heal.
+#[derive(Clone, Copy)]
+pub enum LinkChange {
+    /// The link between both nodes is cut, both ways.
+    Cut(NodeId, NodeId),
+    /// All links of the node are cut, that to itself too.
+    CutAll(NodeId),
+    /// No link is cut any more.
+    Heal,
 }
 
 /// What a word and those after it ask for, where it is the word of this number in its line.
@@ -41,20 +65,42 @@ pub(crate) fn order_at<N: Names>(
     if word == "times" {
         return refuse(LineFault::WordCount, place, Expected::Single);
     }
-    if is_all(word, arguments) {
-        return Ok(Order::AllArrive);
+    order_before(names, place, word, arguments)
+}
+
+/// What a word asks for before others, the first of which may be `all`.
+fn order_before<N: Names>(
+    names: &N,
+    place: usize,
+    word: &str,
+    arguments: &[&str],
+) -> Result<Order, LineError>
+    requires { place ≤ 2 }
+    ensures { result ≡ order_before (N.known names.now) place word.now (texts_of arguments.now) }
+{
+    let Some((next, more)) = arguments.split_first() else {
+        return order_of(names, place, word, arguments);
+    };
+    match verb_of_all(word, next, more.len()) {
+        Some(verb) => order_with(names, place + 1, verb, more),
+        None => order_of(names, place, word, arguments),
     }
+}
+
+/// What a word asks for before its arguments.
+fn order_of<N: Names>(
+    names: &N,
+    place: usize,
+    word: &str,
+    arguments: &[&str],
+) -> Result<Order, LineError>
+    requires { place ≤ 2 }
+    ensures { result ≡ order_of (N.known names.now) place word.now (texts_of arguments.now) }
+{
     match verb_of(word, arguments.len()) {
         Some(verb) => order_with(names, place, verb, arguments),
         None => refuse(LineFault::NoWord, place, Expected::Word),
     }
-}
-
-/// Whether all parcels are to be delivered.
-fn is_all(word: &str, arguments: &[&str]) -> bool
-    ensures { result ≡ is_all word.now (texts_of arguments.now) }
-{
-    word == "deliver" && arguments.len() == 1 && arguments[0] == "all"
 }
 
 /// What a verb asks for with these arguments.
@@ -64,7 +110,7 @@ fn order_with<N: Names>(
     verb: Verb,
     arguments: &[&str],
 ) -> Result<Order, LineError>
-    requires { place ≤ 2 }
+    requires { place ≤ 3 }
     ensures { result ≡ order_with (N.known names.now) place verb (texts_of arguments.now) }
 {
     let kinds = verb.arguments();
@@ -84,18 +130,28 @@ fn order_by(verb: Verb, arguments: &[Argument]) -> Option<Order>
 {
     match verb {
         Verb::Event(kind) => Some(Order::Happens(event_of(kind, arguments)?)),
-        Verb::Deliver => {
+        Verb::DeliverAll => Some(Order::AllArrive(Scope::All)),
+        Verb::LoseAll => Some(Order::AllAreLost(Scope::All)),
+        Verb::Heal => Some(Order::LinksChange(LinkChange::Heal)),
+        Verb::CutNode => Some(Order::LinksChange(LinkChange::CutAll(node_at(arguments, 0)?))),
+        _ => {
             let from = node_at(arguments, 0)?;
-            Some(Order::Arrives(from, node_at(arguments, 1)?))
+            Some(order_between(verb, from, node_at(arguments, 1)?))
         }
-        Verb::Lose => {
-            let from = node_at(arguments, 0)?;
-            Some(Order::IsLost(from, node_at(arguments, 1)?))
-        }
-        Verb::Again => {
-            let from = node_at(arguments, 0)?;
-            Some(Order::ArrivesAgain(from, node_at(arguments, 1)?))
-        }
+    }
+}
+
+/// The order of a verb between two nodes.
+fn order_between(verb: Verb, from: NodeId, to: NodeId) -> Order
+    ensures { result ≡ order_between verb from to }
+{
+    match verb {
+        Verb::DeliverLink => Order::AllArrive(Scope::Link(from, to)),
+        Verb::Lose => Order::IsLost(from, to),
+        Verb::LoseLink => Order::AllAreLost(Scope::Link(from, to)),
+        Verb::Again => Order::ArrivesAgain(from, to),
+        Verb::CutLink => Order::LinksChange(LinkChange::Cut(from, to)),
+        _ => Order::Arrives(from, to),
     }
 }
 
@@ -108,7 +164,7 @@ fn arguments_at<N: Names>(
 ) -> Result<ArrayVec<Argument, 3>, LineError>
     requires few { length kinds.now ≤ 3 }
     requires each { length words.now ≡ length kinds.now }
-    requires small { place ≤ 3 }
+    requires small { place ≤ 4 }
     ensures { Gives (arguments_at (N.known names.now) kinds.now place (texts_of words.now)) result }
 {
     let mut read = ArrayVec::new();
@@ -161,13 +217,23 @@ pub(crate) fn error_after<N: Names>(
     place: usize,
 ) -> Option<LineError> {
     let (word, arguments) = words.get(first..)?.split_first()?;
-    let verb = verb_of(word, arguments.len())?;
+    let (verb, begin) = verb_before(word, arguments)?;
     for (i, kind) in verb.arguments().iter().enumerate() {
-        let at = first.saturating_add(1).saturating_add(i);
+        let at = first.saturating_add(begin).saturating_add(i);
         let found = argument_at(names, *kind, at, words.get(at)?).err();
         if at > place && found.is_some() {
             return found;
         }
     }
     None
+}
+
+/// The verb of a word before its arguments, and how many words it has itself.
+fn verb_before(word: &str, arguments: &[&str]) -> Option<(Verb, usize)> {
+    if let Some((next, more)) = arguments.split_first()
+        && let Some(verb) = verb_of_all(word, next, more.len())
+    {
+        return Some((verb, 2));
+    }
+    Some((verb_of(word, arguments.len())?, 1))
 }

@@ -1,7 +1,7 @@
 //! The words with which a line of a script begins.
 
 ghost use Rattle.std.specs.Prelude.{◌≡◌, ◌≤◌, length};
-ghost use Rattle.mx_lines.specs.Verbs.{kinds_of, verb_of};
+ghost use Rattle.mx_lines.specs.Verbs.{by_count, kinds_of, verb_of, verb_of_all, verb_of_cut};
 
 use mx_events::{ArgumentKind, EventKind};
 
@@ -11,8 +11,21 @@ pub enum Verb {
     Event(EventKind),
     /// `deliver`, with two nodes.
     Deliver,
+    /// `deliver all`.
+    DeliverAll,
+    /// `deliver all`, with two nodes.
+    DeliverLink,
     Lose,
+    /// `lose all`.
+    LoseAll,
+    /// `lose all`, with two nodes.
+    LoseLink,
     Again,
+    /// `cut`, with two nodes.
+    CutLink,
+    /// `cut`, with one node.
+    CutNode,
+    Heal,
 }
 
 /// What a word asks for that stands before this many others.
@@ -25,12 +38,56 @@ pub(crate) fn verb_of(word: &str, count: usize) -> Option<Verb>
     if word == "again" {
         return Some(Verb::Again);
     }
+    if word == "cut" {
+        return Some(verb_of_cut(count));
+    }
+    if word == "heal" {
+        return Some(Verb::Heal);
+    }
     if word == "deliver" && count == 2 {
         return Some(Verb::Deliver);
     }
     match EventKind::of_word(word) {
         Some(kind) => Some(Verb::Event(kind)),
         None => None,
+    }
+}
+
+/// What `cut` asks for before this many others.
+fn verb_of_cut(count: usize) -> Verb
+    ensures { result ≡ verb_of_cut count }
+{
+    if count == 2 {
+        Verb::CutLink
+    } else {
+        Verb::CutNode
+    }
+}
+
+/// What a word asks for before another, which may be `all`, and this many more.
+pub(crate) fn verb_of_all(word: &str, next: &str, count: usize) -> Option<Verb>
+    ensures { result ≡ verb_of_all word.now next.now count }
+{
+    if next != "all" {
+        return None;
+    }
+    if word == "deliver" {
+        return by_count(Verb::DeliverAll, Verb::DeliverLink, count);
+    }
+    if word == "lose" {
+        return by_count(Verb::LoseAll, Verb::LoseLink, count);
+    }
+    None
+}
+
+/// One verb before no more words, another before two.
+fn by_count(of_all: Verb, of_link: Verb, count: usize) -> Option<Verb>
+    ensures { result ≡ by_count of_all of_link count }
+{
+    match count {
+        0 => Some(of_all),
+        2 => Some(of_link),
+        _ => None,
     }
 }
 
@@ -42,7 +99,9 @@ impl Verb {
     {
         match self {
             Verb::Event(kind) => kind.arguments(),
-            Verb::Deliver | Verb::Lose | Verb::Again => &[ArgumentKind::Node, ArgumentKind::Node],
+            Verb::CutNode => &[ArgumentKind::Node],
+            Verb::DeliverAll | Verb::LoseAll | Verb::Heal => &[],
+            _ => &[ArgumentKind::Node, ArgumentKind::Node],
         }
     }
 }

@@ -1,5 +1,5 @@
 -- What a line of a session asks for is over the names by which it is read.
-use Rattle.std.proofs.Common.{◌≡◌, ◌∙◌, ℕ, Bool, true, false, List, [], ◌∷◌, Option, Some, None, Result, Ok, IfOk, IfSome, length, subst, sym}
+use Rattle.std.proofs.Common.{◌≡◌, Bool, true, false, List, [], ◌∷◌, Option, Some, None, Result, Ok, IfOk, IfSome, length, subst, sym}
 use Rattle.std.specs.Bool.{⊤}
 use Rattle.std.specs.List.{position}
 use Rattle.std.specs.Option.{option_map_or}
@@ -13,7 +13,7 @@ use Rattle.mx_lines.specs.Numbers.{number_of}
 use Rattle.mx_lines.specs.declared.commands.SessionCommand.{SessionCommand}
 use Rattle.mx_lines.specs.declared.errors.LineError.{LineError}
 use Rattle.mx_lines.specs.declared.errors.OwnWord.{OwnWord}
-use Rattle.mx_lines.specs.declared.errors.OwnWord.TheVariants.{Show, Undo, Events, Help, End}
+use Rattle.mx_lines.specs.declared.errors.OwnWord.TheVariants.{Show, Undo, Redo, Events, Mark, Help, End}
 use Rattle.mx_lines.specs.declared.lines.Line.{Line}
 use Rattle.mx_scripts.specs.Scripts.{IsOver}
 use Rattle.mx_scripts.proofs.OverLemmas.{any, line_is_over, line_over, LineOver, or_wrong, passed}
@@ -23,10 +23,12 @@ module _ (names : Known) where
   abbrev Over : SessionCommand → Type 0
   Over command = IsCommand (length names.nodes) (length names.registers) command
 
-  alone_over : (word : OwnWord) → Over (alone word)
+  alone_over : (word : OwnWord) → IfOk (alone word) Over
   alone_over Show = tt
   alone_over Undo = tt
+  alone_over Redo = tt
   alone_over Events = tt
+  alone_over Mark = tt
   alone_over Help = tt
   alone_over End = tt
 
@@ -35,6 +37,10 @@ module _ (names : Known) where
   one_over Show text false = tt
   one_over Undo text true = or_wrong (λ n. ⊤) Over (number_of text) _ _ (any (number_of text)) (λ n h. tt)
   one_over Undo text false = tt
+  one_over Redo text true = tt
+  one_over Redo text false = tt
+  one_over Mark text true = tt
+  one_over Mark text false = tt
   one_over Events text true = tt
   one_over Events text false = tt
   one_over Help text true = tt

@@ -1,3 +1,4 @@
+mod ShownLemmas
 pub mod MomentLemmas
 pub mod SessionLemmas
 pub mod PlayedLemmas

@@ -11,7 +11,7 @@ use Rattle.mx_commands.proofs.RunLemmas.{grows}
 use Rattle.mx_play.specs.Moments.{Brings, CanHappen, CanLead, Leads, Makes, MomentState, shown}
 use Rattle.mx_play.specs.Sessions.{events_in}
 use Rattle.mx_play.specs.declared.happening.Happening.{Happening}
-use Rattle.mx_play.specs.declared.happening.Happening.TheVariants.{Happens, IsLost}
+use Rattle.mx_play.specs.declared.happening.Happening.TheVariants.{Happens, IsLost, LinksChange}
 
 same_Ok : {A E : Type 0} (x y : A) → ◌≡◌ {A = Result A E} (Ok x) (Ok y) → x ≡ y
 same_Ok x y e = cc
@@ -21,9 +21,9 @@ same_moment : {S M : Type 0} (c d : ClusterState S M) (f g : Fates) → c ≡ d 
 same_moment c d f g e e' = rw (e, e') refl
 
 -- what is known, and what is known where all goes well
-pub both_on_ok : {T E : Type 0} (r : Result T E) (A B : Type 0) → A → OnOk r B → OnOk r (A × B)
-both_on_ok (Ok t) A B a b = (a, b)
-both_on_ok (Err e) A B a b = tt
+pub three_on_ok : {T E : Type 0} (r : Result T E) (A B C : Type 0) → A → OnOk r B → C → OnOk r (A × B × C)
+three_on_ok (Ok t) A B C a b c = (a, b, c)
+three_on_ok (Err e) A B C a b c = tt
 
 module _ {H S M : Type 0} (core : Core H S M) where
   -- one moment comes of it
@@ -33,6 +33,7 @@ module _ {H S M : Type 0} (core : Core H S M) where
       let fates : a.fates ≡ b.fates = x.1 ∙ ap (λ (g : ClusterState S M). noted g.sent e old.fates) clusters ∙ sym y.1 in
       same_moment a.cluster b.cluster a.fates b.fates clusters fates
   brings_one (IsLost k) old a b x y = same_moment a.cluster b.cluster a.fates b.fates (x.0 ∙ sym y.0) (x.1 ∙ sym y.1)
+  brings_one (LinksChange change) old a b x y = same_moment a.cluster b.cluster a.fates b.fates (x.0 ∙ sym y.0) (x.1 ∙ sym y.1)
 
   -- one moment comes of them
   pub leads_one : (hs : List Happening) (old a b : MomentState S M) → Leads core old hs a → Leads core old hs b → a ≡ b
@@ -44,6 +45,12 @@ module _ {H S M : Type 0} (core : Core H S M) where
   pub leads_append : (hs js : List Happening) (old mid new : MomentState S M) → Leads core old hs mid → Leads core mid js new → Leads core old (hs ++ js) new
   leads_append [] js old mid new x y = subst (λ (m : MomentState S M). Leads core m js new) x y
   leads_append (h ∷ hs) js old mid new x y = (x.0, x.1, leads_append hs js x.0 mid new x.2 y)
+
+  pub leads_split : (hs js : List Happening) (old new : MomentState S M) → Leads core old (hs ++ js) new → (mid : MomentState S M) × Leads core old hs mid × Leads core mid js new
+  leads_split [] js old new x = (old, refl, x)
+  leads_split (h ∷ hs) js old new x =
+      let rest = leads_split hs js x.0 new x.2 in
+      (rest.0, (x.0, x.1, rest.1), rest.2)
 
   -- the first of them can happen too
   pub leads_prefix : (n : ℕ) (hs : List Happening) (old new : MomentState S M) → Leads core old hs new → CanLead core old (take n hs)
@@ -62,6 +69,9 @@ module _ {H S M : Type 0} (core : Core H S M) where
   leads_members (IsLost k ∷ hs) old new x =
       let mid : MomentState S M = x.0 in
       leads_members hs mid new x.2 ∙ ap (λ (g : ClusterState S M). length g.members) x.1.0
+  leads_members (LinksChange change ∷ hs) old new x =
+      let mid : MomentState S M = x.0 in
+      leads_members hs mid new x.2 ∙ ap (λ (g : ClusterState S M). length g.members) x.1.0
 
   -- the events among them lead to the cluster
   pub leads_runs : (hs : List Happening) (old new : MomentState S M) → Leads core old hs new → RunsTo core old.cluster (events_in hs) new.cluster
@@ -70,6 +80,9 @@ module _ {H S M : Type 0} (core : Core H S M) where
       let mid : MomentState S M = x.0 in
       (mid.cluster, x.1.0, leads_runs hs mid new x.2)
   leads_runs (IsLost k ∷ hs) old new x =
+      let mid : MomentState S M = x.0 in
+      subst (λ (g : ClusterState S M). RunsTo core g (events_in hs) new.cluster) x.1.0 (leads_runs hs mid new x.2)
+  leads_runs (LinksChange change ∷ hs) old new x =
       let mid : MomentState S M = x.0 in
       subst (λ (g : ClusterState S M). RunsTo core g (events_in hs) new.cluster) x.1.0 (leads_runs hs mid new x.2)
 

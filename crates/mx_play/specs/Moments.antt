@@ -5,9 +5,9 @@ use Rattle.mx_network.specs.Step.{ClusterState, step_of}
 use Rattle.mx_plan.specs.Text.{Text}
 use Rattle.mx_plan.specs.Fields.{Fields}
 use Rattle.mx_commands.specs.Runs.{at_rest, text_of}
-use Rattle.mx_scripts.specs.Fates.{Fates, at_first, is_under_way, lost, noted}
+use Rattle.mx_scripts.specs.Fates.{Fates, at_first, can_pass, is_under_way, lost, noted, relinked}
 use Rattle.mx_play.specs.declared.happening.Happening.{Happening}
-use Rattle.mx_play.specs.declared.happening.Happening.TheVariants.{Happens, IsLost}
+use Rattle.mx_play.specs.declared.happening.Happening.TheVariants.{Happens, IsLost, LinksChange}
 
 pub record MomentState (S M : Type 0) : Type 0 where
   pub cluster : ClusterState S M
@@ -18,14 +18,18 @@ abbrev pub first_moment : {H S M : Type 0} → Core H S M → Fields → H → M
 first_moment core p shape = record { cluster = at_rest core p shape; fates = at_first }
 
 module _ {H S M : Type 0} (core : Core H S M) where
-  -- this happens, and leads from one moment to another; only a parcel that is under way is lost
+  -- this happens, and leads from one moment to another; only a parcel that is under way is lost,
+  -- and none is delivered over a link that is cut
   abbrev pub Brings : MomentState S M → Happening → MomentState S M → Type 0
   Brings old (Happens e) new =
       (step_of core old.cluster e ≡ Ok new.cluster)
       × (new.fates ≡ noted new.cluster.sent e old.fates)
+      × IsTrue (can_pass old.fates old.cluster.sent e)
   Brings old (IsLost k) new =
       (new.cluster ≡ old.cluster) × (new.fates ≡ lost k old.fates)
       × IsTrue (is_under_way old.fates k)
+  Brings old (LinksChange change) new =
+      (new.cluster ≡ old.cluster) × (new.fates ≡ relinked change old.fates)
 
   -- it can happen
   abbrev pub CanHappen : MomentState S M → Happening → Type 0
@@ -41,11 +45,12 @@ module _ {H S M : Type 0} (core : Core H S M) where
   CanLead old hs = (new : MomentState S M) × Leads old hs new
 
   module _ (letter_text : Fields → M → Text) (p : Fields) where
-    -- what `replay` prints of it; of a loss, nothing
+    -- what `replay` prints of it; of a loss, or where links change, nothing
     abbrev pub shown : MomentState S M → Happening → MomentState S M → Text
     shown old (Happens e) new =
         text_of core letter_text p (length old.cluster.trace) old.cluster new.cluster
     shown old (IsLost k) new = []
+    shown old (LinksChange change) new = []
 
     -- these happen, one after another, and that is printed of them
     abbrev pub Makes : MomentState S M → List Happening → MomentState S M → Text → Type 0

@@ -17,6 +17,8 @@ pub(crate) enum Complaint {
     TooLong,
     /// So many lines were done, and more are to be taken back.
     TooFew(usize),
+    /// No undo can be taken back.
+    NoUndo,
 }
 
 impl fmt::Display for Complaint {
@@ -25,6 +27,7 @@ impl fmt::Display for Complaint {
             Complaint::NotText => write!(f, "{}", LineFault::NotText),
             Complaint::Stop(stop) => write!(f, "{stop}"),
             Complaint::TooLong => f.write_str("more than 65536 bytes"),
+            Complaint::NoUndo => f.write_str("no undo to take back"),
             Complaint::TooFew(lines) => write!(f, "only {lines} to take back"),
         }
     }

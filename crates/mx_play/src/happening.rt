@@ -1,5 +1,6 @@
 //! What happens in a session.
 
+use mx_lines::LinkChange;
 use mx_network::Event;
 
 /// What happens in a session.
@@ -9,4 +10,6 @@ pub enum Happening {
     Happens(Event),
     /// The parcel of this number is lost.
     IsLost(u64),
+    /// Links are cut, or heal.
+    LinksChange(LinkChange),
 }

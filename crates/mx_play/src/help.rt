@@ -27,16 +27,25 @@ const WORDS: &str = "ask N         node N asks to enter\n\
     deliver K     parcel K arrives\n\
     deliver N M   the oldest parcel under way from N to M arrives\n\
     deliver all   all that are under way arrive, and those that they bring about\n\
+    deliver all N M  the same of those from N to M\n\
     lose N M      the oldest parcel under way from N to M is lost\n\
+    lose all      all parcels under way are lost\n\
+    lose all N M  all parcels under way from N to M are lost\n\
     again N M     the parcel from N to M that arrived last arrives once more\n\
+    cut N M       the link between N and M is cut: no parcel arrives over it\n\
+    cut N         all links of node N are cut\n\
+    heal          no link is cut any more\n\
     times T ..    what follows, T times\n\
     show          each node, and the parcels under way\n\
     show N        node N, and the parcels under way to it\n\
     undo          the last line that was done never happened\n\
     undo K        the last K lines that were done never happened\n\
+    redo          the last undo never happened\n\
     events        the events so far, as a file that `mx replay` reads\n\
+    mark WORD     this line itself\n\
     help          these words\n\
-    end           the closing lines and the verdict, and the end\n";
+    end           the closing lines and the verdict, and the end\n\
+    quit, exit    the same as end\n";
 
 pub(crate) const PLAY_EXAMPLE: &str =
     "Example: node a enters, and then the last two lines never happened.
@@ -53,7 +62,7 @@ pub(crate) const PLAY_EXAMPLE: &str =
 
 A line of standard input is one of a script, as `mx script --help` tells them, and what is printed of it is what
 `mx replay` prints of its events. `show` prints the line of each node, and of each parcel under way; `show N` those
-of node N. `undo` takes back the last line that was done, `undo K` the last K of them. `events` prints the events so
-far, as a file that `mx replay` reads, and `help` the words. What is wrong in a line is told on standard error, and
-nothing changes. `end`, or the end of standard input, prints the closing lines and the verdict. Where a script is
+of node N. `undo` takes back the last line that was done, `undo K` the last K of them, and `redo` the last undo. `events`
+prints the events so far, as a file that `mx replay` reads, `mark WORD` itself, and `help` the words. What is wrong in a line is told on standard error, and
+nothing changes. `end`, `quit`, `exit` or the end of standard input prints the closing lines and the verdict. Where a script is
 named, its lines come first. Where the plan is -, it is the first line of standard input.";

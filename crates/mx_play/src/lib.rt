@@ -3,6 +3,7 @@
 
 mod answers;
 mod command;
+mod cuts;
 mod faults;
 mod happening;
 mod help;
@@ -14,6 +15,7 @@ mod session;
 mod showing;
 mod starting;
 mod talking;
+mod undone;
 mod words;
 
 pub use command::play;

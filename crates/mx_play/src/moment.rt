@@ -1,16 +1,16 @@
 //! A cluster, and what has become of its parcels.
 
-ghost use Rattle.std.specs.Prelude.{◌≡◌, ◌++◌, Ok, IfOk, IfSome, IsOk, IsTrue, OnOk, length, string_bytes, take};
+ghost use Rattle.std.specs.Prelude.{◌≡◌, ◌++◌, Ok, IfNone, IfOk, IfSome, IsOk, IsTrue, OnOk, length, string_bytes, take};
 ghost use Rattle.mx_network.specs.Step.{step_of};
 ghost use Rattle.mx_texts.specs.LetterTexts.{letter_text};
 ghost use Rattle.mx_commands.specs.Runs.{NamesNodes, text_of};
-ghost use Rattle.mx_scripts.specs.Fates.{is_under_way};
+ghost use Rattle.mx_scripts.specs.Fates.{NoneArrives, can_pass, is_under_way, is_waiting};
 ghost use Rattle.mx_play.specs.Moments.{Brings, CanHappen, CanLead, Leads, first_moment, shown};
 
 use crate::happening::Happening;
 use mx_cli::Stop;
 use mx_commands::{start, step};
-use mx_lines::LineFault;
+use mx_lines::{LineFault, LinkChange, Scope};
 use mx_network::{Cluster, Event, StepFault};
 use mx_nodelaws::Exclusion;
 use mx_plan::Plan;
@@ -59,12 +59,33 @@ impl<C: Exclusion> Moment<C> {
         self.mail.is_under_way(number)
     }
 
-    /// The oldest parcel under way.
-    pub(crate) fn oldest(&mut self) -> Option<u64>
-        ensures same { self.new ≡ self.old }
-        ensures some { IfSome result (λ k. IsTrue (is_under_way self.old.fates k)) }
+    /// Which parcels are under way, and which links are cut.
+    pub(crate) fn mail(&self) -> &Mail
+        ensures { result.now ≡ self.now.fates }
     {
-        self.mail.oldest(self.cluster.sent())
+        &self.mail
+    }
+
+    /// Whether an event delivers no parcel over a link that is cut.
+    pub(crate) fn can_pass(&self, event: &Event) -> bool
+        ensures { result ≡ can_pass self.now.fates self.now.cluster.sent event.now }
+    {
+        self.mail.can_pass(event, &self.cluster)
+    }
+
+    /// Whether a parcel is under way, and one of these.
+    pub(crate) fn is_waiting(&self, scope: &Scope, number: u64) -> bool
+        ensures { result ≡ is_waiting self.now.fates self.now.cluster.sent scope.now number }
+    {
+        self.mail.is_waiting(&self.cluster, scope, number)
+    }
+
+    /// The oldest of these parcels that is under way over a link that is not cut.
+    pub(crate) fn next_to_arrive(&mut self, scope: &Scope) -> Option<u64>
+        ensures same { self.new ≡ self.old }
+        ensures none { IfNone result (NoneArrives self.old.fates self.old.cluster.sent scope.now) }
+    {
+        self.mail.next_to_arrive(&self.cluster, scope)
     }
 
     /// The oldest parcel under way from one node to another.
@@ -90,7 +111,8 @@ impl<C: Exclusion> Moment<C> {
     ) -> Result<(), LineStop>
     where
         C::Msg: Letter,
-        requires { NamesNodes (length self.old.cluster.members) event.now }
+        requires names { NamesNodes (length self.old.cluster.members) event.now }
+        requires passes { IsTrue (can_pass self.old.fates self.old.cluster.sent event.now) }
         ensures brings { OnOk result
             (Brings C.core self.old (Happening.Happens event.now) self.new) }
         ensures text { OnOk result (string_bytes text.new ≡ string_bytes text.old
@@ -110,9 +132,17 @@ impl<C: Exclusion> Moment<C> {
         self.mail.lose(number);
     }
 
+    /// Links are cut, or heal.
+    pub(crate) fn change(&mut self, change: &LinkChange)
+        ensures { Brings C.core self.old (Happening.LinksChange change.now) self.new }
+    {
+        self.mail.change(change);
+    }
+
     /// An event that happened once happens again.
     fn happen_again(&mut self, event: &Event) -> Result<(), AllocError>
-        requires { IsOk (step_of C.core self.old.cluster event.now) }
+        requires step { IsOk (step_of C.core self.old.cluster event.now) }
+        requires passes { IsTrue (can_pass self.old.fates self.old.cluster.sent event.now) }
         ensures { OnOk result (Brings C.core self.old (Happening.Happens event.now) self.new) }
     {
         advance_again(event, &mut self.cluster)?;
@@ -168,11 +198,15 @@ fn again<C: Exclusion>(happening: &Happening, moment: &mut Moment<C>) -> Result<
             moment.lose(*number);
             Ok(())
         }
+        Happening::LinksChange(change) => {
+            moment.change(change);
+            Ok(())
+        }
     }
 }
 
 /// What happened once happens again, one after another.
-pub(crate) fn redo<C: Exclusion>(
+pub(crate) fn replay<C: Exclusion>(
     done: &[Happening],
     moment: &mut Moment<C>,
 ) -> Result<(), AllocError>
@@ -201,5 +235,5 @@ pub(crate) fn go_back<C: Exclusion>(
 {
     done.truncate(count);
     *moment = Moment::<C>::start(alloc, plan, shape)?;
-    redo(done.as_slice(), moment)
+    replay(done.as_slice(), moment)
 }

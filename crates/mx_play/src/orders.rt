@@ -1,14 +1,16 @@
 //! What a line of a script makes.
 
-ghost use Rattle.std.specs.Prelude.{◌≡◌, length, string_bytes, OnErr, OnOk};
+ghost use Rattle.std.specs.Prelude.{◌≡◌, IsTrue, length, string_bytes, OnErr, OnOk};
 ghost use Rattle.mx_explorer.specs.Drawn.{IsDrawn};
 ghost use Rattle.mx_texts.specs.LetterTexts.{letter_text};
+ghost use Rattle.mx_plan.specs.Text.{Text};
+ghost use Rattle.mx_scripts.specs.Fates.{NoneArrives, NoneWaits, is_under_way};
 ghost use Rattle.mx_scripts.specs.Scripts.{IsOver};
-ghost use Rattle.mx_play.specs.Sessions.{Adds, Extends, Loses};
+ghost use Rattle.mx_play.specs.Sessions.{Adds, Extends, Loses, LosesOne, Relinks, WaitsLess};
 
 use crate::happening::Happening;
 use crate::moment::Moment;
-use mx_lines::{Line, LineFault, Order};
+use mx_lines::{Line, LineFault, LinkChange, Order, Scope};
 use mx_network::Event;
 use mx_nodelaws::Exclusion;
 use mx_plan::Plan;
@@ -60,7 +62,7 @@ where
 {
     match order {
         Order::Happens(event) => happen(alloc, plan, event, moment, done, text),
-        Order::AllArrive => all_arrive(alloc, plan, moment, done, text),
+        Order::AllArrive(scope) => all_arrive(alloc, plan, scope, moment, done, text),
         Order::Arrives(from, to) => {
             let number = moment.oldest_between(*from, *to);
             arrive(
@@ -86,6 +88,8 @@ where
             )
         }
         Order::IsLost(from, to) => lose(*from, *to, moment, done),
+        Order::AllAreLost(scope) => lose_all(plan, scope, moment, done),
+        Order::LinksChange(change) => change_links(change, moment, done),
     }
 }
 
@@ -108,6 +112,9 @@ where
 {
     if moment.cluster().trace().len() >= MOST_EVENTS {
         return Err(LineStop::Undone(LineFault::TooMany));
+    }
+    if !moment.can_pass(event) {
+        return Err(LineStop::Undone(LineFault::LinkCut));
     }
     moment.happen(alloc, plan, event, text)?;
     done.push(Happening::Happens(*event))?;
@@ -137,10 +144,12 @@ where
     }
 }
 
-/// All parcels under way are delivered, the oldest first, until none is left.
+/// All these parcels are delivered that are under way over links that are not cut, the oldest
+/// first, until none is left.
 fn all_arrive<C: Exclusion>(
     alloc: Global,
     plan: &Plan,
+    scope: &Scope,
     moment: &mut Moment<C>,
     done: &mut Vec<Happening>,
     text: &mut String,
@@ -150,15 +159,16 @@ where
     requires members { length moment.old.cluster.members ≡ length plan.now.nodes }
     ensures ok { OnOk result (Adds C.core (letter_text C.Msg.parts) plan.now moment.old moment.new
         done.old.items done.new.items (string_bytes text.old) (string_bytes text.new)) }
+    ensures leaves { OnOk result (NoneArrives moment.new.fates moment.new.cluster.sent scope.now) }
     ensures err { OnErr result (Extends done.old.items done.new.items) }
 {
     for _ in 0..MOST_EVENTS {
-        let Some(number) = moment.oldest() else {
+        let Some(number) = moment.next_to_arrive(scope) else {
             return Ok(());
         };
         happen(alloc, plan, &Event::Deliver(number), moment, done, text)?;
     }
-    Ok(())
+    Err(LineStop::Undone(LineFault::TooMany))
 }
 
 /// The oldest parcel under way from one node to another is lost.
@@ -174,7 +184,77 @@ fn lose<C: Exclusion>(
     let Some(number) = moment.oldest_between(from, to) else {
         return Err(LineStop::Undone(LineFault::NotUnderWay));
     };
+    lose_one(number, moment, done)
+}
+
+/// A parcel that is under way is lost.
+fn lose_one<C: Exclusion>(
+    number: u64,
+    moment: &mut Moment<C>,
+    done: &mut Vec<Happening>,
+) -> Result<(), LineStop>
+    requires { IsTrue (is_under_way moment.old.fates number) }
+    ensures ok { OnOk result (LosesOne C.core number moment.old moment.new done.old.items
+        done.new.items) }
+    ensures err { OnErr result (Extends done.old.items done.new.items) }
+{
     moment.lose(number);
     done.push(Happening::IsLost(number))?;
+    Ok(())
+}
+
+/// All these parcels are lost that are under way.
+fn lose_all<C: Exclusion>(
+    plan: &Plan,
+    scope: &Scope,
+    moment: &mut Moment<C>,
+    done: &mut Vec<Happening>,
+) -> Result<(), LineStop>
+where
+    C::Msg: Letter,
+    ensures ok { OnOk result ((t : Text) → Adds C.core (letter_text C.Msg.parts) plan.now
+        moment.old moment.new done.old.items done.new.items t t) }
+    ensures leaves { OnOk result (NoneWaits moment.new.fates moment.new.cluster.sent scope.now) }
+    ensures err { OnErr result (Extends done.old.items done.new.items) }
+{
+    for number in 0..moment.cluster().sent() {
+        lose_if_waiting(plan, scope, number, moment, done)?;
+    }
+    Ok(())
+}
+
+/// A parcel is lost if it is under way, and one of these.
+fn lose_if_waiting<C: Exclusion>(
+    plan: &Plan,
+    scope: &Scope,
+    number: u64,
+    moment: &mut Moment<C>,
+    done: &mut Vec<Happening>,
+) -> Result<(), LineStop>
+where
+    C::Msg: Letter,
+    ensures ok { OnOk result ((t : Text) → Adds C.core (letter_text C.Msg.parts) plan.now
+        moment.old moment.new done.old.items done.new.items t t) }
+    ensures waits { OnOk result (WaitsLess scope.now number moment.old moment.new) }
+    ensures err { OnErr result (Extends done.old.items done.new.items) }
+{
+    if moment.is_waiting(scope, number) {
+        return lose_one(number, moment, done);
+    }
+    Ok(())
+}
+
+/// Links are cut, or heal.
+fn change_links<C: Exclusion>(
+    change: &LinkChange,
+    moment: &mut Moment<C>,
+    done: &mut Vec<Happening>,
+) -> Result<(), LineStop>
+    ensures ok { OnOk result (Relinks C.core change.now moment.old moment.new done.old.items
+        done.new.items) }
+    ensures err { OnErr result (Extends done.old.items done.new.items) }
+{
+    moment.change(change);
+    done.push(Happening::LinksChange(*change))?;
     Ok(())
 }

@@ -7,7 +7,7 @@ ghost use Rattle.mx_play.specs.Sessions.{HasTalked, IsPlayed, IsSession, at_star
 
 use crate::reading::{Lines, Listed};
 use crate::session::{Session, begin};
-use crate::talking::{finish, talk};
+use crate::talking::{finish, greet, talk};
 use mx_cli::Stop;
 use mx_io::Output;
 use mx_knowledge::Knowledge;
@@ -64,6 +64,7 @@ where
     C::Msg: Letter,
     requires count { C.core.count shape.now ≡ length plan.now.nodes }
     requires start { state session.old.moment session.old.done.items session.old.marks.items
+        session.old.undone.items
         ≡ at_start C.core plan.now shape.now }
     ensures played { IfOk result (λ _. IsPlayed C.core (letter_text C.Msg.parts)
         C.knows plan.now shape.now
@@ -88,14 +89,18 @@ fn play_lines<C: Exclusion + Knowledge, L: Lines, O: Output, E: Output>(
 where
     C::Msg: Letter,
     requires { IsSession C.core plan.now shape.now
-        (state session.old.moment session.old.done.items session.old.marks.items) }
+        (state session.old.moment session.old.done.items session.old.marks.items
+        session.old.undone.items) }
     ensures talked { OnOk result (HasTalked C.core (letter_text C.Msg.parts)
         C.knows plan.now shape.now
-        (state session.old.moment session.old.done.items session.old.marks.items)
-        (state session.new.moment session.new.done.items session.new.marks.items)
+        (state session.old.moment session.old.done.items session.old.marks.items
+        session.old.undone.items)
+        (state session.new.moment session.new.done.items session.new.marks.items
+        session.new.undone.items)
         (O.written out.old) (O.written out.new)) }
     ensures is { OnOk result (IsSession C.core plan.now shape.now
-        (state session.new.moment session.new.done.items session.new.marks.items)) }
+        (state session.new.moment session.new.done.items session.new.marks.items
+        session.new.undone.items)) }
 {
     let mut listed = Listed { rest: script };
     let next = talk(alloc, plan, shape, 1, &mut listed, session, out, err)?;
@@ -117,17 +122,22 @@ fn go_on<C: Exclusion + Knowledge, L: Lines, O: Output, E: Output>(
 where
     C::Msg: Letter,
     requires { IsSession C.core plan.now shape.now
-        (state session.old.moment session.old.done.items session.old.marks.items) }
+        (state session.old.moment session.old.done.items session.old.marks.items
+        session.old.undone.items) }
     ensures talked { OnOk result (HasTalked C.core (letter_text C.Msg.parts)
         C.knows plan.now shape.now
-        (state session.old.moment session.old.done.items session.old.marks.items)
-        (state session.new.moment session.new.done.items session.new.marks.items)
+        (state session.old.moment session.old.done.items session.old.marks.items
+        session.old.undone.items)
+        (state session.new.moment session.new.done.items session.new.marks.items
+        session.new.undone.items)
         (O.written out.old) (O.written out.new)) }
     ensures is { OnOk result (IsSession C.core plan.now shape.now
-        (state session.new.moment session.new.done.items session.new.marks.items)) }
+        (state session.new.moment session.new.done.items session.new.marks.items
+        session.new.undone.items)) }
 {
     match next {
         Some(number) => {
+            greet(lines, err)?;
             talk(alloc, plan, shape, number, lines, session, out, err)?;
             Ok(())
         }

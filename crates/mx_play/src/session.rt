@@ -5,11 +5,13 @@ ghost use Rattle.mx_texts.specs.LetterTexts.{letter_text};
 ghost use Rattle.mx_commands.specs.Runs.{closing_text};
 ghost use Rattle.mx_scripts.specs.Files.{file_text};
 ghost use Rattle.mx_scripts.specs.Played.{events_of};
+ghost use Rattle.mx_play.specs.Cuts.{cut_lines};
 ghost use Rattle.mx_play.specs.Sessions.{at_start, standing_lines, state, waiting_lines};
 
 use crate::happening::Happening;
 use crate::moment::Moment;
 use crate::showing::{add_end, add_events, show};
+use crate::undone::Undone;
 use mx_knowledge::Knowledge;
 use mx_nodelaws::Exclusion;
 use mx_plan::Plan;
@@ -25,6 +27,8 @@ pub(crate) struct Session<C: Exclusion> {
     pub(crate) done: Vec<Happening>,
     /// For each line that was done, how much had happened before it.
     pub(crate) marks: Vec<usize>,
+    /// What can be brought back, the last of which was undone last.
+    pub(crate) undone: Vec<Undone>,
 }
 
 /// The cluster of a plan, at rest, before any line.
@@ -34,16 +38,19 @@ pub(crate) fn begin<C: Exclusion>(
     shape: &C::Shape,
 ) -> Result<Session<C>, AllocError>
     ensures { IfOk result (λ session. state session.moment session.done.items session.marks.items
+        session.undone.items
         ≡ at_start C.core plan.now shape.now) }
 {
     Ok(Session {
         moment: Moment::start(alloc, plan, shape)?,
         done: Vec::new(alloc),
         marks: Vec::new(alloc),
+        undone: Vec::new(alloc),
     })
 }
 
-/// Appends the line of each node, or of one, and those of the parcels under way to it.
+/// Appends the line of each node, or of one, those of its links that are cut, and those of the
+/// parcels under way to it.
 pub(crate) fn show_session<C: Exclusion + Knowledge>(
     alloc: Global,
     plan: &Plan,
@@ -57,6 +64,7 @@ where
     ensures { OnOk result (string_bytes text.new ≡ string_bytes text.old
         ++ (standing_lines C.core C.knows plan.now to.now
         session.now.moment.cluster
+        ++ cut_lines plan.now to.now session.now.moment.fates.links
         ++ waiting_lines C.core (letter_text C.Msg.parts) plan.now to.now session.now.moment)) }
 {
     show(alloc, plan, to, &session.moment, text)

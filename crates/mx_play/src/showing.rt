@@ -8,8 +8,10 @@ ghost use Rattle.mx_commands.specs.Runs.{closing_text};
 ghost use Rattle.mx_scripts.specs.Fates.{is_under_way};
 ghost use Rattle.mx_scripts.specs.Files.{file_text};
 ghost use Rattle.mx_scripts.specs.Played.{events_of};
-ghost use Rattle.mx_play.specs.Sessions.{is_to, node_shown, standing_lines, waiting_line, waiting_lines};
+ghost use Rattle.mx_play.specs.Cuts.{cut_lines, is_to};
+ghost use Rattle.mx_play.specs.Sessions.{node_shown, standing_lines, waiting_line, waiting_lines};
 
+use crate::cuts::add_cuts;
 use crate::moment::Moment;
 use mx_commands::{add_closing, verdict_status};
 use mx_knowledge::Knowledge;
@@ -22,7 +24,8 @@ use mx_stamps::{MOST_NODES, NodeId};
 use mx_texts::{Letter, add_facts_line, add_member_line, add_parcel_line};
 use std::alloc::{AllocError, Global};
 
-/// Appends the line of each node, or of one, and those of the parcels under way to it.
+/// Appends the line of each node, or of one, those of its links that are cut, and those of the
+/// parcels under way to it.
 pub(crate) fn show<C: Exclusion + Knowledge>(
     alloc: Global,
     plan: &Plan,
@@ -35,9 +38,11 @@ where
     requires { length moment.now.cluster.members ≡ length plan.now.nodes }
     ensures { OnOk result (string_bytes text.new ≡ string_bytes text.old
         ++ (standing_lines C.core C.knows plan.now to.now moment.now.cluster
+        ++ cut_lines plan.now to.now moment.now.fates.links
         ++ waiting_lines C.core (letter_text C.Msg.parts) plan.now to.now moment.now)) }
 {
     add_standing(alloc, plan, to, moment.cluster(), text)?;
+    add_cuts(plan, to, moment.mail(), text)?;
     add_waiting(plan, to, moment, text)
 }
 
@@ -253,8 +258,8 @@ fn is_waiting<C: Exclusion>(
     moment.is_under_way(number) && is_to(to, addressee)
 }
 
-/// Whether a parcel goes to the node that is named, where one is.
-fn is_to(to: &Option<NodeId>, addressee: NodeId) -> bool
+/// Whether it is the node that is named, where one is.
+pub(crate) fn is_to(to: &Option<NodeId>, addressee: NodeId) -> bool
     ensures { result ≡ is_to to.now addressee }
 {
     match to {

@@ -46,14 +46,18 @@ pub(crate) fn talk<C: Exclusion + Knowledge, L: Lines, O: Output, E: Output>(
 where
     C::Msg: Letter,
     requires { IsSession C.core plan.now shape.now
-        (state session.old.moment session.old.done.items session.old.marks.items) }
+        (state session.old.moment session.old.done.items session.old.marks.items
+        session.old.undone.items) }
     ensures talked { IfOk result (λ _. HasTalked C.core (letter_text C.Msg.parts)
         C.knows plan.now shape.now
-        (state session.old.moment session.old.done.items session.old.marks.items)
-        (state session.new.moment session.new.done.items session.new.marks.items)
+        (state session.old.moment session.old.done.items session.old.marks.items
+        session.old.undone.items)
+        (state session.new.moment session.new.done.items session.new.marks.items
+        session.new.undone.items)
         (O.written out.old) (O.written out.new)) }
     ensures is { IfOk result (λ _. IsSession C.core plan.now shape.now
-        (state session.new.moment session.new.done.items session.new.marks.items)) }
+        (state session.new.moment session.new.done.items session.new.marks.items
+        session.new.undone.items)) }
 {
     let mut line = Vec::new(alloc);
     for number in first..u64::MAX {
@@ -83,18 +87,23 @@ fn turn<C: Exclusion + Knowledge, L: Lines, O: Output, E: Output>(
 where
     C::Msg: Letter,
     requires { IsSession C.core plan.now shape.now
-        (state session.old.moment session.old.done.items session.old.marks.items) }
+        (state session.old.moment session.old.done.items session.old.marks.items
+        session.old.undone.items) }
     ensures says { IfOk result (λ _. SaysTurn C.core (letter_text C.Msg.parts)
         C.knows plan.now shape.now
-        (state session.old.moment session.old.done.items session.old.marks.items)
-        (state session.new.moment session.new.done.items session.new.marks.items)
+        (state session.old.moment session.old.done.items session.old.marks.items
+        session.old.undone.items)
+        (state session.new.moment session.new.done.items session.new.marks.items
+        session.new.undone.items)
         (O.written out.old) (O.written out.new)) }
     ensures is { IfOk result (λ _. IsSession C.core plan.now shape.now
-        (state session.new.moment session.new.done.items session.new.marks.items)) }
+        (state session.new.moment session.new.done.items session.new.marks.items
+        session.new.undone.items)) }
     ensures passed { IfOk result (λ _. O.keeps_back out.new ≡ false) }
 {
     let heard = hear(alloc, plan, lines, line, err)?;
-    let complaint = reply(alloc, plan, shape, &heard, session, out)?;
+    let word = word_of_mark(alloc, &heard, line.as_slice())?;
+    let complaint = reply(alloc, plan, shape, &heard, word, session, out)?;
     complain(alloc, plan, number, &complaint, line.as_slice(), err)?;
     Ok(heard)
 }
@@ -118,6 +127,14 @@ fn hear<L: Lines, E: Output>(
         Given::End => Ok(Heard::Silence),
         Given::Unreadable => Err(Stop::Fault(Fault::CannotRead(Named::Events))),
     }
+}
+
+/// Says what helps, where lines are typed.
+pub(crate) fn greet<L: Lines, E: Output>(lines: &L, err: &mut E) -> Result<(), OutputFault> {
+    if lines.are_typed() {
+        err.put(b"help lists all lines, end ends the session\n")?;
+    }
+    Ok(())
 }
 
 /// Shows that a line may be typed.
@@ -147,6 +164,20 @@ fn heard_in_text(alloc: Global, plan: &Plan, text: &str) -> Result<Heard, Stop>
     }
 }
 
+/// The word of a mark; nothing if the line is none.
+fn word_of_mark<'a>(alloc: Global, heard: &Heard, line: &'a [u8]) -> Result<&'a str, AllocError> {
+    match (heard, str::from_utf8(line)) {
+        (Heard::Command(SessionCommand::Mark), Ok(text)) => second_word(alloc, text),
+        _ => Ok(""),
+    }
+}
+
+/// The second word of a line; nothing if it has fewer.
+fn second_word(alloc: Global, line: &str) -> Result<&str, AllocError> {
+    let words = words_in(alloc, line)?;
+    Ok(words.get(1).copied().unwrap_or(""))
+}
+
 /// Whether the lines end here.
 fn is_end(heard: &Heard) -> bool {
     matches!(heard, Heard::Silence | Heard::Command(SessionCommand::End))
@@ -166,25 +197,30 @@ fn reply<C: Exclusion + Knowledge, O: Output>(
     plan: &Plan,
     shape: &C::Shape,
     heard: &Heard,
+    word: &str,
     session: &mut Session<C>,
     out: &mut O,
 ) -> Result<Option<Complaint>, Stop>
 where
     C::Msg: Letter,
     requires is { IsSession C.core plan.now shape.now
-        (state session.old.moment session.old.done.items session.old.marks.items) }
+        (state session.old.moment session.old.done.items session.old.marks.items
+        session.old.undone.items) }
     requires heard { IsHeard (length plan.now.nodes) (length plan.now.registers) heard.now }
     ensures says { IfOk result (λ _. SaysTurn C.core (letter_text C.Msg.parts)
         C.knows plan.now shape.now
-        (state session.old.moment session.old.done.items session.old.marks.items)
-        (state session.new.moment session.new.done.items session.new.marks.items)
+        (state session.old.moment session.old.done.items session.old.marks.items
+        session.old.undone.items)
+        (state session.new.moment session.new.done.items session.new.marks.items
+        session.new.undone.items)
         (O.written out.old) (O.written out.new)) }
     ensures is { IfOk result (λ _. IsSession C.core plan.now shape.now
-        (state session.new.moment session.new.done.items session.new.marks.items)) }
+        (state session.new.moment session.new.done.items session.new.marks.items
+        session.new.undone.items)) }
     ensures passed { IfOk result (λ _. O.keeps_back out.new ≡ false) }
 {
     let mut text = String::new(alloc);
-    let complaint = respond(alloc, plan, shape, heard, session, &mut text)?;
+    let complaint = respond(alloc, plan, shape, heard, word, session, &mut text)?;
     say(text.as_str(), out)?;
     Ok(complaint)
 }
@@ -195,25 +231,30 @@ fn respond<C: Exclusion + Knowledge>(
     plan: &Plan,
     shape: &C::Shape,
     heard: &Heard,
+    word: &str,
     session: &mut Session<C>,
     text: &mut String,
 ) -> Result<Option<Complaint>, AllocError>
 where
     C::Msg: Letter,
     requires is { IsSession C.core plan.now shape.now
-        (state session.old.moment session.old.done.items session.old.marks.items) }
+        (state session.old.moment session.old.done.items session.old.marks.items
+        session.old.undone.items) }
     requires heard { IsHeard (length plan.now.nodes) (length plan.now.registers) heard.now }
     requires empty { string_bytes text.old ≡ [] }
     ensures turned { IfOk result (λ _. HasTurned C.core (letter_text C.Msg.parts)
         C.knows plan.now shape.now
-        (state session.old.moment session.old.done.items session.old.marks.items)
-        (state session.new.moment session.new.done.items session.new.marks.items)
+        (state session.old.moment session.old.done.items session.old.marks.items
+        session.old.undone.items)
+        (state session.new.moment session.new.done.items session.new.marks.items
+        session.new.undone.items)
         (string_bytes text.new)) }
     ensures is { IfOk result (λ _. IsSession C.core plan.now shape.now
-        (state session.new.moment session.new.done.items session.new.marks.items)) }
+        (state session.new.moment session.new.done.items session.new.marks.items
+        session.new.undone.items)) }
 {
     match heard {
-        Heard::Command(command) => answer(alloc, plan, shape, command, session, text),
+        Heard::Command(command) => answer(alloc, plan, shape, command, word, session, text),
         Heard::Fault(complaint) => Ok(Some(*complaint)),
         Heard::Silence => Ok(None),
     }

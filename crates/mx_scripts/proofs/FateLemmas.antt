@@ -1,9 +1,12 @@
 -- What has become of parcels, from what a mail does.
-use Rattle.std.proofs.Common.{◌≡◌, ◌<◌, ◌-◌, ◌∙◌, ℕ, suc, Bool, false, List, [], ◌∷◌, ◌++◌, length, replicate, ap, sym, refl, append_assoc, arith}
+use Rattle.std.proofs.Common.{◌≡◌, ◌≤◌, ◌<◌, ◌+◌, ◌-◌, ◌∙◌, ℕ, zero, suc, Bool, true, false, not, List, [], ◌∷◌, ◌++◌, Option, None, get_or, set, length, replicate, slice_get, ap, sym, subst, refl, append_assoc, arith, inl, inr}
+use Rattle.std.proofs.lemmas.Bool.{cases_eq, cases_lt, true≢false}
 use Rattle.std.proofs.lemmas.List.{length-append}
+use Rattle.std.specs.Prelude.{◌&&◌, IsTrue}
 use Rattle.mx_events.specs.declared.event.Event.{Event}
 use Rattle.mx_events.specs.declared.event.Event.TheVariants as event
-use Rattle.mx_scripts.specs.Fates.{Fates, delivered, grown}
+use Rattle.mx_lines.specs.declared.orders.Scope.{Scope}
+use Rattle.mx_scripts.specs.Fates.{Fates, NoneWaits, can_arrive, delivered, grown, is_held, is_in, is_under_way, is_waiting, lost}
 
 -- one more was sent
 pub grown_more : (sent : ℕ) (gone : List Bool) → length gone < sent → grown sent (gone ++ false ∷ []) ≡ grown sent gone
@@ -25,3 +28,81 @@ delivers_none sent (event.Want i j) f h = refl
 delivers_none sent (event.Settle i upto) f h = refl
 delivers_none sent (event.Restart i) f h = refl
 delivers_none sent (event.Deliver k) f h = absurd (h k refl)
+
+-- ---- which parcels are under way
+
+pub below_more : (P : ℕ → Type 0) (from n : ℕ) → ((k : ℕ) → from ≤ k → k < n → P k) → P n → (k : ℕ) → from ≤ k → k < n + 1 → P k
+below_more P from n below at k le lt = elim (cases_eq k n) [
+  | inl is ↦ subst P (sym is) at
+  | inr other ↦ below k le (omega (arith, lt, other))
+]
+
+and_left : (a b : Bool) → a ≡ false → (a && b) ≡ false
+and_left true true e = e
+and_left true false e = refl
+and_left false b e = refl
+
+and_right : (a b : Bool) → b ≡ false → (a && b) ≡ false
+and_right true b e = e
+and_right false b e = refl
+
+first_of : (a b : Bool) → (a && b) ≡ true → IsTrue a
+first_of true b e = refl
+first_of false b e = absurd (true≢false (sym e))
+
+-- what is under way no more stays so
+set_stays : (gone : List Bool) (n k : ℕ) → get_or gone k true ≡ true → get_or (set gone n true) k true ≡ true
+set_stays [] n k h = h
+set_stays (g ∷ gone) zero zero h = refl
+set_stays (g ∷ gone) zero (suc k) h = h
+set_stays (g ∷ gone) (suc n) zero h = h
+set_stays (g ∷ gone) (suc n) (suc k) h = set_stays gone n k h
+
+set_here : (gone : List Bool) (n : ℕ) → get_or (set gone n true) n true ≡ true
+set_here [] zero = refl
+set_here [] (suc n) = refl
+set_here (g ∷ gone) zero = refl
+set_here (g ∷ gone) (suc n) = set_here gone n
+
+still : (g g' w : Bool) → (g ≡ true → g' ≡ true) → (not g && w) ≡ false → (not g' && w) ≡ false
+still true g' w h e = subst (λ (x : Bool). (not x && w) ≡ false) (sym (h refl)) refl
+still false g' w h e = and_right (not g') w e
+
+get_past : {X : Type 0} (xs : List X) (k : ℕ) → length xs ≤ k → slice_get xs k ≡ None
+get_past [] zero le = refl
+get_past [] (suc k) le = refl
+get_past (x ∷ xs) zero le = absurd (omega (arith, le))
+get_past (x ∷ xs) (suc k) le = get_past xs k (omega (arith, le))
+
+module _ {P : Type 0} (f : Fates) (sent : List (ℕ × ℕ × P)) (scope : Scope) where
+  abbrev within : ℕ → Bool
+  within k = is_in scope (slice_get sent k)
+
+  -- a parcel was lost, and the others are as before
+  pub lost_waits : (n k : ℕ) → is_waiting f sent scope k ≡ false → is_waiting (lost n f) sent scope k ≡ false
+  lost_waits n k e =
+      still (get_or f.gone k true) (get_or (set f.gone n true) k true) (within k) (set_stays f.gone n k) e
+
+  pub lost_here : (n : ℕ) → is_waiting (lost n f) sent scope n ≡ false
+  lost_here n = and_left (is_under_way (lost n f) n) (within n) (ap not (set_here f.gone n))
+
+  pub waiting_under_way : (k : ℕ) → is_waiting f sent scope k ≡ true → IsTrue (is_under_way f k)
+  waiting_under_way k e = first_of (is_under_way f k) (within k) e
+
+  -- no parcel was sent with such a number
+  pub waits_past : (k : ℕ) → length sent ≤ k → is_waiting f sent scope k ≡ false
+  waits_past k le =
+      and_right (is_under_way f k) (within k)
+      (ap (λ (o : Option (ℕ × ℕ × P)). is_in scope o) (get_past sent k le))
+
+  pub none_waits : ((k : ℕ) → 0 ≤ k → k < length sent → is_waiting f sent scope k ≡ false) → NoneWaits f sent scope
+  none_waits below k = elim (cases_lt k (length sent)) [
+    | inl lt ↦ below k (omega arith) lt
+    | inr le ↦ waits_past k le
+  ]
+
+  pub none_arrives : (from : ℕ) → ((k : ℕ) → from ≤ k → k < length sent → can_arrive f sent scope k ≡ false) → (k : ℕ) → from ≤ k → can_arrive f sent scope k ≡ false
+  none_arrives from below k ge = elim (cases_lt k (length sent)) [
+    | inl lt ↦ below k ge lt
+    | inr le ↦ and_left (is_waiting f sent scope k) (not (is_held f (slice_get sent k))) (waits_past k le)
+  ]

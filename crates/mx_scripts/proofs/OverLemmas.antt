@@ -1,5 +1,5 @@
 -- What a line asks for is over the names by which it is read.
-use Rattle.std.proofs.Common.{◌≡◌, ◌∙◌, ◌<◌, subst, sym, ℕ, zero, suc, ◌+◌, ◌==◌, Bool, true, false, List, [], ◌∷◌, Option, Some, None, Result, Ok, Err, IfOk, IfSome, length, refl, slice_get}
+use Rattle.std.proofs.Common.{◌≡◌, ◌<◌, subst, sym, ℕ, zero, suc, ◌+◌, ◌==◌, Bool, true, false, List, [], ◌∷◌, Option, Some, None, Result, Ok, Err, IfOk, IfSome, length, refl, slice_get}
 use Rattle.std.specs.Bool.{⊤}
 use Rattle.std.specs.List.{position, position_or_len}
 use Rattle.std.specs.Option.{option_map_or}
@@ -12,12 +12,12 @@ use Rattle.mx_events.specs.declared.kind.EventKind.{EventKind}
 use Rattle.mx_events.specs.declared.kind.EventKind.TheVariants as kind
 use Rattle.mx_plan.specs.Text.{Text}
 use Rattle.mx_explorer.specs.Drawn.{IsDrawn}
-use Rattle.mx_lines.specs.Arguments.{event_of, node_in, number_in, of_node, of_nodes, of_register, of_section, of_value, register_in}
+use Rattle.mx_lines.specs.Arguments.{event_of, node_in, of_node, register_in}
 use Rattle.mx_lines.specs.Lines.{done_times, line_at, line_of, repeated, times_of}
 use Rattle.mx_lines.specs.Names.{Known}
 use Rattle.mx_lines.specs.Numbers.{number_of}
-use Rattle.mx_lines.specs.Orders.{and_then, argument_at, arguments_at, between, is_all, number_at, order_at, order_by, order_with}
-use Rattle.mx_lines.specs.Verbs.{kinds_of, verb_of}
+use Rattle.mx_lines.specs.Orders.{and_then, argument_at, arguments_at, between, number_at, order_at, order_before, order_between, order_by, order_of, order_with}
+use Rattle.mx_lines.specs.Verbs.{kinds_of, verb_of, verb_of_all}
 use Rattle.mx_events.specs.declared.argument.Argument.{Argument}
 use Rattle.mx_events.specs.declared.argument.Argument.TheVariants as argument
 use Rattle.mx_events.specs.declared.argument.ArgumentKind.{ArgumentKind}
@@ -25,7 +25,7 @@ use Rattle.mx_events.specs.declared.argument.ArgumentKind.TheVariants as wanted
 use Rattle.mx_lines.specs.declared.errors.Expected.{Expected}
 use Rattle.mx_lines.specs.declared.errors.LineError.{LineError}
 use Rattle.mx_lines.specs.declared.lines.Line.{Line}
-use Rattle.mx_lines.specs.declared.orders.Order.{Order}
+use Rattle.mx_lines.specs.declared.orders.LinkChange.TheVariants as change
 use Rattle.mx_lines.specs.declared.orders.Order.TheVariants as order
 use Rattle.mx_lines.specs.declared.verbs.Verb.{Verb}
 use Rattle.mx_lines.specs.declared.verbs.Verb.TheVariants as verb
@@ -49,6 +49,12 @@ pub or_wrong : {A B : Type 0} (P : A → Type 0) (Q : B → Type 0) (o : Option 
     → IfSome o P → ((a : A) → P a → IfOk (f a) Q) → IfOk (option_map_or f o (Err e)) Q
 or_wrong P Q None f e h more = tt
 or_wrong P Q (Some a) f e h more = more a h
+
+-- a value is read on, or something else is
+either : {A B : Type 0} (Q : B → Type 0) (o : Option A) (f : A → Result B LineError) (r : Result B LineError)
+    → ((a : A) → IfOk (f a) Q) → IfOk r Q → IfOk (option_map_or f o r) Q
+either Q None f r more h = h
+either Q (Some a) f r more h = more a
 
 mapped : {A B : Type 0} (P : A → Type 0) (Q : B → Type 0) (o : Option A) (f : A → B) → IfSome o P
     → ((a : A) → P a → Q (f a)) → IfSome (option_map f o) Q
@@ -141,20 +147,41 @@ module _ (nodes registers : ℕ) where
     event_over kind.Deliver = mapped (λ v. ⊤) (IsDrawn nodes registers) _ event.Deliver (any _) (λ v h. tt)
     event_over kind.Restart = lone event.Restart (λ n lt. lt)
 
-    linked : (make : ℕ → ℕ → Order) → ((n m : ℕ) → IsOver nodes registers (make n m))
-        → IfSome (between make arguments) (IsOver nodes registers)
-    linked make over =
+    between_over : (verb : Verb) (n m : ℕ) → IsOver nodes registers (order_between verb n m)
+    between_over (verb.Event kind) n m = tt
+    between_over verb.Deliver n m = tt
+    between_over verb.DeliverAll n m = tt
+    between_over verb.DeliverLink n m = tt
+    between_over verb.Lose n m = tt
+    between_over verb.LoseAll n m = tt
+    between_over verb.LoseLink n m = tt
+    between_over verb.Again n m = tt
+    between_over verb.CutLink n m = tt
+    between_over verb.CutNode n m = tt
+    between_over verb.Heal n m = tt
+
+    linked : (verb : Verb) → IfSome (between verb arguments) (IsOver nodes registers)
+    linked verb =
         chained (λ n. ⊤) (IsOver nodes registers) (node_in (slice_get arguments 0))
-        (λ n. option_map (make n) (node_in (slice_get arguments 1))) (any (node_in (slice_get arguments 0)))
-        (λ n h. mapped (λ m. ⊤) (IsOver nodes registers) (node_in (slice_get arguments 1)) (make n)
-        (any (node_in (slice_get arguments 1))) (λ m k. over n m))
+        (λ n. option_map (order_between verb n) (node_in (slice_get arguments 1))) (any (node_in (slice_get arguments 0)))
+        (λ n h. mapped (λ m. ⊤) (IsOver nodes registers) (node_in (slice_get arguments 1)) (order_between verb n)
+        (any (node_in (slice_get arguments 1))) (λ m k. between_over verb n m))
 
     order_over : (verb : Verb) → IfSome (order_by verb arguments) (IsOver nodes registers)
     order_over (verb.Event kind) =
         mapped (IsDrawn nodes registers) (IsOver nodes registers) _ order.Happens (event_over kind) (λ e over. over)
-    order_over verb.Deliver = linked order.Arrives (λ n m. tt)
-    order_over verb.Lose = linked order.IsLost (λ n m. tt)
-    order_over verb.Again = linked order.ArrivesAgain (λ n m. tt)
+    order_over verb.Deliver = linked verb.Deliver
+    order_over verb.DeliverAll = tt
+    order_over verb.DeliverLink = linked verb.DeliverLink
+    order_over verb.Lose = linked verb.Lose
+    order_over verb.LoseAll = tt
+    order_over verb.LoseLink = linked verb.LoseLink
+    order_over verb.Again = linked verb.Again
+    order_over verb.CutLink = linked verb.CutLink
+    order_over verb.CutNode =
+        mapped (λ n. ⊤) (IsOver nodes registers) (node_in (slice_get arguments 0)) (λ node. order.LinksChange (change.CutAll node))
+        (any (node_in (slice_get arguments 0))) (λ n h. tt)
+    order_over verb.Heal = tt
 
 -- ---- lines
 
@@ -197,13 +224,24 @@ module _ (names : Known) where
       (order_over (length names.nodes) (length names.registers) arguments h verb) (λ o over. over)))
       tt
 
+  of_over : (place : ℕ) (word : Text) (words : List Text)
+      → IfOk (order_of names place word words) (IsOver (length names.nodes) (length names.registers))
+  of_over place word words =
+      or_wrong (λ v. ⊤) (IsOver (length names.nodes) (length names.registers)) (verb_of word (length words)) _ _
+      (any (verb_of word (length words))) (λ v h. with_over place v words)
+
+  before_over : (place : ℕ) (word : Text) (words : List Text)
+      → IfOk (order_before names place word words) (IsOver (length names.nodes) (length names.registers))
+  before_over place word [] = of_over place word []
+  before_over place word (next ∷ more) =
+      either (IsOver (length names.nodes) (length names.registers)) (verb_of_all word next (length more)) _ _
+      (λ v. with_over (place + 1) v more) (of_over place word (next ∷ more))
+
   at_over : (place : ℕ) (word : Text) (words : List Text)
       → IfOk (order_at names place word words) (IsOver (length names.nodes) (length names.registers))
   at_over place word words =
       choice (IsOver (length names.nodes) (length names.registers)) (bytes_eq word (codes "times")) _ _ tt
-      (choice (IsOver (length names.nodes) (length names.registers)) (is_all word words) _ _ tt
-      (or_wrong (λ v. ⊤) (IsOver (length names.nodes) (length names.registers)) (verb_of word (length words)) _ _
-      (any (verb_of word (length words))) (λ v h. with_over place v words)))
+      (before_over place word words)
 
   pub LineOver : Option Line → Type 0
   LineOver read = IfSome read (λ line. IsOver (length names.nodes) (length names.registers) line.order)

@@ -1,21 +1,22 @@
 -- What has become of the parcels that were sent.
-use Rattle.std.specs.Prelude.{ℕ, ◌+◌, ◌-◌, ◌*◌, Bool, true, false, not, List, [], ◌++◌, Option, Some, None, length, replicate, slice_get, slice_index_or, slice_set}
+use Rattle.std.specs.Prelude.{ℕ, ◌≡◌, ◌-◌, ◌==◌, ◌&&◌, Bool, true, false, not, List, [], ◌++◌, Option, Some, None, length, replicate, slice_get, slice_index_or, slice_set}
 use Rattle.mx_events.specs.declared.event.Event.{Event}
 use Rattle.mx_events.specs.declared.event.Event.TheVariants.{Deliver}
+use Rattle.mx_lines.specs.declared.orders.LinkChange.{LinkChange}
+use Rattle.mx_lines.specs.declared.orders.Scope.{Scope}
+use Rattle.mx_lines.specs.declared.orders.Scope.TheVariants.{All, Link}
+use Rattle.mx_scripts.specs.Links.{LinkState, changed, is_cut, link_of, uncut}
 
 -- of each parcel that was sent, whether it is under way no more; of each link, the parcel that was
--- delivered last
+-- delivered last; and which links are cut
 pub record Fates : Type 0 where
   pub gone : List Bool
   pub last : List (Option ℕ)
+  pub links : LinkState
 
 -- before any parcel was sent
 abbrev pub at_first : Fates
-at_first = record { gone = []; last = replicate 441 None }
-
--- the place of the link from one node to another
-abbrev pub link_of : ℕ → ℕ → ℕ
-link_of from to = from * 21 + to
+at_first = record { gone = []; last = replicate 441 None; links = uncut }
 
 -- each parcel up to this number was sent; a new one is under way
 abbrev pub grown : ℕ → List Bool → List Bool
@@ -23,13 +24,16 @@ grown sent gone = gone ++ replicate (sent - length gone) false
 
 -- a parcel was lost: it is under way no more
 abbrev pub lost : ℕ → Fates → Fates
-lost k f = record { gone = slice_set f.gone k true; last = f.last }
+lost k f = record { gone = slice_set f.gone k true; last = f.last; links = f.links }
 
 -- a parcel was delivered: it is under way no more, and is the last of its link
 abbrev pub arrived : {P : Type 0} → ℕ → Option (ℕ × ℕ × P) → Fates → Fates
 arrived k None f = lost k f
-arrived k (Some p) f =
-    record { gone = slice_set f.gone k true; last = slice_set f.last (link_of p.0 p.1) (Some k) }
+arrived k (Some p) f = record {
+  gone = slice_set f.gone k true;
+  last = slice_set f.last (link_of p.0 p.1) (Some k);
+  links = f.links;
+}
 
 -- an event happened: the parcel that it delivers, if it delivers one, has arrived
 abbrev pub delivered : {P : Type 0} → List (ℕ × ℕ × P) → Event → Fates → Fates
@@ -39,8 +43,49 @@ delivered sent _ f = f
 -- an event happened, after which these parcels are those that were sent
 abbrev pub noted : {P : Type 0} → List (ℕ × ℕ × P) → Event → Fates → Fates
 noted sent event f =
-    delivered sent event (record { gone = grown (length sent) f.gone; last = f.last })
+    delivered sent event
+    (record { gone = grown (length sent) f.gone; last = f.last; links = f.links })
+
+-- links were cut, or healed
+abbrev pub relinked : LinkChange → Fates → Fates
+relinked change f = record { gone = f.gone; last = f.last; links = changed change f.links }
 
 -- the parcel is under way
 abbrev pub is_under_way : Fates → ℕ → Bool
 is_under_way f k = not (slice_index_or f.gone k true)
+
+-- the link that bears the parcel is cut
+abbrev pub is_held : {P : Type 0} → Fates → Option (ℕ × ℕ × P) → Bool
+is_held f None = false
+is_held f (Some p) = is_cut f.links p.0 p.1
+
+-- an event delivers a parcel over a link that is not cut, or none
+abbrev pub can_pass : {P : Type 0} → Fates → List (ℕ × ℕ × P) → Event → Bool
+can_pass f sent (Deliver k) = not (is_held f (slice_get sent k))
+can_pass f sent _ = true
+
+-- `all` speaks of the parcels from one node to another
+abbrev pub is_within : Scope → ℕ → ℕ → Bool
+is_within All from to = true
+is_within (Link first second) from to = (from == first) && (to == second)
+
+-- the parcel was sent, and `all` speaks of it
+abbrev pub is_in : {P : Type 0} → Scope → Option (ℕ × ℕ × P) → Bool
+is_in scope None = false
+is_in scope (Some p) = is_within scope p.0 p.1
+
+module _ {P : Type 0} (f : Fates) (sent : List (ℕ × ℕ × P)) (scope : Scope) where
+  -- the parcel is under way, and `all` speaks of it
+  abbrev pub is_waiting : ℕ → Bool
+  is_waiting k = is_under_way f k && is_in scope (slice_get sent k)
+
+  -- and its link is not cut
+  abbrev pub can_arrive : ℕ → Bool
+  can_arrive k = is_waiting k && not (is_held f (slice_get sent k))
+
+  -- there is no such parcel
+  abbrev pub NoneWaits : Type 0
+  NoneWaits = (k : ℕ) → is_waiting k ≡ false
+
+  abbrev pub NoneArrives : Type 0
+  NoneArrives = (k : ℕ) → can_arrive k ≡ false

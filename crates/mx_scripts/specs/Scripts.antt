@@ -8,7 +8,7 @@ use Rattle.mx_lines.specs.Texts.{fault_text}
 use Rattle.mx_lines.specs.declared.errors.LineFault.{LineFault}
 use Rattle.mx_lines.specs.declared.errors.LineFault.TheVariants.{NoNode, NoParcel}
 use Rattle.mx_lines.specs.declared.orders.Order.{Order}
-use Rattle.mx_lines.specs.declared.orders.Order.TheVariants.{Happens, Arrives, AllArrive, IsLost, ArrivesAgain}
+use Rattle.mx_lines.specs.declared.orders.Order.TheVariants.{Happens, Arrives, AllArrive, IsLost, AllAreLost, ArrivesAgain, LinksChange}
 use Rattle.mx_cli.specs.declared.faults.Stop.TheVariants as end
 use Rattle.mx_scripts.specs.declared.halts.BadLine.{BadLine}
 use Rattle.mx_scripts.specs.declared.halts.Halt.{Halt}
@@ -20,9 +20,11 @@ use Rattle.mx_scripts.specs.declared.halts.LineStop.TheVariants as stop
 abbrev pub IsOver : ℕ → ℕ → Order → Type 0
 IsOver nodes registers (Happens event) = IsDrawn nodes registers event
 IsOver nodes registers (Arrives from to) = ⊤
-IsOver nodes registers AllArrive = ⊤
+IsOver nodes registers (AllArrive scope) = ⊤
 IsOver nodes registers (IsLost from to) = ⊤
+IsOver nodes registers (AllAreLost scope) = ⊤
 IsOver nodes registers (ArrivesAgain from to) = ⊤
+IsOver nodes registers (LinksChange change) = ⊤
 
 abbrev pub stop_of_step : StepFault → LineStop
 stop_of_step step_fault.NoNode = stop.Undone NoNode

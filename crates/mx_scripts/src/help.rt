@@ -47,7 +47,13 @@ want N M, settle N K, restart N, deliver K; or it speaks of the parcels under wa
   deliver N M    the oldest from N to M is delivered
   deliver all    all are delivered, the oldest first, and those that they bring about, until none is left
   lose N M       the oldest from N to M is lost
+  lose all       all are lost
   again N M      the one from N to M that was delivered last is delivered once more
+  cut N M        the link between N and M is cut: what it bears is not delivered, and `deliver all` passes over it
+  cut N          all links of N are cut
+  heal           all links heal
+
+Behind `all`, N M means those from N to M.
 
 `times T` before a line does it T times. What follows a # is a comment. A fault names its line. Where both
 names are -, the first line of standard input is the plan and the rest is the script. docs/FORMATS.md has all

@@ -7,6 +7,7 @@ mod ending;
 mod files;
 mod halts;
 mod help;
+mod links;
 mod mail;
 mod printing;
 mod scripting;

@@ -1,28 +1,30 @@
 //! Which parcels are under way.
 
-ghost use Rattle.std.specs.Prelude.{◌≡◌, ◌<◌, IfSome, IsTrue, None, OnOk, slice_get, slice_index_or};
-ghost use Rattle.mx_scripts.specs.Fates.{arrived, at_first, delivered, grown, is_under_way, link_of, lost, noted};
+ghost use Rattle.std.specs.Prelude.{◌≡◌, ◌≤◌, ℕ, false, IfNone, IfSome, IsTrue, None, OnOk, slice_get, slice_index_or};
+ghost use Rattle.mx_scripts.specs.Fates.{NoneArrives, NoneWaits, arrived, at_first, can_arrive, can_pass, delivered, grown, is_held, is_in, is_under_way, is_waiting, is_within, lost, noted, relinked};
+ghost use Rattle.mx_scripts.specs.Links.{is_cut, link_of};
 
+use crate::links::{LINKS, Links, link};
+use mx_lines::{LinkChange, Scope};
 use mx_network::{Cluster, Event};
 use mx_nodelaws::Exclusion;
-use mx_stamps::{MOST_NODES, NodeId};
+use mx_stamps::NodeId;
 use std::alloc::{AllocError, Global};
 use std::marker::Model;
 
-/// How many links there are between the nodes of the greatest cluster, each with itself too.
-const LINKS: usize = 441;
-
-/// Which parcels were delivered or lost, and where to look for the next one of each link.
+/// Which parcels were delivered or lost, where to look for the next one of each link, and which
+/// links are cut.
 #[derive(Drop)]
 pub struct Mail {
     /// Whether a parcel is under way no more.
     gone: Vec<bool>,
-    /// No parcel below this number is under way.
+    /// No parcel below this number is under way over a link that is not cut.
     first: u64,
     /// No parcel of the link below this number is under way.
     firsts: [u64; LINKS],
     /// The parcel of the link that was delivered last.
     last: [Option<u64>; LINKS],
+    links: Links,
 }
 
 impl Model for Mail {
@@ -30,15 +32,7 @@ impl Model for Mail {
 
     ghost Value = { Fates };
 
-    ghost view = { λ m. record { gone = m.gone.items; last = m.last } };
-}
-
-/// The place of a link.
-fn link(from: NodeId, to: NodeId) -> usize
-    ensures value { result ≡ link_of from to }
-    ensures below { result < 441 }
-{
-    usize::from(from.get()) * usize::from(MOST_NODES) + usize::from(to.get())
+    ghost view = { λ m. record { gone = m.gone.items; last = m.last; links = m.links } };
 }
 
 /// Whether a parcel goes from one node to another.
@@ -46,6 +40,26 @@ fn is_between<C: Exclusion>(cluster: &Cluster<C>, number: u64, from: NodeId, to:
     match cluster.sent_parcel(number) {
         Some(sent) => sent.from == from && sent.to == to,
         None => false,
+    }
+}
+
+/// Whether a parcel was sent, and is one of these.
+fn is_in<C: Exclusion>(cluster: &Cluster<C>, scope: &Scope, number: u64) -> bool
+    ensures { result ≡ is_in scope.now (slice_get cluster.now.sent number) }
+{
+    match cluster.sent_parcel(number) {
+        Some(sent) => is_within(scope, sent.from, sent.to),
+        None => false,
+    }
+}
+
+/// Whether a parcel from one node to another is one of these.
+fn is_within(scope: &Scope, from: NodeId, to: NodeId) -> bool
+    ensures { result ≡ is_within scope.now from to }
+{
+    match scope {
+        Scope::All => true,
+        Scope::Link(first, second) => from == *first && to == *second,
     }
 }
 
@@ -69,6 +83,7 @@ impl Mail {
             first: 0,
             firsts: [0; LINKS],
             last: [None; LINKS],
+            links: Links::uncut(),
         }
     }
 
@@ -126,19 +141,134 @@ impl Mail {
         }
     }
 
-    /// The oldest parcel under way.
-    pub fn oldest(&mut self, sent: u64) -> Option<u64>
-        ensures same { self.new ≡ self.old }
-        ensures some { IfSome result (λ k. IsTrue (is_under_way self.old k)) }
+    /// Links are cut, or heal.
+    pub fn change(&mut self, change: &LinkChange)
+        ensures { self.new ≡ relinked change.now self.old }
     {
-        for number in self.first..sent {
-            if self.is_under_way(number) {
-                self.first = number;
+        self.links.change(change);
+        self.first = 0;
+    }
+
+    /// Whether the link from one node to another is cut.
+    pub fn is_cut(&self, from: NodeId, to: NodeId) -> bool
+        ensures { result ≡ is_cut self.now.links from to }
+    {
+        self.links.is_cut(from, to)
+    }
+
+    /// Whether an event delivers no parcel over a link that is cut.
+    pub fn can_pass<C: Exclusion>(&self, event: &Event, cluster: &Cluster<C>) -> bool
+        ensures { result ≡ can_pass self.now cluster.now.sent event.now }
+    {
+        match event {
+            Event::Deliver(number) => !self.is_held(cluster, *number),
+            _ => true,
+        }
+    }
+
+    /// Whether the link that bears a parcel is cut.
+    fn is_held<C: Exclusion>(&self, cluster: &Cluster<C>, number: u64) -> bool
+        ensures { result ≡ is_held self.now (slice_get cluster.now.sent number) }
+    {
+        match cluster.sent_parcel(number) {
+            Some(sent) => self.links.is_cut(sent.from, sent.to),
+            None => false,
+        }
+    }
+
+    /// Whether a parcel is under way, and one of these.
+    pub fn is_waiting<C: Exclusion>(&self, cluster: &Cluster<C>, scope: &Scope, number: u64) -> bool
+        ensures { result ≡ is_waiting self.now cluster.now.sent scope.now number }
+    {
+        self.is_under_way(number) && is_in(cluster, scope, number)
+    }
+
+    /// Whether a parcel is under way over a link that is not cut, and one of these.
+    fn can_arrive<C: Exclusion>(&self, cluster: &Cluster<C>, scope: &Scope, number: u64) -> bool
+        ensures { result ≡ can_arrive self.now cluster.now.sent scope.now number }
+    {
+        self.is_waiting(cluster, scope, number) && !self.is_held(cluster, number)
+    }
+
+    /// The first of these parcels, from this number on, that is under way over a link that is not
+    /// cut.
+    fn arriving_from<C: Exclusion>(
+        &self,
+        cluster: &Cluster<C>,
+        scope: &Scope,
+        begin: u64,
+    ) -> Option<u64>
+        ensures some { IfSome result (λ k.
+            IsTrue (can_arrive self.now cluster.now.sent scope.now k)) }
+        ensures none { IfNone result
+            ((k : ℕ) → begin ≤ k → can_arrive self.now cluster.now.sent scope.now k ≡ false) }
+    {
+        for number in begin..cluster.sent() {
+            if self.can_arrive(cluster, scope, number) {
                 return Some(number);
             }
         }
-        self.first = sent;
         None
+    }
+
+    /// Where to look first for the next of these parcels.
+    fn begin(&self, scope: &Scope) -> u64 {
+        match scope {
+            Scope::All => self.first,
+            Scope::Link(from, to) => self.firsts[link(*from, *to)],
+        }
+    }
+
+    /// The next look for one of these parcels begins here.
+    fn begin_at(&mut self, scope: &Scope, number: u64)
+        ensures { self.new ≡ self.old }
+    {
+        match scope {
+            Scope::All => self.first = number,
+            Scope::Link(from, to) => self.firsts[link(*from, *to)] = number,
+        }
+    }
+
+    /// The oldest of these parcels that is under way over a link that is not cut. Looks at all
+    /// parcels if there is none.
+    pub fn next_to_arrive<C: Exclusion>(
+        &mut self,
+        cluster: &Cluster<C>,
+        scope: &Scope,
+    ) -> Option<u64>
+        ensures same { self.new ≡ self.old }
+        ensures some { IfSome result (λ k.
+            IsTrue (can_arrive self.old cluster.now.sent scope.now k)) }
+        ensures none { IfNone result (NoneArrives self.old cluster.now.sent scope.now) }
+    {
+        let begin = self.begin(scope);
+        match self.arriving_from(cluster, scope, begin) {
+            Some(number) => {
+                self.begin_at(scope, number);
+                Some(number)
+            }
+            None => self.arriving_from(cluster, scope, 0),
+        }
+    }
+
+    /// All these parcels are lost.
+    pub(crate) fn lose_all<C: Exclusion>(&mut self, cluster: &Cluster<C>, scope: &Scope)
+        ensures { NoneWaits self.new cluster.now.sent scope.now }
+    {
+        for number in 0..cluster.sent() {
+            self.lose_if_waiting(cluster, scope, number);
+        }
+    }
+
+    /// A parcel is lost if it is under way, and one of these.
+    fn lose_if_waiting<C: Exclusion>(&mut self, cluster: &Cluster<C>, scope: &Scope, number: u64)
+        ensures here { is_waiting self.new cluster.now.sent scope.now number ≡ false }
+        ensures others { (k : ℕ) → is_waiting self.old cluster.now.sent scope.now k ≡ false
+            → is_waiting self.new cluster.now.sent scope.now k ≡ false }
+    {
+        if self.is_waiting(cluster, scope, number) {
+            self.lose(number);
+        }
     }
 
     /// The oldest parcel under way from one node to another.

@@ -1,15 +1,16 @@
 //! `script`: the events that the lines of a script ask for, as a file.
 
-ghost use Rattle.std.specs.Prelude.{◌≡◌, ℕ, Ok, [], length, string_bytes, IfOk, IfSome, OnOk};
+ghost use Rattle.std.specs.Prelude.{◌≡◌, ℕ, Ok, IsTrue, [], length, string_bytes, IfOk, IfSome, OnOk};
 ghost use Rattle.mx_network.specs.Step.{step_of};
 ghost use Rattle.mx_scripts.specs.Played.{IsEventFile, IsFileOf, Plays};
+ghost use Rattle.mx_scripts.specs.Fates.{NoneArrives, can_pass, noted};
 ghost use Rattle.mx_scripts.specs.Scripts.{IsOver};
 
 use crate::files::file_of;
 use crate::halts::{Halt, LineStop};
 use crate::mail::Mail;
 use mx_commands::by_shape;
-use mx_lines::{Line, LineFault, Order, read_line, words_in};
+use mx_lines::{Line, LineFault, Order, Scope, read_line, words_in};
 use mx_network::{Cluster, Event};
 use mx_nodelaws::Exclusion;
 use mx_plan::Plan;
@@ -136,10 +137,18 @@ fn obey<C: Exclusion>(
 {
     match order {
         Order::Happens(event) => happen(event, cluster, mail),
-        Order::AllArrive => all_arrive(plan, cluster, mail),
+        Order::AllArrive(scope) => all_arrive(plan, scope, cluster, mail),
         Order::Arrives(from, to) => arrive(*from, *to, cluster, mail),
         Order::IsLost(from, to) => lose(*from, *to, cluster, mail),
+        Order::AllAreLost(scope) => {
+            mail.lose_all(cluster, scope);
+            Ok(())
+        }
         Order::ArrivesAgain(from, to) => arrive_again(*from, *to, cluster, mail),
+        Order::LinksChange(change) => {
+            mail.change(change);
+            Ok(())
+        }
     }
 }
 
@@ -149,32 +158,40 @@ fn happen<C: Exclusion>(
     cluster: &mut Cluster<C>,
     mail: &mut Mail,
 ) -> Result<(), LineStop>
-    ensures { OnOk result (step_of C.core cluster.old event.now ≡ Ok cluster.new) }
+    ensures step { OnOk result (step_of C.core cluster.old event.now ≡ Ok cluster.new) }
+    ensures noted { OnOk result (mail.new ≡ noted cluster.new.sent event.now mail.old) }
+    ensures passes { OnOk result (IsTrue (can_pass mail.old cluster.old.sent event.now)) }
 {
     if cluster.trace().len() >= MOST_EVENTS {
         return Err(LineStop::Undone(LineFault::TooMany));
+    }
+    if !mail.can_pass(event, cluster) {
+        return Err(LineStop::Undone(LineFault::LinkCut));
     }
     cluster.advance(*event)?;
     mail.note(event, cluster)?;
     Ok(())
 }
 
-/// All parcels under way are delivered, the oldest first, until none is left.
+/// All these parcels are delivered that are under way over links that are not cut, the oldest
+/// first, until none is left.
 fn all_arrive<C: Exclusion>(
     plan: &Plan,
+    scope: &Scope,
     cluster: &mut Cluster<C>,
     mail: &mut Mail,
 ) -> Result<(), LineStop>
-    ensures { OnOk result
+    ensures plays { OnOk result
         (Plays C.core (length plan.now.nodes) (length plan.now.registers) cluster.old cluster.new) }
+    ensures leaves { OnOk result (NoneArrives mail.new cluster.new.sent scope.now) }
 {
     for _ in 0..MOST_EVENTS {
-        let Some(number) = mail.oldest(cluster.sent()) else {
+        let Some(number) = mail.next_to_arrive(cluster, scope) else {
             return Ok(());
         };
         happen(&Event::Deliver(number), cluster, mail)?;
     }
-    Ok(())
+    Err(LineStop::Undone(LineFault::TooMany))
 }
 
 /// The oldest parcel under way from one node to another is delivered.

@@ -1,4 +1,4 @@
-use Rattle.std.proofs.Common.{ℕ, length, rules, string_bytes, subst, sym}
+use Rattle.std.proofs.Common.{◌∙◌, ℕ, length, rules, string_bytes, subst, sym}
 use Rattle.mx_texts.specs.LetterTexts.{letter_text}
 use Rattle.mx_commands.specs.Runs.{NamesNodes}
 use Rattle.mx_play.specs.Sessions.{Extends}
@@ -10,7 +10,8 @@ pub happen-requires : goal.happen-requires
 happen-requires g c =
     let p = c.args.plan.now in
     let named = drawn_names (length p.nodes) (length p.registers) c.args.event.now c.requires.drawn in
-    (search rules, subst (λ (n : ℕ). NamesNodes n c.args.event.now) (sym c.requires.members) named)
+    let passes = sym c.can_pass.ensures ∙ c.if-not-can_pass.false in
+    (search rules, (subst (λ (n : ℕ). NamesNodes n c.args.event.now) (sym c.requires.members) named, passes))
 
 pub returns-clause-ok : goal.returns-clause-ok
 returns-clause-ok g c =

@@ -1,15 +1,11 @@
-use Rattle.std.proofs.Common.{◌≡◌, ◌∙◌, ◌++◌, Bool, false, [], if◌then◌else◌, string_bytes, subst, sym}
+use Rattle.std.proofs.Common.{◌∙◌, string_bytes, sym}
 use Rattle.std.specs.Prelude.{◌&&◌}
-use Rattle.mx_stamps.proofs.Lists.{append_nil}
-use Rattle.mx_plan.specs.Text.{Text}
 use Rattle.mx_texts.specs.LetterTexts.{letter_text}
 use Rattle.mx_texts.specs.ParcelTexts.{parcel_line}
 use Rattle.mx_scripts.specs.Fates.{is_under_way}
-use Rattle.mx_play.specs.Sessions.{is_to}
+use Rattle.mx_play.specs.Cuts.{is_to}
+use Rattle.mx_play.proofs.ShownLemmas.{not_shown}
 use Rattle.mx_play.proofs.showing.add_parcel.Goals as goal
-
-not_shown : (b : Bool) (line text : Text) → b ≡ false → text ≡ text ++ (if b then line else [])
-not_shown b line text is = subst (λ (q : Bool). text ≡ text ++ (if q then line else [])) (sym is) (sym (append_nil text))
 
 pub returns : goal.returns
 returns g c =

@@ -8,7 +8,7 @@ pub loop-number-init : goal.loop-number-init
 loop-number-init g c =
     let s = c.args.session.now in
     record {
-      talked = talked_not g.C.Exclusion.core (letter_text g.C.Msg.Letter.parts) c.args.plan.now g.C.Knowledge.knows c.args.shape.now (state s.moment s.done.items s.marks.items) (g.O.Output.written c.args.out.now);
+      talked = talked_not g.C.Exclusion.core (letter_text g.C.Msg.Letter.parts) c.args.plan.now g.C.Knowledge.knows c.args.shape.now (state s.moment s.done.items s.marks.items s.undone.items) (g.O.Output.written c.args.out.now);
       is = c.requires;
     }
 
@@ -21,9 +21,9 @@ returns-then-is_end-clause-talked g c =
     let letter = letter_text g.C.Msg.Letter.parts in
     let p = c.args.plan.now in
     let shape = c.args.shape.now in
-    let first = state c.args.session.now.moment c.args.session.now.done.items c.args.session.now.marks.items in
-    let before = state c.loop-number.session.moment c.loop-number.session.done.items c.loop-number.session.marks.items in
-    let after = state c.turn.new.session.moment c.turn.new.session.done.items c.turn.new.session.marks.items in
+    let first = state c.args.session.now.moment c.args.session.now.done.items c.args.session.now.marks.items c.args.session.now.undone.items in
+    let before = state c.loop-number.session.moment c.loop-number.session.done.items c.loop-number.session.marks.items c.loop-number.session.undone.items in
+    let after = state c.turn.new.session.moment c.turn.new.session.done.items c.turn.new.session.marks.items c.turn.new.session.undone.items in
     let o = g.O.Output.written c.args.out.now in
     let o' = g.O.Output.written c.loop-number.out in
     let o'' = g.O.Output.written c.turn.new.out in
@@ -35,9 +35,9 @@ loop-number-preserved g c =
     let letter = letter_text g.C.Msg.Letter.parts in
     let p = c.args.plan.now in
     let shape = c.args.shape.now in
-    let first = state c.args.session.now.moment c.args.session.now.done.items c.args.session.now.marks.items in
-    let before = state c.loop-number.session.moment c.loop-number.session.done.items c.loop-number.session.marks.items in
-    let after = state c.turn.new.session.moment c.turn.new.session.done.items c.turn.new.session.marks.items in
+    let first = state c.args.session.now.moment c.args.session.now.done.items c.args.session.now.marks.items c.args.session.now.undone.items in
+    let before = state c.loop-number.session.moment c.loop-number.session.done.items c.loop-number.session.marks.items c.loop-number.session.undone.items in
+    let after = state c.turn.new.session.moment c.turn.new.session.done.items c.turn.new.session.marks.items c.turn.new.session.undone.items in
     let o = g.O.Output.written c.args.out.now in
     let o' = g.O.Output.written c.loop-number.out in
     let o'' = g.O.Output.written c.turn.new.out in

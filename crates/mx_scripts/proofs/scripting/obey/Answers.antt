@@ -6,10 +6,10 @@ pub returns-in-Happens : goal.returns-in-Happens
 returns-in-Happens g c =
     let p = c.args.plan.now in
     plays_on_ok g.C.Exclusion.core (length p.nodes) (length p.registers) c.args.cluster.now c.happen.new.cluster c.in-Happens.event c.happen.result
-    c.happen.ensures (rw c.in-Happens.is at c.requires)
+    c.happen.ensures.step (rw c.in-Happens.is at c.requires)
 
 pub returns-in-AllArrive : goal.returns-in-AllArrive
-returns-in-AllArrive g c = c.all_arrive.ensures
+returns-in-AllArrive g c = c.all_arrive.ensures.plays
 
 pub returns-in-Arrives : goal.returns-in-Arrives
 returns-in-Arrives g c =
@@ -25,3 +25,9 @@ pub returns-in-ArrivesAgain : goal.returns-in-ArrivesAgain
 returns-in-ArrivesAgain g c =
     let p = c.args.plan.now in
     c.arrive_again.ensures (length p.nodes) (length p.registers)
+
+pub returns-in-AllAreLost : goal.returns-in-AllAreLost
+returns-in-AllAreLost g c = λ start played. played
+
+pub returns-in-LinksChange : goal.returns-in-LinksChange
+returns-in-LinksChange g c = λ start played. played

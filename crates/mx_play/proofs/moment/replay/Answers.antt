@@ -2,7 +2,7 @@ use Rattle.std.proofs.Common.{rules, subst, sym}
 use Rattle.mx_play.specs.Moments.{Brings, CanHappen, Leads, MomentState}
 use Rattle.mx_play.specs.declared.happening.Happening.{Happening}
 use Rattle.mx_play.proofs.MomentLemmas.{can_at, leads_at, leads_end}
-use Rattle.mx_play.proofs.moment.redo.Goals as goal
+use Rattle.mx_play.proofs.moment.replay.Goals as goal
 
 pub again-requires : goal.again-requires
 again-requires g c =

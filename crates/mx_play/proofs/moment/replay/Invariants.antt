@@ -1,6 +1,6 @@
 use Rattle.std.proofs.Common.{drop}
 use Rattle.mx_play.specs.Moments.{Leads, MomentState}
-use Rattle.mx_play.proofs.moment.redo.Given as goal
+use Rattle.mx_play.proofs.moment.replay.Given as goal
 
 abbrev pub invariant-loop-happening : goal.invariant-loop-happening
 invariant-loop-happening g l =

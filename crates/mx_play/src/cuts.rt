@@ -1,0 +1,109 @@
+//! The lines of links that are cut.
+
+ghost use Rattle.std.specs.Prelude.{◌≡◌, ◌<◌, ◌++◌, length, string_bytes, OnOk, Some};
+ghost use Rattle.mx_play.specs.Cuts.{cut_line, cut_lines, cut_lines_of, cut_text, is_shown};
+
+use crate::showing::is_to;
+use mx_plan::Plan;
+use mx_scripts::Mail;
+use mx_stamps::{MOST_NODES, NodeId};
+use mx_texts::name_of;
+use std::alloc::AllocError;
+use std::fmt;
+
+/// The line of the link between two nodes, which is cut.
+#[derive(Clone, Copy)]
+struct CutLine<'a> {
+    plan: &'a Plan,
+    one: NodeId,
+    other: NodeId,
+}
+
+impl fmt::Display for CutLine<'_> {
+    ghost output = { λ l. Some (cut_line l.plan.now l.one l.other) };
+
+    fn fmt<W: fmt::Write>(&self, f: &mut fmt::Formatter<W>) -> fmt::Result {
+        let one = name_of(self.plan, self.one);
+        let other = name_of(self.plan, self.other);
+        writeln!(f, "cut {one} {other}")
+    }
+}
+
+/// Appends the line of each link that is cut, or of those of one node.
+pub(crate) fn add_cuts(
+    plan: &Plan,
+    to: &Option<NodeId>,
+    mail: &Mail,
+    text: &mut String,
+) -> Result<(), AllocError>
+    ensures { OnOk result (string_bytes text.new ≡ string_bytes text.old
+        ++ cut_lines plan.now to.now mail.now.links) }
+{
+    for i in 0..plan.nodes() {
+        add_cuts_of(plan, to, mail, i, text)?;
+    }
+    Ok(())
+}
+
+/// Appends the lines of the links between a node and itself or a later one.
+fn add_cuts_of(
+    plan: &Plan,
+    to: &Option<NodeId>,
+    mail: &Mail,
+    i: u8,
+    text: &mut String,
+) -> Result<(), AllocError>
+    requires there { i < length plan.now.nodes }
+    requires few { i < MOST_NODES }
+    ensures { OnOk result (string_bytes text.new ≡ string_bytes text.old
+        ++ cut_lines_of plan.now to.now mail.now.links i) }
+{
+    for j in i..plan.nodes() {
+        add_cut(plan, to, mail, i, j, text)?;
+    }
+    Ok(())
+}
+
+/// Appends the line of the link between two nodes, if it is cut.
+fn add_cut(
+    plan: &Plan,
+    to: &Option<NodeId>,
+    mail: &Mail,
+    i: u8,
+    j: u8,
+    text: &mut String,
+) -> Result<(), AllocError>
+    requires one { i < MOST_NODES }
+    requires other { j < MOST_NODES }
+    ensures { OnOk result (string_bytes text.new ≡ string_bytes text.old
+        ++ cut_text plan.now to.now mail.now.links i j) }
+{
+    let one = NodeId::of(i).unwrap();
+    let other = NodeId::of(j).unwrap();
+    add_if_shown(plan, to, mail, one, other, text)
+}
+
+/// Appends the line of the link between two nodes, if it is cut.
+fn add_if_shown(
+    plan: &Plan,
+    to: &Option<NodeId>,
+    mail: &Mail,
+    one: NodeId,
+    other: NodeId,
+    text: &mut String,
+) -> Result<(), AllocError>
+    ensures { OnOk result (string_bytes text.new ≡ string_bytes text.old
+        ++ cut_text plan.now to.now mail.now.links one other) }
+{
+    if is_shown(to, mail, one, other) {
+        return text.write(CutLine { plan, one, other });
+    }
+    Ok(())
+}
+
+/// Whether a link is cut, and has the node that is named at one end, if one is.
+fn is_shown(to: &Option<NodeId>, mail: &Mail, one: NodeId, other: NodeId) -> bool
+    ensures { result ≡ is_shown to.now mail.now.links one other }
+{
+    mail.is_cut(one, other) && (is_to(to, one) || is_to(to, other))
+}

@@ -1,0 +1,74 @@
+//! Which links are cut.
+
+ghost use Rattle.std.specs.Prelude.{◌≡◌, ◌<◌};
+ghost use Rattle.mx_scripts.specs.Links.{changed, is_cut, link_of, uncut};
+
+use mx_lines::LinkChange;
+use mx_stamps::{MOST_NODES, NodeId};
+use std::marker::Model;
+
+/// How many links there are between the nodes of the greatest cluster, each with itself too.
+pub(crate) const LINKS: usize = 441;
+
+/// How many nodes the greatest cluster has.
+const NODES: usize = 21;
+
+/// Which links are cut.
+#[derive(Drop)]
+pub(crate) struct Links {
+    /// Whether a link is cut alone, the same both ways.
+    cut: [bool; LINKS],
+    /// Whether all links of a node are cut.
+    apart: [bool; NODES],
+}
+
+impl Model for Links {
+    ghost use Rattle.mx_scripts.specs.Links.{LinkState};
+
+    ghost Value = { LinkState };
+
+    ghost view = { λ l. record { cut = l.cut; apart = l.apart } };
+}
+
+/// The place of a link.
+pub(crate) fn link(from: NodeId, to: NodeId) -> usize
+    ensures value { result ≡ link_of from to }
+    ensures below { result < 441 }
+{
+    usize::from(from.get()) * usize::from(MOST_NODES) + usize::from(to.get())
+}
+
+impl Links {
+    /// No link is cut.
+    pub(crate) fn uncut() -> Links
+        ensures { result ≡ uncut }
+    {
+        Links {
+            cut: [false; LINKS],
+            apart: [false; NODES],
+        }
+    }
+
+    /// Links are cut, or heal.
+    pub(crate) fn change(&mut self, change: &LinkChange)
+        ensures { self.new ≡ changed change.now self.old }
+    {
+        match change {
+            LinkChange::Cut(one, other) => {
+                self.cut[link(*one, *other)] = true;
+                self.cut[link(*other, *one)] = true;
+            }
+            LinkChange::CutAll(node) => self.apart[usize::from(node.get())] = true,
+            LinkChange::Heal => *self = Links::uncut(),
+        }
+    }
+
+    /// Whether the link from one node to another is cut.
+    pub(crate) fn is_cut(&self, from: NodeId, to: NodeId) -> bool
+        ensures { result ≡ is_cut self.now from to }
+    {
+        self.cut[link(from, to)]
+            || self.apart[usize::from(from.get())]
+            || self.apart[usize::from(to.get())]
+    }
+}
