@@ -24,7 +24,7 @@ use Rattle.mx_plan.specs.declared.shape.Shape.TheVariants.{Ricart, Maekawa, Raym
 use Rattle.mx_io.specs.Outputs.{Held}
 use Rattle.mx_io.specs.Told.{Telling}
 use Rattle.mx_texts.specs.Parts.{Parts, maekawa_parts, raymond_parts, ricart_parts}
-use Rattle.mx_cli.specs.Closed.{Closes, FallsShort}
+use Rattle.mx_cli.specs.Closed.{Closes}
 use Rattle.mx_cli.specs.Naming.{fault_named, stop_named}
 use Rattle.mx_cli.specs.Reading.{Fetches, IsPlanOf, Reads, ReadsBoth, fault_of, plan_told, refusal_of, text_told}
 use Rattle.mx_cli.specs.Told.{Seen, TellsFault}
@@ -41,7 +41,7 @@ use Rattle.mx_commands.specs.Runs.{Report, at_rest, ends_with}
 use Rattle.mx_commands.proofs.JobLemmas.{ran_at_once, ran_out}
 use Rattle.mx_views.specs.Printed.{Lists, PrintsPlanned, PrintsText, PrintsView, node_in, view_on}
 use Rattle.mx_views.specs.Shown.{Prints, PrintsBy, closing_text, shown_from, view_by}
-use Rattle.mx_views.specs.Viewed.{Course, CourseRan, HoldsOf, HoldsOfPlan, IsFound, IsStranger, PrintsCourse, PrintsReport, RunsOut, TellsName, ViewRan, ViewRanOf, Views, course_by, course_of, course_on, course_told, refused_text, reports, stranger, unread}
+use Rattle.mx_views.specs.Viewed.{Course, CourseRan, HoldsOf, HoldsOfPlan, IsFound, IsStranger, PrintsCourse, PrintsReport, RunsOut, ViewRan, ViewRanOf, Views, course_by, course_of, course_on, course_told, refused_text, reports, stranger, unread}
 use Rattle.mx_views.specs.ViewWords.{Request}
 use Rattle.mx_views.specs.declared.halts.Halt.{Halt}
 use Rattle.mx_views.specs.declared.halts.Halt.TheVariants as halt

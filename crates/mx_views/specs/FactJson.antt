@@ -1,5 +1,5 @@
 -- What a node knows, as JSON.
-use Rattle.std.specs.Prelude.{List, ◌++◌, codes, decimal}
+use Rattle.std.specs.Prelude.{List, ◌++◌, codes}
 use Rattle.mx_knowledge.specs.declared.fact.Item.{Item}
 use Rattle.mx_knowledge.specs.declared.fact.Item.TheVariants.{Number, Node, Stamp, Numbered}
 use Rattle.mx_knowledge.specs.Facts.{Known}

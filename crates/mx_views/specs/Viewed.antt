@@ -18,7 +18,6 @@ use Rattle.mx_cli.specs.Told.{Seen, TellsFault}
 use Rattle.mx_cli.specs.declared.faults.Fault.TheVariants.{CannotRead}
 use Rattle.mx_cli.specs.declared.faults.Named.{Named}
 use Rattle.mx_cli.specs.declared.faults.Named.TheVariants.{Plan, Events}
-use Rattle.mx_cli.specs.declared.faults.Stop.{Stop}
 use Rattle.mx_cli.specs.declared.faults.Stop.TheVariants.{Memory}
 use Rattle.mx_commands.specs.Ran.{Ran, end_text, status_of}
 use Rattle.mx_commands.specs.Runs.{Report, ends_with}

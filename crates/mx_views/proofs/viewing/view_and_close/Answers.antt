@@ -2,7 +2,6 @@ use Rattle.std.proofs.Common.{Bool, Ok, Err, subst}
 use Rattle.std.specs.Prelude.{◌&&◌, ◌++◌, codes, string_bytes}
 use Rattle.mx_cli.specs.Closed.{Closes}
 use Rattle.mx_cli.specs.Told.{TellsFault, seen}
-use Rattle.mx_cli.specs.Words.{names_of}
 use Rattle.mx_views.specs.ViewWords.{request_of}
 use Rattle.mx_views.proofs.ViewedLemmas.{closed_err, closed_name, closed_ok, view_keeps}
 use Rattle.mx_views.proofs.viewing.view_and_close.Goals as goal
