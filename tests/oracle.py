@@ -1055,11 +1055,12 @@ class Walk:
         return self.acts(self.actor(chance))
 
     def first(self, number):
-        """The parcel that is delivered in place of this one: in order, the oldest under way from and to the same nodes."""
+        """The parcel that is delivered in place of this one: in order, the oldest of it and of those under way from and to
+        the same nodes."""
         if not self.in_order:
             return number
         link = self.cluster.parcels[number][:2]
-        return min([k for k in self.flying if self.cluster.parcels[k][:2] == link], default=number)
+        return min([number, *(k for k in self.flying if self.cluster.parcels[k][:2] == link)])
 
     def taken_up(self):
         number = self.first(self.flying[self.words.next() % len(self.flying)])

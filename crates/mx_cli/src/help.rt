@@ -98,7 +98,9 @@ pub(crate) const EXPLORE_EXAMPLE: &str = "Example: a thousand steps drawn from t
 The events are asking, entering, reading, writing, leaving, cancelling, ticking, wanting, settling,
 restarting and the delivery of one of the newest 64 parcels. The first line counts the steps, how often a
 node entered, and the parcels that were sent; the last line is the verdict. With --count the counts of
-`mx count` stand between them. `mx check --help` tells what a plan is; docs/FORMATS.md has all formats.";
+`mx count` stand between them. With --walk the events are those of `mx draw .. --walk`, so that nodes come to
+enter; `mx explore --walk --help` tells of its options. `mx check --help` tells what a plan is; docs/FORMATS.md
+has all formats.";
 
 pub(crate) const LIVE_EXAMPLE: &str =
     "Example: three nodes, each in a thread of its own, add 1 to a register in three sections each.

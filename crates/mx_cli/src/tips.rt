@@ -10,7 +10,17 @@ const OPTIONS: [(&str, &[&str]); 8] = [
     ("replay", &["--quiet", "--node", "--json", "--state"]),
     ("explain", &["--script"]),
     ("explore", &["--seed", "--steps", "--count"]),
-    ("draw", &["--seed", "--steps", "--walk"]),
+    (
+        "draw",
+        &[
+            "--seed",
+            "--steps",
+            "--walk",
+            "--loss",
+            "--repeat",
+            "--in-order",
+        ],
+    ),
     ("picture", &["--from", "--to", "--node", "--journals"]),
     (
         "live",

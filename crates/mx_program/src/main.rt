@@ -17,7 +17,7 @@ use mx_picture::picture;
 use mx_play::{Typed, play};
 use mx_scripts::event_file;
 use mx_views::replay_view;
-use mx_walks::explore_walk;
+use mx_walks::{explore_seeds, explore_walk};
 use std::alloc::AllocError;
 use std::io;
 use std::io::{BufWriter, IsTerminal, Write};
@@ -42,6 +42,7 @@ where
         "count" => count(alloc, words, &mut source, out, err),
         "draw" | "script" => event_file(alloc, words, &mut source, out, err),
         "explain" => explain(alloc, words, &mut Kept::new(alloc, source), out, err),
+        "explore" if has_seeds(words) => explore_seeds(alloc, words, &mut source, out, err),
         "explore" if is_walk(words) => explore_walk(alloc, words, &mut source, out, err),
         "explore" if has_word(words, "--count") => count(alloc, words, &mut source, out, err),
         "judge" => judge_trace(alloc, words, &mut source, out, err),
@@ -109,6 +110,11 @@ fn is_view(words: &[&str]) -> bool {
     words.iter().any(|word| {
         *word == "--quiet" || *word == "--json" || *word == "--state" || word.starts_with("--node")
     })
+}
+
+/// Whether one of the words names seeds.
+fn has_seeds(words: &[&str]) -> bool {
+    words.iter().any(|word| word.starts_with("--seeds"))
 }
 
 /// Whether one of the words is an option of a walk.

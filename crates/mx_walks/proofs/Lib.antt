@@ -1,3 +1,5 @@
 pub mod ExploredLemmas
 pub mod ParcelLemmas
 pub mod StepLemmas
+pub mod SeedsLemmas
+pub mod NumberLemmas

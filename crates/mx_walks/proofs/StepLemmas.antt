@@ -108,7 +108,7 @@ either_false : {X : Type 0} (b : Bool) (x y : X) → b ≡ false → (if b then 
 either_false true x y is = cc
 either_false false x y is = refl
 
-either_true : {X : Type 0} (b : Bool) (x y : X) → b ≡ true → (if b then x else y) ≡ x
+pub either_true : {X : Type 0} (b : Bool) (x y : X) → b ≡ true → (if b then x else y) ≡ x
 either_true true x y is = refl
 either_true false x y is = cc
 

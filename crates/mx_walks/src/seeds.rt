@@ -1,0 +1,47 @@
+//! The seeds that a text names.
+
+ghost use Rattle.std.specs.Prelude.{◌≡◌, IfSome};
+ghost use Rattle.mx_lines.specs.Numbers.{number_of};
+ghost use Rattle.mx_walks.specs.Seeds.{IsRange};
+
+/// The most seeds that are explored one after another.
+const MOST_SEEDS: u64 = 1_000_000;
+
+/// Seeds one after another: the first, and how many there are.
+#[derive(Clone, Copy, Debug, PartialEq, Eq)]
+pub struct Seeds {
+    pub first: u64,
+    pub count: u64,
+}
+
+/// The seeds that a text such as `1..100` names, from the one number to the other.
+pub fn seeds_in(text: &str) -> Option<Seeds>
+    ensures { IfSome result (λ seeds. IsRange text.now seeds.first seeds.count) }
+{
+    let Some(parts) = text.split_once("..") else {
+        return None;
+    };
+    let Some(first) = number_of(parts.0) else {
+        return None;
+    };
+    let Some(last) = number_of(parts.1) else {
+        return None;
+    };
+    if last < first || last - first >= MOST_SEEDS {
+        return None;
+    }
+    Some(Seeds {
+        first,
+        count: last - first + 1,
+    })
+}
+
+/// The whole number of 64 bits that a text is.
+fn number_of(text: &str) -> Option<u64>
+    ensures { result ≡ number_of text.now }
+{
+    match text.parse::<u64>() {
+        Ok(number) => Some(number),
+        Err(_) => None,
+    }
+}
