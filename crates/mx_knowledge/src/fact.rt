@@ -13,7 +13,7 @@ pub enum Item {
     Number(u64),
     Node(NodeId),
     Stamp(Stamp),
-    /// A node with a number of its own, such as an arbiter and its grant.
+    /// A node with a number, such as an arbiter with its grant.
     Numbered(NodeId, u64),
 }
 
@@ -41,7 +41,7 @@ impl Model for Facts {
 }
 
 impl Facts {
-    /// No facts.
+    /// Creates an empty list of facts.
     pub fn new(alloc: Global) -> Facts
         ensures { result ≡ [] }
     {
@@ -51,7 +51,7 @@ impl Facts {
         }
     }
 
-    /// The facts, one after another.
+    /// Returns the facts, in order.
     pub fn as_slice(&self) -> &[Fact]
         ensures { map fact_of result.now ≡ self.now }
     {
@@ -59,6 +59,10 @@ impl Facts {
     }
 
     /// Adds a fact without values.
+    ///
+    /// # Errors
+    ///
+    /// Returns `AllocError` if memory runs out.
     pub fn add_word(&mut self, name: &'static str) -> Result<(), AllocError>
         ensures { OnOk result (self.new ≡ self.old ++ word name.now) }
     {
@@ -67,6 +71,10 @@ impl Facts {
     }
 
     /// Adds a fact with one value.
+    ///
+    /// # Errors
+    ///
+    /// Returns `AllocError` if memory runs out.
     pub fn add(&mut self, name: &'static str, item: Item) -> Result<(), AllocError>
         ensures { OnOk result (self.new ≡ self.old ++ one name.now item) }
     {
@@ -76,6 +84,10 @@ impl Facts {
     }
 
     /// Adds a fact with these values, if there are any.
+    ///
+    /// # Errors
+    ///
+    /// Returns `AllocError` if memory runs out.
     pub fn add_list(&mut self, name: &'static str, items: Vec<Item>) -> Result<(), AllocError>
         ensures { OnOk result (self.new ≡ self.old ++ listed name.now items.items) }
     {
