@@ -1,6 +1,7 @@
 //! Ranges of section numbers.
 
-/// The numbers from `first` to `last`, both ends in it. It is empty where `first` is above `last`.
+/// The section numbers from `first` to `last`, both included. It is empty if `first` is above
+/// `last`.
 #[derive(Clone, Copy, Debug, Default, PartialEq, Eq)]
 pub struct Range {
     pub first: u64,

@@ -1,4 +1,4 @@
-//! Records: what closed sections wrote.
+//! Records: the writes of closed sections.
 
 ghost use Rattle.std.specs.Prelude.{◌≡◌, ◌↔◌, IsTrue};
 
@@ -22,7 +22,7 @@ pub struct Record {
 }
 
 impl Record {
-    /// An equal record.
+    /// Copies the record.
     pub fn copy(&self) -> Record
         ensures { result ≡ self.now }
     {
@@ -33,7 +33,7 @@ impl Record {
         }
     }
 
-    /// Whether both are the same record.
+    /// Returns whether both are the same record.
     pub fn is(&self, other: &Record) -> bool
         ensures { IsTrue result ↔ (self.now ≡ other.now) }
     {
@@ -43,7 +43,7 @@ impl Record {
     }
 }
 
-/// An equal list.
+/// Copies the list.
 pub(crate) fn copy_of_writes(writes: &ArrayVec<Write, 8>) -> ArrayVec<Write, 8>
     ensures { result ≡ writes.now }
 {

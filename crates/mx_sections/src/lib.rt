@@ -1,6 +1,5 @@
-//! What comes of events, the items of a trace, and what sections are: for members and clusters, of
-//! which it is proved, and for those who print and judge traces. None of them has to wait for the
-//! cluster.
+//! Outcomes of events, items of a trace, and sections. It is proved for members and clusters, and
+//! serves the crates that print and judge traces; none of them has to wait for the cluster.
 #![tactic(auto)]
 
 mod outcome;
