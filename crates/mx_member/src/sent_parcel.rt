@@ -3,7 +3,7 @@
 use crate::parcel::Parcel;
 use mx_stamps::NodeId;
 
-/// A parcel that was sent: by whom, to whom, and what it is.
+/// A parcel that was sent, with its sender and its addressee.
 #[derive(Clone, Copy)]
 pub struct SentParcel<'a, M> {
     pub from: NodeId,
