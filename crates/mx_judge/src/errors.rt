@@ -7,7 +7,7 @@ use mx_cli::Stop;
 #[derive(Clone, Copy)]
 pub enum JudgeError {
     Stop(Stop),
-    /// The trace is at fault.
+    /// The trace has a fault.
     Trace(TraceFault),
 }
 

@@ -1,4 +1,4 @@
-//! Parcels that are drawn: as arrows to their delivery, or lost in the air.
+//! The drawing of parcels: as arrows to their delivery, or lost in the air.
 
 use crate::drawing::{Drawing, tell_journal};
 use crate::inks::ink_of;
@@ -11,7 +11,7 @@ use mx_plan::Plan;
 use mx_texts::{Letter, add_parcel};
 use std::alloc::AllocError;
 
-/// The arrow of a parcel to its delivery.
+/// Draws the arrow of a parcel to its delivery.
 pub(crate) fn draw_delivery<C: Exclusion>(
     plan: &Plan,
     cluster: &Cluster<C>,
@@ -37,7 +37,7 @@ where
     drawing.sheet.mark(sent.to, spot, drawing.label.as_str())
 }
 
-/// The parcels from `before` on, which the present event sent.
+/// Draws the parcels from `before` on, which the current event sent.
 pub(crate) fn draw_sent<C: Exclusion>(
     plan: &Plan,
     cluster: &Cluster<C>,
@@ -56,7 +56,7 @@ where
     Ok(())
 }
 
-/// A parcel that ends in the air, in a row of its own.
+/// Draws a lost parcel, in a new row.
 fn draw_loss<C: Exclusion>(
     plan: &Plan,
     cluster: &Cluster<C>,
@@ -80,7 +80,7 @@ where
         .lose_below(sent.from, spot, drawing.label.as_str())
 }
 
-/// Puts the number and the text of a parcel, and to whom it was sent, in place of the label.
+/// Replaces the label by the number and the text of a parcel, and its addressee.
 fn tell_loss<M: Letter>(
     plan: &Plan,
     number: u64,
@@ -92,7 +92,7 @@ fn tell_loss<M: Letter>(
     write!(label, " to {name}")
 }
 
-/// Puts the number and the text of a parcel in place of the label.
+/// Replaces the label by the number and the text of a parcel.
 fn tell_parcel<M: Letter>(
     plan: &Plan,
     number: u64,

@@ -1,4 +1,4 @@
-//! Names in the order of the plan, and the numbers that they get.
+//! Names in the order of the plan, and their numbers.
 ghost use Rattle.std.specs.Prelude.{◌≡◌, ℕ, ◌++◌, ◌∷◌, ◌≤◌, ◌<◌, ◌↔◌, [], List, length, map, not, true, position, slice_get, option_map, string_bytes, IfOk, OnErr, IfSome, IsSome};
 ghost use Rattle.std.specs.List.{list_all, list_any};
 ghost use Rattle.std.specs.Str.{bytes_eq};
@@ -35,7 +35,11 @@ impl Names {
         self.set.len()
     }
 
-    /// Adds a name that is not there yet, and says whether it did.
+    /// Adds a name unless it is there already, and returns whether it did.
+    ///
+    /// # Errors
+    ///
+    /// Returns `AllocError` if memory runs out. Nothing has changed then.
     pub fn add(&mut self, alloc: Global, name: &str) -> Result<bool, AllocError>
         ensures added { IfOk result (λ r. r ≡ not (list_any (bytes_eq name.now) self.old)) }
         ensures names { IfOk result (λ r. r ≡ true → self.new ≡ self.old ++ name.now ∷ []) }
@@ -59,7 +63,7 @@ impl Names {
     }
 }
 
-/// Whether a text may be a name: 1 to 16 letters, digits, `_` and `-`.
+/// Returns whether a text is a name: 1 to 16 letters, digits, `_` and `-`.
 pub fn is_name(text: &str) -> bool
     ensures { result ≡ is_name text.now }
 {
