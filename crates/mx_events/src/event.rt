@@ -12,12 +12,15 @@ use mx_stamps::NodeId;
 /// An event of one node; a `Deliver` is of the parcel's addressee. Registers are numbered from 0.
 #[derive(Clone, Copy, Debug, PartialEq, Eq)]
 pub enum Event {
+    /// The idle node asks for the section.
     Ask(NodeId),
+    /// The waiting node enters the section.
     Enter(NodeId),
     /// The node reads a register.
     Read(NodeId, u8),
     /// The node writes a value to a register.
     Write(NodeId, u8, u64),
+    /// The node leaves its section.
     Leave(NodeId),
     /// The waiting node withdraws its request.
     Cancel(NodeId),

@@ -9,6 +9,7 @@ use std::alloc::{AllocError, Global};
 /// Why an output refuses a text.
 #[derive(Clone, Copy, Debug, PartialEq, Eq)]
 pub enum OutputFault {
+    /// The output does not take the text.
     Refused,
     /// Memory ran out.
     Memory,

@@ -15,7 +15,9 @@ pub const MOST_BYTES: u64 = 268_435_456;
 /// Why a name cannot be read.
 #[derive(Clone, Copy)]
 pub enum Refusal {
+    /// It cannot be read, for this reason.
     Because(&'static str),
+    /// Memory ran out.
     Memory,
 }
 

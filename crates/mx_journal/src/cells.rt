@@ -15,7 +15,9 @@ pub(crate) const REGISTERS: usize = MOST_REGISTERS as usize;
 /// did.
 #[derive(Clone, Copy, Debug, Default, PartialEq, Eq)]
 pub struct Cell {
+    /// The value, 0 if no section wrote the register.
     pub value: u64,
+    /// The number of the section that wrote it, or 0 if none did.
     pub number: u64,
 }
 

@@ -50,7 +50,8 @@ impl Journal {
         }
     }
 
-    /// Puts a record. A record whose number the base covers is `Same`, whatever it wrote.
+    /// Puts a record, and returns whether the journal knew it already. A record whose number the
+    /// base covers is `Same`, whatever it wrote.
     ///
     /// # Errors
     ///

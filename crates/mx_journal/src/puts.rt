@@ -26,10 +26,13 @@ pub enum Put {
 /// Why a journal does not take a record, or a list of records.
 #[derive(Clone, Copy, Debug, PartialEq, Eq, Error)]
 pub enum PutFault {
+    /// A record has the number 0, which no section has.
     #[error("a record bears the number 0")]
     ZeroNumber,
+    /// Two different records have this number, which is the least such number.
     #[error("another record bears {0}")]
     Conflict(u64),
+    /// Memory ran out.
     #[error("out of memory")]
     Memory,
 }

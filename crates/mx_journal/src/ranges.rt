@@ -4,6 +4,8 @@
 /// `last`.
 #[derive(Clone, Copy, Debug, Default, PartialEq, Eq)]
 pub struct Range {
+    /// The first number of the range.
     pub first: u64,
+    /// The last number of the range.
     pub last: u64,
 }

@@ -10,8 +10,11 @@ use mx_stamps::NodeId;
 /// A read of a value from a register, with the number of writes of the same section before it.
 #[derive(Clone, Copy, Debug, Default, PartialEq, Eq)]
 pub struct Read {
+    /// The value that was read.
     pub value: u64,
+    /// The number of the register.
     pub register: u8,
+    /// The number of writes of the same section before the read.
     pub after: u8,
 }
 
@@ -19,9 +22,13 @@ pub struct Read {
 /// that was inside.
 #[derive(Debug, Default, PartialEq, Eq, Drop)]
 pub struct Receipt {
+    /// The number of the section, from 1.
     pub number: u64,
+    /// The node that was inside.
     pub node: NodeId,
+    /// The reads, in order.
     pub reads: ArrayVec<Read, 8>,
+    /// The writes, in order.
     pub writes: ArrayVec<Write, 8>,
 }
 

@@ -8,7 +8,9 @@ use mx_stamps::NodeId;
 /// A write of a value to a register, by the register's number from 0 to 31.
 #[derive(Clone, Copy, Debug, Default, PartialEq, Eq)]
 pub struct Write {
+    /// The number of the register, from 0 to 31.
     pub register: u8,
+    /// The value that was written.
     pub value: u64,
 }
 
@@ -16,8 +18,11 @@ pub struct Write {
 /// was inside.
 #[derive(Debug, Default, PartialEq, Eq, Drop)]
 pub struct Record {
+    /// The number of the section, from 1.
     pub number: u64,
+    /// The node that was inside.
     pub node: NodeId,
+    /// The writes, in order.
     pub writes: ArrayVec<Write, 8>,
 }
 

@@ -40,7 +40,9 @@ impl fmt::Display for ItemFault {
 pub enum TraceFault {
     /// The array is not valid JSON, or not valid UTF-8.
     NotJson,
+    /// The line of this number has this fault.
     Line(u64, ItemFault),
+    /// The item of this number has this fault.
     Item(u64, ItemFault),
     /// Memory ran out. This is no fault of the trace.
     Memory,

@@ -10,8 +10,11 @@ use std::marker::Model;
 /// A value of a fact.
 #[derive(Clone, Copy)]
 pub enum Item {
+    /// A number.
     Number(u64),
+    /// A node.
     Node(NodeId),
+    /// The stamp of a request.
     Stamp(Stamp),
     /// A node with a number, such as an arbiter with its grant.
     Numbered(NodeId, u64),
@@ -20,7 +23,9 @@ pub enum Item {
 /// A fact: its name, and its values in order.
 #[derive(Drop)]
 pub struct Fact {
+    /// The name of the fact.
     pub name: &'static str,
+    /// The values, in order.
     pub items: Vec<Item>,
 }
 

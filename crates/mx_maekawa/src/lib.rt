@@ -1,8 +1,7 @@
-//! Maekawa 1985, "A √N algorithm for mutual exclusion in decentralized systems". Each node has a
-//! set of arbiters, and any two sets have a node in common. A node that asks for the section sends
-//! a request to each of its arbiters, and may enter once it holds a grant of each. An arbiter
-//! grants one request at a time. If a request precedes the granted one, the arbiter asks for its
-//! grant back, and a node that cannot enter yet gives it back.
+//! Maekawa 1985, "A √N algorithm for mutual exclusion in decentralized systems": a node enters once
+//! it holds a grant of each of its arbiters. Any two sets of arbiters have a node in common, and an
+//! arbiter grants one request at a time. If a request precedes the granted one, the arbiter asks
+//! for its grant back, and a node that cannot enter yet gives it back.
 //!
 //! Added to the publication, since letters may be lost, repeated and reordered, and sections have
 //! numbers. Each row of `specs/RequesterStep.antt` and `specs/ArbiterStep.antt` says which part of

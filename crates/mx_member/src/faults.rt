@@ -7,8 +7,10 @@ use thiserror::Error;
 /// Why a call of `read` is refused.
 #[derive(Clone, Copy, Debug, PartialEq, Eq, Error)]
 pub enum ReadFault {
+    /// The node is not inside.
     #[error("not inside")]
     NotInside,
+    /// There is no such register.
     #[error("no register")]
     NoRegister,
     /// The journal does not cover this section, the first that it lacks. Its number is below that
@@ -38,8 +40,10 @@ impl From<Full> for ReadFault {
 /// Why a call of `write` is refused.
 #[derive(Clone, Copy, Debug, PartialEq, Eq, Error)]
 pub enum WriteFault {
+    /// The node is not inside.
     #[error("not inside")]
     NotInside,
+    /// There is no such register.
     #[error("no register")]
     NoRegister,
     /// The draft has eight writes already.
@@ -61,6 +65,7 @@ impl From<Full> for WriteFault {
 /// Why a call of `leave` is refused.
 #[derive(Clone, Copy, Debug, PartialEq, Eq, Error)]
 pub enum CloseFault {
+    /// The node is not inside.
     #[error("not inside")]
     NotInside,
     /// Memory ran out. The node is still inside, with its draft.

@@ -9,6 +9,7 @@ use mx_journal::{Base, Range, Record};
 /// A letter of the exclusion algorithm, or a message of gossip.
 #[derive(Drop)]
 pub enum Parcel<M> {
+    /// A letter of the exclusion algorithm, which guards the section.
     Guard(M),
     /// The ranges of section numbers that the sender lacks.
     Want(ArrayVec<Range, 8>),

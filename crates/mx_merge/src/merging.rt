@@ -13,8 +13,10 @@ use thiserror::Error;
 /// Why a journal was not merged into another.
 #[derive(Clone, Copy, Debug, PartialEq, Eq, Error)]
 pub enum MergeFault {
+    /// The journals differ at this number, the least such number.
     #[error("two records bear {0}")]
     Conflict(u64),
+    /// Memory ran out.
     #[error("out of memory")]
     Memory,
 }

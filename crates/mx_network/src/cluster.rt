@@ -130,7 +130,8 @@ impl<C: Exclusion> Cluster<C> {
         Ok(newest(&self.trace))
     }
 
-    /// Applies one event, as `step` does. Its outcome is that of the newest item of the trace.
+    /// Applies one event, as `step` does, without returning its outcome: that of the newest item of
+    /// the trace.
     ///
     /// # Errors
     ///

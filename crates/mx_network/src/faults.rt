@@ -32,6 +32,8 @@ impl From<AllocError> for StepFault {
 #[derive(Clone, Copy, Debug, PartialEq, Eq, Error)]
 #[error("event {index}: {fault}")]
 pub struct RunFault {
+    /// The index of the event, counted from 0.
     pub index: u64,
+    /// Why the event failed.
     pub fault: StepFault,
 }

@@ -44,7 +44,7 @@ pub trait Exclusion: Drop {
     fn is_same(one: &Self::Msg, other: &Self::Msg) -> bool
         ensures { IsTrue result ↔ (one.now ≡ other.now) };
 
-    /// Creates a node that has just been started. Its stamps, grants or hops count on from
+    /// Creates an idle node at the start of a cluster. Its stamps, grants or hops count on from
     /// `origin`; `limit` is the greatest section number.
     fn start(shape: &Self::Shape, me: NodeId, origin: u64, limit: u64) -> Self
         requires node { me < core.count shape.now }

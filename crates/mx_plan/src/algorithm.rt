@@ -11,8 +11,11 @@ use serde_json::Value;
 /// The algorithm by which nodes exclude one another.
 #[derive(Clone, Copy)]
 pub enum Algorithm {
+    /// Ricart and Agrawala's algorithm (1981).
     Ricart,
+    /// Maekawa's algorithm (1985).
     Maekawa,
+    /// Raymond's algorithm (1989).
     Raymond,
 }
 

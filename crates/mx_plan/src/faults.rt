@@ -14,7 +14,9 @@ use std::fmt;
 /// order of the plan.
 #[derive(Clone, Copy, Debug, PartialEq, Eq)]
 pub enum ShapeFault {
+    /// The arbiter sets are no family.
     Quorum(QuorumFault),
+    /// The edges and the holder are no tree.
     Tree(TreeFault),
 }
 

@@ -21,6 +21,7 @@ impl Model for Names {
 }
 
 impl Names {
+    /// Creates an empty list of names.
     pub fn new(alloc: Global) -> Self
         ensures { result ≡ [] }
     {
@@ -29,6 +30,7 @@ impl Names {
         }
     }
 
+    /// Returns the number of names.
     pub fn len(&self) -> usize
         ensures { result ≡ length self.now }
     {
@@ -49,12 +51,14 @@ impl Names {
         Ok(self.set.insert(name)?)
     }
 
+    /// Returns the name with this number.
     pub fn get(&self, index: usize) -> Option<&str>
         ensures { option_map (λ s. s.now) result ≡ slice_get self.now index }
     {
         Some(self.set.get_index(index)?.as_str())
     }
 
+    /// Returns the number of a name, if it is there.
     pub fn index_of(&self, name: &str) -> Option<usize>
         ensures index { result ≡ position (bytes_eq name.now) self.now }
         ensures within { IfSome result (λ i. i < length self.now) }

@@ -1,7 +1,7 @@
-//! Raymond 1989, "A tree-based algorithm for distributed mutual exclusion". One privilege moves
-//! along the edges of a tree. Each node knows the direction of the privilege, and queues the
-//! neighbours and itself in the order of their requests. A node that has the privilege and heads
-//! its own queue may enter.
+//! Raymond 1989, "A tree-based algorithm for distributed mutual exclusion": a node enters once it
+//! has the privilege, which moves along the edges of a tree. Each node knows the direction of the
+//! privilege, and queues the neighbours and itself in the order of their requests. A node that has
+//! the privilege and heads its own queue may enter.
 //!
 //! Added to the publication, since letters may be lost, repeated and reordered, and sections have
 //! numbers. Each row of `specs/Step.antt` says which part of it is published and which is added:

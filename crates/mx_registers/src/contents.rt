@@ -12,7 +12,9 @@ use mx_journal::{Cell, Write};
 /// register that no section wrote is 0.
 #[derive(Clone, Copy, Debug, Default, PartialEq, Eq)]
 pub struct Content {
+    /// The value, 0 if no section wrote the register.
     pub value: u64,
+    /// The number of the section that wrote it.
     pub by: Option<u64>,
 }
 

@@ -1,6 +1,6 @@
-//! Ricart and Agrawala 1981, "An optimal algorithm for mutual exclusion in computer networks". A
-//! node that asks for the section sends a stamped request to every other node, and may enter once
-//! all have replied. A node that has an earlier request defers its reply until it has left.
+//! Ricart and Agrawala 1981, "An optimal algorithm for mutual exclusion in computer networks": a
+//! node enters once every other node has replied to its stamped request. A node that has an earlier
+//! request defers its reply until it has left.
 //!
 //! Added to the publication, since letters may be lost, repeated and reordered, and sections have
 //! numbers. Each row of `specs/Step.antt` says which part of it is published and which is added:

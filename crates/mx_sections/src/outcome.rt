@@ -10,12 +10,19 @@ use mx_stamps::Stamp;
 /// Why a node refuses an event.
 #[derive(Clone, Copy, Debug, PartialEq, Eq)]
 pub enum Cause {
+    /// The node waits already, or is inside.
     NotIdle,
+    /// No next stamp exists.
     StampsSpent,
+    /// The node is idle, or inside.
     NotWaiting,
+    /// A permission is missing.
     NotGranted,
+    /// The highest section number that the node knows is the limit.
     NumbersSpent,
+    /// The node is not inside.
     NotInside,
+    /// There is no such register.
     NoRegister,
     /// The journal does not cover this section, the first that it lacks. It is below the section
     /// that reads, or up to the number that is to be settled.
@@ -102,6 +109,8 @@ impl Outcome {
 /// An item of a trace: an event and its outcome.
 #[derive(Debug, PartialEq, Eq, Drop)]
 pub struct Entry {
+    /// The event.
     pub event: Event,
+    /// The outcome of the event.
     pub outcome: Outcome,
 }

@@ -10,7 +10,9 @@ use std::cmp::Ordering;
 /// by number, and then by node (Lamport 1978).
 #[derive(Clone, Copy, Debug, Default, Eq, PartialOrd, Ord, Hash)]
 pub struct Stamp {
+    /// The number, drawn from the node's clock.
     pub number: u64,
+    /// The node that asks.
     pub node: NodeId,
 }
 

@@ -23,6 +23,7 @@ pub enum PutOut {
 pub enum Taken {
     /// A parcel was delivered.
     Got,
+    /// No slot of the link had a parcel.
     Empty,
 }
 
@@ -31,11 +32,17 @@ pub enum Taken {
 /// ticked.
 #[derive(Clone, Copy, Debug, Default, PartialEq, Eq)]
 pub struct TurnReport {
+    /// The parcels that it took, or had in hand.
     pub taken: u32,
+    /// The parcels that it threw away.
     pub dropped: u32,
+    /// The parcels that it delivered twice.
     pub twice: u32,
+    /// The parcels that it put out.
     pub put: u32,
+    /// The tries to put a parcel out that found no empty slot.
     pub full: u32,
+    /// Whether it ticked.
     pub ticked: bool,
 }
 
@@ -89,6 +96,7 @@ impl TurnReport {
 /// Why a parcel was not delivered. It remains in hand, and the next call delivers it first.
 #[derive(Clone, Copy, Debug, PartialEq, Eq, Error)]
 pub enum TakeFault {
+    /// Memory ran out.
     #[error("out of memory")]
     Memory,
 }

@@ -37,6 +37,7 @@ pub enum GatherFault {
     /// The least node that is inside.
     #[error("still inside {}", .0.get())]
     StillInside(NodeId),
+    /// Memory ran out.
     #[error("out of memory")]
     Memory,
 }
@@ -44,7 +45,9 @@ pub enum GatherFault {
 /// The stations that were not gathered, in the order in which they were passed, and why.
 #[derive(Drop)]
 pub struct Ungathered<C: Exclusion> {
+    /// Why they were not gathered.
     pub fault: GatherFault,
+    /// The stations, unchanged.
     pub stations: Vec<Station<C>>,
 }
 

@@ -12,10 +12,15 @@ use std::marker::{Model, PhantomData};
 /// The parameters of a table, given when it is made.
 #[derive(Clone, Copy)]
 pub struct Setup<H> {
+    /// The number of nodes.
     pub nodes: u8,
+    /// The shape of the cluster.
     pub shape: H,
+    /// The number from which the numbers of requests count on.
     pub origin: u64,
+    /// The greatest section number.
     pub limit: u64,
+    /// The number of registers.
     pub registers: u8,
 }
 

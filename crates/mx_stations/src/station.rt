@@ -51,7 +51,7 @@ impl<C: Exclusion> Model for Station<C> {
 }
 
 impl<C: Exclusion> Station<C> {
-    /// Returns its node.
+    /// Returns the node of this station.
     pub fn node(&self) -> NodeId
         ensures value { result ≡ self.now.me.node }
         ensures within { result < self.now.nodes }

@@ -80,7 +80,8 @@ impl<C: Exclusion> Station<C> {
         see(&self.field, &mut self.seat, node.get())
     }
 
-    /// Reads the rule for two stations of one table as one. Changes nothing.
+    /// Shows that two stations of one table are different nodes of one cluster, and not both
+    /// inside. Changes nothing.
     pub fn apart(&mut self, other: &mut Station<C>)
         requires { self.old.table ≡ other.old.table }
         ensures same { (self.new ≡ self.old) × (other.new ≡ other.old) }

@@ -176,9 +176,9 @@ impl<C: Exclusion> Station<C> {
         }
     }
 
-    /// Takes a turn. Delivers a parcel in hand; takes one from each node that has one, and delivers
-    /// it as its fate says; and tries to put out each parcel that waits then. If none was taken and
-    /// none waits, the clock ticks.
+    /// Delivers the parcel in hand, takes and delivers one parcel from each node, and tries to put
+    /// out each parcel that waits then. A taken parcel is delivered as its fate says. If none was
+    /// taken and none waits, the clock ticks.
     ///
     /// # Errors
     ///

@@ -27,7 +27,9 @@ pub trait Gate {
 /// The task of a worker: to add 1 to this register, in a given number of sections.
 #[derive(Clone, Copy, Debug, PartialEq, Eq)]
 pub struct Script {
+    /// The number of the register.
     pub register: u8,
+    /// The number of sections.
     pub sections: u64,
 }
 

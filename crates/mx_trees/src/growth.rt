@@ -9,7 +9,9 @@ use mx_stamps::MOST_NODES;
 /// The nodes that have been reached, each with the node that it was reached from.
 #[derive(Clone, Copy)]
 pub struct Growth {
+    /// For each node, whether it has been reached.
     pub reached: [bool; MOST_NODES as usize],
+    /// For each node, the node that it was reached from.
     pub next: [u8; MOST_NODES as usize],
 }
 
