@@ -20,7 +20,7 @@ fn record(number: u64, value: u64) -> Record {
     record
 }
 
-/// Returns a journal of these sections, each of which wrote ten times its number.
+/// Returns a journal of these sections. Each wrote ten times its number.
 fn journal_of(alloc: Global, numbers: &[u64]) -> Result<Journal> {
     let mut journal = Journal::new(alloc);
     for number in numbers {

@@ -1,5 +1,5 @@
-//! Tests of the commands, for what no contract says: that runs in threads reach their counts, how
-//! gates and exhausted turns end a run, and outputs that refuse.
+//! Tests of the commands, for what no contract says: runs in threads reach their counts, gates and
+//! exhausted turns end a run, and outputs refuse.
 
 #![tactic(auto)]
 

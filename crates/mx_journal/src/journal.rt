@@ -228,7 +228,7 @@ impl Journal {
         self.records.next_after(number)
     }
 
-    /// Returns the number of records, all of which are above the base.
+    /// Returns the number of records above the base.
     pub fn len(&self) -> usize
         ensures value { result ≡ length self.now.records }
         // what holds for every journal: the numbers ascend, from above the base on

@@ -22,7 +22,7 @@ key_of Number = codes "number"
 key_of Count = codes "count"
 key_of Cause = codes "cause"
 
--- the message if it is wrong
+-- the message for a member that is missing or wrong
 abbrev pub message_of : Member → Text
 message_of Act = codes "no such word"
 message_of Node = codes "no such node"

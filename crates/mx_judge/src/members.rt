@@ -43,7 +43,7 @@ impl Member {
         }
     }
 
-    /// Returns the message if it is wrong.
+    /// Returns the message for a member that is missing or wrong.
     pub fn message(self) -> &'static str
         ensures { result.now ≡ spec.message_of self }
     {

@@ -25,7 +25,7 @@ fn judge_line<'a>(alloc: Global) -> Result<Command<'a>, AllocError>
     line_of(alloc, judge_command(alloc)?)
 }
 
-/// Parses arguments, the first of which is `judge`, and returns the names of the plan and of the
+/// Parses a command line that starts with `judge`, and returns the names of the plan and of the
 /// trace.
 ///
 /// # Errors

@@ -35,7 +35,7 @@ IsGiven r a stamp g =
 abbrev pub IsReached : NodeWorld → ℕ → Type 0
 IsReached w n = IsReachedBy (λ (s : Node). s.requester.mine) w n
 
--- arbiter a was sent that node i's grant is given back, or that its request has ended
+-- arbiter a was sent a letter that gives node i's grant back, or that ends its request
 abbrev pub IsOver : NodeWorld → ℕ → ℕ → Stamp → ℕ → Type 0
 IsOver w a i stamp g =
     WasSent w i a (Relinquish stamp g)
@@ -124,7 +124,7 @@ pub record IsLockedOk (w : NodeWorld) (a b : ℕ) (stamp : Stamp) (g c : ℕ) : 
   -- no other LOCKED of its arbiter has its grant
   pub same : (other_b : ℕ) (other : Stamp) (other_c : ℕ) →
       WasSent w a other_b (Locked other g other_c) → (other ≡ stamp) × (other_c ≡ c)
-  -- the arbiter is locked for it, or was sent that this is over
+  -- the arbiter is locked for it, or was sent a letter that ends it
   pub ends : (s : Node) → IsNode w a s → IsLockedFor s stamp g c ⊎ IsOver w a b stamp g
 
 -- what holds for each RELINQUISH that was sent: the grant will not be held again

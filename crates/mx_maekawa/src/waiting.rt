@@ -1,4 +1,4 @@
-//! Waiting requests, each of which may be absent.
+//! Waiting requests, if there are any.
 
 ghost use Rattle.std.specs.Prelude.{◌≡◌};
 ghost use Rattle.mx_maekawa.specs.ArbiterStep.{lesser, is_later, is_below, or_else, drop_up_to};

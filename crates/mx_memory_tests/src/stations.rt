@@ -358,7 +358,7 @@ fn send_and_take(
     }
 }
 
-/// Runs two stations, the second of which takes in the parcels that the first has sent.
+/// Runs two stations; the second takes in the parcels that the first has sent.
 fn each_way(rt: &HostRuntime, way: Way) -> Result<()> {
     match opened(rt, 2)?.as_mut_slice() {
         [zero, one] => send_and_take(rt, way, zero, one),

@@ -61,7 +61,7 @@ core_of rows = record {
   tick = rows.tick;
 }
 
--- the part of a state on which the promises on phases are
+-- the part of a state that the promises on phases are about
 pub record Course : Type 0 where
   pub phase : Phase
   pub mine : ℕ

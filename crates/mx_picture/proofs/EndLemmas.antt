@@ -36,7 +36,7 @@ stops core letter p es r k g d s lt e (inl memory) = subst (λ (x : Stop). Stops
 stops core letter p es r k g d s lt e (inr none) =
     subst (λ (x : Stop). StopsAs r x) (sym none.0) (e ∙ ap (λ (q : Report). q.end) (rest_err core letter p es k g step_fault.NoParcel d lt none.1))
 
--- a run of which only the end is known
+-- a run about which only the end is known
 pub ran_as : (t : Bool) (r : Report) (s : Stop) → StopsAs r s → Ran t None None r (Err s)
 ran_as t r (stop.Fault fault) h = (h, tt)
 ran_as t r stop.Writer h = absurd h

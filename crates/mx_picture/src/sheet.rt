@@ -28,7 +28,8 @@ struct Trip {
 /// The number of rows after which the names of the nodes are repeated.
 const NAMED_ROWS: u64 = 50;
 
-/// The parts of a picture, each above those before it, and the state of the rows so far.
+/// The parts of a picture, each above those before it, and the state of the rows so far. Its calls
+/// return `AllocError` if memory runs out.
 #[derive(Drop)]
 pub(crate) struct Sheet {
     pub(crate) bars: String,

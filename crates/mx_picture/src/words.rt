@@ -36,7 +36,7 @@ fn picture_command<'a>(alloc: Global) -> Result<Command<'a>, AllocError>
     with_node.arg(flag_arg(alloc, "journals", help::JOURNALS))
 }
 
-/// Parses arguments, the first of which is `picture`.
+/// Parses a command line that starts with `picture`.
 ///
 /// # Errors
 ///

@@ -16,7 +16,7 @@ use mx_trees::Tree;
 pub enum Shape {
     /// Each node asks all others. The number of nodes.
     Ricart(Count),
-    /// Each node asks its arbiters. The arbiter sets, any two of which meet.
+    /// Each node asks its arbiters. The arbiter sets: any two sets meet.
     Maekawa(Quorums),
     /// The privilege moves along the edges of a tree. The tree, with the first holder.
     Raymond(Tree),

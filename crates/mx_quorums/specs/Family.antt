@@ -1,4 +1,4 @@
--- A family of arbiter sets, any two of which meet (Maekawa 1985).
+-- A family of arbiter sets: any two sets meet (Maekawa 1985).
 use Rattle.std.specs.Prelude.{ℕ, ◌<◌, ◌≤◌, ◌≡◌, Bool, true, false, List, [], slice_index_or}
 use Rattle.mx_stamps.specs.declared.limits.TheConstants.{MOST_NODES}
 

@@ -1,4 +1,4 @@
-//! Families of arbiter sets, any two of which meet (Maekawa 1985).
+//! Families of arbiter sets: any two sets meet (Maekawa 1985).
 #![tactic(auto)]
 
 mod check;

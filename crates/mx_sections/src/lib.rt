@@ -1,5 +1,6 @@
-//! Outcomes of events, items of a trace, and sections. It is proved for members and clusters, and
-//! serves the crates that print and judge traces; none of them has to wait for the cluster.
+//! Outcomes of events, items of a trace, and the definition of sections. Members and clusters are
+//! proved to follow it, and the crates that print and judge traces use it. None of them has to wait
+//! for the cluster.
 #![tactic(auto)]
 
 mod outcome;

@@ -17,7 +17,7 @@ pub data SlotState (P : Type 0) : Type 0 where
   filled : P → SlotState P
   taken : SlotState P
 
--- the place of one slot of a link between two of n nodes; the index says which of the four it is
+-- the place of one slot of a link between two of n nodes; the index is that among the four
 abbrev pub slot_at : ℕ → ℕ → ℕ → ℕ → ℕ
 slot_at n from to index = (from * n + to) * SLOTS + index
 

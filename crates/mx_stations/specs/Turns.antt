@@ -122,8 +122,8 @@ module _ {H S M : Type 0} (core : Core H S M) where
   PutsEach (x ∷ xs) s t = (m : Station core) × PutsOut s x m × PutsEach xs m t
 
   -- A parcel in hand is delivered. One is taken from each node that has one, and dealt with by its
-  -- fate. Each parcel that waits then is put out or stays. If none was in hand, none taken, and
-  -- none waits now, the clock ticks. The report counts just that.
+  -- fate. `put_out` is tried once for each parcel that waits then. If none was in hand, none taken,
+  -- and none waits now, the clock ticks. The report counts just that.
   pub record Turns (s : Station core) (report : TurnReport) (t : Station core) : Type 0 where
     pub had : Bool
     pub after_hand : Station core

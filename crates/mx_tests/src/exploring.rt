@@ -76,7 +76,7 @@ fn drawn_register(words: &mut Pcg32) -> u8 {
     below(words, 3) as u8
 }
 
-/// Draws an event of two arguments, the first of which is a node.
+/// Draws an event of two arguments. The first is a node.
 fn drawn_pair(words: &mut Pcg32, kind: u32) -> Event {
     let first = drawn_node(words);
     match kind {

@@ -14,7 +14,7 @@ fn is_own(record: &Record, number: u64) -> bool {
     record.is(&entry(number, &[(0, number)]))
 }
 
-/// Returns whether these are the records of these numbers, each of which writes its number.
+/// Returns whether these are the records of these numbers, and each writes its number.
 fn bear(records: &[Record], numbers: &[u64]) -> bool {
     for (record, number) in records.iter().zip(numbers) {
         if !is_own(record, *number) {
@@ -151,7 +151,7 @@ fn merge_and_missing(rt: HostRuntime) -> Result<(), Fail> {
     Ok(())
 }
 
-/// Returns the base of sections 1 to `upto`, the last of which wrote this value to register 0.
+/// Returns the base of sections 1 to `upto`. The last section wrote this value to register 0.
 fn base_of(upto: u64, value: u64) -> Option<Base> {
     let mut cells = [Cell {
         value: 0,
@@ -196,8 +196,7 @@ fn first_register(journal: &Journal) -> (Option<u64>, Option<u64>) {
     (shown.value(0), shown.written_by(0))
 }
 
-/// Returns whether a journal has settled 1 to 3, the last of which wrote 3, and has the record of 5
-/// too.
+/// Returns whether a journal has settled 1 to 3, section 3 wrote 3, and it has the record of 5 too.
 fn has_base(journal: &Journal) -> bool {
     match base_of(3, 3) {
         Some(base) => journal.base().is(&base) && is_of(journal, &[5]),

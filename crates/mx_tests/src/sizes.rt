@@ -9,7 +9,7 @@ use mx_stamps::NodeId;
 use std::alloc::{AllocError, Global};
 use std::test::Fail;
 
-/// Returns the records of numbers 1 to 5000, each of which wrote its number.
+/// Returns the records of numbers 1 to 5000. Each wrote its number.
 fn thousands(alloc: Global) -> Result<Vec<Record>, AllocError> {
     let mut list = Vec::new(alloc);
     for number in 1..=5000 {

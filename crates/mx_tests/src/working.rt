@@ -162,8 +162,8 @@ impl Gate for Open {
     }
 }
 
-/// A number of nodes, the first of which do nothing. Also whether the workers of the others may
-/// stop, how many turns they have, and how each of them ends.
+/// A number of nodes, and how many of the first do nothing. Also whether the workers of the others
+/// may stop, how many turns they have, and how each of them ends.
 #[derive(Clone, Copy)]
 struct Ending {
     nodes: u8,
