@@ -53,7 +53,7 @@ impl Job for Adder {
     }
 }
 
-/// A job for each node.
+/// Creates a job for each node.
 fn adders(alloc: Global, nodes: usize, sections: u64) -> Result<Vec<Adder>, AllocError> {
     let mut all = Vec::new(alloc);
     for _node in 0..nodes {
@@ -62,7 +62,7 @@ fn adders(alloc: Global, nodes: usize, sections: u64) -> Result<Vec<Adder>, Allo
     Ok(all)
 }
 
-/// Runs this many sections for each node. Returns how many there were.
+/// Runs this many sections for each node, and returns how many were run.
 fn ricart<R: Threads>(rt: &R, alloc: Global, nodes: u8, sections: u64) -> Result<usize> {
     let stations = stations::<Ricart>(alloc, &count_of(nodes)?, &SETTINGS)?;
     let links = fair_links(alloc, stations.len())?;
@@ -73,7 +73,7 @@ fn ricart<R: Threads>(rt: &R, alloc: Global, nodes: u8, sections: u64) -> Result
     }
 }
 
-/// The same by Maekawa's algorithm.
+/// Does the same by Maekawa's algorithm.
 fn maekawa<R: Threads>(rt: &R, alloc: Global, nodes: u8, sections: u64) -> Result<usize> {
     let stations = stations::<Maekawa>(alloc, &quorums_of(nodes)?, &SETTINGS)?;
     let links = fair_links(alloc, stations.len())?;
@@ -84,7 +84,7 @@ fn maekawa<R: Threads>(rt: &R, alloc: Global, nodes: u8, sections: u64) -> Resul
     }
 }
 
-/// The same by Raymond's algorithm.
+/// Does the same by Raymond's algorithm.
 fn raymond<R: Threads>(rt: &R, alloc: Global, nodes: u8, sections: u64) -> Result<usize> {
     let stations = stations::<Raymond>(alloc, &binary_tree(alloc, nodes)?, &SETTINGS)?;
     let links = fair_links(alloc, stations.len())?;
@@ -95,7 +95,7 @@ fn raymond<R: Threads>(rt: &R, alloc: Global, nodes: u8, sections: u64) -> Resul
     }
 }
 
-/// Runs this many sections for each node, by this algorithm. Returns how many there were.
+/// Runs this many sections for each node, by this algorithm, and returns how many were run.
 fn run_by<R: Threads + AllocGlobal>(
     rt: &R,
     algorithm: &str,
@@ -110,8 +110,8 @@ fn run_by<R: Threads + AllocGlobal>(
     }
 }
 
-/// Runs this many sections in all, the same number for each node, and prints how many there were
-/// and the microseconds that they took.
+/// Runs this many sections in all, the same number for each node. Prints how many were run and the
+/// microseconds that they took.
 pub(crate) fn time_jobs<R: Threads + Clock + Print + AllocGlobal>(
     rt: &R,
     algorithm: &str,

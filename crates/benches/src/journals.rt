@@ -1,5 +1,5 @@
 //! Times the journal against a plain `BTreeMap`: puts in order, in reverse and in a seeded shuffle,
-//! and merges of two halves; and puts in order into a journal that is settled now and then.
+//! and merges of two halves. Also times puts in order into a journal that is settled at intervals.
 
 use anyhow::{Result, bail};
 use mx_journal::{Journal, Record, Write};
@@ -11,7 +11,7 @@ use std::alloc::{AllocError, Global};
 use std::collections::BTreeMap;
 use std::time::Instant;
 
-/// The record of a section that wrote its number.
+/// Returns the record of a section that wrote its number.
 fn entry(number: u64) -> Record {
     let mut record = Record::default();
     record.number = number;
@@ -62,14 +62,14 @@ fn insert_each(alloc: Global, numbers: &[u64]) -> Result<usize> {
     Ok(map.len())
 }
 
-/// How many records were put into a journal, and in how many milliseconds.
+/// Puts records into a journal, and returns how many and in how many milliseconds.
 fn timed_puts(rt: &HostRuntime, numbers: &[u64]) -> Result<(usize, u128)> {
     let begun = Instant::now(rt)?;
     let put = put_each(rt.alloc(), numbers)?.len();
     Ok((put, begun.elapsed(rt)?.as_millis()))
 }
 
-/// How many were inserted into a map, and in how many milliseconds.
+/// Inserts records into a map, and returns how many and in how many milliseconds.
 fn timed_inserts(rt: &HostRuntime, numbers: &[u64]) -> Result<(usize, u128)> {
     let begun = Instant::now(rt)?;
     let len = insert_each(rt.alloc(), numbers)?;
@@ -83,7 +83,7 @@ fn time_puts(rt: &HostRuntime, name: &str, numbers: &[u64]) -> Result<()> {
     Ok(())
 }
 
-/// Merges the other's records into the journal, and tells whether they were, and in how many
+/// Merges the other's records into the journal, and prints whether it did, and in how many
 /// milliseconds.
 fn tell_merge(rt: &HostRuntime, name: &str, journal: &mut Journal, other: &Journal) -> Result<()> {
     let begun = Instant::now(rt)?;
@@ -100,7 +100,7 @@ fn time_merge(rt: &HostRuntime, name: &str, into: &[u64], from: &[u64]) -> Resul
     tell_merge(rt, name, &mut journal, &other)
 }
 
-/// Those of the numbers that are odd, or those that are even.
+/// Returns the odd ones of the numbers, or the even ones.
 fn of_parity(alloc: Global, numbers: &[u64], is_odd: bool) -> Result<Vec<u64>, AllocError> {
     let mut found = Vec::new(alloc);
     for number in numbers {
@@ -117,7 +117,7 @@ fn time_parities(rt: &HostRuntime, numbers: &[u64]) -> Result<()> {
     time_merge(rt, "odd into even numbers", even.as_slice(), odd.as_slice())
 }
 
-/// Odd numbers into even ones, and the greater half into the lesser.
+/// Merges odd numbers into even ones, and the greater half into the lesser.
 fn time_merges(rt: &HostRuntime, numbers: &[u64]) -> Result<()> {
     time_parities(rt, numbers)?;
     let (lesser, greater) = numbers.split_at(numbers.len() / 2);
@@ -140,12 +140,12 @@ pub(crate) fn time_journals(rt: &HostRuntime, records: u64, seed: u64) -> Result
     time_orders(rt, numbers.as_mut_slice(), seed)
 }
 
-/// Whether a journal of records 1 to `number` is to be settled now.
+/// Returns whether a journal of records 1 to `number` is to be settled now.
 fn is_due(number: u64, every: u64) -> bool {
     every > 0 && number % every == 0
 }
 
-/// Puts records in order, and settles all that are there after each `every` of them.
+/// Puts records in order, and settles all of them after each `every`.
 fn put_and_settle(alloc: Global, records: u64, every: u64) -> Result<Journal> {
     let mut journal = Journal::new(alloc);
     for last in 0..records {
@@ -160,7 +160,8 @@ fn put_and_settle(alloc: Global, records: u64, every: u64) -> Result<Journal> {
     Ok(journal)
 }
 
-/// Tells up to where a journal is settled, how many records it has above, and how long that took.
+/// Prints up to which number a journal is settled, how many records it has above that, and how long
+/// that took.
 fn tell_settled(rt: &HostRuntime, journal: &Journal, every: u64, begun: Instant) -> Result<()> {
     let took = begun.elapsed(rt)?.as_millis();
     let base = journal.base().upto();
@@ -171,8 +172,8 @@ fn tell_settled(rt: &HostRuntime, journal: &Journal, every: u64, begun: Instant)
     Ok(())
 }
 
-/// Times puts in order into a journal that is settled after each `every` of them, or never where
-/// that is 0.
+/// Times puts in order into a journal that is settled after each `every` of them, or never if that
+/// is 0.
 pub(crate) fn time_settling(rt: &HostRuntime, records: u64, every: u64) -> Result<()> {
     let begun = Instant::now(rt)?;
     let journal = put_and_settle(rt.alloc(), records, every)?;

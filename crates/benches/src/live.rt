@@ -1,5 +1,5 @@
-//! Times stations in threads, one for each node, over a network that loses nothing: how long they
-//! take to enter a given number of sections in all, and how many parcels that takes.
+//! Times stations in threads, one for each node, over a network that loses nothing. Measures how
+//! long they take to enter a given number of sections in all, and how many parcels that takes.
 
 use crate::meeting::Meeting;
 use crate::nodes::{AnyStation, sections_of};
@@ -21,7 +21,7 @@ fn total(numbers: &[u64]) -> u64 {
 }
 
 /// Runs the nodes, each for this many sections. Returns how many they entered, and how many parcels
-/// came.
+/// were delivered.
 fn run_nodes<R: Threads + Sync>(
     rt: &R,
     stations: Vec<AnyStation>,
@@ -37,8 +37,8 @@ fn run_nodes<R: Threads + Sync>(
     Ok((total(each.as_slice()), parcels.load(Ordering::SeqCst)))
 }
 
-/// Runs the nodes, each for this many sections, and prints how many they entered, how many parcels
-/// came, and the microseconds that they took.
+/// Runs the nodes, each for this many sections. Prints how many they entered, how many parcels were
+/// delivered, and the microseconds that they took.
 fn measure<R: Threads + Sync + Clock + Print>(
     rt: &R,
     stations: Vec<AnyStation>,

@@ -1,6 +1,6 @@
-//! What the benches of journals and of stations time. Usage: benches journals RECORDS SEED, benches
-//! settling RECORDS EVERY, benches stations ALGORITHM NODES SECTIONS, or benches jobs ALGORITHM
-//! NODES SECTIONS. Without words it says so.
+//! The benches of journals and of stations. Usage: benches journals RECORDS SEED, benches settling
+//! RECORDS EVERY, benches stations ALGORITHM NODES SECTIONS, or benches jobs ALGORITHM NODES
+//! SECTIONS. Without arguments it prints this usage.
 #![tactic(auto)]
 
 mod jobs;
@@ -21,7 +21,7 @@ use std::thread::Threads;
 const USAGE: &str =
     "usage: benches journals RECORDS SEED, benches settling RECORDS EVERY, or benches stations|jobs ALGORITHM NODES SECTIONS";
 
-/// Times what these words ask for of journals.
+/// Times journals, as these arguments say.
 fn time(rt: &HostRuntime, what: &str, first: &str, second: &str) -> Result<()> {
     match what {
         "journals" => time_journals(rt, first.parse()?, second.parse()?),
@@ -30,7 +30,7 @@ fn time(rt: &HostRuntime, what: &str, first: &str, second: &str) -> Result<()> {
     }
 }
 
-/// Times stations or jobs, of as many nodes and sections as these words say.
+/// Times stations or jobs, with the number of nodes and sections in these arguments.
 fn time_run<R: Threads + Sync + Clock + Print + AllocGlobal>(
     rt: &R,
     what: &str,

@@ -1,14 +1,14 @@
-//! The gate of a run: nobody begins before all are there, and nobody stops before all are done.
+//! The gate of a run: no node starts before all have arrived, and none stops before all are done.
 
 use mx_stamps::NodeId;
 use mx_stations::Gate;
 use std::sync::atomic::{AtomicU64, Ordering};
 use std::thread::yield_now;
 
-/// How often a node looks at the most whether all are there.
+/// How often at most a node checks whether all have arrived.
 const MOST_LOOKS: u64 = 100_000_000;
 
-/// Which nodes are there, and which are done: a bit for each.
+/// The nodes that have arrived, and those that are done: a bit for each.
 #[derive(Drop)]
 pub(crate) struct Meeting {
     nodes: u64,
@@ -16,7 +16,7 @@ pub(crate) struct Meeting {
     finished: AtomicU64,
 }
 
-/// How many nodes there are when this one is added to those that were noted.
+/// Adds this node to those that were noted, and returns how many there are.
 fn note(noted: &AtomicU64, node: NodeId) -> u64 {
     let bit = 1u64 << node.get();
     u64::from((noted.fetch_or(bit, Ordering::SeqCst) | bit).count_ones())

@@ -9,7 +9,7 @@ use mx_ricart::Ricart;
 use mx_stations::{Script, Station, Worked, work};
 use std::sync::atomic::{AtomicU64, Ordering};
 
-/// How many turns a node takes at the most.
+/// The greatest number of turns of a node.
 const MOST_TURNS: u64 = 1_000_000_000_000;
 
 /// A station that a thread can own, whichever its algorithm.
@@ -33,7 +33,8 @@ impl Fates for Counting<'_> {
     }
 }
 
-/// How many sections the node has entered, where it got all that it was to enter.
+/// Works at a station, and returns how many sections the node has entered, if it has entered all of
+/// them.
 fn worked<C: Exclusion>(
     station: Station<C>,
     meeting: &Meeting,
@@ -51,7 +52,7 @@ fn worked<C: Exclusion>(
     }
 }
 
-/// Does the work at a station of any kind.
+/// Works at a station of any algorithm.
 pub(crate) fn sections_of(
     station: AnyStation,
     meeting: &Meeting,

@@ -1,5 +1,5 @@
-//! The clusters that are measured: arbiters are all nodes, or those of a plane where there is one;
-//! the tree is binary.
+//! The clusters that are measured. Arbiters are all nodes, or those of a plane if there is one; the
+//! tree is binary.
 
 use crate::nodes::AnyStation;
 use anyhow::{Result, bail};
@@ -11,10 +11,10 @@ use mx_stations::Field;
 use mx_trees::Tree;
 use std::alloc::{AllocError, Global};
 
-/// The greatest number of sections that a cluster may have.
+/// The greatest number of sections in a cluster.
 pub(crate) const LIMIT: u64 = 1_000_000;
 
-/// How many nodes there are.
+/// Returns the count of this many nodes.
 pub(crate) fn count_of(nodes: u8) -> Result<Count> {
     match Count::of(nodes) {
         Some(count) => Ok(count),
@@ -31,7 +31,7 @@ fn ricart(alloc: Global, nodes: u8) -> Result<Vec<AnyStation>> {
     Ok(all)
 }
 
-/// The arbiters of a plane if there is one of this many nodes, else all nodes.
+/// Returns the arbiters of a plane if there is one of this many nodes, and otherwise all nodes.
 pub(crate) fn quorums_of(nodes: u8) -> Result<Quorums> {
     match Quorums::plane(nodes) {
         Ok(quorums) => Ok(quorums),
@@ -48,7 +48,7 @@ fn maekawa(alloc: Global, nodes: u8) -> Result<Vec<AnyStation>> {
     Ok(all)
 }
 
-/// The edges of a binary tree: node i hangs below node (i - 1) / 2.
+/// Returns the edges of a binary tree: the parent of node i is node (i - 1) / 2.
 fn binary_edges(alloc: Global, nodes: u8) -> Result<Vec<(u8, u8)>, AllocError> {
     let mut edges = Vec::new(alloc);
     for node in 1..nodes {
@@ -71,7 +71,7 @@ fn raymond(alloc: Global, nodes: u8) -> Result<Vec<AnyStation>> {
     Ok(all)
 }
 
-/// The stations of this many nodes.
+/// Creates the stations of this many nodes.
 pub(crate) fn stations_of(alloc: Global, algorithm: &str, nodes: u8) -> Result<Vec<AnyStation>> {
     match algorithm {
         "ricart" => ricart(alloc, nodes),

@@ -1,7 +1,7 @@
-//! A bank: five tellers, each a node in a thread of its own, move money between eight accounts,
-//! which are shared registers. Parcels get lost on their way, and some come twice. The first
-//! section, whoever's it is, pays in 800. No money is made or lost after it: that is a law of the
-//! registers, which each section is proved to keep, whatever the order of the sections.
+//! A bank: five tellers, each a node in a separate thread, move money between eight accounts, which
+//! are shared registers. The network loses some parcels and repeats others. The first section,
+//! whichever node has it, pays in 800. After that no money is made or lost: this is a law of the
+//! registers. Each section is proved to keep it, whatever the order of the sections.
 #![tactic(auto)]
 
 ghost use Rattle.std.specs.Prelude.{◌≡◌, ◌≢◌, ◌<◌, ◌+◌, ◌*◌, ◌^◌, IfOk, length, min, slice_index, sum};
@@ -25,10 +25,10 @@ const TELLERS: u8 = 5;
 
 const ACCOUNTS: u8 = 8;
 
-/// How many transfers each teller makes.
+/// The number of transfers of each teller.
 const TRANSFERS: u64 = 1000;
 
-/// How many of 256 parcels are lost, and how many come twice.
+/// The number of parcels out of 256 that are lost, and that come twice.
 const LOST: u16 = 16;
 
 const TWICE: u16 = 16;
@@ -46,7 +46,7 @@ const SETTINGS: Settings = Settings {
     registers: ACCOUNTS,
 };
 
-/// A teller moves money from one account to another, this many times.
+/// A teller, which moves money from one account to another, this many times.
 #[derive(Drop)]
 struct Teller {
     from: u8,
@@ -60,7 +60,7 @@ impl Job for Teller {
 
     ghost asks_for = { λ teller accounts. accounts ≡ teller.from ∷ teller.to ∷ [] };
 
-    // what all accounts have in all
+    // the sum of all accounts
     ghost holds = { λ sections accounts. sum accounts ≡ 800 * min sections 1 };
 
     fn asks(&self) -> Option<ArrayVec<u8, 8>> {
@@ -89,7 +89,8 @@ impl Job for Teller {
     }
 }
 
-/// What both accounts have after the section of this number, which finds these values in them.
+/// Returns the balances of both accounts after the section of this number, which reads these
+/// values.
 fn balances(number: u64, values: &[u64]) -> (u64, u64)
     ensures first { number ≡ 1 → result.0 + result.1 ≡ 800 }
     ensures later { number ≢ 1
@@ -104,14 +105,14 @@ fn balances(number: u64, values: &[u64]) -> (u64, u64)
     (from - amount, to + amount)
 }
 
-/// The value at this place, 0 if there is none.
+/// Returns the value at this place, or 0 if there is none.
 fn value_at(values: &[u64], place: usize) -> u64
     ensures { result ≡ slice_index values.now place }
 {
     values.get(place).copied().unwrap_or(0)
 }
 
-/// A teller for each node.
+/// Creates a teller for each node.
 fn tellers(alloc: Global) -> Result<Vec<Teller>, AllocError> {
     let mut all = Vec::new(alloc);
     for node in 0..TELLERS {
@@ -124,7 +125,7 @@ fn tellers(alloc: Global) -> Result<Vec<Teller>, AllocError> {
     Ok(all)
 }
 
-/// Links to each node that lose and repeat parcels, each by a seed of its own.
+/// Creates links to each node that lose and repeat parcels, each by another seed.
 fn links(alloc: Global) -> Result<Vec<Weather>, AllocError> {
     let mut all = Vec::new(alloc);
     for node in 0..TELLERS {
@@ -133,7 +134,7 @@ fn links(alloc: Global) -> Result<Vec<Weather>, AllocError> {
     Ok(all)
 }
 
-/// What all accounts have in all.
+/// Returns the sum of all accounts.
 fn audit(all: &Finished<Teller>) -> Result<u64>
     requires { sum (contents_of ACCOUNTS all.now.gathered.journal)
         ≡ 800 * min (length all.now.gathered.receipts.items) 1 }
@@ -146,7 +147,7 @@ fn audit(all: &Finished<Teller>) -> Result<u64>
     Ok(total(accounts.as_slice()))
 }
 
-/// The sum of these values.
+/// Returns the sum of these values.
 fn total(values: &[u64]) -> u64
     requires { sum values.now < 2 ^ 64 }
     ensures { result ≡ sum values.now }
@@ -154,7 +155,7 @@ fn total(values: &[u64]) -> u64
     values.iter().sum()
 }
 
-/// The bank by the algorithm of Ricart and Agrawala.
+/// Runs the bank by Ricart and Agrawala's algorithm.
 fn ricart<R: Threads>(rt: &R, alloc: Global) -> Result<u64>
     ensures { IfOk result (λ total. total ≡ 800) }
 {
@@ -168,7 +169,7 @@ fn ricart<R: Threads>(rt: &R, alloc: Global) -> Result<u64>
     }
 }
 
-/// By Maekawa's.
+/// Runs the bank by Maekawa's algorithm.
 fn maekawa<R: Threads>(rt: &R, alloc: Global) -> Result<u64>
     ensures { IfOk result (λ total. total ≡ 800) }
 {
@@ -180,7 +181,7 @@ fn maekawa<R: Threads>(rt: &R, alloc: Global) -> Result<u64>
     }
 }
 
-/// By Raymond's.
+/// Runs the bank by Raymond's algorithm.
 fn raymond<R: Threads>(rt: &R, alloc: Global) -> Result<u64>
     ensures { IfOk result (λ total. total ≡ 800) }
 {

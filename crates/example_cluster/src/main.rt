@@ -1,5 +1,5 @@
-//! Three nodes in one value, for one thread, by Raymond's algorithm. Each goes through one section,
-//! in which it adds 1 to a register. The caller is the network: here each parcel arrives once, in
+//! Three nodes in one value, for one thread, by Raymond's algorithm. Each enters one section, in
+//! which it adds 1 to a register. The caller is the network: here each parcel arrives once, in
 //! order.
 #![tactic(auto)]
 
@@ -8,7 +8,7 @@ use mx_network::{Cluster, Event, Outcome};
 use mx_raymond::{Raymond, Tree};
 use mx_stamps::NodeId;
 
-/// An event, then each parcel that it sent, and each that comes of these.
+/// Applies an event, then delivers each parcel that it sent, and each that follows from these.
 fn act(cluster: &mut Cluster<Raymond>, event: Event) -> Result<()> {
     let first = cluster.sent();
     cluster.advance(event)?;
@@ -20,7 +20,7 @@ fn act(cluster: &mut Cluster<Raymond>, event: Event) -> Result<()> {
     Ok(())
 }
 
-/// A node that is inside reads, and writes 1 more. What is refused is an outcome, and no `Err`.
+/// Reads and writes 1 more, at a node that is inside. A refusal is an outcome, not an `Err`.
 fn add_one(cluster: &mut Cluster<Raymond>, node: NodeId) -> Result<u64> {
     match cluster.step(Event::Read(node, 0))? {
         Outcome::Value(value) => {
@@ -31,7 +31,7 @@ fn add_one(cluster: &mut Cluster<Raymond>, node: NodeId) -> Result<u64> {
     }
 }
 
-/// A section of a node, which asks another for the records of those before.
+/// Runs a section of a node, which asks another for the records of those before.
 fn section(cluster: &mut Cluster<Raymond>, node: NodeId, other: NodeId) -> Result<u64> {
     act(cluster, Event::Ask(node))?;
     act(cluster, Event::Enter(node))?;

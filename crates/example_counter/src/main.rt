@@ -1,4 +1,4 @@
-//! Five nodes, each in a thread of its own, add to one register. Each job is a closure.
+//! Five nodes, each in a separate thread, add to one register. Each job is a closure.
 #![tactic(auto)]
 
 use anyhow::{Result, bail};

@@ -1,6 +1,5 @@
-//! Two replicas keep a journal each and were apart for a while. They tell one another what they
-//! lack, until both have all that either had, and show the registers. Then a third has another
-//! record.
+//! Two replicas have a journal each and were apart for a while. They send each other what they
+//! lack, until both have all records, and show the registers. Then a third has a different record.
 #![tactic(auto)]
 
 use anyhow::{Result, bail};
@@ -10,7 +9,7 @@ use mx_registers::view;
 use mx_stamps::NodeId;
 use std::alloc::Global;
 
-/// The record of the section of this number, in which register 0 was written.
+/// Returns the record of the section of this number, which wrote register 0.
 fn record(number: u64, value: u64) -> Record {
     let mut record = Record::default();
     record.number = number;
@@ -21,7 +20,7 @@ fn record(number: u64, value: u64) -> Record {
     record
 }
 
-/// A journal of these sections, each of which wrote ten times its number.
+/// Returns a journal of these sections. Each wrote ten times its number.
 fn journal_of(alloc: Global, numbers: &[u64]) -> Result<Journal> {
     let mut journal = Journal::new(alloc);
     for number in numbers {
@@ -43,7 +42,8 @@ fn tell(rt: &HostRuntime, name: &str, journal: &Journal) -> Result<()> {
     Ok(())
 }
 
-/// What a journal lacks up to a number travels as ranges, and at most four records come back.
+/// Requests the sections that a journal lacks up to a number, as ranges, and puts the records that
+/// come back, at most four at a time.
 fn catch_up(rt: &HostRuntime, journal: &mut Journal, other: &Journal, upto: u64) -> Result<()> {
     let wanted = missing(journal, upto);
     let sent = answer(other, wanted.as_slice());
@@ -52,7 +52,7 @@ fn catch_up(rt: &HostRuntime, journal: &mut Journal, other: &Journal, upto: u64)
     Ok(())
 }
 
-/// The left one catches up with the right one, which then merges it.
+/// Brings the left journal up to date with the right one, which then merges it.
 fn exchange(rt: &HostRuntime, left: &mut Journal, right: &mut Journal) -> Result<()> {
     tell(rt, "left", left)?;
     catch_up(rt, left, right, 7)?;
@@ -62,7 +62,7 @@ fn exchange(rt: &HostRuntime, left: &mut Journal, right: &mut Journal) -> Result
     tell(rt, "right", right)
 }
 
-/// A journal that has another record under a number that this one has is not merged.
+/// Shows that a journal with a different record of a number is not merged.
 fn refuse_forged(rt: &HostRuntime, journal: &mut Journal) -> Result<()> {
     let mut forged = Journal::new(rt.alloc());
     forged.put(record(2, 99))?;

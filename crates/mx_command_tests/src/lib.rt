@@ -1,5 +1,5 @@
-//! Tests of the commands, of what no contract says: that runs in threads come to their counts, what
-//! gates and turns that run out leave, and outputs that refuse.
+//! Tests of the commands, for what no contract says: runs in threads reach their counts, gates and
+//! exhausted turns end a run, and outputs refuse.
 
 #![tactic(auto)]
 

@@ -1,4 +1,4 @@
-//! `live`, from words to what it prints.
+//! `live`, from its arguments to its output.
 
 use mx_io::Table;
 use mx_live::live;
@@ -15,7 +15,7 @@ const MAEKAWA: &str =
 const RAYMOND: &str =
     "{\"algorithm\":\"raymond\",\"nodes\":[\"a\",\"b\",\"c\",\"d\",\"e\"],\"registers\":[\"count\"],\"sections\":100,\"edges\":[[\"a\",\"b\"],[\"b\",\"c\"],[\"c\",\"d\"],[\"d\",\"e\"]],\"holder\":\"a\"}";
 
-/// What a run left.
+/// The result of a run.
 #[derive(Drop)]
 struct Ran {
     status: u8,
@@ -55,7 +55,7 @@ fn live_counts_to_one_hundred(rt: HostRuntime) {
 const ALONE: &str =
     "{\"algorithm\":\"maekawa\",\"nodes\":[\"a\"],\"registers\":[\"count\"],\"sections\":1000,\"quorums\":{\"kind\":\"listed\",\"sets\":[[\"a\"]]}}";
 
-/// What a run of 100 sections of one node alone leaves.
+/// Runs 100 sections of a single node.
 fn run_alone<R: Threads + Clock>(rt: &R, alloc: Global, seed: &str, turns: &str) -> Ran {
     let words = [
         "live",
@@ -70,9 +70,9 @@ fn run_alone<R: Threads + Clock>(rt: &R, alloc: Global, seed: &str, turns: &str)
     run_words(rt, alloc, &words, ALONE)
 }
 
-/// One node alone sends letters to itself, and no other thread has a part in that: what its links
-/// lose and repeat, by their seed, decides how many turns it takes. They are those that
-/// `tests/alone.py` takes, a model of one station.
+/// Checks the turns of a single node, which sends letters to itself without another thread. The
+/// losses and repetitions of its links, by their seed, decide how many turns it takes. They are
+/// those of `tests/alone.py`, a model of one station.
 #[test]
 fn one_node_alone_takes_the_turns_of_its_seed(rt: HostRuntime) {
     for (seed, fewer, turns) in [

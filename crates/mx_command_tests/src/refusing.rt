@@ -32,7 +32,7 @@ impl Output for Narrow {
     }
 }
 
-/// Runs the words, and returns the status.
+/// Runs these arguments, and returns the exit status.
 fn run_words<R: Threads + Clock>(
     rt: &R,
     alloc: Global,

@@ -9,7 +9,7 @@ use std::alloc::Global;
 use std::test::Fail;
 use std::thread;
 
-/// The stations of this many nodes.
+/// Creates the stations of this many nodes.
 fn stations_of(alloc: Global, nodes: u8) -> Result<Vec<Station<Ricart>>, Fail> {
     let shape = Count::of(nodes).ok_or("count")?;
     Ok(Field::<Ricart>::stations(alloc, &shape, 0, 1000, 1)?)

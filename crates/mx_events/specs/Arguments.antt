@@ -1,4 +1,4 @@
--- What an event wants after its word, and what it has there.
+-- The arguments that an event requires after its word, and those that it has.
 use Rattle.std.specs.Prelude.{ℕ, ◌&&◌, Bool, true, false, List, [], ◌∷◌, Option, Some, None, option_map}
 use Rattle.std.specs.Option.{option_and_then}
 use Rattle.mx_events.specs.declared.argument.Argument.{Argument}
@@ -48,13 +48,13 @@ is_of Section (argument.Number number) = true
 is_of Parcel (argument.Number number) = true
 is_of _ _ = false
 
--- whether arguments are as many as the kinds, and each is of its kind
+-- whether there are equally many arguments and kinds, and each argument is of its kind
 abbrev pub are_of : List ArgumentKind → List Argument → Bool
 are_of [] [] = true
 are_of (kind ∷ kinds) (argument ∷ arguments) = is_of kind argument && are_of kinds arguments
 are_of _ _ = false
 
--- the node, the register or the number that an argument is
+-- the node, the register or the number in an argument
 abbrev pub node_in : Argument → Option ℕ
 node_in (argument.Node node) = Some node
 node_in _ = None

@@ -1,4 +1,4 @@
--- The words of events: the one table that readers and printed texts go by.
+-- The words of events: one table for all readers and printed texts.
 use Rattle.std.specs.Prelude.{ℕ, List, [], ◌∷◌, Option, Some, None, codes, if◌then◌else◌}
 use Rattle.std.specs.Str.{bytes_eq}
 use Rattle.mx_events.specs.declared.kind.EventKind.{EventKind}

@@ -7,7 +7,7 @@ ghost use Rattle.mx_events.specs.declared.argument.ArgumentKind.TheVariants as k
 
 use mx_stamps::NodeId;
 
-/// What an argument of an event is. `Value`, `Section` and `Parcel` are whole numbers of 64 bits.
+/// The kind of an event's argument. `Value`, `Section` and `Parcel` are `u64` numbers.
 #[derive(Clone, Copy, Debug, PartialEq, Eq)]
 pub enum ArgumentKind {
     Node,
@@ -23,11 +23,11 @@ pub enum Argument {
     Node(NodeId),
     /// A register, numbered from 0.
     Register(u8),
-    /// A value, the number of a section, or that of a parcel.
+    /// A value, or the number of a section or a parcel.
     Number(u64),
 }
 
-/// The number 0, with which the unused places of an array of arguments are filled.
+/// Returns the number 0, which fills the unused places of an array of arguments.
 impl Default for Argument {
     ghost use Rattle.std.specs.Prelude.{◌≡◌};
     ghost use Rattle.mx_events.specs.declared.argument.Argument.TheVariants.{Number};
@@ -40,7 +40,7 @@ impl Default for Argument {
 }
 
 impl Argument {
-    /// The node that it is.
+    /// Returns the node, or `None` if the argument is no node.
     pub fn node(&self) -> Option<NodeId>
         ensures value { result ≡ node_in self.now }
         ensures some { IsSome result ↔ IsTrue (is_of kind.Node self.now) }
@@ -52,7 +52,7 @@ impl Argument {
         }
     }
 
-    /// The register that it is.
+    /// Returns the register, or `None` if the argument is no register.
     pub fn register(&self) -> Option<u8>
         ensures value { result ≡ register_in self.now }
         ensures some { IsSome result ↔ IsTrue (is_of kind.Register self.now) }
@@ -64,7 +64,7 @@ impl Argument {
         }
     }
 
-    /// The number that it is.
+    /// Returns the number, or `None` if the argument is a node or a register.
     pub fn number(&self) -> Option<u64>
         ensures value { result ≡ number_in self.now }
         ensures some { IsSome result ↔ IsTrue (is_of kind.Value self.now) }

@@ -1,4 +1,4 @@
-//! What may happen in a cluster.
+//! The events of a cluster.
 
 ghost use Rattle.std.specs.Prelude.{◌≡◌, ◌↔◌, ◌∷◌, [], IfSome, IsSome, IsTrue, Some};
 ghost use Rattle.mx_events.specs.Arguments.{are_of, arguments_of, event_of, given};
@@ -9,34 +9,37 @@ use crate::kind::EventKind;
 use arrayvec::ArrayVec;
 use mx_stamps::NodeId;
 
-/// An event. Each is of one node; that of `Deliver` is the addressee of the parcel. Registers are
-/// numbered from 0.
+/// An event of one node; a `Deliver` is of the parcel's addressee. Registers are numbered from 0.
 #[derive(Clone, Copy, Debug, PartialEq, Eq)]
 pub enum Event {
+    /// The idle node asks for the section.
     Ask(NodeId),
+    /// The waiting node enters the section.
     Enter(NodeId),
     /// The node reads a register.
     Read(NodeId, u8),
     /// The node writes a value to a register.
     Write(NodeId, u8, u64),
+    /// The node leaves its section.
     Leave(NodeId),
-    /// The waiting node gives its request up.
+    /// The waiting node withdraws its request.
     Cancel(NodeId),
-    /// The node puts the registers after the sections up to this number in place of their records.
+    /// The node replaces the records of all sections up to this number by the register values after
+    /// them.
     Settle(NodeId, u64),
-    /// The node sends again what is outstanding.
+    /// The node sends its outstanding letters again.
     Tick(NodeId),
     /// The first node asks the second for the sections that it lacks.
     Want(NodeId, NodeId),
-    /// The parcel of this number, counted from 0 among all ever sent, reaches its addressee. The
-    /// network may deliver a parcel late, never, or several times.
+    /// The parcel of this number reaches its addressee. Parcels are numbered from 0, in the order
+    /// in which they were sent. The network may deliver a parcel late, never, or several times.
     Deliver(u64),
-    /// The node wakes up again, and begins its draft anew.
+    /// The node restarts from what it has stored, and starts its draft again.
     Restart(NodeId),
 }
 
 impl Event {
-    /// What it is, without its nodes, registers and numbers.
+    /// Returns the kind, without nodes, registers and numbers.
     pub fn kind(&self) -> EventKind
         ensures { result ≡ kind_of self.now }
     {
@@ -55,7 +58,7 @@ impl Event {
         }
     }
 
-    /// The node whose event it is. None for a delivery: that is the addressee of the parcel.
+    /// Returns the node of the event, or `None` for a delivery: that is of the parcel's addressee.
     pub fn node(&self) -> Option<NodeId>
         ensures { result ≡ node_of self.now }
     {
@@ -74,7 +77,7 @@ impl Event {
         }
     }
 
-    /// What stands after its word, in order.
+    /// Returns the arguments, in the order in which they follow the event's word.
     pub fn arguments(&self) -> ArrayVec<Argument, 3>
         ensures value { result.items ≡ given self.now }
         ensures fit { IsTrue (are_of (arguments_of (kind_of self.now)) result.items) }
@@ -99,8 +102,8 @@ impl Event {
         arguments
     }
 
-    /// The event of a kind with these arguments. None if their number or a kind of them is not what
-    /// the kind of event wants.
+    /// Returns the event of a kind with these arguments. Returns `None` if their number, or the
+    /// kind of one of them, is not the one that the kind of event requires.
     pub fn of(kind: EventKind, arguments: &[Argument]) -> Option<Event>
         ensures value { result ≡ event_of kind arguments.now }
         ensures some { IsSome result ↔ IsTrue (are_of (arguments_of kind) arguments.now) }

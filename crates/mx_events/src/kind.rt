@@ -6,7 +6,7 @@ ghost use Rattle.mx_events.specs.Words.{kind_named, word_of};
 
 use crate::argument::ArgumentKind;
 
-/// What an event is, without its nodes, registers and numbers.
+/// The kind of an event, without its nodes, registers and numbers.
 #[derive(Clone, Copy, Debug, PartialEq, Eq)]
 pub enum EventKind {
     Ask,
@@ -38,7 +38,7 @@ pub const EVENT_KINDS: [EventKind; 11] = [
 ];
 
 impl EventKind {
-    /// The word by which files, scripts and printed lines name it.
+    /// Returns the word that files, scripts and printed lines use for it.
     pub fn word(self) -> &'static str
         ensures { result.now ≡ word_of self }
     {
@@ -57,7 +57,7 @@ impl EventKind {
         }
     }
 
-    /// The kind that has this word; none for any other.
+    /// Returns the kind that this word names, or `None` if it names none.
     pub fn of_word(word: &str) -> Option<EventKind>
         ensures { result ≡ kind_named word.now }
     {
@@ -69,7 +69,7 @@ impl EventKind {
         None
     }
 
-    /// What its events want after the word, in order: 1 to 3 arguments.
+    /// Returns the kinds of the arguments that follow the word, in order: 1 to 3.
     pub fn arguments(self) -> &'static [ArgumentKind]
         ensures value { result.now ≡ arguments_of self }
         ensures few { length result.now ≤ 3 }

@@ -1,4 +1,4 @@
-//! What may happen in a cluster, for those who make a list of it and those who let it happen.
+//! The events of a cluster, shared by the crates that list them and those that apply them.
 #![tactic(auto)]
 
 mod argument;

@@ -1,9 +1,9 @@
--- What was read of a reader.
+-- What was read from a reader.
 use Rattle.std.proofs.Common.{◌≡◌, ◌∙◌, ◌≤◌, ◌+◌, ℕ, List, Option, Some, None, IfSome, ap, arith, length, min, take}
 use Rattle.std.specs.Prelude.{option_map}
 use Rattle.std.proofs.lemmas.List.{length-take, take_all}
 
--- what is shorter than the limit up to which it was read is all that was there
+-- a reader that was read up to a limit, and gave less, was read whole
 pub none_cut : (known : Option (List ℕ)) (read : List ℕ) (limit most : ℕ) → limit ≡ most + 1 → length read ≤ most
     → IfSome (option_map (take limit) known) (λ bytes. read ≡ bytes) → IfSome known (λ all. read ≡ all)
 none_cut None read limit most is short h = tt

@@ -1,5 +1,5 @@
--- Told: what a source of named bytes tells, and which names it was asked for. Outputs: what outputs
--- hold, and whether they refuse. Given: the status where the process has no words.
+-- Told: the contents of a source of named bytes, and the names that were read. Outputs: what
+-- outputs hold, and whether they refuse. Given: the exit status if the arguments could not be read.
 pub mod Told
 pub mod Outputs
 pub mod Given

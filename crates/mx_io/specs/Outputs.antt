@@ -3,7 +3,7 @@ use Rattle.std.specs.Prelude.{ℕ, List, Bool, true, Option, Result, Ok, Err}
 use Rattle.mx_io.specs.declared.output.OutputFault.{OutputFault}
 use Rattle.mx_io.specs.declared.output.OutputFault.TheVariants as output_fault
 
--- what an output holds, where that is known
+-- what an output holds, if that is known
 abbrev pub Held : Type 0
 Held = Option (List ℕ)
 

@@ -1,4 +1,4 @@
--- What a source tells of a name, and which names it was asked for.
+-- What a source holds under a name, and which names were read.
 use Rattle.std.specs.Prelude.{◌≡◌, ℕ, List, [], ◌∷◌, ◌++◌, Option, Some, None, ⊤, Result, Ok, Err, Vec, map, if◌then◌else◌}
 use Rattle.std.specs.Borrow.{Bor}
 use Rattle.std.specs.Str.{bytes_eq}
@@ -6,11 +6,11 @@ use Rattle.std.specs.declared.alloc.Global.{Global}
 use Rattle.mx_io.specs.declared.source.SourceFault.{SourceFault}
 use Rattle.mx_io.specs.declared.source.SourceFault.TheVariants.{Memory}
 
--- that it can't be read, or the bytes that it holds
+-- the bytes of a name, or that it cannot be read
 abbrev pub Telling : Type 0
 Telling = Option (List ℕ)
 
--- the answer is what the source tells, or that memory ran out
+-- the result is what the source holds, or that memory ran out
 abbrev pub Tells : Telling → Result (Vec ℕ Global) SourceFault → Type 0
 Tells (Some bytes) (Ok v) = v.items ≡ bytes
 Tells (Some bytes) (Err fault) = fault ≡ Memory
@@ -22,11 +22,11 @@ abbrev pub bytes_of : List (List ℕ × List ℕ) → List ℕ → Telling
 bytes_of [] name = None
 bytes_of (e ∷ es) name = if bytes_eq e.0 name then Some e.1 else bytes_of es name
 
--- the entries behind the references
+-- the entries that the references point to
 abbrev pub entries_of : List (Bor (List ℕ) × Bor (List ℕ)) → List (List ℕ × List ℕ)
 entries_of = map (λ e. (e.0.now, e.1.now))
 
--- these names were asked for, in this order, where the names that were asked for are known
+-- these names were read, in this order, if the names that were read are known
 abbrev pub Asks : Option (List (List ℕ)) → Option (List (List ℕ)) → List (List ℕ) → Type 0
 Asks None new names = ⊤
 Asks (Some old) None names = ⊥

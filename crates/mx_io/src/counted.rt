@@ -1,16 +1,16 @@
-//! A reader that gives up.
+//! A reader that stops after a fixed number of reads.
 
 ghost use Rattle.std.specs.Prelude.{◌≡◌};
 
 use std::io;
 use std::io::{ErrorKind, Read};
 
-/// How many reads are made of a file, or of standard input: one may give a single byte, or be
-/// interrupted and give none.
+/// The greatest number of reads from a file or from standard input. A read may return a single
+/// byte, or none if a signal interrupts it.
 const MOST_READS: u64 = 268_435_456;
 
-/// A reader of which a given number of reads are made at most. Those that a signal interrupts count
-/// too, so that whatever comes from outside, reading ends.
+/// A reader that allows a limited number of reads. Reads that a signal interrupts count too, so
+/// reading ends for every input.
 #[derive(Drop)]
 pub struct Counted<R: Read + Drop> {
     inner: R,
@@ -18,7 +18,7 @@ pub struct Counted<R: Read + Drop> {
 }
 
 impl<R: Read + Drop> Counted<R> {
-    /// A reader that gives up after 268,435,456 reads.
+    /// Wraps a reader and allows 268,435,456 reads of it.
     pub fn new(inner: R) -> Self
         ensures { result.inner ≡ inner }
     {

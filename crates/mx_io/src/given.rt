@@ -1,4 +1,4 @@
-//! The words of the process, and the status with which it ends.
+//! The arguments of the process, and its exit status.
 
 ghost use Rattle.std.specs.Prelude.{◌≡◌, IfOk, IfErr, map, string_bytes};
 ghost use Rattle.std.specs.IoError.{error_kind};
@@ -11,14 +11,21 @@ use std::io::{ErrorKind, Write};
 use std::rt::Env;
 use std::{env, io};
 
-/// The words of the command line, without the program's name. An `Err` means that memory ran out,
-/// or that a word is not UTF-8.
+/// Returns the arguments of the command line, without the program's name.
+///
+/// # Errors
+///
+/// Returns an error if memory runs out, or if an argument is not valid UTF-8.
 pub fn given_words<R: Env + AllocGlobal>(rt: &R) -> io::Result<Vec<String>> {
     let words = env::args(rt)?.skip(1).collect(rt.alloc())?;
     Ok(words)
 }
 
-/// The words, borrowed.
+/// Borrows the arguments as string slices.
+///
+/// # Errors
+///
+/// Returns `AllocError` if memory runs out.
 pub fn as_slices<'a>(alloc: Global, given: &'a [String]) -> Result<Vec<&'a str>, AllocError>
     ensures { IfOk result (λ words. map (λ word. word.now) words.items ≡ map string_bytes given.now) }
 {
@@ -29,8 +36,8 @@ pub fn as_slices<'a>(alloc: Global, given: &'a [String]) -> Result<Vec<&'a str>,
     Ok(words)
 }
 
-/// The status of a command; where its words could not be had, standard error is told why, and the
-/// status is 5 for want of memory, else 2.
+/// Returns the exit status of a command. If the arguments could not be read, reports the reason on
+/// standard error; the status is 5 if memory ran out, and 2 otherwise.
 pub fn status_of<E: Write + Drop>(ended: io::Result<u8>, err: E) -> u8
     ensures ok { IfOk ended (λ status. result ≡ status) }
     ensures err { IfErr ended (λ e. result ≡ status_without_words (error_kind e)) }

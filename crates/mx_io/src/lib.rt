@@ -1,5 +1,4 @@
-//! Where the commands take named bytes from and where their texts go; and the words, the files and
-//! the streams of the process, as the programs take them.
+//! The sources and outputs of the commands, and the arguments, files and streams of the process.
 #![tactic(auto)]
 
 mod counted;

@@ -1,4 +1,4 @@
-//! Where texts go.
+//! The outputs of texts.
 
 ghost use Rattle.std.specs.Prelude.{◌≡◌, ℕ, List, Bool, Option, Some, None, true, false, IfErr, OnOk, OnErr};
 ghost use Rattle.std.specs.Io.KnownBytes.{Appends, Keeps};
@@ -6,9 +6,10 @@ ghost use Rattle.mx_io.specs.Outputs.{refused_by};
 
 use std::alloc::{AllocError, Global};
 
-/// Why an output did not take a text.
+/// Why an output refuses a text.
 #[derive(Clone, Copy, Debug, PartialEq, Eq)]
 pub enum OutputFault {
+    /// The output does not take the text.
     Refused,
     /// Memory ran out.
     Memory,
@@ -25,21 +26,25 @@ impl From<AllocError> for OutputFault {
     }
 }
 
-/// Where texts go.
+/// An output of texts.
 pub trait Output {
-    // The bytes that it holds, where they are known.
+    // the bytes that it holds, if they are known
     ghost written: { Self → Option (List ℕ) } = { λ _. None };
 
-    // It takes all bytes, memory apart.
+    // whether it takes all bytes, unless memory runs out
     ghost takes_all: { Self → Bool } = { λ _. false };
 
-    // It has refused something, or nothing is known of that.
+    // whether it has refused something, or nothing is known of that
     ghost has_refused: { Self → Bool } = { λ _. true };
 
-    // It keeps bytes back that it has taken.
+    // whether it has taken bytes that it has not passed on yet
     ghost keeps_back: { Self → Bool } = { λ _. false };
 
-    /// Takes a text whole, or nothing of it.
+    /// Writes a text: all of it, or nothing.
+    ///
+    /// # Errors
+    ///
+    /// Returns `Refused` if the output does not take the text, and `Memory` if memory runs out.
     fn put(&mut self, text: &[u8]) -> Result<(), OutputFault>
         ensures ok { OnOk result (Appends (written self.old) (written self.new) text.now) }
         ensures err { OnErr result (Keeps (written self.old) (written self.new)) }
@@ -48,7 +53,11 @@ pub trait Output {
             takes_all self.old ≡ true → fault ≡ OutputFault.Memory) }
         ensures stays { takes_all self.new ≡ takes_all self.old };
 
-    /// Passes on what it still keeps back.
+    /// Passes on all bytes that it has taken.
+    ///
+    /// # Errors
+    ///
+    /// Returns `Refused` if the output does not take them, and `Memory` if memory runs out.
     fn flush(&mut self) -> Result<(), OutputFault>
         ensures same { Keeps (written self.old) (written self.new) }
         ensures passed { OnOk result (keeps_back self.new ≡ false) }

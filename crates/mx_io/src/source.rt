@@ -1,35 +1,40 @@
-//! Where named bytes come from.
+//! Sources of named bytes.
 
 ghost use Rattle.std.specs.Prelude.{◌≡◌, ℕ, List, [], ◌∷◌, Option, Some, None, IfSome};
 ghost use Rattle.mx_io.specs.Told.{Asks, Telling, Tells, bytes_of, entries_of};
 
 use std::alloc::{AllocError, Global};
 
-/// Why a source gives no bytes.
+/// Why a source returns no bytes.
 #[derive(Clone, Copy, Debug)]
 pub enum SourceFault {
-    /// There is nothing of this name, or it can't be read.
+    /// No such name exists, or it cannot be read.
     Unreadable,
     /// Memory ran out.
     Memory,
 }
 
-/// Named bytes.
+/// A source of named bytes.
 pub trait Source {
-    // What is told of a name: nothing, or that it can't be read, or its bytes.
+    // what it holds under a name, if that is known: its bytes, or that it cannot be read
     ghost told: { Self → List ℕ → Option Telling } = { λ _ _. None };
 
-    // The names that were asked for, the last at the end, where they are known.
+    // the names that were read, in order, if they are known
     ghost asked: { Self → Option (List (List ℕ)) } = { λ _. None };
 
-    /// The bytes of a name. `-` is standard input.
+    /// Returns the bytes of a name. The name `-` is standard input.
+    ///
+    /// # Errors
+    ///
+    /// Returns `Unreadable` if the name does not exist or cannot be read, and `Memory` if memory
+    /// runs out.
     fn bytes(&mut self, alloc: Global, name: &str) -> Result<Vec<u8>, SourceFault>
         ensures tells { IfSome (told self.old name.now) (λ telling. Tells telling result) }
         ensures asks { Asks (asked self.old) (asked self.new) (name.now ∷ []) }
         ensures stays { told self.new ≡ told self.old };
 }
 
-/// Named bytes in memory. The first entry of a name counts.
+/// Named bytes in memory. If two entries have the same name, the first counts.
 #[derive(Clone, Copy)]
 pub struct Table<'a> {
     pub entries: &'a [(&'a str, &'a [u8])],

@@ -4,7 +4,7 @@ use crate::output::{Output, OutputFault};
 use std::io;
 use std::io::{ErrorKind, Write};
 
-/// A writer outside, of which nothing is known.
+/// A writer about which nothing is known.
 #[derive(Drop)]
 pub struct Stream<W: Write + Drop>(pub W);
 

@@ -9,18 +9,20 @@ use std::io::{ErrorKind, Read};
 use std::rt::Files;
 use std::{fs, io};
 
-/// A longer file, or a longer standard input, can't be read.
+/// The greatest length, in bytes, of a file or of standard input.
 pub const MOST_BYTES: u64 = 268_435_456;
 
-/// Why a name gives no bytes.
+/// Why a name cannot be read.
 #[derive(Clone, Copy)]
 pub enum Refusal {
+    /// It cannot be read, for this reason.
     Because(&'static str),
+    /// Memory ran out.
     Memory,
 }
 
 impl Refusal {
-    /// The fault of a source, which has no reason.
+    /// Returns the fault of a source, which has no reason.
     pub fn fault(self) -> SourceFault {
         match self {
             Refusal::Because(_) => SourceFault::Unreadable,
@@ -44,7 +46,11 @@ impl<R: Files + Input> Source for Streams<'_, R> {
     }
 }
 
-/// The bytes of a file, or of standard input.
+/// Reads a file, or standard input if the name is `-`.
+///
+/// # Errors
+///
+/// Returns `Because` with the reason if it cannot be read, and `Memory` if memory runs out.
 pub fn read_name<R: Files + Input>(rt: &R, alloc: Global, name: &str) -> Result<Vec<u8>, Refusal> {
     if name == "-" {
         return read_all(alloc, rt.reader());
@@ -55,7 +61,11 @@ pub fn read_name<R: Files + Input>(rt: &R, alloc: Global, name: &str) -> Result<
     }
 }
 
-/// All bytes of a reader. One that has more than 268,435,456 is refused, and none is cut.
+/// Reads all bytes of a reader. More than 268,435,456 are refused, never cut off.
+///
+/// # Errors
+///
+/// Returns `Because` if reading fails or there are more bytes, and `Memory` if memory runs out.
 fn read_all<R: Read + Drop>(alloc: Global, reader: R) -> Result<Vec<u8>, Refusal>
     ensures all { IfOk result (λ bytes. IfSome (R.remaining reader) (λ all. bytes.items ≡ all)) }
     ensures within { IfOk result (λ bytes. length bytes.items ≤ MOST_BYTES) }

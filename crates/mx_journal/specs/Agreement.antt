@@ -1,4 +1,4 @@
--- Agreement of records: no two records that differ bear the same number.
+-- Agreement of records: records of the same number are equal.
 use Rattle.std.specs.Prelude.{ℕ, ◌≡◌, ◌≢◌, ◌<◌, List, Option, Some, None}
 use Rattle.mx_stamps.specs.Lists.{IsIn}
 use Rattle.mx_journal.specs.declared.records.Record.{Record}
@@ -8,19 +8,19 @@ abbrev pub IsOther : Record → Option Record → Type 0
 IsOther r None = ⊥
 IsOther r (Some x) = x ≢ r
 
--- each record of xs that bears r's number is r
+-- each record of xs with r's number is r
 abbrev pub AgreesWith : Record → List Record → Type 0
 AgreesWith r xs = (x : Record) → IsIn x xs → x.number ≡ r.number → x ≡ r
 
--- some record of xs bears r's number and is another
+-- some record of xs with r's number differs from r
 abbrev pub IsOpposed : Record → List Record → Type 0
 IsOpposed r xs = (x : Record) × IsIn x xs × (x.number ≡ r.number) × (x ≢ r)
 
--- a record of xs and one of ys that bear the same number are equal
+-- records of xs and of ys with the same number are equal
 abbrev pub AreAgreeing : List Record → List Record → Type 0
 AreAgreeing xs ys = (x y : Record) → IsIn x xs → IsIn y ys → x.number ≡ y.number → x ≡ y
 
--- records of the list that bear the same number are equal
+-- records of the list with the same number are equal
 abbrev pub IsConsistent : List Record → Type 0
 IsConsistent xs = AreAgreeing xs xs
 
@@ -28,16 +28,16 @@ IsConsistent xs = AreAgreeing xs xs
 abbrev pub IsSubmap : List Record → List Record → Type 0
 IsSubmap xs ys = (x : Record) → IsIn x xs → IsIn x ys
 
--- two records of the list that differ bear the number n
+-- two records of the list with the number n differ
 abbrev pub IsConflict : ℕ → List Record → Type 0
 IsConflict n xs =
     (x : Record) × (y : Record) × IsIn x xs × IsIn y xs × (x.number ≡ n) × (y.number ≡ n) × (x ≢ y)
 
--- records of the list that bear the same number below n are equal
+-- records of the list with the same number below n are equal
 abbrev pub AreAgreeingBelow : ℕ → List Record → Type 0
 AreAgreeingBelow n xs =
     (x y : Record) → IsIn x xs → IsIn y xs → x.number ≡ y.number → x.number < n → x ≡ y
 
--- n is the least number that two records of the list bear that differ
+-- n is the least number of two records of the list that differ
 abbrev pub IsFirstConflict : ℕ → List Record → Type 0
 IsFirstConflict n xs = IsConflict n xs × AreAgreeingBelow n xs

@@ -1,4 +1,5 @@
--- Bases: what the registers hold after the first sections, in place of the records of these.
+-- Bases: the contents of the registers after the first sections, which replace the records of
+-- these.
 use Rattle.std.specs.Prelude.{ℕ, ◌≡◌, ◌≢◌, ◌≤◌, ◌⊎◌, List, [], ◌∷◌, Option, Some, None, get_or, replicate}
 use Rattle.mx_stamps.specs.declared.limits.TheConstants.{MOST_REGISTERS}
 use Rattle.mx_stamps.specs.Lists.{IsIn, each_below}
@@ -23,11 +24,11 @@ origin = record { upto = 0; cells = replicate MOST_REGISTERS unwritten }
 abbrev pub IsCellOf : ℕ → Cell → Type 0
 IsCellOf k cell = (cell.number ≤ k) × ((1 ≤ cell.number) ⊎ (cell.value ≡ 0))
 
--- each of the cells is of the sections 1 to k
+-- this holds for each of the cells
 abbrev pub AreCellsOf : ℕ → List Cell → Type 0
 AreCellsOf k cells = (cell : Cell) → IsIn cell cells → IsCellOf k cell
 
--- a register after section n, which writes this value to it last, if it writes it at all
+-- a register after section n, whose last write to it has this value, if there is one
 abbrev pub after_section : ℕ → Option ℕ → Cell → Cell
 after_section n None cell = cell
 after_section n (Some value) cell = record { value = value; number = n }

@@ -6,12 +6,12 @@ use Rattle.mx_journal.specs.declared.records.Record.{Record}
 use Rattle.mx_journal.specs.declared.receipts.Read.{Read}
 use Rattle.mx_journal.specs.declared.receipts.Receipt.{Receipt}
 
--- what a section has read and written so far, each in order
+-- the reads and writes of a section so far, each in order
 pub record Drafted : Type 0 where
   pub reads : List Read
   pub writes : List Write
 
--- a draft in which nothing was read or written yet
+-- a draft with no read and no write
 abbrev pub fresh : Drafted
 fresh = record { reads = []; writes = [] }
 

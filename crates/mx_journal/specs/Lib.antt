@@ -1,7 +1,7 @@
--- Records: journals as maps. Gapless: journals without gaps. Agreement: records of one number.
--- Drafted: drafts, and the receipts and records that close them. Bases, Written: registers in place
--- of records. Settled: journals with a base. Runs: how a journal is kept. Searches: what searches
--- return.
+-- Records: journals as maps. Gapless: journals without gaps. Agreement: records of the same number.
+-- Drafted: drafts, and the receipts and records that close them. Bases, Written: registers that
+-- replace records. Settled: journals with a base. Runs: the records of a journal as runs. Searches:
+-- the results of searches.
 pub mod Records
 pub mod Gapless
 pub mod Agreement

@@ -9,12 +9,12 @@ abbrev pub Ascending : ℕ → List Record → Type 0
 Ascending least [] = Unit {0}
 Ascending least (x ∷ xs) = (least ≤ x.number) × Ascending (suc x.number) xs
 
--- the record that bears n
+-- the record with the number n
 abbrev pub record_at : ℕ → List Record → Option Record
 record_at n [] = None
 record_at n (x ∷ xs) = if nat_eq x.number n then Some x else record_at n xs
 
--- some record bears n
+-- some record has the number n
 abbrev pub IsThere : ℕ → List Record → Type 0
 IsThere n xs = (x : Record) × IsIn x xs × (x.number ≡ n)
 
@@ -22,19 +22,19 @@ IsThere n xs = (x : Record) × IsIn x xs × (x.number ≡ n)
 abbrev pub IsNumbered : List Record → Type 0
 IsNumbered xs = (x : Record) → IsIn x xs → 1 ≤ x.number
 
--- the map with this record too. Where its number is there already, nothing changes
+-- the map with this record too. Nothing changes if its number is there already
 abbrev pub with_record : Record → List Record → List Record
 with_record r [] = r ∷ []
 with_record r (x ∷ xs) =
     if nat_lt r.number x.number then r ∷ x ∷ xs
     else (if nat_lt x.number r.number then x ∷ with_record r xs else x ∷ xs)
 
--- the map with these records too; of several that bear the same number the first counts
+-- the map with these records too; if several have the same number, the first counts
 abbrev pub with_records : List Record → List Record → List Record
 with_records [] journal = journal
 with_records (r ∷ rs) journal = with_records rs (with_record r journal)
 
--- some record of the list bears a number that none of the journal bears
+-- some record of the list has a number that no record of the journal has
 abbrev pub BringsNew : List Record → List Record → Type 0
 BringsNew list journal = (x : Record) × IsIn x list × (record_at x.number journal ≡ None)
 
@@ -52,6 +52,6 @@ above n (x ∷ xs) = if nat_lt n x.number then x ∷ xs else above n xs
 abbrev pub in_range : Range → List Record → List Record
 in_range range xs = filter (λ x. nat_le range.first x.number && nat_le x.number range.last) xs
 
--- the greatest number, 0 without records
+-- the greatest number, or 0 without records
 abbrev pub top_of : List Record → ℕ
 top_of xs = greatest (λ x. x.number) xs

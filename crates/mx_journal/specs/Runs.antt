@@ -1,5 +1,5 @@
--- A journal is kept as runs: lists of records with consecutive numbers, between which numbers are
--- missing.
+-- The records of a journal as runs: lists of records with consecutive numbers, with missing numbers
+-- between the runs.
 use Rattle.std.specs.Prelude.{ℕ, suc, ◌+◌, ◌-◌, ◌≡◌, ◌≤◌, ◌<◌, ◌⊎◌, List, [], ◌∷◌, ◌++◌, None, length, get_or, slice_set, nat_eq, nat_le, if◌then◌else◌}
 use Rattle.std.specs.List.{remove}
 use Rattle.mx_stamps.specs.Lists.{IsIn}
@@ -17,19 +17,19 @@ abbrev pub AreConsecutive : ℕ → List Record → Type 0
 AreConsecutive n [] = Unit {0}
 AreConsecutive n (x ∷ xs) = (x.number ≡ n) × AreConsecutive (suc n) xs
 
--- the number of the first record, 0 without records
+-- the number of the first record, or 0 without records
 abbrev pub first_number : List Record → ℕ
 first_number [] = 0
 first_number (x ∷ xs) = x.number
 
--- the number of the last record, 0 without records
+-- the number of the last record, or 0 without records
 abbrev pub last_number : List Record → ℕ
 last_number [] = 0
 last_number (x ∷ []) = x.number
 last_number (x ∷ y ∷ ys) = last_number (y ∷ ys)
 
--- each run has a record, and its numbers are consecutive; the first number is at least `least`;
--- behind each run at least one number is missing before the next
+-- each run has a record, and its numbers are consecutive; the first number is at least `least`; at
+-- least one number is missing between a run and the next
 abbrev pub AreRuns : ℕ → List (List Record) → Type 0
 AreRuns least [] = Unit {0}
 AreRuns least ([] ∷ runs) = ⊥
@@ -45,11 +45,11 @@ runs_up_to n (run ∷ runs) = if nat_le (last_number run) n then suc (runs_up_to
 abbrev pub TouchesBelow : ℕ → ℕ → List (List Record) → Type 0
 TouchesBelow n i runs = (1 ≤ i) × (last_number (get_or runs (i - 1) []) + 1 ≡ n)
 
--- the run at place i begins right above n
+-- the run at place i starts right above n
 abbrev pub TouchesAbove : ℕ → ℕ → List (List Record) → Type 0
 TouchesAbove n i runs = (i < length runs) × (first_number (get_or runs i []) ≡ n + 1)
 
--- the runs with one in place of the two before and at place i
+-- the runs with this one instead of the two before and at place i
 abbrev pub with_joined : ℕ → List Record → List (List Record) → List (List Record)
 with_joined i run runs = remove (slice_set (slice_set runs i []) (i - 1) run) i
 
@@ -70,39 +70,38 @@ pub record IsJoinedUpTo (from to : ℕ) (xs ys joined : List Record) : Type 0 wh
       → (IsIn x xs ⊎ IsIn x ys) × (from < x.number) × (x.number ≤ to)
   pub all : (x : Record) → IsIn x xs ⊎ IsIn x ys → from < x.number → x.number ≤ to → IsIn x joined
 
--- the runs can take in those records of the others that are numbered above `from`, as all of ours
--- are
+-- the runs can take those records of the others that are numbered above `from`; all records here
+-- are above `from`
 pub record CanJoin (from : ℕ) (other runs : List (List Record)) : Type 0 where
   pub ours : AreRuns 1 runs
   pub theirs : AreRuns 1 other
   pub agreeing : AreAgreeing (flatten runs) (flatten other)
   pub behind : Ascending (suc from) (flatten runs)
 
--- the new runs are those of the old records and of the others above `from`, of which k were new
+-- the new runs are those of the old records and of the others above `from`, and k of these were new
 pub record AreJoined (from : ℕ) (other old new : List (List Record)) (k : ℕ) : Type 0 where
   pub records : flatten new ≡ with_records (above from (flatten other)) (flatten old)
   pub runs : AreRuns 1 new
   pub count : length (flatten new) ≡ length (flatten old) + k
 
--- each record of the list bears a number that some record of xs or of ys bears
+-- each record of the list has the number of some record of xs or of ys
 abbrev pub AreNumbersOf : List Record → List Record → List Record → Type 0
 AreNumbersOf list xs ys = (x : Record) → IsIn x list → IsThere x.number xs ⊎ IsThere x.number ys
 
--- the run, which becomes one with the first of the others where that goes on from it, and then the
--- others
+-- the run, which joins the first of the others if that continues it, and then the others
 abbrev pub stitched : List Record → List (List Record) → List (List Record)
 stitched run [] = run ∷ []
 stitched run (next ∷ runs) =
     if nat_eq (last_number run + 1) (first_number next) then (run ++ next) ∷ runs
     else run ∷ next ∷ runs
 
--- the runs, and then others. The last of the former and the first of the latter become one where it
--- goes on from it
+-- the runs, and then the others. The last of the former and the first of the latter become one if
+-- that continues it
 abbrev pub sewn : List (List Record) → List (List Record) → List (List Record)
 sewn [] others = others
 sewn (run ∷ []) others = stitched run others
 sewn (run ∷ more ∷ runs) others = run ∷ sewn (more ∷ runs) others
 
--- no record of xs bears the number of one of ys
+-- no record of xs has the number of one of ys
 abbrev pub AreNew : List Record → List Record → Type 0
 AreNew ys xs = (x : Record) → IsIn x ys → record_at x.number xs ≡ None

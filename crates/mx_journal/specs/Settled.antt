@@ -1,4 +1,4 @@
--- Settled journals: a base in place of the records of the first sections, and the map of the
+-- Settled journals: a base that replaces the records of the first sections, and the map of the
 -- records above it.
 use Rattle.std.specs.Prelude.{ℕ, suc, ◌+◌, ◌≡◌, ◌≤◌, ◌<◌, ◌⊎◌, ◌↔◌, List, max, length, nat_lt, if◌then◌else◌, filter}
 use Rattle.mx_stamps.specs.Lists.{IsIn}
@@ -7,13 +7,13 @@ use Rattle.mx_journal.specs.Agreement.{AreAgreeing, IsSubmap}
 use Rattle.mx_journal.specs.Bases.{BaseState, origin, with_sections}
 use Rattle.mx_journal.specs.Records.{Ascending, IsThere, above, below, top_of, with_record, with_records}
 
--- a base, and the records of numbers above it; all numbers up to the base have their writes in its
--- registers
+-- a base, and the records of numbers above it; the base has the writes of all sections up to its
+-- number
 pub record JournalState : Type 0 where
   pub base : BaseState
   pub records : List Record
 
--- the journal that has settled nothing, with these records
+-- the journal with these records that has settled nothing
 abbrev pub unsettled : List Record → JournalState
 unsettled records = record { base = origin; records = records }
 
@@ -35,7 +35,7 @@ pub record IsFirstGap (n : ℕ) (journal : JournalState) : Type 0 where
   pub gone : Covers n journal → ⊥
   pub before : (m : ℕ) → 1 ≤ m → m < n → Covers m journal
 
--- some record of the list bears a number that the journal does not cover
+-- some record of the list has a number that the journal does not cover
 abbrev pub BringsUncovered : List Record → JournalState → Type 0
 BringsUncovered list journal =
     (x : Record) × IsIn x list × (Covers x.number journal → ⊥)
@@ -44,7 +44,7 @@ BringsUncovered list journal =
 abbrev pub covered : JournalState → ℕ
 covered journal = journal.base.upto + length journal.records
 
--- the greatest number that is covered, 0 where none is
+-- the greatest number that is covered, or 0 if none is
 abbrev pub top_covered : JournalState → ℕ
 top_covered journal = max journal.base.upto (top_of journal.records)
 
@@ -52,20 +52,20 @@ top_covered journal = max journal.base.upto (top_of journal.records)
 abbrev pub beyond : ℕ → List Record → List Record
 beyond n list = filter (λ x. nat_lt n x.number) list
 
--- the journal with this record too. Where its number is there already, nothing changes
+-- the journal with this record too. Nothing changes if its number is there already
 abbrev pub with_entry : Record → JournalState → JournalState
 with_entry entry journal =
     record { base = journal.base; records = with_record entry journal.records }
 
--- the journal with these records too, but for those that its base covers
+-- the journal with these records too, except those that its base covers
 abbrev pub with_list : List Record → JournalState → JournalState
 with_list list journal = record {
   base = journal.base;
   records = with_records (beyond journal.base.upto list) journal.records;
 }
 
--- the journal with this base in place of its own and of the records up to it, where the base is
--- above its own
+-- the journal with this base instead of its present one and of the records up to it, if the base
+-- covers more sections
 abbrev pub with_base : BaseState → JournalState → JournalState
 with_base base journal =
     if nat_lt journal.base.upto base.upto then
@@ -81,7 +81,7 @@ joined other journal =
       records = with_records (above journal.base.upto other.records) journal.records;
     })
 
--- the journal with the registers after sections 1 to k in place of the records of these
+-- the journal with the registers after sections 1 to k instead of the records of these
 abbrev pub settled : ℕ → JournalState → JournalState
 settled k journal = record {
   base = record {
@@ -91,31 +91,30 @@ settled k journal = record {
   records = above k journal.records;
 }
 
--- a is below b: b's base is no lower, and is the same where it is of the same sections; and b has
--- each record of a that is above its base
+-- a is below b: b's base is no lower, and is equal if it covers the same sections; and b has each
+-- record of a that is above b's base
 pub record IsWithin (a b : JournalState) : Type 0 where
   pub upto : a.base.upto ≤ b.base.upto
   pub base : a.base.upto ≡ b.base.upto → a.base ≡ b.base
   pub records : (x : Record) → IsIn x a.records → b.base.upto < x.number → IsIn x b.records
 
--- the records of any number that both bear are equal, and so are the bases where they are of the
--- same sections
+-- records with the same number are equal, and so are the bases if they cover the same sections
 pub record DoAgree (a b : JournalState) : Type 0 where
   pub records : AreAgreeing a.records b.records
   pub bases : a.base.upto ≡ b.base.upto → a.base ≡ b.base
 
--- the base of the first k sections, of which these are the records
+-- the base of the first k sections, with these records
 abbrev pub base_of : ℕ → List Record → BaseState
 base_of k sections =
     record { upto = k; cells = with_sections (below (suc k) sections) origin.cells }
 
--- the journal knows of these sections alone: its base is that of the first of them, its records are
+-- the journal knows only these sections: its base is that of the first of them, and its records are
 -- among theirs
 pub record IsOfSections (sections : List Record) (journal : JournalState) : Type 0 where
   pub base : journal.base ≡ base_of journal.base.upto sections
   pub records : IsSubmap journal.records sections
 
--- both journals know of the same sections
+-- both journals know only the same sections
 abbrev pub AreOfOneMap : JournalState → JournalState → Type 0
 AreOfOneMap a b =
     (sections : List Record)

@@ -1,5 +1,5 @@
--- How the writes of one section change what a register holds, one after the other. `after` tells
--- what a register holds after the last write of the section to it, if there is one.
+-- How the writes of one section change the contents of a register, one after the other. `after`
+-- gives the contents after the last write of the section to it, if there is one.
 use Rattle.std.specs.Prelude.{ℕ, List, [], ◌∷◌, Option, Some, nat_eq, if◌then◌else◌}
 use Rattle.mx_journal.specs.declared.records.Write.{Write}
 

@@ -1,4 +1,4 @@
-//! Bases: the registers after the first sections, which stand in place of the records of these.
+//! Bases: the registers after the first sections, which replace the records of these sections.
 
 ghost use Rattle.std.specs.Prelude.{◌≡◌, ◌↔◌, IfSome, IsSome, IsTrue};
 ghost use Rattle.mx_journal.specs.Bases.{AreCellsOf, BaseState, origin};
@@ -6,8 +6,8 @@ ghost use Rattle.mx_journal.specs.Bases.{AreCellsOf, BaseState, origin};
 use crate::cells::{Cell, REGISTERS, are_cells_of, are_same_cells};
 use std::marker::Model;
 
-/// The registers after sections 1 to `upto`, in place of the records of these. At 0 no section is
-/// in it, and no register is written.
+/// The registers after sections 1 to `upto`, which replace the records of these sections. With
+/// `upto` 0 it covers no section, and no register is written.
 #[derive(Clone, Copy, Debug, PartialEq, Eq)]
 pub struct Base {
     upto: u64,
@@ -27,8 +27,8 @@ impl Model for Base {
 }
 
 impl Base {
-    /// The base of sections 1 to `upto` with these registers, by their numbers. None where a cell's
-    /// number is above `upto`, or is 0 beside a value other than 0.
+    /// Creates the base of sections 1 to `upto` with these registers, by their numbers. Returns
+    /// `None` if a cell's number is above `upto`, or is 0 with a value other than 0.
     pub fn of(upto: u64, cells: [Cell; REGISTERS]) -> Option<Base>
         ensures some { IsSome result ↔ AreCellsOf upto cells }
         ensures value { IfSome result (λ base. base ≡ record { upto = upto; cells = cells }) }
@@ -40,7 +40,7 @@ impl Base {
         }
     }
 
-    /// The base of no section.
+    /// Returns the base of no section.
     pub(crate) fn origin() -> Base
         ensures { result ≡ origin }
     {
@@ -53,7 +53,7 @@ impl Base {
         }
     }
 
-    /// The base of these sections with these registers, which are theirs.
+    /// Creates the base of these sections with these registers.
     pub(crate) fn with(upto: u64, cells: [Cell; REGISTERS]) -> Base
         requires { AreCellsOf upto cells }
         ensures { result ≡ record { upto = upto; cells = cells } }
@@ -61,23 +61,23 @@ impl Base {
         Base { upto, cells }
     }
 
-    /// The number of the last section in it, 0 where there is none.
+    /// Returns the number of the last section that it covers, or 0 if it covers none.
     pub fn upto(&self) -> u64
         ensures value { result ≡ self.now.upto }
-        // what every base keeps: each cell is of its sections
+        // what holds for every base: its sections wrote each cell
         ensures cells { AreCellsOf self.now.upto self.now.cells }
     {
         self.upto
     }
 
-    /// The registers, by their numbers.
+    /// Returns the registers, by their numbers.
     pub fn cells(&self) -> &[Cell; REGISTERS]
         ensures { result.now ≡ self.now.cells }
     {
         &self.cells
     }
 
-    /// Whether both are the same base.
+    /// Returns whether both are the same base.
     pub fn is(&self, other: &Base) -> bool
         ensures { IsTrue result ↔ (self.now ≡ other.now) }
     {

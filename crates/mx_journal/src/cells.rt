@@ -1,4 +1,4 @@
-//! The cells of a base: what registers hold after the first sections.
+//! The cells of a base: the contents of registers after the first sections.
 
 ghost use Rattle.std.specs.Prelude.{ℕ, ◌≡◌, ◌<◌, ◌↔◌, get_or, IsTrue};
 ghost use Rattle.mx_journal.specs.Bases.{AreCellsOf, IsCellOf, after_section, unwritten, with_section};
@@ -8,24 +8,27 @@ ghost use Rattle.mx_journal.specs.Written.{after_one};
 use crate::records::{Record, Write};
 use mx_stamps::MOST_REGISTERS;
 
-/// The number of registers that a base keeps. Writes to others enter no base.
+/// The number of registers in a base. It has no writes to others.
 pub(crate) const REGISTERS: usize = MOST_REGISTERS as usize;
 
-/// What a register holds: a value, and the number of the section that wrote it, 0 where none did.
+/// The contents of a register: a value, and the number of the section that wrote it, or 0 if none
+/// did.
 #[derive(Clone, Copy, Debug, Default, PartialEq, Eq)]
 pub struct Cell {
+    /// The value, 0 if no section wrote the register.
     pub value: u64,
+    /// The number of the section that wrote it, or 0 if none did.
     pub number: u64,
 }
 
-/// Whether a section up to the number wrote the cell, or none did and it has the value 0.
+/// Returns whether a section up to the number wrote the cell, or none did and its value is 0.
 fn is_cell_of(cell: &Cell, upto: u64) -> bool
     ensures { IsTrue result ↔ IsCellOf upto cell.now }
 {
     cell.number <= upto && (cell.number >= 1 || cell.value == 0)
 }
 
-/// Whether all cells are such.
+/// Returns whether this holds for all cells.
 pub(crate) fn are_cells_of(cells: &[Cell], upto: u64) -> bool
     ensures { IsTrue result ↔ AreCellsOf upto cells.now }
 {
@@ -37,21 +40,21 @@ pub(crate) fn are_cells_of(cells: &[Cell], upto: u64) -> bool
     true
 }
 
-/// Whether both lists have the same cells.
+/// Returns whether both lists have the same cells.
 pub(crate) fn are_same_cells(cells: &[Cell], others: &[Cell]) -> bool
     ensures { IsTrue result ↔ (cells.now ≡ others.now) }
 {
     cells == others
 }
 
-/// Takes the writes of the record's section, which comes behind all those taken before.
+/// Applies the writes of the record's section, which comes after all those applied before.
 pub(crate) fn take_section(cells: &mut [Cell; REGISTERS], entry: &Record)
     ensures { cells.new ≡ with_section entry.now cells.old }
 {
     write_all(cells, entry.number, entry.writes.as_slice());
 }
 
-/// Takes the writes of a section, in order.
+/// Applies the writes of a section, in order.
 fn write_all(cells: &mut [Cell; REGISTERS], number: u64, writes: &[Write])
     ensures { (register : ℕ) → register < MOST_REGISTERS → get_or cells.new register unwritten
         ≡ after_section number (last_value register writes.now)
@@ -62,7 +65,7 @@ fn write_all(cells: &mut [Cell; REGISTERS], number: u64, writes: &[Write])
     }
 }
 
-/// Takes one write of a section. It is passed over where its register is not kept.
+/// Applies one write of a section. A write to a register that is not in the base is skipped.
 fn put(cells: &mut [Cell; REGISTERS], number: u64, write: Write)
     ensures { (register : ℕ) → register < MOST_REGISTERS → get_or cells.new register unwritten
         ≡ after_one (after_section number) register write (get_or cells.old register unwritten) }

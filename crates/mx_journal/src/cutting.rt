@@ -1,4 +1,4 @@
-//! Dropping the first records of runs.
+//! Removal of the first records of runs.
 
 ghost use Rattle.std.specs.Prelude.{suc, ◌≡◌, ◌≤◌, ◌-◌, drop, length};
 ghost use Rattle.mx_journal.specs.Records.{above};
@@ -7,7 +7,7 @@ ghost use Rattle.mx_journal.specs.Runs.{AreRuns, first_number, flatten};
 use crate::places::place_of;
 use crate::runs::Run;
 
-/// Drops the records up to the number. It takes no memory.
+/// Removes the records up to the number. Allocates no memory.
 pub(crate) fn cut_up_to(runs: &mut Vec<Run>, number: u64)
     requires { AreRuns 1 runs.old.items }
     ensures records { flatten runs.new.items ≡ above number (flatten runs.old.items) }
@@ -23,7 +23,7 @@ pub(crate) fn cut_up_to(runs: &mut Vec<Run>, number: u64)
     run.skip(count);
 }
 
-/// Drops the first `count` runs.
+/// Removes the first `count` runs.
 fn drop_runs(runs: &mut Vec<Run>, count: usize)
     requires { count ≤ length runs.old.items }
     ensures { runs.new.items ≡ drop count runs.old.items }
@@ -36,7 +36,7 @@ fn drop_runs(runs: &mut Vec<Run>, count: usize)
     runs.truncate(left);
 }
 
-/// How many numbers from the first of the run on are up to the number.
+/// Returns how many numbers from the first of the run on are up to the number.
 fn count_up_to(run: &Run, number: u64) -> usize
     requires { 1 ≤ first_number run.now }
     ensures { result ≡ suc number - first_number run.now }

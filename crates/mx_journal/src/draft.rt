@@ -10,13 +10,13 @@ use mx_stamps::NodeId;
 use std::marker::Model;
 use thiserror::Error;
 
-/// The draft holds eight reads, or eight writes, already.
+/// The draft has eight reads, or eight writes, already.
 #[derive(Clone, Copy, Debug, PartialEq, Eq, Error)]
 #[error("the draft is full")]
 pub struct Full;
 
-/// What a node has read and written since it entered its section or last restarted in it: at most
-/// eight reads and eight writes, in order.
+/// The reads and writes of a node since it entered its section, or last restarted in it: up to
+/// eight of each, in order.
 #[derive(Drop)]
 pub struct Draft {
     reads: ArrayVec<Read, 8>,
@@ -32,7 +32,7 @@ impl Model for Draft {
 }
 
 impl Draft {
-    /// An empty draft.
+    /// Creates an empty draft.
     pub fn new() -> Draft
         ensures { result ≡ record { reads = []; writes = [] } }
     {
@@ -42,14 +42,18 @@ impl Draft {
         }
     }
 
-    /// Whether nothing was read or written yet.
+    /// Returns whether there is neither a read nor a write.
     pub fn is_empty(&self) -> bool
         ensures { IsTrue result ↔ (self.now ≡ record { reads = []; writes = [] }) }
     {
         self.reads.is_empty() && self.writes.is_empty()
     }
 
-    /// Notes a read, after the writes so far.
+    /// Adds a read, after the writes so far.
+    ///
+    /// # Errors
+    ///
+    /// Returns `Full` if there are eight reads already.
     pub fn read(&mut self, register: u8, value: u64) -> Result<(), Full>
         ensures full { IsErr result ↔ (length self.old.reads ≡ 8) }
         ensures ok { OnOk result (self.new ≡ with_read register value self.old) }
@@ -64,7 +68,11 @@ impl Draft {
         self.reads.try_push(read).map_err(|_| Full)
     }
 
-    /// Notes a write.
+    /// Adds a write.
+    ///
+    /// # Errors
+    ///
+    /// Returns `Full` if there are eight writes already.
     pub fn write(&mut self, register: u8, value: u64) -> Result<(), Full>
         ensures full { IsErr result ↔ (length self.old.writes ≡ 8) }
         ensures ok { OnOk result (self.new ≡ with_write register value self.old) }
@@ -74,14 +82,14 @@ impl Draft {
         self.writes.try_push(write).map_err(|_| Full)
     }
 
-    /// The value of the latest write to a register, where there is one.
+    /// Returns the value of the latest write to a register, if there is one.
     pub fn last(&self, register: u8) -> Option<u64>
         ensures { result ≡ last_value register self.now.writes }
     {
         last_of(self.writes.as_slice(), register)
     }
 
-    /// The receipt of the section of this number, by this node. The draft stays as it is.
+    /// Returns the receipt of the section with this number, at this node. The draft is unchanged.
     pub fn close(&self, number: u64, node: NodeId) -> Receipt
         ensures value { result ≡ receipt_of number node self.now }
         ensures bound { (length self.now.reads ≤ 8) × (length self.now.writes ≤ 8) }
@@ -94,7 +102,7 @@ impl Draft {
         }
     }
 
-    /// Empties the draft.
+    /// Removes all reads and writes.
     pub fn clear(&mut self)
         ensures { self.new ≡ record { reads = []; writes = [] } }
     {

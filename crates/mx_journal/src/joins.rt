@@ -1,4 +1,4 @@
-//! Runs that take in others: all or none.
+//! Joining of runs: all records or none.
 
 ghost use Rattle.std.specs.Prelude.{suc, ◌≡◌, ◌+◌, ◌≤◌, ◌<◌, ◌⊎◌, IsTrue, IsFalse, IfOk, IfSome, IfNone, None, OnOk, OnErr, [], ◌++◌, ◌-◌, get_or, length, slice_set};
 ghost use Rattle.mx_journal.specs.Agreement.{AreAgreeing, IsSubmap};
@@ -11,7 +11,7 @@ use crate::records::Record;
 use crate::runs::Run;
 use std::alloc::{AllocError, Global};
 
-/// Whether the number is not above `from`, or a record bears it.
+/// Returns whether the number is at most `from`, or some record has it.
 fn is_known(known: &[Run], from: u64, number: u64) -> bool
     requires { AreRuns 1 known.now }
     ensures known { IsTrue result → (number ≤ from) ⊎ IsThere number (flatten known.now) }
@@ -21,8 +21,12 @@ fn is_known(known: &[Run], from: u64, number: u64) -> bool
     number <= from || is_there(known, number)
 }
 
-/// The runs of those records of the list that are numbered above `from` and whose numbers nothing
-/// bears yet; of several that bear the same number the first counts.
+/// Returns the runs of the listed records numbered above `from` whose numbers are new. If several
+/// have the same number, the first counts.
+///
+/// # Errors
+///
+/// Returns `AllocError` if memory runs out.
 pub(crate) fn runs_of_new(
     alloc: Global,
     known: &[Run],
@@ -48,8 +52,7 @@ pub(crate) fn runs_of_new(
     Ok(runs)
 }
 
-/// Whether each number of the other runs above `from` is borne already, so that they bring nothing
-/// new.
+/// Returns whether the other runs have no new number above `from`.
 pub(crate) fn are_there(runs: &[Run], from: u64, other: &[Run]) -> bool
     requires runs { AreRuns 1 runs.now }
     requires other { AreRuns 1 other.now }
@@ -68,9 +71,13 @@ pub(crate) fn are_there(runs: &[Run], from: u64, other: &[Run]) -> bool
     true
 }
 
-/// Takes in the records of runs that agree that are numbered above `from`, as all of ours are, and
-/// returns how many were new. Where memory runs out nothing changes. One run that goes on from one
-/// of ours is moved there; else all is made anew.
+/// Adds the records of the other runs numbered above `from`, and returns how many were new. Both
+/// agree, and all records here are above `from`. A single run that continues one of these is moved
+/// there; otherwise all are copied.
+///
+/// # Errors
+///
+/// Returns `AllocError` if memory runs out. Nothing has changed then.
 pub(crate) fn join_runs(runs: &mut Vec<Run>, from: u64, other: &[Run]) -> Result<u64, AllocError>
     requires { CanJoin from other.now runs.old.items }
     ensures ok { IfOk result (λ k.
@@ -91,8 +98,8 @@ pub(crate) fn join_runs(runs: &mut Vec<Run>, from: u64, other: &[Run]) -> Result
     join_copies(runs, from, other)
 }
 
-/// Whether the run begins right behind the one before the place, and leaves a number missing before
-/// the one at it.
+/// Returns whether the run starts right after the one before the place, and at least one number is
+/// missing between it and the one at the place.
 fn goes_behind(runs: &[Run], at: usize, more: &Run) -> bool
     requires { at ≤ length runs.now }
     ensures touches { IsTrue result → TouchesBelow (first_number more.now) at runs.now }
@@ -110,7 +117,11 @@ fn goes_behind(runs: &[Run], at: usize, more: &Run) -> bool
     last < next && next - last > 1
 }
 
-/// Puts copies of the records of a run behind those of the run before the place.
+/// Appends copies of the records of a run to the run before the place.
+///
+/// # Errors
+///
+/// Returns `AllocError` if memory runs out. Nothing has changed then.
 fn append_run(runs: &mut Vec<Run>, at: usize, more: &Run) -> Result<(), AllocError>
     requires first { 1 ≤ at }
     requires second { at ≤ length runs.old.items }
@@ -127,8 +138,12 @@ fn append_run(runs: &mut Vec<Run>, at: usize, more: &Run) -> Result<(), AllocErr
     run.join(more.record(0).copy(), &mut rest)
 }
 
-/// Takes in those records as `join_runs` does, for any runs: copies of all records of both take the
-/// first's place.
+/// Adds those records as `join_runs` does, for any runs: copies of all records of both replace the
+/// first runs.
+///
+/// # Errors
+///
+/// Returns `AllocError` if memory runs out. Nothing has changed then.
 fn join_copies(runs: &mut Vec<Run>, from: u64, other: &[Run]) -> Result<u64, AllocError>
     requires { CanJoin from other.now runs.old.items }
     ensures ok { IfOk result (λ k.
@@ -142,8 +157,12 @@ fn join_copies(runs: &mut Vec<Run>, from: u64, other: &[Run]) -> Result<u64, All
     Ok(count)
 }
 
-/// Copies of the records of both that are numbered above `from` up to `to`, as runs, and how many
-/// of them the first does not have.
+/// Copies the records of both that are numbered above `from` up to `to`, as runs. Also returns how
+/// many of them the first does not have.
+///
+/// # Errors
+///
+/// Returns `AllocError` if memory runs out.
 pub(crate) fn joined_up_to(
     alloc: Global,
     runs: &[Run],
@@ -178,7 +197,7 @@ pub(crate) fn joined_up_to(
     Ok((joined, count))
 }
 
-/// The record with the least number above this one in either of the two.
+/// Returns the record with the least number above this one in either of the two.
 fn next_of_both<'a>(runs: &'a [Run], other: &'a [Run], number: u64) -> Option<&'a Record>
     requires runs { AreRuns 1 runs.now }
     requires other { AreRuns 1 other.now }
@@ -195,7 +214,7 @@ fn next_of_both<'a>(runs: &'a [Run], other: &'a [Run], number: u64) -> Option<&'
     }
 }
 
-/// The record of the lower number, or the first where both bear the same.
+/// Returns the record of the lower number, or the first if the numbers are equal.
 fn lower<'a>(here: &'a Record, there: &'a Record) -> &'a Record
     ensures here { here.now.number ≤ there.now.number → result.now ≡ here.now }
     ensures there { there.now.number < here.now.number → result.now ≡ there.now }

@@ -1,5 +1,5 @@
-//! The journal of a node: the sections that it knows. Their records are kept by number, and those
-//! of the first ones may be settled: then a base, the registers after them, is in their place.
+//! The journal of a node: the sections that it knows. It has their records by number. The first
+//! ones may be settled: a base, the registers after them, replaces their records.
 
 ghost use Rattle.std.specs.Prelude.{ℕ, suc, ◌≡◌, ◌+◌, ◌≤◌, ◌<◌, ◌↔◌, ◌++◌, ◌⊎◌, [], ◌∷◌, List, Some, None, Ok, Err, IsOk, IsTrue, IfOk, OnOk, OnErr, MatchOption, max, length, take};
 ghost use Rattle.mx_journal.specs.Agreement.{IsConsistent, IsFirstConflict, IsOther};
@@ -19,8 +19,8 @@ use arrayvec::ArrayVec;
 use std::alloc::{AllocError, Global};
 use std::marker::Model;
 
-/// A base, which covers the sections up to its own number, and a finite map from section numbers
-/// above that to the records that bear them.
+/// A journal of sections: a base for the first ones, and the records of others by their numbers.
+/// Its base covers all sections up to the base's number, and each record has a greater number.
 #[derive(Drop)]
 pub struct Journal {
     base: Base,
@@ -40,7 +40,7 @@ impl Model for Journal {
 }
 
 impl Journal {
-    /// A journal that covers nothing.
+    /// Creates a journal that covers nothing.
     pub fn new(alloc: Global) -> Journal
         ensures { result ≡ unsettled [] }
     {
@@ -50,9 +50,14 @@ impl Journal {
         }
     }
 
-    /// Puts a record. One whose number the base covers is `Same`, whatever it wrote. `Conflict`
-    /// means that the journal has another record of the same number, and names that number. Memory
-    /// is asked for only where the record is new.
+    /// Puts a record, and returns whether the journal knew it already. A record whose number the
+    /// base covers is `Same`, whatever it wrote.
+    ///
+    /// # Errors
+    ///
+    /// Returns `ZeroNumber` if the record's number is 0. Returns `Conflict` with the number if the
+    /// journal has a different record of that number. Returns `Memory` if the record is new and
+    /// memory runs out. On an error the journal is unchanged.
     pub fn put(&mut self, entry: Record) -> Result<Put, PutFault>
         ensures zero { (result ≡ Err PutFault.ZeroNumber) ↔ (entry.number ≡ 0) }
         ensures conflict { (n : ℕ) → (result ≡ Err (PutFault.Conflict n))
@@ -71,14 +76,19 @@ impl Journal {
         self.records.put(entry)
     }
 
-    /// Puts all records of a list, or none where one of them can't be put, and returns how many
-    /// were new. Those whose numbers the base covers are passed over, whatever they wrote. A record
-    /// may stand in the list more than once. `Conflict` names the least number that two differing
-    /// records bear; both may be in the list, or one in the journal. `Memory` comes only where
-    /// there is no other fault, and some record is of a section that the journal does not cover. The
-    /// time is that of a put for each record where the list ascends by number; in any other list
-    /// each record is compared with each other one, so that the time grows with the square of the
-    /// length.
+    /// Puts all records of a list, or none, and returns how many were new. Records whose numbers
+    /// the base covers are skipped, whatever they wrote. A record may occur in the list more than
+    /// once.
+    ///
+    /// The time is that of a `put` for each record if the list ascends by number. Otherwise each
+    /// record is compared with every other, so the time grows with the square of the length.
+    ///
+    /// # Errors
+    ///
+    /// Returns `ZeroNumber` if a record's number is 0. Returns `Conflict` with the least number of
+    /// two records that differ; both may be in the list, or one in the journal. Returns `Memory` if
+    /// there is no other fault, some record is new, and memory runs out. On an error the journal is
+    /// unchanged.
     pub fn put_all(&mut self, list: &[Record]) -> Result<u64, PutFault>
         ensures zero { (result ≡ Err PutFault.ZeroNumber) ↔ IsThere 0 list.now }
         ensures conflict { (n : ℕ) → (result ≡ Err (PutFault.Conflict n))
@@ -95,9 +105,13 @@ impl Journal {
         self.records.put_all(self.base.upto(), list)
     }
 
-    /// Takes what an agreeing journal covers too, with its base where that is above this journal's,
-    /// and returns how many numbers are newly covered. Memory is asked for before anything changes,
-    /// and only where there is a record that is new.
+    /// Adds everything that an agreeing journal covers, and returns how many numbers are newly
+    /// covered. The other base replaces this journal's own if it covers more sections.
+    ///
+    /// # Errors
+    ///
+    /// Returns `AllocError` if some record is new and memory runs out. Memory is allocated before
+    /// anything changes, so the journal is unchanged then.
     pub fn join(&mut self, other: &Journal) -> Result<u64, AllocError>
         requires { DoAgree self.old other.now }
         ensures ok { IfOk result (λ k. (self.new ≡ joined other.now self.old)
@@ -108,27 +122,33 @@ impl Journal {
     {
         let count = self.records.join(self.base.upto(), &other.records)?;
         let more = self.rise_to(&other.base);
-        // that the sum fits is known from this call
+        // the call shows that the sum fits
         let _ = self.top();
         Ok(count + more)
     }
 
-    /// The base, at 0 where nothing is settled.
+    /// Returns the base, which covers no section if nothing is settled.
     pub fn base(&self) -> &Base
         ensures { result.now ≡ self.now.base }
     {
         &self.base
     }
 
-    /// Whether the base covers the number, or a record bears it.
+    /// Returns whether the base covers the number, or a record has it.
     pub fn covers(&self, number: u64) -> bool
         ensures { IsTrue result ↔ Covers number self.now }
     {
         is_settled(&self.base, number) || self.records.has(number)
     }
 
-    /// Puts the registers after sections 1 to `upto` in place of their records. It takes no memory,
-    /// and the time of dropping these records.
+    /// Replaces the records of sections 1 to `upto` by the registers after them. Allocates no
+    /// memory. The time grows with the number of records that are removed.
+    ///
+    /// # Errors
+    ///
+    /// Returns `Below` with the number of the base if that is above `upto`. Returns `Gap` with the
+    /// first number that the journal does not cover if that is at most `upto`. On an error the
+    /// journal is unchanged.
     pub fn settle(&mut self, upto: u64) -> Result<(), SettleFault>
         ensures below { (n : ℕ) → (result ≡ Err (Below n))
             ↔ ((upto < self.old.base.upto) × (n ≡ self.old.base.upto)) }
@@ -152,8 +172,13 @@ impl Journal {
         Ok(())
     }
 
-    /// Takes a base in place of its own and of the records up to it, where it is above its own, and
-    /// returns how many numbers are newly covered. It takes no memory.
+    /// Replaces the journal's own base, and all records up to the new one, if the new base covers
+    /// more sections. Returns how many numbers are newly covered. Allocates no memory.
+    ///
+    /// # Errors
+    ///
+    /// Returns `Conflict` with the base's number if both bases cover the same sections and differ.
+    /// The journal is unchanged then.
     pub fn take_base(&mut self, base: &Base) -> Result<u64, BaseFault>
         ensures conflict { (n : ℕ) → (result ≡ Err (BaseFault.Conflict n))
             ↔ ((n ≡ base.now.upto) × AreOpposed self.old.base base.now) }
@@ -169,8 +194,8 @@ impl Journal {
         Ok(self.rise_to(base))
     }
 
-    /// Takes a base where it is above its own, and returns how many numbers are newly covered. It
-    /// does not look whether two bases of the same sections differ.
+    /// Takes a base if it covers more sections than the journal's own, and returns how many numbers
+    /// are newly covered. Does not check whether two bases of the same sections differ.
     fn rise_to(&mut self, base: &Base) -> u64
         ensures value { self.new ≡ with_base base.now self.old }
         ensures count { covered self.new ≡ covered self.old + result }
@@ -184,7 +209,7 @@ impl Journal {
         upto - own - dropped as u64
     }
 
-    /// The record that bears the number. None up to the base.
+    /// Returns the record with this number. Returns `None` for a number that the base covers.
     pub fn get(&self, number: u64) -> Option<&Record>
         ensures { MatchOption result (record_at number self.now.records ≡ None)
             (λ found. record_at number self.now.records ≡ Some found.now) }
@@ -192,8 +217,8 @@ impl Journal {
         self.records.get(number)
     }
 
-    /// The record with the least number above this one. Going on from 0, and from the number of
-    /// each record that was found, meets all records above the base in order.
+    /// Returns the record with the least number above this one. Calls from 0 on, each with the
+    /// number of the record found last, visit all records above the base in order.
     pub fn next_after(&self, number: u64) -> Option<&Record>
         ensures value { MatchOption result (above number self.now.records ≡ [])
             (λ found. above number self.now.records
@@ -203,16 +228,16 @@ impl Journal {
         self.records.next_after(number)
     }
 
-    /// How many records it has, all above the base.
+    /// Returns the number of records above the base.
     pub fn len(&self) -> usize
         ensures value { result ≡ length self.now.records }
-        // what every journal keeps: the numbers ascend, from above the base on
+        // what holds for every journal: the numbers ascend, from above the base on
         ensures ordered { Ascending (suc self.now.base.upto) self.now.records }
     {
         self.records.len()
     }
 
-    /// Whether it has no record above the base.
+    /// Returns whether there is no record above the base.
     pub fn is_empty(&self) -> bool
         ensures value { IsTrue result ↔ (self.now.records ≡ []) }
         ensures ordered { Ascending (suc self.now.base.upto) self.now.records }
@@ -220,17 +245,17 @@ impl Journal {
         self.records.is_empty()
     }
 
-    /// The greatest number that it covers, 0 where there is none.
+    /// Returns the greatest number that it covers, or 0 if it covers none.
     pub fn top(&self) -> u64
         ensures value { result ≡ top_covered self.now }
-        // no more numbers are covered than there are up to the greatest
+        // no more numbers are covered than the greatest one
         ensures bound { covered self.now ≤ result }
     {
         self.base.upto().max(self.records.top())
     }
 
-    /// The greatest number up to which none is missing behind this one: all between them are
-    /// covered, and it too, unless it is this number itself.
+    /// Returns the end of the covered numbers that follow this one without a gap. Returns the
+    /// number itself, or that of the base if that is greater, if the next is not covered.
     pub fn gapless_after(&self, number: u64) -> u64
         ensures { result + 1 ≡ first_missing (max number self.now.base.upto + 1)
             (above (max number self.now.base.upto) self.now.records) }
@@ -238,7 +263,7 @@ impl Journal {
         self.records.gapless_after(number.max(self.base.upto()))
     }
 
-    /// The greatest number up to which none is missing: all of 1 to it are covered.
+    /// Returns the greatest number up to which no number is missing: it covers all of 1 to it.
     pub fn gapless_to(&self) -> u64
         ensures all { IsCovered result self.now }
         ensures next { Covers (result + 1) self.now → ⊥ }
@@ -247,8 +272,8 @@ impl Journal {
         self.records.gapless_after(self.base.upto())
     }
 
-    /// The records in a range, ascending, or the least four where there are more. None of them is
-    /// up to the base.
+    /// Returns the records in a range, ascending. If there are more than four, returns the least
+    /// four. None of them is covered by the base.
     pub fn records_in(&self, range: Range) -> ArrayVec<Record, RECORDS_AT_ONCE>
         ensures { result.items ≡ take 4 (in_range range self.now.records) }
     {
@@ -256,7 +281,7 @@ impl Journal {
     }
 }
 
-/// Whether the base covers the number.
+/// Returns whether the base covers the number.
 fn is_settled(base: &Base, number: u64) -> bool
     ensures { IsTrue result ↔ ((1 ≤ number) × (number ≤ base.now.upto)) }
 {

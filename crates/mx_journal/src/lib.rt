@@ -1,5 +1,5 @@
-//! Drafts of sections, the records and receipts that close them, and journals: finite maps from
-//! section numbers to records, of which the first ones may be settled into registers.
+//! Drafts of sections, the records and receipts that close them, and journals. A journal is a
+//! finite map from section numbers to records; the first records may be settled into registers.
 #![tactic(auto)]
 
 mod base;

@@ -1,4 +1,4 @@
-//! Where a number is in runs, and the records there.
+//! The places of numbers in runs, and the records there.
 
 ghost use Rattle.std.specs.Prelude.{◌≡◌, ◌≢◌, [], ◌∷◌, ◌++◌, ◌+◌, ◌-◌, ◌<◌, ◌≤◌, ◌↔◌, IsTrue, IsFalse, Some, None, MatchOption, OnOk, OnErr, length, get_or, take};
 ghost use Rattle.mx_journal.specs.Gapless.{first_missing};
@@ -12,7 +12,8 @@ use arrayvec::ArrayVec;
 use std::alloc::AllocError;
 use std::mem;
 
-/// How many runs end at the number or below. That is the place of the first run that does not.
+/// Returns how many runs end at the number or below: the place of the first run that ends above it.
+/// Searches by halves.
 pub(crate) fn place_of(runs: &[Run], number: u64) -> usize
     requires { AreRuns 1 runs.now }
     ensures value { result ≡ runs_up_to number runs.now }
@@ -32,7 +33,7 @@ pub(crate) fn place_of(runs: &[Run], number: u64) -> usize
     low
 }
 
-/// The record with the least number above this one.
+/// Returns the record with the least number above this one.
 pub(crate) fn next_in(runs: &[Run], number: u64) -> Option<&Record>
     requires { AreRuns 1 runs.now }
     ensures { MatchOption result (above number (flatten runs.now) ≡ [])
@@ -46,7 +47,7 @@ pub(crate) fn next_in(runs: &[Run], number: u64) -> Option<&Record>
     Some(next_in_run(&runs[at], number))
 }
 
-/// The record with the least number above this one, in a run that ends above it.
+/// Returns the record with the least number above this one, in a run that ends above it.
 fn next_in_run(run: &Run, number: u64) -> &Record
     requires consecutive { AreConsecutive (first_number run.now) run.now }
     requires least { 1 ≤ first_number run.now }
@@ -61,7 +62,7 @@ fn next_in_run(run: &Run, number: u64) -> &Record
     }
 }
 
-/// The record that bears the number.
+/// Returns the record with this number.
 pub(crate) fn find(runs: &[Run], number: u64) -> Option<&Record>
     requires { AreRuns 1 runs.now }
     ensures { MatchOption result (record_at number (flatten runs.now) ≡ None)
@@ -76,7 +77,7 @@ pub(crate) fn find(runs: &[Run], number: u64) -> Option<&Record>
     }
 }
 
-/// Whether a record bears the number.
+/// Returns whether a record has this number.
 pub(crate) fn is_there(runs: &[Run], number: u64) -> bool
     requires { AreRuns 1 runs.now }
     ensures there { IsTrue result → IsThere number (flatten runs.now) }
@@ -88,7 +89,7 @@ pub(crate) fn is_there(runs: &[Run], number: u64) -> bool
     }
 }
 
-/// How many records there are.
+/// Returns the number of records.
 pub(crate) fn len_of(runs: &[Run]) -> usize
     requires { AreRuns 1 runs.now }
     ensures { result ≡ length (flatten runs.now) }
@@ -100,7 +101,7 @@ pub(crate) fn len_of(runs: &[Run]) -> usize
     len
 }
 
-/// The greatest number, 0 without records.
+/// Returns the greatest number, or 0 without records.
 pub(crate) fn top_in(runs: &[Run]) -> u64
     requires { AreRuns 1 runs.now }
     ensures { result ≡ top_of (flatten runs.now) }
@@ -111,7 +112,7 @@ pub(crate) fn top_in(runs: &[Run]) -> u64
     }
 }
 
-/// The greatest number up to which none is missing behind this one. Only one run is looked at.
+/// Returns the end of the numbers that follow this one without a gap. Visits only one run.
 pub(crate) fn gapless_in(runs: &[Run], number: u64) -> u64
     requires { AreRuns 1 runs.now }
     ensures { result + 1 ≡ first_missing (number + 1) (above number (flatten runs.now)) }
@@ -129,7 +130,7 @@ pub(crate) fn gapless_in(runs: &[Run], number: u64) -> u64
     }
 }
 
-/// The least four records in the range.
+/// Returns the least four records in the range.
 pub(crate) fn least_in(runs: &[Run], range: Range) -> ArrayVec<Record, 4>
     requires { AreRuns 1 runs.now }
     ensures { result.items ≡ take 4 (in_range range (flatten runs.now)) }
@@ -146,8 +147,12 @@ pub(crate) fn least_in(runs: &[Run], range: Range) -> ArrayVec<Record, 4>
     found
 }
 
-/// Puts the record in its place, where nothing bears its number: at the end or the start of a run,
-/// or between two, which become one, or as a run of its own. Where memory runs out nothing changes.
+/// Inserts a record with a new number. It joins the end or the start of a run, makes two runs one,
+/// or becomes a run.
+///
+/// # Errors
+///
+/// Returns `AllocError` if memory runs out. Nothing has changed then.
 pub(crate) fn insert(runs: &mut Vec<Run>, entry: Record) -> Result<(), AllocError>
     requires runs { AreRuns 1 runs.old.items }
     requires numbered { 1 ≤ entry.number }
@@ -175,7 +180,7 @@ pub(crate) fn insert(runs: &mut Vec<Run>, entry: Record) -> Result<(), AllocErro
     Ok(())
 }
 
-/// Whether the run before the place ends right below the number.
+/// Returns whether the run before the place ends right below the number.
 pub(crate) fn touches_below(runs: &[Run], at: usize, number: u64) -> bool
     requires { at ≤ length runs.now }
     ensures { IsTrue result ↔ TouchesBelow number at runs.now }
@@ -187,7 +192,7 @@ pub(crate) fn touches_below(runs: &[Run], at: usize, number: u64) -> bool
     last < number && number - last == 1
 }
 
-/// Whether the run at the place begins right above the number.
+/// Returns whether the run at the place starts right above the number.
 fn touches_above(runs: &[Run], at: usize, number: u64) -> bool
     ensures { IsTrue result ↔ TouchesAbove number at runs.now }
 {
@@ -198,7 +203,11 @@ fn touches_above(runs: &[Run], at: usize, number: u64) -> bool
     number < first && first - number == 1
 }
 
-/// Puts the record between the run before the place and the one at it, which become one.
+/// Inserts the record between the run before the place and the one at it, which become one.
+///
+/// # Errors
+///
+/// Returns `AllocError` if memory runs out. Nothing has changed then.
 fn insert_between(runs: &mut Vec<Run>, at: usize, entry: Record) -> Result<(), AllocError>
     requires first { 1 ≤ at }
     requires second { at < length runs.old.items }

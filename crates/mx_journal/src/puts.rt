@@ -1,4 +1,4 @@
-//! What comes of putting records, and the conflicts among them.
+//! The results of putting records, and the conflicts among records.
 
 ghost use Rattle.std.specs.Prelude.{◌≡◌, ◌≤◌, ◌<◌, ◌↔◌, ◌++◌, ◌⊎◌, IsTrue, IsFalse, IfSome, IfNone};
 ghost use Rattle.mx_stamps.specs.Lists.{IsIn};
@@ -14,22 +14,25 @@ use crate::runs::Run;
 use std::alloc::AllocError;
 use thiserror::Error;
 
-/// What `Journal::put` found.
+/// The result of `Journal::put`.
 #[derive(Clone, Copy, Debug, PartialEq, Eq)]
 pub enum Put {
     /// No record had the number. The journal now has this one.
     New,
-    /// The journal had this very record already.
+    /// The journal had the same record already, or its base covers the number.
     Same,
 }
 
 /// Why a journal does not take a record, or a list of records.
 #[derive(Clone, Copy, Debug, PartialEq, Eq, Error)]
 pub enum PutFault {
+    /// A record has the number 0, which no section has.
     #[error("a record bears the number 0")]
     ZeroNumber,
+    /// Two different records have this number, which is the least such number.
     #[error("another record bears {0}")]
     Conflict(u64),
+    /// Memory ran out.
     #[error("out of memory")]
     Memory,
 }
@@ -45,7 +48,7 @@ impl From<AllocError> for PutFault {
     }
 }
 
-/// Whether some record bears the number 0, which no section has.
+/// Returns whether some record has the number 0, which no section has.
 pub(crate) fn has_zero(list: &[Record]) -> bool
     ensures there { IsTrue result ↔ IsThere 0 list.now }
     ensures numbered { IsFalse result → IsNumbered list.now }
@@ -58,7 +61,7 @@ pub(crate) fn has_zero(list: &[Record]) -> bool
     false
 }
 
-/// Whether the numbers ascend strictly, from 1 on.
+/// Returns whether the numbers ascend strictly, from 1 on.
 fn ascends(list: &[Record]) -> bool
     ensures { IsTrue result ↔ Ascending 1 list.now }
 {
@@ -72,7 +75,7 @@ fn ascends(list: &[Record]) -> bool
     true
 }
 
-/// Whether each record of the list that bears the record's number is that record.
+/// Returns whether each listed record with this record's number is equal to it.
 fn agrees_in(list: &[Record], entry: &Record) -> bool
     ensures agrees { IsTrue result → AgreesWith entry.now list.now }
     ensures opposed { IsFalse result → IsOpposed entry.now list.now }
@@ -85,8 +88,7 @@ fn agrees_in(list: &[Record], entry: &Record) -> bool
     true
 }
 
-/// Whether the record of that number in the runs is this one, or there is none. It is found by a
-/// search by halves.
+/// Returns whether the runs have this record, or none of its number. Searches by halves.
 fn agrees_at_place(runs: &[Run], entry: &Record) -> bool
     requires { AreRuns 1 runs.now }
     ensures agrees { IsTrue result → AgreesWith entry.now (flatten runs.now) }
@@ -98,9 +100,9 @@ fn agrees_at_place(runs: &[Run], entry: &Record) -> bool
     }
 }
 
-/// Whether each record of a journal and of a list that bears the record's number is that record,
-/// which belongs to the list. A list whose numbers ascend has no two records of the same number, so
-/// only the journal is searched then.
+/// Returns whether each record with this record's number, in a journal or in a list, is equal to
+/// it. The record belongs to the list. A list whose numbers ascend has no two records of the same
+/// number, so only the journal is searched then.
 fn agrees_in_both(runs: &[Run], list: &[Record], in_order: bool, entry: &Record) -> bool
     requires ascending { AreRuns 1 runs.now }
     requires ordered { IsTrue in_order → Ascending 1 list.now }
@@ -111,8 +113,8 @@ fn agrees_in_both(runs: &[Run], list: &[Record], in_order: bool, entry: &Record)
     agrees_at_place(runs, entry) && (in_order || agrees_in(list, entry))
 }
 
-/// Whether the record is numbered above `from`, and differs from one of its number in a journal's
-/// records or in a list to which it belongs.
+/// Returns whether the record is numbered above `from`, and differs from one of its number. The
+/// other may be in a journal, or in the list to which the record belongs.
 fn is_disputed(runs: &[Run], from: u64, list: &[Record], in_order: bool, entry: &Record) -> bool
     requires ascending { AreRuns 1 runs.now }
     requires ordered { IsTrue in_order → Ascending 1 list.now }
@@ -125,10 +127,11 @@ fn is_disputed(runs: &[Run], from: u64, list: &[Record], in_order: bool, entry: 
     entry.number > from && !agrees_in_both(runs, list, in_order, entry)
 }
 
-/// The least number that two differing records bear, of the journal's records and of those in the
-/// list that are numbered above `from`. Where the list ascends, the time is that of one search for
-/// each of its records; else each record is compared with the whole list, and the time grows with
-/// the square of its length. It takes no memory.
+/// Returns the least number of two records that differ, among the journal's records and the listed
+/// ones numbered above `from`. Allocates no memory.
+///
+/// The time is that of one search for each listed record if the list ascends. Otherwise each record
+/// is compared with the whole list, so the time grows with the square of its length.
 pub(crate) fn least_conflict(runs: &[Run], from: u64, list: &[Record]) -> Option<u64>
     requires { AreRuns 1 runs.now }
     ensures some { IfSome result (λ n.
@@ -145,7 +148,7 @@ pub(crate) fn least_conflict(runs: &[Run], from: u64, list: &[Record]) -> Option
     least
 }
 
-/// The lower of the two numbers, or the second where there is only that.
+/// Returns the lower of the two numbers, or the second if there is only that.
 fn lower(least: Option<u64>, number: u64) -> u64
     ensures { result ≡ lower_of least number }
 {

@@ -1,8 +1,11 @@
 //! Ranges of section numbers.
 
-/// The numbers from `first` to `last`, both ends in it. It is empty where `first` is above `last`.
+/// The section numbers from `first` to `last`, both included. It is empty if `first` is above
+/// `last`.
 #[derive(Clone, Copy, Debug, Default, PartialEq, Eq)]
 pub struct Range {
+    /// The first number of the range.
     pub first: u64,
+    /// The last number of the range.
     pub last: u64,
 }

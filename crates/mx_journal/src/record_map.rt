@@ -1,4 +1,4 @@
-//! The records that a journal has, by their numbers.
+//! The records of a journal, by their numbers.
 
 ghost use Rattle.std.specs.Prelude.{ℕ, suc, ◌≡◌, ◌+◌, ◌≤◌, ◌<◌, ◌↔◌, ◌++◌, ◌⊎◌, [], ◌∷◌, List, Some, None, Ok, Err, IsOk, IsTrue, IsFalse, IfOk, OnErr, MatchOption, length, take};
 ghost use Rattle.mx_journal.specs.Agreement.{AreAgreeing, IsConsistent, IsFirstConflict, IsOther};
@@ -21,7 +21,7 @@ use std::marker::Model;
 /// The greatest number of records that `records_in` returns at once.
 pub(crate) const RECORDS_AT_ONCE: usize = 4;
 
-/// A finite map from section numbers, 1 and above, to the records that bear them.
+/// A finite map from section numbers, 1 and above, to the records with these numbers.
 #[derive(Drop)]
 pub(crate) struct RecordMap {
     runs: Vec<Run>,
@@ -40,7 +40,7 @@ impl Model for RecordMap {
 }
 
 impl RecordMap {
-    /// A map without records.
+    /// Creates a map without records.
     pub(crate) fn new(alloc: Global) -> RecordMap
         ensures { result ≡ [] }
     {
@@ -49,8 +49,13 @@ impl RecordMap {
         }
     }
 
-    /// Puts a record. `Conflict` means that the journal has another record of the same number, and
-    /// names that number. Memory is asked for only where the record is new.
+    /// Puts a record.
+    ///
+    /// # Errors
+    ///
+    /// Returns `ZeroNumber` if the record's number is 0. Returns `Conflict` with the number if
+    /// there is a different record of that number. Returns `Memory` if the record is new and memory
+    /// runs out. On an error the map is unchanged.
     pub(crate) fn put(&mut self, entry: Record) -> Result<Put, PutFault>
         ensures zero { (result ≡ Err PutFault.ZeroNumber) ↔ (entry.number ≡ 0) }
         ensures conflict { (n : ℕ) → (result ≡ Err (PutFault.Conflict n))
@@ -76,10 +81,14 @@ impl RecordMap {
         Ok(Put::New)
     }
 
-    /// Puts all records of a list that are numbered above `from`, or none where one of them can't
-    /// be put, and returns how many were new. `Conflict` names the least number above `from` that
-    /// two differing records bear. `Memory` comes only where there is no other fault, and some
-    /// record is new.
+    /// Puts all listed records that are numbered above `from`, or none, and returns how many were
+    /// new.
+    ///
+    /// # Errors
+    ///
+    /// Returns `ZeroNumber` if a record's number is 0. Returns `Conflict` with the least number
+    /// above `from` of two records that differ. Returns `Memory` if there is no other fault, some
+    /// record is new, and memory runs out.
     pub(crate) fn put_all(&mut self, from: u64, list: &[Record]) -> Result<u64, PutFault>
         ensures zero { (result ≡ Err PutFault.ZeroNumber) ↔ IsThere 0 list.now }
         ensures conflict { (n : ℕ) → (result ≡ Err (PutFault.Conflict n))
@@ -102,9 +111,13 @@ impl RecordMap {
         Ok(put_runs(&mut self.runs, &other)?)
     }
 
-    /// Takes the records of an agreeing map too that are numbered above `from`, as all of ours are,
-    /// and returns how many were new. Memory is asked for before anything changes, and only where
-    /// there is something new.
+    /// Adds the records of an agreeing map that are numbered above `from`, and returns how many
+    /// were new. All records here are above `from`.
+    ///
+    /// # Errors
+    ///
+    /// Returns `AllocError` if some record is new and memory runs out. Memory is allocated before
+    /// anything changes.
     pub(crate) fn join(&mut self, from: u64, other: &RecordMap) -> Result<u64, AllocError>
         requires agreeing { AreAgreeing self.old other.now }
         requires behind { Ascending (suc from) self.old }
@@ -119,7 +132,7 @@ impl RecordMap {
         join_runs(&mut self.runs, from, &other.runs)
     }
 
-    /// Drops the records up to the number, and returns how many they were.
+    /// Removes the records up to the number, and returns how many there were.
     pub(crate) fn drop_up_to(&mut self, number: u64) -> usize
         ensures value { self.new ≡ above number self.old }
         ensures count { length self.old ≡ length self.new + result }
@@ -129,7 +142,7 @@ impl RecordMap {
         before - len_of(&self.runs)
     }
 
-    /// The record that bears the number.
+    /// Returns the record with this number.
     pub(crate) fn get(&self, number: u64) -> Option<&Record>
         ensures { MatchOption result (record_at number self.now ≡ None)
             (λ found. record_at number self.now ≡ Some found.now) }
@@ -137,7 +150,7 @@ impl RecordMap {
         find(&self.runs, number)
     }
 
-    /// Whether a record bears the number.
+    /// Returns whether a record has this number.
     pub(crate) fn has(&self, number: u64) -> bool
         ensures there { IsTrue result → IsThere number self.now }
         ensures missing { IsFalse result → record_at number self.now ≡ None }
@@ -145,8 +158,8 @@ impl RecordMap {
         is_there(&self.runs, number)
     }
 
-    /// The record with the least number above this one. Going on from 0, and from the number of
-    /// each record that was found, meets all records in order.
+    /// Returns the record with the least number above this one. Calls from 0 on, each with the
+    /// number of the record found last, visit all records in order.
     pub(crate) fn next_after(&self, number: u64) -> Option<&Record>
         ensures value { MatchOption result (above number self.now ≡ [])
             (λ found. above number self.now ≡ found.now ∷ above found.now.number self.now) }
@@ -155,16 +168,16 @@ impl RecordMap {
         next_in(&self.runs, number)
     }
 
-    /// How many records it has.
+    /// Returns the number of records.
     pub(crate) fn len(&self) -> usize
         ensures value { result ≡ length self.now }
-        // what every journal keeps: the numbers ascend, from 1 on
+        // what holds for every journal: the numbers ascend, from 1 on
         ensures ordered { Ascending 1 self.now }
     {
         len_of(&self.runs)
     }
 
-    /// Whether it has no record.
+    /// Returns whether there is no record.
     pub(crate) fn is_empty(&self) -> bool
         ensures value { IsTrue result ↔ (self.now ≡ []) }
         ensures ordered { Ascending 1 self.now }
@@ -172,22 +185,23 @@ impl RecordMap {
         self.runs.is_empty()
     }
 
-    /// The greatest number that a record bears, 0 where there is no record.
+    /// Returns the greatest number of a record, or 0 if there is no record.
     pub(crate) fn top(&self) -> u64
         ensures { result ≡ top_of self.now }
     {
         top_in(&self.runs)
     }
 
-    /// The greatest number up to which none is missing behind this one: all between them are there,
-    /// and it too, unless it is this number itself.
+    /// Returns the end of the numbers that follow this one without a gap. Returns the number itself
+    /// if the next is missing.
     pub(crate) fn gapless_after(&self, number: u64) -> u64
         ensures { result + 1 ≡ first_missing (number + 1) (above number self.now) }
     {
         gapless_in(&self.runs, number)
     }
 
-    /// The records in a range, ascending, or the least four where there are more.
+    /// Returns the records in a range, ascending. If there are more than four, returns the least
+    /// four.
     pub(crate) fn records_in(&self, range: Range) -> ArrayVec<Record, RECORDS_AT_ONCE>
         ensures { result.items ≡ take 4 (in_range range self.now) }
     {

@@ -1,4 +1,4 @@
-//! Records: what closed sections wrote.
+//! Records: the writes of closed sections.
 
 ghost use Rattle.std.specs.Prelude.{◌≡◌, ◌↔◌, IsTrue};
 
@@ -8,7 +8,9 @@ use mx_stamps::NodeId;
 /// A write of a value to a register, by the register's number from 0 to 31.
 #[derive(Clone, Copy, Debug, Default, PartialEq, Eq)]
 pub struct Write {
+    /// The number of the register, from 0 to 31.
     pub register: u8,
+    /// The value that was written.
     pub value: u64,
 }
 
@@ -16,13 +18,16 @@ pub struct Write {
 /// was inside.
 #[derive(Debug, Default, PartialEq, Eq, Drop)]
 pub struct Record {
+    /// The number of the section, from 1.
     pub number: u64,
+    /// The node that was inside.
     pub node: NodeId,
+    /// The writes, in order.
     pub writes: ArrayVec<Write, 8>,
 }
 
 impl Record {
-    /// An equal record.
+    /// Copies the record.
     pub fn copy(&self) -> Record
         ensures { result ≡ self.now }
     {
@@ -33,7 +38,7 @@ impl Record {
         }
     }
 
-    /// Whether both are the same record.
+    /// Returns whether both are the same record.
     pub fn is(&self, other: &Record) -> bool
         ensures { IsTrue result ↔ (self.now ≡ other.now) }
     {
@@ -43,7 +48,7 @@ impl Record {
     }
 }
 
-/// An equal list.
+/// Copies the list.
 pub(crate) fn copy_of_writes(writes: &ArrayVec<Write, 8>) -> ArrayVec<Write, 8>
     ensures { result ≡ writes.now }
 {

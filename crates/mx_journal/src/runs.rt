@@ -1,4 +1,4 @@
-//! Runs: records in a row, with consecutive numbers where a journal keeps them.
+//! Runs: sequences of records, with consecutive numbers inside a journal.
 
 ghost use Rattle.std.specs.Prelude.{◌≡◌, ◌+◌, ◌<◌, ◌≤◌, [], ◌∷◌, ◌++◌, OnOk, OnErr, length, get_or, take, drop};
 ghost use Rattle.std.specs.VecDeque.{deque_capacity, deque_len};
@@ -10,7 +10,7 @@ use std::collections::VecDeque;
 use std::marker::Model;
 use std::mem;
 
-/// Records in a row. It grows at both ends without moving them.
+/// A sequence of records. It grows at both ends without moving them.
 #[derive(Drop)]
 pub(crate) struct Run {
     records: VecDeque<Record>,
@@ -26,7 +26,7 @@ impl Model for Run {
 }
 
 impl Run {
-    /// A run without records.
+    /// Creates a run without records.
     pub(crate) fn new(alloc: Global) -> Run
         ensures { result ≡ [] }
     {
@@ -35,14 +35,14 @@ impl Run {
         }
     }
 
-    /// How many records it has.
+    /// Returns the number of records.
     pub(crate) fn len(&self) -> usize
         ensures { result ≡ length self.now }
     {
         self.records.len()
     }
 
-    /// The record at a place, from 0 on.
+    /// Returns the record at a place, counted from 0.
     pub(crate) fn record(&self, place: usize) -> &Record
         requires { place < length self.now }
         ensures { result.now ≡ get_or self.now place result.now }
@@ -50,7 +50,7 @@ impl Run {
         &self.records[place]
     }
 
-    /// The first number, 0 without records.
+    /// Returns the first number, or 0 without records.
     pub(crate) fn first(&self) -> u64
         ensures { result ≡ first_number self.now }
     {
@@ -60,7 +60,7 @@ impl Run {
         }
     }
 
-    /// The last number, 0 without records.
+    /// Returns the last number, or 0 without records.
     pub(crate) fn last(&self) -> u64
         ensures { result ≡ last_number self.now }
     {
@@ -70,7 +70,11 @@ impl Run {
         }
     }
 
-    /// Puts a record behind the others.
+    /// Appends a record.
+    ///
+    /// # Errors
+    ///
+    /// Returns `AllocError` if memory runs out. Nothing has changed then.
     pub(crate) fn push_back(&mut self, entry: Record) -> Result<(), AllocError>
         ensures ok { OnOk result (self.new ≡ self.old ++ entry ∷ []) }
         ensures err { OnErr result (self.new ≡ self.old) }
@@ -79,7 +83,11 @@ impl Run {
         Ok(())
     }
 
-    /// Puts a record before the others.
+    /// Inserts a record before the others.
+    ///
+    /// # Errors
+    ///
+    /// Returns `AllocError` if memory runs out. Nothing has changed then.
     pub(crate) fn push_front(&mut self, entry: Record) -> Result<(), AllocError>
         ensures ok { OnOk result (self.new ≡ entry ∷ self.old) }
         ensures err { OnErr result (self.new ≡ self.old) }
@@ -88,21 +96,25 @@ impl Run {
         Ok(())
     }
 
-    /// Keeps the first `len` records, and drops the others.
+    /// Keeps the first `len` records, and removes the others.
     pub(crate) fn truncate(&mut self, len: usize)
         ensures { self.new ≡ take len self.old }
     {
         self.records.truncate(len);
     }
 
-    /// Drops the first `count` records.
+    /// Removes the first `count` records.
     pub(crate) fn skip(&mut self, count: usize)
         ensures { self.new ≡ drop count self.old }
     {
         drop_first(&mut self.records, count);
     }
 
-    /// Takes the records of the next run. The shorter of the two runs is moved.
+    /// Appends the records of the next run. The shorter of the two runs is moved.
+    ///
+    /// # Errors
+    ///
+    /// Returns `AllocError` if memory runs out. Nothing has changed then.
     pub(crate) fn take_next(&mut self, next: &mut Run) -> Result<(), AllocError>
         ensures ok { OnOk result (self.new ≡ self.old ++ next.old) }
         ensures err { OnErr result (self.new ≡ self.old) }
@@ -117,8 +129,12 @@ impl Run {
         Ok(())
     }
 
-    /// Takes the record, and then those of the next run, which is of no use afterwards. The shorter
-    /// of the two runs is moved.
+    /// Appends the record, and then those of the next run, whose contents are unspecified
+    /// afterwards. The shorter of the two runs is moved.
+    ///
+    /// # Errors
+    ///
+    /// Returns `AllocError` if memory runs out. Nothing has changed then.
     pub(crate) fn join(&mut self, entry: Record, next: &mut Run) -> Result<(), AllocError>
         ensures ok { OnOk result (self.new ≡ self.old ++ entry ∷ next.old) }
         ensures err { OnErr result (self.new ≡ self.old) }
@@ -138,7 +154,7 @@ impl Run {
     }
 }
 
-/// Drops the first `count` records.
+/// Removes the first `count` records.
 fn drop_first(records: &mut VecDeque<Record>, count: usize)
     ensures { records.new.items ≡ drop count records.old.items }
 {
@@ -147,7 +163,7 @@ fn drop_first(records: &mut VecDeque<Record>, count: usize)
     }
 }
 
-/// Moves the other records behind these, which have room for them.
+/// Moves the other records after these, which have room for them.
 fn move_behind(records: &mut VecDeque<Record>, behind: &mut VecDeque<Record>)
     requires { deque_len records.old + deque_len behind.old ≤ deque_capacity records.old }
     ensures { records.new.items ≡ records.old.items ++ behind.old.items }

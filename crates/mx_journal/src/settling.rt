@@ -1,4 +1,4 @@
-//! How records become registers of a base, and why a journal may refuse that.
+//! Settling: replacing records by a base, and why a journal may refuse that.
 
 ghost use Rattle.std.specs.Prelude.{◌≡◌, ◌≤◌, suc};
 ghost use Rattle.mx_journal.specs.Bases.{AreCellsOf, with_sections};
@@ -12,7 +12,7 @@ use thiserror::Error;
 /// Why a journal does not settle its first sections.
 #[derive(Clone, Copy, Debug, PartialEq, Eq, Error)]
 pub enum SettleFault {
-    /// The journal's base covers more sections already, those up to this one.
+    /// The journal's base already covers more sections: those up to this one.
     #[error("sections up to {0} are settled")]
     Below(u64),
     /// This is the first number that the journal does not cover.
@@ -23,13 +23,13 @@ pub enum SettleFault {
 /// Why a journal does not take a base.
 #[derive(Clone, Copy, Debug, PartialEq, Eq, Error)]
 pub enum BaseFault {
-    /// The journal's own base is of the same sections, up to this one, and differs.
+    /// The journal's base covers the same sections, up to this one, and differs.
     #[error("two bases differ at {0}")]
     Conflict(u64),
 }
 
-/// The base of the sections up to the number, of which the first ones are in a base and the others
-/// among the records.
+/// Returns the base of the sections up to the number. A base covers the first of them, and the
+/// records have the others.
 pub(crate) fn settled_base(base: &Base, records: &RecordMap, upto: u64) -> Base
     requires order { base.now.upto ≤ upto }
     requires behind { Ascending (suc base.now.upto) records.now }

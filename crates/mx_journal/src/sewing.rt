@@ -1,4 +1,4 @@
-//! Runs that take in new ones among their own: all or none.
+//! Insertion of new runs among others: all or none.
 
 ghost use Rattle.std.specs.Prelude.{◌≡◌, ◌+◌, ◌-◌, ◌↔◌, ◌≤◌, IsTrue, IfOk, OnOk, OnErr, [], ◌++◌, drop, get_or, length, slice_set, take, vec_capacity, vec_len};
 ghost use Rattle.mx_journal.specs.Records.{with_records};
@@ -9,9 +9,12 @@ use crate::places::{len_of, place_of, top_in, touches_below};
 use crate::runs::Run;
 use std::alloc::AllocError;
 
-/// Takes in the runs of records whose numbers nothing bears yet, and returns how many they are.
-/// Where memory runs out nothing changes. Records between the least and the greatest new number are
-/// copied; the others stay where they are.
+/// Adds runs of records whose numbers are new, and returns how many records they have. Records
+/// between the least and the greatest new number are copied; the others stay in place.
+///
+/// # Errors
+///
+/// Returns `AllocError` if memory runs out. Nothing has changed then.
 pub(crate) fn put_runs(runs: &mut Vec<Run>, new: &[Run]) -> Result<u64, AllocError>
     requires runs { AreRuns 1 runs.old.items }
     requires new { AreRuns 1 new.now }
@@ -37,7 +40,11 @@ pub(crate) fn put_runs(runs: &mut Vec<Run>, new: &[Run]) -> Result<u64, AllocErr
     Ok(len_of(new) as u64)
 }
 
-/// Puts other runs in place of those from one place up to another.
+/// Replaces the runs from one place up to another.
+///
+/// # Errors
+///
+/// Returns `AllocError` if memory runs out. Nothing has changed then.
 fn renew(
     runs: &mut Vec<Run>,
     from: usize,
@@ -58,7 +65,7 @@ fn renew(
     done
 }
 
-/// Puts other runs in place of those from a place on, and then those that stand behind them.
+/// Replaces the runs from a place on, and then appends those that followed them.
 fn renew_end(
     runs: &mut Vec<Run>,
     from: usize,
@@ -80,7 +87,7 @@ fn renew_end(
     done
 }
 
-/// Takes in the runs of two lists, one after the other.
+/// Appends the runs of two lists, one after the other.
 fn sew_both(
     runs: &mut Vec<Run>,
     middle: &mut Vec<Run>,
@@ -104,7 +111,7 @@ fn sew_both(
     }
 }
 
-/// How many records the last run has, 0 without runs.
+/// Returns the number of records of the last run, or 0 without runs.
 fn last_len(runs: &[Run]) -> usize
     ensures { result ≡ length (get_or runs.now (length runs.now - 1) []) }
 {
@@ -114,8 +121,7 @@ fn last_len(runs: &[Run]) -> usize
     runs[runs.len() - 1].len()
 }
 
-/// Takes in the runs of a list, of which the first becomes one with the last of ours where it goes
-/// on from it.
+/// Appends the runs of a list. The first of them joins the last run here if it continues that run.
 fn sew(runs: &mut Vec<Run>, others: &mut Vec<Run>) -> Result<(), AllocError>
     ensures ok { OnOk result (runs.new.items ≡ sewn runs.old.items others.old.items) }
     ensures err { OnErr result (runs.new.items ≡ runs.old.items) }
@@ -130,7 +136,7 @@ fn sew(runs: &mut Vec<Run>, others: &mut Vec<Run>) -> Result<(), AllocError>
     Ok(())
 }
 
-/// Moves the others behind the runs, where there is room for them.
+/// Moves the others after the runs, which have room for them.
 fn add_all(runs: &mut Vec<Run>, others: &mut Vec<Run>)
     requires { vec_len runs.old + vec_len others.old ≤ vec_capacity runs.old }
     ensures items { runs.new.items ≡ runs.old.items ++ others.old.items }
@@ -139,7 +145,7 @@ fn add_all(runs: &mut Vec<Run>, others: &mut Vec<Run>)
     let _ = runs.append(others);
 }
 
-/// Whether the first run of the others begins right behind the last of these.
+/// Returns whether the first run of the others starts right after the last of these.
 fn go_on(runs: &[Run], others: &[Run]) -> bool
     ensures { IsTrue result ↔ (1 ≤ length others.now)
         × TouchesBelow (first_number (get_or others.now 0 [])) (length runs.now) runs.now }
@@ -150,7 +156,7 @@ fn go_on(runs: &[Run], others: &[Run]) -> bool
     touches_below(runs, runs.len(), others[0].first())
 }
 
-/// Moves the first of the others to the end of our last run.
+/// Moves the records of the first of the others to the end of the last run.
 fn sew_first(runs: &mut Vec<Run>, others: &mut Vec<Run>) -> Result<(), AllocError>
     requires ours { 1 ≤ length runs.old.items }
     requires theirs { 1 ≤ length others.old.items }
@@ -172,7 +178,7 @@ fn sew_first(runs: &mut Vec<Run>, others: &mut Vec<Run>) -> Result<(), AllocErro
     Ok(())
 }
 
-/// Keeps the first `count` runs, and of the last of them the first `len` records.
+/// Keeps the first `count` runs, and the first `len` records of the last of them.
 fn cut(runs: &mut Vec<Run>, count: usize, len: usize)
     requires { count ≤ length runs.old.items }
     ensures items { runs.new.items ≡ slice_set (take count runs.old.items) (count - 1)

@@ -1,4 +1,4 @@
--- How the judging of a trace ends.
+-- The end of judging a trace.
 use Rattle.std.proofs.Common.{◌≡◌, ◌⊎◌, ℕ, Bool, List, Option, Some, None, Result, Ok, Err, IfErr, IfOk, IfSome, inl, inr, refl, subst}
 use Rattle.std.specs.Io.KnownBytes.{Appends, Keeps}
 use Rattle.mx_plan.specs.Text.{Text}
@@ -42,7 +42,7 @@ module _ (takes : Bool) (p : Fields) (text : Text) where
   text_refused old (fault.Item k item) (inl is) = (is, Keeps-refl old)
   text_refused old (fault.Item k item) (inr out) = absurd (cc)
 
-  -- nothing is printed behind it
+  -- nothing is printed after it
   pub text_kept : (a b d : Held) (r : Result ℕ JudgeError) → JudgesText takes p text a b r → Keeps b d → JudgesText takes p text a d r
   text_kept a b d (Ok status) h keeps = (h.0, h.1, (h.2.0, h.2.1, h.2.2, Appends-keeps a b d (verdict_line h.2.0) h.2.3 keeps))
   text_kept a b d (Err (error.Stop end)) h keeps = (h.0, keeps_on a b d h.1 keeps)
@@ -77,7 +77,7 @@ module _ (takes : Bool) (told : Text → Option Telling) (names : Text × Text) 
   names_kept a b d r (inl h) keeps = inl (unjudged_kept a b d r h keeps)
   names_kept a b d r (inr h) keeps = inr (h.0, h.1, told_kept h.0 (text_told told names) a b d r h.2 keeps)
 
--- memory ran out while the words were read
+-- memory ran out while the arguments were parsed
 pub short_judges : (t u : Bool) (told : Text → Option Telling) (names : Text × Text) (old new : Seen) (status : ℕ)
     → RunsOut old new status → Judges t u told names old new status
 short_judges t u told names old new status m =

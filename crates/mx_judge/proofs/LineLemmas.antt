@@ -17,7 +17,7 @@ use Rattle.mx_judge.specs.declared.faults.TraceFault.{TraceFault}
 abbrev pub is_feed : ℕ → Bool
 is_feed b = b == 10
 
--- a byte more before a text that is one line if it has no line feed
+-- one more byte before a text that is one line if it has no line feed
 one_more : (b : ℕ) (bs : Text) (t : Bool) → is_feed b ≡ t → position_or_len is_feed (b ∷ bs) ≡ length (b ∷ bs)
     → (position_or_len is_feed bs ≡ length bs → lines_of bs ≡ bs ∷ []) → lines_of (b ∷ bs) ≡ (b ∷ bs) ∷ []
 one_more b bs true e h more = let none : 0 ≡ suc (length bs) = (rw e at h) in absurd (omega (arith, none))
@@ -84,7 +84,7 @@ module _ (p : Fields) (entries : List Entry) (k : ℕ) (rest : Text) where
       of_lines (before_first is_feed rest) [] (last_line rest same)
       ∙ ap (λ r. go_on line_fault k r (λ l. entries_from line_fault l (k + 1) [])) is
 
--- a line that has others behind it
+-- a line that is followed by others
 pub lines_go_on : (p : Fields) (entries more : List Entry) (k : ℕ) (rest : Text) → length (before_first is_feed rest) < length rest
     → with_item entries (line_item p (before_first is_feed rest)) ≡ Ok more → from_lines p entries k rest ≡ from_lines p more (k + 1) (after_first is_feed rest)
 lines_go_on p entries more k rest less is =

@@ -1,4 +1,4 @@
--- The entry that an object is: an event with its outcome.
+-- The entry in an object: an event with its outcome.
 use Rattle.std.specs.Prelude.{◌||◌, ℕ, Bool, Option, Some, None, Result, Ok, Err, codes, if◌then◌else◌}
 use Rattle.std.specs.Option.{ok_or, option_map_or}
 use Rattle.serde_json.specs.Data.{Data}
@@ -26,7 +26,7 @@ is_passed_over d =
     has_member (codes "kind") d || has_member (codes "phase") d || has_member (codes "verdict") d
 
 module _ (p : Fields) (d : Data) where
-  -- the node, or the register, that a member names
+  -- the node or the register in a member
   abbrev pub node_at : Member → Result ℕ ItemFault
   node_at m = ok_or (node_of p (text_at m d)) (Wrong m)
 
@@ -67,7 +67,7 @@ module _ (p : Fields) (d : Data) where
       and_then event_of
       (λ e. and_then (outcome_of e d) (λ outcome. Ok (record { event = e; outcome = outcome })))
 
-  -- an object with an act is an entry; of the others some are passed over
+  -- an object with an act is an entry; some others are skipped
   unfoldable pub item_of : Result (Option Entry) ItemFault
   item_of =
       if has_member (codes "act") d then and_then entry_of (λ entry. Ok (Some entry))

@@ -1,4 +1,4 @@
--- What is wrong with a trace, and the line that says so.
+-- The faults of a trace, and the line for each.
 use Rattle.std.specs.Prelude.{ℕ, ◌++◌, codes, decimal}
 use Rattle.mx_plan.specs.Text.{Text, line_feed}
 use Rattle.mx_judge.specs.declared.faults.ItemFault.{ItemFault}
@@ -7,12 +7,12 @@ use Rattle.mx_judge.specs.declared.faults.TraceFault.{TraceFault}
 use Rattle.mx_judge.specs.declared.faults.TraceFault.TheVariants.{NotJson, Line, Item, Memory}
 use Rattle.mx_judge.specs.Members.{message_of, key_of}
 
--- the fault of a line; that memory ran out is none
+-- the fault of a line, unless memory ran out
 abbrev pub line_fault : ℕ → ItemFault → TraceFault
 line_fault k item.Memory = Memory
 line_fault k fault = Line k fault
 
--- the same of an item of an array
+-- the same for an item of an array
 abbrev pub list_fault : ℕ → ItemFault → TraceFault
 list_fault k item.Memory = Memory
 list_fault k fault = Item k fault

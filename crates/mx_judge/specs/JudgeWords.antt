@@ -1,4 +1,4 @@
--- What the words of `judge` ask for, as `clap` reads them.
+-- The arguments of `judge`, as `clap` parses them.
 use Rattle.std.specs.Prelude.{List, Option, codes, option_map, option_and_then}
 use Rattle.clap.specs.Words.{App, Row, Rule, Text, first_of, new_app, with_rule}
 use Rattle.mx_cli.specs.Words.{asked_of, by_name, file_rule, line_with, plan_rule}
@@ -23,6 +23,6 @@ judge_in rows =
 abbrev pub names_in : Option (Text × List Row) → Option (Text × Text)
 names_in met = by_name (codes "judge") judge_in met
 
--- the names of what the words ask to judge, where they ask for that
+-- the names of the plan and the trace, if the arguments are those of `judge`
 unfoldable pub names_asked : List Text → Option (Text × Text)
 names_asked words = asked_of judge_line names_in words

@@ -1,4 +1,4 @@
--- What comes of the words that ask to judge a trace.
+-- The outcome of a command line of `judge`.
 use Rattle.std.specs.Prelude.{◌≡◌, ◌⊎◌, ◌↔◌, ◌&&◌, ℕ, List, Bool, false, Option, Some, None, IfSome, Result, Ok, Err}
 use Rattle.std.specs.Io.KnownBytes.{Appends, Keeps}
 use Rattle.mx_plan.specs.Text.{Text}
@@ -25,13 +25,13 @@ use Rattle.mx_judge.specs.declared.errors.JudgeError.TheVariants as error
 use Rattle.mx_judge.specs.declared.faults.TraceFault.{TraceFault}
 use Rattle.mx_judge.specs.declared.faults.TraceFault.TheVariants as fault
 
--- why there is no verdict on a trace that is at fault
+-- why there is no verdict on a trace with a fault
 abbrev pub error_of : TraceFault → JudgeError
 error_of fault.Memory = error.Stop stop.Memory
 error_of other = error.Trace other
 
--- the verdict on a trace: sound exactly if the trace is, and else where and by what it is first
--- broken
+-- the verdict on a trace: sound exactly if the trace is; otherwise the first item that breaks a
+-- rule, and the rule
 abbrev pub IsVerdictOf : List Entry → Verdict → Type 0
 IsVerdictOf trace verdict =
     ((verdict ≡ Sound) ↔ IsSoundTrace trace)
@@ -49,8 +49,8 @@ PrintsVerdict trace old new status =
 abbrev pub IsUnprinted : Bool → Stop → Type 0
 IsUnprinted takes_all end = (end ≡ stop.Memory) ⊎ ((end ≡ stop.Writer) × (takes_all ≡ false))
 
--- the verdict on the trace that a text lists was printed; or the text lists none, for this fault; or
--- the verdict was not printed
+-- the verdict on the trace in a text was printed; or the text lists none, for this fault; or the
+-- verdict was not printed
 abbrev pub JudgesText : Bool → Fields → Text → Held → Held → Result ℕ JudgeError → Type 0
 JudgesText takes_all p text old new (Ok status) =
     (trace : List Entry) × (trace_at p text ≡ Ok trace) × PrintsVerdict trace old new status
@@ -80,8 +80,8 @@ JudgesNames takes_all told names old new ended =
     ⊎ ((p : Fields) × IsPlanOf (plan_told told names) p
     × IfSome (text_told told names) (λ telling. JudgesTold takes_all p telling old new ended))
 
--- what standard error gets, and the status: as of any run; or the line of the trace's fault is
--- written, status 1, or memory ran out, or an output refused
+-- the text on standard error, and the status, are as for any run; or the line of the trace's fault
+-- is written, status 1. Or memory ran out, or an output refused
 abbrev pub ClosesJudged : Bool → Text × Text → Result ℕ JudgeError → Held → Held → ℕ → Type 0
 ClosesJudged takes_all names (Ok own) old new status = Closes takes_all names (Ok own) old new status
 ClosesJudged takes_all names (Err (error.Stop end)) old new status =
@@ -89,8 +89,8 @@ ClosesJudged takes_all names (Err (error.Stop end)) old new status =
 ClosesJudged takes_all names (Err (error.Trace fault)) old new status =
     TellsFault takes_all (trace_line fault) old new status
 
--- the verdict on the trace of these names is printed and passed on, status 0 or 4; else the line of
--- a fault is written, status 1, or memory ran out, or an output refused
+-- the verdict on the trace of these names is printed and passed on, status 0 or 4. Otherwise the
+-- line of a fault is written, status 1, or memory ran out, or an output refused
 abbrev pub Judges : Bool → Bool → (Text → Option Telling) → Text × Text → Seen → Seen → ℕ → Type 0
 Judges takes_out takes_err told names old new status =
     (ended : Result ℕ JudgeError) × JudgesNames takes_out told names old.out new.out ended

@@ -1,6 +1,6 @@
--- Members: the members of an event's object. Faults: what is wrong with a trace, and its line.
--- Outcomes, Entries: the outcome and the entry that an object is. Traces: the trace that a text
--- lists. JudgeWords: what the words ask to judge. Judged: what is printed of it.
+-- Members: the members of an event's object. Faults: the faults of a trace, and the line for each.
+-- Outcomes, Entries: the outcome and the entry in an object. Traces: the trace in a text.
+-- JudgeWords: the arguments of `judge`. Judged: the printed verdict.
 pub mod Members
 pub mod Faults
 pub mod Outcomes

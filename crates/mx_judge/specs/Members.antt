@@ -22,7 +22,7 @@ key_of Number = codes "number"
 key_of Count = codes "count"
 key_of Cause = codes "cause"
 
--- what is wrong with it, if something is
+-- the message for a member that is missing or wrong
 abbrev pub message_of : Member → Text
 message_of Act = codes "no such word"
 message_of Node = codes "no such node"
@@ -49,7 +49,7 @@ abbrev pub number_at : Member → Data → Result ℕ ItemFault
 number_at m d =
     ok_or (option_and_then as_u64 (option_and_then as_number (get (key_of m) d))) (Wrong m)
 
--- goes on where the first step succeeded
+-- continues if the first step succeeded
 abbrev pub and_then : {A B : Type 0} → Result A ItemFault → (A → Result B ItemFault)
     → Result B ItemFault
 and_then (Ok a) f = f a

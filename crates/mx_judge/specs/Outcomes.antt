@@ -1,4 +1,4 @@
--- The outcome that an object tells of its event.
+-- The outcome of an event in its object.
 use Rattle.std.specs.Prelude.{ℕ, Result, Ok, Err, codes, if◌then◌else◌}
 use Rattle.std.specs.Str.{bytes_eq}
 use Rattle.serde_json.specs.Data.{Data}
@@ -36,7 +36,7 @@ word_of_done kind.Restart = codes "woken"
 abbrev pub asked : ℕ → Data → Result Outcome ItemFault
 asked i d = and_then (number_at member.Number d) (λ n. Ok (Asked (record { number = n; node = i })))
 
--- a section that was left, by its number; the receipt's reads and writes are not told
+-- a section that was left, by its number; the receipt has no reads and writes
 abbrev pub left : ℕ → Data → Result Outcome ItemFault
 left i d = and_then (number_at member.Number d) (λ n. Ok (Left (receipt_of n i fresh)))
 
@@ -54,7 +54,7 @@ done (Want i other) d = and_then (number_at member.Count d) (λ count. Ok (Sent 
 done (Deliver k) d = Ok Delivered
 done (Restart i) d = Ok Woken
 
--- the cause that its words name; a gap and a base have a number
+-- the cause in its words; a gap and a base have a number
 abbrev pub cause_named : Data → Text → Result Cause ItemFault
 cause_named d word =
     if bytes_eq word (codes "not idle") then Ok NotIdle
@@ -76,7 +76,7 @@ cause_in d = cause_named d (text_at member.Cause d)
 abbrev pub refusal : Data → Result Outcome ItemFault
 refusal d = and_then (cause_in d) (λ cause. Ok (Refused cause))
 
--- the outcome of an event: a refusal, or what its act can come to
+-- the outcome of an event: a refusal, or an outcome that its act can have
 abbrev pub outcome_of : Event → Data → Result Outcome ItemFault
 outcome_of event d =
     if bytes_eq (text_at member.Outcome d) (codes "refused") then refusal d

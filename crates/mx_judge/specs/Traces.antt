@@ -1,4 +1,4 @@
--- The trace that a text lists.
+-- The trace in a text.
 use Rattle.std.specs.Prelude.{◌≡◌, ◌⊎◌, ◌||◌, ◌==◌, ◌+◌, ◌++◌, ℕ, List, [], ◌∷◌, Bool, false, not, length, map, nat_lt, if◌then◌else◌, Option, Some, None, Result, Ok, Err, Vec}
 use Rattle.std.specs.List.{find, list_all, slice_split}
 use Rattle.std.specs.Option.{option_map_or}
@@ -15,7 +15,7 @@ use Rattle.mx_judge.specs.declared.faults.ItemFault.TheVariants as item
 use Rattle.mx_judge.specs.declared.faults.TraceFault.{TraceFault}
 use Rattle.mx_judge.specs.declared.faults.TraceFault.TheVariants.{NotJson, Memory}
 
--- the result is what the rules give, or memory ran out
+-- the result is that by the rules, or memory ran out
 abbrev pub Answers : {T : Type 0} → Result T ItemFault → Result T ItemFault → Type 0
 Answers wanted r = (r ≡ wanted) ⊎ (r ≡ Err item.Memory)
 
@@ -23,7 +23,7 @@ Answers wanted r = (r ≡ wanted) ⊎ (r ≡ Err item.Memory)
 abbrev pub Refuses : {T : Type 0} → Result T ItemFault → ItemFault → Type 0
 Refuses wanted fault = (wanted ≡ Err fault) ⊎ (fault ≡ item.Memory)
 
--- the list is what the rules give, or memory ran out
+-- the list is that by the rules, or memory ran out
 abbrev pub Gives : Result (List Entry) TraceFault → Result (Vec Entry Global) TraceFault → Type 0
 Gives wanted (Ok entries) = wanted ≡ Ok entries.items
 Gives wanted (Err fault) = (wanted ≡ Err fault) ⊎ (fault ≡ Memory)
@@ -48,7 +48,7 @@ abbrev pub with_item : List Entry → Result (Option Entry) ItemFault → Result
 with_item entries (Ok entry) = with_entry entries entry
 with_item entries (Err fault) = Err fault
 
--- goes on where an item was no fault, which is named by its number
+-- continues if an item had no fault; a fault has the number of its item
 abbrev pub go_on : (ℕ → ItemFault → TraceFault) → ℕ → Result (List Entry) ItemFault
     → (List Entry → Result (List Entry) TraceFault) → Result (List Entry) TraceFault
 go_on name k (Ok entries) f = f entries
@@ -79,10 +79,10 @@ array_at p text =
 abbrev pub first_mark : Text → Option ℕ
 first_mark text = find (λ b. not (is_blank b)) text
 
--- that byte begins an array
+-- that byte starts an array
 abbrev pub begins_array : Text → Bool
 begins_array text = option_map_or (λ b. b == 91) (first_mark text) false
 
--- the trace that a text lists: an array if it begins so, and else lines
+-- the trace in a text: an array if it starts so, and otherwise lines
 abbrev pub trace_at : Fields → Text → Result (List Entry) TraceFault
 trace_at p text = if begins_array text then array_at p text else lines_at p text

@@ -1,4 +1,4 @@
-//! Reading an entry of a trace from an object of JSON.
+//! Reading an entry of a trace from a JSON object.
 
 ghost use Rattle.std.specs.Prelude.{◌≡◌};
 ghost use Rattle.serde_json.specs.View.{view};
@@ -13,8 +13,8 @@ use mx_sections::Entry;
 use mx_stamps::NodeId;
 use serde_json::Value;
 
-/// The entry of an item: an event with its outcome. None for an object of a parcel, a node or a
-/// verdict.
+/// Returns the entry of an item: an event with its outcome. Returns `None` for an object of a
+/// parcel, a node or a verdict.
 #[tactic(auto, unfolding(crate::specs::Entries::item_of))]
 pub(crate) fn item_in(plan: &Plan, value: &Value) -> Result<Option<Entry>, ItemFault>
     ensures { result ≡ spec.item_of plan.now (view value.now) }
@@ -28,14 +28,14 @@ pub(crate) fn item_in(plan: &Plan, value: &Value) -> Result<Option<Entry>, ItemF
     Err(ItemFault::NotEvent)
 }
 
-/// Whether an object that has no act is one of a parcel, a node or a verdict.
+/// Returns whether an object without an act is one of a parcel, a node or a verdict.
 fn is_passed_over(value: &Value) -> bool
     ensures { result ≡ spec.is_passed_over (view value.now) }
 {
     has_member(value, "kind") || has_member(value, "phase") || has_member(value, "verdict")
 }
 
-/// An event with its outcome.
+/// Reads an event with its outcome.
 fn entry_in(plan: &Plan, value: &Value) -> Result<Entry, ItemFault>
     ensures { result ≡ spec.entry_of plan.now (view value.now) }
 {
@@ -44,7 +44,7 @@ fn entry_in(plan: &Plan, value: &Value) -> Result<Entry, ItemFault>
     Ok(Entry { event, outcome })
 }
 
-/// An event, by its act.
+/// Reads an event, by its act.
 fn event_in(plan: &Plan, value: &Value) -> Result<Event, ItemFault>
     ensures { result ≡ spec.event_of plan.now (view value.now) }
 {
@@ -55,7 +55,7 @@ fn event_in(plan: &Plan, value: &Value) -> Result<Event, ItemFault>
     }
 }
 
-/// An event of this node and kind.
+/// Reads an event of this node and kind.
 fn event_at(plan: &Plan, value: &Value, node: NodeId, kind: EventKind) -> Result<Event, ItemFault>
     ensures { result ≡ spec.event_at plan.now (view value.now) node kind }
 {
@@ -88,7 +88,7 @@ fn delivery(value: &Value) -> Result<Event, ItemFault>
     Ok(Event::Deliver(number_at(value, Member::Parcel)?))
 }
 
-/// The node that a member names.
+/// Returns the node that a member names.
 fn node_at(plan: &Plan, value: &Value, member: Member) -> Result<NodeId, ItemFault>
     ensures { result ≡ spec.node_at plan.now (view value.now) member }
 {
@@ -98,7 +98,7 @@ fn node_at(plan: &Plan, value: &Value, member: Member) -> Result<NodeId, ItemFau
     }
 }
 
-/// The register that an event names.
+/// Returns the register that an event names.
 fn register_at(plan: &Plan, value: &Value) -> Result<u8, ItemFault>
     ensures { result ≡ spec.register_at plan.now (view value.now) }
 {

@@ -6,8 +6,9 @@ use mx_cli::Stop;
 /// Why there is no verdict.
 #[derive(Clone, Copy)]
 pub enum JudgeError {
+    /// The run stopped because of the plan, an output or memory.
     Stop(Stop),
-    /// The trace is at fault.
+    /// The trace has a fault.
     Trace(TraceFault),
 }
 

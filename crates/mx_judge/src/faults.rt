@@ -1,4 +1,4 @@
-//! What is wrong with a trace.
+//! The faults of a trace.
 
 ghost use Rattle.std.specs.Prelude.{◌≡◌, Some};
 ghost use Rattle.mx_judge.specs.Faults.{item_text, line_fault, list_fault, trace_line};
@@ -6,16 +6,16 @@ ghost use Rattle.mx_judge.specs.Faults.{item_text, line_fault, list_fault, trace
 use crate::members::Member;
 use std::fmt;
 
-/// What is wrong with a line of a trace, or with an item of an array.
+/// The fault of a line of a trace, or of an item of an array.
 #[derive(Clone, Copy)]
 pub enum ItemFault {
-    /// It is not JSON, or not in UTF-8.
+    /// It is not valid JSON, or not valid UTF-8.
     NotJson,
-    /// It is no object of an event, a parcel, a node or a verdict.
+    /// It is not an object of an event, a parcel, a node or a verdict.
     NotEvent,
-    /// This member of an event is missing, or not as it should be.
+    /// This member of an event is missing or wrong.
     Wrong(Member),
-    /// There were 1,000,000 events before.
+    /// There are 1,000,000 events before it.
     TooMany,
     /// Memory ran out. This is no fault of the item.
     Memory,
@@ -35,19 +35,21 @@ impl fmt::Display for ItemFault {
     }
 }
 
-/// What is wrong with a trace. Lines and items are numbered from 1.
+/// The fault of a trace. Lines and items are numbered from 1.
 #[derive(Clone, Copy)]
 pub enum TraceFault {
-    /// The array is not JSON, or not in UTF-8.
+    /// The array is not valid JSON, or not valid UTF-8.
     NotJson,
+    /// The line of this number has this fault.
     Line(u64, ItemFault),
+    /// The item of this number has this fault.
     Item(u64, ItemFault),
     /// Memory ran out. This is no fault of the trace.
     Memory,
 }
 
 impl TraceFault {
-    /// The fault of the line of this number.
+    /// Returns the fault of the line of this number.
     pub(crate) fn of_line(number: u64, fault: ItemFault) -> TraceFault
         ensures { result ≡ line_fault number fault }
     {
@@ -57,7 +59,7 @@ impl TraceFault {
         }
     }
 
-    /// The fault of the item of this number.
+    /// Returns the fault of the item of this number.
     pub(crate) fn of_item(number: u64, fault: ItemFault) -> TraceFault
         ensures { result ≡ list_fault number fault }
     {

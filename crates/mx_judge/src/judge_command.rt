@@ -1,4 +1,4 @@
-//! The command: from words, named bytes and two outputs to a status.
+//! The command: from the arguments, named bytes and two outputs to an exit status.
 
 ghost use Rattle.std.specs.Prelude.{◌≡◌, ◌&&◌, IfErr, IfOk, IfSome, IsSome};
 ghost use Rattle.std.specs.Io.KnownBytes.{Appends, Keeps};
@@ -20,10 +20,14 @@ use mx_io::{Output, Source};
 use mx_plan::Plan;
 use std::alloc::Global;
 
-/// Runs the words of a command line of which `judge` is the first, without the program's name:
-/// reads a plan and a trace, and prints the verdict on the trace. Returns the status: 0 if the trace
-/// is sound, or help was asked for, 4 if it is broken, 1 if the plan, the trace, a file or an output
-/// is at fault, 2 if the words are not those of `judge`, 5 if memory ran out.
+/// Runs a command line whose first argument is `judge`, without the program's name. Reads a plan
+/// and a trace, and prints the verdict on the trace. Returns the exit status:
+///
+/// - 0 if the trace is sound, or if help was requested;
+/// - 1 for an error in the plan, the trace, a file or an output;
+/// - 2 for arguments that are not those of `judge`;
+/// - 4 if the trace is broken;
+/// - 5 if memory ran out.
 pub fn judge_trace<S: Source, O: Output, E: Output>(
     alloc: Global,
     words: &[&str],
@@ -44,7 +48,7 @@ pub fn judge_trace<S: Source, O: Output, E: Output>(
     }
 }
 
-/// Judges the trace of these names, and closes the run. Returns the status.
+/// Judges the trace of these names, closes the run, and returns the exit status.
 fn judge_and_close<S: Source, O: Output, E: Output>(
     alloc: Global,
     names: &Names<'_>,
@@ -60,8 +64,8 @@ fn judge_and_close<S: Source, O: Output, E: Output>(
     close_judged(alloc, ended, names, out, err)
 }
 
-/// Passes on what the output kept back, and writes why there is no verdict if there is none.
-/// Returns the status.
+/// Flushes the output, and writes why there is no verdict if there is none. Returns the exit
+/// status.
 fn close_judged<O: Output, E: Output>(
     alloc: Global,
     ended: Result<u8, JudgeError>,
@@ -82,7 +86,7 @@ fn close_judged<O: Output, E: Output>(
     }
 }
 
-/// Reads a plan and a trace, and prints the verdict. Returns its status.
+/// Reads a plan and a trace, prints the verdict, and returns its status.
 fn judge_names<S: Source, O: Output>(
     alloc: Global,
     names: &Names<'_>,
@@ -99,7 +103,7 @@ fn judge_names<S: Source, O: Output>(
     }
 }
 
-/// Prints the verdict on the trace that a text lists. Returns its status.
+/// Prints the verdict on the trace in a text, and returns its status.
 fn judge_text<O: Output>(
     alloc: Global,
     plan: &Plan,
@@ -116,7 +120,7 @@ fn judge_text<O: Output>(
     }
 }
 
-/// Prints a verdict. Returns its status.
+/// Prints a verdict, and returns its status.
 fn print_verdict<O: Output>(alloc: Global, verdict: Verdict, out: &mut O) -> Result<u8, JudgeError>
     ensures ok { IfOk result (λ status. (status ≡ verdict_status verdict)
         × Appends (O.written out.old) (O.written out.new) (verdict_line verdict)) }

@@ -1,4 +1,4 @@
-//! `mx judge`: the verdict on a trace, whoever has written it.
+//! `mx judge`: the verdict on a trace from any source.
 #![tactic(auto)]
 
 mod entry_reader;

@@ -24,7 +24,7 @@ pub enum Member {
 }
 
 impl Member {
-    /// Its key.
+    /// Returns its key.
     pub fn key(self) -> &'static str
         ensures { result.now ≡ spec.key_of self }
     {
@@ -43,7 +43,7 @@ impl Member {
         }
     }
 
-    /// What is wrong with it, if something is.
+    /// Returns the message for a member that is missing or wrong.
     pub fn message(self) -> &'static str
         ensures { result.now ≡ spec.message_of self }
     {
@@ -58,14 +58,14 @@ impl Member {
     }
 }
 
-/// Whether an object has a member of this key.
+/// Returns whether an object has a member of this key.
 pub(crate) fn has_member(value: &Value, key: &str) -> bool
     ensures { result ≡ spec.has_member key.now (view value.now) }
 {
     value.get(key).is_some()
 }
 
-/// The text of a member, empty if it is missing or no text.
+/// Returns the text of a member, empty if it is missing or no text.
 pub(crate) fn text_at(value: &Value, member: Member) -> &str
     ensures { result.now ≡ spec.text_at member (view value.now) }
 {
@@ -75,7 +75,11 @@ pub(crate) fn text_at(value: &Value, member: Member) -> &str
         .unwrap_or("")
 }
 
-/// The number of a member, a whole one of 64 bits.
+/// Returns the number of a member, a `u64` value.
+///
+/// # Errors
+///
+/// Returns `Wrong` with the member if it is missing or no such number.
 pub(crate) fn number_at(value: &Value, member: Member) -> Result<u64, ItemFault>
     ensures { result ≡ spec.number_at member (view value.now) }
 {

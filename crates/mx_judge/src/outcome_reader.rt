@@ -13,7 +13,11 @@ use mx_sections::{Cause, Outcome};
 use mx_stamps::{NodeId, Stamp};
 use serde_json::Value;
 
-/// The outcome of an event: a refusal, or what its act can come to.
+/// Reads the outcome of an event: a refusal, or an outcome that its act can have.
+///
+/// # Errors
+///
+/// Returns `Wrong` with the first member that is missing or wrong.
 pub(crate) fn outcome_in(event: &Event, value: &Value) -> Result<Outcome, ItemFault>
     ensures { result ≡ spec.outcome_of event.now (view value.now) }
 {
@@ -27,7 +31,7 @@ pub(crate) fn outcome_in(event: &Event, value: &Value) -> Result<Outcome, ItemFa
     Err(ItemFault::Wrong(Member::Outcome))
 }
 
-/// The first word of the outcome of an event that was not refused.
+/// Returns the first word of the outcome of an event that was not refused.
 fn word_of_done(kind: EventKind) -> &'static str
     ensures { result.now ≡ spec.word_of_done kind }
 {
@@ -45,7 +49,7 @@ fn word_of_done(kind: EventKind) -> &'static str
     }
 }
 
-/// The outcome of an event that was not refused.
+/// Reads the outcome of an event that was not refused.
 fn done(event: &Event, value: &Value) -> Result<Outcome, ItemFault>
     ensures { result ≡ spec.done event.now (view value.now) }
 {
@@ -72,7 +76,8 @@ fn asked(node: NodeId, value: &Value) -> Result<Outcome, ItemFault>
     Ok(Outcome::Asked(Stamp { number, node }))
 }
 
-/// A section that was left. Its receipt has the number alone, which is all that the judge looks at.
+/// Reads a section that was left. Its receipt has only the number, since the judge uses nothing
+/// else.
 fn left(node: NodeId, value: &Value) -> Result<Outcome, ItemFault>
     ensures { result ≡ spec.left node (view value.now) }
 {
@@ -85,14 +90,14 @@ fn left(node: NodeId, value: &Value) -> Result<Outcome, ItemFault>
     }))
 }
 
-/// A refusal, by its cause.
+/// Reads a refusal, by its cause.
 fn refusal(value: &Value) -> Result<Outcome, ItemFault>
     ensures { result ≡ spec.refusal (view value.now) }
 {
     Ok(Outcome::Refused(cause_in(value)?))
 }
 
-/// The cause that the words of a refusal name. A gap and a base have a number.
+/// Reads the cause from the words of a refusal. A gap and a base have a number.
 fn cause_in(value: &Value) -> Result<Cause, ItemFault>
     ensures { result ≡ spec.cause_in (view value.now) }
 {

@@ -17,9 +17,13 @@ use mx_stamps::MOST_EVENTS;
 use serde_json::Value;
 use std::alloc::Global;
 
-/// Reads a trace of at most 1,000,000 events: an array of JSON, if the text begins so, and else
-/// lines, each an object of JSON or blank. Objects of parcels, nodes and verdicts are passed over.
-/// Of several faults the first is returned.
+/// Reads a trace of at most 1,000,000 events: a JSON array if the text starts so, and otherwise
+/// lines, each a JSON object or blank. Objects of parcels, nodes and verdicts are skipped.
+///
+/// # Errors
+///
+/// Returns the first fault, with the number of its line or item, or `NotJson` for an array that is
+/// not valid JSON. Returns `Memory` if memory runs out.
 pub(crate) fn read_trace(alloc: Global, text: &[u8], plan: &Plan) -> Result<Vec<Entry>, TraceFault>
     ensures { spec.Gives (spec.trace_at plan.now text.now) result }
 {
@@ -30,7 +34,7 @@ pub(crate) fn read_trace(alloc: Global, text: &[u8], plan: &Plan) -> Result<Vec<
     }
 }
 
-/// Whether the first byte that is not blank begins an array.
+/// Returns whether the first byte that is not blank starts an array.
 fn begins_array(text: &[u8]) -> bool
     ensures { result ≡ spec.begins_array text.now }
 {
@@ -40,28 +44,28 @@ fn begins_array(text: &[u8]) -> bool
     }
 }
 
-/// The first byte that is not blank.
+/// Returns the first byte that is not blank.
 fn first_mark(text: &[u8]) -> Option<&u8>
     ensures { option_map (λ byte. byte.now) result ≡ spec.first_mark text.now }
 {
     text.iter().find(|byte| !is_blank(**byte))
 }
 
-/// Whether a byte is a space, a tab, a line feed or a carriage return.
+/// Returns whether a byte is a space, a tab, a line feed or a carriage return.
 fn is_blank(byte: u8) -> bool
     ensures { result ≡ spec.is_blank byte }
 {
     byte == b' ' || byte == b'\t' || byte == b'\n' || byte == b'\r'
 }
 
-/// Whether all bytes are blank.
+/// Returns whether all bytes are blank.
 fn is_blank_line(line: &[u8]) -> bool
     ensures { result ≡ list_all spec.is_blank line.now }
 {
     line.iter().all(|byte| is_blank(*byte))
 }
 
-/// The entries of an array.
+/// Reads the entries of an array.
 fn read_array(alloc: Global, text: &[u8], plan: &Plan) -> Result<Vec<Entry>, TraceFault>
     ensures { spec.Gives (spec.array_at plan.now text.now) result }
 {
@@ -72,7 +76,7 @@ fn read_array(alloc: Global, text: &[u8], plan: &Plan) -> Result<Vec<Entry>, Tra
     }
 }
 
-/// The items of an array, none if the value is no array.
+/// Returns the items of an array, none for any other value.
 fn items_in(value: &Value) -> &[Value]
     ensures { map view result.now ≡ list_in (view value.now) }
 {
@@ -82,7 +86,7 @@ fn items_in(value: &Value) -> &[Value]
     }
 }
 
-/// The entries of items.
+/// Reads the entries of items.
 fn read_items(alloc: Global, items: &[Value], plan: &Plan) -> Result<Vec<Entry>, TraceFault>
     ensures { spec.Gives
         (spec.entries_from list_fault [] 1 (map (item_of plan.now) (map view items.now))) result }
@@ -96,7 +100,7 @@ fn read_items(alloc: Global, items: &[Value], plan: &Plan) -> Result<Vec<Entry>,
     Ok(entries)
 }
 
-/// The entries of lines.
+/// Reads the entries of lines.
 fn read_lines(alloc: Global, text: &[u8], plan: &Plan) -> Result<Vec<Entry>, TraceFault>
     ensures { spec.Gives (spec.lines_at plan.now text.now) result }
 {
@@ -116,7 +120,7 @@ fn read_lines(alloc: Global, text: &[u8], plan: &Plan) -> Result<Vec<Entry>, Tra
     }
 }
 
-/// The entry of a line. None for a blank one.
+/// Reads the entry of a line. Returns `None` for a blank one.
 #[tactic(auto, unfolding(crate::specs::Traces::line_item))]
 fn line_in(alloc: Global, plan: &Plan, line: &[u8]) -> Result<Option<Entry>, ItemFault>
     ensures { spec.Answers (spec.line_item plan.now line.now) result }
@@ -130,7 +134,7 @@ fn line_in(alloc: Global, plan: &Plan, line: &[u8]) -> Result<Option<Entry>, Ite
     }
 }
 
-/// The value of a text.
+/// Parses a text.
 #[tactic(auto, unfolding(mx_plan::specs::Values::value_of))]
 fn parse(alloc: Global, text: &[u8]) -> Result<Value, ItemFault>
     ensures ok { IfOk result (λ v. value_of text.now ≡ Some (view v)) }

@@ -1,4 +1,4 @@
-//! The words of `judge`.
+//! The arguments of `judge`.
 
 ghost use Rattle.std.specs.Prelude.{◌≡◌, IfOk, option_map};
 ghost use Rattle.clap.specs.Words.{found_of, rows_of, subcommand_rows_of};
@@ -18,16 +18,20 @@ fn judge_command<'a>(alloc: Global) -> Result<Command<'a>, AllocError>
     with_plan.arg(file_arg(alloc, "TRACE", help::TRACE))
 }
 
-/// The commands that are read.
+/// Returns the command line that is parsed.
 fn judge_line<'a>(alloc: Global) -> Result<Command<'a>, AllocError>
     ensures { IfOk result (IsLine judge_line) }
 {
     line_of(alloc, judge_command(alloc)?)
 }
 
-/// The names of the plan and of the trace that the words, of which `judge` is the first, ask to
-/// judge. Their faults are those of `clap`, and words that ask for help come as such a fault too,
-/// with the text to show.
+/// Parses a command line that starts with `judge`, and returns the names of the plan and of the
+/// trace.
+///
+/// # Errors
+///
+/// Returns the error of `clap` for wrong arguments, and also, with the text to show, if help is
+/// requested.
 pub(crate) fn asked<'a>(alloc: Global, words: &'a [&'a str]) -> Result<Option<Names<'a>>, Error>
     ensures { Asks names_of judge_line (texts_of words.entry.now)
         (names_asked (texts_of words.entry.now)) result }

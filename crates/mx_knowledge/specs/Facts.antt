@@ -1,4 +1,4 @@
--- What a node knows, fact by fact.
+-- The knowledge of a node, fact by fact.
 use Rattle.std.specs.Prelude.{ℕ, List, [], ◌∷◌}
 use Rattle.mx_knowledge.specs.declared.fact.Fact.{Fact}
 use Rattle.mx_knowledge.specs.declared.fact.Item.{Item}

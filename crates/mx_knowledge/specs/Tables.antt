@@ -1,10 +1,10 @@
--- The values that a table has, which has an entry for each node.
+-- The values in a table with an entry for each node.
 use Rattle.std.specs.Prelude.{ℕ, zero, suc, Bool, List, [], ◌∷◌, ◌++◌, Option, Some, None, false, if◌then◌else◌, slice_index_or}
 use Rattle.mx_stamps.specs.declared.stamp.Stamp.{Stamp}
 use Rattle.mx_knowledge.specs.declared.fact.Item.{Item}
 use Rattle.mx_knowledge.specs.declared.fact.Item.TheVariants as item
 
--- the value that there is, if there is one
+-- the value, if there is one
 abbrev pub if_some : Option Item → List Item
 if_some None = []
 if_some (Some i) = i ∷ []

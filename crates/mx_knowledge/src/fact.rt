@@ -10,17 +10,22 @@ use std::marker::Model;
 /// A value of a fact.
 #[derive(Clone, Copy)]
 pub enum Item {
+    /// A number.
     Number(u64),
+    /// A node.
     Node(NodeId),
+    /// The stamp of a request.
     Stamp(Stamp),
-    /// A node with a number of its own, such as an arbiter and its grant.
+    /// A node with a number, such as an arbiter with its grant.
     Numbered(NodeId, u64),
 }
 
 /// A fact: its name, and its values in order.
 #[derive(Drop)]
 pub struct Fact {
+    /// The name of the fact.
     pub name: &'static str,
+    /// The values, in order.
     pub items: Vec<Item>,
 }
 
@@ -41,7 +46,7 @@ impl Model for Facts {
 }
 
 impl Facts {
-    /// No facts.
+    /// Creates an empty list of facts.
     pub fn new(alloc: Global) -> Facts
         ensures { result ≡ [] }
     {
@@ -51,7 +56,7 @@ impl Facts {
         }
     }
 
-    /// The facts, one after another.
+    /// Returns the facts, in order.
     pub fn as_slice(&self) -> &[Fact]
         ensures { map fact_of result.now ≡ self.now }
     {
@@ -59,6 +64,10 @@ impl Facts {
     }
 
     /// Adds a fact without values.
+    ///
+    /// # Errors
+    ///
+    /// Returns `AllocError` if memory runs out.
     pub fn add_word(&mut self, name: &'static str) -> Result<(), AllocError>
         ensures { OnOk result (self.new ≡ self.old ++ word name.now) }
     {
@@ -67,6 +76,10 @@ impl Facts {
     }
 
     /// Adds a fact with one value.
+    ///
+    /// # Errors
+    ///
+    /// Returns `AllocError` if memory runs out.
     pub fn add(&mut self, name: &'static str, item: Item) -> Result<(), AllocError>
         ensures { OnOk result (self.new ≡ self.old ++ one name.now item) }
     {
@@ -76,6 +89,10 @@ impl Facts {
     }
 
     /// Adds a fact with these values, if there are any.
+    ///
+    /// # Errors
+    ///
+    /// Returns `AllocError` if memory runs out.
     pub fn add_list(&mut self, name: &'static str, items: Vec<Item>) -> Result<(), AllocError>
         ensures { OnOk result (self.new ≡ self.old ++ listed name.now items.items) }
     {

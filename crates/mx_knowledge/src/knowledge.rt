@@ -1,4 +1,4 @@
-//! The interface of a node that states what it knows.
+//! The interface of a node that lists what it knows.
 
 ghost use Rattle.std.specs.Prelude.{◌≡◌, IfOk, List};
 ghost use Rattle.mx_knowledge.specs.Facts.{Known};
@@ -6,12 +6,16 @@ ghost use Rattle.mx_knowledge.specs.Facts.{Known};
 use crate::fact::Facts;
 use std::alloc::{AllocError, Global};
 
-/// A node that states what it knows by its algorithm.
+/// A node that lists what it knows by its algorithm.
 pub trait Knowledge {
-    // what it knows, fact by fact, in the order in which that is shown
+    // the facts that it knows, in the order in which they are shown
     ghost knows: { Self → List Known };
 
-    /// What it knows, fact by fact.
+    /// Returns the facts that it knows, in the order in which they are shown.
+    ///
+    /// # Errors
+    ///
+    /// Returns `AllocError` if memory runs out.
     fn facts(&self, alloc: Global) -> Result<Facts, AllocError>
         ensures { IfOk result (λ facts. facts ≡ knows self.now) };
 }

@@ -1,4 +1,4 @@
-//! What a node knows by its algorithm, fact by fact, so that texts and JSON can show it.
+//! The knowledge of a node by its algorithm, fact by fact, so that texts and JSON can show it.
 #![tactic(auto)]
 
 mod fact;

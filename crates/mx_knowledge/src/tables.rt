@@ -1,4 +1,4 @@
-//! The values that a table has, which has an entry for each node.
+//! The values in a table with an entry for each node.
 
 ghost use Rattle.std.specs.Prelude.{◌≡◌, ◌≤◌, IfOk, length};
 ghost use Rattle.mx_stamps.specs.declared.limits.TheConstants.{MOST_NODES};
@@ -8,7 +8,11 @@ use crate::fact::Item;
 use mx_stamps::{MOST_NODES, NodeId, Stamp};
 use std::alloc::{AllocError, Global};
 
-/// The nodes below `count` that a table marks.
+/// Returns the nodes below `count` that a table marks.
+///
+/// # Errors
+///
+/// Returns `AllocError` if memory runs out.
 pub fn nodes_in(
     alloc: Global,
     marks: &[bool; MOST_NODES as usize],
@@ -28,7 +32,11 @@ pub fn nodes_in(
     Ok(items)
 }
 
-/// The stamps that a table has at the nodes below `count`.
+/// Returns the stamps that a table has at the nodes below `count`.
+///
+/// # Errors
+///
+/// Returns `AllocError` if memory runs out.
 pub fn stamps_in(
     alloc: Global,
     stamps: &[Option<Stamp>; MOST_NODES as usize],
@@ -46,7 +54,11 @@ pub fn stamps_in(
     Ok(items)
 }
 
-/// The nodes below `count` at which a table has a number, each with that number.
+/// Returns the nodes below `count` at which a table has a number, each with that number.
+///
+/// # Errors
+///
+/// Returns `AllocError` if memory runs out.
 pub fn numbers_in(
     alloc: Global,
     numbers: &[Option<u64>; MOST_NODES as usize],

@@ -1,9 +1,9 @@
-//! What becomes of a parcel on its way.
+//! What the network does with a parcel.
 
 ghost use Rattle.std.specs.Prelude.{◌≡◌};
 ghost use Rattle.mx_letters.specs.declared.fates.Fate.TheVariants.{Pass};
 
-/// What becomes of a parcel that reaches its addressee.
+/// What the network does with a parcel on its way to the addressee.
 #[derive(Clone, Copy, Debug, PartialEq, Eq)]
 pub enum Fate {
     /// It is delivered.
@@ -14,18 +14,18 @@ pub enum Fate {
     Twice,
 }
 
-/// A source of fates, asked once for each parcel.
+/// A source of fates, called once for each parcel.
 pub trait Fates {
-    /// The fate of the next parcel.
+    /// Returns the fate of the next parcel.
     fn fate(&mut self) -> Fate;
 }
 
-/// A network that loses and repeats nothing.
+/// A network that neither loses nor repeats a parcel.
 #[derive(Clone, Copy, Debug, Default, PartialEq, Eq)]
 pub struct Fair;
 
 impl Fates for Fair {
-    /// Always `Pass`.
+    /// Returns `Pass`.
     fn fate(&mut self) -> Fate
         ensures { result ≡ Pass }
     {

@@ -1,5 +1,5 @@
-//! The typed letters of each algorithm, the outbox that a call of a node fills, and the fates of
-//! parcels.
+//! The typed letters (messages) of each algorithm, the outbox that a call of a node fills, and the
+//! fates of parcels.
 #![tactic(auto)]
 
 mod fates;

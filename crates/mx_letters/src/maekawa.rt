@@ -2,13 +2,13 @@
 
 use mx_stamps::Stamp;
 
-/// A letter of Maekawa's algorithm (1985). Each carries the stamp of the request that it is about.
+/// A letter of Maekawa's algorithm (1985), with the stamp of the request that it concerns.
 #[derive(Clone, Copy, Debug, PartialEq, Eq)]
 pub enum MaekawaMsg {
     /// A requester asks an arbiter for its grant.
     Request(Stamp),
     /// An arbiter grants. The first number is that of the grant, the second the highest section
-    /// number that the arbiter had been told.
+    /// number that the arbiter has received.
     Locked(Stamp, u64, u64),
     /// An arbiter has another request to serve first.
     Failed(Stamp),

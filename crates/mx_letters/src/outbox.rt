@@ -1,4 +1,4 @@
-//! The letters of one call.
+//! The letters that one call sends.
 
 ghost use Rattle.std.specs.Prelude.{◌≡◌, ◌+◌, ◌<◌, ◌≤◌, ◌↔◌, [], ◌∷◌, ◌++◌, length, slice_get, IsTrue, MatchOption};
 
@@ -9,8 +9,8 @@ use std::marker::Model;
 /// The greatest number of letters in an outbox.
 pub const OUTBOX_ROOM: usize = 32;
 
-/// The letters of one call of a node, in order, each with its addressee. No call of the
-/// algorithms here sends more than 22, so there is room for them in an empty outbox.
+/// The letters that one call of a node sends, in order, each with its addressee. No call of the
+/// algorithms here sends more than 22, so an empty outbox has room for them.
 #[derive(Drop)]
 pub struct Outbox<M> {
     letters: ArrayVec<(NodeId, M), OUTBOX_ROOM>,
@@ -25,7 +25,7 @@ impl<M> Model for Outbox<M> {
 }
 
 impl<M: Default + Drop> Outbox<M> {
-    /// An empty outbox.
+    /// Creates an empty outbox.
     pub fn new() -> Self
         ensures { result ≡ [] }
     {
@@ -43,28 +43,28 @@ impl<M: Default + Drop> Outbox<M> {
 }
 
 impl<M: Drop> Outbox<M> {
-    /// Whether it holds no letter. Each call of a node asks for an empty outbox.
+    /// Returns whether it holds no letter. Each call of a node requires an empty outbox.
     pub fn is_empty(&self) -> bool
         ensures { IsTrue result ↔ (self.now ≡ []) }
     {
         self.letters.is_empty()
     }
 
-    /// How many letters it holds.
+    /// Returns the number of letters.
     pub fn len(&self) -> usize
         ensures { result ≡ length self.now }
     {
         self.letters.len()
     }
 
-    /// How many letters it can still take.
+    /// Returns how many more letters it can hold.
     pub fn room(&self) -> usize
         ensures { result + length self.now ≡ OUTBOX_ROOM }
     {
         self.letters.remaining_capacity()
     }
 
-    /// Adds a letter behind the others.
+    /// Appends a letter.
     pub fn add(&mut self, to: NodeId, letter: M)
         requires { length self.old < OUTBOX_ROOM }
         ensures { self.new ≡ self.old ++ (to, letter) ∷ [] }
@@ -72,7 +72,7 @@ impl<M: Drop> Outbox<M> {
         self.letters.push((to, letter));
     }
 
-    /// The k-th letter, counted from 0.
+    /// Returns the k-th letter, counted from 0, or `None` from the length on.
     pub fn get(&self, k: usize) -> Option<&(NodeId, M)>
         ensures { MatchOption result
             (slice_get self.now k ≡ None)
@@ -81,7 +81,7 @@ impl<M: Drop> Outbox<M> {
         self.letters.as_slice().get(k)
     }
 
-    /// The letters, in order.
+    /// Returns the letters, in order.
     pub fn as_slice(&self) -> &[(NodeId, M)]
         ensures value { result.now ≡ self.now }
         ensures bound { length self.now ≤ OUTBOX_ROOM }

@@ -2,14 +2,14 @@
 
 use mx_stamps::Stamp;
 
-/// A letter of Ricart and Agrawala's algorithm (1981). Each carries the stamp of the request that
-/// it is about.
+/// A letter of Ricart and Agrawala's algorithm (1981), with the stamp of the request that it
+/// concerns.
 #[derive(Clone, Copy, Debug, PartialEq, Eq)]
 pub enum RicartMsg {
     /// A node asks for the section.
     Request(Stamp),
     /// The sender permits the request of this stamp. The number is the highest section number that
-    /// it knew.
+    /// it knows.
     Reply(Stamp, u64),
 }
 

@@ -30,13 +30,13 @@ waiting_at a j = slice_index_or a.waiting j None
 abbrev pub ended_at : ArbiterState → ℕ → ℕ
 ended_at a j = slice_index_or a.ended j 0
 
--- the lesser of two requests; where only one is there, that one
+-- the lesser of two requests, or the only one
 abbrev pub lesser : Option Stamp → Option Stamp → Option Stamp
 lesser None y = y
 lesser (Some x) None = Some x
 lesser (Some x) (Some y) = if is_before_of y x then Some y else Some x
 
--- the least of those of f 0, f 1, .., below n that are there; none where none is
+-- the least of the requests among f 0, f 1, .., f (n - 1), if there is any
 abbrev pub IsLeastOf : (ℕ → Option Stamp) → ℕ → Option Stamp → Type 0
 IsLeastOf f n None = (j : ℕ) → j < n → f j ≡ None
 IsLeastOf f n (Some u) =
@@ -48,11 +48,11 @@ abbrev pub least_of : (ℕ → Option Stamp) → ℕ → Option Stamp
 least_of f zero = None
 least_of f (suc n) = lesser (least_of f n) (f n)
 
--- the requests that wait, without that of one node
+-- the waiting requests, except that of one node
 abbrev pub others_at : ArbiterState → ℕ → ℕ → Option Stamp
 others_at a but j = if nat_eq j but then None else waiting_at a j
 
--- what a step of the arbiter gives: its next state and its letters
+-- a step of the arbiter: its next state and its letters
 abbrev pub ArbiterDone : Type 0
 ArbiterDone = Done ArbiterState (Unit {0}) MaekawaMsg
 
@@ -61,11 +61,11 @@ abbrev pub lock_letter : Option Lock → List (ℕ × MaekawaMsg)
 lock_letter None = []
 lock_letter (Some lock) = (lock.stamp.node, Locked lock.stamp lock.grant lock.last) ∷ []
 
--- Grant: where there is no lock, the least of the requests that wait gets the next grant.
--- Published: an arbiter that is not locked locks for the request that precedes all others that
--- wait, and sends LOCKED.
--- Added: the grant's number, and `last`, the highest section number that was told; nothing is
--- granted where no number is left.
+-- Grant: if there is no lock, the least of the waiting requests gets the next grant.
+-- Published: an arbiter that is not locked locks for the waiting request that precedes all others,
+-- and sends LOCKED.
+-- Added: the grant's number, and `last`, the highest section number that it has received; nothing
+-- is granted if no number remains.
 abbrev pub locking : ArbiterState → Stamp → ArbiterState
 locking a u = record a {
   waiting = slice_set a.waiting u.node None;
@@ -87,7 +87,7 @@ grant_in (Some lock) a = becoming a
 abbrev pub grant : ArbiterState → ArbiterDone
 grant a = grant_in a.lock a
 
--- there is a request that waits, and it is before s
+-- there is a waiting request that comes before s
 abbrev pub is_below : Option Stamp → Stamp → Bool
 is_below None s = false
 is_below (Some u) s = is_before_of u s
@@ -97,14 +97,14 @@ fail_least None = []
 fail_least (Some u) = (u.node, Failed u) ∷ []
 
 -- Rank: the request s, which has to wait, is compared with the lock, and with the least of the
--- other requests that wait.
--- Published: where the lock's request or one that waits precedes s, FAILED to the node of s; else
+-- other waiting requests.
+-- Published: if the lock's request or a waiting one precedes s, FAILED to the node of s. Otherwise
 -- INQUIRE to the lock's node, which need not be sent again while one is unanswered.
--- Added: INQUIRE is sent each time, as the one before may have been lost. An answer that comes
--- twice does no harm: the lock ends only for a RELINQUISH of its own stamp and grant. Where the
--- lock is for an older stamp of the node of s, INQUIRE to that node, as the release of the older
--- stamp may have been lost; and FAILED to the least of the others that wait, which s has overtaken,
--- as it may have been told nothing so far.
+-- Added: INQUIRE is sent each time, as the one before may have been lost. A repeated reply does no
+-- harm: the lock ends only for a RELINQUISH of the same stamp and grant. If the lock is for an
+-- older stamp of the node of s, INQUIRE to that node, as the release of the older stamp may have
+-- been lost. FAILED also goes to the least of the other waiting requests, which s has overtaken, as
+-- it may have had no reply so far.
 abbrev pub overtaking : Lock → Option Stamp → List (ℕ × MaekawaMsg)
 overtaking lock other = (lock.stamp.node, Inquire lock.stamp lock.grant) ∷ fail_least other
 
@@ -124,10 +124,10 @@ abbrev pub rank : Lock → Stamp → ArbiterState → ArbiterDone
 rank lock s a = sending a (rank_by lock s (least_of (others_at a s.node) a.count))
 
 -- REQUEST with stamp s.
--- Published: where there is no lock it is granted; else it waits, and is ranked.
--- Added: the request is ignored where s has ended, or where a later stamp of the same node is
--- locked for or waits; where the lock is for s, its LOCKED is sent again. For requests are sent
--- again, and may come late.
+-- Published: if there is no lock it is granted; otherwise it waits, and is ranked.
+-- Added: the request is ignored if s has ended, or if a later stamp of the same node has the lock
+-- or waits. If the lock is for s, its LOCKED is sent again. Requests are sent again, and may come
+-- late.
 abbrev pub waiting_for : ArbiterState → Stamp → ArbiterState
 waiting_for a s = record a { waiting = slice_set a.waiting s.node (Some s) }
 
@@ -159,11 +159,10 @@ take_live s a = if is_for a.lock s then sending a (lock_letter a.lock) else take
 abbrev pub take_request : Stamp → ArbiterState → ArbiterDone
 take_request s a = if nat_lt (ended_at a s.node) s.number then take_live s a else becoming a
 
--- RELINQUISH from the node of s: where the lock is for exactly this stamp and grant it ends, and
--- the request waits again.
--- Published: so, and the first of those that wait is granted.
--- Added: the tests of stamp and grant number. Where a later request of the node waits, that one
--- stays.
+-- RELINQUISH from the node of s: if the lock is for exactly this stamp and grant it ends, and the
+-- request waits again.
+-- Published: the same, and the first of the waiting requests is granted.
+-- Added: the tests of stamp and grant number. A later request of the node that waits stays.
 abbrev pub is_exactly : Option Lock → Stamp → ℕ → Bool
 is_exactly None s g = false
 is_exactly (Some lock) s g = is_same_as lock.stamp s && nat_eq lock.grant g
@@ -182,9 +181,9 @@ abbrev pub take_relinquish : Stamp → ℕ → ArbiterState → ArbiterDone
 take_relinquish s g a = if is_exactly a.lock s g then grant (taking_back s a) else becoming a
 
 -- RELEASE from the node of s: all its requests up to s have ended, and a lock for one of them ends.
--- Published: the lock ends, and the first of those that wait is granted.
--- Added: the release bears s, so that it ends no later request, and an older request that comes
--- late is known to have ended; `last` takes in the section number that the release tells.
+-- Published: the lock ends, and the first of the waiting requests is granted.
+-- Added: the release carries s. So it ends no later request, and an older request that comes late
+-- is known to have ended. `last` takes in the section number of the release.
 abbrev pub drop_up_to : Option Stamp → ℕ → Option Stamp
 drop_up_to None number = None
 drop_up_to (Some u) number = if nat_lt number u.number then Some u else None

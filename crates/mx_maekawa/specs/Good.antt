@@ -35,7 +35,7 @@ IsGiven r a stamp g =
 abbrev pub IsReached : NodeWorld → ℕ → Type 0
 IsReached w n = IsReachedBy (λ (s : Node). s.requester.mine) w n
 
--- arbiter a was told that node i's grant is given back, or that its request has ended
+-- arbiter a was sent a letter that gives node i's grant back, or that ends its request
 abbrev pub IsOver : NodeWorld → ℕ → ℕ → Stamp → ℕ → Type 0
 IsOver w a i stamp g =
     WasSent w i a (Relinquish stamp g)
@@ -51,7 +51,7 @@ pub record IsEntered (w : NodeWorld) (i : ℕ) (s : Node) : Type 0 where
   pub stamp : Stamp
   pub grant_of : ℕ → ℕ
   pub node : stamp.node ≡ i
-  -- while it is inside its stamp and its number are current; once it has left the stamp has ended
+  -- while it is inside, its stamp and its number are current; once it has left, the stamp has ended
   pub inside : (n : ℕ) → s.requester.phase ≡ Inside n → (stamp ≡ s.requester.ours)
       × ((a : ℕ) → is_own s.requester a ≡ true → held_at s.requester a ≡ Some (grant_of a))
   pub ended : ((n : ℕ) → s.requester.phase ≡ Inside n → ⊥) → IsEnded s.requester stamp.number
@@ -60,14 +60,14 @@ pub record IsEntered (w : NodeWorld) (i : ℕ) (s : Node) : Type 0 where
       (c : ℕ) × WasSent w a i (Locked stamp (grant_of a) c)
   pub kept : (a : ℕ) → is_own s.requester a ≡ true → WasSent w i a (Relinquish stamp (grant_of a)) →
       ⊥
-  -- each release of the stamp or a later one tells the section's number
+  -- each release of the stamp or a later one carries the section's number or a higher one
   pub released : (a : ℕ) (later : Stamp) (t : ℕ) → WasSent w i a (Release later t) →
       stamp.number ≤ later.number → s.requester.mine ≤ t
-  -- an arbiter is still locked for it, or was told the section's number
+  -- an arbiter is still locked for it, or knows the section's number
   pub locked : (a : ℕ) (arbiter : Node) → is_own s.requester a ≡ true → IsNode w a arbiter →
       ((c : ℕ) × IsLockedFor arbiter stamp (grant_of a) c)
       ⊎ (s.requester.mine ≤ arbiter.arbiter.last)
-  -- each later grant of its arbiters tells the section's number
+  -- each later grant of its arbiters carries the section's number or a higher one
   pub after : (a b : ℕ) (other : Stamp) (g c : ℕ) → is_own s.requester a ≡ true →
       WasSent w a b (Locked other g c) → grant_of a < g → s.requester.mine ≤ c
 
@@ -79,7 +79,7 @@ pub record IsHeldOk (w : NodeWorld) (s : Node) (a g : ℕ) : Type 0 where
   pub top : c ≤ s.requester.top
   pub lock : (arbiter : Node) → IsNode w a arbiter → IsLockedFor arbiter s.requester.ours g c
 
--- node i has its own name, the count, and its own set, whose arbiters are nodes and which meets
+-- node i has its own name, the count, and its own set; the set's arbiters are nodes, and it meets
 -- each other set
 pub record IsPlaced (w : NodeWorld) (i name count : ℕ) (row : List Bool) : Type 0 where
   pub me : name ≡ i
@@ -89,7 +89,7 @@ pub record IsPlaced (w : NodeWorld) (i name count : ℕ) (row : List Bool) : Typ
   pub meet : (j : ℕ) (t : Node) → IsNode w j t →
       (a : ℕ) × (slice_index_or row a false ≡ true) × (is_own t.requester a ≡ true)
 
--- what holds of each node
+-- what holds for each node
 pub record IsNodeOk (w : NodeWorld) (i : ℕ) (s : Node) : Type 0 where
   pub placed : IsPlaced w i s.requester.me s.requester.count s.requester.own
   pub back_places : length s.requester.back ≡ MOST_NODES
@@ -98,7 +98,8 @@ pub record IsNodeOk (w : NodeWorld) (i : ℕ) (s : Node) : Type 0 where
   pub issued : s.requester.issued ≤ s.requester.highest
   pub ours_node : IsBusy s.requester → s.requester.ours.node ≡ i
   pub ours_number : IsBusy s.requester → s.requester.ours.number ≡ s.requester.issued
-  -- `top` counts the node's own sections, and no section that nobody has entered
+  -- `top` is at least the number of the node's last section, and at most one that some node has
+  -- entered
   pub mine_top : s.requester.mine ≤ s.requester.top
   pub top_reached : IsReached w s.requester.top
   pub last_reached : IsReached w s.arbiter.last
@@ -106,7 +107,7 @@ pub record IsNodeOk (w : NodeWorld) (i : ℕ) (s : Node) : Type 0 where
   pub lock_last : (lock : Lock) → s.arbiter.lock ≡ Some lock → (lock.grant ≡ s.arbiter.granted)
       × WasSent w i lock.stamp.node (Locked lock.stamp lock.grant lock.last)
   pub held : IsBusy s.requester → (a g : ℕ) → held_at s.requester a ≡ Some g → IsHeldOk w s a g
-  -- who is inside holds a grant of each arbiter of its set
+  -- a node that is inside holds a grant of each arbiter of its set
   pub inside_holds : (n : ℕ) → s.requester.phase ≡ Inside n → (a : ℕ) →
       is_own s.requester a ≡ true → (g : ℕ) × (held_at s.requester a ≡ Some g)
   -- a remembered inquiry is for the grant that is held
@@ -114,26 +115,26 @@ pub record IsNodeOk (w : NodeWorld) (i : ℕ) (s : Node) : Type 0 where
       held_at s.requester a ≡ Some g
   pub entered : 0 < s.requester.mine → IsEntered w i s
 
--- what holds of each LOCKED that was sent
+-- what holds for each LOCKED that was sent
 pub record IsLockedOk (w : NodeWorld) (a b : ℕ) (stamp : Stamp) (g c : ℕ) : Type 0 where
   pub node : stamp.node ≡ b
   pub granted : (s : Node) → IsNode w a s → g ≤ s.arbiter.granted
-  -- it tells of no section that nobody has entered
+  -- it carries a section number that some node has reached
   pub reached : IsReached w c
   -- no other LOCKED of its arbiter has its grant
   pub same : (other_b : ℕ) (other : Stamp) (other_c : ℕ) →
       WasSent w a other_b (Locked other g other_c) → (other ≡ stamp) × (other_c ≡ c)
-  -- the arbiter is locked for it, or was told that this is over
+  -- the arbiter is locked for it, or was sent a letter that ends it
   pub ends : (s : Node) → IsNode w a s → IsLockedFor s stamp g c ⊎ IsOver w a b stamp g
 
--- what holds of each RELINQUISH that was sent: the grant will not be held again
+-- what holds for each RELINQUISH that was sent: the grant will not be held again
 pub record IsRelinquishOk (w : NodeWorld) (i a : ℕ) (stamp : Stamp) (g : ℕ) : Type 0 where
   pub node : stamp.node ≡ i
   pub issued : (s : Node) → IsNode w i s → stamp.number ≤ s.requester.issued
   pub given : (s : Node) → IsNode w i s → IsGiven s.requester a stamp g
 
--- what holds of each RELEASE that was sent: its stamp is ended, and it tells of no section that
--- nobody has entered
+-- what holds for each RELEASE that was sent: its stamp has ended, and it carries a section number
+-- that some node has reached
 pub record IsReleaseOk (w : NodeWorld) (i : ℕ) (stamp : Stamp) (t : ℕ) : Type 0 where
   pub node : stamp.node ≡ i
   pub ended : (s : Node) → IsNode w i s → IsEnded s.requester stamp.number

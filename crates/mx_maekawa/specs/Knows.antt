@@ -1,4 +1,4 @@
--- What a node knows, as it is shown: as a requester, and then as an arbiter.
+-- The knowledge of a node, as it is shown: as a requester, and then as an arbiter.
 use Rattle.std.specs.Prelude.{ℕ, List, [], ◌++◌, Option, Some, None, codes, if◌then◌else◌}
 use Rattle.mx_nodelaws.specs.Phases.{is_busy, is_waiting}
 use Rattle.mx_knowledge.specs.declared.fact.Item.{Item}
@@ -17,7 +17,7 @@ request_of r = if is_busy r.phase then one (codes "request") (item.Stamp r.ours)
 abbrev pub missing_at : RequesterState → ℕ → Option Item
 missing_at r a = if is_held r a then None else Some (item.Node a)
 
--- whose grants are missing, or that it may enter
+-- the arbiters whose grants are missing, or that it may enter
 abbrev pub missing_of : RequesterState → List Known
 missing_of r =
     if holds_all r then word (codes "may enter")
@@ -34,7 +34,7 @@ answers_of r =
     ++ listed (codes "inquired") (below (number_at r.remembered) r.count)
 
 -- its clock; its request; the arbiters whose grants it holds, each with the grant; what it waits
--- for; what its arbiters answered
+-- for; the replies of its arbiters
 abbrev pub requester_known : RequesterState → List Known
 requester_known r =
     one (codes "clock") (item.Number r.highest) ++ request_of r
@@ -51,7 +51,7 @@ abbrev pub grant_of : Option Lock → List Known
 grant_of None = []
 grant_of (Some lock) = one (codes "arbiter grant") (item.Number lock.grant)
 
--- the lock with its grant; the requests that wait for it; the last section that it was told
+-- the lock with its grant; the requests that wait for it; the last section that it knows
 abbrev pub arbiter_known : ArbiterState → List Known
 arbiter_known a =
     lock_of a.lock ++ grant_of a.lock

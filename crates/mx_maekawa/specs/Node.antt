@@ -7,16 +7,16 @@ use Rattle.mx_maekawa.specs.declared.lock.Lock.{Lock}
 
 pub record RequesterState : Type 0 where
   pub me : ℕ
-  -- its own set: for each node, whether it is one of its arbiters
+  -- for each node, whether it is one of this node's arbiters
   pub own : List Bool
-  -- how many nodes there are
+  -- the number of nodes
   pub count : ℕ
   -- the greatest section number
   pub limit : ℕ
   pub phase : Phase
   -- the highest stamp number that it has seen or drawn
   pub highest : ℕ
-  -- the number of its own latest stamp
+  -- the number of its latest stamp
   pub issued : ℕ
   -- the stamp of its request, current while it waits or is inside
   pub ours : Stamp
@@ -31,11 +31,11 @@ pub record RequesterState : Type 0 where
   pub remembered : List (Option ℕ)
   -- the highest section number that it knows
   pub top : ℕ
-  -- the number of the last section that it entered, 0 before the first
+  -- the number of the last section that it entered, or 0 before the first
   pub mine : ℕ
 
 pub record ArbiterState : Type 0 where
-  -- how many nodes there are
+  -- the number of nodes
   pub count : ℕ
   -- the request that it is locked for, with the grant
   pub lock : Option Lock
@@ -45,7 +45,7 @@ pub record ArbiterState : Type 0 where
   pub waiting : List (Option Stamp)
   -- for each node, the greatest number of its stamps that are known to have ended
   pub ended : List ℕ
-  -- the highest section number that a release has told
+  -- the highest section number received in a release
   pub last : ℕ
 
 pub record Node : Type 0 where

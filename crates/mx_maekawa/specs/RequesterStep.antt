@@ -94,7 +94,7 @@ abbrev pub has_ended : RequesterState → Stamp → Bool
 has_ended r stamp =
     not (is_busy r.phase && is_same_as stamp r.ours) && nat_lt stamp.number (r.issued + 1)
 
--- what a step of the requester gives: its next state, its answer and its letters
+-- a step of the requester: its next state, its result and its letters
 abbrev pub RequesterDone : Type 0 → Type 0
 RequesterDone A = Done RequesterState A MaekawaMsg
 
@@ -124,8 +124,7 @@ give_below zero r = becoming r
 give_below (suc n) r = and_then (give_below n r) (give_remembered n)
 
 -- Fail: arbiter a has failed the request, and each grant of a remembered inquiry is given back.
--- Published: inquiries that were put off are answered by RELINQUISH once the node has received
--- FAILED.
+-- Published: RELINQUISH follows each inquiry that was put off, once the node has received FAILED.
 abbrev pub failing : RequesterState → ℕ → RequesterState
 failing r a = record r { failed = slice_set r.failed a true }
 
@@ -134,7 +133,7 @@ fail a r = give_below r.count (failing r a)
 
 -- ask: the clock's next stamp, no grant yet, and a request to each of its arbiters.
 -- Published: a REQUEST goes to every member of the node's set.
--- Added: where no number is left the call is refused.
+-- Added: if no number remains, the call is refused.
 abbrev pub asking : RequesterState → RequesterState
 asking r = record r {
   highest = r.highest + 1;
@@ -160,7 +159,7 @@ asked r = record {
 abbrev pub ask_in : Phase → RequesterState → RequesterDone (Result Stamp AskFault)
 ask_in p r = ask_by (λ (x : RequesterState). x.highest) asked p r
 
--- a LOCKED or INQUIRE for an ended stamp is answered by a release.
+-- the reply to a LOCKED or INQUIRE for an ended stamp is a release.
 -- Added: the release of that stamp may have been lost, and the arbiter would stay locked for it.
 abbrev pub release_ended : RequesterState → Stamp → ℕ → RequesterDone (Unit {0})
 release_ended r stamp a = if has_ended r stamp then saying r a (Release stamp r.top) else becoming r
@@ -169,7 +168,7 @@ release_ended r stamp a = if has_ended r stamp then saying r a (Release stamp r.
 -- Published: the grant is held.
 -- Added: the tests of stamp and grant number, since a LOCKED may come late or twice. A grant that
 -- was given back does not count again and is given back again, as the RELINQUISH may have been
--- lost. `top` takes in the section number that the arbiter tells.
+-- lost. `top` takes in the section number of the grant.
 abbrev pub holding : RequesterState → ℕ → ℕ → ℕ → RequesterState
 holding r a g c = record r {
   held = slice_set r.held a (Some g);
@@ -194,9 +193,9 @@ take_locked a stamp g c r =
 abbrev pub take_failed : ℕ → Stamp → RequesterState → RequesterDone (Unit {0})
 take_failed a stamp r = if is_current_wait r stamp && not (holds r a) then fail a r else becoming r
 
--- INQUIRE from arbiter a for the grant that is held: it is given back where some arbiter has
--- failed, else the inquiry is remembered.
--- Published: so, with RELINQUISH for a grant that is given back.
+-- INQUIRE from arbiter a for the grant that is held: it is given back if some arbiter has failed,
+-- and otherwise the inquiry is remembered.
+-- Published: the same, with RELINQUISH for a grant that is given back.
 -- Added: the tests of stamp and grant number.
 abbrev pub giving_now : RequesterState → ℕ → ℕ → RequesterState
 giving_now r a g = record r {
@@ -222,8 +221,8 @@ declining r a g = record r { back = slice_set r.back a (max (back_at r a) g) }
 abbrev pub inquired_missing : ℕ → Stamp → ℕ → RequesterState → RequesterDone (Unit {0})
 inquired_missing a stamp g r = and_then (saying (declining r a g) a (Relinquish stamp g)) (fail a)
 
--- INQUIRE by what is held. Where another grant of a is held, the one asked for is given back, and
--- nothing else happens.
+-- INQUIRE, by the grant that is held. If another grant of a is held, the one asked for is given
+-- back, and nothing else happens.
 -- Added, since an INQUIRE may come late.
 abbrev pub inquired : Option ℕ → ℕ → Stamp → ℕ → RequesterState → RequesterDone (Unit {0})
 inquired None a stamp g r = inquired_missing a stamp g r
@@ -239,7 +238,7 @@ can_enter_of r = is_waiting r.phase && holds_all r
 
 -- enter: the section's number is one above the highest that the node knows.
 -- Published: the node enters once every member of its set has sent LOCKED.
--- Added: the section's number, and the refusal where the limit is reached.
+-- Added: the section's number, and the refusal if the limit is reached.
 abbrev pub entering : RequesterState → RequesterState
 entering r = record r {
   top = r.top + 1;
@@ -254,9 +253,9 @@ enter_in p r =
     entering p r
 
 -- leave: each of its arbiters is sent a release.
--- Published: so.
--- Added: the release bears the stamp that has ended, and `top`.
--- cancel: the same, of a node that waits. Added: its request has ended, and it enters nothing.
+-- Published: the same.
+-- Added: the release carries the stamp that has ended, and `top`.
+-- cancel: the same, for a waiting node. Added: its request has ended, and it enters nothing.
 abbrev pub ending : RequesterState → RequesterState
 ending r = record r {
   phase = Idle;

@@ -1,5 +1,5 @@
--- The step table: the rows of the two roles, put together. Which part of a row is published
--- (Maekawa 1985) and which is added here is said beside the rows, in RequesterStep and ArbiterStep.
+-- The step table: the rows of the two roles, put together. RequesterStep and ArbiterStep say which
+-- part of a row is published (Maekawa 1985) and which is added here.
 use Rattle.std.specs.Prelude.{ℕ, Bool, ◌&&◌, ◌++◌, max, nat_eq, if◌then◌else◌}
 use Rattle.mx_stamps.specs.declared.stamp.Stamp.{Stamp}
 use Rattle.mx_letters.specs.declared.maekawa.MaekawaMsg.{MaekawaMsg}
@@ -12,7 +12,7 @@ use Rattle.mx_maekawa.specs.Node.{RequesterState, ArbiterState, Node}
 use Rattle.mx_maekawa.specs.RequesterStep.{start_requester, is_own, holds_all, asked, take_locked, take_failed, take_inquire, entering, ended, request_again}
 use Rattle.mx_maekawa.specs.ArbiterStep.{start_arbiter, take_request, take_relinquish, take_release, lock_letter}
 
--- a step of the requester alone, or of the arbiter alone
+-- a step of only the requester, or of only the arbiter
 abbrev pub by_requester : {A : Type 0} → Node → Done RequesterState A MaekawaMsg →
     Done Node A MaekawaMsg
 by_requester s did = record {
@@ -37,8 +37,8 @@ start_of shape me origin limit = record {
   arbiter = start_arbiter shape.count origin;
 }
 
--- the requester takes a letter of one of its own arbiters about one of its own stamps. Added: any
--- other letter to it is ignored
+-- the requester takes a letter from its arbiters about its stamps. Added: any other letter to it is
+-- ignored
 abbrev pub is_answer : Node → ℕ → Stamp → Bool
 is_answer s from stamp = is_own s.requester from && nat_eq stamp.node s.requester.me
 

@@ -1,8 +1,8 @@
--- Places and Tests (lemmas), Changes and Frame (what any step may change, and what it leaves as it
--- was), Parts, LockParts, GrantParts, SectionParts and Cascades (what a step is made of),
--- RequesterKeeps, ArbiterKeeps and Keeps (each row keeps a world safe), RequesterBounds,
--- ArbiterBounds and Bounds (each number stays a u64 value), Safety (exclusion and numbering), Laws
--- (all together, with the promises on phases).
+-- Places and Tests: lemmas. Changes and Frame: what any step may change, and what it does not.
+-- Parts, LockParts, GrantParts, SectionParts and Cascades: the parts of a step. RequesterKeeps,
+-- ArbiterKeeps and Keeps: each row keeps a world safe. RequesterBounds, ArbiterBounds and Bounds:
+-- each number stays a u64 value. Safety: exclusion and numbering. Laws: all together, with the
+-- promises on phases.
 pub mod Places
 pub mod Tests
 pub mod Changes

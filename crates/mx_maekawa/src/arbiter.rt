@@ -12,21 +12,21 @@ mod knowledge;
 /// The request that a node has granted as an arbiter, and the requests that wait for its grant.
 #[derive(Drop)]
 pub(crate) struct Arbiter {
-    /// How many nodes the cluster has.
+    /// The number of nodes in the cluster.
     count: u8,
     /// The request that this arbiter is locked for, from its grant until the grant is given back
-    /// (RELINQUISH) or the request is released (RELEASE). None while the arbiter is not locked.
+    /// (RELINQUISH) or the request is released (RELEASE). `None` while the arbiter is not locked.
     lock: Option<Lock>,
-    /// The number of the latest grant, the origin before the first. Added to the publication: each
-    /// grant has a number of its own.
+    /// The number of the latest grant, or the origin before the first. Added to the publication:
+    /// grants are numbered.
     granted: u64,
     /// For each node, its request that waits for a grant (the waiting queue). The least stamp is
     /// granted first.
     waiting: [Option<Stamp>; MOST_NODES as usize],
-    /// For each node, the greatest stamp number that it has released, the origin before the first.
-    /// Added to the publication: a request up to that number is an old one.
+    /// For each node, the greatest stamp number that it has released, or the origin before the
+    /// first. Added to the publication: a request up to that number is an old one.
     ended: [u64; MOST_NODES as usize],
-    /// The highest section number that a release has told, 0 before the first. Added to the
+    /// The highest section number received in a release, or 0 before the first. Added to the
     /// publication.
     last: u64,
 }
@@ -55,7 +55,7 @@ impl Arbiter {
     ghost use Rattle.mx_stamps.specs.declared.limits.TheConstants.{MOST_NODES};
     ghost use Rattle.mx_maekawa.specs.ArbiterStep.{start_arbiter, waiting_at, others_at, IsLeastOf, least_of, lock_letter, grant_to, grant, rank, queue, take_request, take_relinquish, take_release};
 
-    /// An arbiter that has just been started.
+    /// Creates an arbiter that has just been started.
     pub(crate) fn start(count: u8, origin: u64) -> Self
         requires { count ≤ MOST_NODES }
         ensures { result ≡ start_arbiter count origin }
@@ -70,7 +70,7 @@ impl Arbiter {
         }
     }
 
-    /// The least of the requests that wait.
+    /// Returns the least of the waiting requests.
     fn least(&self) -> Option<Stamp>
         ensures value { result ≡ least_of (waiting_at self.now) self.now.count }
         ensures least { IsLeastOf (waiting_at self.now) self.now.count result }
@@ -82,7 +82,7 @@ impl Arbiter {
         least
     }
 
-    /// The least of the requests that wait, without that of one node.
+    /// Returns the least of the waiting requests, except that of one node.
     fn least_but(&self, but: NodeId) -> Option<Stamp>
         ensures value { result ≡ least_of (others_at self.now but) self.now.count }
         ensures least { IsLeastOf (others_at self.now but) self.now.count result }
@@ -96,7 +96,7 @@ impl Arbiter {
         least
     }
 
-    /// Locks for a request that waits and grants it, where a grant number is left.
+    /// Locks for a waiting request and grants it, if a grant number remains.
     fn lock_for(&mut self, stamp: &Stamp, out: &mut Outbox<MaekawaMsg>)
         requires { out.old ≡ [] }
         ensures state { self.new ≡ (grant_to (Some stamp.now) self.old).state }
@@ -118,7 +118,7 @@ impl Arbiter {
         }
     }
 
-    /// Grants the least of the requests that wait, where there is no lock.
+    /// Grants the least of the waiting requests, if there is no lock.
     fn grant(&mut self, out: &mut Outbox<MaekawaMsg>)
         requires { out.old ≡ [] }
         ensures state { self.new ≡ (grant self.old).state }
@@ -131,8 +131,8 @@ impl Arbiter {
         }
     }
 
-    /// Ranks a request that has to wait: it is failed where another comes first, and else the grant
-    /// that the lock is for is asked back.
+    /// Ranks a request that has to wait. Sends FAILED if another request comes first, and otherwise
+    /// asks for the lock's grant back.
     fn rank(&self, lock: &Lock, stamp: &Stamp, out: &mut Outbox<MaekawaMsg>)
         requires { out.old ≡ [] }
         ensures { out.new ≡ (rank lock.now stamp.now self.now).letters }
@@ -150,7 +150,7 @@ impl Arbiter {
         }
     }
 
-    /// Adds a request to those that wait, and then grants or ranks.
+    /// Adds a request to the waiting ones, and then grants or ranks.
     fn queue(&mut self, stamp: &Stamp, out: &mut Outbox<MaekawaMsg>)
         requires { out.old ≡ [] }
         ensures state { self.new ≡ (queue self.old.lock stamp.now self.old).state }
@@ -163,7 +163,7 @@ impl Arbiter {
         }
     }
 
-    /// Sends the grant of the lock, if there is one.
+    /// Sends the grant of the lock, if there is a lock.
     fn send_lock(&self, out: &mut Outbox<MaekawaMsg>)
         requires { length out.old ≤ MOST_NODES }
         ensures { out.new ≡ out.old ++ lock_letter self.now.lock }
@@ -231,7 +231,7 @@ impl Arbiter {
         }
     }
 
-    /// Sends the grant of the lock again, if there is one.
+    /// Sends the grant of the lock again, if there is a lock.
     pub(crate) fn tick(&self, out: &mut Outbox<MaekawaMsg>)
         requires { length out.old ≤ MOST_NODES }
         ensures { out.new ≡ out.old ++ lock_letter self.now.lock }

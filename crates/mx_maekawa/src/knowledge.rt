@@ -1,4 +1,4 @@
-//! What a node knows, as it is shown.
+//! The knowledge of a node, as it is shown.
 
 use crate::maekawa::Maekawa;
 use mx_knowledge::{Facts, Knowledge};

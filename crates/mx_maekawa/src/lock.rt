@@ -12,11 +12,11 @@ pub(crate) struct Lock {
     pub(crate) stamp: Stamp,
     /// The number of the grant.
     pub(crate) grant: u64,
-    /// The highest section number that the arbiter had been told when it granted.
+    /// The highest section number that the arbiter knew when it granted.
     pub(crate) last: u64,
 }
 
-/// The stamp of the lock, if there is a lock.
+/// Returns the stamp of the lock, if there is a lock.
 pub(crate) fn stamp_of(lock: &Option<Lock>) -> Option<Stamp>
     ensures { result ≡ stamp_of lock.now }
 {
@@ -26,7 +26,7 @@ pub(crate) fn stamp_of(lock: &Option<Lock>) -> Option<Stamp>
     }
 }
 
-/// Whether the lock is for this request.
+/// Returns whether the lock is for this request.
 pub(crate) fn is_for(lock: &Option<Lock>, stamp: &Stamp) -> bool
     ensures { result ≡ is_for lock.now stamp.now }
 {
@@ -36,7 +36,7 @@ pub(crate) fn is_for(lock: &Option<Lock>, stamp: &Stamp) -> bool
     }
 }
 
-/// Whether the lock is for this request, by this grant.
+/// Returns whether the lock is for this request and has this grant.
 pub(crate) fn is_exactly(lock: &Option<Lock>, stamp: &Stamp, grant: u64) -> bool
     ensures { result ≡ is_exactly lock.now stamp.now grant }
 {
@@ -46,7 +46,7 @@ pub(crate) fn is_exactly(lock: &Option<Lock>, stamp: &Stamp, grant: u64) -> bool
     }
 }
 
-/// Whether the lock is for this request or an earlier one of the same node.
+/// Returns whether the lock is for this request or an earlier one of the same node.
 pub(crate) fn is_up_to(lock: &Option<Lock>, stamp: &Stamp) -> bool
     ensures { result ≡ is_up_to lock.now stamp.now }
 {

@@ -6,14 +6,14 @@ use mx_quorums::Quorums;
 use mx_stamps::{NodeId, Stamp};
 use std::marker::Model;
 
-/// A node of the algorithm. Its calls are those of `Exclusion`.
+/// A node of Maekawa's algorithm. Its calls are those of `Exclusion`.
 #[derive(Drop)]
 pub struct Maekawa {
-    /// The set of arbiters of every node. It tells in which sets this node is.
+    /// The arbiters of every node, and so the sets that this node is in.
     pub(crate) quorums: Quorums,
-    /// What the node has asked for as a requester.
+    /// The node as a requester: its request, and the grants that it holds.
     pub(crate) requester: Requester,
-    /// What the node has granted as an arbiter, also to itself.
+    /// The node as an arbiter: the grants that it gave, also to itself.
     pub(crate) arbiter: Arbiter,
 }
 
@@ -33,16 +33,16 @@ impl Maekawa {
     ghost use Rattle.std.specs.Prelude.{◌≡◌};
     ghost use Rattle.mx_maekawa.specs.Step.{is_answer, is_call};
 
-    /// Whether the requester takes a letter of this sender about this stamp: the sender is one of
-    /// its arbiters, and the stamp is its own.
+    /// Returns whether the requester takes a letter of this sender about this stamp: the sender is
+    /// one of its arbiters, and the stamp is its own.
     pub(crate) fn is_answer(&self, from: NodeId, stamp: &Stamp) -> bool
         ensures { result ≡ is_answer self.now from stamp.now }
     {
         self.requester.is_own(from) && stamp.node.get() == self.requester.me().get()
     }
 
-    /// Whether the arbiter takes a letter of this sender about this stamp: it is in the sender's
-    /// set, and the stamp is the sender's.
+    /// Returns whether the arbiter takes a letter of this sender about this stamp: it is in the
+    /// sender's set, and the stamp is the sender's.
     pub(crate) fn is_call(&self, from: NodeId, stamp: &Stamp) -> bool
         ensures { result ≡ is_call self.now from stamp.now }
     {

@@ -1,4 +1,4 @@
-//! A node as a requester: what it asked for, which grants it holds, and its own calls.
+//! A node as a requester: its request, the grants that it holds, and its calls.
 
 use mx_letters::{MaekawaMsg, Outbox};
 use mx_nodelaws::{AskFault, CancelFault, EnterFault, LeaveFault, Phase};
@@ -8,15 +8,14 @@ use std::marker::Model;
 mod answers;
 mod knowledge;
 
-/// What a node has asked for, and what its arbiters have answered.
+/// The request of a node, and the letters of its arbiters that count for it.
 #[derive(Drop)]
 pub(crate) struct Requester {
     /// The node itself.
     me: NodeId,
-    /// The node's own set (S_i in the publication): for each node, whether it is one of its
-    /// arbiters.
+    /// For each node, whether it is one of this node's arbiters (S_i in the publication).
     own: [bool; MOST_NODES as usize],
-    /// How many nodes the cluster has.
+    /// The number of nodes in the cluster.
     count: u8,
     /// The greatest section number, from 1 to 1,000,000. Added to the publication.
     limit: u64,
@@ -25,28 +24,28 @@ pub(crate) struct Requester {
     /// The highest stamp number that the node has drawn or has seen in a request; the origin at the
     /// start.
     highest: Clock,
-    /// The number of the node's own latest stamp, the origin before the first. Added to the
-    /// publication: it tells a stamp that has ended from one that was never drawn.
+    /// The number of the node's latest stamp, or the origin before the first. Added to the
+    /// publication: it distinguishes a stamp that has ended from one that was never drawn.
     issued: u64,
     /// The stamp of the node's latest request. It is current while the node waits or is inside;
     /// while the node is idle no rule reads it.
     ours: Stamp,
     /// For each arbiter, the number of its grant (LOCKED) that is held for the current request.
-    /// None where it has not come or was given back, and while the node is idle.
+    /// `None` if it has not come or was given back, and while the node is idle.
     held: [Option<u64>; MOST_NODES as usize],
-    /// For each arbiter, the highest grant number that was given back to it (RELINQUISH); the
+    /// For each arbiter, the highest grant number that was given back to it (RELINQUISH), or the
     /// origin before the first. Added to the publication: a grant up to it does not count again.
     back: [u64; MOST_NODES as usize],
     /// For each arbiter, whether it has failed the current request (FAILED) or got its grant back,
     /// and has not granted the request since.
     failed: [bool; MOST_NODES as usize],
     /// For each arbiter, the grant that it has asked back (INQUIRE), while the node waits and does
-    /// not know yet whether it will get every grant. None where no such answer is owed.
+    /// not know yet whether it will get every grant. `None` if no inquiry is remembered.
     remembered: [Option<u64>; MOST_NODES as usize],
     /// The highest section number that the node knows, from its own sections and from the grants
     /// that it took; 0 at the start. Added to the publication.
     top: u64,
-    /// The number of the last section that the node entered, 0 before the first. Added to the
+    /// The number of the last section that the node entered, or 0 before the first. Added to the
     /// publication.
     mine: u64,
 }
@@ -88,7 +87,7 @@ impl Requester {
     ghost use Rattle.mx_nodelaws.specs.declared.phase.Phase.TheVariants.{Waiting};
     ghost use Rattle.mx_maekawa.specs.RequesterStep.{start_requester, is_own, holds, HoldsAll, holds_all, to_own, ask_in, can_enter_of, enter_in, leave_in, cancel_in, ended, to_missing, request_again};
 
-    /// A requester that has just been started.
+    /// Creates a requester that has just been started.
     pub(crate) fn start(
         me: NodeId,
         own: &[bool; MOST_NODES as usize],
@@ -121,14 +120,14 @@ impl Requester {
         }
     }
 
-    /// The node itself.
+    /// Returns the node itself.
     pub(crate) fn me(&self) -> NodeId
         ensures { result ≡ self.now.me }
     {
         self.me
     }
 
-    /// The phase of the node.
+    /// Returns the phase of the node.
     pub(crate) fn phase(&self) -> Phase
         ensures value { result ≡ self.now.phase }
         ensures numbered { BearsNumber result }
@@ -136,7 +135,7 @@ impl Requester {
         self.phase
     }
 
-    /// The number of the last section that the node entered.
+    /// Returns the number of the last section that the node entered, or 0 before the first.
     pub(crate) fn mine(&self) -> u64
         ensures value { result ≡ self.now.mine }
         ensures high { result ≤ MOST_SECTIONS }
@@ -144,21 +143,21 @@ impl Requester {
         self.mine
     }
 
-    /// Whether this node is one of its arbiters.
+    /// Returns whether this node is one of its arbiters.
     pub(crate) fn is_own(&self, node: NodeId) -> bool
         ensures { result ≡ is_own self.now node }
     {
         self.own[node.get() as usize]
     }
 
-    /// Whether a grant of this arbiter is held.
+    /// Returns whether a grant of this arbiter is held.
     fn holds(&self, a: NodeId) -> bool
         ensures { result ≡ holds self.now a }
     {
         self.held[a.get() as usize].is_some()
     }
 
-    /// Whether a grant of each of its arbiters is held.
+    /// Returns whether a grant of each of its arbiters is held.
     fn holds_all(&self) -> bool
         ensures value { result ≡ holds_all self.now }
         ensures all { IsTrue result ↔ HoldsAll self.now }
@@ -201,7 +200,12 @@ impl Requester {
         }
     }
 
-    /// Sends a request with a new stamp to each of its arbiters.
+    /// Sends a request with a new stamp to each of its arbiters, and returns the stamp.
+    ///
+    /// # Errors
+    ///
+    /// Returns `NotIdle` if the node waits already or is inside, and `StampsSpent` if no next stamp
+    /// exists.
     pub(crate) fn ask(&mut self, out: &mut Outbox<MaekawaMsg>) -> Result<Stamp, AskFault>
         requires { out.old ≡ [] }
         ensures state { self.new ≡ (ask_in self.old.phase self.old).state }
@@ -231,7 +235,7 @@ impl Requester {
         self.highest.see(number);
     }
 
-    /// Whether the node waits, and holds a grant of each of its arbiters.
+    /// Returns whether the node waits and holds a grant of each of its arbiters.
     pub(crate) fn can_enter(&self) -> bool
         ensures value { result ≡ can_enter_of self.now }
         ensures granted { IsTrue result ↔ ((self.now.phase ≡ Waiting) × HoldsAll self.now) }
@@ -239,7 +243,13 @@ impl Requester {
         matches!(self.phase, Phase::Waiting) && self.holds_all()
     }
 
-    /// Enters the section whose number is one above the highest that the node knows.
+    /// Enters the section with the number after the highest that the node knows, and returns that
+    /// number.
+    ///
+    /// # Errors
+    ///
+    /// Returns `NotWaiting` if the node is idle or inside, `NotGranted` if a grant is missing, and
+    /// `NumbersSpent` if the highest section number that the node knows is the limit.
     pub(crate) fn enter(&mut self) -> Result<u64, EnterFault>
         ensures state { self.new ≡ (enter_in self.old.phase self.old).state }
         ensures answer { result ≡ (enter_in self.old.phase self.old).answer }
@@ -261,7 +271,12 @@ impl Requester {
         Ok(self.top)
     }
 
-    /// Leaves the section, and sends a release to each of its arbiters.
+    /// Leaves the section, sends a release to each of its arbiters, and returns the section's
+    /// number.
+    ///
+    /// # Errors
+    ///
+    /// Returns `NotInside` if the node is idle or still waits.
     pub(crate) fn leave(&mut self, out: &mut Outbox<MaekawaMsg>) -> Result<u64, LeaveFault>
         requires { out.old ≡ [] }
         ensures state { self.new ≡ (leave_in self.old.phase self.old).state }
@@ -275,7 +290,11 @@ impl Requester {
         Ok(number)
     }
 
-    /// Gives the request up, and sends a release to each of its arbiters.
+    /// Withdraws the request, and sends a release to each of its arbiters.
+    ///
+    /// # Errors
+    ///
+    /// Returns `NotWaiting` if the node is idle or inside.
     pub(crate) fn cancel(&mut self, out: &mut Outbox<MaekawaMsg>) -> Result<(), CancelFault>
         requires { out.old ≡ [] }
         ensures state { self.new ≡ (cancel_in self.old.phase self.old).state }
@@ -289,8 +308,8 @@ impl Requester {
         Ok(())
     }
 
-    /// Ends the current request: the node is idle and holds no grant, and each of its arbiters is
-    /// sent a release.
+    /// Ends the current request: the node becomes idle, holds no grant, and sends a release to each
+    /// of its arbiters.
     fn end_request(&mut self, out: &mut Outbox<MaekawaMsg>)
         requires { out.old ≡ [] }
         ensures state { self.new ≡ (ended self.old).state }
@@ -306,8 +325,7 @@ impl Requester {
         self.remembered = no_inquiries;
     }
 
-    /// Sends the request again, while the node waits, to each of its arbiters whose grant is
-    /// missing.
+    /// Sends the request of a waiting node again to each of its arbiters whose grant is missing.
     pub(crate) fn tick(&self, out: &mut Outbox<MaekawaMsg>)
         requires { out.old ≡ [] }
         ensures letters { out.new ≡ request_again self.now }

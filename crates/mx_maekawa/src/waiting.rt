@@ -1,11 +1,11 @@
-//! Requests that may or may not be there, as they wait for a grant.
+//! Waiting requests, if there are any.
 
 ghost use Rattle.std.specs.Prelude.{◌≡◌};
 ghost use Rattle.mx_maekawa.specs.ArbiterStep.{lesser, is_later, is_below, or_else, drop_up_to};
 
 use mx_stamps::Stamp;
 
-/// The lesser of two requests. Where only one is there, that one.
+/// Returns the lesser of two requests, or the only one.
 pub(crate) fn lesser(least: &Option<Stamp>, other: &Option<Stamp>) -> Option<Stamp>
     ensures { result ≡ lesser least.now other.now }
 {
@@ -20,7 +20,7 @@ pub(crate) fn lesser(least: &Option<Stamp>, other: &Option<Stamp>) -> Option<Sta
     }
 }
 
-/// Whether there is a request, it is of the stamp's node, and it is later than the stamp.
+/// Returns whether there is a request of the stamp's node, later than the stamp.
 pub(crate) fn is_later(request: &Option<Stamp>, stamp: &Stamp) -> bool
     ensures { result ≡ is_later request.now stamp.now }
 {
@@ -30,7 +30,7 @@ pub(crate) fn is_later(request: &Option<Stamp>, stamp: &Stamp) -> bool
     }
 }
 
-/// Whether there is a request, and it comes before the stamp.
+/// Returns whether there is a request that comes before the stamp.
 pub(crate) fn is_below(request: &Option<Stamp>, stamp: &Stamp) -> bool
     ensures { result ≡ is_below request.now stamp.now }
 {
@@ -40,14 +40,14 @@ pub(crate) fn is_below(request: &Option<Stamp>, stamp: &Stamp) -> bool
     }
 }
 
-/// The request, or the stamp where there is none.
+/// Returns the request, or the stamp if there is none.
 pub(crate) fn or_else(request: &Option<Stamp>, stamp: &Stamp) -> Option<Stamp>
     ensures { result ≡ or_else request.now stamp.now }
 {
     Some(request.unwrap_or(*stamp))
 }
 
-/// The request where its number is above this one, else none.
+/// Returns the request if its number is above this one.
 pub(crate) fn drop_up_to(request: &Option<Stamp>, number: u64) -> Option<Stamp>
     ensures { result ≡ drop_up_to request.now number }
 {

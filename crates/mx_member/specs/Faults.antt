@@ -1,4 +1,4 @@
--- What a journal's refusal is at a member.
+-- The faults of a member for those of its journal.
 use Rattle.mx_journal.specs.declared.settling.BaseFault.{BaseFault}
 use Rattle.mx_journal.specs.declared.settling.BaseFault.TheVariants as base
 use Rattle.mx_journal.specs.declared.puts.PutFault.{PutFault}
@@ -6,7 +6,7 @@ use Rattle.mx_journal.specs.declared.puts.PutFault.TheVariants as put
 use Rattle.mx_member.specs.declared.faults.DeliverFault.{DeliverFault}
 use Rattle.mx_member.specs.declared.faults.DeliverFault.TheVariants as deliver
 
--- a record that bears 0 is a conflict at 0
+-- a record with the number 0 is a conflict at 0
 abbrev pub fault_of : PutFault → DeliverFault
 fault_of put.ZeroNumber = deliver.Conflict 0
 fault_of (put.Conflict n) = deliver.Conflict n

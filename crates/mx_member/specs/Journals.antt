@@ -1,4 +1,4 @@
--- What a base, a journal and a parcel are, of the journal of the sections that were left.
+-- When a base, a journal and a parcel belong to the journal of the sections that were left.
 use Rattle.std.specs.Prelude.{◌≡◌, List}
 use Rattle.mx_journal.specs.declared.records.Record.{Record}
 use Rattle.mx_journal.specs.Agreement.{IsSubmap}
@@ -8,18 +8,18 @@ use Rattle.mx_journal.specs.Settled.{JournalState, base_of}
 use Rattle.mx_member.specs.declared.parcel.Parcel.{Parcel}
 use Rattle.mx_member.specs.declared.parcel.Parcel.TheVariants.{Guard, Want, Base, Records}
 
--- the base has the registers of the first of these sections, all of which are there
+-- the base has the registers of the first of these sections, and none of them is missing
 pub record IsBaseOf (sections : List Record) (base : BaseState) : Type 0 where
   pub registers : base ≡ base_of base.upto sections
   pub there : IsGapless base.upto sections
 
--- the journal knows of these sections alone: its base is of the first of them, its records are
+-- the journal knows only these sections: its base is that of the first of them, and its records are
 -- among theirs
 pub record IsJournalOf (sections : List Record) (journal : JournalState) : Type 0 where
   pub base : IsBaseOf sections journal.base
   pub records : IsSubmap journal.records sections
 
--- what the parcel brings to a journal is of these sections
+-- the base and the records in the parcel are of these sections
 abbrev pub IsParcelOf : {M : Type 0} → List Record → Parcel M → Type 0
 IsParcelOf sections (Guard letter) = Unit {0}
 IsParcelOf sections (Want ranges) = Unit {0}

@@ -1,7 +1,7 @@
--- Member: a member's state. Steps: what each call makes of it. Acts: what each act does. Faults:
--- what a journal's refusal is at a member. Told: what an act tells of sections. Journals: what
--- bases, journals and parcels are, of the sections. World: whole worlds, and what each of them
--- keeps. Receipts: the receipts of sections that were left. Running: nodes with their own receipts.
+-- Member: a member's state. Steps: the step of each call. Acts: the step of each act. Faults: the
+-- faults of a member for those of its journal. Told: the marks of an act. Journals: when bases,
+-- journals and parcels are of the sections. World: whole worlds, and what holds in each of them.
+-- Receipts: the receipts of sections that were left. Running: nodes with their own receipts.
 -- Shared: views of them.
 pub mod Member
 pub mod Steps

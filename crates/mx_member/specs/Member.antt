@@ -8,8 +8,8 @@ use Rattle.mx_registers.specs.Based.{registers_in}
 use Rattle.mx_member.specs.declared.parcel.Parcel.{Parcel}
 use Rattle.mx_member.specs.declared.parcel.Parcel.TheVariants.{Guard, Want, Base, Records}
 
--- what never changes in a member: its number, the number of nodes, the greatest section number, and
--- the number of registers
+-- the parts of a member that never change: its number, the number of nodes, the greatest section
+-- number, and the number of registers
 pub record Setting : Type 0 where
   pub me : ℕ
   pub nodes : ℕ
@@ -28,7 +28,7 @@ pub record MemberState (S : Type 0) : Type 0 where
 unfoldable pub IsViewOf : ℕ → JournalState → List Content → Type 0
 IsViewOf count journal contents = contents ≡ registers_in count journal
 
--- the least number that the journal does not cover, where its numbers ascend from above its base on
+-- the least number that the journal does not cover, if its numbers ascend from above its base on
 abbrev pub first_gap : JournalState → ℕ
 first_gap journal = first_missing (suc journal.base.upto) journal.records
 

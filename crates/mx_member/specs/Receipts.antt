@@ -1,5 +1,4 @@
--- Receipts of sections that were left: all of them, those of one node, and how they stand one
--- behind another.
+-- Receipts of sections that were left: all of them, those of one node, and their order.
 use Rattle.std.specs.Prelude.{ℕ, suc, ◌≡◌, ◌++◌, List, [], ◌∷◌, Ok, length, nat_eq, if◌then◌else◌}
 use Rattle.mx_stamps.specs.Lists.{IsIn}
 use Rattle.mx_journal.specs.declared.records.Record.{Record}
@@ -12,7 +11,7 @@ use Rattle.mx_member.specs.declared.acts.Answer.TheVariants as answer
 use Rattle.mx_sections.specs.Sections.{Section, section_receipt}
 use Rattle.mx_sections.specs.Serial.{IsSerialRead}
 
--- the receipt that an answer hands out, if it is one to an accepted leave
+-- the receipt in a result, if it is that of an accepted leave
 abbrev pub closed_by : Answer → List Receipt
 closed_by (answer.Left (Ok receipt)) = receipt ∷ []
 closed_by _ = []
@@ -38,9 +37,9 @@ abbrev pub records_of : List Receipt → List Record
 records_of [] = []
 records_of (r ∷ rs) = records_of rs ++ record_of r ∷ []
 
--- receipts with the newest first stand one behind another: they bear the numbers from 1 on, and
--- each read of each of them has the value that the writes of those before it and its own first
--- writes leave in the register
+-- receipts, listed with the newest first, are in order: they have the numbers from 1 on. Each read
+-- has the register's value after the writes of those before it and the receipt's own writes before
+-- the read
 abbrev pub StandInOrder : List Receipt → Type 0
 StandInOrder [] = Unit {0}
 StandInOrder (r ∷ rs) =

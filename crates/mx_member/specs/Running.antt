@@ -1,4 +1,4 @@
--- Nodes that each hold their own receipts, and what a running world of them keeps.
+-- Nodes with their own receipts, and what holds in a running world of them.
 use Rattle.std.specs.Prelude.{ℕ, suc, ◌≡◌, ◌<◌, ◌≤◌, ◌↔◌, ◌+◌, ◌++◌, ◌⊎◌, List, [], ◌∷◌, Some, length, map, slice_get}
 use Rattle.mx_stamps.specs.declared.limits.TheConstants.{MOST_REGISTERS}
 use Rattle.mx_stamps.specs.Lists.{IsIn}
@@ -35,12 +35,12 @@ members_of nodes = map (λ o. o.member) nodes
 abbrev pub IsNode : {S : Type 0} → List (Owned S) → ℕ → Owned S → Type 0
 IsNode nodes i o = slice_get nodes i ≡ Some o
 
--- a node at rest, which left no section yet
+-- an idle node, which left no section yet
 abbrev pub owned_start : {H S M : Type 0} → Core H S M → H → ℕ → ℕ → ℕ → ℕ → Owned S
 owned_start core shape me origin limit registers =
     record { member = start_of core shape me origin limit registers; receipts = [] }
 
--- what an act makes of a node: the receipt that a leave returns joins those of the node
+-- a node after an act: the receipt that a leave returns joins those of the node
 abbrev pub owned_after : {H S M : Type 0} → Core H S M → Act M → Owned S → Owned S
 owned_after core a o =
     record {
@@ -48,13 +48,13 @@ owned_after core a o =
       receipts = o.receipts ++ closed_by (act_of core a o.member).answer;
     }
 
--- members from node i on, each with its own of these receipts
+-- members from node i on, each with its receipts among these
 abbrev pub owners_from : {S : Type 0} → ℕ → List Receipt → List (MemberState S) → List (Owned S)
 owners_from i rs [] = []
 owners_from i rs (m ∷ ms) =
     record { member = m; receipts = own_in i rs } ∷ owners_from (suc i) rs ms
 
--- members, each with the receipts of its own sections that were left
+-- members, each with the receipts of its sections that were left
 abbrev pub owners : {S : Type 0} → List Section → List (MemberState S) → List (Owned S)
 owners ss members = owners_from 0 (receipts_in ss) members
 
@@ -62,37 +62,37 @@ owners ss members = owners_from 0 (receipts_in ss) members
 pub record IsRun {H S M : Type 0} (core : Core H S M) (Good : World S M → Type 0)
     (ss : List Section) (nodes : List (Owned S)) (sent : List (ℕ × ℕ × Parcel M)) : Type 0 where
   pub sound : IsSound core Good ss (members_of nodes) sent
-  -- each node's receipts are those of its own sections that were left, in order
+  -- each node's receipts are those of its sections that were left, in order
   pub own : (i : ℕ) (o : Owned S) → IsNode nodes i o → o.receipts ≡ own_in i (receipts_in ss)
-  -- each section that was left was a node's
+  -- each section that was left was by a node
   pub placed : (r : Receipt) → IsIn r (receipts_in ss) → r.node < length nodes
   -- each node's journal covers its own receipts
   pub recorded : (i : ℕ) (o : Owned S) (r : Receipt) → IsNode nodes i o → IsIn r o.receipts →
       Covers r.number o.member.journal
 
--- the same where nobody sees the sections
+-- the same for some sections
 pub record IsRunning {H S M : Type 0} (core : Core H S M) (Good : World S M → Type 0)
     (nodes : List (Owned S)) (sent : List (ℕ × ℕ × Parcel M)) : Type 0 where
   pub sections : List Section
   pub run : IsRun core Good sections nodes sent
 
--- and where nobody sees the parcels either
+-- the same for some sections and some parcels
 abbrev pub HaveRun : {H S M : Type 0} → Core H S M → (World S M → Type 0) → List (Owned S) → Type 0
 HaveRun {H} {S} {M} core Good nodes =
     (sent : List (ℕ × ℕ × Parcel M)) × IsRunning core Good nodes sent
 
--- these receipts, the newest first, are all that the nodes hold, and stand one behind another
+-- these receipts, the newest first, are exactly those of the nodes, and are in order
 pub record IsHistory {S : Type 0} (nodes : List (Owned S)) (rs : List Receipt) : Type 0 where
   pub ordered : StandInOrder rs
   pub placed : (r : Receipt) → IsIn r rs → r.node < length nodes
   pub own : (i : ℕ) (o : Owned S) → IsNode nodes i o → o.receipts ≡ own_in i rs
 
--- how many receipts all nodes hold
+-- the number of receipts of all nodes
 abbrev pub receipt_count : {S : Type 0} → List (Owned S) → ℕ
 receipt_count [] = 0
 receipt_count (o ∷ os) = length o.receipts + receipt_count os
 
--- this receipt is the k-th, from 0 on, that node i holds
+-- this receipt is the k-th of node i, counted from 0
 abbrev pub IsReceiptAt : {S : Type 0} → List (Owned S) → ℕ → ℕ → Receipt → Type 0
 IsReceiptAt {S} nodes i k r = (o : Owned S) × IsNode nodes i o × (slice_get o.receipts k ≡ Some r)
 
@@ -101,7 +101,7 @@ abbrev pub IsAboveNodes : {S : Type 0} → List (Owned S) → JournalState → T
 IsAboveNodes {S} nodes journal =
     (i : ℕ) (o : Owned S) → IsNode nodes i o → IsWithin o.member.journal journal
 
--- and is the join of all: its base is one of theirs, or none where no node settled anything; its
+-- and is the join of all: its base is one of theirs, or none if no node settled anything; its
 -- records are theirs
 pub record IsJoinOfNodes {S : Type 0} (nodes : List (Owned S))
     (journal : JournalState) : Type 0 where
@@ -111,23 +111,22 @@ pub record IsJoinOfNodes {S : Type 0} (nodes : List (Owned S))
   pub records : (x : Record) → IsIn x journal.records →
       (i : ℕ) × (o : Owned S) × IsNode nodes i o × IsIn x o.member.journal.records
 
--- the receipts of all nodes, and a journal, tell of sections that stand one behind another. These
--- are the receipts' records
+-- the receipts of all nodes, and a journal, describe sections that follow one another. These are
+-- the receipts' records
 pub record IsAccount {S : Type 0} (nodes : List (Owned S)) (sections : List Record)
     (journal : JournalState) : Type 0 where
-  -- each receipt is its node's, and bears one of the numbers from 1 to how many there are
+  -- each receipt is its node's, and has one of the numbers from 1 to the number of receipts
   pub within : (i k : ℕ) (r : Receipt) → IsReceiptAt nodes i k r →
       (r.node ≡ i) × (1 ≤ r.number) × (r.number ≤ receipt_count nodes)
-  -- each of these numbers is borne, at one place alone
+  -- exactly one receipt has each of these numbers
   pub each : (n : ℕ) → 1 ≤ n → n ≤ receipt_count nodes →
       (i : ℕ) × (k : ℕ) × (r : Receipt) × IsReceiptAt nodes i k r × (r.number ≡ n)
   pub once : (i k j l : ℕ) (r s : Receipt) → IsReceiptAt nodes i k r → IsReceiptAt nodes j l s →
       r.number ≡ s.number → (i ≡ j) × (k ≡ l) × (r ≡ s)
-  -- a node's later receipts bear greater numbers
+  -- a node's later receipts have greater numbers
   pub ascends : (i k l : ℕ) (r s : Receipt) → IsReceiptAt nodes i k r → IsReceiptAt nodes i l s →
       k < l → r.number < s.number
-  -- the sections have these numbers, in order, and at each of them the record of the receipt that
-  -- bears it
+  -- the sections have these numbers, in order, and for each of them the record of its receipt
   pub ordered : Ascending 1 sections
   pub keys : (n : ℕ) → IsThere n sections ↔ ((1 ≤ n) × (n ≤ receipt_count nodes))
   pub records : (i k : ℕ) (r : Receipt) → IsReceiptAt nodes i k r →
@@ -138,10 +137,10 @@ pub record IsAccount {S : Type 0} (nodes : List (Owned S)) (sections : List Reco
   pub covers : (n : ℕ) → Covers n journal ↔ ((1 ≤ n) × (n ≤ receipt_count nodes))
   pub kept : (i k : ℕ) (r : Receipt) → IsReceiptAt nodes i k r → journal.base.upto < r.number →
       record_at r.number journal.records ≡ Some (record_of r)
-  -- each value read is what the writes of the sections before, in order, and the section's own
-  -- first ones leave
+  -- each value read is the register's after the writes of the sections before, in order, and the
+  -- section's own writes before the read
   pub reads : (i k n : ℕ) (r : Receipt) (x : Read) → IsReceiptAt nodes i k r → r.number ≡ suc n →
       IsIn x r.reads.items → IsSerialRead (writes_to n sections) r.writes.items x
-  -- and each register of the journal what the writes of all sections, in order, leave
+  -- and each register of the journal has its value after the writes of all sections, in order
   pub shows : (count : ℕ) → count ≤ MOST_REGISTERS →
       AreApplied (writes_to (receipt_count nodes) sections) (registers_in count journal)

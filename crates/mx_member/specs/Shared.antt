@@ -1,12 +1,13 @@
--- A running world whose nodes are shared out: views of threads say of some of them what they are.
+-- A running world whose nodes are shared out: each of the threads' views has the state of some
+-- nodes.
 use Rattle.std.specs.Prelude.{ℕ, ◌≡◌, List, Some, slice_get}
 use Rattle.mx_nodelaws.specs.World.{World}
 use Rattle.mx_nodelaws.specs.Core.{Core}
 use Rattle.mx_member.specs.declared.parcel.Parcel.{Parcel}
 use Rattle.mx_member.specs.Running.{IsNode, IsRunning, Owned}
 
--- Says v i o: by the view v node i is o. What views say is so, and no two of them say anything of
--- one node
+-- Says v i o: in the view v, node i is o. What the views say is right, and no two of them say
+-- anything about the same node
 pub record IsSharedOut {H S M V : Type 0} (core : Core H S M) (Good : World S M → Type 0)
     (Says : V → ℕ → Owned S →
     Type 0) (views : List V) (nodes : List (Owned S)) (sent : List (ℕ × ℕ

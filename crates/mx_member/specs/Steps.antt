@@ -1,4 +1,4 @@
--- What each call makes of a member.
+-- The step of a member by each call.
 use Rattle.std.specs.Prelude.{ℕ, ◌≡◌, ◌<◌, ◌++◌, ◌⊎◌, Bool, List, [], ◌∷◌, Result, Ok, Err, length, max, min, nat_lt, nat_le, take, unwrap_or, if◌then◌else◌}
 use Rattle.std.specs.List.{list_any}
 use Rattle.mx_stamps.specs.declared.stamp.Stamp.{Stamp}
@@ -33,7 +33,7 @@ use Rattle.mx_member.specs.declared.faults.WriteFault.{WriteFault}
 use Rattle.mx_member.specs.declared.faults.WriteFault.TheVariants as write
 use Rattle.mx_member.specs.Member.{MemberState, first_gap, with_core, with_draft, with_journal, guarded}
 
--- a step of the core: draft and journal stay
+-- a step of the core; draft and journal are unchanged
 abbrev pub core_step : {S A M : Type 0} → MemberState S → Done S A M →
     Done (MemberState S) A (Parcel M)
 core_step m done =
@@ -43,27 +43,27 @@ core_step m done =
 abbrev pub refusing : {S A F : Type 0} → MemberState S → F → Quiet (MemberState S) (Result A F)
 refusing m fault = record { state = m; answer = Err fault }
 
--- a section begins with an empty draft
+-- a section starts with an empty draft
 abbrev pub entered : {S : Type 0} → Result ℕ EnterFault → MemberState S → MemberState S
 entered (Ok n) m = with_draft fresh m
 entered (Err fault) m = m
 
--- what the sections below n left in a register, where the journal's base is below n
+-- the contents of a register after the sections below n, if the journal's base is below n
 abbrev pub register_below : ℕ → ℕ → JournalState → Content
 register_below register n journal =
     after_records register (below n journal.records) (cell_in register journal.base)
 
--- what a register shows inside section n: the draft's last write of it, or else what the sections
--- below n left
+-- the value of a register inside section n: that of the draft's last write to it, or otherwise that
+-- after the sections below n
 abbrev pub shown_inside : {S : Type 0} → ℕ → ℕ → MemberState S → ℕ
 shown_inside register n m =
     unwrap_or (last_value register m.draft.writes) (register_below register n m.journal).value
 
--- why a read of a settled section is refused, where the draft has this many reads
+-- why a read of a settled section is refused, if the draft has this many reads
 abbrev pub settled_fault : ℕ → ℕ → ReadFault
 settled_fault reads upto = if nat_le 8 reads then read.Full else read.Settled upto
 
--- a read inside section n, which needs all sections below n, and a base that is not of n itself
+-- a read inside section n, which needs all sections below n, and a base that does not cover n
 abbrev pub read_inside : {S : Type 0} → ℕ → ℕ → MemberState S →
     Quiet (MemberState S) (Result ℕ ReadFault)
 read_inside register n m =
@@ -84,7 +84,7 @@ write_inside register value m =
     else (if nat_le 8 (length m.draft.writes) then refusing m write.Full
     else record { state = with_draft (with_write register value m.draft) m; answer = Ok tt })
 
--- the parcel, if there is anything to say, to node i
+-- the parcel to node i, if any range is missing
 abbrev pub want_to : {M : Type 0} → ℕ → List Range → List (ℕ × Parcel M)
 want_to i [] = []
 want_to i (r ∷ rs) = (i, Want (record { items = r ∷ rs })) ∷ []
@@ -97,32 +97,32 @@ records_to i (r ∷ rs) = (i, Records (record { items = r ∷ rs })) ∷ []
 abbrev pub reaches : ℕ → Range → Bool
 reaches k range = nat_le (max range.first 1) (min range.last k)
 
--- the base, where some number that it has lies in the ranges, to node i
+-- the base to node i, if it has a number in the ranges
 abbrev pub base_to : {M : Type 0} → ℕ → List Range → JournalState → List (ℕ × Parcel M)
 base_to i ranges journal =
     if list_any (reaches journal.base.upto) ranges then (i, Base journal.base) ∷ [] else []
 
--- what the journal answers to a want of node i: its base, and then records above it, where there
--- are any
+-- the reply of the journal to a want of node i: its base, and then records above it, if there are
+-- any
 abbrev pub answers_to : {M : Type 0} → ℕ → List Range → JournalState → List (ℕ × Parcel M)
 answers_to i ranges journal =
     base_to i ranges journal ++ records_to i (take 4 (in_ranges ranges journal.records))
 
--- the records can be put: none bears 0, and those above the base agree with the journal and among
--- themselves
+-- the records can be put: none has the number 0, and those above the base agree with the journal
+-- and with one another
 abbrev pub ArePuttable : List Record → JournalState → Type 0
 ArePuttable records journal =
     IsNumbered records × IsConsistent (journal.records ++ beyond journal.base.upto records)
 
--- the journal can take what the parcel brings
+-- the journal can take the contents of the parcel
 abbrev pub IsAcceptable : {M : Type 0} → Parcel M → JournalState → Type 0
 IsAcceptable (Guard letter) journal = Unit {0}
 IsAcceptable (Want ranges) journal = Unit {0}
 IsAcceptable (Base base) journal = journal.base.upto ≡ base.upto → journal.base ≡ base
 IsAcceptable (Records records) journal = ArePuttable records.items journal
 
--- it can't, and n says why: the number of a base that differs; 0 where a record bears 0, else the
--- least number that two differing ones bear
+-- it cannot, and n says why: the number of a base that differs; 0 if a record has the number 0;
+-- otherwise the least number of two records that differ
 abbrev pub IsDisputed : {M : Type 0} → ℕ → Parcel M → JournalState → Type 0
 IsDisputed n (Guard letter) journal = ⊥
 IsDisputed n (Want ranges) journal = ⊥
@@ -132,13 +132,13 @@ IsDisputed n (Records records) journal =
     ⊎ (IsNumbered records.items
     × IsFirstConflict n (journal.records ++ beyond journal.base.upto records.items))
 
--- the member takes this parcel of that sender: it is no stranger, and the journal can take what it
--- brings
+-- the member takes this parcel of that sender: it is no stranger, and the journal can take the
+-- contents
 abbrev pub IsTakeable : {S M : Type 0} → ℕ → Parcel M → MemberState S → Type 0
 IsTakeable from parcel m = (from < m.setting.nodes) × IsAcceptable parcel m.journal
 
--- the registers of sections 1 to k come in place of their records, where none of them is missing
--- and no more are settled
+-- the registers after sections 1 to k replace their records, if none of these is missing and no
+-- more are settled
 abbrev pub settle_of : {S : Type 0} → ℕ → MemberState S →
     Quiet (MemberState S) (Result (Unit {0}) SettleFault)
 settle_of k m =
@@ -208,7 +208,7 @@ module _ {H S M : Type 0} (core : Core H S M) where
   abbrev pub leave_of : MemberState S → Done (MemberState S) (Result Receipt LeaveFault) (Parcel M)
   leave_of m = leave_at m (core.phase m.core)
 
-  -- the node asks another for all that it lacks
+  -- the node asks another for all sections that it lacks
   abbrev pub want_of : ℕ → MemberState S → Done (MemberState S) (Unit {0}) (Parcel M)
   want_of to m =
       record {
@@ -217,8 +217,8 @@ module _ {H S M : Type 0} (core : Core H S M) where
         letters = want_to to (take 8 (gaps_in m.setting.limit m.journal));
       }
 
-  -- a parcel that the member takes: a letter goes to the core, a want is answered by base and
-  -- records where there are any, a base and records join the journal
+  -- a parcel that the member takes: a letter goes to the core. The reply to a want is the base and
+  -- records, if there are any. A base and records join the journal
   abbrev pub take_of : ℕ → Parcel M → MemberState S → Done (MemberState S) (Unit {0}) (Parcel M)
   take_of from (Guard letter) m = core_step m (core.deliver from letter m.core)
   take_of from (Want ranges) m =
@@ -232,11 +232,11 @@ module _ {H S M : Type 0} (core : Core H S M) where
         letters = [];
       }
 
-  -- a node wakes up again: core and journal stay, the draft is emptied
+  -- a node restarts: core and journal are unchanged, and the draft is emptied
   abbrev pub restart_of : MemberState S → MemberState S
   restart_of m = with_draft fresh m
 
-  -- a member at rest
+  -- an idle member
   abbrev pub start_of : H → ℕ → ℕ → ℕ → ℕ → MemberState S
   start_of shape me origin limit registers = record {
     setting = record { me = me; nodes = core.count shape; limit = limit; registers = registers };

@@ -1,5 +1,5 @@
--- Whole worlds: members, the parcels ever sent, and the sections so far; and what each of them
--- keeps.
+-- Whole worlds: members, the parcels ever sent, and the sections so far; and what holds in each of
+-- them.
 use Rattle.std.specs.Prelude.{ℕ, suc, ◌≡◌, ◌<◌, ◌≤◌, ◌++◌, false, List, [], ◌∷◌, Some, length, map, slice_get}
 use Rattle.mx_stamps.specs.declared.limits.TheConstants.{MOST_REGISTERS}
 use Rattle.mx_stamps.specs.Lists.{IsIn}
@@ -27,36 +27,37 @@ core_part members sent = record { nodes = map (λ m. m.core) members; sent = let
 abbrev pub IsMember : {S : Type 0} → List (MemberState S) → ℕ → MemberState S → Type 0
 IsMember members i m = slice_get members i ≡ Some m
 
--- the section that this member's draft is of
+-- the section of this member's draft
 abbrev pub draft_of : {S : Type 0} → MemberState S → Section
 draft_of m = record { node = m.setting.me; draft = m.draft; closed = false }
 
--- the newest section bears n, and is the open one of this member's draft; all others are left
+-- the newest section has the number n, and is the open one of this member's draft; all others were
+-- left
 abbrev pub IsDraftOf : {S : Type 0} → MemberState S → ℕ → List Section → Type 0
 IsDraftOf m n [] = ⊥
 IsDraftOf m n (s ∷ ss) = (s ≡ draft_of m) × (n ≡ suc (length ss)) × AllClosed ss
 
--- what every world keeps, with the sections so far
+-- what holds in every world, with the sections so far
 pub record IsSound {H S M : Type 0} (core : Core H S M) (Good : World S M → Type 0)
     (ss : List Section) (members : List (MemberState S)) (sent : List (ℕ × ℕ
     × Parcel M)) : Type 0 where
   pub good : Good (core_part members sent)
-  -- the sections bear 1 to the greatest number that a node drew
+  -- the sections have the numbers from 1 to the greatest that a node drew
   pub counted : length ss ≡ greatest_mine core (core_part members sent)
   -- at most the newest is open: it is that of the node inside
   pub inside : (i n : ℕ) (m : MemberState S) → IsMember members i m → core.phase m.core ≡ Inside n →
       IsDraftOf m n ss
   pub nobody : ((i : ℕ) (m : MemberState S) → IsMember members i m → IsInside core m.core → ⊥) →
       AllClosed ss
-  -- each section's reads have the values that the sections before it and its own writes leave
+  -- each read has the register's value after the sections before it and its section's own writes
   pub serial : ReadSerially ss
-  -- each member knows its number, and how many there are
+  -- each member knows its number, and the number of nodes
   pub named : (i : ℕ) (m : MemberState S) → IsMember members i m → m.setting.me ≡ i
   pub known : (i : ℕ) (m : MemberState S) → IsMember members i m → m.setting.nodes ≡ length members
-  -- a base keeps the most registers that there may be
+  -- there are at most as many registers as in a base
   pub few : (i : ℕ) (m : MemberState S) → IsMember members i m
       → m.setting.registers ≤ MOST_REGISTERS
-  -- journals, and what parcels bring, are of the section journal
+  -- journals, bases and records in parcels are of the section journal
   pub journals : (i : ℕ) (m : MemberState S) → IsMember members i m →
       IsJournalOf (section_journal ss) m.journal
   pub ordered : (i : ℕ) (m : MemberState S) → IsMember members i m →

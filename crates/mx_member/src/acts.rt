@@ -1,4 +1,4 @@
-//! What a member does, and what comes of it.
+//! The acts of a member, and their results.
 
 ghost use Rattle.std.specs.Prelude.{◌≡◌, [], IfOk, OnErr};
 ghost use Rattle.mx_member.specs.Acts.{IsDoable, NeedsMemory, act_of};
@@ -12,7 +12,7 @@ use mx_nodelaws::{AskFault, CancelFault, EnterFault, Exclusion, LeaveFault};
 use mx_stamps::{NodeId, Stamp};
 use std::alloc::AllocError;
 
-/// What a member does by itself, or with one parcel that was sent to it.
+/// An act of a member: a step by itself, or the delivery of one parcel that was sent to it.
 #[derive(Drop)]
 pub enum Act<M> {
     Ask,
@@ -22,19 +22,19 @@ pub enum Act<M> {
     /// The register, and the value.
     Write(u8, u64),
     Leave,
-    /// A waiting node gives its request up.
+    /// A waiting node withdraws its request.
     Cancel,
-    /// The registers of the sections up to this number come in place of their records.
+    /// The registers after the sections up to this number replace their records.
     Settle(u64),
     Tick,
-    /// The node that is asked for the sections that are missing.
+    /// The node that is asked for the missing sections.
     Want(NodeId),
     /// The sender, and its parcel.
     Deliver(NodeId, Parcel<M>),
     Restart,
 }
 
-/// What a member returns of an act.
+/// The result of an act.
 #[derive(Drop)]
 pub enum Answer {
     Asked(Result<Stamp, AskFault>),
@@ -50,8 +50,12 @@ pub enum Answer {
     Woken,
 }
 
-/// Does one act of a member. The caller owes the proof that the member takes a delivered parcel, so
-/// that the only way to fail is that memory runs out.
+/// Performs one act of a member, and returns its result. The member has to take a delivered parcel,
+/// so that only memory can be missing.
+///
+/// # Errors
+///
+/// Returns `AllocError` if memory runs out.
 pub fn perform<C: Exclusion>(
     member: &mut Member<C>,
     act: Act<C::Msg>,

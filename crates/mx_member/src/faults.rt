@@ -1,5 +1,5 @@
-//! Why a member refuses. The faults of each call stand in the order in which they are looked for; a
-//! refused call changes nothing.
+//! Why a member refuses a call. The faults of each call are in the order in which they are checked.
+//! A refused call changes nothing.
 
 use mx_journal::{BaseFault, Full, PutFault};
 use thiserror::Error;
@@ -7,19 +7,21 @@ use thiserror::Error;
 /// Why a call of `read` is refused.
 #[derive(Clone, Copy, Debug, PartialEq, Eq, Error)]
 pub enum ReadFault {
+    /// The node is not inside.
     #[error("not inside")]
     NotInside,
+    /// There is no such register.
     #[error("no register")]
     NoRegister,
-    /// The journal does not cover this section, which is the first that it does not. Its number is
-    /// below that of the section that is read in.
+    /// The journal does not cover this section, the first that it lacks. Its number is below that
+    /// of the section that reads.
     #[error("gap {0}")]
     Gap(u64),
-    /// The draft holds eight reads already.
+    /// The draft has eight reads already.
     #[error("full")]
     Full,
-    /// The journal's base is of the sections up to this one, and the section that is read in is
-    /// among them. Only a forged base leads to this.
+    /// The journal's base covers the sections up to this one, and the section that reads is among
+    /// them. Only a forged base leads to this.
     #[error("settled {0}")]
     Settled(u64),
 }
@@ -38,11 +40,13 @@ impl From<Full> for ReadFault {
 /// Why a call of `write` is refused.
 #[derive(Clone, Copy, Debug, PartialEq, Eq, Error)]
 pub enum WriteFault {
+    /// The node is not inside.
     #[error("not inside")]
     NotInside,
+    /// There is no such register.
     #[error("no register")]
     NoRegister,
-    /// The draft holds eight writes already.
+    /// The draft has eight writes already.
     #[error("full")]
     Full,
 }
@@ -61,9 +65,10 @@ impl From<Full> for WriteFault {
 /// Why a call of `leave` is refused.
 #[derive(Clone, Copy, Debug, PartialEq, Eq, Error)]
 pub enum CloseFault {
+    /// The node is not inside.
     #[error("not inside")]
     NotInside,
-    /// There was no memory for the journal to grow. The node is still inside, with its draft.
+    /// Memory ran out. The node is still inside, with its draft.
     #[error("out of memory")]
     Memory,
 }
@@ -74,12 +79,12 @@ pub enum DeliverFault {
     /// The sender is no node of the cluster.
     #[error("stranger")]
     Stranger,
-    /// Two differing records bear this number, which is the least such number; 0 where a record
-    /// bears 0. Or the member's base and the one that is delivered are of the sections up to this
-    /// number, and differ. No parcel that a member of the cluster sent leads to this.
+    /// Two records of this number differ, and it is the least such number; or a record has the
+    /// number 0. Or the member's base and the delivered one both cover the sections up to this
+    /// number, and differ. No parcel of a member of the cluster leads to this.
     #[error("conflict {0}")]
     Conflict(u64),
-    /// There was no memory for the journal to grow.
+    /// Memory ran out.
     #[error("out of memory")]
     Memory,
 }

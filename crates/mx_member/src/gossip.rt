@@ -1,4 +1,4 @@
-//! What a member takes from others and sends them: letters of the core, wants, bases, and records.
+//! The exchange of parcels with other members: letters of the core, wants, bases, and records.
 
 ghost use Rattle.std.specs.Prelude.{ℕ, ◌≡◌, ◌≤◌, ◌<◌, ◌↔◌, ◌⊎◌, ◌++◌, [], List, length, Err, IfOk, IsOk, OnErr, OnOk};
 ghost use Rattle.std.specs.List.{list_any};
@@ -26,8 +26,8 @@ use mx_registers::{View, view};
 use mx_stamps::NodeId;
 
 impl<C: Exclusion> Member<C> {
-    /// Asks another node for the sections that are missing, by the least eight ranges of their
-    /// numbers. Nothing is sent where none is missing up to the limit.
+    /// Asks another node for the missing sections, by the least eight ranges of their numbers.
+    /// Sends nothing if no section up to the limit is missing.
     pub fn want(&self, to: NodeId, out: &mut Outbox<Parcel<C::Msg>>)
         requires { out.old ≡ [] }
         ensures letters { out.new ≡ (want_of C.core to self.now).letters }
@@ -38,10 +38,16 @@ impl<C: Exclusion> Member<C> {
         }
     }
 
-    /// Takes a parcel of a node of the cluster, which may be this one. A letter goes to the core; a
-    /// want is answered by the base, where that has some number in its ranges, and by records,
-    /// where there are any; of records the journal takes all or none; a base comes in place of the
-    /// member's own one, where it is above that.
+    /// Delivers a parcel of a node of the cluster, which may be this one. A letter goes to the
+    /// core. The reply to a want is the base if it has a number in the ranges, and up to four
+    /// records in them. The journal takes all delivered records or none. A delivered base replaces
+    /// the member's own if it covers more sections.
+    ///
+    /// # Errors
+    ///
+    /// Returns `Stranger` if the sender is no node of the cluster. Returns `Conflict` if a record
+    /// or a base differs from one that the journal knows, and `Memory` if memory runs out. On an
+    /// error nothing changes.
     pub fn deliver(
         &mut self,
         from: NodeId,
@@ -66,7 +72,11 @@ impl<C: Exclusion> Member<C> {
         self.receive(from, &parcel, out)
     }
 
-    /// Takes a parcel as `deliver` does, but leaves it where it is.
+    /// Delivers a parcel as `deliver` does, but borrows it.
+    ///
+    /// # Errors
+    ///
+    /// Returns the same errors as `deliver`.
     pub fn receive(
         &mut self,
         from: NodeId,
@@ -89,7 +99,7 @@ impl<C: Exclusion> Member<C> {
         ensures err { OnErr result (self.new ≡ self.old) }
         ensures quiet { OnErr result (out.new ≡ []) }
     {
-        // for the prover: that the records of a journal agree is known from this call
+        // for the prover: the call shows that the records of a journal agree
         let _ = self.journal.is_empty();
         if from.get() >= self.nodes {
             return Err(DeliverFault::Stranger);
@@ -109,7 +119,7 @@ impl<C: Exclusion> Member<C> {
         Ok(())
     }
 
-    /// Takes a letter of the core.
+    /// Delivers a letter to the core.
     fn hear(&mut self, from: NodeId, letter: C::Msg, out: &mut Outbox<Parcel<C::Msg>>)
         requires { out.old ≡ [] }
         ensures state { self.new
@@ -121,8 +131,8 @@ impl<C: Exclusion> Member<C> {
         guard_all(&mut self.letters, out);
     }
 
-    /// Answers a want by the base, where it has some number in the ranges, and then by the records
-    /// that lie in them, the least four.
+    /// Replies to a want with the base, if it has a number in the ranges, and then with the records
+    /// in the ranges, the least four.
     fn answer_want(&self, from: NodeId, ranges: &[Range], out: &mut Outbox<Parcel<C::Msg>>)
         requires { out.old ≡ [] }
         ensures { out.new ≡ answers_to from ranges.now self.now.journal }
@@ -131,8 +141,8 @@ impl<C: Exclusion> Member<C> {
         send_records(from, answer(&self.journal, ranges), out);
     }
 
-    /// The value of a register after all the sections that this member knows; it may not know every
-    /// section before the newest of them. None where there is no such register.
+    /// Returns the value of a register after all sections that this member knows, which may lack
+    /// earlier ones. Returns `None` if there is no such register.
     #[tactic(auto, unfolding(crate::specs::Member::IsViewOf))]
     pub fn value(&self, register: u8) -> Option<u64>
         ensures { result ≡ value_in register
@@ -142,7 +152,7 @@ impl<C: Exclusion> Member<C> {
     }
 }
 
-/// Whether a base of the sections up to this number has a number in one of the ranges.
+/// Returns whether a base of the sections up to this number has a number in one of the ranges.
 fn is_wanted(upto: u64, ranges: &[Range]) -> bool
     ensures { result ≡ list_any (reaches upto) ranges.now }
 {
@@ -151,7 +161,7 @@ fn is_wanted(upto: u64, ranges: &[Range]) -> bool
         .any(|range| range.first.max(1) <= range.last.min(upto))
 }
 
-/// Sends the base, where it has a number in one of the ranges.
+/// Sends the base, if it has a number in one of the ranges.
 fn send_base<M: Copy + Default>(
     to: NodeId,
     ranges: &[Range],
@@ -166,7 +176,7 @@ fn send_base<M: Copy + Default>(
     }
 }
 
-/// Sends records, where there are any, behind at most one parcel.
+/// Sends records, if there are any, after at most one parcel.
 fn send_records<M: Copy + Default>(
     to: NodeId,
     records: ArrayVec<Record, 4>,
@@ -180,7 +190,11 @@ fn send_records<M: Copy + Default>(
     }
 }
 
-/// Takes a base into the journal. A view of the journal stays its view.
+/// Takes a base into the journal, and keeps the view of the journal up to date.
+///
+/// # Errors
+///
+/// Returns `Conflict` with the base's number if both bases cover the same sections and differ.
 fn take_base(
     journal: &mut Journal,
     shown: &mut View,
@@ -204,7 +218,7 @@ fn take_base(
     Ok(())
 }
 
-/// Takes the records of a list that are numbered above a number, one after the other.
+/// Applies the records of a list that are numbered above a number, one after the other.
 fn take_all(shown: &mut View, upto: u64, records: &[Record])
     ensures { (base : BaseState) (count : ℕ) (before : List Record)
         → shown.old ≡ registers_from base count before

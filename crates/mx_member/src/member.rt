@@ -1,4 +1,4 @@
-//! The member itself, and what it passes on to its core.
+//! The member, and the calls that it passes to its core.
 
 ghost use Rattle.std.specs.Prelude.{◌≡◌, ◌≤◌, ◌<◌, []};
 ghost use Rattle.mx_stamps.specs.declared.limits.TheConstants.{MOST_REGISTERS, MOST_SECTIONS};
@@ -28,7 +28,7 @@ pub struct Member<C: Exclusion> {
     /// The registers of the journal.
     pub(crate) shown: View,
     pub(crate) draft: Draft,
-    /// The core's letters on their way. Empty between calls.
+    /// The core's letters before they are sent. Empty between calls.
     pub(crate) letters: Outbox<C::Msg>,
 }
 
@@ -52,8 +52,8 @@ impl<C: Exclusion> Model for Member<C> {
 }
 
 impl<C: Exclusion> Member<C> {
-    /// A member at rest, with an empty journal. `origin` is where the numbers of its requests
-    /// start, `limit` the greatest section number, and `registers` how many registers there are.
+    /// Creates an idle member with an empty journal. The numbers of its requests count on from
+    /// `origin`, `limit` is the greatest section number, and `registers` the number of registers.
     pub fn start(
         alloc: Global,
         shape: &C::Shape,
@@ -82,7 +82,12 @@ impl<C: Exclusion> Member<C> {
         }
     }
 
-    /// Asks for the next section. The stamp is that of the request.
+    /// Asks for the next section, and returns the stamp of the request.
+    ///
+    /// # Errors
+    ///
+    /// Returns `NotIdle` if the node waits already or is inside, and `StampsSpent` if no next stamp
+    /// exists.
     pub fn ask(&mut self, out: &mut Outbox<Parcel<C::Msg>>) -> Result<Stamp, AskFault>
         requires { out.old ≡ [] }
         ensures state { self.new ≡ (ask_of C.core self.old).state }
@@ -95,6 +100,11 @@ impl<C: Exclusion> Member<C> {
     }
 
     /// Enters the section with an empty draft, and returns its number.
+    ///
+    /// # Errors
+    ///
+    /// Returns `NotWaiting` if the node is idle or inside, `NotGranted` if a permission is missing,
+    /// and `NumbersSpent` if the highest section number that the node knows is the limit.
     pub fn enter(&mut self) -> Result<u64, EnterFault>
         ensures state { self.new ≡ (enter_of C.core self.old).state }
         ensures answer { result ≡ (enter_of C.core self.old).answer }
@@ -104,7 +114,11 @@ impl<C: Exclusion> Member<C> {
         Ok(number)
     }
 
-    /// Gives the request up. Journal and draft stay as they are.
+    /// Withdraws the request. Journal and draft are unchanged.
+    ///
+    /// # Errors
+    ///
+    /// Returns `NotWaiting` if the node is idle or inside.
     pub fn cancel(&mut self, out: &mut Outbox<Parcel<C::Msg>>) -> Result<(), CancelFault>
         requires { out.old ≡ [] }
         ensures state { self.new ≡ (cancel_of C.core self.old).state }
@@ -116,7 +130,7 @@ impl<C: Exclusion> Member<C> {
         answer
     }
 
-    /// Sends again what is outstanding, as any letter may have been lost.
+    /// Sends all outstanding letters again, since any letter may be lost.
     pub fn tick(&mut self, out: &mut Outbox<Parcel<C::Msg>>)
         requires { out.old ≡ [] }
         ensures state { self.new ≡ (tick_of C.core self.old).state }
@@ -126,14 +140,14 @@ impl<C: Exclusion> Member<C> {
         guard_all(&mut self.letters, out);
     }
 
-    /// Whether the node waits, and has every permission for its current request.
+    /// Returns whether the node waits and has every permission for its current request.
     pub fn can_enter(&self) -> bool
         ensures { result ≡ C.core.can_enter self.now.core }
     {
         self.core.can_enter()
     }
 
-    /// The phase of the node.
+    /// Returns the phase of the node.
     pub fn phase(&self) -> Phase
         ensures value { result ≡ C.core.phase self.now.core }
         ensures numbered { BearsNumber result }
@@ -141,7 +155,7 @@ impl<C: Exclusion> Member<C> {
         self.core.phase()
     }
 
-    /// The number of the last section that this node entered, 0 before the first.
+    /// Returns the number of the last section that this node entered, or 0 before the first.
     pub fn mine(&self) -> u64
         ensures value { result ≡ C.core.mine self.now.core }
         ensures high { result ≤ MOST_SECTIONS }
@@ -149,14 +163,14 @@ impl<C: Exclusion> Member<C> {
         self.core.mine()
     }
 
-    /// The node of its algorithm.
+    /// Returns the core: the node of its algorithm.
     pub fn core(&self) -> &C
         ensures { result.now ≡ self.now.core }
     {
         &self.core
     }
 
-    /// The sections that it knows.
+    /// Returns the journal of the sections that it knows.
     pub fn journal(&self) -> &Journal
         ensures { result.now ≡ self.now.journal }
     {

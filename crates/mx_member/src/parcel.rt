@@ -1,4 +1,4 @@
-//! What members send one another.
+//! The parcels (messages) that members send one another.
 
 ghost use Rattle.std.specs.Prelude.{◌≡◌};
 ghost use Rattle.mx_member.specs.declared.parcel.Parcel.TheVariants.{Records};
@@ -9,10 +9,11 @@ use mx_journal::{Base, Range, Record};
 /// A letter of the exclusion algorithm, or a message of gossip.
 #[derive(Drop)]
 pub enum Parcel<M> {
+    /// A letter of the exclusion algorithm, which guards the section.
     Guard(M),
-    /// The ranges of numbers of sections that the sender lacks.
+    /// The ranges of section numbers that the sender lacks.
     Want(ArrayVec<Range, 8>),
-    /// The registers after the first sections, of which the receiver may lack some.
+    /// The registers after the first sections, in case the receiver lacks some of these.
     Base(Base),
     /// Records that the receiver may lack.
     Records(ArrayVec<Record, 4>),
@@ -24,14 +25,14 @@ impl<M> Default for Parcel<M> {
 
     ghost is_default = { λ parcel. parcel ≡ Want (record { items = [] }) };
 
-    /// A want of nothing.
+    /// Returns a want without ranges.
     fn default() -> Self {
         Parcel::Want(ArrayVec::new())
     }
 }
 
 impl<M: Copy> Parcel<M> {
-    /// An equal parcel.
+    /// Copies the parcel.
     pub fn copy(&self) -> Parcel<M>
         ensures { result ≡ self.now }
     {

@@ -1,4 +1,4 @@
-//! What a member does in its section: reads, writes, leaving; and waking up again.
+//! The calls of a member in its section: reads, writes and leaving; and restarting.
 
 ghost use Rattle.std.specs.Prelude.{ℕ, ◌≡◌, ◌≤◌, ◌<◌, ◌↔◌, [], ◌∷◌, Err, IfOk, Ok, OnErr, OnOk, length};
 ghost use Rattle.mx_journal.specs.Settled.{Covers, with_list};
@@ -16,9 +16,15 @@ use mx_nodelaws::{Exclusion, Phase};
 use mx_registers::{View, view_below};
 
 impl<C: Exclusion> Member<C> {
-    /// Reads a register inside: the value that this section wrote last, or else what the sections
-    /// before left. The read joins the draft. `Gap` names the first section before this one that
-    /// the journal does not cover.
+    /// Reads a register inside, and adds the read to the draft. Returns the value that this section
+    /// wrote last, or otherwise that of the sections before it.
+    ///
+    /// # Errors
+    ///
+    /// Returns the first fault, in the order of `ReadFault`: `NotInside` if the node is not inside,
+    /// and `NoRegister` if there is no such register. `Gap` has the first section before this one
+    /// that the journal does not cover. `Full` means eight reads already, and `Settled` a base that
+    /// covers this section.
     pub fn read(&mut self, register: u8) -> Result<u64, ReadFault>
         ensures state { self.new ≡ (read_of C.core register self.old).state }
         ensures answer { result ≡ (read_of C.core register self.old).answer }
@@ -42,7 +48,7 @@ impl<C: Exclusion> Member<C> {
         Ok(value)
     }
 
-    /// Why a read of a section that is settled is refused.
+    /// Returns why a read of a settled section is refused.
     fn settled_or_full(&self, number: u64) -> ReadFault
         ensures { result ≡ settled_fault (length self.now.draft.reads) self.now.journal.base.upto }
     {
@@ -53,8 +59,13 @@ impl<C: Exclusion> Member<C> {
         }
     }
 
-    /// Writes a register inside. The write joins the draft, and no other node sees it before this
-    /// one leaves.
+    /// Writes a register inside. The write is added to the draft, and no other node sees it before
+    /// this one leaves.
+    ///
+    /// # Errors
+    ///
+    /// Returns `NotInside` if the node is not inside, `NoRegister` if there is no such register,
+    /// and `Full` if the draft has eight writes already.
     pub fn write(&mut self, register: u8, value: u64) -> Result<(), WriteFault>
         ensures state { self.new ≡ (write_of C.core register value self.old).state }
         ensures answer { result ≡ (write_of C.core register value self.old).answer }
@@ -69,9 +80,13 @@ impl<C: Exclusion> Member<C> {
         Ok(())
     }
 
-    /// Leaves the section. Its record joins the journal, unless a forged record or base covers its
-    /// number already: that stays, and no memory is needed. Memory is asked for before anything
-    /// changes.
+    /// Leaves the section, adds its record to the journal, and returns its receipt. No record is
+    /// added if a forged record or base covers its number already, and no memory is needed then.
+    ///
+    /// # Errors
+    ///
+    /// Returns `NotInside` if the node is not inside, and `Memory` if memory runs out. Memory is
+    /// allocated before anything changes.
     pub fn leave(&mut self, out: &mut Outbox<Parcel<C::Msg>>) -> Result<Receipt, CloseFault>
         requires { out.old ≡ [] }
         ensures not_inside { (result ≡ Err CloseFault.NotInside)
@@ -95,27 +110,32 @@ impl<C: Exclusion> Member<C> {
         Ok(receipt)
     }
 
-    /// Wakes up again: core and journal stay, the draft is emptied.
+    /// Restarts the node: core and journal are unchanged, and the draft is emptied.
     pub fn restart(&mut self)
         ensures { self.new ≡ restart_of C.core self.old }
     {
         self.draft = Draft::new();
     }
 
-    /// Puts the registers after sections 1 to `upto` in place of their records. It is no event of
-    /// the core, sends nothing, and takes no memory.
+    /// Replaces the records of sections 1 to `upto` by the registers after them. The core takes no
+    /// step, nothing is sent, and no memory is allocated.
+    ///
+    /// # Errors
+    ///
+    /// Returns `Below` with the number of the base if that is above `upto`, and `Gap` with the
+    /// first number up to `upto` that the journal does not cover.
     pub fn settle(&mut self, upto: u64) -> Result<(), SettleFault>
         ensures state { self.new ≡ (settle_of upto self.old).state }
         ensures answer { result ≡ (settle_of upto self.old).answer }
     {
-        // for the prover: the order of the journal, and that its cells are of its base, are known
-        // from these calls
+        // for the prover: the calls show the order of the journal, and that its base's sections
+        // wrote the cells
         let _ = (self.journal.is_empty(), self.journal.base().upto());
         self.journal.settle(upto)
     }
 
-    /// What the sections below a number left in a register. Where the journal knows no others, the
-    /// kept view shows it.
+    /// Returns the value of a register after the sections below a number. If the journal knows no
+    /// others, it is in the view.
     fn value_below(&self, number: u64, register: u8) -> u64
         requires { register < self.now.setting.registers }
         ensures { result ≡ (register_below register number self.now.journal).value }
@@ -129,7 +149,11 @@ impl<C: Exclusion> Member<C> {
     }
 }
 
-/// Puts the record, unless its number is covered. A view of the journal stays its view.
+/// Puts the record, unless its number is covered, and keeps the view of the journal up to date.
+///
+/// # Errors
+///
+/// Returns `Memory` if memory runs out.
 fn keep(journal: &mut Journal, shown: &mut View, entry: &Record) -> Result<(), CloseFault>
     requires { 0 < entry.now.number }
     ensures ok { OnOk result (journal.new ≡ with_list (entry.now ∷ []) journal.old) }
@@ -139,7 +163,7 @@ fn keep(journal: &mut Journal, shown: &mut View, entry: &Record) -> Result<(), C
     ensures shown { (count : ℕ) → IsViewOf count journal.old shown.old
         → IsViewOf count journal.new shown.new }
 {
-    // for the prover: the order of the journal is known from this call
+    // for the prover: the call shows the order of the journal
     let _ = journal.is_empty();
     match journal.put(entry.copy()) {
         Ok(Put::New) => {
@@ -148,7 +172,7 @@ fn keep(journal: &mut Journal, shown: &mut View, entry: &Record) -> Result<(), C
         }
         Ok(Put::Same) => Ok(()),
         Err(PutFault::Memory) => Err(CloseFault::Memory),
-        // another record bears the number, and stays
+        // another record has the number, and remains
         Err(PutFault::Conflict(_)) => Ok(()),
         // the number of a section is above 0
         Err(PutFault::ZeroNumber) => Ok(()),

@@ -1,4 +1,4 @@
-//! A cluster starts, makes room, steps, advances and runs, and its journals are merged.
+//! A cluster starts, reserves memory, steps, advances and runs, and its journals are merged.
 
 use crate::members::member_shown;
 use crate::telling::{back, call, expect, refused};
@@ -11,7 +11,7 @@ use mx_ricart::{Count, Ricart};
 use mx_stamps::NodeId;
 use std::alloc::{AllocError, Global};
 
-/// A section of node 0, and its record on the way to node 1.
+/// Returns the events of a section of node 0, and of the delivery of its record to node 1.
 fn events(zero: NodeId, one: NodeId) -> [Event; 11] {
     [
         Event::Ask(zero),
@@ -28,8 +28,8 @@ fn events(zero: NodeId, one: NodeId) -> [Event; 11] {
     ]
 }
 
-/// What a cluster shows: its events and parcels so far, and of each node its phase, the number of
-/// its last section and its records.
+/// The state of a cluster: its events and parcels so far, and for each node its phase, the number
+/// of its last section and its records.
 type Shown = (usize, u64, [Option<(Phase, u64, usize)>; 2]);
 
 fn node_shown(cluster: &Cluster<Ricart>, node: NodeId) -> Option<(Phase, u64, usize)> {
@@ -37,7 +37,7 @@ fn node_shown(cluster: &Cluster<Ricart>, node: NodeId) -> Option<(Phase, u64, us
     Some((shown.phase, shown.mine, shown.records))
 }
 
-/// How many events have happened.
+/// Returns how many events were applied.
 fn happened(cluster: &Cluster<Ricart>) -> usize {
     cluster.trace().len()
 }
@@ -65,7 +65,7 @@ fn start(rt: &HostRuntime, shape: &Count) -> Result<Cluster<Ricart>> {
     }
 }
 
-/// Makes room for this many events more.
+/// Reserves memory for this many events more.
 fn make_room(
     rt: &HostRuntime,
     cluster: &mut Cluster<Ricart>,
@@ -86,7 +86,7 @@ fn make_room(
     )
 }
 
-/// Why a step was not taken, where it was not.
+/// Returns why a step failed, if it did.
 fn step_fault(cluster: &mut Cluster<Ricart>, event: &Event) -> Option<StepFault> {
     match cluster.step(*event) {
         Ok(_) => None,
@@ -94,7 +94,7 @@ fn step_fault(cluster: &mut Cluster<Ricart>, event: &Event) -> Option<StepFault>
     }
 }
 
-/// Why a cluster did not advance, where it did not.
+/// Returns why a cluster did not advance, if it did not.
 fn advance_fault(cluster: &mut Cluster<Ricart>, event: &Event) -> Option<StepFault> {
     match cluster.advance(*event) {
         Ok(()) => None,
@@ -102,7 +102,8 @@ fn advance_fault(cluster: &mut Cluster<Ricart>, event: &Event) -> Option<StepFau
     }
 }
 
-/// How the events of a list happen: one after another, by `step` or by `advance`, or in one run.
+/// How the events of a list are applied: one after another, by `step` or by `advance`, or in one
+/// run.
 #[derive(Clone, Copy)]
 enum Way {
     Steps,
@@ -110,7 +111,7 @@ enum Way {
     Run,
 }
 
-/// Why an event does not happen, where it does not.
+/// Returns why an event failed, if it did.
 fn event_fault(cluster: &mut Cluster<Ricart>, event: &Event, way: Way) -> Option<StepFault> {
     match way {
         Way::Advances => advance_fault(cluster, event),
@@ -138,7 +139,7 @@ fn step(
     expect(name, fault.is_none() && has_stepped)
 }
 
-/// Why a list of events was not run to its end, where it was not.
+/// Returns why a list of events was not run to its end, if it was not.
 fn run_fault(cluster: &mut Cluster<Ricart>, list: &[Event]) -> Option<RunFault> {
     match cluster.run(list) {
         Ok(()) => None,
@@ -146,18 +147,19 @@ fn run_fault(cluster: &mut Cluster<Ricart>, list: &[Event]) -> Option<RunFault> 
     }
 }
 
-/// Whether the first steps of a list stand, and no others, where memory was refused to a later one.
+/// Returns whether exactly the first steps of a list were applied, if memory was refused to a later
+/// one.
 fn stands(cluster: &Cluster<Ricart>, fault: RunFault) -> bool {
     fault.fault == StepFault::Memory && happened(cluster) as u64 == fault.index
 }
 
-/// Runs the events of a list that have not happened yet. Whether all have happened then.
+/// Runs the remaining events of a list, and returns whether all were applied then.
 fn run_rest(cluster: &mut Cluster<Ricart>, list: &[Event]) -> bool {
     let done = happened(cluster);
     done <= list.len() && run_fault(cluster, &list[done..]).is_none()
 }
 
-/// Runs a list of events, whose first steps stand where memory is refused to a later one.
+/// Runs a list of events. If memory is refused to one, those before it remain applied.
 fn run(rt: &HostRuntime, cluster: &mut Cluster<Ricart>, list: &[Event]) -> Result<()> {
     call(rt, "Cluster::run");
     let answer = run_fault(cluster, list);
@@ -183,7 +185,7 @@ fn each_step(
     Ok(())
 }
 
-/// The events happen. Answers what the cluster shows then.
+/// Applies the events, and returns the state of the cluster after them.
 fn happen(
     rt: &HostRuntime,
     cluster: &mut Cluster<Ricart>,
@@ -199,7 +201,7 @@ fn happen(
     Ok(shown(cluster, nodes))
 }
 
-/// What the nodes show after the events, in a cluster that ends with it.
+/// Returns the state of the nodes after the events, in a cluster that ends then.
 fn shown_after(
     rt: &HostRuntime,
     mut cluster: Cluster<Ricart>,
@@ -210,8 +212,8 @@ fn shown_after(
     happen(rt, &mut cluster, list, nodes, way)
 }
 
-/// What they show after the events, by `advance`, in a cluster that makes room for more at the end,
-/// and whose journals are merged then.
+/// Returns their state after the events, by `advance`, in a cluster that reserves memory for more
+/// at the end, and whose journals are merged then.
 fn shown_merged(
     rt: &HostRuntime,
     mut cluster: Cluster<Ricart>,
@@ -224,7 +226,8 @@ fn shown_merged(
     Ok(found)
 }
 
-/// What the journals of these nodes know together: its records, and what the first of them writes.
+/// Returns the merge of these nodes' journals: the number of its records, and the first value that
+/// it wrote.
 fn known(
     alloc: Global,
     cluster: &Cluster<Ricart>,
@@ -234,7 +237,7 @@ fn known(
     Ok((journal.len(), written(&journal)))
 }
 
-/// The value that section 1 wrote first.
+/// Returns the value that section 1 wrote first.
 fn written(journal: &Journal) -> Option<u64> {
     Some(journal.get(1)?.writes.first()?.value)
 }
@@ -251,7 +254,7 @@ fn merged(rt: &HostRuntime, cluster: &Cluster<Ricart>, nodes: [NodeId; 2]) -> Re
     expect("Cluster::merged", answer == Ok((1, Some(5))))
 }
 
-/// Clusters show the same, whichever way the events happen.
+/// Checks that clusters have the same state, in whichever way the events are applied.
 fn each_way(rt: &HostRuntime, shape: &Count, list: &[Event], nodes: [NodeId; 2]) -> Result<()> {
     let wanted = shown_after(rt, start(rt, shape)?, list, nodes, Way::Steps)?;
     let found = shown_after(rt, started(rt.alloc(), shape)?, list, nodes, Way::Run)?;

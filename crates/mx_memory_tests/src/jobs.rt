@@ -1,4 +1,4 @@
-//! Stations of jobs are made, and run.
+//! Stations of jobs are created, and run.
 
 ghost use Rattle.std.specs.Prelude.{IfOk};
 ghost use Rattle.mx_jobs.specs.Runs.{AreNew};
@@ -20,10 +20,10 @@ use std::thread::Threads;
 
 const NODES: u8 = 2;
 
-/// How many sections each node has.
+/// The number of sections of each node.
 const SECTIONS: u64 = 2;
 
-/// While every turn is refused memory no section is entered, and the run is to end soon.
+/// While memory is refused to every turn no section is entered, and the run has to end soon.
 const FEW_TURNS: RunOptions = RunOptions {
     turns: 2_000,
     settle_every: 1,
@@ -40,7 +40,7 @@ const SETTINGS: Settings = Settings {
     registers: 1,
 };
 
-/// Writes its section's number, in each of so many sections.
+/// Writes its section's number, in each of a number of sections.
 #[derive(Drop)]
 struct Numberer {
     left: u64,
@@ -103,13 +103,13 @@ fn linked(rt: &HostRuntime) -> Result<Vec<Fair>> {
     }
 }
 
-/// Whether a run that came to its end has all sections, in which the last number was written last.
+/// Returns whether a complete run has all sections, and the last number was written last.
 fn has_all(all: &Finished<Numberer>) -> bool {
     let sections = SECTIONS * u64::from(NODES);
     all.gathered.receipts.len() as u64 == sections && all.gathered.journal.gapless_to() == sections
 }
 
-/// What is left of a run that was refused memory, or whose turns were refused it, is whole.
+/// Checks that a run whose memory, or whose turns' memory, was refused is whole.
 fn look(rt: &HostRuntime, name: &str, left: &Unfinished<Ricart, Numberer>) -> Result<()> {
     let is_whole = left.stations.len() == usize::from(NODES)
         && left.jobs.len() == usize::from(NODES);

@@ -1,5 +1,5 @@
-//! Puts, merges and joins. Beside each journal is its twin, of the same records, which is refused
-//! nothing.
+//! Puts, merges and joins. Beside each journal there is its twin with the same records, to which no
+//! memory is refused.
 
 use crate::telling::{back, call, expect, refused};
 use anyhow::Result;
@@ -8,9 +8,9 @@ use mx_merge::{MergeFault, agree, merge};
 use mx_stamps::NodeId;
 use std::alloc::{AllocError, Global};
 
-/// Numbers that come one by one into an empty journal. They begin runs and lengthen them at either
-/// end, and they join a run to one that is as long (3) or shorter (6), and to a longer one (2),
-/// which takes no memory where it has room.
+/// Numbers that come one by one into an empty journal. They start runs and extend them at either
+/// end. They also join a run to one of the same length (3) or shorter (6), and to a longer one (2),
+/// which takes no memory if it has room.
 const SINGLES: [&[u64]; 3] = [
     &[5, 1, 9, 2, 4, 3, 8, 7, 6],
     &[3, 4, 1, 2],
@@ -26,31 +26,31 @@ const LISTS: [&[&[u64]]; 9] = [
         &[12, 10],
         &[6, 7, 9, 11, 13],
     ],
-    // several go on behind a run that is shorter than they are, and then behind a longer one
+    // several continue a run that is shorter than they are, and then a longer one
     &[&[1], &[2, 3, 4, 5], &[6, 7, 8, 9]],
-    // they go on behind a run that is as long, without the first of them and with it
+    // they continue a run of the same length, without the first of them and with it
     &[&[1, 2], &[3, 4, 5], &[6, 7, 8, 9, 10]],
-    // they go on behind a run, and a number is missing before the next one
+    // they continue a run, and a number is missing before the next one
     &[&[1, 9], &[2, 3, 4, 5], &[6, 7]],
-    // a run is behind them that is shorter, as long, and longer
+    // a run that is shorter, of the same length, and longer follows them
     &[
         &[17],
         &[13, 14, 15, 16],
         &[8, 9, 10, 11, 12],
         &[1, 2, 3, 4, 5, 6, 7],
     ],
-    // they fill the gap between two runs, where both times the run before is longer
+    // they fill the gap between two runs, and both times the run before is longer
     &[&[1, 2, 3, 4, 7, 8, 9], &[5, 6]],
-    // where it is shorter at first, and longer then
+    // it is shorter at first, and longer then
     &[&[1, 2, 6, 7, 8, 9], &[3, 4, 5]],
-    // where it is shorter both times
+    // it is shorter both times
     &[&[1, 6, 7, 8, 9, 10, 11, 12, 13], &[2, 3, 4, 5]],
     // they are in no order
     &[&[3, 4, 1, 2], &[9, 7, 5, 6, 8]],
 ];
 
-/// Numbers that come into an empty journal, up to which of them it settles, and numbers of which
-/// none is new then: they are settled, or have records.
+/// Numbers that come into an empty journal, and the number up to which it settles. The numbers
+/// after that are not new: they are settled, or have records.
 const KNOWN: [(&[u64], u64, &[u64]); 4] = [
     (&[1, 2, 3], 2, &[]),
     (&[1, 2, 3], 2, &[1, 2]),
@@ -61,15 +61,15 @@ const KNOWN: [(&[u64], u64, &[u64]); 4] = [
 /// Some of these are new to each of those journals.
 const SOME_NEW: &[u64] = &[2, 4, 7];
 
-/// Numbers of two journals, and up to which each settles: the second further than the first, which
-/// has each record that it has left.
+/// Numbers of two journals, and the numbers up to which they settle. The second settles further
+/// than the first, and has each record that the first still has.
 const BASES: [(&[u64], u64, &[u64], u64); 3] = [
     (&[1, 2, 5], 2, &[1, 2, 3, 4, 5], 4),
     (&[4], 0, &[1, 2, 3], 3),
     (&[1, 2, 7, 8], 1, &[1, 2, 3, 4, 8], 4),
 ];
 
-/// A record by node 0 that writes its number to register 0.
+/// Returns a record by node 0 that writes its number to register 0.
 pub(crate) fn record(number: u64) -> Record {
     let mut record = Record::default();
     record.number = number;
@@ -111,7 +111,7 @@ fn empty_twins(alloc: Global) -> Twins {
     }
 }
 
-/// Whether both have the same base, and the same records, of numbers below 20.
+/// Returns whether both have the same base, and the same records of numbers below 20.
 fn are_alike(twins: &Twins) -> bool {
     for number in 0..20 {
         if twins.journal.get(number).is_some() != twins.twin.get(number).is_some() {
@@ -147,7 +147,7 @@ fn put_all(rt: &HostRuntime, twins: &mut Twins, list: &[Record]) -> Result<()> {
     expect("Journal::put_all", answer == Ok(new) && are_alike(twins))
 }
 
-/// Joins a journal that agrees to another one.
+/// Joins an agreeing journal to another one.
 fn join(journal: &mut Journal, other: &Journal) -> Result<u64, MergeFault> {
     if !agree(journal, other) {
         return Err(MergeFault::Conflict(0));
@@ -155,7 +155,7 @@ fn join(journal: &mut Journal, other: &Journal) -> Result<u64, MergeFault> {
     Ok(journal.join(other)?)
 }
 
-/// The call that is made again and again.
+/// The call that is repeated.
 #[derive(Clone, Copy)]
 enum Way {
     Put,
@@ -164,7 +164,7 @@ enum Way {
     Join,
 }
 
-/// Takes another journal in.
+/// Adds another journal.
 fn take_in(journal: &mut Journal, other: &Journal, way: Way) -> Result<u64, MergeFault> {
     match way {
         Way::Join => join(journal, other),
@@ -172,7 +172,7 @@ fn take_in(journal: &mut Journal, other: &Journal, way: Way) -> Result<u64, Merg
     }
 }
 
-/// Takes another journal in, into the twin too.
+/// Adds another journal, to the twin too.
 fn take_other(
     rt: &HostRuntime,
     twins: &mut Twins,
@@ -204,7 +204,7 @@ fn put_list(rt: &HostRuntime, twins: &mut Twins, numbers: &[u64]) -> Result<()> 
     put_all(rt, twins, records(rt.alloc(), numbers)?.as_slice())
 }
 
-/// Takes a journal of these numbers in.
+/// Adds a journal of these numbers.
 fn take_list(
     rt: &HostRuntime,
     twins: &mut Twins,
@@ -232,7 +232,7 @@ fn take_each(rt: &HostRuntime, twins: &mut Twins, lists: &[&[u64]], way: Way) ->
     Ok(())
 }
 
-/// Makes the call over and over, from two empty journals on.
+/// Repeats the call, starting with two empty journals.
 fn from_empty(rt: &HostRuntime, lists: &[&[u64]], way: Way) -> Result<()> {
     take_each(rt, &mut empty_twins(rt.alloc()), lists, way)
 }
@@ -251,14 +251,14 @@ fn each_list(rt: &HostRuntime, way: Way) -> Result<()> {
     Ok(())
 }
 
-/// The journal settles up to a number, and its twin takes that base.
+/// Settles the journal up to a number, and gives its base to the twin.
 fn settle(twins: &mut Twins, upto: u64) -> Result<()> {
     twins.journal.settle(upto)?;
     twins.twin.take_base(twins.journal.base())?;
     expect("Journal::settle", are_alike(twins))
 }
 
-/// Twins that have records of these numbers, and settle up to one of them.
+/// Returns twins that have records of these numbers, and settle up to one of them.
 fn settled_twins(rt: &HostRuntime, numbers: &[u64], upto: u64) -> Result<Twins> {
     let mut twins = Twins {
         journal: journal_of(rt.alloc(), numbers)?,
@@ -268,7 +268,7 @@ fn settled_twins(rt: &HostRuntime, numbers: &[u64], upto: u64) -> Result<Twins> 
     Ok(twins)
 }
 
-/// Puts records of which none is new. That takes no memory.
+/// Puts records that are not new. That takes no memory.
 fn put_known(rt: &HostRuntime, twins: &mut Twins, list: &[Record]) -> Result<()> {
     call(rt, "Journal::put_all");
     let answer = twins.journal.put_all(list);
@@ -276,7 +276,7 @@ fn put_known(rt: &HostRuntime, twins: &mut Twins, list: &[Record]) -> Result<()>
     expect("Journal::put_all", answer == Ok(0) && are_alike(twins))
 }
 
-/// Takes another journal in that has no record which is new. That takes no memory.
+/// Adds another journal without a new record. That takes no memory.
 fn take_known(
     rt: &HostRuntime,
     twins: &mut Twins,
@@ -291,7 +291,7 @@ fn take_known(
     expect(name, answer == Ok(new) && are_alike(twins))
 }
 
-/// Makes the call with numbers of which none is new, and then with some that are.
+/// Makes the call with numbers that are not new, and then with some that are.
 fn known_first(
     rt: &HostRuntime,
     twins: &mut Twins,
@@ -319,7 +319,7 @@ fn each_known(rt: &HostRuntime, name: &str, way: Way) -> Result<()> {
     Ok(())
 }
 
-/// Takes a higher base in, with records of which none is new.
+/// Adds a higher base, with records that are not new.
 fn take_higher(
     rt: &HostRuntime,
     twins: &mut Twins,

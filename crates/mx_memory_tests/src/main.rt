@@ -1,8 +1,8 @@
-//! Each call of the libraries that may be refused memory, made while something outside refuses it.
-//! A line `call NAME` comes before such a call, and `back` after it. Where it answered that memory
-//! ran out, what has to stand is looked at, `refused NAME` is told, and the call is made again,
-//! which has to succeed. Whatever else comes ends the program with status 1.
-//! The file `stdout`, in which no call is refused, refuses the wrong body `always_out_of_memory`.
+//! Each call of the libraries that may be refused memory, made while a program outside refuses it.
+//! A line `call NAME` comes before such a call, and `back` after it. If it returned that memory ran
+//! out, its promises are checked, `refused NAME` is printed, and the call is made again, which has
+//! to succeed. Anything else ends the program with status 1. The file `stdout`, in which no call is
+//! refused, refuses the wrong body `always_out_of_memory`.
 #![tactic(auto)]
 
 mod clusters;

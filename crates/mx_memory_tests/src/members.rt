@@ -17,13 +17,13 @@ use std::alloc::{AllocError, Global};
 /// Numbers of records that come in one parcel.
 const PARCELS: [&[u64]; 3] = [&[2, 4, 7], &[9, 3, 4], &[1, 5, 6, 8]];
 
-/// Up to which a member settles once these have come.
+/// The number up to which a member settles once these have come.
 const SETTLED: u64 = 5;
 
-/// Numbers of records that come then, none of which is new.
+/// Numbers of records that come then; none of them is new.
 const KNOWN: [&[u64]; 2] = [&[], &[2, 9, 5]];
 
-/// Node 0 of one node, with one register.
+/// Creates node 0 of one node, with one register.
 pub(crate) fn started(alloc: Global) -> Result<Member<Ricart>> {
     let Some(shape) = Count::of(1) else {
         bail!("no such cluster");
@@ -34,8 +34,8 @@ pub(crate) fn started(alloc: Global) -> Result<Member<Ricart>> {
     Ok(Member::start(alloc, &shape, NodeId::default(), 0, 10, 1))
 }
 
-/// What a member shows: its phase, the number of its last section, how many records it has, the
-/// greatest number of these, and its register.
+/// The state of a member: its phase, the number of its last section, the number of its records and
+/// the greatest of their numbers, and its register.
 #[derive(Clone, Copy)]
 pub(crate) struct MemberShown {
     pub(crate) phase: Phase,
@@ -56,13 +56,13 @@ pub(crate) fn member_shown(member: &Member<Ricart>) -> MemberShown {
     }
 }
 
-/// Whether the member is inside section 1, and its journal is empty.
+/// Returns whether the member is inside section 1, and its journal is empty.
 fn is_inside(member: &Member<Ricart>) -> bool {
     let shown = member_shown(member);
     shown.phase == Phase::Inside(1) && shown.mine == 1 && shown.records == 0
 }
 
-/// The member enters, writes and reads. What is refused is missing from its receipt.
+/// Enters, writes and reads. A refused act is missing from the receipt.
 fn enter(member: &mut Member<Ricart>) {
     let _ = member.ask(&mut Outbox::new());
     let _ = member.enter();
@@ -77,12 +77,12 @@ enum Leaving {
     Perform,
 }
 
-/// Whether the receipt is that of section 1, whole.
+/// Returns whether the receipt is that of section 1, complete.
 fn is_whole(receipt: &Receipt) -> bool {
     receipt.number == 1 && receipt.reads.len() == 1 && receipt.writes.len() == 1
 }
 
-/// The member leaves. Whether its receipt is whole.
+/// Leaves, and returns whether the receipt is complete.
 fn close(
     member: &mut Member<Ricart>,
     out: &mut Outbox<Parcel<RicartMsg>>,
@@ -93,7 +93,7 @@ fn close(
     Ok(is_whole(&receipt))
 }
 
-/// The member leaves by an act. Whether its receipt is whole.
+/// Leaves by an act, and returns whether the receipt is complete.
 fn act(member: &mut Member<Ricart>, out: &mut Outbox<Parcel<RicartMsg>>) -> Result<bool, CloseFault>
     requires { out.old ≡ [] }
 {
@@ -104,7 +104,7 @@ fn act(member: &mut Member<Ricart>, out: &mut Outbox<Parcel<RicartMsg>>) -> Resu
     }
 }
 
-/// The member leaves. Whether its receipt is whole, and whether nothing is sent.
+/// Leaves. Returns whether the receipt is complete, and whether nothing is sent.
 fn left(member: &mut Member<Ricart>, by: Leaving) -> (Result<bool, CloseFault>, bool) {
     let mut out = Outbox::new();
     let answer = match by {
@@ -144,7 +144,7 @@ enum Taking {
     Receive,
 }
 
-/// The member takes the records of these numbers. What it returns, and whether nothing is sent.
+/// Takes the records of these numbers. Returns the result, and whether nothing is sent.
 fn delivered(
     member: &mut Member<Ricart>,
     numbers: &[u64],
@@ -159,7 +159,7 @@ fn delivered(
     (answer, out.is_empty())
 }
 
-/// Whether the member's journal and its register are as they were.
+/// Returns whether the member's journal and its register are unchanged.
 fn is_as_before(member: &Member<Ricart>, before: &MemberShown) -> bool {
     let shown = member_shown(member);
     shown.records == before.records && shown.top == before.top && shown.value == before.value
@@ -183,7 +183,7 @@ fn deliver(
     expect(name, answer == Ok(()) && has_all(member, numbers))
 }
 
-/// Delivers records of which none is new. That takes no memory.
+/// Delivers records that are not new. That takes no memory.
 fn deliver_known(
     rt: &HostRuntime,
     member: &mut Member<Ricart>,
@@ -232,7 +232,7 @@ fn deliver_each(
     Ok(())
 }
 
-/// The member settles, and takes parcels that bring nothing new.
+/// Settles, and takes parcels without anything new.
 fn deliver_settled(
     rt: &HostRuntime,
     member: &mut Member<Ricart>,

@@ -1,4 +1,4 @@
-//! A plan and events are read, and a schedule is drawn. Where memory is refused there is no value.
+//! A plan and events are read, and a schedule is drawn. If memory is refused there is no value.
 
 use crate::telling::{back, call, expect, refused};
 use crate::texts;
@@ -23,7 +23,7 @@ fn plan(rt: &HostRuntime) -> Result<Plan> {
     }
 }
 
-/// Reads the plan again, where memory was refused.
+/// Reads the plan again, after memory was refused.
 fn plan_again(rt: &HostRuntime, fault: PlanFault) -> Result<Plan> {
     expect("read_plan", matches!(fault, PlanFault::Memory))?;
     refused(rt, "read_plan", true)?;
@@ -33,7 +33,7 @@ fn plan_again(rt: &HostRuntime, fault: PlanFault) -> Result<Plan> {
     }
 }
 
-/// How many events are read.
+/// Returns how many events are read.
 fn events_read(alloc: Global, plan: &Plan) -> Result<usize, PlanFault> {
     match read_events(alloc, EVENTS.as_bytes(), plan) {
         Ok(events) => Ok(events.len()),
@@ -52,7 +52,7 @@ fn events(rt: &HostRuntime, plan: &Plan) -> Result<()> {
     expect("read_events", matches!(answer, Ok(5)))
 }
 
-/// How many events are drawn, where memory was not refused.
+/// Returns how many events are drawn, if memory was not refused.
 fn events_drawn(alloc: Global, plan: &Plan) -> Option<usize> {
     match schedule(alloc, 1, 100, plan) {
         Ok(events) => Some(events.len()),
@@ -71,7 +71,7 @@ fn drawn(rt: &HostRuntime, plan: &Plan) -> Result<()> {
     expect("schedule", answer == Some(100))
 }
 
-/// Reads the events of a plan, draws a schedule over it, and makes the texts of it.
+/// Reads the events of a plan, draws a schedule over it, and writes its texts.
 fn each_list(rt: &HostRuntime, plan: &Plan) -> Result<()> {
     expect("read_plan", plan.nodes() == 3)?;
     events(rt, plan)?;

@@ -1,4 +1,4 @@
-//! Stations are made, watched, leave, take parcels in, take turns and are gathered.
+//! Stations are created, watched, leave, take parcels in, take turns and are gathered.
 
 ghost use Rattle.std.specs.Prelude.{◌≡◌, length};
 ghost use Rattle.mx_stations.specs.Gathered.{OfOneTable};
@@ -36,7 +36,7 @@ fn opened(rt: &HostRuntime, nodes: u8) -> Result<Vec<Station<Ricart>>> {
     }
 }
 
-/// Takes a parcel in from a node, where it is one.
+/// Takes a parcel in from a node, if it is one.
 fn take_from(station: &mut Station<Ricart>, from: NodeId) -> Result<Taken, TakeFault> {
     if from.get() >= station.nodes() {
         return Ok(Taken::Empty);
@@ -44,12 +44,12 @@ fn take_from(station: &mut Station<Ricart>, from: NodeId) -> Result<Taken, TakeF
     station.take_in(from)
 }
 
-/// The station sends its first waiting parcel.
+/// Sends the first waiting parcel of the station.
 fn send(station: &mut Station<Ricart>) -> Result<()> {
     expect("put_out", station.put_out() == PutOut::Sent)
 }
 
-/// Hands the first waiting parcel of a station to another one.
+/// Passes the first waiting parcel of a station to another one.
 fn hand_on(from: &mut Station<Ricart>, to: &mut Station<Ricart>) -> Result<()> {
     send(from)?;
     expect(
@@ -62,7 +62,7 @@ fn ask(station: &mut Station<Ricart>) -> Result<()> {
     expect("Station::ask", station.ask().is_ok())
 }
 
-/// The station enters, and writes a value.
+/// Enters, and writes a value.
 fn enter(station: &mut Station<Ricart>, value: u64) -> Result<()> {
     let has_entered = station.enter().is_ok();
     expect(
@@ -71,7 +71,7 @@ fn enter(station: &mut Station<Ricart>, value: u64) -> Result<()> {
     )
 }
 
-/// What a station shows: its phase, its receipts and records, and how many parcels wait in it.
+/// The state of a station: its phase, its receipts and records, and the number of waiting parcels.
 #[derive(Clone, Copy)]
 struct StationShown {
     phase: Phase,
@@ -89,13 +89,13 @@ fn station_shown(station: &Station<Ricart>) -> StationShown {
     }
 }
 
-/// Whether a station is inside a section, with this many receipts and records.
+/// Returns whether a station is inside a section, with this many receipts and records.
 fn is_inside(station: &Station<Ricart>, number: u64, receipts: usize) -> bool {
     let shown = station_shown(station);
     shown.phase == Phase::Inside(number) && shown.receipts == receipts && shown.records == receipts
 }
 
-/// The station leaves. Whether the receipt is that of section `number`, with one write.
+/// Leaves, and returns whether the receipt is that of section `number`, with one write.
 fn left(station: &mut Station<Ricart>, number: u64) -> Result<bool, CloseFault> {
     let receipt = station.leave()?;
     Ok(receipt.number == number && receipt.writes.len() == 1)
@@ -115,7 +115,7 @@ fn leave(rt: &HostRuntime, station: &mut Station<Ricart>, number: u64) -> Result
     expect("Station::leave", answer == Ok(true) && has_one_more)
 }
 
-/// Node 0 has a section, to which node 1 replies.
+/// Runs a section of node 0, to which node 1 replies.
 fn have_first(
     rt: &HostRuntime,
     zero: &mut Station<Ricart>,
@@ -128,7 +128,7 @@ fn have_first(
     leave(rt, zero, 1)
 }
 
-/// The station asks a node for the records that it lacks.
+/// Asks a node for the records that the station lacks.
 fn want(station: &mut Station<Ricart>, from: NodeId) -> Result<()> {
     if from.get() >= station.nodes() {
         bail!("no such node");
@@ -137,7 +137,7 @@ fn want(station: &mut Station<Ricart>, from: NodeId) -> Result<()> {
     Ok(())
 }
 
-/// Node 0 has a section, whose record it sends to node 1, and a request behind it.
+/// Runs a section of node 0, whose record it sends to node 1, followed by a request.
 fn send_record(
     rt: &HostRuntime,
     zero: &mut Station<Ricart>,
@@ -151,21 +151,21 @@ fn send_record(
     send(zero)
 }
 
-/// Whether a station has these numbers of records and of waiting parcels.
+/// Returns whether a station has these numbers of records and of waiting parcels.
 fn has(station: &Station<Ricart>, records: usize, waits: usize) -> bool {
     let shown = station_shown(station);
     shown.records == records && shown.waits == waits
 }
 
-/// Whether the request comes by the next call, and nothing by the one after.
+/// Returns whether the next call takes the request, and the one after takes nothing.
 fn request_is_last(station: &mut Station<Ricart>, from: NodeId) -> bool {
     take_from(station, from) == Ok(Taken::Got)
         && has(station, 1, 1)
         && take_from(station, from) == Ok(Taken::Empty)
 }
 
-/// The record that was sent is taken in. Where memory was refused it is in hand, and the next call
-/// delivers it and takes no other, so that the request comes by the one after.
+/// Takes in the record that was sent. If memory was refused it is in hand, and the next call
+/// delivers it and takes no other, so that the one after takes the request.
 fn take_record(rt: &HostRuntime, station: &mut Station<Ricart>, from: NodeId) -> Result<()> {
     call(rt, "Station::take_in");
     let mut answer = take_from(station, from);
@@ -181,7 +181,7 @@ fn take_record(rt: &HostRuntime, station: &mut Station<Ricart>, from: NodeId) ->
     expect("Station::take_in", request_is_last(station, from))
 }
 
-/// A network that loses nothing, and counts how often it is asked for a fate.
+/// A network that loses nothing, and counts how often a fate is drawn.
 #[derive(Drop)]
 struct Asked(u32);
 
@@ -196,7 +196,7 @@ fn turn(station: &mut Station<Ricart>, fates: &mut Asked) -> Result<TurnReport, 
     station.turn(fates)
 }
 
-/// Whether a turn took the record and the request.
+/// Returns whether a turn took the record and the request.
 fn has_taken_both(answer: &Result<TurnReport, TakeFault>) -> bool {
     match answer {
         Ok(report) => report.taken == 2,
@@ -204,7 +204,7 @@ fn has_taken_both(answer: &Result<TurnReport, TakeFault>) -> bool {
     }
 }
 
-/// Whether a turn found something to do.
+/// Returns whether a turn found something to do.
 fn has_not_ticked(answer: &Result<TurnReport, TakeFault>) -> bool {
     match answer {
         Ok(report) => !report.ticked,
@@ -212,8 +212,8 @@ fn has_not_ticked(answer: &Result<TurnReport, TakeFault>) -> bool {
     }
 }
 
-/// A station takes a turn, and where memory was refused another one, which delivers the record
-/// first. The record is in hand then, and no second fate of it is asked for.
+/// Takes a turn, and after a refusal of memory another one, which delivers the record first. The
+/// record is in hand then, and no second fate is drawn for it.
 fn take_turn(rt: &HostRuntime, station: &mut Station<Ricart>) -> Result<()> {
     let mut fates = Asked(0);
     call(rt, "Station::turn");
@@ -231,14 +231,14 @@ fn take_turn(rt: &HostRuntime, station: &mut Station<Ricart>) -> Result<()> {
     )
 }
 
-/// A section of a station that is alone.
+/// Runs a section of a single station.
 fn have_section(rt: &HostRuntime, station: &mut Station<Ricart>, number: u64) -> Result<()> {
     ask(station)?;
     enter(station, number)?;
     leave(rt, station, number)
 }
 
-/// Gathers stations, again where memory was refused: they have come back with this many receipts.
+/// Gathers stations, again if memory was refused: they have come back with this many receipts.
 fn gather_again(
     rt: &HostRuntime,
     stations: Vec<Station<Ricart>>,
@@ -260,7 +260,7 @@ fn gather_again(
     }
 }
 
-/// Whether the first of these stations has this many receipts.
+/// Returns whether the first of these stations has this many receipts.
 fn has_receipts(stations: &[Station<Ricart>], receipts: usize) -> bool {
     match stations.first() {
         Some(station) => station_shown(station).receipts == receipts,
@@ -277,7 +277,7 @@ fn gathered(alloc: Global, stations: Vec<Station<Ricart>>) -> Result<Gathered>
     }
 }
 
-/// A watch over the nodes of a station. It takes no memory.
+/// Returns a watch over the nodes of a station. It takes no memory.
 fn watch(rt: &HostRuntime, station: &Station<Ricart>) -> Result<Watch<Ricart>> {
     call(rt, "Station::watch");
     let answer = station.watch();
@@ -288,7 +288,7 @@ fn watch(rt: &HostRuntime, station: &Station<Ricart>) -> Result<Watch<Ricart>> {
     }
 }
 
-/// A station has three sections.
+/// Runs three sections of a station.
 fn have_three(rt: &HostRuntime, station: &mut Station<Ricart>) -> Result<()> {
     for number in 1..=3 {
         have_section(rt, station, number)?;
@@ -296,7 +296,8 @@ fn have_three(rt: &HostRuntime, station: &mut Station<Ricart>) -> Result<()> {
     Ok(())
 }
 
-/// A station has three sections, of which a watch that was made before shows that they were left.
+/// Runs three sections of a station, and checks that a watch created before shows that they were
+/// left.
 fn have_watched(rt: &HostRuntime, station: &mut Station<Ricart>) -> Result<()> {
     let watch = watch(rt, station)?;
     expect("Station::watch", watch.sections() == 0)?;
@@ -304,7 +305,7 @@ fn have_watched(rt: &HostRuntime, station: &mut Station<Ricart>) -> Result<()> {
     expect("Station::watch", watch.sections() == 3)
 }
 
-/// The first of these stations has three sections.
+/// Runs three sections of the first of these stations.
 fn have_sections(rt: &HostRuntime, stations: &mut [Station<Ricart>]) -> Result<()> {
     match stations.first_mut() {
         Some(station) => have_watched(rt, station),
@@ -312,14 +313,14 @@ fn have_sections(rt: &HostRuntime, stations: &mut [Station<Ricart>]) -> Result<(
     }
 }
 
-/// What a station that is alone and has had three sections is gathered to.
+/// Returns the result of gathering a single station that has had three sections.
 fn gathered_one(rt: &HostRuntime, stations: Vec<Station<Ricart>>) -> Result<Gathered>
     requires { length stations.items ≡ 1 }
 {
     gather_again(rt, stations, 3)
 }
 
-/// A station that is alone has three sections, and is gathered.
+/// Runs three sections of a single station, and gathers it.
 fn gathered_alone(rt: &HostRuntime, mut stations: Vec<Station<Ricart>>) -> Result<Gathered> {
     have_sections(rt, stations.as_mut_slice())?;
     if stations.len() != 1 {
@@ -336,14 +337,14 @@ fn gather_one(rt: &HostRuntime) -> Result<()> {
     )
 }
 
-/// How what was sent comes in.
+/// How a sent parcel comes in.
 #[derive(Clone, Copy)]
 enum Way {
     TakeIn,
     Turn,
 }
 
-/// Node 1 takes in what node 0 has sent.
+/// Takes in, at node 1, the parcels that node 0 has sent.
 fn send_and_take(
     rt: &HostRuntime,
     way: Way,
@@ -357,7 +358,7 @@ fn send_and_take(
     }
 }
 
-/// Two stations, of which the second takes in what the first has sent.
+/// Runs two stations; the second takes in the parcels that the first has sent.
 fn each_way(rt: &HostRuntime, way: Way) -> Result<()> {
     match opened(rt, 2)?.as_mut_slice() {
         [zero, one] => send_and_take(rt, way, zero, one),

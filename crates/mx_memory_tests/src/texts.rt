@@ -1,5 +1,5 @@
-//! What the texts of a plan, of a node and of parcels are. Where memory is refused nothing is
-//! promised of the string that takes the text, and the text begins anew.
+//! The texts of a plan, of a node and of parcels. If memory is refused nothing is promised about
+//! the string that takes the text, and the text starts again.
 
 use crate::members::{parcel_of, started};
 use crate::telling::{back, call, expect, refused};
@@ -14,7 +14,7 @@ use mx_stamps::{NodeId, Stamp};
 use mx_texts::{Letter, add_asks, add_member_line, add_parcel, add_parcel_line, add_plan};
 use std::alloc::{AllocError, Global};
 
-/// What is told.
+/// The subject of a text.
 #[derive(Clone, Copy)]
 enum Told {
     Plan,
@@ -53,7 +53,7 @@ const TEXTS: [(Told, &str, &str); 9] = [
     (Told::Records, "add_parcel", "records 1 3"),
 ];
 
-/// The stamp 5.a.
+/// Returns the stamp 5.a.
 fn stamp() -> Stamp {
     Stamp {
         number: 5,
@@ -68,7 +68,7 @@ fn want() -> Parcel<RicartMsg> {
     Parcel::Want(ranges)
 }
 
-/// A base of two sections that wrote nothing. There is one.
+/// Returns a base of two sections that wrote nothing, as a parcel. There is one.
 fn base() -> Parcel<RicartMsg> {
     match Base::of(2, [Cell::default(); 32]) {
         Some(base) => Parcel::Base(base),
@@ -116,7 +116,7 @@ fn add(
     }
 }
 
-/// Whether this is the text that a string takes.
+/// Returns whether this is the text that a string takes.
 fn is_told(
     alloc: Global,
     plan: &Plan,

@@ -17,7 +17,8 @@ pub record IsLeastJournal (a b j : JournalState) : Type 0 where
   pub right : IsWithin b j
   pub least : (m : JournalState) → IsWithin a m → IsWithin b m → IsWithin j m
 
--- n is the least number at which the journals differ: that of both bases, or one that records bear
+-- n is the least number at which the journals differ: that of both bases, or the number of two
+-- records
 abbrev pub IsFirstDifference : ℕ → JournalState → JournalState → Type 0
 IsFirstDifference n a b =
     (AreOpposed a.base b.base × (n ≡ a.base.upto))

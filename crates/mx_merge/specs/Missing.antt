@@ -1,4 +1,4 @@
--- What a journal lacks of the numbers from 1 to a limit, and the records that ranges ask for.
+-- The numbers from 1 to a limit that a journal lacks, and the records in given ranges.
 use Rattle.std.specs.Prelude.{ℕ, ◌+◌, ◌-◌, ◌≡◌, ◌≤◌, ◌<◌, ◌⊎◌, ◌&&◌, Bool, List, [], ◌∷◌, ◌++◌, length, nat_lt, nat_le, if◌then◌else◌, filter}
 use Rattle.std.specs.List.{list_any}
 use Rattle.mx_stamps.specs.Lists.{IsIn}
@@ -6,8 +6,8 @@ use Rattle.mx_journal.specs.declared.records.Record.{Record}
 use Rattle.mx_journal.specs.declared.ranges.Range.{Range}
 use Rattle.mx_journal.specs.Settled.{Covers, JournalState}
 
--- a widest range of missing numbers: none of it is covered, from 1 to the limit, and it can be
--- extended neither to the left nor to the right
+-- a widest range of missing numbers: it is not empty, lies between 1 and the limit, and contains no
+-- covered number. It can be extended neither to the left nor to the right
 pub record IsGap (limit : ℕ) (journal : JournalState) (range : Range) : Type 0 where
   pub low : 1 ≤ range.first
   pub some : range.first ≤ range.last
@@ -16,12 +16,13 @@ pub record IsGap (limit : ℕ) (journal : JournalState) (range : Range) : Type 0
   pub left : (range.first ≡ 1) ⊎ Covers (range.first - 1) journal
   pub right : (range.last ≡ limit) ⊎ Covers (range.last + 1) journal
 
--- each range begins behind the end of the one before it, and the first at `least` or behind it
+-- each range starts after the end of the one before it, and the first at `least` or later
 abbrev pub AscendingRanges : ℕ → List Range → Type 0
 AscendingRanges least [] = Unit {0}
 AscendingRanges least (r ∷ rs) = (least ≤ r.first) × AscendingRanges (r.last + 1) rs
 
--- the gap is left out: there are `count` ranges, the most there may be, and it is behind them all
+-- the gap is left out: there are `count` ranges, the greatest number, and it comes after all of
+-- them
 abbrev pub IsLeftOut : ℕ → Range → List Range → Type 0
 IsLeftOut count gap ranges =
     (length ranges ≡ count) × ((r : Range) → IsIn r ranges → r.last < gap.first)
@@ -33,7 +34,7 @@ pub record IsListOfGaps (count limit : ℕ) (journal : JournalState) (ranges : L
   pub ascending : AscendingRanges 1 ranges
   pub all : (gap : Range) → IsGap limit journal gap → IsIn gap ranges ⊎ IsLeftOut count gap ranges
 
--- the range of the numbers above `before` up to `last`; no range where there is no such number
+-- the range of the numbers above `before` up to `last`; no range if there is no such number
 abbrev pub gap_after : ℕ → ℕ → List Range
 gap_after before last =
     if nat_lt before last then record { first = before + 1; last = last } ∷ [] else []

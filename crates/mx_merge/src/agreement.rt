@@ -1,5 +1,5 @@
-//! Whether two journals agree: no number bears differing records, and no two bases of the same
-//! sections differ.
+//! Agreement of journals: records of the same number are equal, and so are bases of the same
+//! sections.
 
 ghost use Rattle.std.specs.Prelude.{suc, ◌≡◌, ◌↔◌, ◌++◌, IsTrue, IsFalse, IfSome, IfNone};
 ghost use Rattle.mx_journal.specs.Agreement.{AgreesWith, AreAgreeing, IsFirstConflict, IsOpposed};
@@ -10,8 +10,9 @@ ghost use Rattle.mx_merge.specs.Join.{IsFirstDifference};
 
 use mx_journal::{Base, Journal, Record};
 
-/// Whether the journals have the same record at each number that both have one of, and equal bases
-/// where they are of the same sections. Two journals that know of the same sections always agree.
+/// Returns whether the journals agree: records of the same number are equal, and so are the bases
+/// if they cover the same sections. Two journals of the same sections always agree. The time is
+/// that of one search for each record of the other.
 pub fn agree(journal: &Journal, other: &Journal) -> bool
     ensures agreeing { IsTrue result ↔ DoAgree journal.now other.now }
     ensures submaps { AreOfOneMap journal.now other.now → IsTrue result }
@@ -19,7 +20,7 @@ pub fn agree(journal: &Journal, other: &Journal) -> bool
     first_difference(journal, other).is_none()
 }
 
-/// The least number at which the journals differ, in their bases or in a record.
+/// Returns the least number at which the journals differ, in their bases or in a record.
 pub(crate) fn first_difference(journal: &Journal, other: &Journal) -> Option<u64>
     ensures some { IfSome result (λ n. IsFirstDifference n journal.now other.now) }
     ensures none { IfNone result (DoAgree journal.now other.now) }
@@ -27,14 +28,14 @@ pub(crate) fn first_difference(journal: &Journal, other: &Journal) -> Option<u64
     ensures there { Ascending (suc other.now.base.upto) other.now.records }
 {
     if are_opposed(journal.base(), other.base()) {
-        // that the numbers of a journal ascend is known from these calls
+        // the call shows that the numbers of the journal ascend
         let _ = (journal.is_empty(), other.is_empty());
         return Some(journal.base().upto());
     }
     first_conflict(journal, other)
 }
 
-/// Whether the bases are of the same sections and differ.
+/// Returns whether the bases cover the same sections and differ.
 fn are_opposed(base: &Base, other: &Base) -> bool
     ensures opposed { IsTrue result → AreOpposed base.now other.now }
     ensures agreed { IsFalse result → base.now.upto ≡ other.now.upto → base.now ≡ other.now }
@@ -42,7 +43,7 @@ fn are_opposed(base: &Base, other: &Base) -> bool
     base.upto() == other.upto() && !base.is(other)
 }
 
-/// The least number at which the journals have different records.
+/// Returns the least number at which the journals have different records.
 fn first_conflict(journal: &Journal, other: &Journal) -> Option<u64>
     ensures some { IfSome result (λ n.
         IsFirstConflict n (journal.now.records ++ other.now.records)) }
@@ -50,7 +51,7 @@ fn first_conflict(journal: &Journal, other: &Journal) -> Option<u64>
     ensures here { Ascending (suc journal.now.base.upto) journal.now.records }
     ensures there { Ascending (suc other.now.base.upto) other.now.records }
 {
-    // both are asked: that the numbers of a journal ascend is known from these calls
+    // both calls are made, since they show that the numbers of the journals ascend
     let (nothing_here, nothing_there) = (journal.is_empty(), other.is_empty());
     if nothing_here || nothing_there {
         return None;
@@ -65,7 +66,7 @@ fn first_conflict(journal: &Journal, other: &Journal) -> Option<u64>
     None
 }
 
-/// Whether the journal has this very record or none of its number.
+/// Returns whether the journal has this record, or none of its number.
 fn agrees_with(journal: &Journal, entry: &Record) -> bool
     requires { Ascending 1 journal.now.records }
     ensures agrees { IsTrue result → AgreesWith entry.now journal.now.records }

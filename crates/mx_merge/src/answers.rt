@@ -1,4 +1,4 @@
-//! What a journal answers to a want of records.
+//! The reply of a journal to a node that lacks records.
 
 ghost use Rattle.std.specs.Prelude.{◌≡◌, ◌≤◌, IsTrue, take};
 ghost use Rattle.mx_stamps.specs.Lists.{IsIn};
@@ -9,11 +9,11 @@ ghost use Rattle.mx_merge.specs.Missing.{in_ranges, lies_in};
 use arrayvec::ArrayVec;
 use mx_journal::{Journal, Range, Record};
 
-/// The greatest number of records in one answer.
+/// The greatest number of records in one reply.
 const RECORDS_AT_ONCE: usize = 4;
 
-/// The records above the base whose numbers lie in one of the ranges, ascending; where there are
-/// more than four, the least four.
+/// Returns the records above the base whose numbers lie in one of the ranges, ascending. If there
+/// are more than four, returns the least four.
 pub fn answer(journal: &Journal, ranges: &[Range]) -> ArrayVec<Record, RECORDS_AT_ONCE>
     ensures value { result.items ≡ take 4 (in_ranges ranges.now journal.now.records) }
     ensures known { IsSubmap result.items journal.now.records }
@@ -32,7 +32,7 @@ pub fn answer(journal: &Journal, ranges: &[Range]) -> ArrayVec<Record, RECORDS_A
     found
 }
 
-/// A number below which no range begins.
+/// Returns the least first number of the ranges, or `u64::MAX` if there are none.
 fn least_first(ranges: &[Range]) -> u64
     ensures { (range : Range) → IsIn range ranges.now → result ≤ range.first }
 {
@@ -43,7 +43,7 @@ fn least_first(ranges: &[Range]) -> u64
     least
 }
 
-/// Whether the number lies in some range.
+/// Returns whether the number lies in one of the ranges.
 fn is_in_some(ranges: &[Range], number: u64) -> bool
     ensures { result ≡ lies_in ranges.now number }
 {

@@ -1,4 +1,4 @@
-//! What a journal lacks.
+//! The section numbers that a journal lacks.
 
 ghost use Rattle.std.specs.Prelude.{◌≡◌, ◌≤◌, ◌++◌, take, length};
 ghost use Rattle.mx_merge.specs.Missing.{IsListOfGaps, gap_after, gaps_in};
@@ -6,17 +6,17 @@ ghost use Rattle.mx_merge.specs.Missing.{IsListOfGaps, gap_after, gaps_in};
 use arrayvec::ArrayVec;
 use mx_journal::{Journal, Range};
 
-/// The greatest number of ranges that `missing` returns at once.
+/// The greatest number of ranges that `missing` returns.
 const RANGES_AT_ONCE: usize = 8;
 
-/// The ranges of the numbers from 1 to `limit` that the journal does not cover, ascending, each as
-/// wide as it can be; where there are more than eight, the least eight.
+/// Returns the ranges of the numbers from 1 to `limit` that the journal does not cover, ascending,
+/// each as wide as possible. If there are more than eight, returns the least eight.
 pub fn missing(journal: &Journal, limit: u64) -> ArrayVec<Range, RANGES_AT_ONCE>
     ensures gaps { IsListOfGaps 8 limit journal.now result.items }
     ensures value { result.items ≡ take 8 (gaps_in limit journal.now) }
 {
     let mut gaps = ArrayVec::new();
-    // up to this number each one is there, or lies in a gap that was looked at
+    // each number up to this one is covered, or lies in a gap that was handled
     let mut last = journal.gapless_to();
     while let Some(entry) = journal.next_after(last) {
         if entry.number > limit || gaps.is_full() {
@@ -29,8 +29,7 @@ pub fn missing(journal: &Journal, limit: u64) -> ArrayVec<Range, RANGES_AT_ONCE>
     gaps
 }
 
-/// Adds the range of the numbers above `before` up to `last`, where there are any and there is
-/// room.
+/// Adds the range of the numbers above `before` up to `last`, if there are any and there is room.
 fn add_gap(gaps: &mut ArrayVec<Range, 8>, before: u64, last: u64)
     ensures { gaps.new.items ≡ take 8 (gaps.old.items ++ gap_after before last) }
 {

@@ -1,5 +1,5 @@
-//! What two journals know together: whether they agree, their join, what a journal lacks, and what
-//! it answers to another node that lacks records.
+//! Journals together: whether they agree, their join, the sections that a journal lacks, and its
+//! reply to another node that lacks records.
 #![tactic(auto)]
 
 mod agreement;

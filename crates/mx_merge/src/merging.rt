@@ -1,4 +1,4 @@
-//! Merging one journal into another.
+//! Merging a journal into another.
 
 ghost use Rattle.std.specs.Prelude.{ℕ, suc, ◌≡◌, ◌+◌, ◌↔◌, ◌⊎◌, Err, IsOk, IfOk, OnOk, OnErr};
 ghost use Rattle.mx_journal.specs.Records.{Ascending};
@@ -13,8 +13,10 @@ use thiserror::Error;
 /// Why a journal was not merged into another.
 #[derive(Clone, Copy, Debug, PartialEq, Eq, Error)]
 pub enum MergeFault {
+    /// The journals differ at this number, the least such number.
     #[error("two records bear {0}")]
     Conflict(u64),
+    /// Memory ran out.
     #[error("out of memory")]
     Memory,
 }
@@ -30,10 +32,15 @@ impl From<AllocError> for MergeFault {
     }
 }
 
-/// Takes what the other journal covers into the journal, with its base where that is above the
-/// journal's own, and returns how many numbers are newly covered. `Conflict` names the least number
-/// at which the two differ; `Memory` comes only where they agree, and some record of the other is of
-/// a section that the journal does not cover. At a fault the journal stays as it was.
+/// Adds everything that the other journal covers, and returns how many numbers are newly covered.
+/// The other base replaces the journal's own if it covers more sections. The time grows with the
+/// number of records of both.
+///
+/// # Errors
+///
+/// Returns `Conflict` with the least number at which the journals differ. Returns `Memory` if they
+/// agree and memory runs out; the other then has a record of a section that the journal does not
+/// cover. On an error the journal is unchanged.
 pub fn merge(journal: &mut Journal, other: &Journal) -> Result<u64, MergeFault>
     ensures conflict { (n : ℕ) → (result ≡ Err (MergeFault.Conflict n))
         ↔ IsFirstDifference n journal.old other.now }

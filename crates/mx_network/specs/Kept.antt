@@ -1,12 +1,12 @@
--- What every cluster keeps, from which all that is promised of its trace and its journals follows.
+-- What holds for every cluster. All promises on its trace and its journals follow from this.
 use Rattle.mx_nodelaws.specs.World.{World}
 use Rattle.mx_nodelaws.specs.Core.{Core}
 use Rattle.mx_member.specs.Running.{IsRun, owners}
 use Rattle.mx_sections.specs.Trace.{sections, IsSerial}
 use Rattle.mx_network.specs.Step.{AreUnsettled, ClusterState}
 
--- the world runs with the sections of the trace, these stand one behind another, and no read met its
--- own section settled
+-- the world runs with the sections of the trace, these follow one another, and no read met its own
+-- section settled
 pub record IsKept {H S M : Type 0} (core : Core H S M) (Good : World S M → Type 0)
     (g : ClusterState S M) : Type 0 where
   pub run : IsRun core Good (sections g.trace) (owners (sections g.trace) g.members) g.sent

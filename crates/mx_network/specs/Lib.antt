@@ -1,5 +1,5 @@
--- Mail: the parcels that were sent. Outcome: the outcome that an answer stands for. Step: one event
--- of a cluster. Merged: journals of members, merged. Kept: what every cluster keeps.
+-- Mail: the parcels that were sent. Outcome: the outcome of a result. Step: one event of a cluster.
+-- Merged: journals of members, merged. Kept: what holds for every cluster.
 pub mod Mail
 pub mod Outcome
 pub mod Step

@@ -1,4 +1,4 @@
--- The outcome that a member's answer stands for.
+-- The outcome of a member's result.
 use Rattle.std.specs.Prelude.{ℕ, Ok, Err}
 use Rattle.mx_nodelaws.specs.declared.faults.AskFault.TheVariants as ask
 use Rattle.mx_nodelaws.specs.declared.faults.CancelFault.TheVariants as cancel
@@ -13,8 +13,8 @@ use Rattle.mx_sections.specs.declared.outcome.Outcome.{Outcome}
 use Rattle.mx_sections.specs.declared.outcome.Outcome.TheVariants.{Asked, Entered, Value, Written, Left, Cancelled, Settled, Sent, Delivered, Woken, Refused}
 use Rattle.mx_sections.specs.declared.outcome.Cause.TheVariants as cause
 
--- the outcome of an answer, and of the number of parcels that went out with it. In a cluster no
--- read meets its own section settled: what stands here for that is never told
+-- the outcome of a result, and of the number of parcels that were sent with it. In a cluster no
+-- read meets its own section settled, so its outcome here never occurs
 abbrev pub outcome_of : Answer → ℕ → Outcome
 outcome_of (answer.Asked (Ok stamp)) sent = Asked stamp
 outcome_of (answer.Asked (Err ask.NotIdle)) sent = Refused cause.NotIdle

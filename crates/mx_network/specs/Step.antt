@@ -28,7 +28,7 @@ pub record ClusterState (S M : Type 0) : Type 0 where
   pub sent : List (ℕ × ℕ × Parcel M)
   pub trace : List Entry
 
--- what an act gives, with its answer as an outcome
+-- the step of an act, with its result as an outcome
 abbrev pub answer_of : {H S M : Type 0} → Core H S M → Act M → MemberState S →
     Done (MemberState S) Outcome (Parcel M)
 answer_of core a m = answering (act_of core a m)
@@ -39,7 +39,7 @@ abbrev pub delivery_of : {M : Type 0} → Option (ℕ × ℕ × Parcel M) → Re
 delivery_of None = Err NoParcel
 delivery_of (Some p) = Ok (p.1, act.Deliver p.0 p.2)
 
--- whose event it is, and the act that this node does, in a cluster of this many nodes
+-- the node of an event, and the act that this node does, in a cluster of this many nodes
 abbrev pub part_of : {M : Type 0} → ℕ → List (ℕ × ℕ × Parcel M) → Event →
     Result (ℕ × Act M) StepFault
 part_of nodes sent (event.Ask i) = Ok (i, act.Ask)
@@ -54,7 +54,7 @@ part_of nodes sent (event.Want i j) = if nat_lt j nodes then Ok (i, act.Want j) 
 part_of nodes sent (event.Deliver k) = delivery_of (slice_get sent k)
 part_of nodes sent (event.Restart i) = Ok (i, act.Restart)
 
--- the act that a node does by itself. A delivery is none, and waking up stands in for it
+-- the act that a node does by itself. A delivery is none; a restart is the placeholder
 abbrev pub own_act : {M : Type 0} → Event → Act M
 own_act (event.Ask i) = act.Ask
 own_act (event.Enter i) = act.Enter
@@ -106,7 +106,7 @@ abbrev pub at_part : {H S M : Type 0} → Core H S M → ClusterState S M → Ev
 at_part core g event (Err fault) = Err fault
 at_part core g event (Ok p) = at_member core g event p.0 p.1 (slice_get g.members p.0)
 
--- a member has done its act, what it sends is put out, and the event joins the trace with its
+-- a member has done its act, its parcels are in the outbox, and the event joins the trace with its
 -- outcome
 pub record NotesAct {H S M : Type 0} (core : Core H S M) (event : Event) (a : Act M)
     (old : MemberState S) (before : List Entry) (new : MemberState S) (out : List (ℕ
@@ -121,11 +121,11 @@ abbrev pub step_of : {H S M : Type 0} → Core H S M → ClusterState S M → Ev
     Result (ClusterState S M) StepFault
 step_of core g event = at_part core g event (part_of (length g.members) g.sent event)
 
--- the fault is the one that the step has; where the step has none, it is that memory ran out
+-- the fault is that of the step, or memory ran out if the step has none
 abbrev pub IsFaultOf : {G : Type 0} → Result G StepFault → StepFault → Type 0
 IsFaultOf wanted fault = ((fault ≡ Memory) × IsOk wanted) ⊎ (wanted ≡ Err fault)
 
--- the event has happened, or the step has this fault, and nothing changed
+-- the event was applied, or the step has this fault, and nothing changed
 pub record IsStep {H S M : Type 0} (core : Core H S M) (event : Event) (old new : ClusterState S M)
     (r : Result (Unit {0}) StepFault) : Type 0 where
   pub ok : OnOk r (step_of core old event ≡ Ok new)
@@ -177,7 +177,7 @@ AreUnsettled trace =
     (entry : Entry) (cause : Cause) → IsIn entry trace → entry.outcome ≡ Refused cause →
     IsSettledRead entry.event cause → ⊥
 
--- each parcel that was sent can be taken by the member to which it was sent
+-- the member to which a parcel was sent can take it
 abbrev pub AreTakeable : {S M : Type 0} → ClusterState S M → Type 0
 AreTakeable {S} {M} g =
     (from to : ℕ) (parcel : Parcel M) (m : MemberState S) → IsIn (from, to, parcel) g.sent →

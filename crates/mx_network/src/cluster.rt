@@ -30,15 +30,15 @@ use mx_stamps::NodeId;
 use std::alloc::{AllocError, Global};
 use std::marker::Model;
 
-/// Members, the parcels that they have sent, and the trace of what happened.
+/// A cluster: members, the parcels that they have sent, and the trace of all events.
 #[derive(Drop)]
 pub struct Cluster<C: Exclusion> {
     pub(crate) members: Vec<Member<C>>,
     pub(crate) mail: Mail<C>,
     pub(crate) trace: Vec<Entry>,
-    /// The parcels of the event that happens now. Empty between events.
+    /// The parcels of the current event. Empty between events.
     pub(crate) out: Outbox<Parcel<C::Msg>>,
-    /// Always None. The prover knows from this field that a member's size is bounded.
+    /// Always `None`. The prover derives from this field that a member's size is bounded.
     size: Option<Member<C>>,
 }
 
@@ -64,8 +64,12 @@ impl<C: Exclusion> Model for Cluster<C> {
 }
 
 impl<C: Exclusion> Cluster<C> {
-    /// A cluster at rest. `origin` is where the numbers of requests start, `limit` the greatest
-    /// section number, and there are `registers` registers, which hold 0.
+    /// Creates a cluster of idle members. The numbers of requests count on from `origin`, `limit`
+    /// is the greatest section number, and there are `registers` registers with the value 0.
+    ///
+    /// # Errors
+    ///
+    /// Returns `AllocError` if memory runs out.
     pub fn start(
         alloc: Global,
         shape: &C::Shape,
@@ -93,9 +97,14 @@ impl<C: Exclusion> Cluster<C> {
         })
     }
 
-    /// One event. An event that its node refuses has happened too, and stands in the trace, but
-    /// changes no member and sends nothing. `Memory` comes only where the event would else have
-    /// happened.
+    /// Applies one event, adds it to the trace, and returns its outcome. An event that its node
+    /// refuses is in the trace too, but changes no member and sends nothing.
+    ///
+    /// # Errors
+    ///
+    /// Returns `NoNode` if the event names a node that the cluster does not have, and `NoParcel` if
+    /// no parcel of its number was sent. Returns `Memory` if neither is so and memory runs out. On
+    /// an error the cluster is unchanged.
     pub fn step(&mut self, event: Event) -> Result<Outcome, StepFault>
         ensures ok { OnOk result (step_of C.core self.old event ≡ Ok self.new) }
         ensures outcome { IfOk result (λ outcome. self.new.trace ≡ self.old.trace
@@ -113,7 +122,7 @@ impl<C: Exclusion> Cluster<C> {
         ensures numbered { IsNumbered self.new.trace }
         ensures serial { IsSerial self.new.trace }
     {
-        // for the prover: what a cluster keeps is known from where a field is used
+        // for the prover: the use of a field shows what holds for a cluster
         let _ = &self.trace;
         if let Err(fault) = self.happen(event) {
             return Err(fault);
@@ -121,7 +130,12 @@ impl<C: Exclusion> Cluster<C> {
         Ok(newest(&self.trace))
     }
 
-    /// Does one event, as `step` does. Its outcome is that of the newest item of the trace.
+    /// Applies one event, as `step` does, without returning its outcome: that of the newest item of
+    /// the trace.
+    ///
+    /// # Errors
+    ///
+    /// Returns the same errors as `step`.
     pub fn advance(&mut self, event: Event) -> Result<(), StepFault>
         ensures ok { OnOk result (step_of C.core self.old event ≡ Ok self.new) }
         ensures fault { IfErr result (IsFaultOf (step_of C.core self.old event)) }
@@ -132,13 +146,17 @@ impl<C: Exclusion> Cluster<C> {
         ensures numbered { IsNumbered self.new.trace }
         ensures serial { IsSerial self.new.trace }
     {
-        // for the prover: what a cluster keeps is known from where a field is used
+        // for the prover: the use of a field shows what holds for a cluster
         let _ = &self.trace;
         self.happen(event)
     }
 
-    /// Makes room for a given number of events and parcels more, so that their lists need not grow
-    /// step by step. Nothing else changes, also where memory is refused.
+    /// Reserves memory for more events and parcels, so that their lists need not grow step by step.
+    /// Nothing else changes.
+    ///
+    /// # Errors
+    ///
+    /// Returns `AllocError` if memory runs out.
     pub fn make_room(&mut self, events: usize) -> Result<(), AllocError>
         ensures { self.new ≡ self.old }
     {
@@ -146,7 +164,12 @@ impl<C: Exclusion> Cluster<C> {
         self.mail.reserve(events)
     }
 
-    /// Does these events in order, up to the first that can't happen.
+    /// Applies these events in order, up to the first that fails.
+    ///
+    /// # Errors
+    ///
+    /// Returns the index and the fault of the event that fails. The events before it have been
+    /// applied.
     pub fn run(&mut self, events: &[Event]) -> Result<(), RunFault>
         ensures ok { OnOk result (RunsTo C.core self.old events.now self.new) }
         ensures err { IfErr result (λ fault. (fault.index < length events.now)
@@ -157,7 +180,7 @@ impl<C: Exclusion> Cluster<C> {
         ensures numbered { IsNumbered self.new.trace }
         ensures serial { IsSerial self.new.trace }
     {
-        // for the prover: what a cluster keeps is known from where a field is used
+        // for the prover: the use of a field shows what holds for a cluster
         let _ = &self.trace;
         for (index, event) in events.iter().enumerate() {
             if let Err(fault) = self.advance(*event) {
@@ -170,8 +193,8 @@ impl<C: Exclusion> Cluster<C> {
         Ok(())
     }
 
-    /// A member, where there is one of this number. Its journal knows of this trace's sections
-    /// alone, and without gaps it shows their writes in order of entry.
+    /// Returns the member of this number, if there is one. Its journal knows only sections of this
+    /// trace, and without gaps it shows their writes in order of entry.
     pub fn member(&self, node: NodeId) -> Option<&Member<C>>
         ensures value { MatchOption result (slice_get self.now.members node ≡ None)
             (λ member. slice_get self.now.members node ≡ Some member.now) }
@@ -183,14 +206,15 @@ impl<C: Exclusion> Cluster<C> {
         self.members.get(node.get() as usize)
     }
 
-    /// How many parcels were sent.
+    /// Returns the number of parcels that were sent.
     pub fn sent(&self) -> u64
         ensures { result ≡ length self.now.sent }
     {
         self.mail.len() as u64
     }
 
-    /// The parcel of this number, counted from 0: who sent it, to whom, and what it is.
+    /// Returns the sender and the addressee of the parcel of this number, counted from 0, and the
+    /// parcel.
     pub fn parcel(&self, number: u64) -> Option<(NodeId, NodeId, &Parcel<C::Msg>)>
         ensures { MatchOption result (slice_get self.now.sent number ≡ None)
             (λ parcel. slice_get self.now.sent number
@@ -202,7 +226,7 @@ impl<C: Exclusion> Cluster<C> {
         }
     }
 
-    /// The same parcel as `parcel` returns, with names for its parts.
+    /// Returns the same parcel as `parcel`, with names for its parts.
     pub fn sent_parcel(&self, number: u64) -> Option<SentParcel<'_, C::Msg>>
         ensures { MatchOption result (slice_get self.now.sent number ≡ None)
             (λ found. slice_get self.now.sent number
@@ -211,12 +235,14 @@ impl<C: Exclusion> Cluster<C> {
         self.mail.get(number)
     }
 
-    /// What happened, in order. At every moment of every run, entries and leavings alternate, each
-    /// leaving by the node and with the number of the entry before it; the n-th entry bears the
-    /// number n; each value read is what the sections before and its section's own writes leave,
-    /// and each receipt is that of its section. At most one node is inside: that of the newest
-    /// section, while it is open. Any two journals agree, and a member can take each parcel that was
-    /// sent to it.
+    /// Returns the trace: all events in order, with their outcomes. At every moment of every run:
+    ///
+    /// - entries and exits alternate; each exit has the node and the number of the entry before it;
+    /// - the n-th entry has the number n;
+    /// - each value read is the register's after the sections before and its section's own writes,
+    ///   and each receipt is that of its section;
+    /// - at most one node is inside: that of the newest section, while it is open;
+    /// - any two journals agree, and a member can take each parcel that was sent to it.
     pub fn trace(&self) -> &[Entry]
         ensures value { result.now ≡ self.now.trace }
         ensures exclusive { IsExclusive result.now }
@@ -242,10 +268,14 @@ impl<C: Exclusion> Cluster<C> {
         &self.trace
     }
 
-    /// What the journals of these nodes know together: each merged, in turn, into an empty one,
-    /// which gives their least upper bound. They never conflict, so that memory alone can be
-    /// wanting. A node that isn't there adds nothing. Those of all nodes are the journal of the
-    /// sections, settled as far as any node has settled it, and show its registers.
+    /// Merges the journals of these nodes, one after another, into an empty one, and returns their
+    /// least upper bound. They never conflict. A number that is no node adds nothing. The journals
+    /// of all nodes make the journal of the sections, settled as far as any node has settled it,
+    /// and show its registers.
+    ///
+    /// # Errors
+    ///
+    /// Returns `Memory` if memory runs out.
     pub fn merged(&self, alloc: Global, nodes: &[NodeId]) -> Result<Journal, MergeFault>
         ensures all { IfOk result (λ journal.
             IsAboveAll self.now.members nodes.now journal) }
@@ -261,7 +291,7 @@ impl<C: Exclusion> Cluster<C> {
         ensures in_order { IfOk result (λ journal. ShowsInOrder self.now.trace journal) }
         ensures conflict { (n : ℕ) → (result ≡ Err (MergeFault.Conflict n)) → ⊥ }
     {
-        // for the prover: what a cluster keeps is known from where a field is used
+        // for the prover: the use of a field shows what holds for a cluster
         let _ = &self.trace;
         let mut all = Journal::new(alloc);
         for node in nodes {

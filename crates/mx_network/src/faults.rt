@@ -1,9 +1,9 @@
-//! Why an event did not happen.
+//! Why an event fails.
 
 use std::alloc::AllocError;
 use thiserror::Error;
 
-/// Why an event did not happen. The cluster and its trace are as they were before.
+/// Why an event fails. The cluster and its trace are unchanged then.
 #[derive(Clone, Copy, Debug, PartialEq, Eq, Error)]
 pub enum StepFault {
     /// The event names a node that the cluster does not have.
@@ -28,11 +28,12 @@ impl From<AllocError> for StepFault {
     }
 }
 
-/// Which event of a run did not happen, counted from 0, and why. The events before it have
-/// happened.
+/// The event of a run that failed, counted from 0, and why. The events before it were applied.
 #[derive(Clone, Copy, Debug, PartialEq, Eq, Error)]
 #[error("event {index}: {fault}")]
 pub struct RunFault {
+    /// The index of the event, counted from 0.
     pub index: u64,
+    /// Why the event failed.
     pub fault: StepFault,
 }

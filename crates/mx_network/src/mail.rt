@@ -12,7 +12,7 @@ use mx_stamps::NodeId;
 use std::alloc::{AllocError, Global};
 use std::marker::Model;
 
-/// One parcel that was sent: by whom, to whom, and its place among those that are kept.
+/// A parcel that was sent: its sender, its addressee, and its place among the stored parcels.
 #[derive(Clone, Copy)]
 pub(crate) struct Sending {
     from: NodeId,
@@ -20,8 +20,8 @@ pub(crate) struct Sending {
     place: usize,
 }
 
-/// The parcels that were sent, in order. A letter that goes to many is kept once: one that equals
-/// the last that is kept takes its place.
+/// The parcels that were sent, in order. A letter to many nodes is stored once: a letter that
+/// equals the one stored last shares its place.
 #[derive(Drop)]
 pub(crate) struct Mail<C: Exclusion> {
     kept: Vec<Parcel<C::Msg>>,
@@ -43,7 +43,7 @@ impl<C: Exclusion> Model for Mail<C> {
 }
 
 impl<C: Exclusion> Mail<C> {
-    /// No parcels.
+    /// Creates an empty list of parcels.
     pub(crate) fn new(alloc: Global) -> Self
         ensures { result.sent ≡ [] }
     {
@@ -53,7 +53,11 @@ impl<C: Exclusion> Mail<C> {
         }
     }
 
-    /// Asks for memory for a given number of parcels more.
+    /// Reserves memory for a given number of parcels more.
+    ///
+    /// # Errors
+    ///
+    /// Returns `AllocError` if memory runs out.
     pub(crate) fn reserve(&mut self, parcels: usize) -> Result<(), AllocError>
         ensures sent { self.new.sent ≡ self.old.sent }
         ensures room { OnOk result (parcels ≤ self.new.room) }
@@ -62,14 +66,14 @@ impl<C: Exclusion> Mail<C> {
         self.sendings.reserve(parcels)
     }
 
-    /// How many were sent.
+    /// Returns the number of parcels that were sent.
     pub(crate) fn len(&self) -> usize
         ensures { result ≡ length self.now.sent }
     {
         self.sendings.len()
     }
 
-    /// The parcel of this number, counted from 0.
+    /// Returns the parcel of this number, counted from 0.
     pub(crate) fn get(&self, number: u64) -> Option<SentParcel<'_, C::Msg>>
         ensures { MatchOption result (slice_get self.now.sent number ≡ None)
             (λ found. slice_get self.now.sent number
@@ -85,8 +89,7 @@ impl<C: Exclusion> Mail<C> {
         }
     }
 
-    /// Sends the parcels of a member, and empties its outbox. There is room for as many as that
-    /// takes.
+    /// Sends the parcels of a member, and empties its outbox. There is room for a full outbox.
     pub(crate) fn send_all(&mut self, from: NodeId, out: &mut Outbox<Parcel<C::Msg>>)
         requires { OUTBOX_ROOM ≤ self.old.room }
         ensures sent { self.new.sent ≡ self.old.sent ++ sent_by from out.old }
@@ -110,7 +113,7 @@ impl<C: Exclusion> Mail<C> {
     }
 }
 
-/// Keeps a parcel behind the others, unless it is a letter that equals the last. There is room for
+/// Stores a parcel after the others, unless it is a letter that equals the last. There is room for
 /// it.
 fn keep<C: Exclusion>(kept: &mut Vec<Parcel<C::Msg>>, parcel: &Parcel<C::Msg>)
     requires { vec_len kept.old < vec_capacity kept.old }
@@ -123,7 +126,7 @@ fn keep<C: Exclusion>(kept: &mut Vec<Parcel<C::Msg>>, parcel: &Parcel<C::Msg>)
     }
 }
 
-/// Whether the last that is kept is a letter, and this one is equal to it.
+/// Returns whether the last stored parcel is a letter, and this one equals it.
 fn is_last<C: Exclusion>(kept: &[Parcel<C::Msg>], parcel: &Parcel<C::Msg>) -> bool
     ensures { IsTrue result → EndsWith parcel.now kept.now }
 {
@@ -133,7 +136,7 @@ fn is_last<C: Exclusion>(kept: &[Parcel<C::Msg>], parcel: &Parcel<C::Msg>) -> bo
     }
 }
 
-/// Puts a copy behind the others.
+/// Appends a copy.
 fn push<M: Copy>(kept: &mut Vec<Parcel<M>>, parcel: &Parcel<M>)
     requires { vec_len kept.old < vec_capacity kept.old }
     ensures items { kept.new.items ≡ kept.old.items ++ parcel.now ∷ [] }

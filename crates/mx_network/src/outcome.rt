@@ -1,4 +1,4 @@
-//! The outcome that a member's answer stands for.
+//! The outcomes for the results of a member.
 
 ghost use Rattle.std.specs.Prelude.{ℕ, ◌≡◌};
 ghost use Rattle.mx_member.specs.declared.acts.Answer.TheVariants as answer;
@@ -10,7 +10,7 @@ use mx_nodelaws::{AskFault, CancelFault, EnterFault};
 use mx_sections::{Cause, Outcome};
 use mx_stamps::Stamp;
 
-/// What comes of an ask.
+/// Returns the outcome of a request.
 #[inline(always)]
 pub(crate) fn asked(told: Result<Stamp, AskFault>) -> Outcome
     ensures { (sent : ℕ) → result ≡ outcome_of (answer.Asked told) sent }
@@ -22,7 +22,7 @@ pub(crate) fn asked(told: Result<Stamp, AskFault>) -> Outcome
     }
 }
 
-/// What comes of an entry.
+/// Returns the outcome of an entry.
 #[inline(always)]
 pub(crate) fn entered(told: Result<u64, EnterFault>) -> Outcome
     ensures { (sent : ℕ) → result ≡ outcome_of (answer.Entered told) sent }
@@ -35,7 +35,7 @@ pub(crate) fn entered(told: Result<u64, EnterFault>) -> Outcome
     }
 }
 
-/// What comes of a read.
+/// Returns the outcome of a read.
 #[inline(always)]
 pub(crate) fn read(told: Result<u64, ReadFault>) -> Outcome
     ensures { (sent : ℕ) → result ≡ outcome_of (answer.Read told) sent }
@@ -51,7 +51,7 @@ pub(crate) fn read(told: Result<u64, ReadFault>) -> Outcome
     }
 }
 
-/// What comes of a write.
+/// Returns the outcome of a write.
 #[inline(always)]
 pub(crate) fn written(told: Result<(), WriteFault>) -> Outcome
     ensures { (sent : ℕ) → result ≡ outcome_of (answer.Written told) sent }
@@ -64,7 +64,7 @@ pub(crate) fn written(told: Result<(), WriteFault>) -> Outcome
     }
 }
 
-/// What comes of giving a request up.
+/// Returns the outcome of a withdrawal.
 #[inline(always)]
 pub(crate) fn cancelled(told: Result<(), CancelFault>) -> Outcome
     ensures { (sent : ℕ) → result ≡ outcome_of (answer.Cancelled told) sent }
@@ -75,7 +75,7 @@ pub(crate) fn cancelled(told: Result<(), CancelFault>) -> Outcome
     }
 }
 
-/// What comes of settling.
+/// Returns the outcome of settling.
 #[inline(always)]
 pub(crate) fn settled(told: Result<(), SettleFault>) -> Outcome
     ensures { (sent : ℕ) → result ≡ outcome_of (answer.Settled told) sent }

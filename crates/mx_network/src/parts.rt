@@ -22,7 +22,7 @@ use mx_stamps::NodeId;
 use std::alloc::{AllocError, Global};
 
 impl<C: Exclusion> Cluster<C> {
-    /// One event.
+    /// Applies one event.
     pub(crate) fn happen(&mut self, event: Event) -> Result<(), StepFault>
         ensures { IsStep C.core event self.old self.new result }
     {
@@ -32,8 +32,8 @@ impl<C: Exclusion> Cluster<C> {
         }
     }
 
-    /// A parcel reaches its addressee. Memory is asked for before anything changes; that it was
-    /// refused is told only where there is such a parcel.
+    /// Delivers a parcel to its addressee. Memory is reserved before anything changes; `Memory` is
+    /// returned only if there is such a parcel.
     fn deliver(&mut self, number: u64) -> Result<(), StepFault>
         ensures { IsStep C.core (Event.Deliver number) self.old self.new result }
     {
@@ -58,7 +58,7 @@ impl<C: Exclusion> Cluster<C> {
         }
     }
 
-    /// A node does something by itself. Memory is asked for before anything changes.
+    /// Applies an act that a node does by itself. Memory is reserved before anything changes.
     fn act(&mut self, event: &Event) -> Result<(), StepFault>
         requires { IsByItself event.now }
         ensures { IsStep C.core event.now self.old self.new result }
@@ -80,7 +80,7 @@ impl<C: Exclusion> Cluster<C> {
     }
 }
 
-/// The members at rest, in order.
+/// Creates the idle members, in order.
 pub(crate) fn start_members<C: Exclusion>(
     alloc: Global,
     shape: &C::Shape,
@@ -107,18 +107,18 @@ pub(crate) fn start_members<C: Exclusion>(
     Ok(members)
 }
 
-/// The node that does this by itself, in a cluster of this many nodes.
+/// Returns the node that does this by itself, in a cluster of this many nodes.
 fn node_of(nodes: usize, event: &Event) -> Result<NodeId, StepFault>
     ensures { result ≡ own_node nodes event.now }
 {
     match event {
         Event::Want(_, other) if other.get() as usize >= nodes => Err(StepFault::NoNode),
-        // a delivery is its addressee's, which the parcel names
+        // a delivery is its addressee's, and the parcel has that
         _ => event.node().ok_or(StepFault::NoParcel),
     }
 }
 
-/// Asks for memory for what an event may add: the parcels of a full outbox, and an item.
+/// Reserves memory for all that an event may add: the parcels of a full outbox, and an item.
 fn reserve<C: Exclusion>(mail: &mut Mail<C>, trace: &mut Vec<Entry>) -> Result<(), AllocError>
     ensures sent { mail.new.sent ≡ mail.old.sent }
     ensures trace { trace.new.items ≡ trace.old.items }
@@ -129,8 +129,8 @@ fn reserve<C: Exclusion>(mail: &mut Mail<C>, trace: &mut Vec<Entry>) -> Result<(
     mail.reserve(OUTBOX_ROOM)
 }
 
-/// A member takes a parcel that it can take, so that the only way to fail is that memory runs out,
-/// and the delivery joins the trace. There is room for it.
+/// Delivers a parcel that the member can take, so that only memory can be missing, and adds the
+/// delivery to the trace. There is room for it.
 fn take_and_note<C: Exclusion>(
     member: &mut Member<C>,
     number: u64,
@@ -158,7 +158,7 @@ fn take_and_note<C: Exclusion>(
     }
 }
 
-/// Does at a member what an event asks of it, and the event joins the trace. There is room for it.
+/// Applies an event to a member, and adds it to the trace. There is room for it.
 fn do_and_note<C: Exclusion>(
     member: &mut Member<C>,
     event: &Event,
@@ -240,7 +240,7 @@ fn note(trace: &mut Vec<Entry>, event: &Event, outcome: Outcome)
     });
 }
 
-/// The outcome of the newest item.
+/// Returns the outcome of the newest item.
 pub(crate) fn newest(trace: &[Entry]) -> Outcome
     requires { 0 < length trace.now }
     ensures { (front : List Entry) (entry : Entry) → trace.now ≡ front ++ entry ∷ [] →

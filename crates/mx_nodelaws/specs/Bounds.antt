@@ -1,4 +1,4 @@
--- A part of Good that needs no other part: every number is a u64 value, and every name a node.
+-- A part of Good that relies on no other part: every number is a u64 value, and every name a node.
 use Rattle.std.specs.Prelude.{ℕ, ◌<◌, ◌^◌, List, length}
 use Rattle.mx_stamps.specs.declared.stamp.Stamp.{Stamp}
 use Rattle.mx_stamps.specs.Lists.{IsIn}
@@ -19,20 +19,20 @@ BoundedPhase Idle = Unit {0}
 BoundedPhase Waiting = Unit {0}
 BoundedPhase (Inside n) = IsU64 n
 
--- each letter goes to one of n nodes, and what an algorithm says of its letters (Letter) holds
--- of it
+-- each letter goes to one of n nodes, and has the property (Letter) of the algorithm's letters
 abbrev pub AreBounded : {M : Type 0} → (ℕ → M → Type 0) → ℕ → List (ℕ × M) → Type 0
 AreBounded {M} Letter n letters =
     (b : ℕ) (m : M) → IsIn {X = ℕ × M} (b, m) letters → (b < n) × Letter n m
 
--- a step of one of n nodes, of whose state (Node) and letters (Letter) that holds
+-- a step of one of n nodes, after which its state has a property (Node) and its letters another
+-- (Letter)
 pub record IsBoundedDone {S A M : Type 0} (Node : ℕ → S → Type 0) (Letter : ℕ → M → Type 0) (n : ℕ)
     (done : Done S A M) : Type 0 where
   pub state : Node n done.state
   pub letters : AreBounded Letter n done.letters
 
--- a world of whose nodes and letters that holds, and whose letters are from one of its nodes to
--- another or the same
+-- a world whose nodes and letters have these properties, and whose letters go from one of its nodes
+-- to one of its nodes
 pub record IsBoundedWorld {S M : Type 0} (Node : ℕ → S → Type 0) (Letter : ℕ → M → Type 0)
     (w : World S M) : Type 0 where
   pub nodes : (i : ℕ) (s : S) → IsNode w i s → Node (length w.nodes) s

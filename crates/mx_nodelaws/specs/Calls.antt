@@ -14,7 +14,7 @@ use Rattle.mx_nodelaws.specs.declared.faults.EnterFault.TheVariants.{NotWaiting,
 use Rattle.mx_nodelaws.specs.declared.faults.LeaveFault.{LeaveFault}
 use Rattle.mx_nodelaws.specs.declared.faults.LeaveFault.TheVariants.{NotInside}
 
--- a call that is refused: nothing changes and nothing is sent
+-- a refused call: nothing changes and nothing is sent
 abbrev pub unchanged : {S A M : Type 0} → S → A → Done S A M
 unchanged s answer = record { state = s; answer = answer; letters = [] }
 
@@ -35,7 +35,7 @@ ask_by counter asked (Inside n) s = unchanged s (Err NotIdle)
 abbrev pub entered_by : {S : Type 0} → (S → ℕ) → (S → S) → S → Quiet S (Result ℕ EnterFault)
 entered_by top entering s = record { state = entering s; answer = Ok (top s + 1) }
 
--- a waiting node enters where it has every permission and the limit is not reached
+-- a waiting node enters if it has every permission and the limit is not reached
 abbrev pub enter_by : {S : Type 0} → (S → Bool) → (S → ℕ) → (S → ℕ) → (S → S) → Phase → S →
     Quiet S (Result ℕ EnterFault)
 enter_by granted top limit entering Idle s = refused s NotWaiting
@@ -45,14 +45,14 @@ enter_by granted top limit entering Waiting s =
     else refused s NotGranted
 enter_by granted top limit entering (Inside n) s = refused s NotWaiting
 
--- leave: a node that is inside leaves, and the answer is the number of its section
+-- leave: a node that is inside leaves, and the result is the number of its section
 abbrev pub leave_by : {S M : Type 0} → (S → Done S (Unit {0}) M) → Phase → S →
     Done S (Result ℕ LeaveFault) M
 leave_by left Idle s = unchanged s (Err NotInside)
 leave_by left Waiting s = unchanged s (Err NotInside)
 leave_by left (Inside n) s = answering (left s) (Ok n)
 
--- cancel: a waiting node gives its request up
+-- cancel: a waiting node withdraws its request
 abbrev pub cancel_by : {S M : Type 0} → (S → Done S (Unit {0}) M) → Phase → S →
     Done S (Result (Unit {0}) CancelFault) M
 cancel_by cancelled Idle s = unchanged s (Err cancel.NotWaiting)

@@ -15,7 +15,7 @@ use Rattle.mx_nodelaws.specs.World.{Done, Quiet}
 
 -- the step table of an algorithm, over shapes H, states S and letters M
 pub record Core (H S M : Type 0) : Type 0 where
-  -- how many nodes a shape has
+  -- the number of nodes in a shape
   pub count : H → ℕ
   -- the state of a node that has just been started, from the shape, the node, the origin and the
   -- limit
@@ -36,17 +36,16 @@ pub record Core (H S M : Type 0) : Type 0 where
 abbrev pub IsInside : {H S M : Type 0} → Core H S M → S → Type 0
 IsInside core s = (n : ℕ) × (core.phase s ≡ Inside n)
 
--- a node that is inside is in a section numbered from 1 to 1,000,000
+-- a section that a node is inside has a number from 1 to 1,000,000
 abbrev pub BearsNumber : Phase → Type 0
 BearsNumber Idle = Unit {0}
 BearsNumber Waiting = Unit {0}
 BearsNumber (Inside n) = (0 < n) × (n ≤ MOST_SECTIONS)
 
--- the promises on the phase, on `mine` (the last own section number) and on the limit, for every
--- state
+-- the promises on the phase, on `mine` (the last section that the node entered) and on the limit,
+-- for every state
 pub record KeepsPhases {H S M : Type 0} (core : Core H S M) : Type 0 where
-  -- a node that has just been started is idle, has entered no section, and has the limit that was
-  -- given
+  -- a node that has just been started is idle, has entered no section, and has the given limit
   pub started_idle : (shape : H) (i origin limit : ℕ) →
       core.phase (core.start shape i origin limit) ≡ Idle
   pub started_mine : (shape : H) (i origin limit : ℕ) →
@@ -68,7 +67,7 @@ pub record KeepsPhases {H S M : Type 0} (core : Core H S M) : Type 0 where
       core.mine (core.deliver from m s).state ≡ core.mine s
   pub deliver_limit : (from : ℕ) (m : M) (s : S) →
       core.limit (core.deliver from m s).state ≡ core.limit s
-  -- a node can enter only where it waits
+  -- only a waiting node can enter
   pub can_enter_waiting : (s : S) → core.can_enter s ≡ true → core.phase s ≡ Waiting
   -- an accepted enter goes from Waiting to Inside, a refused one changes nothing
   pub enter_ok : (s : S) (n : ℕ) → (core.enter s).answer ≡ Ok n → (core.can_enter s ≡ true)
@@ -80,7 +79,7 @@ pub record KeepsPhases {H S M : Type 0} (core : Core H S M) : Type 0 where
   pub enter_not_granted : (s : S) → ((core.enter s).answer ≡ Err NotGranted)
       ↔ ((core.phase s ≡ Waiting) × (core.can_enter s ≡ false))
   pub enter_limit : (s : S) → core.limit (core.enter s).state ≡ core.limit s
-  -- a leave is accepted exactly inside, and its answer is the section's number
+  -- a leave is accepted exactly inside, and its result is the section's number
   pub leave_inside : (s : S) (n : ℕ) → ((core.leave s).answer ≡ Ok n) ↔ (core.phase s ≡ Inside n)
   pub leave_ok : (s : S) (n : ℕ) → (core.leave s).answer ≡ Ok n →
       core.phase (core.leave s).state ≡ Idle

@@ -14,7 +14,7 @@ module _ {H S M : Type 0} where
     sent = [];
   }
 
-  -- the greatest number of a section that some node entered, 0 before the first
+  -- the greatest number of a section that some node entered, or 0 before the first
   abbrev pub greatest_mine : Core H S M → World S M → ℕ
   greatest_mine core w = greatest core.mine w.nodes
 
@@ -23,8 +23,8 @@ module _ {H S M : Type 0} where
     -- start law: the world at rest is Good
     pub at_start : (shape : H) (origin limit : ℕ) → IsShape shape → origin < 2 ^ 64 → 0 < limit →
         limit ≤ MOST_SECTIONS → Good (started core shape origin limit)
-    -- step law: each call of each node keeps Good; a letter that is delivered was sent to that
-    -- node, at any time before
+    -- step law: each call of each node keeps Good; a delivered letter was sent to that node, at any
+    -- earlier time
     pub after_ask : (w : World S M) (i : ℕ) (s : S) → Good w → IsNode w i s →
         Good (after w i (core.ask s))
     pub after_deliver : (w : World S M) (i : ℕ) (s : S) (from : ℕ) (m : M) → Good w → IsNode w i s →
@@ -37,7 +37,7 @@ module _ {H S M : Type 0} where
         Good (after w i (core.cancel s))
     pub after_tick : (w : World S M) (i : ℕ) (s : S) → Good w → IsNode w i s →
         Good (after w i (core.tick s))
-    -- Good depends on which letters were sent, and not on how often or in which order
+    -- Good depends on the set of the letters that were sent, not on how often or in which order
     pub by_membership : (w : World S M) (sent : List (ℕ × ℕ × M)) →
         ((x : ℕ × ℕ × M) → IsIn x w.sent ↔ IsIn x sent) → Good w →
         Good (record { nodes = w.nodes; sent = sent })
@@ -46,8 +46,8 @@ module _ {H S M : Type 0} where
     -- exclusion law: at most one node is inside
     pub one_inside : (w : World S M) (i j : ℕ) (s t : S) → Good w → IsNode w i s → IsNode w j t →
         IsInside core s → IsInside core t → i ≡ j
-    -- numbering law: where a node can enter nobody is inside, and it draws the next number up to
-    -- the limit
+    -- numbering law: if a node can enter, nobody is inside, and it draws the next number up to the
+    -- limit
     pub entry : (w : World S M) (i : ℕ) (s : S) → Good w → IsNode w i s → core.can_enter s ≡ true →
         ((j : ℕ) (t : S) → IsNode w j t → IsInside core t → ⊥)
         × ((core.enter s).answer ≡ (if nat_lt (greatest_mine core w) (core.limit s)

@@ -1,4 +1,4 @@
--- The tests of the phase of a node.
+-- Tests of the phase of a node.
 use Rattle.std.specs.Prelude.{Bool, true, false}
 use Rattle.mx_nodelaws.specs.declared.phase.Phase.{Phase}
 use Rattle.mx_nodelaws.specs.declared.phase.Phase.TheVariants.{Idle, Waiting, Inside}

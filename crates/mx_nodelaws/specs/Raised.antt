@@ -2,10 +2,10 @@
 use Rattle.std.specs.Prelude.{ℕ, ◌≤◌}
 use Rattle.mx_nodelaws.specs.World.{World, IsNode}
 
--- some node has come to n or above
+-- some node has reached n
 abbrev pub IsReachedBy : {S M : Type 0} → (S → ℕ) → World S M → ℕ → Type 0
 IsReachedBy {S} number w n = (j : ℕ) × (t : S) × (IsNode w j t) × (n ≤ number t)
 
--- node j has come to n or above
+-- node j has reached n
 abbrev pub HasComeTo : {S M : Type 0} → (S → ℕ) → World S M → ℕ → ℕ → Type 0
 HasComeTo {S} number w j n = (t : S) → IsNode w j t → n ≤ number t

@@ -1,5 +1,5 @@
--- The rows of an algorithm's step table, where the phase refuses nothing. What a phase refuses, and
--- how sections are numbered, is the same for all algorithms: core_of adds it.
+-- The rows of an algorithm's step table, for the phases in which the call is accepted. Refusals by
+-- the phase and the numbers of sections are the same for all algorithms: core_of adds them.
 use Rattle.std.specs.Prelude.{ℕ, ◌+◌, ◌<◌, ◌≤◌, ◌^◌, ◌≡◌, ◌↔◌, ◌&&◌, Bool, true, List}
 use Rattle.mx_stamps.specs.declared.limits.TheConstants.{MOST_SECTIONS}
 use Rattle.mx_stamps.specs.declared.stamp.Stamp.{Stamp}
@@ -16,33 +16,32 @@ use Rattle.mx_nodelaws.specs.declared.phase.Phase.TheVariants.{Idle, Waiting, In
 
 -- the rows of an algorithm, over shapes H, states S and letters M
 pub record Rows (H S M : Type 0) : Type 0 where
-  -- how many nodes a shape has
+  -- the number of nodes in a shape
   pub count : H → ℕ
   -- the state of a node that has just been started, from the shape, the node, the origin and the
   -- limit
   pub start : H → ℕ → ℕ → ℕ → S
   pub phase : S → Phase
-  -- the number of the last section that it entered, the highest that it knows, the greatest there
-  -- may be
+  -- the number of the last section that it entered, the highest that it knows, and the limit
   pub mine : S → ℕ
   pub top : S → ℕ
   pub limit : S → ℕ
   -- the counter that `ask` draws from: the highest stamp number that it has drawn or seen, or how
-  -- many of its asks were accepted
+  -- many of its requests were accepted
   pub counter : S → ℕ
-  -- every permission for its request is there
+  -- whether every permission for its request has come
   pub is_granted : S → Bool
-  -- an idle node asks; the answer is the stamp of its request
+  -- an idle node asks; the result is the stamp of its request
   pub ask : S → Done S Stamp M
-  -- a letter comes from a node
+  -- a letter from a node is delivered
   pub deliver : ℕ → M → S → Done S (Unit {0}) M
   -- a waiting node enters the section whose number is one above `top`
   pub enter : S → S
   -- a node that is inside leaves
   pub leave : S → Done S (Unit {0}) M
-  -- a waiting node gives its request up
+  -- a waiting node withdraws its request
   pub cancel : S → Done S (Unit {0}) M
-  -- what is outstanding is sent again
+  -- outstanding letters are sent again
   pub tick : S → Done S (Unit {0}) M
 
 -- the step table that the rows make
@@ -62,7 +61,7 @@ core_of rows = record {
   tick = rows.tick;
 }
 
--- what the promises on phases speak of
+-- the part of a state that the promises on phases are about
 pub record Course : Type 0 where
   pub phase : Phase
   pub mine : ℕ
@@ -74,7 +73,7 @@ course phase mine limit = record { phase = phase; mine = mine; limit = limit }
 abbrev pub course_of : {H S M : Type 0} → Rows H S M → S → Course
 course_of rows s = course (rows.phase s) (rows.mine s) (rows.limit s)
 
--- what each row makes of the course of a node: from this the promises on phases follow
+-- the course of a node after each row; the promises on phases follow from this
 pub record KeepsCourse {H S M : Type 0} (rows : Rows H S M) : Type 0 where
   pub start : (shape : H) (i origin limit : ℕ) →
       course_of rows (rows.start shape i origin limit) ≡ course Idle 0 limit
@@ -90,7 +89,8 @@ pub record KeepsCourse {H S M : Type 0} (rows : Rows H S M) : Type 0 where
       course_of rows (rows.cancel s).state ≡ course Idle (rows.mine s) (rows.limit s)
   pub tick : (s : S) → course_of rows (rows.tick s).state ≡ course_of rows s
 
--- each row keeps a world safe, and in a safe world sections exclude one another and are numbered
+-- each row keeps a world safe, and in a safe world sections exclude one another and are numbered in
+-- order
 pub record KeepsSafe {H S M : Type 0} (rows : Rows H S M) (IsShape : H → Type 0)
     (Safe : World S M → Type 0) : Type 0 where
   pub start : (shape : H) (origin limit : ℕ) → IsShape shape →
@@ -112,7 +112,7 @@ pub record KeepsSafe {H S M : Type 0} (rows : Rows H S M) (IsShape : H → Type 
       Safe (record { nodes = w.nodes; sent = sent })
   pub one_inside : (w : World S M) (i j : ℕ) (s t : S) → Safe w → IsNode w i s → IsNode w j t →
       IsInside (core_of rows) s → IsInside (core_of rows) t → i ≡ j
-  -- where a node may enter nobody is inside, and it knows the number of the last section
+  -- if a node may enter, nobody is inside, and it knows the number of the last section
   pub nobody_inside : (w : World S M) (i : ℕ) (s : S) → Safe w → IsNode w i s →
       rows.phase s ≡ Waiting → rows.is_granted s ≡ true → (j : ℕ) (t : S) → IsNode w j t →
       IsInside (core_of rows) t → ⊥
@@ -135,7 +135,7 @@ pub record KeepsBounds {H S M : Type 0} (rows : Rows H S M) (IsShape : H → Typ
   pub cancel : (n : ℕ) (s : S) → Node n s → IsBoundedDone Node Letter n (rows.cancel s)
   pub tick : (n : ℕ) (s : S) → Node n s → IsBoundedDone Node Letter n (rows.tick s)
 
--- a safe world, each of whose numbers is a u64 value and each of whose names is a node
+-- a safe world in which each number is a u64 value and each name a node
 pub record IsGoodWorld {S M : Type 0} (Safe : World S M → Type 0) (Node : ℕ → S → Type 0)
     (Letter : ℕ → M → Type 0) (w : World S M) : Type 0 where
   pub safe : Safe w

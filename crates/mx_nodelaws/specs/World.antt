@@ -1,15 +1,14 @@
--- The core part of a world: the nodes' states, and the letters ever sent.
+-- The core part of a world: the nodes' states, and all letters ever sent.
 use Rattle.std.specs.Prelude.{ℕ, zero, suc, ◌≤◌, ◌≡◌, List, length, [], ◌∷◌, ◌++◌, Option, Some, None, slice_get, slice_set}
 use Rattle.mx_stamps.specs.Lists.{IsIn}
 
--- what one act of a node gives: its next state, its answer, and its letters in order, each with its
--- addressee
+-- one act of a node: its next state, its result, and its letters in order, each with its addressee
 pub record Done (S A M : Type 0) : Type 0 where
   pub state : S
   pub answer : A
   pub letters : List (ℕ × M)
 
--- what an act gives that sends nothing: its next state and its answer
+-- an act that sends nothing: its next state and its result
 pub record Quiet (S A : Type 0) : Type 0 where
   pub state : S
   pub answer : A
@@ -17,19 +16,19 @@ pub record Quiet (S A : Type 0) : Type 0 where
 abbrev pub quietly : {S A M : Type 0} → Quiet S A → Done S A M
 quietly step = record { state = step.state; answer = step.answer; letters = [] }
 
--- the same step with another answer
+-- the same step with another result
 abbrev pub answering : {S A B M : Type 0} → Done S A M → B → Done S B M
 answering done b = record { state = done.state; answer = b; letters = done.letters }
 
--- a step after which this is the state, and whose letters are these
+-- a step to this state that sends these letters
 abbrev pub sending : {S M : Type 0} → S → List (ℕ × M) → Done S (Unit {0}) M
 sending s letters = record { state = s; answer = tt; letters = letters }
 
--- a step after which this is the state, and which sends nothing
+-- a step to this state that sends nothing
 abbrev pub becoming : {S M : Type 0} → S → Done S (Unit {0}) M
 becoming s = sending s []
 
--- one step of a node, and then another
+-- one step of a node, followed by another
 abbrev pub and_then : {S A M : Type 0} → Done S A M → (S → Done S (Unit {0}) M) → Done S A M
 and_then first second = record {
   state = (second first.state).state;
@@ -50,7 +49,7 @@ IsNode w i s = slice_get w.nodes i ≡ Some s
 abbrev pub WasSent : {S M : Type 0} → World S M → ℕ → ℕ → M → Type 0
 WasSent w a b m = IsIn (a, b, m) w.sent
 
--- the letters of one act of node i, as they are sent
+-- the letters of one act of node i, with their sender
 abbrev pub sent_by : {M : Type 0} → ℕ → List (ℕ × M) → List (ℕ × ℕ × M)
 sent_by i [] = []
 sent_by i (p ∷ ps) = (i, p.0, p.1) ∷ sent_by i ps
@@ -72,11 +71,11 @@ abbrev pub addressed : {M : Type 0} → (ℕ → Option M) → ℕ → List (ℕ
 addressed f zero = []
 addressed f (suc n) = addressed f n ++ letter_to n (f n)
 
--- the letters to the nodes below n are sent, so far at most one to each
+-- the letters to the nodes below n were sent, at most one to each
 abbrev pub AreSentBelow : {M : Type 0} → (ℕ → Option M) → ℕ → List (ℕ × M) → Type 0
 AreSentBelow f n out = (out ≡ addressed f n) × (length out ≤ n)
 
--- a world of which each node and each letter sent is as it should be
+-- a world in which each node and each letter sent is as it should be
 pub record IsEachOk {S M : Type 0} (NodeOk : World S M → ℕ → S → Type 0)
     (LetterOk : World S M → ℕ → ℕ → M → Type 0) (w : World S M) : Type 0 where
   pub nodes : (i : ℕ) (s : S) → IsNode w i s → NodeOk w i s

@@ -1,4 +1,4 @@
-//! The interface of an exclusion algorithm.
+//! The interface of a mutual exclusion algorithm.
 
 ghost use Rattle.std.specs.Prelude.{◌≡◌, ◌<◌, ◌≤◌, ◌↔◌, [], IsTrue};
 
@@ -7,8 +7,9 @@ use crate::phase::Phase;
 use mx_letters::Outbox;
 use mx_stamps::{NodeId, Stamp};
 
-/// A node of an exclusion algorithm. Its step table is `core`; each call equals the table in state,
-/// answer and letters in order. The laws below the calls are what a cluster rests on.
+/// A node of a mutual exclusion algorithm. Its step table is `core`. Each call equals the table in
+/// the new state, the result, and the letters in order. A cluster relies on the laws below the
+/// calls. A refused call changes nothing and sends nothing.
 pub trait Exclusion: Drop {
     ghost use Rattle.mx_stamps.specs.declared.limits.TheConstants.{MOST_NODES, MOST_SECTIONS};
     ghost use Rattle.mx_nodelaws.specs.World.{World};
@@ -16,11 +17,11 @@ pub trait Exclusion: Drop {
     ghost use Rattle.mx_nodelaws.specs.Laws.{KeepsGood};
     ghost use Rattle.std.specs.Prelude.{◌≡◌, ◌<◌, ◌≤◌, ◌↔◌, [], IsTrue};
 
-    /// A letter.
+    /// The type of a letter (message).
     type Msg: Copy + Default;
 
-    /// What all nodes of a cluster know of it: how many there are and, where the algorithm needs
-    /// it, their sets of arbiters or their tree.
+    /// What all nodes of a cluster know of it: the number of nodes and, if the algorithm needs
+    /// them, the arbiters of each node or the tree.
     type Shape: Copy;
 
     // the step table
@@ -29,22 +30,22 @@ pub trait Exclusion: Drop {
     // the shapes that the laws speak of
     ghost IsShape: { Self.Shape → Type 0 };
 
-    // the worlds that are reached from the start: at the start it holds, and each step keeps it
+    // the worlds that are reached from the start: it holds at the start, and each step keeps it
     ghost Good: { World Self Self.Msg → Type 0 };
 
-    /// How many nodes there are.
+    /// Returns the number of nodes.
     fn nodes(shape: &Self::Shape) -> u8
         ensures value { result ≡ core.count shape.now }
         ensures valid { IsShape shape.now }
         ensures low { 0 < result }
         ensures high { result ≤ MOST_NODES };
 
-    /// Whether both are the same letter, so that what is sent to many can be kept once.
+    /// Returns whether both are the same letter, so that a letter to many nodes can be stored once.
     fn is_same(one: &Self::Msg, other: &Self::Msg) -> bool
         ensures { IsTrue result ↔ (one.now ≡ other.now) };
 
-    /// A node that has just been started. Its stamps, grants or hops count on from `origin`;
-    /// `limit` is the greatest section number.
+    /// Creates an idle node at the start of a cluster. Its stamps, grants or hops count on from
+    /// `origin`; `limit` is the greatest section number.
     fn start(shape: &Self::Shape, me: NodeId, origin: u64, limit: u64) -> Self
         requires node { me < core.count shape.now }
         requires low { 0 < limit }
@@ -52,53 +53,71 @@ pub trait Exclusion: Drop {
         ensures { result ≡ core.start shape.now me origin limit };
 
     /// Asks for the next section, and returns the stamp of the request.
+    ///
+    /// # Errors
+    ///
+    /// Returns `NotIdle` if the node waits already or is inside, and `StampsSpent` if no next stamp
+    /// exists.
     fn ask(&mut self, out: &mut Outbox<Self::Msg>) -> Result<Stamp, AskFault>
         requires { out.old ≡ [] }
         ensures state { self.new ≡ (core.ask self.old).state }
         ensures answer { result ≡ (core.ask self.old).answer }
         ensures letters { out.new ≡ (core.ask self.old).letters };
 
-    /// Takes a letter. One that no row of the step table fits is ignored.
+    /// Delivers a letter. A letter that fits no row of the step table is ignored.
     fn deliver(&mut self, from: NodeId, letter: Self::Msg, out: &mut Outbox<Self::Msg>)
         requires { out.old ≡ [] }
         ensures state { self.new ≡ (core.deliver from letter self.old).state }
         ensures letters { out.new ≡ (core.deliver from letter self.old).letters };
 
-    /// Whether the node waits, and has every permission for its current request.
+    /// Returns whether the node waits and has every permission for its current request.
     fn can_enter(&self) -> bool
         ensures { result ≡ core.can_enter self.now };
 
     /// Enters the section, and returns its number.
+    ///
+    /// # Errors
+    ///
+    /// Returns `NotWaiting` if the node is idle or inside, `NotGranted` if a permission is missing,
+    /// and `NumbersSpent` if the highest section number that the node knows is the limit.
     fn enter(&mut self) -> Result<u64, EnterFault>
         ensures state { self.new ≡ (core.enter self.old).state }
         ensures answer { result ≡ (core.enter self.old).answer };
 
     /// Leaves the section, and returns its number.
+    ///
+    /// # Errors
+    ///
+    /// Returns `NotInside` if the node is idle or still waits.
     fn leave(&mut self, out: &mut Outbox<Self::Msg>) -> Result<u64, LeaveFault>
         requires { out.old ≡ [] }
         ensures state { self.new ≡ (core.leave self.old).state }
         ensures answer { result ≡ (core.leave self.old).answer }
         ensures letters { out.new ≡ (core.leave self.old).letters };
 
-    /// Gives the request up: the node no longer waits, and enters no section for it.
+    /// Withdraws the request: the node no longer waits, and enters no section for it.
+    ///
+    /// # Errors
+    ///
+    /// Returns `NotWaiting` if the node is idle or inside.
     fn cancel(&mut self, out: &mut Outbox<Self::Msg>) -> Result<(), CancelFault>
         requires { out.old ≡ [] }
         ensures state { self.new ≡ (core.cancel self.old).state }
         ensures answer { result ≡ (core.cancel self.old).answer }
         ensures letters { out.new ≡ (core.cancel self.old).letters };
 
-    /// Sends again what is outstanding, as any letter may have been lost.
+    /// Sends all outstanding letters again, since any letter may be lost.
     fn tick(&mut self, out: &mut Outbox<Self::Msg>)
         requires { out.old ≡ [] }
         ensures state { self.new ≡ (core.tick self.old).state }
         ensures letters { out.new ≡ (core.tick self.old).letters };
 
-    /// The phase of the node.
+    /// Returns the phase of the node.
     fn phase(&self) -> Phase
         ensures value { result ≡ core.phase self.now }
         ensures numbered { BearsNumber result };
 
-    /// The number of the last section that this node entered, 0 before the first.
+    /// Returns the number of the last section that this node entered, or 0 before the first.
     fn mine(&self) -> u64
         ensures value { result ≡ core.mine self.now }
         ensures high { result ≤ MOST_SECTIONS };

@@ -8,9 +8,9 @@ pub enum AskFault {
     /// The node waits already, or is inside.
     #[error("not idle")]
     NotIdle,
-    /// The number that the node's next stamp counts on from is the greatest u64 value, so that
-    /// there is no next one. It is the highest stamp number that the node has drawn or seen, or, in
-    /// algorithms whose stamps count a node's own asks, how many of these were accepted.
+    /// There is no next stamp: the counter of the node's stamps is at the greatest `u64` value. The
+    /// counter is the highest stamp number that the node has drawn or seen. In an algorithm whose
+    /// stamps number a node's own requests, it is how many of them were accepted.
     #[error("stamps spent")]
     StampsSpent,
 }
@@ -24,7 +24,7 @@ pub enum EnterFault {
     /// A permission is missing.
     #[error("not granted")]
     NotGranted,
-    /// The highest section number that the node knows is the limit already. The node stays waiting.
+    /// The highest section number that the node knows is the limit. The node still waits.
     #[error("numbers spent")]
     NumbersSpent,
 }

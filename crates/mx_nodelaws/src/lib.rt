@@ -1,5 +1,5 @@
-//! What an exclusion algorithm is to the code above it: its calls, and the laws that it proves.
-//! Whatever implements `Exclusion` gets the theorem of the cluster.
+//! The interface of an exclusion algorithm: its calls, and the laws that it proves. The theorem of
+//! the cluster holds for every implementation of `Exclusion`.
 #![tactic(auto)]
 
 mod exclusion;

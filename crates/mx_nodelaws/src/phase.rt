@@ -1,10 +1,13 @@
 //! The phase of a node.
 
-/// The phase of a node: it asks for nothing, waits for its permissions, or is inside the section of
-/// this number.
+/// The phase of a node: it has no request, waits for permissions, or is inside the section of this
+/// number.
 #[derive(Clone, Copy, Debug, PartialEq, Eq)]
 pub enum Phase {
+    /// It has no request.
     Idle,
+    /// It has asked, and has not entered yet.
     Waiting,
+    /// It is inside the section of this number.
     Inside(u64),
 }

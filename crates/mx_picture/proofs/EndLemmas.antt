@@ -1,4 +1,4 @@
--- How a run that is drawn ends: as its report does.
+-- The end of a run that is drawn: the same as that of its report.
 use Rattle.std.proofs.Common.{◌≡◌, ◌∙◌, ◌<◌, ◌++◌, ℕ, Bool, true, false, List, None, Result, Ok, Err, OnOk, ap, get_or, inl, inr, length, refl, subst, sym}
 use Rattle.std.specs.Prelude.{IfErr, codes, is_ok, if◌then◌else◌}
 use Rattle.std.specs.Bool.{⊤}
@@ -22,7 +22,7 @@ use Rattle.mx_commands.specs.Runs.{Report}
 use Rattle.mx_commands.proofs.RunLemmas.{rest, rest_err}
 use Rattle.mx_picture.specs.Drawn.{IsWhole, StopsAs}
 
--- where a step answers that there is no parcel, there is none
+-- if a step returns that there is no parcel, there is none
 pub no_parcel_is : {T G : Type 0} (r : Result T StepFault) (wanted : Result G StepFault) → IfErr r (IsFaultOf wanted)
     → r ≡ Err step_fault.NoParcel → wanted ≡ Err step_fault.NoParcel
 no_parcel_is (Ok t) wanted h is = cc
@@ -36,19 +36,19 @@ stops core letter p es r k g d s lt e (inl memory) = subst (λ (x : Stop). Stops
 stops core letter p es r k g d s lt e (inr none) =
     subst (λ (x : Stop). StopsAs r x) (sym none.0) (e ∙ ap (λ (q : Report). q.end) (rest_err core letter p es k g step_fault.NoParcel d lt none.1))
 
--- a run of which nothing is known but how it stops
+-- a run about which only the end is known
 pub ran_as : (t : Bool) (r : Report) (s : Stop) → StopsAs r s → Ran t None None r (Err s)
 ran_as t r (stop.Fault fault) h = (h, tt)
 ran_as t r stop.Writer h = absurd h
 ran_as t r stop.Memory h = (0, tt)
 
--- the same of events that were read
+-- the same for events that were read
 pub ran_read : (t : Bool) (p : Fields) (bytes : List ℕ) (wanted : Result (List Event) PlanFault) (es : List Event) (s : Stop) → wanted ≡ Ok es
     → StopsAs (run_by p p.shape es) s → Ran t None None (where_read wanted (run_by p p.shape)) (Err s)
 ran_read t p bytes wanted es s is h =
     subst (λ (w : Result (List Event) PlanFault). Ran t None None (where_read w (run_by p p.shape)) (Err s)) (sym is) (ran_as t (run_by p p.shape es) s h)
 
--- and of one that came to its end
+-- and for one that reached its end
 pub ran_whole : (t : Bool) (p : Fields) (wanted : Result (List Event) PlanFault) (es : List Event) (status : ℕ) → wanted ≡ Ok es
     → (run_by p p.shape es).end ≡ None → Ran t None None (where_read wanted (run_by p p.shape)) (Ok status)
 ran_whole t p wanted es status is h =

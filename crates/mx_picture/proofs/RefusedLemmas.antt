@@ -1,4 +1,4 @@
--- Words of a picture that were refused.
+-- Arguments of a picture that were refused.
 use Rattle.std.proofs.Common.{inl, inr, ℕ, Bool, Option, Some, None, Err, IfSome}
 use Rattle.mx_plan.specs.Text.{Text}
 use Rattle.mx_cli.specs.Words as wants
@@ -10,7 +10,7 @@ use Rattle.mx_io.specs.Told.{Telling}
 use Rattle.mx_picture.specs.PictureWords.{Request}
 use Rattle.mx_picture.specs.Pictures.{EndsAsReplay, Pictures}
 
--- where memory ran out at once, a run ends as a replay may
+-- if memory ran out at once, a run ends as a replay may
 of_job : (t : Bool) (o : Option Job) → IfSome o (λ job. RanOn t None None job (Err stop.Memory))
 of_job t None = tt
 of_job t (Some job) = inl (tt, tt)

@@ -1,4 +1,4 @@
--- Rows that are not below the present one.
+-- Rows that are not below the current one.
 use Rattle.std.proofs.Common.{◌≡◌, ◌≤◌, ◌<◌, ◌+◌, ℕ, zero, suc, Bool, true, false, List, [], ◌∷◌, arith, get_or, length, refl}
 use Rattle.std.specs.Prelude.{◌&&◌, IsTrue, nat_le}
 use Rattle.std.specs.List.{list_all}
@@ -24,7 +24,7 @@ module _ {X : Type 0} (row_of : X → ℕ) (row : ℕ) where
       let p = parts (nat_le (row_of x) row) (list_all (λ y. nat_le (row_of y) row) xs) h in
       join _ _ (le_more (row_of x) row p.0) (all_above_next xs p.1)
 
-  -- one more such row in place of another
+  -- one more such row instead of another
   pub all_above_set : (xs : List X) (i : ℕ) (y : X) → row_of y ≤ row → IsTrue (list_all (λ x. nat_le (row_of x) row) xs)
       → IsTrue (list_all (λ x. nat_le (row_of x) row) (set xs i y))
   all_above_set [] i y le h = refl

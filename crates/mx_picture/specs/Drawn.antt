@@ -1,4 +1,4 @@
--- What is printed of a picture, and why none is.
+-- The printed picture, and why none is printed.
 use Rattle.std.specs.Prelude.{◌≡◌, ◌++◌, ℕ, Some, Result, Ok, Err, codes}
 use Rattle.std.specs.Io.KnownBytes.{Appends, Keeps}
 use Rattle.mx_plan.specs.Text.{Text, line_feed}
@@ -7,7 +7,7 @@ use Rattle.mx_cli.specs.declared.faults.Stop.TheVariants as stop
 use Rattle.mx_io.specs.Outputs.{Held}
 use Rattle.mx_commands.specs.Runs.{Report}
 
--- why a run of this report stops: by the report's fault, or since memory ran out
+-- why a run of this report stops: by the report's fault, or because memory ran out
 abbrev pub StopsAs : Report → Stop → Type 0
 StopsAs r (stop.Fault fault) = r.end ≡ Some fault
 StopsAs r stop.Writer = ⊥
@@ -17,7 +17,7 @@ StopsAs r stop.Memory = Unit {0}
 abbrev pub IsWhole : Text → Type 0
 IsWhole picture = (inner : Text) × (picture ≡ inner ++ (codes "</svg>" ++ line_feed))
 
--- a whole picture was added to what was printed, or nothing was
+-- a whole picture was added to the output, or nothing was
 abbrev pub Draws : Held → Held → Result ℕ Stop → Type 0
 Draws old new (Ok status) =
     (status ≡ 0) × ((picture : Text) × IsWhole picture × Appends old new picture)

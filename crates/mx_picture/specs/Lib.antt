@@ -1,5 +1,5 @@
--- Drawn: what is printed of a picture, and why none is.
--- PictureWords: what the words of `picture` ask for. Pictures: what comes of them.
+-- Drawn: the printed picture, and why none is printed. PictureWords: the arguments of `picture`.
+-- Pictures: the outcome of a command line.
 pub mod Drawn
 pub mod PictureWords
 pub mod Pictures

@@ -1,4 +1,4 @@
--- What the words of `picture` ask for, as `clap` reads them.
+-- The arguments of `picture`, as `clap` parses them.
 use Rattle.std.specs.Prelude.{ℕ, Bool, List, Option, codes, option_map, unwrap_or}
 use Rattle.clap.specs.Words.{App, Row, Rule, Text, first_of, new_app, with_rule}
 use Rattle.mx_cli.specs.Words.{asked_of, by_name, events_rule, flag_rule, is_given, line_with, names_at, names_of, node_rule, number_at, number_rule, plan_rule}
@@ -26,8 +26,8 @@ picture_app =
 unfoldable pub picture_line : App
 picture_line = line_with picture_app
 
--- the names of the plan and of the events; from which event to which, and of which node alone, they
--- are to be drawn; whether what journals have is to be shown
+-- the names of the plan and of the events; the first and the last event that are drawn, and the
+-- node if it is only one; whether journals are shown
 pub record Request : Type 0 where
   pub names : Text × Text
   pub from : ℕ
@@ -44,7 +44,7 @@ request_of told =
     request (names_of told.names) told.from told.to
     (option_map (λ name. name.now) told.node) told.has_journals
 
--- what was given for the arguments: all events, where no bound was given
+-- the given arguments: all events, if no bound was given
 abbrev pub part_of : List Row → Text × Text → Request
 part_of rows names =
     request names (unwrap_or (number_at (codes "from") rows) 0)
@@ -57,6 +57,6 @@ picture_in rows = option_map (part_of rows) (names_at rows)
 abbrev pub request_in : Option (Text × List Row) → Option Request
 request_in met = by_name (codes "picture") picture_in met
 
--- what the words ask for, where they are `picture` with its arguments
+-- the request of these words, if they are `picture` with its arguments
 unfoldable pub request_asked : List Text → Option Request
 request_asked words = asked_of picture_line request_in words

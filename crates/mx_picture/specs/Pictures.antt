@@ -1,4 +1,4 @@
--- What comes of the words of a picture.
+-- The outcome of the command line of a picture.
 use Rattle.std.specs.Prelude.{◌≡◌, ◌⊎◌, ◌&&◌, ℕ, Bool, Option, None, Some, Result, Ok, Err}
 use Rattle.mx_cli.specs.Words as wants
 use Rattle.mx_plan.specs.Text.{Text}
@@ -22,21 +22,21 @@ IsUnknownNode p None end = ⊥
 IsUnknownNode p (Some name) end =
     (node_of p name ≡ None) × (end ≡ stop.Fault (BadText (UnknownName Nodes)))
 
--- a run has no picture since a node was named that the plan does not have
+-- a run has no picture because a node was named that the plan does not have
 abbrev pub LacksNode : Fields → Option Text → Result ℕ Stop → Type 0
 LacksNode p wanted (Ok status) = ⊥
 LacksNode p wanted (Err end) = IsUnknownNode p wanted end
 
--- a run ends as a replay of these names does, whatever it prints; or the plan was read, and there is
--- no such node
+-- a run ends as a replay of these names does, whatever it prints; or the plan was read, and there
+-- is no such node
 abbrev pub EndsAsReplay : Bool → (Text → Option Telling) → Request → Result ℕ Stop → Type 0
 EndsAsReplay takes_all told request ended =
     RanOf takes_all None None told (wants.replay request.names) ended
     ⊎ ((p : Fields) × IsPlanOf (plan_told told request.names) p × LacksNode p request.node ended)
 
--- a picture is printed whole and passed on, status 0, where a replay comes to its end and there is
--- such a node; else the line of the replay's fault or that of the node is told, status 1, or memory
--- ran out, or an output refused
+-- a picture is printed whole and passed on, status 0, if a replay reaches its end and there is such
+-- a node. Otherwise the line of the replay's fault or that of the node is printed, status 1, or
+-- memory ran out, or an output refused
 abbrev pub Pictures : Bool → Bool → (Text → Option Telling) → Request → Seen → Seen → ℕ → Type 0
 Pictures takes_out takes_err told request old new status =
     (ended : Result ℕ Stop) × EndsAsReplay takes_out told request ended

@@ -1,4 +1,4 @@
-//! A run that is drawn: events of a cluster, one after another.
+//! The drawing of a run: events of a cluster, one after another.
 
 ghost use Rattle.std.specs.Prelude.{◌≡◌, ◌≤◌, Ok, Err, None, length, IfErr, OnOk};
 ghost use Rattle.mx_network.specs.Step.{step_of};
@@ -22,7 +22,7 @@ use mx_texts::{EventText, Letter, OutcomeText};
 use std::alloc::{AllocError, Global};
 use std::collections::HashSet;
 
-/// A drawing under way.
+/// A drawing in progress.
 #[derive(Drop)]
 pub(crate) struct Drawing {
     pub(crate) sheet: Sheet,
@@ -30,7 +30,7 @@ pub(crate) struct Drawing {
     pub(crate) arriving: HashSet<u64>,
     /// The text that is written next.
     pub(crate) label: String,
-    /// What is shown of all this, and what it showed of journals.
+    /// The part of the run that is shown, and the journals as shown last.
     pub(crate) part: Part,
     known: Known,
     /// Whether the event before was not shown.
@@ -38,7 +38,7 @@ pub(crate) struct Drawing {
 }
 
 impl Drawing {
-    /// A drawing of a part of these events, before the first.
+    /// Creates a drawing of a part of these events, before the first.
     pub(crate) fn new(alloc: Global, events: &[Event], part: &Part) -> Result<Self, AllocError> {
         let mut arriving = HashSet::new(alloc);
         for event in events {
@@ -57,7 +57,7 @@ impl Drawing {
     }
 }
 
-/// Draws the events from a cluster on.
+/// Draws the events, starting from a cluster.
 pub(crate) fn draw_run<C: Exclusion>(
     plan: &Plan,
     mut cluster: Cluster<C>,
@@ -76,7 +76,7 @@ where
     draw_events(plan, &mut cluster, events, drawing)
 }
 
-/// Each event in turn.
+/// Draws each event in turn.
 fn draw_events<C: Exclusion>(
     plan: &Plan,
     cluster: &mut Cluster<C>,
@@ -98,7 +98,7 @@ where
     Ok(())
 }
 
-/// One event, in a row of its own, and what it sends.
+/// Applies an event and draws it in a new row, with the parcels that it sends.
 fn draw_event<C: Exclusion>(
     plan: &Plan,
     index: u64,
@@ -118,8 +118,8 @@ where
     Ok(())
 }
 
-/// The newest event, of this index, and the parcels from `before` on, which it sent: in a row of
-/// its own, if it is shown.
+/// Draws the newest event, of this index, in a new row if it is shown, with the parcels from
+/// `before` on, which it sent.
 fn draw_row<C: Exclusion>(
     plan: &Plan,
     index: u64,
@@ -145,7 +145,7 @@ where
     }
 }
 
-/// A row of its own for the events before this one that were not shown, if there are such.
+/// Starts a new row for the events before this one that were not shown, if there are any.
 pub(crate) fn go_on(drawing: &mut Drawing) -> Result<(), AllocError> {
     if drawing.has_skipped {
         drawing.has_skipped = false;
@@ -154,7 +154,7 @@ pub(crate) fn go_on(drawing: &mut Drawing) -> Result<(), AllocError> {
     Ok(())
 }
 
-/// One event, of this index.
+/// Applies an event, of this index.
 fn happen<C: Exclusion>(index: u64, event: &Event, cluster: &mut Cluster<C>) -> Result<(), Stop>
     requires named { NamesNodes (length cluster.old.members) event.now }
     ensures ok { OnOk result (step_of C.core cluster.old event.now ≡ Ok cluster.new) }
@@ -168,7 +168,7 @@ fn happen<C: Exclusion>(index: u64, event: &Event, cluster: &mut Cluster<C>) -> 
     }
 }
 
-/// One event, of nodes that the cluster has.
+/// Applies an event of nodes that the cluster has.
 fn step<C: Exclusion>(event: &Event, cluster: &mut Cluster<C>) -> Result<(), StepFault>
     requires named { NamesNodes (length cluster.old.members) event.now }
     ensures ok { OnOk result (step_of C.core cluster.old event.now ≡ Ok cluster.new) }
@@ -179,7 +179,7 @@ fn step<C: Exclusion>(event: &Event, cluster: &mut Cluster<C>) -> Result<(), Ste
     cluster.advance(*event)
 }
 
-/// What happened last, at the node where it did. It sent the parcels from `before` on.
+/// Draws the newest event at its node. It sent the parcels from `before` on.
 fn draw_happened<C: Exclusion>(
     plan: &Plan,
     before: u64,
@@ -203,7 +203,7 @@ where
     }
 }
 
-/// Appends to the label what the node's journal has, if that is shown and has changed.
+/// Appends the contents of the node's journal to the label, if they are shown and have changed.
 pub(crate) fn tell_journal<C: Exclusion>(
     cluster: &Cluster<C>,
     node: NodeId,
@@ -220,8 +220,8 @@ pub(crate) fn tell_journal<C: Exclusion>(
     }
 }
 
-/// Where an act of this node is told, which sent the parcels from `before` on: at the left where
-/// all of them go to the right, so that no arrow runs under the text.
+/// Returns the side for the text of this node's act, which sent the parcels from `before` on. It is
+/// the left if all of them go to the right, so that no arrow runs under the text.
 fn spot_of_act<C: Exclusion>(cluster: &Cluster<C>, node: NodeId, before: u64) -> Spot {
     let mut to_left = false;
     let mut to_right = false;
@@ -241,7 +241,7 @@ fn spot_of_act<C: Exclusion>(cluster: &Cluster<C>, node: NodeId, before: u64) ->
     }
 }
 
-/// Puts an act and what came of it in place of the label.
+/// Replaces the label by an act and its outcome.
 fn tell_act(plan: &Plan, entry: &Entry, label: &mut String) -> Result<(), AllocError> {
     let done = EventText {
         plan,
@@ -252,7 +252,7 @@ fn tell_act(plan: &Plan, entry: &Entry, label: &mut String) -> Result<(), AllocE
     write!(label, "{done}: {came}")
 }
 
-/// Tells in words that a node entered or left.
+/// Describes in words that a node entered or left.
 fn tell_section(outcome: &Outcome, drawing: &mut Drawing) -> Result<(), AllocError> {
     match outcome {
         Outcome::Entered(_) | Outcome::Left(_) => drawing.sheet.tell(drawing.label.as_str()),

@@ -1,8 +1,8 @@
-//! Texts within an SVG.
+//! Texts inside an SVG.
 
 use std::alloc::AllocError;
 
-/// Appends a text in which nothing has a meaning for XML.
+/// Appends a text with all characters that have a meaning in XML escaped.
 pub(crate) fn add_escaped(raw: &str, text: &mut String) -> Result<(), AllocError> {
     for character in raw.chars() {
         add_character(character, text)?;

@@ -1,9 +1,9 @@
-//! How parcels are drawn: requests, what grants them, and all others.
+//! The styles of parcels: requests, grants, and all others.
 
 use mx_member::Parcel;
 use mx_texts::{Letter, Style};
 
-/// The name of the style of a parcel: `request`, `grant` or `other`.
+/// Returns the name of a parcel's style: `request`, `grant` or `other`.
 pub(crate) fn ink_of<M: Letter>(parcel: &Parcel<M>) -> &'static str {
     match parcel {
         Parcel::Guard(letter) => ink(letter.parts().style),
@@ -11,7 +11,7 @@ pub(crate) fn ink_of<M: Letter>(parcel: &Parcel<M>) -> &'static str {
     }
 }
 
-/// The name of a style.
+/// Returns the name of a style.
 fn ink(style: Style) -> &'static str {
     match style {
         Style::Request => "request",

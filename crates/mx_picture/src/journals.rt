@@ -1,20 +1,20 @@
-//! What the journals of nodes have, where that changes.
+//! The contents of the nodes' journals, shown when they change.
 
 use mx_journal::Journal;
 use mx_stamps::{MOST_NODES, NodeId};
 use std::alloc::AllocError;
 
-/// How many ranges of records are named.
+/// The greatest number of ranges of records that are shown.
 const MOST_RANGES: usize = 8;
 
-/// How much a journal has: a journal that changes has another base or more records.
+/// The extent of a journal: a journal that changes has another base or more records.
 #[derive(Clone, Copy, PartialEq, Eq)]
 struct Extent {
     upto: u64,
     records: usize,
 }
 
-/// How much the journal of each node had when it was last shown.
+/// The extent of each node's journal when it was last shown.
 #[derive(Clone, Copy, Drop)]
 pub(crate) struct Known {
     extents: [Extent; MOST_NODES as usize],
@@ -31,7 +31,7 @@ impl Known {
         }
     }
 
-    /// Appends what the journal of a node has, if that has changed.
+    /// Appends the contents of a node's journal, if they have changed.
     pub(crate) fn add_changed(
         &mut self,
         node: NodeId,
@@ -53,7 +53,7 @@ impl Known {
     }
 }
 
-/// Appends up to which number a base covers, if there is one.
+/// Appends the number up to which a base covers, if there is a base.
 fn add_base(upto: u64, label: &mut String) -> Result<(), AllocError> {
     if upto == 0 {
         return Ok(());
@@ -83,7 +83,7 @@ fn add_range(first: u64, last: u64, label: &mut String) -> Result<(), AllocError
     }
 }
 
-/// Tells that there are records above this number, if there are.
+/// Appends that there are records above this number, if there are any.
 fn add_more(journal: &Journal, number: u64, label: &mut String) -> Result<(), AllocError> {
     match journal.next_after(number) {
         Some(_) => label.push_str(" .."),

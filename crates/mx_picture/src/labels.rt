@@ -1,13 +1,14 @@
-//! Texts beside nodes, each at a side where no arrow runs through it, if there is one.
+//! Texts beside nodes, each on a side where no arrow runs through it, if there is one.
 
 use crate::escaping::add_escaped;
 use crate::widths::width_of;
 use std::alloc::{AllocError, Global};
 
-/// By how much all is moved to the right, so that what is left of the first node has a number too.
+/// The offset by which everything is moved to the right, so that positions left of the first node
+/// are numbers too.
 pub(crate) const SHIFT: u64 = 1_000_000;
 
-/// Where a text is: left or right of its node, or where a parcel ends in the air there.
+/// The place of a text: left or right of its node, or beside the end of a lost parcel there.
 #[derive(Clone, Copy, PartialEq, Eq)]
 pub(crate) enum Spot {
     Left,
@@ -17,7 +18,7 @@ pub(crate) enum Spot {
 }
 
 impl Spot {
-    /// The other side of the node. What ends in the air has no other.
+    /// Returns the other side of the node. The end of a lost parcel has no other side.
     fn other(self) -> Spot {
         match self {
             Spot::Left => Spot::Right,
@@ -33,7 +34,7 @@ impl Spot {
         }
     }
 
-    /// How far the text is from its node, in pixels.
+    /// Returns the distance between the text and its node, in pixels.
     fn gap(self) -> u64 {
         match self {
             Spot::Left | Spot::Right => 17,
@@ -51,7 +52,8 @@ impl Spot {
     }
 }
 
-/// Two points that an arrow joins, in pixels from the top and from the left, moved by `SHIFT`.
+/// The line of an arrow between two points, in pixels from the top and from the left, moved by
+/// `SHIFT`.
 #[derive(Clone, Copy)]
 pub(crate) struct Way {
     pub(crate) from: u64,
@@ -61,7 +63,7 @@ pub(crate) struct Way {
 }
 
 impl Way {
-    /// How far to the right the arrow is, this far down.
+    /// Returns the horizontal position of the arrow at this height.
     fn across(&self, y: u64) -> u64 {
         let down = self.bottom.saturating_sub(self.top).max(1);
         let part = y.saturating_sub(self.top);
@@ -73,7 +75,7 @@ impl Way {
         }
     }
 
-    /// Whether the arrow runs through a room.
+    /// Returns whether the arrow runs through a rectangle.
     fn crosses(&self, room: &Room) -> bool {
         let top = room.top.max(self.top);
         let bottom = room.bottom.min(self.bottom);
@@ -86,7 +88,7 @@ impl Way {
     }
 }
 
-/// What a text takes of the page, in pixels, moved to the right.
+/// The rectangle of a text on the page, in pixels, moved to the right.
 #[derive(Clone, Copy)]
 struct Room {
     left: u64,
@@ -95,7 +97,7 @@ struct Room {
     bottom: u64,
 }
 
-/// A text, with the place of its node, and how many arrows had come before it.
+/// A text, with the place of its node, and the number of arrows before it.
 #[derive(Drop)]
 struct Label {
     x: u64,
@@ -107,7 +109,7 @@ struct Label {
 }
 
 impl Label {
-    /// What the text takes at this side.
+    /// Returns the rectangle of the text on this side.
     fn room(&self, spot: Spot) -> Room {
         let node = self.x.saturating_add(SHIFT);
         let near = spot.gap();
@@ -125,7 +127,7 @@ impl Label {
         }
     }
 
-    /// Whether one of the arrows runs through the text at this side.
+    /// Returns whether one of the arrows runs through the text on this side.
     fn is_crossed(&self, ways: &[Way], spot: Spot) -> bool {
         let room = self.room(spot);
         let own = self.ways.saturating_sub(1);
@@ -135,7 +137,8 @@ impl Label {
             .any(|way| way.crosses(&room))
     }
 
-    /// The side where the text is: its own, or the other if it is crossed here and not there.
+    /// Returns the side for the text: its own, or the other if the text is crossed here and not
+    /// there.
     fn side(&self, ways: &[Way]) -> Spot {
         let other = self.spot.other();
         if self.is_crossed(ways, self.spot) && !self.is_crossed(ways, other) {
@@ -146,13 +149,14 @@ impl Label {
     }
 }
 
-/// Half of what a letter takes from top to bottom, in pixels.
+/// Half the height of a letter, in pixels.
 const HALF_HIGH: u64 = 5;
 
-/// How many arrows are looked at for one text: those that end in its row or the next below.
+/// The greatest number of arrows that are checked for one text: those that end in its row or the
+/// next below.
 const MOST_WAYS: usize = 400;
 
-/// How far texts reach, in pixels: to the left of the first node, and to the right of it.
+/// How far texts extend, in pixels: to the left of the first node, and to the right of it.
 #[derive(Clone, Copy)]
 pub(crate) struct Reach {
     pub(crate) left: u64,
@@ -160,7 +164,7 @@ pub(crate) struct Reach {
 }
 
 impl Reach {
-    /// The reach that has room for this text too.
+    /// Returns the extent with room for this text too.
     fn with(self, label: &Label, spot: Spot) -> Reach {
         let width = label.width;
         if spot.is_left() {
@@ -190,13 +194,13 @@ impl Labels {
         }
     }
 
-    /// An arrow, which ends below all those before it or in the same row.
+    /// Adds an arrow, which ends in the row of the one before or below it.
     pub(crate) fn add_way(&mut self, way: Way) -> Result<(), AllocError> {
         self.ways.push(way)?;
         Ok(())
     }
 
-    /// A text beside the node at this place, best at this spot.
+    /// Adds a text beside the node at this place, on this side if possible.
     pub(crate) fn add(&mut self, x: u64, y: u64, spot: Spot, raw: &str) -> Result<(), AllocError> {
         let mut text = String::new(self.alloc);
         add_escaped(raw, &mut text)?;
@@ -211,7 +215,7 @@ impl Labels {
         Ok(())
     }
 
-    /// Appends each text at its side, and returns how far they reach.
+    /// Appends each text on its side, and returns how far they extend.
     pub(crate) fn place(&self, text: &mut String) -> Result<Reach, AllocError> {
         let mut reach = Reach { left: 0, right: 0 };
         for label in &self.labels {
@@ -223,7 +227,7 @@ impl Labels {
     }
 }
 
-/// Appends a text at this side of its node.
+/// Appends a text on this side of its node.
 fn add_label(label: &Label, spot: Spot, text: &mut String) -> Result<(), AllocError> {
     let Label { x, y, .. } = label;
     let style = spot.style();

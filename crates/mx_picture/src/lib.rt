@@ -1,4 +1,4 @@
-//! `mx picture`: what comes of events as a picture, a static SVG in which time goes down.
+//! `mx picture`: the outcomes of events as a picture, a static SVG in which time runs down.
 #![tactic(auto)]
 
 mod drawing;

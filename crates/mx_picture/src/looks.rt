@@ -1,8 +1,7 @@
-//! What is the same in each picture: its styles and its legend.
+//! The fixed parts of every picture: its styles and its legend.
 
-/// The styles, in colours of Okabe and Ito, which the colour-blind can tell; and the tips of
-/// arrows. Arrows differ in their width and their tips too, so that they can be told without
-/// colours.
+/// The styles, in colours of Okabe and Ito, which the colour-blind can distinguish, and the tips of
+/// arrows. Arrows also differ in width and tip, so that they can be distinguished without colours.
 pub(crate) const STYLES: &str = "<style>
 text{font:12px Helvetica,Arial,sans-serif;stroke:#fff;stroke-width:3px;stroke-linejoin:round;paint-order:stroke}
 path{fill:none;stroke-width:1.4px}
@@ -22,10 +21,10 @@ path{fill:none;stroke-width:1.4px}
 </defs>
 ";
 
-/// The width of the legend.
+/// The width of the legend, in pixels.
 pub(crate) const LEGEND_WIDTH: u64 = 710;
 
-/// What each way of drawing means.
+/// The legend: the meaning of each style.
 pub(crate) const LEGEND: &str =
     "<path class=\"request\" d=\"M16 18H46\" marker-end=\"url(#request)\"/><text x=\"52\" y=\"22\">request</text>
 <path class=\"grant\" d=\"M116 18H146\" marker-end=\"url(#grant)\"/><text x=\"152\" y=\"22\">grant</text>

@@ -1,4 +1,4 @@
-//! The whole picture: its size, its nodes, and what was drawn.
+//! The whole picture: its size, its nodes, and all that was drawn.
 
 ghost use Rattle.std.specs.Prelude.{string_bytes, OnOk};
 ghost use Rattle.mx_picture.specs.Drawn.{IsWhole};
@@ -11,26 +11,25 @@ use crate::sheet::{NameRow, Sheet};
 use mx_plan::{Plan, Shape};
 use std::alloc::AllocError;
 
-/// What is above the first row: the heading, the legend and the names of the nodes.
+/// The height above the first row, in pixels: the heading, the legend and the names of the nodes.
 const HEAD: u64 = 86;
 
-/// What is below the last row: the names again.
+/// The height below the last row, in pixels: the names again.
 const FOOT: u64 = 30;
 
 /// The room at each edge for the indices of the events.
 const INDICES: u64 = 60;
 
-/// How far from the edge the indices end.
+/// The distance between the edge and the end of the indices, in pixels.
 const INDEX_END: u64 = 50;
 
-/// How far a node's name reaches to each side of its line, at the most.
+/// The greatest width of a node's name on each side of its line, in pixels.
 const NAME: u64 = 100;
 
-/// How far texts are from their nodes, and from the edge of the page.
+/// The distance of texts from their nodes, and from the edge of the page, in pixels.
 const MARGIN: u64 = 40;
 
-/// The page, which has room for all texts. The line of the first node is `left` pixels from its
-/// edge.
+/// The page, with room for all texts. The line of the first node is `left` pixels from its edge.
 #[derive(Clone, Copy)]
 struct Frame {
     left: u64,
@@ -57,7 +56,7 @@ pub(crate) fn add_page(
     add_marks(sheet, text)
 }
 
-/// Appends what lies below all that was drawn.
+/// Appends everything that is below the drawn marks.
 fn add_ground(
     plan: &Plan,
     part: &Part,
@@ -72,7 +71,7 @@ fn add_ground(
     add_lanes(plan, y_of(sheet.row), text)
 }
 
-/// Appends bars and arrows, and over them the names of the nodes where they are shown again.
+/// Appends bars and arrows, and above them the names of the nodes in the rows that repeat them.
 fn add_lines(plan: &Plan, sheet: &Sheet, text: &mut String) -> Result<(), AllocError> {
     text.push_str(sheet.bars.as_str())?;
     text.push_str(sheet.arrows.as_str())?;
@@ -121,7 +120,7 @@ fn add_size(frame: &Frame, text: &mut String) -> Result<(), AllocError> {
     write!(text, " viewBox=\"-{left} -{HEAD} {width} {height}\">\n")
 }
 
-/// Appends the title: the algorithm, the nodes and how many events there are.
+/// Appends the title: the algorithm, the nodes and the number of events.
 fn add_title(plan: &Plan, events: u64, text: &mut String) -> Result<(), AllocError> {
     let algorithm = algorithm_of(plan);
     write!(text, "<title>{algorithm} algorithm, nodes:")?;
@@ -132,7 +131,7 @@ fn add_title(plan: &Plan, events: u64, text: &mut String) -> Result<(), AllocErr
     write!(text, ", events: {events}</title>\n")
 }
 
-/// Whose algorithm the plan has.
+/// Returns the name of the plan's algorithm.
 fn algorithm_of(plan: &Plan) -> &'static str {
     match plan.shape() {
         Shape::Ricart(_) => "Ricart and Agrawala's",
@@ -141,7 +140,7 @@ fn algorithm_of(plan: &Plan) -> &'static str {
     }
 }
 
-/// Appends what is told to those who can't see the picture.
+/// Appends the description for readers who cannot see the picture.
 fn add_story(sheet: &Sheet, text: &mut String) -> Result<(), AllocError> {
     text.push_str("<desc>Time goes down, and each event is told beside its node. Sections:")?;
     if sheet.story.is_empty() {
@@ -191,7 +190,7 @@ fn add_heading(
     text.push_str("</text>\n")
 }
 
-/// Appends which part of the events is shown, if it is not all.
+/// Appends the part of the events that is shown, if it is not all.
 fn add_part(plan: &Plan, part: &Part, text: &mut String) -> Result<(), AllocError> {
     if part.from > 0 {
         let from = part.from;
@@ -207,7 +206,7 @@ fn add_part(plan: &Plan, part: &Part, text: &mut String) -> Result<(), AllocErro
     }
 }
 
-/// Appends of which node alone events are shown.
+/// Appends the node whose events are shown.
 fn add_node(name: &str, text: &mut String) -> Result<(), AllocError> {
     text.push_str(", node ")?;
     add_escaped(name, text)

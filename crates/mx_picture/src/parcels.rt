@@ -1,4 +1,4 @@
-//! Parcels that are drawn: as arrows to their delivery, or lost in the air.
+//! The drawing of parcels: as arrows to their delivery, or lost in the air.
 
 use crate::drawing::{Drawing, tell_journal};
 use crate::inks::ink_of;
@@ -12,7 +12,7 @@ use mx_stamps::NodeId;
 use mx_texts::{Letter, add_parcel};
 use std::alloc::AllocError;
 
-/// The arrow of a parcel to its delivery.
+/// Draws the arrow of a parcel to its delivery.
 pub(crate) fn draw_delivery<C: Exclusion>(
     plan: &Plan,
     cluster: &Cluster<C>,
@@ -79,7 +79,7 @@ where
     Ok(())
 }
 
-/// A parcel that ends in the air, in a row of its own.
+/// Draws a lost parcel, in a new row.
 fn draw_loss<C: Exclusion>(
     plan: &Plan,
     cluster: &Cluster<C>,
@@ -103,7 +103,7 @@ where
         .lose_below(sent.from, spot, drawing.label.as_str())
 }
 
-/// Puts the number and the text of a parcel, and to whom it was sent, in place of the label.
+/// Replaces the label by the number and the text of a parcel, and its addressee.
 fn tell_loss<M: Letter>(
     plan: &Plan,
     number: u64,
@@ -114,7 +114,7 @@ fn tell_loss<M: Letter>(
     name_end(plan, "to", sent.to, label)
 }
 
-/// Puts the number and the text of a parcel in place of the label.
+/// Replaces the label by the number and the text of a parcel.
 fn tell_parcel<M: Letter>(
     plan: &Plan,
     number: u64,

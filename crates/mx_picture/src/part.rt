@@ -1,4 +1,4 @@
-//! What part of a run is drawn.
+//! The part of a run that is drawn.
 
 use mx_stamps::NodeId;
 
@@ -13,12 +13,12 @@ pub(crate) struct Part {
 }
 
 impl Part {
-    /// Whether an event of this index may be shown.
+    /// Returns whether an event of this index may be shown.
     pub(crate) fn has_index(&self, index: u64) -> bool {
         self.from <= index && index <= self.to
     }
 
-    /// Whether what happens at this node is shown.
+    /// Returns whether the events of this node are shown.
     pub(crate) fn has_node(&self, node: NodeId) -> bool {
         match self.node {
             Some(shown) => shown == node,

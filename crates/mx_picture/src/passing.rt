@@ -1,4 +1,4 @@
-//! Which events of a run are shown, and what those that are not still change.
+//! The events of a run that are not shown, and their effects on the picture.
 
 use crate::drawing::Drawing;
 use crate::inks::ink_of;
@@ -10,7 +10,7 @@ use mx_stamps::NodeId;
 use mx_texts::Letter;
 use std::alloc::AllocError;
 
-/// What an event is: an act of a node, or the delivery of the parcel of a number.
+/// The kind of an event: an act of a node, or the delivery of the parcel of a number.
 #[derive(Clone, Copy)]
 pub(crate) enum Happening {
     Act(NodeId),
@@ -24,8 +24,8 @@ pub(crate) fn happening_of(event: &Event) -> Happening {
     }
 }
 
-/// Whether the newest event is shown: it is of a node that is shown, or it sends or delivers a
-/// parcel from or to such a node.
+/// Returns whether the newest event is shown: it is of a node that is shown, or it sends or
+/// delivers a parcel from or to such a node.
 pub(crate) fn is_shown<C: Exclusion>(
     index: u64,
     before: u64,
@@ -43,7 +43,7 @@ pub(crate) fn is_shown<C: Exclusion>(
     is_own || (before..cluster.sent()).any(|number| concerns(cluster, number, part))
 }
 
-/// Whether a parcel is from or to a node that is shown.
+/// Returns whether a parcel is from or to a node that is shown.
 pub(crate) fn concerns<C: Exclusion>(cluster: &Cluster<C>, number: u64, part: &Part) -> bool {
     match cluster.sent_parcel(number) {
         Some(sent) => part.has_node(sent.from) || part.has_node(sent.to),
@@ -51,8 +51,8 @@ pub(crate) fn concerns<C: Exclusion>(cluster: &Cluster<C>, number: u64, part: &P
     }
 }
 
-/// The newest event, of this index, which is not shown, and the parcels from `before` on, which it
-/// sent. Behind the part that is drawn no phase changes any more.
+/// Takes note of the newest event, of this index, which is not shown, and of the parcels from
+/// `before` on, which it sent. After the part that is drawn, no phase changes.
 pub(crate) fn pass_over<C: Exclusion>(
     index: u64,
     before: u64,
@@ -76,7 +76,7 @@ where
     Ok(())
 }
 
-/// The delivery of a parcel, which is not shown.
+/// Takes note of the delivery of a parcel that is not shown.
 fn pass_delivery<C: Exclusion>(
     cluster: &Cluster<C>,
     number: u64,
@@ -91,7 +91,7 @@ where
     sheet.go_out(number, sent.from, sent.to, ink_of(sent.parcel))
 }
 
-/// What came of an act that is not shown: another phase, or nothing.
+/// Takes note of the outcome of an act that is not shown: another phase, or nothing.
 fn pass_outcome(node: NodeId, outcome: &Outcome, sheet: &mut Sheet) -> Result<(), AllocError> {
     match phase_after(outcome) {
         Some(Phase::Inside(number)) => sheet.enter(node, number),
@@ -100,7 +100,7 @@ fn pass_outcome(node: NodeId, outcome: &Outcome, sheet: &mut Sheet) -> Result<()
     }
 }
 
-/// The phase to which an outcome leads, if it leads to another.
+/// Returns the phase to which an outcome leads, if it leads to another.
 pub(crate) fn phase_after(outcome: &Outcome) -> Option<Phase> {
     match outcome {
         Outcome::Entered(number) => Some(Phase::Inside(*number)),

@@ -1,4 +1,4 @@
-//! The command: from words, named bytes and two outputs to a status.
+//! The command: from the arguments, named bytes and two outputs to an exit status.
 
 ghost use Rattle.std.specs.Prelude.{IfSome};
 ghost use Rattle.mx_cli.specs.Words.{texts_of};
@@ -12,10 +12,13 @@ use mx_cli::{close, refuse};
 use mx_io::{Output, Source};
 use std::alloc::Global;
 
-/// Runs the words of a command line of which `picture` is the first, without the program's name:
-/// reads a plan and its events, and prints a picture of what comes of them. Returns the status: 0
-/// where all went well, or help was asked for, 1 where the plan, its events, a file or an output is
-/// at fault, 2 where the words are not those of `picture`, 5 where memory ran out.
+/// Runs a command line whose first argument is `picture`, without the program's name. Reads a plan
+/// and its events, and prints a picture of their outcomes. Returns the exit status:
+///
+/// - 0 on success, or if help was requested;
+/// - 1 for an error in the plan, its events, a file or an output;
+/// - 2 for arguments that are not those of `picture`;
+/// - 5 if memory ran out.
 pub fn picture<S: Source, O: Output, E: Output>(
     alloc: Global,
     words: &[&str],

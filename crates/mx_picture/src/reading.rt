@@ -1,4 +1,4 @@
-//! The plan is read, then the events, as `replay` does it; then they are drawn.
+//! Reading of the plan, then of the events, as `replay` does it; and drawing them.
 
 ghost use Rattle.std.specs.Prelude.{◌≡◌, ◌⊎◌, None, length, option_map, string_bytes, IfErr, IfOk, OnOk};
 ghost use Rattle.mx_commands.specs.Jobs.{report_of_events, run_by};
@@ -20,8 +20,12 @@ use mx_plan::{Place, Plan, PlanFault, read_events};
 use mx_stamps::NodeId;
 use std::alloc::{AllocError, Global};
 
-/// Reads the plan, then the events, and prints a picture of the part that is asked for. Returns the
+/// Reads the plan, then the events, and prints a picture of the requested part. Returns the exit
 /// status.
+///
+/// # Errors
+///
+/// Returns why the run stops: the first fault, an output that refuses, or `Memory`.
 pub(crate) fn draw<S: Source, O: Output>(
     alloc: Global,
     request: &Request<'_>,
@@ -57,7 +61,7 @@ fn draw_text<O: Output>(
     Ok(0)
 }
 
-/// The part of the events that is asked for.
+/// Returns the requested part of the events.
 fn part_of(plan: &Plan, request: &Request<'_>) -> Result<Part, Stop>
     ensures err { IfErr result (IsUnknownNode plan.now (request_of request.now).node) }
 {
@@ -70,7 +74,7 @@ fn part_of(plan: &Plan, request: &Request<'_>) -> Result<Part, Stop>
     })
 }
 
-/// The node of this name, if one is named.
+/// Returns the node of this name, if a name is given.
 fn node_in(plan: &Plan, name: Option<&str>) -> Result<Option<NodeId>, Stop>
     ensures err { IfErr result
         (IsUnknownNode plan.now (option_map (λ text. text.now) name.entry)) }
@@ -84,7 +88,7 @@ fn node_in(plan: &Plan, name: Option<&str>) -> Result<Option<NodeId>, Stop>
     }
 }
 
-/// The picture of a part of these events.
+/// Returns the picture of a part of these events.
 fn page_of(alloc: Global, plan: &Plan, part: &Part, events: &[Event]) -> Result<String, Stop>
     requires { AllNameNodes (length plan.now.nodes) events.now }
     ensures whole { IfOk result (λ page. IsWhole (string_bytes page)) }
@@ -97,7 +101,7 @@ fn page_of(alloc: Global, plan: &Plan, part: &Part, events: &[Event]) -> Result<
     Ok(page)
 }
 
-/// The page of what was drawn of a number of events.
+/// Returns the page with all that was drawn of a number of events.
 fn whole_page(
     alloc: Global,
     plan: &Plan,

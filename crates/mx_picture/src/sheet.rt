@@ -1,4 +1,4 @@
-//! A picture that is being drawn, row by row from the top.
+//! A picture in progress, row by row from the top.
 
 ghost use Rattle.std.specs.Prelude.{◌<◌, ◌≤◌, IsTrue, length, nat_le};
 ghost use Rattle.std.specs.List.{list_all};
@@ -10,14 +10,14 @@ use mx_nodelaws::Phase;
 use mx_stamps::{MOST_NODES, NodeId};
 use std::alloc::{AllocError, Global};
 
-/// Since which row a node is in a phase.
+/// A phase of a node, and the row in which it started.
 #[derive(Clone, Copy)]
 struct Stay {
     since: u64,
     phase: Phase,
 }
 
-/// A parcel that was sent: in which row, whether that row is shown, and whether it was delivered.
+/// A parcel that was sent: its row, whether that row is shown, and whether it was delivered.
 #[derive(Clone, Copy)]
 struct Trip {
     row: u64,
@@ -25,7 +25,7 @@ struct Trip {
     delivered: bool,
 }
 
-/// After how many rows the names of the nodes are shown again.
+/// The number of rows after which the names of the nodes are repeated.
 const NAMED_ROWS: u64 = 50;
 
 /// The number of rows, and of nodes, from which on an arrow is long.
@@ -59,19 +59,19 @@ pub(crate) struct Sheet {
     pub(crate) marks: String,
     labels: Labels,
     pub(crate) indices: String,
-    /// The sections in words, for those who can't see the picture.
+    /// The sections in words, for readers who cannot see the picture.
     pub(crate) story: String,
-    /// Where lines go across the page, so that an index is found from afar.
+    /// The places of lines across the page, so that an index is found from afar.
     pub(crate) guides: Vec<u64>,
     /// The rows in which the names of the nodes are shown again, and the last of them.
     pub(crate) headings: Vec<NameRow>,
     heading: u64,
-    /// How many sections were entered.
+    /// The number of sections entered.
     pub(crate) entered: u64,
-    /// How far texts reach to the left of the first node, and to the right of it.
+    /// How far texts extend to the left of the first node, and to the right of it.
     pub(crate) left: u64,
     pub(crate) right: u64,
-    /// The present row, and that of the present event, with its index.
+    /// The current row, and that of the current event, with its index.
     pub(crate) row: u64,
     event: u64,
     index: u64,
@@ -110,7 +110,7 @@ impl Sheet {
         }
     }
 
-    /// Goes on to the next row. Memory is said to have run out where there are too many.
+    /// Moves to the next row. Returns `AllocError` if there are too many.
     pub(crate) fn go_down(&mut self) -> Result<(), AllocError> {
         if self.row >= MOST_ROWS {
             return Err(AllocError);
@@ -119,7 +119,7 @@ impl Sheet {
         Ok(())
     }
 
-    /// Begins an event, of this index, in this row, or in the next where names are shown in this.
+    /// Starts an event, of this index, in this row, or in the next if this one repeats the names.
     pub(crate) fn begin(&mut self, index: u64) -> Result<(), AllocError> {
         self.repeat_names()?;
         self.event = self.row;
@@ -129,7 +129,7 @@ impl Sheet {
         write!(self.indices, "<text y=\"{y}\" dy=\"4\">{index}</text>\n")
     }
 
-    /// Shows the names of the nodes again, in a row of their own, if they were last shown long ago.
+    /// Repeats the names of the nodes in a new row, if they were last shown long ago.
     fn repeat_names(&mut self) -> Result<(), AllocError> {
         if self.row.saturating_sub(self.heading) < NAMED_ROWS {
             return Ok(());
@@ -159,13 +159,13 @@ impl Sheet {
         self.go_down()
     }
 
-    /// A node enters the section of this number.
+    /// Draws the entry of a node into the section of this number.
     pub(crate) fn enter(&mut self, node: NodeId, number: u64) -> Result<(), AllocError> {
         self.entered = self.entered.saturating_add(1);
         self.change(node, Phase::Inside(number))
     }
 
-    /// Each tenth event has a line across the page.
+    /// Adds a line across the page at each tenth event.
     fn guide(&mut self, index: u64) -> Result<(), AllocError> {
         if index % 10 == 0 {
             self.guides.push(y_of(self.row))?;
@@ -192,20 +192,20 @@ impl Sheet {
         self.marks.push_str("</circle>\n")
     }
 
-    /// A text beside a node.
+    /// Adds a text beside a node.
     pub(crate) fn text(&mut self, node: NodeId, spot: Spot, text: &str) -> Result<(), AllocError> {
         let x = x_of(node);
         let y = y_of(self.row);
         self.labels.add(x, y, spot, text)
     }
 
-    /// The dot of an event at its node, and a text beside it.
+    /// Draws the dot of an event at its node, and a text beside it.
     pub(crate) fn mark(&mut self, node: NodeId, spot: Spot, text: &str) -> Result<(), AllocError> {
         self.dot(node, false, text)?;
         self.text(node, spot, text)
     }
 
-    /// Tells of the present event in words.
+    /// Describes the current event in words.
     pub(crate) fn tell(&mut self, text: &str) -> Result<(), AllocError> {
         let index = self.index;
         write!(self.story, " {index} ")?;
@@ -213,7 +213,7 @@ impl Sheet {
         self.story.push('.')
     }
 
-    /// The present event, shown or not, sends a parcel, the next by number.
+    /// Notes that the current event, shown or not, sends a parcel, the next by number.
     pub(crate) fn send(&mut self, shown: bool) -> Result<(), AllocError> {
         self.trips.push(Trip {
             row: self.event,
@@ -223,8 +223,8 @@ impl Sheet {
         Ok(())
     }
 
-    /// The end of a parcel, sent by the present event, that is never delivered: in the air, in the
-    /// next row, and a text beside it.
+    /// Draws the end of a parcel that the current event sent and that is never delivered: in the
+    /// air, in the next row, with a text beside it.
     pub(crate) fn lose_below(
         &mut self,
         from: NodeId,
@@ -236,7 +236,7 @@ impl Sheet {
         self.text(from, spot, text)
     }
 
-    /// The end of such a parcel, in this row.
+    /// Draws the end of such a parcel, in this row.
     fn lose(&mut self, from: NodeId, spot: Spot) -> Result<(), AllocError> {
         let x = x_of(from);
         let y = y_of(self.event);
@@ -251,7 +251,7 @@ impl Sheet {
         )
     }
 
-    /// The arrow of a parcel to the present row, in which it is delivered.
+    /// Draws the arrow of a parcel to the current row, in which it is delivered.
     pub(crate) fn arrow(
         &mut self,
         number: u64,
@@ -286,7 +286,7 @@ impl Sheet {
         }
     }
 
-    /// The arrow of a parcel from the row in which it was sent to the present one.
+    /// Draws the arrow of a parcel from the row in which it was sent to the current one.
     fn join(&mut self, trip: Trip, from: NodeId, to: NodeId, ink: &str) -> Result<(), AllocError>
         requires { trip.row ≤ self.old.row }
     {
@@ -301,7 +301,7 @@ impl Sheet {
         self.labels.add_way(way_of(x, y, x_of(to), down))
     }
 
-    /// The arrow of a parcel that was sent in a row that is not shown: its end.
+    /// Draws the end of the arrow of a parcel that was sent in a row that is not shown.
     fn come_in(&mut self, from: NodeId, to: NodeId, ink: &str) -> Result<(), AllocError> {
         let x = x_of(to);
         let y = y_of(self.row);
@@ -316,8 +316,8 @@ impl Sheet {
         )
     }
 
-    /// A parcel is delivered in a row that is not shown. Where it was sent in one that is, its
-    /// arrow begins there.
+    /// Notes that a parcel is delivered in a row that is not shown. If it was sent in one that is,
+    /// draws the start of its arrow there.
     pub(crate) fn go_out(
         &mut self,
         number: u64,
@@ -342,7 +342,7 @@ impl Sheet {
         )
     }
 
-    /// Notes that a parcel is delivered, and returns what was known of it.
+    /// Notes that a parcel is delivered, and returns its entry.
     fn deliver(&mut self, index: usize) -> Trip
         requires { index < length self.old.trips.items }
         ensures { result.row ≤ self.new.row }
@@ -356,7 +356,7 @@ impl Sheet {
         trip
     }
 
-    /// The phase of a node changes: what it was until now gets its bar, or its box.
+    /// Changes the phase of a node: the phase until now gets its bar, or its box.
     pub(crate) fn change(&mut self, node: NodeId, phase: Phase) -> Result<(), AllocError> {
         let index = usize::from(node.get());
         let stay = self.stays[index];
@@ -385,7 +385,7 @@ impl Sheet {
         self.change(node, phase)
     }
 
-    /// What still goes on ends with the picture, and texts get their sides.
+    /// Ends all phases and parcels at the end of the picture, and places the texts.
     pub(crate) fn close(&mut self) -> Result<(), AllocError> {
         for index in 0..MOST_NODES {
             if let Some(node) = NodeId::of(index) {
@@ -398,7 +398,7 @@ impl Sheet {
         Ok(())
     }
 
-    /// The bar of a node that has waited since a row.
+    /// Draws the bar of a node that has waited since a row.
     fn wait(&mut self, node: NodeId, since: u64) -> Result<(), AllocError>
         requires { since ≤ self.old.row }
     {
@@ -408,7 +408,7 @@ impl Sheet {
         write!(self.bars, "<path class=\"waits\" d=\"M{x} {y}v{down}\"/>\n")
     }
 
-    /// The box of a node that has been inside since a row, with the number of the section.
+    /// Draws the box of a node that has been inside since a row, with the number of the section.
     fn stand(&mut self, node: NodeId, since: u64, number: u64) -> Result<(), AllocError>
         requires { since ≤ self.old.row }
     {
@@ -447,7 +447,7 @@ fn add_way(x: u64, to: u64, down: u64, text: &mut String) -> Result<(), AllocErr
     }
 }
 
-/// The line of an arrow from one node down to another; a bow is a line at its left.
+/// Returns the line of an arrow from one node down to another; a bow is a line at its left.
 fn way_of(x: u64, y: u64, to: u64, down: u64) -> Way {
     let aside = if to == x { SHIFT - 20 } else { SHIFT };
     Way {

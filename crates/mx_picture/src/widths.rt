@@ -1,6 +1,6 @@
-//! How wide texts are.
+//! The widths of texts.
 
-/// What a text takes at the most, in pixels, in letters of Helvetica or Arial 12 pixels high.
+/// Returns the greatest width of a text, in pixels, in Helvetica or Arial 12 pixels high.
 pub(crate) fn width_of(text: &str) -> u64 {
     let mut width: u64 = 0;
     for character in text.chars() {

@@ -1,4 +1,4 @@
-//! The words of `picture`.
+//! The arguments of `picture`.
 
 ghost use Rattle.std.specs.Prelude.{◌≡◌, IfOk, option_map};
 ghost use Rattle.clap.specs.Words.{found_of, rows_of, subcommand_rows_of};
@@ -13,8 +13,8 @@ use mx_cli::{
 };
 use std::alloc::{AllocError, Global};
 
-/// What is to be drawn: of which plan and events, from which event to which, of which node alone,
-/// and whether with what journals have.
+/// The picture that is requested: the plan and the events, the first and the last event, the node
+/// if it is only one, and whether journals are shown.
 #[derive(Clone, Copy)]
 pub(crate) struct Request<'a> {
     pub(crate) names: Names<'a>,
@@ -36,8 +36,12 @@ fn picture_command<'a>(alloc: Global) -> Result<Command<'a>, AllocError>
     with_node.arg(flag_arg(alloc, "journals", help::JOURNALS))
 }
 
-/// What picture the words, of which `picture` is the first, ask for. Their faults are those of
-/// `clap`, and words that ask for help come as such a fault too, with the text to show.
+/// Parses a command line that starts with `picture`.
+///
+/// # Errors
+///
+/// Returns the error of `clap` for wrong arguments, and also, with the text to show, if help is
+/// requested.
 pub(crate) fn asked<'a>(alloc: Global, words: &'a [&'a str]) -> Result<Option<Request<'a>>, Error>
     ensures { Asks request_of picture_line (texts_of words.entry.now)
         (request_asked (texts_of words.entry.now)) result }
@@ -46,7 +50,7 @@ pub(crate) fn asked<'a>(alloc: Global, words: &'a [&'a str]) -> Result<Option<Re
     Ok(request_in(&matches))
 }
 
-/// The commands that are read.
+/// Returns the command line that is parsed.
 fn picture_line<'a>(alloc: Global) -> Result<Command<'a>, AllocError>
     ensures { IfOk result (IsLine picture_line) }
 {

@@ -4,7 +4,7 @@ use Rattle.std.proofs.lemmas.List.{drop_all}
 use Rattle.mx_plan.specs.Values.{Gives, and_then, each_from}
 use Rattle.mx_plan.specs.declared.faults.PlanFault.{PlanFault}
 
--- what was read so far, and then the rest
+-- the values read so far, and then the rest
 abbrev pub after : {B : Type 0} → List B → Result (List B) PlanFault → Result (List B) PlanFault
 after done (Ok ys) = Ok (done ++ ys)
 after done (Err e) = Err e
@@ -19,7 +19,7 @@ after_one done y (Ok ys) = ap Ok (sym (append_assoc done (y ∷ []) ys))
 after_one done y (Err f) = refl
 
 module _ {X A B : Type 0} (view : X → A) (f : ℕ → A → Result B PlanFault) (xs : List X) where
-  -- what the elements from the k-th on are read as
+  -- the values of the elements from the k-th on
   abbrev pub rest : ℕ → Result (List B) PlanFault
   rest k = each_from f k (map view (drop k xs))
 
@@ -43,12 +43,12 @@ module _ {X A B : Type 0} (view : X → A) (f : ℕ → A → Result B PlanFault
   unfolding each_from
   rest_end k h = ap (λ l. each_from f k (map view l)) (drop_all k xs h)
 
--- a fault of an element is answered as the fault of the list
+-- a fault of an element is returned as the fault of the list
 pub gives_fault : {B : Type 0} (wanted : Result (List B) PlanFault) (e : PlanFault) (answer : Result (Vec B Global) PlanFault) → IsErrAnd answer (λ f. f ≡ e) → wanted ≡ Err e → Gives wanted answer
 gives_fault wanted e (Ok list) is why = absurd is
 gives_fault wanted e (Err f) is why = inl (subst (λ (x : PlanFault). wanted ≡ Err x) (sym is) why)
 
--- a failure gives no value
+-- a failure has no value
 pub no_value : {X E : Type 0} (r : Result X E) (P : X → Type 0) → IsErr r → IfOk r P
 no_value (Ok x) P e = absurd (let f = e in cc)
 no_value (Err fault) P e = tt

@@ -13,7 +13,7 @@ use Rattle.mx_events.specs.declared.argument.Argument.{Argument}
 use Rattle.mx_events.specs.declared.argument.ArgumentKind.{ArgumentKind}
 use Rattle.mx_events.specs.declared.event.Event.{Event}
 
--- values that have the form are as many as are wanted
+-- there are as many values of the right form as kinds
 pub as_many : (kinds : List ArgumentKind) (ds : List Data) → have_form kinds ds ≡ true → length kinds ≡ length ds
 as_many [] [] form = refl
 as_many [] (d ∷ ds) form = cc
@@ -21,7 +21,7 @@ as_many (kind ∷ kinds) [] form = cc
 as_many (kind ∷ kinds) (d ∷ ds) form =
     grind (arith, as_many kinds ds (and_parts (has_form kind d) (have_form kinds ds) form).1)
 
--- other values have not
+-- other values do not have the form
 pub unlike : (kinds : List ArgumentKind) (ds : List Data) → ¬ (length kinds ≡ length ds) → have_form kinds ds ≡ false
 unlike [] [] other = absurd (other refl)
 unlike [] (d ∷ ds) other = refl
@@ -34,13 +34,13 @@ unlike (kind ∷ kinds) (d ∷ ds) other =
     and_false false = refl
 
 module _ {X : Type 0} (view : X → Data) (kinds : List ArgumentKind) (xs : List X) where
-  -- the i-th kind and the i-th value, and those behind them
+  -- the i-th kind and the i-th value, and those after them
   heads : {R : Type 0} (f : List ArgumentKind → List Data → R) (i : ℕ) (kind : ArgumentKind) (x : X) → i < length kinds → i < length xs
       → f (drop i kinds) (map view (drop i xs)) ≡ f (get_or kinds i kind ∷ drop (i + 1) kinds) (view (get_or xs i x) ∷ map view (drop (i + 1) xs))
   heads f i kind x in_kinds in_values =
       rw (drop-cons kinds i kind in_kinds, drop-cons xs i x in_values, add-one i) refl
 
-  -- what the kinds from the i-th on say of the values from there on
+  -- the form of the values from the i-th on, by the kinds from there on
   abbrev pub form_from : ℕ → Bool
   form_from i = have_form (drop i kinds) (map view (drop i xs))
 

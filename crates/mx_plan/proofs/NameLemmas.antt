@@ -1,4 +1,4 @@
--- The names that the rules give are names.
+-- The names by the rules are names.
 use Rattle.std.proofs.Common.{◌≡◌, ◌&&◌, ◌∙◌, ℕ, List, [], ◌∷◌, Bool, true, false, if◌then◌else◌, length, map, nat_le, refl, ap, sym, arith, Option, Some, None, Result, Ok, Err, inl, inr, unwrap_or, IfOk}
 use Rattle.std.specs.List.{list_all}
 use Rattle.std.specs.Option.{option_map_or}
@@ -29,7 +29,7 @@ formed (d ∷ ds) h =
     let both = and_true (is_name_value d) (list_all is_name_value ds) h in
     rw (formed_one d both.0, formed ds both.1) refl
 
--- which way the two tests went
+-- the results of the two tests
 chosen : (p : Place) (a b : Bool) (texts names : List Text)
     → (if a then (if b then Err (DoubleName p) else Ok texts) else Err (NotPlan p)) ≡ Ok names
     → (a ≡ true) × (b ≡ false) × (texts ≡ names)
@@ -58,7 +58,7 @@ pub names_read : (most : ℕ) (p : Place) (ds : List Data) (names : List Text)
 names_read most p ds names (inl is) = names_are most p ds names (sym is)
 names_read most p ds names (inr h) = let bad : ⊥ = cc in absurd bad
 
--- names of the right form, of which no two are equal
+-- names of the right form, all different
 pub names_found : (most : ℕ) (p : Place) (ds : List Data) (r : Result (List Text) PlanFault)
     → are_names most ds ≡ true → Answers (distinct_names p (map text_of ds)) r → IfOk r (λ names. AreNames most names)
 names_found most p ds (Ok names) formed given = names_read most p ds names (rw formed given)

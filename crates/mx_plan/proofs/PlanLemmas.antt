@@ -1,4 +1,4 @@
--- What comes of a plan, from what comes of its parts.
+-- The outcome of reading a plan, from those of its parts.
 use Rattle.std.proofs.Common.{◌≡◌, ◌⊎◌, ◌∙◌, ℕ, List, true, length, ap, subst, sym, refl, Result, Ok, Err, IfOk, inl, inr, codes}
 use Rattle.std.specs.Result.{MatchResult, IsOkAnd}
 use Rattle.serde_json.specs.Data.{Data}
@@ -16,21 +16,21 @@ use Rattle.mx_plan.specs.declared.algorithm.Algorithm.{Algorithm}
 use Rattle.mx_plan.specs.declared.faults.PlanFault.{PlanFault}
 use Rattle.mx_plan.specs.declared.faults.PlanFault.TheVariants.{NotJson, NotPlan, DoubleName, UnknownName, BadShape, Memory}
 
--- the fault of two steps is the fault of what follows them
+-- the fault of two steps is the fault of the steps after them
 both_refuse : {A B C : Type 0} (r : Result A PlanFault) (s : Result B PlanFault) (f : A → B → Result C PlanFault) (e : PlanFault)
     → and_then {B = A × B} r (λ a. and_then s (λ b. Ok (a, b))) ≡ Err e → and_then r (λ a. and_then s (f a)) ≡ Err e
 both_refuse (Ok a) (Ok b) f e is = let bad : ⊥ = cc in absurd bad
 both_refuse (Ok a) (Err fault) f e is = cc
 both_refuse (Err fault) s f e is = cc
 
--- two steps that succeed go on with their results
+-- after two steps that succeed, the next has their results
 both_answer : {A B C : Type 0} (r : Result A PlanFault) (s : Result B PlanFault) (f : A → B → Result C PlanFault) (a : A) (b : B)
     → and_then {B = A × B} r (λ a. and_then s (λ b. Ok (a, b))) ≡ Ok (a, b) → and_then r (λ a. and_then s (f a)) ≡ f a b
 both_answer {A} {B} (Ok x) (Ok y) f a b is = let pair : ◌≡◌ {A = A × B} (x, y) (a, b) = cc in ap (λ p. f p.0 p.1) pair
 both_answer (Ok x) (Err fault) f a b is = let bad : ⊥ = cc in absurd bad
 both_answer (Err fault) s f a b is = let bad : ⊥ = cc in absurd bad
 
--- three steps, and then one over their results
+-- three steps, followed by one over their results
 in_turn : {A B C D : Type 0} (r : Result A PlanFault) (s : Result B PlanFault) (t : Result C PlanFault) (f : A → B → C → Result D PlanFault)
     → and_then r (λ a. and_then s (λ b. and_then t (f a b)))
     ≡ and_then (and_then {B = A × B × C} r (λ a. and_then s (λ b. and_then t (λ c. Ok (a, b, c))))) (λ p. f p.0 p.1 p.2)
@@ -39,7 +39,7 @@ in_turn (Ok a) (Ok b) (Err fault) f = refl
 in_turn (Ok a) (Err fault) t f = refl
 in_turn (Err fault) s t f = refl
 
--- a result that is no fault is what the rules give
+-- a result that is no fault is that by the rules
 answered : {T : Type 0} (wanted : Result T PlanFault) (x : T) → Answers wanted (Ok x) → wanted ≡ Ok x
 answered wanted x (inl is) = sym is
 answered wanted x (inr h) = let bad : ⊥ = cc in absurd bad
@@ -50,7 +50,7 @@ pub nodes_refused : (d : Data) (e : PlanFault) (r : Result (List Text × List Te
 nodes_refused d e r (inl is) err = inl (rw (err, ← is) refl)
 nodes_refused d e r (inr is) err = let memory : e ≡ Memory = cc in inr (err ∙ ap Err memory)
 
--- the names of the nodes, and what comes of the registers
+-- the names of the nodes, and the outcome of reading the registers
 module _ (nodes : List Text) where
   abbrev pub ArePaired : Result (List Text) PlanFault → Result (List Text × List Text) PlanFault → Type 0
   ArePaired registers r = MatchResult registers (λ names. IsOkAnd r (λ both. both ≡ (nodes, names))) (λ e. r ≡ Err e)
@@ -75,7 +75,7 @@ drafted : List Text → List Text → ℕ → ℕ → PlannedShape → Draft
 drafted nodes registers sections origin shape_planned =
     record { nodes = nodes; registers = registers; sections = sections; origin = origin; shape_planned = shape_planned }
 
--- what comes of a setting comes of its plan
+-- the outcome of a setting is that of its plan
 settled : (nodes registers : List Text) (w : Result (ℕ × ℕ × PlannedShape) PlanFault) (s : Result (ℕ × ℕ × Shape) PlanFault) (r : Result Fields PlanFault)
     → IsSettingOutcome (length nodes) w s
     → MatchResult s (λ x. IsOkAnd r (λ p. p ≡ plan_of nodes registers x.0 x.1 x.2)) (λ e. r ≡ Err e)
@@ -93,7 +93,7 @@ settled nodes registers (Err w) (Ok s) r is made = absurd is
 settled nodes registers (Err w) (Err e) r is made = rw made is
 
 module _ (d : Data) (algorithm : Algorithm) (object : is_object d ≡ true) (named : algorithm_of d ≡ Ok algorithm) where
-  -- the draft of a plan whose names are read
+  -- the plan that is described, once its names are read
   rest_of : List Text → List Text → Result Draft PlanFault
   rest_of nodes registers =
       and_then (in_range place.Sections (number_of (get (codes "sections") d)))

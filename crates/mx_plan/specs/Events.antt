@@ -1,4 +1,4 @@
--- The events that a JSON value lists.
+-- The events in a JSON value.
 use Rattle.std.specs.Prelude.{◌&&◌, ℕ, List, [], ◌∷◌, Bool, true, false, is_some, length, nat_lt, if◌then◌else◌, Option, Some, Result, Ok, Err}
 use Rattle.std.specs.Option.{option_map_or}
 use Rattle.serde_json.specs.Data.{Data}
@@ -19,7 +19,8 @@ use Rattle.mx_events.specs.declared.kind.EventKind.{EventKind}
 use Rattle.mx_events.specs.Words.{kind_named}
 use Rattle.mx_stamps.specs.declared.limits.TheConstants.{MOST_EVENTS}
 
--- whether a value is a name where a name is wanted, and a whole number elsewhere
+-- whether a value has the form of an argument: a name for a node or a register, and a whole number
+-- otherwise
 abbrev pub has_form : ArgumentKind → Data → Bool
 has_form Node d = is_name_value d
 has_form Register d = is_name_value d
@@ -27,7 +28,7 @@ has_form Value d = is_some (number_of (Some d))
 has_form Section d = is_some (number_of (Some d))
 has_form Parcel d = is_some (number_of (Some d))
 
--- whether there are as many values as are wanted, each of its form
+-- whether there are as many values as kinds, each of its form
 abbrev pub have_form : List ArgumentKind → List Data → Bool
 have_form [] [] = true
 have_form (kind ∷ kinds) (d ∷ ds) = has_form kind d && have_form kinds ds
@@ -37,7 +38,7 @@ have_form _ _ = false
 abbrev pub kind_in : Data → Option EventKind
 kind_in w = kind_named (text_of w)
 
--- the k-th event has no such form
+-- the k-th event has another form
 abbrev pub misfit : {T : Type 0} → ℕ → Result T PlanFault
 misfit k = Err (NotPlan (place.Event k))
 
@@ -47,7 +48,7 @@ module _ (p : Fields) (k : ℕ) where
   abbrev pub number_at : Data → Result Argument PlanFault
   number_at d = option_map_or (λ n. Ok (argument.Number n)) (number_of (Some d)) (misfit k)
 
-  -- the argument that a value is: the node, or the register, that has this name, or the number
+  -- the argument in a value: the node or the register with this name, or the number
   abbrev pub argument_in : ArgumentKind → Data → Result Argument PlanFault
   argument_in Node d =
       and_then (number_in (place.Event k) p.nodes d) (λ i. Ok (argument.Node i))
@@ -57,7 +58,7 @@ module _ (p : Fields) (k : ℕ) where
   argument_in Section d = number_at d
   argument_in Parcel d = number_at d
 
-  -- the arguments that values are: the first fault from the left decides
+  -- the arguments in values: the first fault from the left counts
   abbrev pub arguments_in : List ArgumentKind → List Data → Result (List Argument) PlanFault
   arguments_in (kind ∷ kinds) (d ∷ ds) =
       and_then (argument_in kind d) (λ a. and_then (arguments_in kinds ds) (λ rest. Ok (a ∷ rest)))

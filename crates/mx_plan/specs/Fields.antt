@@ -1,4 +1,4 @@
--- What a plan says.
+-- The parts of a plan.
 use Rattle.std.specs.Prelude.{◌≡◌, ◌≤◌, ℕ, List, Option, length, position}
 use Rattle.std.specs.Str.{bytes_eq}
 use Rattle.mx_stamps.specs.declared.limits.TheConstants.{MOST_NODES, MOST_REGISTERS, MOST_SECTIONS}
@@ -8,7 +8,7 @@ use Rattle.mx_plan.specs.Text.{Text, AreNames}
 use Rattle.mx_plan.specs.declared.shape.Shape.{Shape}
 use Rattle.mx_plan.specs.declared.shape.Shape.TheVariants.{Ricart, Maekawa, Raymond}
 
--- the names of nodes and registers, in order; the last section number; where stamps start; the
+-- the names of nodes and registers, in order; the last section number; the origin of stamps; the
 -- shape
 pub record Fields : Type 0 where
   pub nodes : List Text
@@ -23,7 +23,7 @@ IsShape n (Ricart count) = count ≡ n
 IsShape n (Maekawa family) = IsMeeting family × IsWithin family × (family.count ≡ n)
 IsShape n (Raymond tree) = IsRooted tree × (tree.count ≡ n)
 
--- what every plan keeps
+-- what holds for every plan
 pub record IsPlan (p : Fields) : Type 0 where
   pub nodes : AreNames MOST_NODES p.nodes
   pub registers : AreNames MOST_REGISTERS p.registers

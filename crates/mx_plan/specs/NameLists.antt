@@ -1,4 +1,4 @@
--- The lists of names that a plan has, and the numbers of names.
+-- The lists of names in a plan, and the numbers of names.
 use Rattle.std.specs.Prelude.{◌&&◌, ℕ, List, Bool, false, length, map, nat_le, if◌then◌else◌, Option, Result, Ok, Err, position}
 use Rattle.std.specs.List.{list_all}
 use Rattle.std.specs.Option.{option_map_or}
@@ -23,11 +23,11 @@ is_name_list d = option_map_or (list_all is_name_value) (elements d) false
 abbrev pub are_names : ℕ → List Data → Bool
 are_names most ds = nat_le 1 (length ds) && (nat_le (length ds) most && list_all is_name_value ds)
 
--- the names, where no two are equal
+-- the names, if no two are equal
 abbrev pub distinct_names : Place → List Text → Result (List Text) PlanFault
 distinct_names p names = if has_double names then Err (DoubleName p) else Ok names
 
--- the names that the elements of an array are
+-- the names in the elements of an array
 abbrev pub names_from : ℕ → Place → List Data → Result (List Text) PlanFault
 names_from most p ds =
     if are_names most ds then distinct_names p (map text_of ds) else Err (NotPlan p)
@@ -36,7 +36,7 @@ names_from most p ds =
 abbrev pub names_of : ℕ → Place → Option Data → Result (List Text) PlanFault
 names_of most p d = option_map_or (names_from most p) (array_of d) (Err (NotPlan p))
 
--- the number of a name among the names that are known
+-- the number of a name among the known ones
 abbrev pub number_in : Place → List Text → Data → Result ℕ PlanFault
 number_in p known d =
     option_map_or (λ n. Ok n) (position (bytes_eq (text_of d)) known) (Err (UnknownName p))

@@ -1,4 +1,4 @@
--- The parts of a plan: its names, and what it says beside them.
+-- The parts of a plan: its names, and the rest.
 use Rattle.std.specs.Prelude.{◌≡◌, ◌⊎◌, ℕ, List, codes, Result, Ok, Err}
 use Rattle.serde_json.specs.Data.{Data}
 use Rattle.serde_json.specs.Find.{get}
@@ -22,8 +22,7 @@ both_names d =
     (λ nodes. and_then (names_of MOST_REGISTERS place.Registers (get (codes "registers") d))
     (λ registers. Ok (nodes, registers)))
 
--- the last section, the origin, and the shape that a plan for an algorithm asks for over these
--- nodes
+-- the last section, the origin, and the shape of a plan for an algorithm over these nodes
 abbrev pub setting_of : Algorithm → List Text → Data → Result (ℕ × ℕ × PlannedShape) PlanFault
 setting_of algorithm nodes d =
     and_then (in_range place.Sections (number_of (get (codes "sections") d)))
@@ -31,12 +30,12 @@ setting_of algorithm nodes d =
     (λ origin. and_then (planned_of algorithm nodes d)
     (λ shape_planned. Ok (sections, origin, shape_planned))))
 
--- the setting has what was asked for, over n nodes
+-- the setting is the described one, over n nodes
 abbrev pub IsSettingOf : ℕ → ℕ × ℕ × PlannedShape → ℕ × ℕ × Shape → Type 0
 IsSettingOf n (sections, origin, shape_planned) setting =
     (setting.0 ≡ sections) × (setting.1 ≡ origin) × IsShapeOf n shape_planned setting.2
 
--- what comes of a setting that is asked for, in the same way as of a plan
+-- the outcome of reading a setting, in the same way as of a plan
 abbrev pub IsSettingOutcome : ℕ → Result (ℕ × ℕ × PlannedShape) PlanFault
     → Result (ℕ × ℕ × Shape) PlanFault → Type 0
 IsSettingOutcome n (Ok wanted) (Ok setting) = IsSettingOf n wanted setting

@@ -1,4 +1,4 @@
--- The plan that a text is.
+-- The plan in a text.
 use Rattle.std.specs.Prelude.{◌≡◌, ◌⊎◌, ◌&&◌, ℕ, List, not, length, nat_le, codes, if◌then◌else◌, Option, Some, None, Result, Ok, Err, option_and_then}
 use Rattle.std.specs.Option.{option_map_or}
 use Rattle.std.specs.Str.{bytes_eq}
@@ -30,30 +30,30 @@ algorithm_named word =
     else if bytes_eq word (codes "raymond") then Ok Raymond
     else Err (NotPlan place.Algorithm)
 
--- the algorithm that a plan asks for
+-- the algorithm that a plan names
 abbrev pub algorithm_of : Data → Result Algorithm PlanFault
 algorithm_of d =
     option_map_or algorithm_named (option_and_then as_str (get (codes "algorithm") d))
     (Err (NotPlan place.Algorithm))
 
--- the number, where it is one from 1 to the greatest section number
+-- the number, if it is from 1 to the greatest section number
 abbrev pub in_range : Place → Option ℕ → Result ℕ PlanFault
 in_range p None = Err (NotPlan p)
 in_range p (Some n) = if nat_le 1 n && nat_le n MOST_SECTIONS then Ok n else Err (NotPlan p)
 
--- the origin that the value of a key gives: 0 where the key is absent
+-- the origin in the value of a key: 0 if the key is absent
 abbrev pub origin_of : Option Data → Result ℕ PlanFault
 origin_of None = Ok 0
 origin_of (Some d) = option_map_or (λ n. Ok n) (number_of (Some d)) (Err (NotPlan place.Origin))
 
--- the tree that the keys `edges` and `holder` give
+-- the tree in the keys `edges` and `holder`
 abbrev pub tree_of : List Text → Data → Result PlannedShape PlanFault
 tree_of nodes d =
     and_then (edges_of nodes (get (codes "edges") d))
     (λ edges. and_then (holder_of nodes (get (codes "holder") d))
     (λ holder. Ok (tree edges holder)))
 
--- the shape that a plan for an algorithm asks for
+-- the shape that a plan for an algorithm describes
 abbrev pub planned_of : Algorithm → List Text → Data → Result PlannedShape PlanFault
 planned_of Ricart nodes d = Ok all_others
 planned_of Maekawa nodes d = quorums_of nodes (get (codes "quorums") d)
@@ -61,7 +61,7 @@ planned_of Raymond nodes d = tree_of nodes d
 
 -- ---- whole plans
 
--- what a plan asks for
+-- the parts that a plan describes
 pub record Draft : Type 0 where
   pub nodes : List Text
   pub registers : List Text
@@ -69,7 +69,7 @@ pub record Draft : Type 0 where
   pub origin : ℕ
   pub shape_planned : PlannedShape
 
--- what a value asks for: the first place that fails decides
+-- the plan that a value describes: the first place that fails counts
 abbrev pub draft_of : Data → Result Draft PlanFault
 draft_of d =
     if not (is_object d) then Err (NotPlan place.Plan)
@@ -87,11 +87,11 @@ draft_of d =
       shape_planned = shape_planned;
     })))))))
 
--- what a text asks for
+-- the plan that a text describes
 abbrev pub draft_at : List ℕ → Result Draft PlanFault
 draft_at = of_text draft_of
 
--- the plan has what was asked for
+-- the plan has the described parts
 pub record IsPlanOf (draft : Draft) (p : Fields) : Type 0 where
   pub nodes : p.nodes ≡ draft.nodes
   pub registers : p.registers ≡ draft.registers
@@ -99,8 +99,8 @@ pub record IsPlanOf (draft : Draft) (p : Fields) : Type 0 where
   pub origin : p.origin ≡ draft.origin
   pub shape : IsShapeOf (length draft.nodes) draft.shape_planned p.shape
 
--- what comes of a text: the plan that it asks for; where it asks for none, why; where its nodes
--- have no such shape, the first rule that is broken
+-- the outcome of reading a text: the plan that it describes; the fault, if it describes none; the
+-- first broken rule, if its nodes have no such shape
 abbrev pub IsOutcome : Result Draft PlanFault → Result Fields PlanFault → Type 0
 IsOutcome (Ok draft) (Ok plan) = IsPlanOf draft plan
 IsOutcome (Ok draft) (Err (BadShape fault)) =
@@ -109,7 +109,7 @@ IsOutcome (Ok draft) (Err _) = ⊥
 IsOutcome (Err wanted) (Ok plan) = ⊥
 IsOutcome (Err wanted) (Err fault) = fault ≡ wanted
 
--- what comes of a shape that is asked for, in the same way; it is a shape of n nodes
+-- the outcome of reading a shape, in the same way; it is a shape of n nodes
 abbrev pub IsShapeOutcome : ℕ → Result PlannedShape PlanFault → Result Shape PlanFault → Type 0
 IsShapeOutcome n (Ok shape_planned) (Ok shape) = IsShapeOf n shape_planned shape × IsShape n shape
 IsShapeOutcome n (Ok shape_planned) (Err (BadShape fault)) = IsRefusalOf n shape_planned fault

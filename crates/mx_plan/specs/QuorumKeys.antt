@@ -1,4 +1,4 @@
--- The sets of arbiters that a plan asks for.
+-- The arbiter sets that a plan describes.
 use Rattle.std.specs.Prelude.{◌≡◌, ◌⊎◌, ◌&&◌, ◌*◌, ◌==◌, ℕ, List, length, codes, if◌then◌else◌, Bool, Option, Some, Result, Ok, Err, Vec, option_and_then}
 use Rattle.std.specs.List.{list_all}
 use Rattle.std.specs.Option.{option_map_or}
@@ -18,7 +18,7 @@ use Rattle.mx_plan.specs.declared.faults.PlanFault.TheVariants.{NotPlan, Memory}
 abbrev pub no_quorums : {T : Type 0} → Result T PlanFault
 no_quorums = Err (NotPlan place.Quorums)
 
--- a grid that has as many places as there are nodes
+-- a grid with one place for each node
 abbrev pub grid_of : ℕ → Option ℕ → Option ℕ → Result PlannedShape PlanFault
 grid_of n (Some rows) (Some cols) = if rows * cols == n then Ok (grid rows cols) else no_quorums
 grid_of n _ _ = no_quorums
@@ -35,7 +35,7 @@ are_sets n ds = length ds == n && list_all is_name_list ds
 abbrev pub family_of : List Text → List Data → Result PlannedShape PlanFault
 family_of nodes ds = and_then (each (set_of nodes) ds) (λ sets. Ok (listed sets))
 
--- the same, where their form is right
+-- the same, if their form is right
 abbrev pub sets_from : List Text → List Data → Result PlannedShape PlanFault
 sets_from nodes ds = if are_sets (length nodes) ds then family_of nodes ds else no_quorums
 
@@ -53,16 +53,16 @@ kind_of nodes d kind =
     else if bytes_eq kind (codes "listed") then sets_of nodes (get (codes "sets") d)
     else no_quorums
 
--- the sets that a value asks for, by its kind
+-- the sets that a value describes, by its kind
 abbrev pub quorums_from : List Text → Data → Result PlannedShape PlanFault
 quorums_from nodes d =
     option_map_or (kind_of nodes d) (option_and_then as_str (get (codes "kind") d)) no_quorums
 
--- the sets that the value of the key `quorums` asks for
+-- the sets that the value of the key `quorums` describes
 abbrev pub quorums_of : List Text → Option Data → Result PlannedShape PlanFault
 quorums_of nodes d = option_map_or (quorums_from nodes) d no_quorums
 
--- the sets are what the rules give, or memory ran out
+-- the sets are those by the rules, or memory ran out
 abbrev pub GivesSets : Result (List (List ℕ)) PlanFault
     → Result (Vec (Vec ℕ Global) Global) PlanFault → Type 0
 GivesSets wanted (Ok sets) = wanted ≡ Ok (lists_of sets.items)

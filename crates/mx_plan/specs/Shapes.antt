@@ -1,4 +1,4 @@
--- The shape that a plan asks for, and what comes of it.
+-- The shape that a plan describes, and the outcome of making it.
 use Rattle.std.specs.Prelude.{◌≡◌, ◌*◌, ℕ, List, Result, MatchResult}
 use Rattle.mx_quorums.specs.Lists.{AreMeeting, IsFamilyOf, IsFirstFault}
 use Rattle.mx_quorums.specs.Shapes.{IsGrid, IsPlaneSize, IsPlane}
@@ -10,8 +10,8 @@ use Rattle.mx_plan.specs.declared.faults.ShapeFault.{ShapeFault}
 use Rattle.mx_plan.specs.declared.faults.ShapeFault.TheVariants.{Quorum, Tree}
 use Rattle.mx_plan.specs.Fields.{IsShape}
 
--- each node asks all others; or a plane, a grid of rows and columns, or listed sets of arbiters; or
--- a tree of edges, and its holder
+-- each node asks all others; or a plane, a grid of rows and columns, or listed arbiter sets; or a
+-- tree of edges, and its holder
 pub data PlannedShape : Type 0 where
   all_others : PlannedShape
   plane : PlannedShape
@@ -19,7 +19,7 @@ pub data PlannedShape : Type 0 where
   listed : List (List ℕ) → PlannedShape
   tree : List (ℕ × ℕ) → ℕ → PlannedShape
 
--- the shape of n nodes that was asked for
+-- the described shape of n nodes
 abbrev pub IsShapeOf : ℕ → PlannedShape → Shape → Type 0
 IsShapeOf n all_others (Ricart count) = count ≡ n
 IsShapeOf n plane (Maekawa family) = IsPlaneSize n × IsPlane n family
@@ -28,14 +28,14 @@ IsShapeOf n (listed sets) (Maekawa family) = AreMeeting sets × IsFamilyOf sets 
 IsShapeOf n (tree edges holder) (Raymond rooted) = IsTree n edges × IsTreeOf n edges holder rooted
 IsShapeOf n _ _ = ⊥
 
--- why n nodes have no such shape: the first rule that is broken
+-- why n nodes have no such shape: the first broken rule
 abbrev pub IsRefusalOf : ℕ → PlannedShape → ShapeFault → Type 0
 IsRefusalOf n plane (Quorum fault) = (IsPlaneSize n → ⊥) × (fault ≡ NoPlane n)
 IsRefusalOf n (listed sets) (Quorum fault) = IsFirstFault sets fault
 IsRefusalOf n (tree edges holder) (Tree fault) = IsFirstTreeFault n edges holder fault
 IsRefusalOf n _ _ = ⊥
 
--- the shape that was asked for, which is a shape of n nodes; or why there is none
+-- the described shape, which is a shape of n nodes; or why there is none
 abbrev pub IsShaped : ℕ → PlannedShape → Result Shape ShapeFault → Type 0
 IsShaped n shape_planned r =
     MatchResult r

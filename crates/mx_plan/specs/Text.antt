@@ -19,12 +19,12 @@ is_name_byte b = (nat_le 48 b && nat_le b 57) || ((nat_le 65 b && nat_le b 90)
 abbrev pub is_name : Text → Bool
 is_name s = nat_le 1 (length s) && (nat_le (length s) 16 && list_all is_name_byte s)
 
--- some text is there twice
+-- some text occurs twice
 abbrev pub has_double : List Text → Bool
 has_double [] = false
 has_double (x ∷ xs) = list_any (λ y. bytes_eq y x) xs || has_double xs
 
--- 1 to `most` names, no two equal
+-- 1 to `most` names, all different
 pub record AreNames (most : ℕ) (names : List Text) : Type 0 where
   pub some : 0 < length names
   pub few : length names ≤ most

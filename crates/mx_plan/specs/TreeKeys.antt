@@ -1,4 +1,4 @@
--- The tree that a plan asks for.
+-- The tree that a plan describes.
 use Rattle.std.specs.Prelude.{◌&&◌, ℕ, List, [], ◌∷◌, Bool, false, if◌then◌else◌, Option, Result, Ok, Err}
 use Rattle.std.specs.List.{list_all}
 use Rattle.std.specs.Option.{option_map_or}

@@ -10,38 +10,38 @@ use Rattle.mx_plan.specs.Text.{Text}
 use Rattle.mx_plan.specs.declared.faults.PlanFault.{PlanFault}
 use Rattle.mx_plan.specs.declared.faults.PlanFault.TheVariants.{NotJson, Memory}
 
--- the result is what the rules give, or memory ran out
+-- the result is that by the rules, or memory ran out
 abbrev pub Answers : {T : Type 0} → Result T PlanFault → Result T PlanFault → Type 0
 Answers wanted r = (r ≡ wanted) ⊎ (r ≡ Err Memory)
 
--- the list is what the rules give, or memory ran out
+-- the list is that by the rules, or memory ran out
 abbrev pub Gives : {T : Type 0} → Result (List T) PlanFault
     → Result (Vec T Global) PlanFault → Type 0
 Gives wanted (Ok list) = wanted ≡ Ok list.items
 Gives wanted (Err e) = (wanted ≡ Err e) ⊎ (e ≡ Memory)
 
--- the value that a text of JSON has, in UTF-8
+-- the value of a JSON text in UTF-8
 unfoldable pub value_of : List ℕ → Option Data
 value_of text = if is_utf8 text then read text else None
 
--- what a text is read as, from the rule by which its JSON value is read
+-- the reading of a text, by the rule for its JSON value
 abbrev pub of_text : {T : Type 0} → (Data → Result T PlanFault) → List ℕ → Result T PlanFault
 of_text f text = option_map_or f (value_of text) (Err NotJson)
 
--- goes on where the first step succeeded
+-- continues if the first step succeeded
 abbrev pub and_then : {A B : Type 0} → Result A PlanFault → (A → Result B PlanFault)
     → Result B PlanFault
 and_then (Ok a) f = f a
 and_then (Err e) f = Err e
 
--- what each of a list is read as, the first being the k-th: the first fault decides
+-- the reading of each value of a list, the first being the k-th: the first fault counts
 unfoldable pub each_from : {A B : Type 0} → (ℕ → A → Result B PlanFault) → ℕ → List A
     → Result (List B) PlanFault
 each_from f k [] = Ok []
 each_from f k (x ∷ xs) =
     and_then (f k x) (λ y. and_then (each_from f (k + 1) xs) (λ ys. Ok (y ∷ ys)))
 
--- what each of a list is read as, by a rule that is one for all
+-- the reading of each value of a list, by the same rule
 abbrev pub each : {A B : Type 0} → (A → Result B PlanFault) → List A → Result (List B) PlanFault
 each f xs = each_from (λ _. f) 0 xs
 
@@ -58,18 +58,18 @@ list_of (item d ds) = d ∷ list_of ds
 abbrev pub elements : Data → Option (List Data)
 elements d = option_map list_of (as_array d)
 
--- the elements of the value of a key, where the key is there and its value is an array
+-- the elements of the value of a key, if the key is there and its value is an array
 abbrev pub array_of : Option Data → Option (List Data)
 array_of d = option_and_then elements d
 
--- the elements of an array, none where the value is no array
+-- the elements of an array, none for any other value
 abbrev pub list_in : Data → List Data
 list_in d = unwrap_or (elements d) []
 
--- the text of a string, empty where the value is none
+-- the text of a string, empty for any other value
 abbrev pub text_of : Data → Text
 text_of d = unwrap_or (as_str d) []
 
--- the value of a key, where the key is there and its value is a whole number
+-- the value of a key, if the key is there and its value is a whole number
 abbrev pub number_of : Option Data → Option ℕ
 number_of d = option_and_then as_u64 (option_and_then as_number d)

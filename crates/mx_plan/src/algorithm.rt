@@ -11,12 +11,19 @@ use serde_json::Value;
 /// The algorithm by which nodes exclude one another.
 #[derive(Clone, Copy)]
 pub enum Algorithm {
+    /// Ricart and Agrawala's algorithm (1981).
     Ricart,
+    /// Maekawa's algorithm (1985).
     Maekawa,
+    /// Raymond's algorithm (1989).
     Raymond,
 }
 
-/// The algorithm that a word names.
+/// Returns the algorithm that a word names.
+///
+/// # Errors
+///
+/// Returns `NotPlan` if it names none.
 fn named(word: &str) -> Result<Algorithm, PlanFault>
     ensures { result ≡ spec.algorithm_named word.now }
 {
@@ -28,7 +35,11 @@ fn named(word: &str) -> Result<Algorithm, PlanFault>
     }
 }
 
-/// The algorithm that a plan asks for.
+/// Returns the algorithm that a plan names.
+///
+/// # Errors
+///
+/// Returns `NotPlan` if the key is missing or names none.
 pub fn algorithm_in(plan: &Value) -> Result<Algorithm, PlanFault>
     ensures { result ≡ spec.algorithm_of (view plan.now) }
 {

@@ -18,12 +18,17 @@ use mx_stamps::{MOST_EVENTS, NodeId};
 use serde_json::Value;
 use std::alloc::Global;
 
-/// Reads a list of at most 1,000,000 events. Each is an array of a word and of names of the plan's
-/// nodes and registers, and of whole numbers of 64 bits: `["ask",N]`, `["enter",N]`,
-/// `["read",N,R]`, `["write",N,R,V]`, `["leave",N]`, `["cancel",N]`, `["tick",N]`, `["want",N,M]`,
-/// `["settle",N,K]`, `["deliver",K]` and `["restart",N]`. Each event is checked first for its form
-/// and then for its names; a longer list is refused at event 1,000,000, before its events are
-/// looked at.
+/// Reads a list of at most 1,000,000 events. Each is an array of a word, names of the plan's nodes
+/// and registers, and `u64` numbers: `["ask",N]`, `["enter",N]`, `["read",N,R]`, `["write",N,R,V]`,
+/// `["leave",N]`, `["cancel",N]`, `["tick",N]`, `["want",N,M]`, `["settle",N,K]`, `["deliver",K]`
+/// and `["restart",N]`.
+///
+/// # Errors
+///
+/// Returns `NotJson` if the text is not JSON, and `NotPlan` with the place if the list or an event
+/// has another form. Returns `UnknownName` if the plan does not have a name. The form of an event
+/// is checked before its names. A longer list is refused at event 1,000,000, before its events are
+/// read. Returns `Memory` if memory runs out.
 pub fn read_events(alloc: Global, text: &[u8], plan: &Plan) -> Result<Vec<Event>, PlanFault>
     ensures { Gives (spec.events_at plan.now text.now) result }
 {
@@ -56,7 +61,7 @@ fn each_event(alloc: Global, values: &[Value], plan: &Plan) -> Result<Vec<Event>
     Ok(events)
 }
 
-/// The k-th event: a word, and the values after it.
+/// Returns the k-th event: a word, and the values after it.
 #[tactic(auto, unfolding(crate::specs::Events::event_of))]
 fn event_in(plan: &Plan, value: &Value, k: u64) -> Result<Event, PlanFault>
     ensures { result ≡ spec.event_of plan.now k (view value.now) }
@@ -70,7 +75,8 @@ fn event_in(plan: &Plan, value: &Value, k: u64) -> Result<Event, PlanFault>
     }
 }
 
-/// The event of a kind with these values after its word. Their form counts first, then the names.
+/// Returns the event of a kind with these values after its word. Their form is checked first, then
+/// the names.
 fn event_with(plan: &Plan, kind: EventKind, values: &[Value], k: u64) -> Result<Event, PlanFault>
     ensures { result ≡ spec.event_with plan.now k kind (map view values.now) }
 {
@@ -85,7 +91,7 @@ fn event_with(plan: &Plan, kind: EventKind, values: &[Value], k: u64) -> Result<
     }
 }
 
-/// Whether there are as many values as are wanted, each of its form.
+/// Returns whether there are as many values as the kind requires, each of its form.
 fn have_form(kinds: &[ArgumentKind], values: &[Value]) -> bool
     ensures { result ≡ spec.have_form kinds.now (map view values.now) }
 {
@@ -100,7 +106,8 @@ fn have_form(kinds: &[ArgumentKind], values: &[Value]) -> bool
     true
 }
 
-/// Whether a value is a name where a name is wanted, and a whole number elsewhere.
+/// Returns whether a value has the form of an argument: a name for a node or a register, and a
+/// whole number otherwise.
 fn has_form(kind: ArgumentKind, value: &Value) -> bool
     ensures { result ≡ spec.has_form kind (view value.now) }
 {
@@ -112,7 +119,7 @@ fn has_form(kind: ArgumentKind, value: &Value) -> bool
     }
 }
 
-/// The arguments that values are.
+/// Reads the values as arguments.
 fn arguments_in(
     plan: &Plan,
     kinds: &[ArgumentKind],
@@ -134,7 +141,7 @@ fn arguments_in(
     Ok(arguments)
 }
 
-/// The argument that a value is.
+/// Reads a value as an argument.
 fn argument_in(
     plan: &Plan,
     kind: ArgumentKind,
@@ -155,7 +162,7 @@ fn argument_in(
     }
 }
 
-/// The node of a name.
+/// Returns the node of a name.
 fn node_in(plan: &Plan, name: &Value, k: u64) -> Result<NodeId, PlanFault>
     ensures { result ≡ number_in (place.Event k) plan.now.nodes (view name.now) }
 {
@@ -165,7 +172,7 @@ fn node_in(plan: &Plan, name: &Value, k: u64) -> Result<NodeId, PlanFault>
     }
 }
 
-/// The register of a name.
+/// Returns the register of a name.
 fn register_in(plan: &Plan, name: &Value, k: u64) -> Result<u8, PlanFault>
     ensures { result ≡ number_in (place.Event k) plan.now.registers (view name.now) }
 {

@@ -10,28 +10,30 @@ use std::alloc::{AllocError, AllocFailed};
 use std::error::Error;
 use std::fmt;
 
-/// Why the nodes of a plan have no such shape. Its numbers are of nodes and of edges in the order
-/// of the plan.
+/// Why the nodes of a plan have no such shape. Its numbers are those of nodes and edges, in the
+/// order of the plan.
 #[derive(Clone, Copy, Debug, PartialEq, Eq)]
 pub enum ShapeFault {
+    /// The arbiter sets are no family.
     Quorum(QuorumFault),
+    /// The edges and the holder are no tree.
     Tree(TreeFault),
 }
 
 /// Why a text is refused.
 #[derive(Clone, Copy, Debug, PartialEq, Eq)]
 pub enum PlanFault {
-    /// It is not JSON, or not in UTF-8, or it nests deeper than 127.
+    /// It is not valid JSON, not valid UTF-8, or nested deeper than 127.
     NotJson,
-    /// What belongs at this place is missing or of another form.
+    /// The value at this place is missing or has another form.
     NotPlan(Place),
-    /// A name is there twice.
+    /// A name occurs twice.
     DoubleName(Place),
-    /// A well-formed name is there that the plan does not have.
+    /// The plan does not have a well-formed name.
     UnknownName(Place),
-    /// All places are as they should be, but the nodes have no such shape.
+    /// Every place has its form, but the nodes have no such shape.
     BadShape(ShapeFault),
-    /// Memory ran out. This can happen at any point of the reading.
+    /// Memory ran out. This can happen at any point of reading.
     Memory,
 }
 
@@ -90,12 +92,12 @@ impl From<ShapeFault> for PlanFault {
     }
 }
 
-/// A fault of arbiter sets, as a fault line names it.
+/// A fault of arbiter sets, as a fault line shows it.
 #[derive(Clone, Copy)]
 struct QuorumText(QuorumFault);
 
 impl QuorumText {
-    /// The words of this fault, which the numbers of its nodes follow.
+    /// Returns the words of this fault; the numbers of its nodes follow them.
     fn words(&self) -> &str
         ensures { result.now ≡ quorum_words self.now.0 }
     {
@@ -128,7 +130,7 @@ impl fmt::Display for QuorumText {
     }
 }
 
-/// A fault of a tree, as a fault line names it.
+/// A fault of a tree, as a fault line shows it.
 #[derive(Clone, Copy)]
 struct TreeText(TreeFault);
 

@@ -1,5 +1,5 @@
-//! Plans and events, read from JSON: the names of a cluster's nodes and registers, its bounds, its
-//! shape for one of the three algorithms, and what is to happen in it.
+//! Plans and events, read from JSON. A plan has the names of a cluster's nodes and registers, its
+//! bounds, and its shape for one of the three algorithms. The events are those of the cluster.
 #![tactic(auto)]
 
 mod algorithm;

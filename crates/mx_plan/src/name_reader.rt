@@ -15,7 +15,12 @@ use mx_stamps::MOST_NODES;
 use serde_json::Value;
 use std::alloc::Global;
 
-/// The names that the value of a key lists: 1 to `most`, no two equal.
+/// Reads the names that the value of a key lists: 1 to `most`, all different.
+///
+/// # Errors
+///
+/// Returns `NotPlan` if it is no such list, `DoubleName` if a name occurs twice, and `Memory` if
+/// memory runs out.
 pub fn names_at(
     alloc: Global,
     value: Option<&Value>,
@@ -62,7 +67,7 @@ fn distinct_names(alloc: Global, values: &[Value], place: Place) -> Result<Names
     Ok(names)
 }
 
-/// Whether a value is a string that is a name.
+/// Returns whether a value is a string that is a name.
 #[tactic(auto, unfolding(crate::specs::NameLists::is_name_value))]
 pub fn is_name_value(value: &Value) -> bool
     ensures { result ≡ spec.is_name_value (view value.now) }
@@ -73,7 +78,7 @@ pub fn is_name_value(value: &Value) -> bool
     }
 }
 
-/// Whether a value is an array of names.
+/// Returns whether a value is an array of names.
 #[tactic(auto, unfolding(crate::specs::NameLists::is_name_list))]
 pub fn is_name_list(value: &Value) -> bool
     ensures { result ≡ spec.is_name_list (view value.now) }
@@ -84,7 +89,11 @@ pub fn is_name_list(value: &Value) -> bool
     }
 }
 
-/// The number of a name that the nodes have.
+/// Returns the number of a node's name.
+///
+/// # Errors
+///
+/// Returns `UnknownName` if no node has it.
 pub fn number_of_name(value: &Value, nodes: &Names, place: Place) -> Result<u8, PlanFault>
     requires { length nodes.now ≤ MOST_NODES }
     ensures value { result ≡ spec.number_in place nodes.now (view value.now) }
@@ -96,7 +105,11 @@ pub fn number_of_name(value: &Value, nodes: &Names, place: Place) -> Result<u8, 
     }
 }
 
-/// The numbers of names that the nodes have, in order.
+/// Returns the numbers of nodes' names, in order.
+///
+/// # Errors
+///
+/// Returns `UnknownName` if no node has a name, and `Memory` if memory runs out.
 pub fn numbers_of_names(
     alloc: Global,
     values: &[Value],

@@ -1,4 +1,4 @@
-//! Names in the order of the plan, and the numbers that they get.
+//! Names in the order of the plan, and their numbers.
 ghost use Rattle.std.specs.Prelude.{◌≡◌, ℕ, ◌++◌, ◌∷◌, ◌≤◌, ◌<◌, ◌↔◌, [], List, length, map, not, true, position, slice_get, option_map, string_bytes, IfOk, OnErr, IfSome, IsSome};
 ghost use Rattle.std.specs.List.{list_all, list_any};
 ghost use Rattle.std.specs.Str.{bytes_eq};
@@ -21,6 +21,7 @@ impl Model for Names {
 }
 
 impl Names {
+    /// Creates an empty list of names.
     pub fn new(alloc: Global) -> Self
         ensures { result ≡ [] }
     {
@@ -29,13 +30,18 @@ impl Names {
         }
     }
 
+    /// Returns the number of names.
     pub fn len(&self) -> usize
         ensures { result ≡ length self.now }
     {
         self.set.len()
     }
 
-    /// Adds a name that is not there yet, and says whether it did.
+    /// Adds a name unless it is there already, and returns whether it did.
+    ///
+    /// # Errors
+    ///
+    /// Returns `AllocError` if memory runs out. Nothing has changed then.
     pub fn add(&mut self, alloc: Global, name: &str) -> Result<bool, AllocError>
         ensures added { IfOk result (λ r. r ≡ not (list_any (bytes_eq name.now) self.old)) }
         ensures names { IfOk result (λ r. r ≡ true → self.new ≡ self.old ++ name.now ∷ []) }
@@ -45,12 +51,14 @@ impl Names {
         Ok(self.set.insert(name)?)
     }
 
+    /// Returns the name with this number.
     pub fn get(&self, index: usize) -> Option<&str>
         ensures { option_map (λ s. s.now) result ≡ slice_get self.now index }
     {
         Some(self.set.get_index(index)?.as_str())
     }
 
+    /// Returns the number of a name, if it is there.
     pub fn index_of(&self, name: &str) -> Option<usize>
         ensures index { result ≡ position (bytes_eq name.now) self.now }
         ensures within { IfSome result (λ i. i < length self.now) }
@@ -59,7 +67,7 @@ impl Names {
     }
 }
 
-/// Whether a text may be a name: 1 to 16 letters, digits, `_` and `-`.
+/// Returns whether a text is a name: 1 to 16 letters, digits, `_` and `-`.
 pub fn is_name(text: &str) -> bool
     ensures { result ≡ is_name text.now }
 {

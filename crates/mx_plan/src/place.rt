@@ -5,7 +5,7 @@ ghost use Rattle.mx_plan.specs.FaultTexts.{place_text, place_word};
 
 use std::fmt;
 
-/// Where in a plan or in a list of events a fault is. The places of a plan are checked in this
+/// The place of a fault in a plan or in a list of events. The places of a plan are checked in this
 /// order.
 #[derive(Clone, Copy, Debug, PartialEq, Eq)]
 pub enum Place {
@@ -29,7 +29,7 @@ pub enum Place {
 }
 
 impl Place {
-    /// The word that names this place, which for an event its number follows.
+    /// Returns the word for this place; for an event, its number follows the word.
     fn word(&self) -> &str
         ensures { result.now ≡ place_word self.now }
     {

@@ -10,9 +10,10 @@ use crate::shape::Shape;
 use mx_stamps::{MOST_NODES, MOST_REGISTERS, MOST_SECTIONS, NodeId};
 use std::marker::Model;
 
-/// What a cluster is made of: the names of its nodes, 1 to 21, and of the registers that they
-/// guard, 1 to 32, the greatest section number, the number at which stamps, grants and hops start,
-/// and the shape of the nodes: the arbiter sets or the tree are over exactly these nodes.
+/// A plan of a cluster. It has the names of the nodes, 1 to 21, and of the registers that they
+/// guard, 1 to 32, and the greatest section number. It also has the origin, from which stamps,
+/// grants and hops count on, and the shape. The arbiter sets or the tree are over exactly these
+/// nodes.
 #[derive(Drop)]
 pub struct Plan {
     pub(crate) nodes: Names,
@@ -45,7 +46,7 @@ impl Model for Plan {
 }
 
 impl Plan {
-    /// The plan that says this.
+    /// Creates the plan with these parts.
     pub(crate) fn of(
         nodes: Names,
         registers: Names,
@@ -69,7 +70,7 @@ impl Plan {
         }
     }
 
-    /// The shape of the cluster, over exactly its nodes.
+    /// Returns the shape of the cluster, over exactly its nodes.
     pub fn shape(&self) -> &Shape
         ensures value { result.now ≡ self.now.shape }
         ensures valid { IsShape (length self.now.nodes) result.now }
@@ -77,7 +78,7 @@ impl Plan {
         &self.shape
     }
 
-    /// How many nodes the cluster has.
+    /// Returns the number of nodes.
     pub fn nodes(&self) -> u8
         ensures value { result ≡ length self.now.nodes }
         ensures low { 0 < result }
@@ -86,7 +87,7 @@ impl Plan {
         self.nodes.len() as u8
     }
 
-    /// How many registers the nodes guard.
+    /// Returns the number of registers.
     pub fn registers(&self) -> u8
         ensures value { result ≡ length self.now.registers }
         ensures low { 0 < result }
@@ -95,7 +96,7 @@ impl Plan {
         self.registers.len() as u8
     }
 
-    /// The greatest number that a section may bear.
+    /// Returns the greatest section number.
     pub fn sections(&self) -> u64
         ensures value { result ≡ self.now.sections }
         ensures low { 1 ≤ result }
@@ -104,28 +105,28 @@ impl Plan {
         self.sections
     }
 
-    /// The number at which stamps, grants and hops start.
+    /// Returns the number from which stamps, grants and hops count on.
     pub fn origin(&self) -> u64
         ensures value { result ≡ self.now.origin }
     {
         self.origin
     }
 
-    /// The name of the node of this number.
+    /// Returns the name of the node with this number.
     pub fn node_name(&self, index: u8) -> Option<&str>
         ensures value { option_map (λ s. s.now) result ≡ slice_get self.now.nodes index }
     {
         self.nodes.get(usize::from(index))
     }
 
-    /// The name of the register of this number.
+    /// Returns the name of the register with this number.
     pub fn register_name(&self, index: u8) -> Option<&str>
         ensures value { option_map (λ s. s.now) result ≡ slice_get self.now.registers index }
     {
         self.registers.get(usize::from(index))
     }
 
-    /// The node of this name.
+    /// Returns the node with this name.
     pub fn node(&self, name: &str) -> Option<NodeId>
         ensures value { result ≡ node_of self.now name.now }
         ensures within { IfSome result (λ n. n < length self.now.nodes) }
@@ -134,7 +135,7 @@ impl Plan {
         NodeId::of(index as u8)
     }
 
-    /// The number of the register of this name.
+    /// Returns the number of the register with this name.
     pub fn register(&self, name: &str) -> Option<u8>
         ensures value { result ≡ register_of self.now name.now }
         ensures within { IfSome result (λ r. r < length self.now.registers) }

@@ -23,10 +23,16 @@ use mx_stamps::{MOST_NODES, MOST_REGISTERS, MOST_SECTIONS};
 use serde_json::Value;
 use std::alloc::Global;
 
-/// Reads a plan: an object with `algorithm`, `nodes`, `registers`, `sections`, where it is not 0
-/// `origin`, for Maekawa's algorithm `quorums`, and for Raymond's `edges` and `holder`. Other keys
-/// are ignored. The places are checked in the order of `Place`, each first for its form, then for
-/// double names and then for unknown ones; the shape is checked after all places.
+/// Reads a plan: an object with the keys `algorithm`, `nodes`, `registers` and `sections`, and
+/// optionally `origin`, which is 0 by default. Maekawa's algorithm also needs `quorums`, and
+/// Raymond's `edges` and `holder`. Other keys are ignored.
+///
+/// # Errors
+///
+/// Returns `NotJson` if the text is not JSON, and `Memory` if memory runs out. Otherwise returns
+/// the first fault. Places are checked in the order of `Place`, each first for its form
+/// (`NotPlan`), then for double names (`DoubleName`) and unknown ones (`UnknownName`). The shape is
+/// checked after all places (`BadShape`).
 pub fn read_plan(alloc: Global, text: &[u8]) -> Result<Plan, PlanFault>
     ensures answers { spec.IsOutcome (spec.draft_at text.now) result
         ⊎ (result ≡ Err PlanFault.Memory) }
@@ -36,7 +42,7 @@ pub fn read_plan(alloc: Global, text: &[u8]) -> Result<Plan, PlanFault>
     plan_in(alloc, &value)
 }
 
-/// The plan that a value is.
+/// Reads a value as a plan.
 fn plan_in(alloc: Global, value: &Value) -> Result<Plan, PlanFault>
     ensures answers { spec.IsOutcome (spec.draft_of (view value.now)) result
         ⊎ (result ≡ Err PlanFault.Memory) }
@@ -52,7 +58,7 @@ fn plan_in(alloc: Global, value: &Value) -> Result<Plan, PlanFault>
     ))
 }
 
-/// The names of the nodes, and of the registers.
+/// Reads the names of the nodes and of the registers.
 fn both_names(alloc: Global, value: &Value) -> Result<(Names, Names), PlanFault>
     ensures answers { Answers (part.both_names (view value.now)) result }
     ensures nodes { IfOk result (λ names. AreNames MOST_NODES names.0) }
@@ -68,7 +74,7 @@ fn both_names(alloc: Global, value: &Value) -> Result<(Names, Names), PlanFault>
     .map(|registers| (nodes, registers))
 }
 
-/// What a plan says beside its names: its sections, its origin and its shape.
+/// Reads the sections, the origin and the shape of a plan.
 fn setting_in(
     alloc: Global,
     algorithm: Algorithm,
@@ -108,7 +114,7 @@ fn origin_in(value: &Value) -> Result<u64, PlanFault>
     origin.as_u64().ok_or(PlanFault::NotPlan(Place::Origin))
 }
 
-/// The shape of the nodes that a plan for an algorithm asks for.
+/// Reads the shape of the nodes for an algorithm.
 fn shape_in(
     alloc: Global,
     algorithm: Algorithm,

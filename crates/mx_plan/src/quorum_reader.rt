@@ -1,4 +1,4 @@
-//! Reading the sets of arbiters of a plan for Maekawa's algorithm.
+//! Reading the arbiter sets of a plan for Maekawa's algorithm.
 
 ghost use Rattle.std.specs.Prelude.{◌≡◌, ◌*◌, ◌<◌, ◌≤◌, ◌==◌, IfOk, map, option_map, length};
 ghost use Rattle.std.specs.List.{list_all};
@@ -19,7 +19,12 @@ use mx_stamps::MOST_NODES;
 use serde_json::Value;
 use std::alloc::Global;
 
-/// The shape of the sets that the value of the key `quorums` asks for.
+/// Reads the shape from the value of the key `quorums`.
+///
+/// # Errors
+///
+/// Returns `NotPlan` if the value has another form, and `UnknownName` if no node has a name.
+/// Returns `BadShape` if the sets are no family, and `Memory` if memory runs out.
 pub fn quorums_in(alloc: Global, value: Option<&Value>, nodes: &Names) -> Result<Shape, PlanFault>
     requires { AreNames MOST_NODES nodes.now }
     ensures { ShapeAnswers (length nodes.now)
@@ -60,7 +65,7 @@ fn of_kind(alloc: Global, kind: &str, value: &Value, nodes: &Names) -> Result<Sh
     }
 }
 
-/// A grid that has as many places as there are nodes.
+/// Returns a grid with one place for each node.
 fn grid_in(nodes: u8, rows: Option<u64>, cols: Option<u64>) -> Result<Shape, PlanFault>
     requires some { 0 < nodes }
     requires few { nodes ≤ MOST_NODES }
@@ -74,14 +79,14 @@ fn grid_in(nodes: u8, rows: Option<u64>, cols: Option<u64>) -> Result<Shape, Pla
     }
 }
 
-/// Whether a grid has this many places.
+/// Returns whether a grid has this many places.
 fn is_size(nodes: u8, rows: u64, cols: u64) -> bool
     ensures { result ≡ (rows * cols == nodes) }
 {
     rows.checked_mul(cols) == Some(u64::from(nodes))
 }
 
-/// The family of the sets that the value of the key `sets` lists.
+/// Reads the family of the sets that the value of the key `sets` lists.
 fn sets_in(alloc: Global, value: Option<&Value>, nodes: &Names) -> Result<Shape, PlanFault>
     requires { AreNames MOST_NODES nodes.now }
     ensures { ShapeAnswers (length nodes.now)
@@ -93,7 +98,7 @@ fn sets_in(alloc: Global, value: Option<&Value>, nodes: &Names) -> Result<Shape,
     }
 }
 
-/// Whether there is one array of names for each node.
+/// Returns whether there is one array of names for each node.
 fn are_sets(values: &[Value], nodes: usize) -> bool
     ensures { result ≡ spec.are_sets nodes (map view values.now) }
 {
@@ -111,7 +116,7 @@ fn all_name_lists(values: &[Value]) -> bool
     true
 }
 
-/// The family of these arrays of names, one for each node.
+/// Reads the family of these arrays of names, one for each node.
 fn family_of(alloc: Global, values: &[Value], nodes: &Names) -> Result<Shape, PlanFault>
     requires few { length nodes.now ≤ MOST_NODES }
     requires one_each { length values.now ≡ length nodes.now }
@@ -122,7 +127,7 @@ fn family_of(alloc: Global, values: &[Value], nodes: &Names) -> Result<Shape, Pl
     Ok(Shape::listed(nodes.len() as u8, sets.as_slice())?)
 }
 
-/// The nodes of each set, in order.
+/// Reads the nodes of each set, in order.
 fn all_sets(alloc: Global, values: &[Value], nodes: &Names) -> Result<Vec<Vec<u8>>, PlanFault>
     requires { length nodes.now ≤ MOST_NODES }
     ensures sets { spec.GivesSets (each (spec.set_of nodes.now) (map view values.now)) result }

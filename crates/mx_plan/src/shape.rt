@@ -11,19 +11,19 @@ use mx_ricart::Count;
 use mx_stamps::MOST_NODES;
 use mx_trees::Tree;
 
-/// How the nodes of a cluster are bound to one another, by the algorithm that they run.
+/// The shape of a cluster, by the algorithm that its nodes run.
 #[derive(Clone, Copy, Debug, PartialEq, Eq)]
 pub enum Shape {
-    /// Each node asks all others: how many there are.
+    /// Each node asks all others. The number of nodes.
     Ricart(Count),
-    /// Each node asks its arbiters: their sets, of which any two meet.
+    /// Each node asks its arbiters. The arbiter sets: any two sets meet.
     Maekawa(Quorums),
-    /// The privilege moves along the edges of a tree with a holder.
+    /// The privilege moves along the edges of a tree. The tree, with the first holder.
     Raymond(Tree),
 }
 
 impl Shape {
-    /// All of n nodes.
+    /// Creates the shape in which each of n nodes asks all others.
     pub(crate) fn all_others(n: u8) -> Shape
         requires some { 0 < n }
         requires few { n ≤ MOST_NODES }
@@ -32,14 +32,14 @@ impl Shape {
         Shape::Ricart(Count::of(n).unwrap())
     }
 
-    /// The plane of n nodes.
+    /// Creates the plane of n nodes.
     pub(crate) fn plane(n: u8) -> Result<Shape, ShapeFault>
         ensures { IsShaped n shape_planned.plane result }
     {
         Ok(Shape::Maekawa(Quorums::plane(n)?))
     }
 
-    /// The grid of n nodes that has these rows and columns.
+    /// Creates the grid of n nodes with these rows and columns.
     pub(crate) fn grid(n: u8, rows: u8, cols: u8) -> Result<Shape, ShapeFault>
         requires some { 0 < n }
         requires few { n ≤ MOST_NODES }
@@ -49,7 +49,7 @@ impl Shape {
         Ok(Shape::Maekawa(Quorums::grid(rows, cols)?))
     }
 
-    /// The family of these sets, one for each of n nodes.
+    /// Creates the family of these sets, one for each of n nodes.
     pub(crate) fn listed(n: u8, sets: &[Vec<u8>]) -> Result<Shape, ShapeFault>
         requires { length sets.now ≡ n }
         ensures { IsShaped n (shape_planned.listed (lists_of sets.now)) result }
@@ -57,7 +57,7 @@ impl Shape {
         Ok(Shape::Maekawa(Quorums::listed(sets)?))
     }
 
-    /// The tree of n nodes with these edges and this holder.
+    /// Creates the tree of n nodes with these edges and this holder.
     pub(crate) fn tree(n: u8, edges: &[(u8, u8)], holder: u8) -> Result<Shape, ShapeFault>
         ensures { IsShaped n (shape_planned.tree edges.now holder) result }
     {

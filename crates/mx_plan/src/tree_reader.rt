@@ -18,7 +18,12 @@ use mx_stamps::MOST_NODES;
 use serde_json::Value;
 use std::alloc::Global;
 
-/// The shape of the tree that a plan asks for.
+/// Reads the shape of a tree from the keys `edges` and `holder`.
+///
+/// # Errors
+///
+/// Returns `NotPlan` if a value has another form, and `UnknownName` if no node has a name. Returns
+/// `BadShape` if the edges and the holder are no tree, and `Memory` if memory runs out.
 pub fn tree_in(alloc: Global, plan: &Value, nodes: &Names) -> Result<Shape, PlanFault>
     requires { AreNames MOST_NODES nodes.now }
     ensures { ShapeAnswers (length nodes.now) (tree_of nodes.now (view plan.now)) result }
@@ -28,7 +33,8 @@ pub fn tree_in(alloc: Global, plan: &Value, nodes: &Names) -> Result<Shape, Plan
     Ok(Shape::tree(nodes.len() as u8, edges.as_slice(), holder)?)
 }
 
-/// The edges that the value of a key lists. Their form is checked first, and then their names.
+/// Reads the edges that the value of a key lists. Their form is checked first, and then their
+/// names.
 fn edges_in(alloc: Global, value: Option<&Value>, nodes: &Names) -> Result<Vec<(u8, u8)>, PlanFault>
     requires { length nodes.now ≤ MOST_NODES }
     ensures { Gives (spec.edges_of nodes.now (option_map (λ v. view v.now) value.entry)) result }
@@ -50,7 +56,7 @@ fn all_edges(values: &[Value]) -> bool
     true
 }
 
-/// Whether a value is an array of two names.
+/// Returns whether a value is an array of two names.
 #[tactic(auto, unfolding(crate::specs::TreeKeys::is_edge))]
 fn is_edge(value: &Value) -> bool
     ensures { result ≡ spec.is_edge (view value.now) }
@@ -73,7 +79,7 @@ fn each_edge(alloc: Global, values: &[Value], nodes: &Names) -> Result<Vec<(u8, 
     Ok(edges)
 }
 
-/// The nodes that an edge joins.
+/// Returns the nodes that an edge joins.
 fn edge_in(value: &Value, nodes: &Names) -> Result<(u8, u8), PlanFault>
     requires { length nodes.now ≤ MOST_NODES }
     ensures { result ≡ spec.edge_of nodes.now (view value.now) }
@@ -88,7 +94,7 @@ fn edge_in(value: &Value, nodes: &Names) -> Result<(u8, u8), PlanFault>
     }
 }
 
-/// The node that the value of a key names.
+/// Returns the node that the value of a key names.
 fn holder_in(value: Option<&Value>, nodes: &Names) -> Result<u8, PlanFault>
     requires { length nodes.now ≤ MOST_NODES }
     ensures { result ≡ spec.holder_of nodes.now (option_map (λ v. view v.now) value.entry) }

@@ -8,7 +8,11 @@ use crate::faults::PlanFault;
 use serde_json::Value;
 use std::alloc::Global;
 
-/// The value of a text.
+/// Parses a text.
+///
+/// # Errors
+///
+/// Returns `NotJson` if it is not valid JSON in UTF-8, and `Memory` if memory runs out.
 #[tactic(auto, unfolding(crate::specs::Values::value_of))]
 pub fn parse(alloc: Global, text: &[u8]) -> Result<Value, PlanFault>
     ensures ok { IfOk result (λ v. spec.value_of text.now ≡ Some (view v)) }
@@ -22,7 +26,7 @@ pub fn parse(alloc: Global, text: &[u8]) -> Result<Value, PlanFault>
     }
 }
 
-/// The elements of an array.
+/// Returns the elements of an array, or `None` for any other value.
 pub fn elements(value: &Value) -> Option<&[Value]>
     ensures { option_map (λ vs. map view vs.now) result ≡ spec.elements (view value.now) }
 {
@@ -32,7 +36,7 @@ pub fn elements(value: &Value) -> Option<&[Value]>
     }
 }
 
-/// The elements of the value of a key, where the key is there and its value is an array.
+/// Returns the elements of the value of a key, if the key is there and its value is an array.
 pub fn array_in<'a>(value: Option<&'a Value>) -> Option<&'a [Value]>
     ensures { option_map (λ vs. map view vs.now) result
         ≡ spec.array_of (option_map (λ v. view v.now) value.entry) }
@@ -43,7 +47,7 @@ pub fn array_in<'a>(value: Option<&'a Value>) -> Option<&'a [Value]>
     }
 }
 
-/// The elements of an array, none where the value is no array.
+/// Returns the elements of an array, or an empty slice for any other value.
 pub fn list_in(value: &Value) -> &[Value]
     ensures { map view result.now ≡ spec.list_in (view value.now) }
 {
@@ -53,14 +57,14 @@ pub fn list_in(value: &Value) -> &[Value]
     }
 }
 
-/// The text of a string, or an empty one.
+/// Returns the text of a string, or an empty text for any other value.
 pub fn text_in(value: &Value) -> &str
     ensures { result.now ≡ spec.text_of (view value.now) }
 {
     value.as_str().unwrap_or("")
 }
 
-/// The value of a key, where the key is there and its value is a whole number.
+/// Returns the value of a key, if the key is there and its value is a whole number.
 pub fn number_in(value: Option<&Value>) -> Option<u64>
     ensures { result ≡ spec.number_of (option_map (λ v. view v.now) value.entry) }
 {

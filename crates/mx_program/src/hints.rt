@@ -1,11 +1,11 @@
-//! What a reader at a terminal is told besides: which command says where a fault is, and why.
+//! The hint for a reader at a terminal: the command that shows the place of a fault, and why.
 
 use mx_cli::put_line;
 use mx_io::Output;
 use std::alloc::Global;
 use std::fmt;
 
-/// The options that have a value behind them.
+/// The options with a value after them.
 const VALUED: &[&str] = &[
     "--node",
     "--seed",
@@ -15,7 +15,7 @@ const VALUED: &[&str] = &[
     "--settle",
 ];
 
-/// The command that explains these words: `explain` with the files that they name.
+/// The command that explains these arguments: `explain` with the files in them.
 #[derive(Clone, Copy)]
 struct Hint<'a>(&'a [&'a str]);
 
@@ -33,8 +33,9 @@ impl fmt::Display for Hint<'_> {
     }
 }
 
-/// Tells which command says where the fault of these words is, and why. Of a file that was standard
-/// input, and of a command whose files `explain` does not read, nothing is told.
+/// Writes the command that shows the place and the reason of the fault of these arguments. Writes
+/// nothing for a file that was standard input, and for a command whose files `explain` does not
+/// read.
 pub(crate) fn tell_hint<E: Output>(alloc: Global, words: &[&str], err: &mut E) {
     let Some((command, names)) = words.split_first() else {
         return;

@@ -1,18 +1,18 @@
-//! Files and standard input, each of which is read once.
+//! Files and standard input, each read once.
 
 use mx_explain::Reasons;
 use mx_io::{Refusal, Source, SourceFault, Streams, read_name};
 use std::alloc::Global;
 use std::rt::Files;
 
-/// What was read under a name, or why that was refused.
+/// The bytes of a name, or why it cannot be read.
 #[derive(Drop)]
 struct Entry {
     name: String,
     bytes: Result<Vec<u8>, &'static str>,
 }
 
-/// Files and standard input that can be read again: what was read first is kept.
+/// Files and standard input that can be read again: the bytes read first are stored.
 #[derive(Drop)]
 pub(crate) struct Kept<'a, R: Files + Input> {
     streams: Streams<'a, R>,

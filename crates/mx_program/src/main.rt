@@ -1,5 +1,5 @@
-//! `mx`, the program: it hands the words, the files and the streams of the process to the function
-//! that the first word names, and to `command` where it names none of the others.
+//! `mx`, the program. It passes the arguments, files and streams of the process to the function
+//! that the first argument names, and to `command` if it names none of the others.
 #![tactic(auto)]
 
 mod hints;
@@ -25,8 +25,8 @@ use std::process::ExitCode;
 use std::rt::{Clock, Env, Files};
 use std::thread::Threads;
 
-/// Runs a command line over the files and threads of the process and two outputs. Returns the
-/// status.
+/// Runs a command line over the files and threads of the process and two outputs, and returns the
+/// exit status.
 fn carry_out<R: Files + Clock + Input + AllocGlobal + Threads, O: Output, E: Output>(
     rt: &R,
     words: &[&str],
@@ -54,7 +54,7 @@ where
     }
 }
 
-/// The lines of standard input, as they are typed or come through a pipe.
+/// Returns the lines of standard input, as they are typed or come through a pipe.
 fn typed_lines<R: Input>(rt: &R) -> Typed<R::Reader>
 where
     R::Reader: IsTerminal,
@@ -64,8 +64,12 @@ where
     Typed::new(reader, is_terminal)
 }
 
-/// Runs the command line of the process. If its files are at fault, a reader at a terminal is told
-/// which command explains it. An `Err` means that memory ran out, or that an argument is not UTF-8.
+/// Runs the command line of the process. If its files have a fault, a hint on standard error names
+/// the command that explains it, for a reader at a terminal.
+///
+/// # Errors
+///
+/// Returns an error if memory runs out, or if an argument is not valid UTF-8.
 fn run_words<
     R: Files + Env + Clock + Input + AllocGlobal + Threads,
     O: Write + Drop,
@@ -87,7 +91,8 @@ where
     Ok(status)
 }
 
-/// The words, of which `help` is `--help`, and `help` before a command its option `--help`.
+/// Replaces the argument `help` by `--help`, and `help` before a command by the option `--help` of
+/// that command.
 fn with_help(mut words: Vec<&str>) -> Result<Vec<&str>, AllocError> {
     if words.is_empty() || first_of(words.as_slice()) != "help" {
         return Ok(words);
@@ -97,7 +102,7 @@ fn with_help(mut words: Vec<&str>) -> Result<Vec<&str>, AllocError> {
     Ok(words)
 }
 
-/// The first word, or nothing where there is none.
+/// Returns the first argument, or an empty text if there is none.
 fn first_of<'a>(words: &[&'a str]) -> &'a str {
     match words.first() {
         Some(word) => word,
@@ -105,7 +110,7 @@ fn first_of<'a>(words: &[&'a str]) -> &'a str {
     }
 }
 
-/// Whether one of the words says how a replay is to be shown.
+/// Returns whether an argument chooses how a replay is shown.
 fn is_view(words: &[&str]) -> bool {
     words.iter().any(|word| {
         *word == "--quiet" || *word == "--json" || *word == "--state" || word.starts_with("--node")
@@ -124,7 +129,7 @@ fn is_walk(words: &[&str]) -> bool {
         || words.iter().any(|word| word.starts_with("--loss") || word.starts_with("--repeat"))
 }
 
-/// Whether this is among the words.
+/// Returns whether this is among the arguments.
 fn has_word(words: &[&str], wanted: &str) -> bool {
     words.iter().any(|word| *word == wanted)
 }

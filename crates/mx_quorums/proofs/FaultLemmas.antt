@@ -1,4 +1,4 @@
--- At most one fault is the first, and where there is a first fault the lists are no meeting family.
+-- At most one fault is the first, and lists with a first fault are no meeting family.
 use Rattle.std.proofs.Common.{ℕ, ◌<◌, ◌≡◌, ◌↔◌, Bool, List, length, refl, sym, ◌∙◌, ap, subst, arith, find, nat_le, Ok, Err, Result, IsOk, IfOk, IsErrOf, IsErrAnd}
 use Rattle.std.proofs.lemmas.Option.{same_Some}
 use Rattle.mx_quorums.specs.Family.{Family, IsMeeting}
@@ -15,7 +15,7 @@ least_same P n i j a b =
     let not_above : i < j → ⊥ = λ h. b.2 i h a.1 in
     omega (arith, not_below, not_above)
 
--- the least of what is equally true
+-- the least number for which two equivalent properties hold is the same
 pub least_along : (P Q : ℕ → Type 0) (n i : ℕ) → ((k : ℕ) → P k → Q k) → ((k : ℕ) → Q k → P k)
     → IsLeast P n i → IsLeast Q n i
 least_along P Q n i there back a = (a.0, there i a.1, (λ k lt q. a.2 k lt (back k q)))
@@ -34,7 +34,7 @@ level (NoPlane n) = 6
 stranger_breaks : (lists : List (List ℕ)) (i j : ℕ) → IsFirstStranger lists i j → AllNodes lists → ⊥
 stranger_breaks lists i j a all = let w = a.0.1 in let below : w.0 < length lists = all i w.0 a.0.0 w.1 in omega (arith, w.2)
 
--- a fault is not the first where an earlier one is
+-- a fault is not the first if there is an earlier one
 earlier : (lists : List (List ℕ)) (f g : QuorumFault) → level f < level g → IsFirstFault lists f
     → IsFirstFault lists g → ⊥
 unfolding level
@@ -56,7 +56,7 @@ earlier lists (NotOwnMember k) (Apart i j) lt a b = a.3.1 (b.3 k a.3.0)
 earlier lists f (NoPlane n) lt a b = b
 earlier lists f g lt a b = omega arith
 
--- faults at one place in the order are one
+-- faults at the same place in the order are equal
 same_level : (lists : List (List ℕ)) (f g : QuorumFault) → level f ≡ level g → IsFirstFault lists f
     → IsFirstFault lists g → f ≡ g
 unfolding level
@@ -93,13 +93,13 @@ no_fault lists (NotOwnMember i) m a = a.3.1 (m.own i a.3.0)
 no_fault lists (Apart i j) m a = a.4.1.1 (m.meet i j a.4.0.0 a.4.1.0)
 no_fault lists (NoPlane n) m a = a
 
--- what a list's answer says: the family where the lists meet, and else the first fault
+-- what the result for lists says: the family if the lists meet, and otherwise the first fault
 pub record Answers (lists : List (List ℕ)) (r : Result Family QuorumFault) : Type 0 where
   pub ok : IsOk r ↔ AreMeeting lists
   pub sets : IfOk r (IsFamilyOf lists)
   pub fault : (f : QuorumFault) → IsErrOf r f ↔ IsFirstFault lists f
 
--- an error is one fault
+-- two faults of the same error are equal
 same_err : (f g : QuorumFault) (r : Result Family QuorumFault) → r ≡ Err f → r ≡ Err g → f ≡ g
 same_err f g r a b = cc
 
@@ -134,7 +134,7 @@ row_fault lists rows counted filled nodes same (Apart i j) (own, first) =
     (counted, filled, nodes, (λ k lt. (same k k).0 (own k lt)), (node, other))
 row_fault lists rows counted filled nodes same _ a = absurd a
 
--- the answer of the check of rows that show the lists
+-- the result of the check, for rows that mark the lists
 checked_whole : (lists : List (List ℕ)) (rows : List (List Bool)) → IsCounted lists → NoneEmpty lists
     → AllNodes lists → MarksLists rows lists → (r : Result Family QuorumFault)
     → IsChecked (length lists) rows r → Answers lists r
@@ -150,14 +150,14 @@ checked_whole lists rows counted filled nodes same (Ok q) (is, met) =
     } in
     subst (λ x. Answers lists (Ok x)) (sym is) (accepted lists (record { count = length lists; rows = rows }) all (record { count = refl; sets = same }))
 
--- the same at the number that was counted
+-- the same for the number that was counted
 pub checked_answers : (lists : List (List ℕ)) (n : ℕ) (rows : List (List Bool)) → n ≡ length lists
     → IsCounted lists → NoneEmpty lists → AllNodes lists → MarksLists rows lists
     → (r : Result Family QuorumFault) → IsChecked n rows r → Answers lists r
 checked_answers lists n rows e counted filled nodes same r a =
     checked_whole lists rows counted filled nodes same r (subst (λ (m : ℕ). IsChecked m rows r) e a)
 
--- what is refused, where the fault is the first
+-- what is refused, if the fault is the first
 pub refused_by : (lists : List (List ℕ)) (f : QuorumFault) (r : Result Family QuorumFault)
     → IsErrAnd r (λ e. e ≡ f) → IsFirstFault lists f → Answers lists r
 refused_by lists f (Err e) is a = subst (λ g. Answers lists (Err g)) (sym is) (refused lists f a)

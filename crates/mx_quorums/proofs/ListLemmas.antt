@@ -64,7 +64,7 @@ found p (y ∷ ys) x h =
           (inr rest.0, rest.1)
     ]
 
--- where `find` finds nothing, nothing in the list passes the test
+-- if `find` finds nothing, nothing in the list passes the test
 pub not_found : (p : ℕ → Bool) (xs : List ℕ) (x : ℕ) → find p xs ≡ None → IsIn x xs → p x ≡ false
 not_found p [] x h here = absurd here
 not_found p (y ∷ ys) x h here =
@@ -92,7 +92,7 @@ listed_within [] i j h = absurd h
 listed_within (xs ∷ rest) zero j h = omega arith
 listed_within (xs ∷ rest) (suc i) j h = let k : i < length rest = listed_within rest i j h in omega arith
 
--- the first member that is no node, where the lists before have none
+-- the first member that is no node, if the lists before have none
 pub first_stranger_at : (lists : List (List ℕ)) (n i j : ℕ) → n ≡ length lists → i < length lists
     → ((k : ℕ) → k < i → (m : ℕ) → IsListed lists k m → m < n)
     → find (nat_le n) (list_of lists i) ≡ Some j → IsFirstStranger lists i j
@@ -101,6 +101,6 @@ first_stranger_at lists n i j e lt before h =
     let above : n ≤ j = grind (arith, nat_tests, there.1) in
     ((lt, (j, there.0, omega arith), (λ k below w. let less : w.0 < n = before k below w.0 w.1 in omega (arith, w.2))), subst (λ m. find (nat_le m) (list_of lists i) ≡ Some j) e h)
 
--- where nothing is found, each member is a node
+-- if nothing is found, each member is a node
 pub all_below : (n : ℕ) (xs : List ℕ) (j : ℕ) → find (nat_le n) xs ≡ None → IsIn j xs → j < n
 all_below n xs j h here = let fails : nat_le n j ≡ false = not_found (nat_le n) xs j h here in grind (arith, nat_tests, fails)

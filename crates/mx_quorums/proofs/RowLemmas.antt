@@ -1,4 +1,4 @@
--- Rows of marks: where nothing is marked, and what one more write does.
+-- Rows of marks: rows without marks, and the effect of one more write.
 use Rattle.std.proofs.Common.{ℕ, zero, suc, ◌+◌, ◌<◌, ◌≡◌, ◌⊎◌, inl, inr, ◌↔◌, Bool, true, false, List, [], ◌∷◌, length, get_or, set, replicate, refl, sym, subst, arith, ◌≤◌, Option, Some, None, MatchOption, IsSome}
 use Rattle.std.proofs.lemmas.List.{get_or-set_same, get_or-set_other, length-set}
 use Rattle.mx_stamps.proofs.Lists.{dec_eq, get_or_replicate}
@@ -22,7 +22,8 @@ none_in_rows zero m i j h = cc
 none_in_rows (suc n) m zero j h = none_marked m j h
 none_in_rows (suc n) m (suc i) j h = none_in_rows n m i j h
 
--- what holds of the elements below i, and of no other, holds of those below i + 1 after a write of a fitting element at i
+-- what holds for the elements below i only, holds for those below i + 1 only after a write of a
+-- fitting element at i
 pub one_more : {X : Type 0} (Q : X → Type 0) (d : X) (P : ℕ → Type 0) (xs : List X) (i : ℕ) (x : X)
     → i < length xs → ((k : ℕ) → Q (get_or xs k d) ↔ ((k < i) × P k)) → Q x ↔ P i → (k : ℕ)
     → Q (get_or (set xs i x) k d) ↔ ((k < i + 1) × P k)
@@ -36,7 +37,7 @@ one_more Q d P xs i x lt before here k = elim (dec_eq k i) [
       ((λ h. let b = (before k).0 (subst Q other h) in (omega (arith, b.0), b.1)), (λ p. subst Q (sym other) ((before k).1 (omega (arith, p.0, ne), p.1))))
 ]
 
--- the rows below i mark what P says of them, and the others mark nothing
+-- the rows below i mark what P says about them, and the others mark nothing
 pub record AreRowsBelow (P : ℕ → ℕ → Type 0) (i : ℕ) (rows : List (List Bool)) : Type 0 where
   pub long : length rows ≡ 21
   pub marks : (k j : ℕ) → IsMember rows k j ↔ ((k < i) × P k j)
@@ -82,7 +83,7 @@ pub rows_meet : (n : ℕ) (rows : List (List Bool)) → 0 < n → n ≤ 21 → M
     → IsMeeting (record { count = n; rows = rows })
 rows_meet n rows some few marks own meet = record { some = some; few = few; own = own; nodes = λ i j lt h. (marks i j h).1; meet = meet }
 
--- the search for a common node finds one where there is one
+-- the search for a common node finds one if there is one
 pub finds_common : (a b : List Bool) (r : Option ℕ)
     → MatchOption r ((k : ℕ) → BothMark a b k → ⊥) (λ k. IsLeast (BothMark a b) 21 k)
     → (k : ℕ) × IsMarked a k × IsMarked b k → IsSome r

@@ -1,8 +1,8 @@
--- A family of arbiter sets of which any two meet (Maekawa 1985).
+-- A family of arbiter sets: any two sets meet (Maekawa 1985).
 use Rattle.std.specs.Prelude.{ℕ, ◌<◌, ◌≤◌, ◌≡◌, Bool, true, false, List, [], slice_index_or}
 use Rattle.mx_stamps.specs.declared.limits.TheConstants.{MOST_NODES}
 
--- how many nodes there are, and for each node a row that marks the nodes of its set
+-- the number of nodes, and for each node a row that marks the nodes of its set
 pub record Family : Type 0 where
   pub count : ℕ
   pub rows : List (List Bool)
@@ -14,7 +14,7 @@ row_of f i = slice_index_or f.rows i []
 abbrev pub has_of : Family → ℕ → ℕ → Bool
 has_of f i j = slice_index_or (row_of f i) j false
 
--- any two sets meet, and each has nodes alone and its own node
+-- any two sets meet, and each contains only nodes, and its own node
 pub record IsMeeting (f : Family) : Type 0 where
   pub some : 0 < f.count
   pub few : f.count ≤ MOST_NODES

@@ -1,5 +1,5 @@
--- Family: what a `Quorums` is. Rules: the rules of meeting sets, and the first that is broken.
--- Lists, Shapes: families by lists, grids and planes. Rows: how the sets are kept.
+-- Family: the family in a `Quorums`. Rules: the rules of meeting sets, and the first broken rule.
+-- Lists, Shapes: families by lists, grids and planes. Rows: the sets as rows of marks.
 pub mod Family
 pub mod Rules
 pub mod Lists

@@ -1,4 +1,4 @@
--- Sets that are given as lists of members.
+-- Sets given as lists of members.
 use Rattle.std.specs.Prelude.{ℕ, ◌<◌, ◌≤◌, ◌≡◌, ◌≢◌, ◌⊎◌, ◌↔◌, true, List, [], map, length, slice_index_or, nat_le, find, Some, Vec}
 use Rattle.std.specs.declared.alloc.Global.{Global}
 use Rattle.mx_stamps.specs.declared.limits.TheConstants.{MOST_NODES}
@@ -12,7 +12,7 @@ use Rattle.mx_quorums.specs.declared.fault.QuorumFault.TheVariants.{NoNodes, Too
 abbrev pub lists_of : List (Vec ℕ Global) → List (List ℕ)
 lists_of vectors = map (λ v. v.items) vectors
 
--- the list of node i, empty where there is no such node
+-- the list of node i, empty if there is no such node
 abbrev pub list_of : List (List ℕ) → ℕ → List ℕ
 list_of lists i = slice_index_or lists i []
 

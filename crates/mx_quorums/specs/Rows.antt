@@ -1,4 +1,4 @@
--- Sets that are kept as rows of marks, one for each node.
+-- Sets as rows of marks, one for each node.
 use Rattle.std.specs.Prelude.{ℕ, ◌<◌, ◌≡◌, ◌↔◌, Bool, true, false, List, [], slice_index_or, Result, MatchResult}
 use Rattle.mx_stamps.specs.Lists.{IsIn}
 use Rattle.mx_quorums.specs.Family.{Family, IsMeeting}
@@ -36,7 +36,7 @@ IsFirstRowFault n rows (NotOwnMember i) = IsFirstNotOwn (IsMember rows) n i
 IsFirstRowFault n rows (Apart i j) = AllOwn (IsMember rows) n × IsFirstApart (IsMember rows) n i j
 IsFirstRowFault n rows _ = ⊥
 
--- the answer of the check: the family of the rows, which meet, or the first fault
+-- the result of the check: the family of the rows, which meet, or the first fault
 abbrev pub IsChecked : ℕ → List (List Bool) → Result Family QuorumFault → Type 0
 IsChecked n rows r =
     MatchResult r

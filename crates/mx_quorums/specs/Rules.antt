@@ -1,7 +1,7 @@
--- The rules for the sets of n nodes, where `In i j` says that node j is in the set of node i.
+-- The rules for the sets of n nodes. `In i j` says that node j is in the set of node i.
 use Rattle.std.specs.Prelude.{ℕ, ◌<◌}
 
--- i is the least number below n of which P is true
+-- i is the least number below n for which P holds
 abbrev pub IsLeast : (ℕ → Type 0) → ℕ → ℕ → Type 0
 IsLeast P n i = (i < n) × P i × ((k : ℕ) → k < i → P k → ⊥)
 

@@ -3,7 +3,7 @@ use Rattle.std.specs.Prelude.{ℕ, ◌+◌, ◌*◌, ◌/◌, ◌%◌, ◌<◌, 
 use Rattle.mx_stamps.specs.Lists.{IsIn}
 use Rattle.mx_quorums.specs.Family.{Family, has_of}
 
--- two nodes are in one row, or in one column
+-- two nodes are in the same row or in the same column
 abbrev pub ShareLine : ℕ → ℕ → ℕ → Type 0
 ShareLine cols i j = (i / cols ≡ j / cols) ⊎ (i % cols ≡ j % cols)
 

@@ -8,13 +8,17 @@ ghost use Rattle.mx_quorums.specs.Lists.{IsCountFault};
 use crate::fault::QuorumFault;
 use mx_stamps::{MOST_NODES, NodeId};
 
-/// The members of a set, by node.
+/// The members of a set: for each node, whether it is in the set.
 pub type Row = [bool; MOST_NODES as usize];
 
-/// The set of each node. The rows past the last node are empty.
+/// The set of each node. The rows after the last node are empty.
 pub type Rows = [Row; MOST_NODES as usize];
 
-/// Checks that the number of nodes is from 1 to 21.
+/// Checks that the number of nodes is from 1 to 21, and returns it.
+///
+/// # Errors
+///
+/// Returns `NoNodes` if it is 0, and `TooMany` if it is above 21.
 pub fn node_count(count: usize) -> Result<u8, QuorumFault>
     ensures { MatchResult result
         (λ n. (n ≡ count) × (0 < n) × (n ≤ MOST_NODES))
@@ -27,7 +31,7 @@ pub fn node_count(count: usize) -> Result<u8, QuorumFault>
     }
 }
 
-/// The least node that is in both sets.
+/// Returns the least node that is in both sets.
 pub fn first_common(a: &Row, b: &Row) -> Option<NodeId>
     ensures { MatchOption result
         ((k : ℕ) → BothMark a.now b.now k → ⊥)
@@ -41,7 +45,7 @@ pub fn first_common(a: &Row, b: &Row) -> Option<NodeId>
     None
 }
 
-/// The least node whose set has no node in common with that of node i.
+/// Returns the least node whose set has no node in common with that of node i.
 fn first_apart(nodes: u8, rows: &Rows, i: u8) -> Option<u8>
     requires few { nodes ≤ MOST_NODES }
     requires node { i < nodes }
@@ -58,6 +62,10 @@ fn first_apart(nodes: u8, rows: &Rows, i: u8) -> Option<u8>
 }
 
 /// Checks that each node is in its own set.
+///
+/// # Errors
+///
+/// Returns `NotOwnMember` with the least node that is not.
 fn check_own(nodes: u8, rows: &Rows) -> Result<(), QuorumFault>
     requires { nodes ≤ MOST_NODES }
     ensures { MatchResult result
@@ -73,6 +81,10 @@ fn check_own(nodes: u8, rows: &Rows) -> Result<(), QuorumFault>
 }
 
 /// Checks that any two sets meet.
+///
+/// # Errors
+///
+/// Returns `Apart` with the least pair of nodes whose sets do not meet.
 fn check_pairs(nodes: u8, rows: &Rows) -> Result<(), QuorumFault>
     requires few { nodes ≤ MOST_NODES }
     requires own { AllOwn (IsMember rows.now) nodes }
@@ -89,6 +101,11 @@ fn check_pairs(nodes: u8, rows: &Rows) -> Result<(), QuorumFault>
 }
 
 /// Checks that each node is in its own set, and that any two sets meet.
+///
+/// # Errors
+///
+/// Returns `NotOwnMember` with the least node that is not in its own set. Otherwise returns `Apart`
+/// with the least pair of nodes whose sets do not meet.
 pub fn check(nodes: u8, rows: &Rows) -> Result<(), QuorumFault>
     requires { nodes ≤ MOST_NODES }
     ensures { MatchResult result

@@ -1,9 +1,9 @@
-//! Why some sets are not accepted as a family of arbiter sets.
+//! Why sets are no family of arbiter sets.
 
 use thiserror::Error;
 
-/// The first rule that sets of arbiters break, in this order. The numbers are of nodes, by their
-/// place in the list of sets.
+/// The first rule that the sets of arbiters break, in this order. The numbers are those of nodes:
+/// their places in the list of sets.
 #[derive(Clone, Copy, Debug, PartialEq, Eq, Error)]
 pub enum QuorumFault {
     /// There is no node.
@@ -26,7 +26,7 @@ pub enum QuorumFault {
     /// first and then by the second.
     #[error("apart {0} {1}")]
     Apart(u8, u8),
-    /// No plane of this many nodes is known here.
+    /// No plane of this number of nodes is known here.
     #[error("no plane {0}")]
     NoPlane(u8),
 }

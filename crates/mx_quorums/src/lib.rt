@@ -1,4 +1,4 @@
-//! Sets of arbiters of which any two meet (Maekawa 1985).
+//! Families of arbiter sets: any two sets meet (Maekawa 1985).
 #![tactic(auto)]
 
 mod check;

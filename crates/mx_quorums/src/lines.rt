@@ -7,7 +7,7 @@ ghost use Rattle.mx_quorums.specs.Shapes.{ShareLine, IsInLine};
 use crate::check::{Row, Rows};
 use mx_stamps::MOST_NODES;
 
-/// Whether nodes i and j are in one row, or in one column.
+/// Returns whether nodes i and j are in the same row or in the same column.
 fn share_line(cols: u8, i: u8, j: u8) -> bool
     requires { 0 < cols }
     ensures { IsTrue result ↔ ShareLine cols i j }
@@ -15,7 +15,7 @@ fn share_line(cols: u8, i: u8, j: u8) -> bool
     i / cols == j / cols || i % cols == j % cols
 }
 
-/// The row and the column of node i.
+/// Returns the row and the column of node i, as one set.
 fn lines_of(nodes: u8, cols: u8, i: u8) -> Row
     requires few { nodes ≤ MOST_NODES }
     requires some { 0 < cols }
@@ -28,7 +28,7 @@ fn lines_of(nodes: u8, cols: u8, i: u8) -> Row
     row
 }
 
-/// The row and the column of each node.
+/// Returns the row and the column of each node.
 pub fn grid_rows(nodes: u8, cols: u8) -> Rows
     requires few { nodes ≤ MOST_NODES }
     requires some { 0 < cols }

@@ -1,4 +1,4 @@
-//! Sets that are given as lists of members.
+//! Sets given as lists of members.
 
 ghost use Rattle.std.specs.Prelude.{◌≡◌, ℕ, ◌<◌, ◌≤◌, ◌↔◌, MatchResult, find, nat_le, length};
 ghost use Rattle.mx_quorums.specs.Lists.{lists_of, list_of, IsListed, NoneEmpty, AllNodes, IsFirstEmpty, IsFirstStranger, IsEmptyFault, IsStrangerFault};
@@ -10,6 +10,10 @@ use crate::fault::QuorumFault;
 use mx_stamps::MOST_NODES;
 
 /// Checks that no set is empty.
+///
+/// # Errors
+///
+/// Returns `EmptySet` with the least node whose set is empty.
 pub fn check_filled(sets: &[Vec<u8>]) -> Result<(), QuorumFault>
     requires { length sets.now ≤ MOST_NODES }
     ensures { MatchResult result
@@ -24,7 +28,7 @@ pub fn check_filled(sets: &[Vec<u8>]) -> Result<(), QuorumFault>
     Ok(())
 }
 
-/// The first member that is no node.
+/// Returns the first member that is no node.
 fn first_stranger(set: &[u8], nodes: u8) -> Option<u8>
     ensures { result ≡ find (nat_le nodes) set.now }
 {
@@ -32,6 +36,11 @@ fn first_stranger(set: &[u8], nodes: u8) -> Option<u8>
 }
 
 /// Checks that each member is a node.
+///
+/// # Errors
+///
+/// Returns `Stranger` with the least node whose list has a member that is no node, and the first
+/// such member.
 pub fn check_members(sets: &[Vec<u8>], nodes: u8) -> Result<(), QuorumFault>
     requires count { nodes ≡ length sets.now }
     requires few { length sets.now ≤ MOST_NODES }
@@ -47,7 +56,7 @@ pub fn check_members(sets: &[Vec<u8>], nodes: u8) -> Result<(), QuorumFault>
     Ok(())
 }
 
-/// The row that marks the nodes of a list.
+/// Returns the row that marks the nodes of a list.
 fn row_of(set: &[u8]) -> Row
     requires { (j : ℕ) → IsIn j set.now → j < MOST_NODES }
     ensures { Marks result set.now }
@@ -59,7 +68,7 @@ fn row_of(set: &[u8]) -> Row
     row
 }
 
-/// The rows that mark the nodes of each list.
+/// Returns the rows that mark the nodes of each list.
 pub fn rows_of(sets: &[Vec<u8>]) -> Rows
     requires few { length sets.now ≤ MOST_NODES }
     requires nodes { AllNodes (lists_of sets.now) }

@@ -15,8 +15,8 @@ use crate::shifts::{differences, plane_rows};
 use mx_stamps::{MOST_NODES, NodeId};
 use std::marker::Model;
 
-/// For each of 1 to 21 nodes the set of its arbiters. Each node is in its own set, and any two sets
-/// meet.
+/// A family of arbiter sets, one for each of 1 to 21 nodes. Each node is in its own set, and any
+/// two sets meet (Maekawa 1985).
 #[derive(Clone, Copy, Debug, PartialEq, Eq)]
 pub struct Quorums {
     nodes: u8,
@@ -37,9 +37,13 @@ impl Model for Quorums {
 }
 
 impl Quorums {
-    /// The family whose sets are these lists of nodes, one for each node, in order. A member that
-    /// is listed twice counts once. Lists that are no family are refused for the first rule that
-    /// they break, in the order of `QuorumFault`.
+    /// Creates a family from lists of nodes, one for each node, in order. A member that is listed
+    /// twice counts once.
+    ///
+    /// # Errors
+    ///
+    /// Returns the first rule that the lists break, in the order of `QuorumFault`, with its least
+    /// witness.
     pub fn listed(sets: &[Vec<u8>]) -> Result<Quorums, QuorumFault>
         ensures ok { IsOk result ↔ AreMeeting (lists_of sets.now) }
         ensures sets { IfOk result (λ family. IsFamilyOf (lists_of sets.now) family) }
@@ -53,8 +57,12 @@ impl Quorums {
         Quorums::checked(nodes, rows_of(sets))
     }
 
-    /// A grid of nodes, row by row: node `r * cols + c` has row r and column c, and its set is its
-    /// row and its column. A grid of no node or of more than 21 is refused.
+    /// Creates a grid of nodes, row by row. Node `r * cols + c` is in row r and column c, and its
+    /// set is its row and its column.
+    ///
+    /// # Errors
+    ///
+    /// Returns `NoNodes` if the grid has no node, and `TooMany` if it has more than 21.
     pub fn grid(rows: u8, cols: u8) -> Result<Quorums, QuorumFault>
         ensures ok { IsOk result ↔ ((0 < rows * cols) × (rows * cols ≤ MOST_NODES)) }
         ensures sets { IfOk result (λ family. IsGrid rows cols family) }
@@ -65,9 +73,12 @@ impl Quorums {
         Quorums::checked(nodes, grid_rows(nodes, cols))
     }
 
-    /// The projective plane of 7, 13 or 21 nodes: the set of node i is i plus each number of a
-    /// difference set, modulo n (Singer 1938), so that any two sets meet.
-    /// Any other number of nodes is refused.
+    /// Creates the projective plane of 7, 13 or 21 nodes. The set of node i is i plus each number
+    /// of a difference set, modulo n (Singer 1938), so that any two sets meet.
+    ///
+    /// # Errors
+    ///
+    /// Returns `NoPlane` for any other number of nodes.
     pub fn plane(n: u8) -> Result<Quorums, QuorumFault>
         ensures ok { IsOk result ↔ IsPlaneSize n }
         ensures sets { IfOk result (λ family. IsPlane n family) }
@@ -79,7 +90,11 @@ impl Quorums {
         Quorums::checked(n, plane_rows(n, differences))
     }
 
-    /// The family of these sets, of which each has nodes alone.
+    /// Creates the family of these sets, which contain only nodes.
+    ///
+    /// # Errors
+    ///
+    /// Returns `NotOwnMember` if a node is not in its own set, and `Apart` if two sets do not meet.
     fn checked(nodes: u8, rows: Rows) -> Result<Quorums, QuorumFault>
         requires some { 0 < nodes }
         requires few { nodes ≤ MOST_NODES }
@@ -90,7 +105,7 @@ impl Quorums {
         Ok(Quorums { nodes, rows })
     }
 
-    /// How many nodes there are.
+    /// Returns the number of nodes.
     pub fn nodes(&self) -> u8
         ensures value { result ≡ self.now.count }
         ensures low { 0 < result }
@@ -101,7 +116,8 @@ impl Quorums {
         self.nodes
     }
 
-    /// Whether node j is in the set of node i. False where either is no node of the family.
+    /// Returns whether node j is in the set of node i. Returns `false` if either is no node of the
+    /// family.
     pub fn has(&self, i: NodeId, j: NodeId) -> bool
         ensures value { result ≡ has_of self.now i j }
         ensures nodes { IsTrue result → (i < self.now.count) × (j < self.now.count) }
@@ -109,14 +125,14 @@ impl Quorums {
         self.rows[i.get() as usize][j.get() as usize]
     }
 
-    /// The set of node i.
+    /// Returns the set of node i.
     pub fn set(&self, i: NodeId) -> [bool; MOST_NODES as usize]
         ensures { result ≡ row_of self.now i }
     {
         self.rows[i.get() as usize]
     }
 
-    /// The least node that is in the sets of both nodes.
+    /// Returns the least node that is in the sets of both nodes.
     pub fn meeting(&self, i: NodeId, j: NodeId) -> NodeId
         requires first { i < self.now.count }
         requires second { j < self.now.count }

@@ -8,7 +8,8 @@ ghost use Rattle.mx_quorums.specs.Shapes.{IsPlaneSize, difference_set, IsShifted
 use crate::check::{Row, Rows};
 use mx_stamps::MOST_NODES;
 
-/// Numbers of which each number below n is a difference modulo n.
+/// Returns numbers whose differences, modulo n, are all the numbers below n. Returns `None` unless
+/// n is 7, 13 or 21.
 pub fn differences(n: u8) -> Option<&'static [u8]>
     ensures { MatchOption result
         (IsPlaneSize n → ⊥)
@@ -22,7 +23,7 @@ pub fn differences(n: u8) -> Option<&'static [u8]>
     }
 }
 
-/// Node i plus each of the differences, modulo n.
+/// Returns node i plus each of the differences, modulo n, as one set.
 fn shifted(n: u8, differences: &[u8], i: u8) -> Row
     requires some { 0 < n }
     requires few { n ≤ MOST_NODES }
@@ -37,7 +38,7 @@ fn shifted(n: u8, differences: &[u8], i: u8) -> Row
     row
 }
 
-/// Each node plus each of the differences, modulo n.
+/// Returns each node plus each of the differences, modulo n.
 pub fn plane_rows(n: u8, differences: &[u8]) -> Rows
     requires some { 0 < n }
     requires few { n ≤ MOST_NODES }

@@ -24,24 +24,25 @@ IsLast w n = (j : ℕ) (t : Node) → IsNode w j t → t.mine ≤ n
 abbrev pub HasSeen : World Node RaymondMsg → ℕ → ℕ → Type 0
 HasSeen w j hop = HasComeTo (λ (s : Node). s.hop) w j hop
 
--- what holds of each node, where `highest` is the highest hop
+-- what holds for each node; `highest` is the highest hop
 pub record IsNodeOk (w : World Node RaymondMsg) (highest i : ℕ) (s : Node) : Type 0 where
   pub me : s.me ≡ i
   pub hop : s.hop ≤ highest
-  -- `top` counts the node's own sections, and no section that nobody has entered
+  -- `top` is at least the number of the node's last section, and at most one that some node has
+  -- entered
   pub mine_top : s.mine ≤ s.top
   pub top_reached : IsReached w s.top
-  -- who is inside has the privilege
+  -- a node that is inside has the privilege
   pub inside_holds : (n : ℕ) → s.phase ≡ Inside n → s.holder ≡ i
   -- the privilege that it may send again is one that it has sent
   pub unacked_sent : (u : Unacked) → s.unacked ≡ Some u → WasSent w i u.to (Privilege u.hop u.last)
 
--- what holds of each privilege that was sent
+-- what holds for each privilege that was sent
 pub record IsPrivilegeOk (w : World Node RaymondMsg) (highest to hop last : ℕ) : Type 0 where
   pub low : hop ≤ highest
-  -- it tells of no section that nobody has entered
+  -- it carries a section number that some node has reached
   pub reached : IsReached w last
-  -- each hop but the highest has been seen by its addressee
+  -- the addressee of each hop but the highest has seen it
   pub seen : hop < highest → HasSeen w to hop
 
 abbrev pub IsLetterOk : World Node RaymondMsg → ℕ → ℕ → RaymondMsg → Type 0
@@ -59,7 +60,7 @@ pub record IsHeld (w : World Node RaymondMsg) (highest : ℕ) : Type 0 where
   pub top : (t : Node) → IsNode w node t → IsLast w t.top
   -- no other node has it
   pub alone : (j : ℕ) (t : Node) → IsNode w j t → t.holder ≡ j → j ≡ node
-  -- the privileges of the highest hop have been seen
+  -- the addressees of the privileges of the highest hop have seen them
   pub seen : (a b last : ℕ) → WasSent w a b (Privilege highest last) → HasSeen w b highest
 
 -- the privilege of the highest hop is on its way: no other has this hop, and its addressee has not
@@ -71,7 +72,7 @@ pub record IsUnderWay (w : World Node RaymondMsg) (highest : ℕ) : Type 0 where
   pub sent : WasSent w from to (Privilege highest last)
   pub only : (a b c : ℕ) → WasSent w a b (Privilege highest c) → (a ≡ from) × (b ≡ to) × (c ≡ last)
   pub unseen : (t : Node) → IsNode w to t → t.hop < highest
-  -- it tells of all sections
+  -- it carries the number of the last section
   pub top : IsLast w last
   -- no node has it
   pub nobody : (j : ℕ) (t : Node) → IsNode w j t → t.holder ≡ j → ⊥
@@ -92,7 +93,7 @@ BoundedLetter n (Request number) = IsU64 number
 BoundedLetter n (Privilege hop last) = IsU64 hop × IsU64 last
 BoundedLetter n (Got hop) = IsU64 hop
 
--- the same for the privilege that is not acknowledged yet, among n nodes
+-- the same for the unacknowledged privilege, among n nodes
 abbrev pub BoundedUnacked : ℕ → Unacked → Type 0
 BoundedUnacked n u = (u.to < n) × IsU64 u.hop × IsU64 u.last
 

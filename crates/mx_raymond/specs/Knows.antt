@@ -1,4 +1,4 @@
--- What a node knows, as it is shown.
+-- The knowledge of a node, as it is shown.
 use Rattle.std.specs.Prelude.{List, [], ◌++◌, Option, Some, None, codes, if◌then◌else◌}
 use Rattle.mx_nodelaws.specs.Phases.{is_waiting}
 use Rattle.mx_knowledge.specs.declared.fact.Item.TheVariants as item
@@ -8,7 +8,7 @@ use Rattle.mx_raymond.specs.Queue.{queue_items}
 use Rattle.mx_raymond.specs.Node.{Node}
 use Rattle.mx_raymond.specs.Step.{has_permission, is_holder}
 
--- it has the privilege, or in the direction of which neighbour that is
+-- it has the privilege, or the neighbour in whose direction that is
 abbrev pub place_of : Node → List Known
 place_of s =
     if is_holder s then word (codes "has the privilege")
@@ -29,8 +29,8 @@ granted_of s = if has_permission s then word (codes "may enter") else []
 abbrev pub permission_of : Node → List Known
 permission_of s = if is_waiting s.phase then granted_of s else []
 
--- where the privilege is; its queue; whether it has asked; the hop; what is unacknowledged; whether
--- it may enter
+-- the place of the privilege; its queue; whether it has asked; the hop; what is unacknowledged;
+-- whether it may enter
 abbrev pub known_of : Node → List Known
 known_of s =
     place_of s ++ listed (codes "queue") (queue_items s.queue) ++ asked_of s

@@ -15,7 +15,7 @@ pub record Node : Type 0 where
   -- the greatest section number
   pub limit : ℕ
   pub phase : Phase
-  -- the node itself where it has the privilege, else the neighbour in whose direction that is
+  -- the node itself if it has the privilege, and otherwise the neighbour in whose direction that is
   pub holder : ℕ
   -- the neighbours that want the privilege from it, and itself while it waits, the oldest first
   pub queue : List ℕ
@@ -23,19 +23,19 @@ pub record Node : Type 0 where
   pub has_asked : Bool
   -- the highest hop of a privilege that it has sent or taken
   pub hop : ℕ
-  -- the privilege that it sent last, until it knows that it has arrived
+  -- the privilege that it sent last, until its arrival is acknowledged
   pub unacked : Option Unacked
-  -- how many of its own asks were accepted, and how many requests it has made
+  -- how many of its requests for a section were accepted, and how many requests it has sent
   pub asks : ℕ
   pub sent : ℕ
   -- for each neighbour, the highest number of its requests that were taken
   pub heard : List ℕ
   -- the highest section number that it knows
   pub top : ℕ
-  -- the number of the last section that it entered, 0 before the first
+  -- the number of the last section that it entered, or 0 before the first
   pub mine : ℕ
 
--- what holds of the state of every node, whatever the others do
+-- what holds for the state of every node, whatever the others do
 pub record IsState (s : Node) : Type 0 where
   pub mine : s.mine ≤ MOST_SECTIONS
   pub limit : s.limit ≤ MOST_SECTIONS

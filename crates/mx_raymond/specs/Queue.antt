@@ -18,12 +18,12 @@ abbrev pub head_of : List ℕ → Option ℕ
 head_of [] = None
 head_of (name ∷ rest) = Some name
 
--- the names behind it
+-- the names after it
 abbrev pub rest_of : List ℕ → List ℕ
 rest_of [] = []
 rest_of (name ∷ rest) = rest
 
--- the queue with this name at its end, where it is not in the queue
+-- the queue with this name at its end, unless it is in the queue
 abbrev pub joined : List ℕ → ℕ → List ℕ
 joined queue node = if is_queued queue node then queue else queue ++ node ∷ []
 

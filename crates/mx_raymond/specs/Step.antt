@@ -1,6 +1,6 @@
--- The step table: for each call the node's next state, the answer, and the letters that are sent.
--- Each row says which part of it is published (Raymond 1989) and which is added here. What a phase
--- refuses is in mx_nodelaws, specs/Calls.antt.
+-- The step table: for each call the node's next state, the result, and the letters that are sent.
+-- Each row says which part of it is published (Raymond 1989) and which is added here. Refusals by
+-- the phase are in mx_nodelaws, specs/Calls.antt.
 use Rattle.std.specs.Prelude.{ℕ, ◌+◌, ◌≡◌, Bool, true, false, ◌&&◌, not, List, [], ◌∷◌, ◌++◌, Option, Some, None, max, nat_lt, nat_eq, if◌then◌else◌, slice_index_or, slice_set, replicate}
 use Rattle.mx_stamps.specs.declared.limits.TheConstants.{MOST_NODES}
 use Rattle.mx_stamps.specs.declared.stamp.Stamp.{Stamp}
@@ -60,7 +60,7 @@ has_permission s = is_holder s && is_named (head_of s.queue) s.me
 -- Published: procedure ASSIGN_PRIVILEGE. Its case of a node that heads its own queue is `enter`
 -- here.
 -- Added: the hop, by which an old privilege is known; `unacked`, so that it can be sent again; the
--- highest section number. Where no hop is left the privilege stays.
+-- highest section number. If no hop remains, the privilege stays.
 abbrev pub can_pass : Node → ℕ → Bool
 can_pass s next =
     is_holder s && (not (is_inside s.phase) && (not (nat_eq next s.me) && nat_lt s.hop last_number))
@@ -86,8 +86,7 @@ assign_privilege s = assign_privilege_to (head_of s.queue) s
 
 -- Make: a node that wants the privilege and does not have it sends one request to its holder.
 -- Published: procedure MAKE_REQUEST.
--- Added: the request's number, by which an old request is known; none is sent where no number is
--- left.
+-- Added: the request's number, by which an old request is known; none is sent if no number remains.
 abbrev pub must_request : Node → Bool
 must_request s =
     not (is_holder s) && (not (is_empty s.queue) && (not s.has_asked && nat_lt s.sent last_number))
@@ -107,7 +106,7 @@ serving step = and_then (and_then step assign_privilege) make_request
 
 -- ask: the node joins its own queue; then Assign and Make.
 -- Published: the node wishes to enter the critical section.
--- Added: the number of the ask, which is that of the stamp; where no number is left the call is
+-- Added: the number of the request, which is that of the stamp; if no number remains, the call is
 -- refused.
 abbrev pub asking : Node → Node
 asking s = record s { phase = Waiting; queue = s.queue ++ s.me ∷ []; asks = s.asks + 1 }
@@ -115,14 +114,14 @@ asking s = record s { phase = Waiting; queue = s.queue ++ s.me ∷ []; asks = s.
 abbrev pub asked : Node → NodeDone Stamp
 asked s = serving (answering (becoming (asking s)) (record { number = s.asks + 1; node = s.me }))
 
--- the privilege that it sent last is sent again, while its arrival is not known
+-- the privilege that it sent last is sent again, while its arrival is not acknowledged
 abbrev pub privilege_again : Option Unacked → List (ℕ × RaymondMsg)
 privilege_again None = []
 privilege_again (Some u) = (u.to, Privilege u.hop u.last) ∷ []
 
 -- a request of the holder: it shows that the privilege has not reached the holder, or had not when
 -- the request was sent. The privilege is sent again, to the node that it was sent to: that is the
--- holder, and so the one that asks (`unacked` of `IsState`).
+-- holder, and so the sender of the request (`unacked` of `IsState`).
 -- Added, since the privilege may have been lost.
 abbrev pub take_holders_request : Node → NodeDone (Unit {0})
 take_holders_request s = sending s (privilege_again s.unacked)
@@ -130,7 +129,7 @@ take_holders_request s = sending s (privilege_again s.unacked)
 -- a request of another neighbour, which joins the queue; then Assign and Make.
 -- Published: the node receives a REQUEST.
 -- Added: the test of the request's number, since a request may come late or twice; a neighbour that
--- is in the queue already stays where it is.
+-- is in the queue already stays in its place.
 abbrev pub heard_from : Node → ℕ → ℕ
 heard_from s from = slice_index_or s.heard from 0
 
@@ -150,13 +149,13 @@ abbrev pub take_request : ℕ → ℕ → Node → NodeDone (Unit {0})
 take_request from number s =
     if nat_eq from s.holder then take_holders_request s else take_others_request from number s
 
--- a privilege: its arrival is always acknowledged, and it counts only where its hop is a new one;
--- then Assign and Make.
--- Published: the node receives the PRIVILEGE. There ASKED is cleared where it is used or passed on.
--- Added: ASKED is cleared at once. Nothing else changes by it: no row reads ASKED while the node
--- has the privilege, and passing it on clears ASKED as there. The acknowledgement, and the test of
--- the hop, since a privilege may come late or twice; `top` takes in the section number that the
--- privilege tells.
+-- a privilege: its arrival is acknowledged each time, and it counts only if its hop is new; then
+-- Assign and Make.
+-- Published: the node receives the PRIVILEGE. There ASKED is cleared when it is used or passed on.
+-- Added: ASKED is cleared at once. This changes nothing else: no row reads ASKED while the node has
+-- the privilege, and passing it on clears ASKED as there. The acknowledgement, and the test of the
+-- hop, since a privilege may come late or twice; `top` takes in the section number of the
+-- privilege.
 abbrev pub holding : Node → ℕ → ℕ → Node
 holding s hop last = record s {
   holder = s.me;
@@ -198,8 +197,8 @@ deliver_of from (Got hop) s = if is_neighbour s from then take_got from hop s el
 
 -- enter: the node leaves the head of its queue, and the section's number is one above the highest
 -- that it knows.
--- Published: procedure ASSIGN_PRIVILEGE, where the node that has the privilege heads its own queue.
--- Added: the section's number, and the refusal where the limit is reached.
+-- Published: procedure ASSIGN_PRIVILEGE, if the node that has the privilege heads its own queue.
+-- Added: the section's number, and the refusal if the limit is reached.
 abbrev pub entering : Node → Node
 entering s = record s {
   phase = Inside (s.top + 1);
@@ -219,7 +218,7 @@ left s = serving (becoming (leaving s))
 
 -- cancel: the node leaves its own queue; then Assign and Make. A request that it has sent its
 -- holder is not taken back, and the privilege that comes for it is kept, or passed on.
--- Added, as the publication has no way to give a request up.
+-- Added, as the publication has no way to withdraw a request.
 abbrev pub withdrawing : Node → Node
 withdrawing s = record s { phase = Idle; queue = without s.queue s.me }
 

@@ -1,7 +1,7 @@
--- Tests (what the table's tests mean), Frame (what any step leaves as it was), PrivilegeStays and
--- PrivilegeMoves (steps that leave the privilege in its place, and steps that do not), Keeps (each
--- row keeps a world safe), ServingBounds and Bounds (numbers are u64 values, and names are nodes),
--- Safety (exclusion and numbering), Laws (all together, with the promises on phases).
+-- Tests: what the table's tests mean. Frame: what a step does not change. PrivilegeStays and
+-- PrivilegeMoves: steps that keep the privilege in its place, and steps that do not. Keeps: each
+-- row keeps a world safe. ServingBounds and Bounds: numbers are u64 values, and names are nodes.
+-- Safety: exclusion and numbering. Laws: all together, with the promises on phases.
 pub mod Tests
 pub mod Frame
 pub mod PrivilegeStays

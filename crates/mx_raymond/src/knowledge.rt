@@ -1,4 +1,4 @@
-//! What a node knows, as it is shown.
+//! The knowledge of a node, as it is shown.
 
 ghost use Rattle.std.specs.Prelude.{◌≡◌, ◌++◌, OnOk};
 ghost use Rattle.mx_raymond.specs.Knows.{asked_of, granted_of, permission_of, place_of, unacked_of};
@@ -26,7 +26,7 @@ impl Knowledge for Raymond {
 }
 
 impl Raymond {
-    /// Adds where the privilege is.
+    /// Adds the place of the privilege.
     fn add_place(&self, facts: &mut Facts) -> Result<(), AllocError>
         ensures { OnOk result (facts.new ≡ facts.old ++ place_of self.now) }
     {

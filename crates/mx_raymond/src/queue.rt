@@ -9,11 +9,11 @@ use mx_stamps::{MOST_NODES, NodeId};
 use std::alloc::{AllocError, Global};
 use std::marker::Model;
 
-/// How many names there may be: each node is in it at most once.
+/// The greatest length: each node is in the queue at most once.
 const MOST_NAMES: usize = MOST_NODES as usize;
 
-/// The nodes that want the privilege from a node: names of its neighbours and its own, each at most
-/// once, the oldest first.
+/// The nodes that want the privilege from a node, the oldest first. They are its neighbours and the
+/// node itself, each at most once.
 #[derive(Drop)]
 pub struct Queue {
     names: ArrayVec<NodeId, MOST_NAMES>,
@@ -31,7 +31,7 @@ impl Model for Queue {
 }
 
 impl Queue {
-    /// An empty queue.
+    /// Creates an empty queue.
     pub fn new() -> Queue
         ensures { result ≡ [] }
     {
@@ -40,28 +40,32 @@ impl Queue {
         }
     }
 
-    /// Whether no name is in it.
+    /// Returns whether the queue is empty.
     pub fn is_empty(&self) -> bool
         ensures { result ≡ is_empty self.now }
     {
         self.names.is_empty()
     }
 
-    /// Whether this name is in it.
+    /// Returns whether the queue contains this node.
     pub fn contains(&self, node: NodeId) -> bool
         ensures { result ≡ is_queued self.now node }
     {
         self.names.iter().any(|name| node.get() == name.get())
     }
 
-    /// The oldest name.
+    /// Returns the oldest node, or `None` if the queue is empty.
     pub fn head(&self) -> Option<NodeId>
         ensures { result ≡ head_of self.now }
     {
         self.names.as_slice().first().copied()
     }
 
-    /// The names, as the values of a fact.
+    /// Returns the nodes as the values of a fact.
+    ///
+    /// # Errors
+    ///
+    /// Returns `AllocError` if memory runs out.
     pub fn items(&self, alloc: Global) -> Result<Vec<Item>, AllocError>
         ensures { IfOk result (λ items. items.items ≡ queue_items self.now) }
     {
@@ -72,7 +76,7 @@ impl Queue {
         Ok(items)
     }
 
-    /// Adds a name at the end. As no name is in it twice, there is room for it.
+    /// Appends a node that is not in the queue. There is room, since no node is in it twice.
     pub fn push(&mut self, node: NodeId)
         requires { is_queued self.old node ≡ false }
         ensures { self.new ≡ self.old ++ node ∷ [] }
@@ -81,7 +85,7 @@ impl Queue {
         self.names.push(node);
     }
 
-    /// Adds a name at the end, where it is not in the queue.
+    /// Appends a node, unless it is in the queue.
     pub fn join(&mut self, node: NodeId)
         ensures { self.new ≡ joined self.old node }
     {
@@ -90,7 +94,7 @@ impl Queue {
         }
     }
 
-    /// Removes a name, wherever it is in the queue.
+    /// Removes a node, wherever it is in the queue.
     pub fn remove(&mut self, node: NodeId)
         ensures value { self.new ≡ without self.old node }
         ensures gone { is_queued self.new node ≡ false }
@@ -98,7 +102,7 @@ impl Queue {
         self.names.retain(|name| name.get() != node.get());
     }
 
-    /// Removes the oldest name.
+    /// Removes the oldest node.
     pub fn remove_head(&mut self)
         ensures value { self.new ≡ rest_of self.old }
         ensures once { (node : ℕ) → head_of self.old ≡ Some node → is_queued self.new node ≡ false }

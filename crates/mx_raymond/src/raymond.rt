@@ -10,46 +10,46 @@ use mx_stamps::{MOST_NODES, NodeId};
 use mx_trees::Tree;
 use std::marker::Model;
 
-/// A node of the algorithm. Its calls are those of `Exclusion`. Names in capitals are the
+/// A node of Raymond's algorithm. Its calls are those of `Exclusion`. Names in capitals are the
 /// publication's.
 #[derive(Drop)]
 pub struct Raymond {
     /// The node itself (self).
     pub(crate) me: NodeId,
-    /// The tree of the cluster. It tells which nodes are neighbours.
+    /// The tree of the cluster, which determines the neighbours of each node.
     pub(crate) tree: Tree,
     /// The greatest section number, from 1 to 1,000,000. Added to the publication.
     pub(crate) limit: u64,
     /// Idle, waiting for the privilege, or inside a section. USING is true in the last.
     pub(crate) phase: Phase,
-    /// The node itself while it has the privilege, else the neighbour in whose direction the
-    /// privilege is (HOLDER).
+    /// The node itself while it has the privilege, and otherwise the neighbour in the direction of
+    /// the privilege (HOLDER).
     pub(crate) holder: NodeId,
     /// The neighbours that want the privilege from this node, and the node itself while it waits,
     /// each once, the oldest first (REQUEST_Q).
     pub(crate) queue: Queue,
     /// Whether the node has sent a request to the holder, and has not had the privilege since
-    /// (ASKED, which the publication clears where the privilege is used or passed on).
+    /// (ASKED). The publication clears it when the privilege is used or passed on.
     pub(crate) has_asked: bool,
     /// The highest hop of a privilege that the node has sent or taken; the origin at the start.
-    /// Added to the publication: a privilege whose hop is not above it is an old one.
+    /// Added to the publication: a privilege up to this hop is an old one.
     pub(crate) hop: u64,
-    /// The privilege that the node sent last, until word comes that it has arrived, or until a
-    /// newer privilege comes. Added to the publication, so that it can be sent again.
+    /// The privilege that the node sent last, until its arrival is acknowledged or a newer
+    /// privilege comes. Added to the publication, so that it can be sent again.
     pub(crate) unacked: Option<Unacked>,
-    /// How many asks of this node were accepted: the number of the latest stamp. Added to the
-    /// publication.
+    /// How many requests of this node for a section were accepted: the number of the latest stamp.
+    /// Added to the publication.
     pub(crate) asks: u64,
-    /// How many requests this node has made of its holders: the number of the latest one, which is
+    /// How many requests this node has sent to its holders. The latest, which has this number, is
     /// the one sent again. Added to the publication.
     pub(crate) sent: u64,
-    /// For each neighbour, the highest number of its requests that were taken, 0 before the first.
-    /// Added to the publication: a request up to that number is an old one.
+    /// For each neighbour, the highest number of its requests that were taken, or 0 before the
+    /// first. Added to the publication: a request up to that number is an old one.
     pub(crate) heard: [u64; MOST_NODES as usize],
     /// The highest section number that the node knows, from its own sections and from the
     /// privileges that it took; 0 at the start. Added to the publication.
     pub(crate) top: u64,
-    /// The number of the last section that the node entered, 0 before the first. Added to the
+    /// The number of the last section that the node entered, or 0 before the first. Added to the
     /// publication.
     pub(crate) mine: u64,
 }
@@ -99,14 +99,14 @@ impl Raymond {
     ghost use Rattle.mx_letters.specs.declared.outbox.TheConstants.{OUTBOX_ROOM};
     ghost use Rattle.mx_raymond.specs.Step.{is_holder, HasPermission, has_permission, assign_privilege, make_request, withdrawing, privilege_again, request_again, is_neighbour, take_request, take_privilege, take_got};
 
-    /// Whether the node has the privilege.
+    /// Returns whether the node has the privilege.
     pub(crate) fn is_holder(&self) -> bool
         ensures { result ≡ is_holder self.now }
     {
         self.holder.get() == self.me.get()
     }
 
-    /// Whether the node has the privilege, and heads its own queue.
+    /// Returns whether the node has the privilege and heads its own queue.
     pub(crate) fn has_permission(&self) -> bool
         ensures value { result ≡ has_permission self.now }
         ensures all { IsTrue result ↔ HasPermission self.now }
@@ -117,8 +117,8 @@ impl Raymond {
         }
     }
 
-    /// Assign: a node that has the privilege and is not inside passes it on to the head of its
-    /// queue, if that is another node.
+    /// Passes the privilege on to the head of the queue, if the node has it, is not inside, and the
+    /// head is another node (Assign).
     fn assign_privilege(&mut self, out: &mut Outbox<RaymondMsg>)
         requires { length out.old < OUTBOX_ROOM }
         ensures state { self.new ≡ (assign_privilege self.old).state }
@@ -143,7 +143,8 @@ impl Raymond {
         }
     }
 
-    /// Make: a node that wants the privilege and does not have it sends one request to its holder.
+    /// Sends one request to the holder, if the node wants the privilege and does not have it
+    /// (Make).
     fn make_request(&mut self, out: &mut Outbox<RaymondMsg>)
         requires { length out.old < OUTBOX_ROOM }
         ensures state { self.new ≡ (make_request self.old).state }
@@ -156,7 +157,7 @@ impl Raymond {
         }
     }
 
-    /// Assign, and then Make.
+    /// Passes the privilege on, and then sends a request (Assign, then Make).
     pub(crate) fn serve(&mut self, out: &mut Outbox<RaymondMsg>)
         requires { length out.old < 31 }
         ensures state { self.new ≡ (make_request (assign_privilege self.old).state).state }
@@ -167,7 +168,7 @@ impl Raymond {
         self.make_request(out);
     }
 
-    /// Gives the request up: the node leaves its own queue, and is idle.
+    /// Withdraws the request: the node leaves its own queue, and becomes idle.
     pub(crate) fn withdraw(&mut self)
         ensures { self.new ≡ withdrawing self.old }
     {
@@ -175,7 +176,7 @@ impl Raymond {
         self.phase = Phase::Idle;
     }
 
-    /// Sends the latest privilege again, while its arrival is not known.
+    /// Sends the latest privilege again, while its arrival is not acknowledged.
     pub(crate) fn send_again(&self, out: &mut Outbox<RaymondMsg>)
         requires { out.old ≡ [] }
         ensures letters { out.new ≡ privilege_again self.now.unacked }
@@ -196,7 +197,7 @@ impl Raymond {
         }
     }
 
-    /// Whether this node is a neighbour.
+    /// Returns whether this node is a neighbour.
     pub(crate) fn is_neighbour(&self, node: NodeId) -> bool
         ensures value { result ≡ is_neighbour self.now node }
         ensures other { result ≡ true → node ≢ self.now.me }
@@ -223,8 +224,8 @@ impl Raymond {
         }
     }
 
-    /// Takes a privilege from a neighbour. Its arrival is always acknowledged; it counts only where
-    /// its hop is a new one.
+    /// Takes a privilege from a neighbour. Acknowledges its arrival each time; it counts only if
+    /// its hop is new.
     pub(crate) fn take_privilege(
         &mut self,
         from: NodeId,

@@ -1,8 +1,8 @@
-//! A privilege whose arrival is not known yet.
+//! A privilege whose arrival is not acknowledged yet.
 
 use mx_stamps::NodeId;
 
-/// The privilege that a node sent last, while the node does not know whether it has arrived.
+/// The privilege that a node sent last, while its arrival is not acknowledged.
 #[derive(Clone, Copy, Debug, PartialEq, Eq)]
 pub struct Unacked {
     /// The neighbour that it was sent to.

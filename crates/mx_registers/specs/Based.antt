@@ -1,4 +1,4 @@
--- What registers hold in a journal: what its base has, changed by the records above it.
+-- The contents of registers in a journal: those of its base, changed by the records above it.
 use Rattle.std.specs.Prelude.{ℕ, ◌≡◌, ◌⊎◌, List, Some, nat_eq, if◌then◌else◌, get_or, slice_get}
 use Rattle.mx_stamps.specs.Lists.{each_below}
 use Rattle.mx_journal.specs.declared.cells.Cell.{Cell}
@@ -10,12 +10,12 @@ use Rattle.mx_journal.specs.Settled.{JournalState}
 use Rattle.mx_registers.specs.declared.contents.Content.{Content}
 use Rattle.mx_registers.specs.Registers.{IsLastWrite, IsUnwritten, after_records, applied, blank}
 
--- a base's cell, in which the number 0 says that no section wrote it
+-- the contents in a base's cell, whose number is 0 if no section wrote it
 abbrev pub shown_cell : Cell → Content
 shown_cell cell =
     if nat_eq cell.number 0 then blank else record { value = cell.value; by = Some cell.number }
 
--- what a base has for the register
+-- the contents of the register in a base
 abbrev pub cell_in : ℕ → BaseState → Content
 cell_in register base = shown_cell (get_or base.cells register unwritten)
 
@@ -28,24 +28,24 @@ registers_from base count records =
 abbrev pub registers_in : ℕ → JournalState → List Content
 registers_in count journal = registers_from journal.base count journal.records
 
--- the registers below count of the sections below n, of a journal whose base is below n
+-- the registers below count after the sections below n, in a journal whose base is below n
 abbrev pub registers_below : ℕ → ℕ → JournalState → List Content
 registers_below n count journal = registers_from journal.base count (below n journal.records)
 
--- the register has the last write to it in the record of the greatest number that writes it, else
--- what the base has
+-- the register has the last write to it in the record of the greatest number that writes it, and
+-- otherwise the contents in the base
 abbrev pub IsHeldIn : ℕ → JournalState → Content → Type 0
 IsHeldIn register journal content =
     ((n : ℕ) × (content.by ≡ Some n) × IsLastWrite register journal.records n content.value)
     ⊎ (IsUnwritten register journal.records × (content ≡ cell_in register journal.base))
 
--- each is what its register holds in the journal
+-- each has the contents of its register in the journal
 abbrev pub AreHeldIn : JournalState → List Content → Type 0
 AreHeldIn journal contents =
     (register : ℕ) (content : Content)
     → slice_get contents register ≡ Some content → IsHeldIn register journal content
 
--- each has the value that its register has after the writes, applied in order to what the base has
+-- each has the value of its register after the writes, applied in order to the base
 abbrev pub AreAppliedTo : BaseState → List Write → List Content → Type 0
 AreAppliedTo base writes contents =
     (register : ℕ) (content : Content) → slice_get contents register ≡ Some content

@@ -1,3 +1,4 @@
--- Registers: what registers hold after records. Based: what they hold in a journal with a base.
+-- Registers: the contents of registers after records. Based: their contents in a journal with a
+-- base.
 pub mod Registers
 pub mod Based

@@ -1,5 +1,5 @@
--- What registers hold after sections. A register has the last write to it in the record of the
--- greatest number that writes it, and that number; without such a record 0 and no number.
+-- The contents of registers after sections. A register has the last write to it in the record of
+-- the greatest number that writes it, and that number; without such a record 0 and no number.
 use Rattle.std.specs.Prelude.{ℕ, zero, suc, ◌≡◌, ◌≤◌, List, [], ◌∷◌, ◌++◌, Option, Some, None, nat_le, nat_eq, if◌then◌else◌, length, get_or, slice_get}
 use Rattle.std.specs.Option.{option_map}
 use Rattle.mx_stamps.specs.Lists.{IsIn, each_below}
@@ -10,7 +10,7 @@ use Rattle.mx_journal.specs.Agreement.{IsSubmap}
 use Rattle.mx_journal.specs.Drafted.{last_value}
 use Rattle.mx_registers.specs.declared.contents.Content.{Content}
 
--- what the record writes to the register, last
+-- the value that the record writes to the register last
 abbrev pub written : ℕ → Record → Option ℕ
 written register entry = last_value register entry.writes.items
 
@@ -25,22 +25,22 @@ IsLastWrite register records n value =
     (x : Record) × IsIn x records × (x.number ≡ n) × (written register x ≡ Some value)
     × ((y : Record) (other : ℕ) → IsIn y records → written register y ≡ Some other → y.number ≤ n)
 
--- the register has this value, which section n wrote last, or which is 0 where no section wrote it
+-- the register has this value: section n wrote it last, or it is 0 and no section wrote it
 abbrev pub IsHeldBy : ℕ → List Record → Option ℕ → ℕ → Type 0
 IsHeldBy register records None value = (value ≡ 0) × IsUnwritten register records
 IsHeldBy register records (Some n) value = IsLastWrite register records n value
 
--- this is what the register holds after these records, in whatever order they come
+-- these are the contents of the register after these records, in any order
 abbrev pub IsHeld : ℕ → List Record → Content → Type 0
 IsHeld register records content = IsHeldBy register records content.by content.value
 
--- each is what its register holds after the records
+-- each has the contents of its register after the records
 abbrev pub AreHeld : List Record → List Content → Type 0
 AreHeld records contents =
     (register : ℕ) (content : Content)
     → slice_get contents register ≡ Some content → IsHeld register records content
 
--- both lists have the same members, in whatever order and however often
+-- both lists have the same members, in any order and any number of times
 abbrev pub HaveSameMembers : List Record → List Record → Type 0
 HaveSameMembers xs ys = IsSubmap xs ys × IsSubmap ys xs
 
@@ -48,13 +48,13 @@ HaveSameMembers xs ys = IsSubmap xs ys × IsSubmap ys xs
 abbrev pub blank : Content
 blank = record { value = 0; by = None }
 
--- the number of the section that wrote, 0 where none did
+-- the number of the section that wrote, or 0 if none did
 abbrev pub number_by : Option ℕ → ℕ
 number_by None = 0
 number_by (Some n) = n
 
--- a register after section n, which writes this value to it last, if it writes it at all; a write
--- of a later section stays
+-- a register after section n, whose last write to it has this value, if there is one; a write of a
+-- later section remains
 abbrev pub after_write : ℕ → Option ℕ → Content → Content
 after_write n None content = content
 after_write n (Some value) content =
@@ -94,12 +94,11 @@ abbrev pub writer_of : Option Content → Option ℕ
 writer_of None = None
 writer_of (Some content) = content.by
 
--- the number of the section that wrote the register; none where the register is not there
+-- the number of the section that wrote the register; none if there is no such register
 abbrev pub writer_in : ℕ → List Content → Option ℕ
 writer_in register contents = writer_of (slice_get contents register)
 
--- the value of a register after the writes, applied one after another, where it had this value
--- before
+-- the value of a register after the writes, applied one after another to this value
 abbrev pub applied : ℕ → List Write → ℕ → ℕ
 applied register [] value = value
 applied register (w ∷ ws) value =
@@ -115,7 +114,7 @@ abbrev pub writes_to : ℕ → List Record → List Write
 writes_to zero records = []
 writes_to (suc k) records = writes_to k records ++ writes_of (record_at (suc k) records)
 
--- each has the value that its register has after the writes, applied in order
+-- each has the value of its register after the writes, applied in order
 abbrev pub AreApplied : List Write → List Content → Type 0
 AreApplied writes contents =
     (register : ℕ) (content : Content) → slice_get contents register ≡ Some content

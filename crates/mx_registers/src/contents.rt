@@ -1,4 +1,4 @@
-//! The content of a register: its value, and the section that wrote it.
+//! The contents of a register: its value, and the section that wrote it.
 
 ghost use Rattle.std.specs.Prelude.{ℕ, ◌≡◌, ◌<◌, length, get_or};
 ghost use Rattle.mx_journal.specs.Drafted.{last_value};
@@ -8,18 +8,20 @@ ghost use Rattle.mx_registers.specs.Registers.{after_write, blank};
 
 use mx_journal::{Cell, Write};
 
-/// What a register holds: a value, and the number of the section that wrote it. A register that no
-/// section wrote has the value 0.
+/// The contents of a register: a value, and the number of the section that wrote it. The value of a
+/// register that no section wrote is 0.
 #[derive(Clone, Copy, Debug, Default, PartialEq, Eq)]
 pub struct Content {
+    /// The value, 0 if no section wrote the register.
     pub value: u64,
+    /// The number of the section that wrote it.
     pub by: Option<u64>,
 }
 
 /// A register that no section wrote.
 pub(crate) const BLANK: Content = Content { value: 0, by: None };
 
-/// A base's cell, in which the number 0 says that no section wrote it.
+/// Returns the contents in a base's cell, whose number is 0 if no section wrote it.
 pub(crate) fn shown_cell(cell: Cell) -> Content
     ensures { result ≡ shown_cell cell }
 {
@@ -32,7 +34,7 @@ pub(crate) fn shown_cell(cell: Cell) -> Content
     }
 }
 
-/// Takes the writes of a section, in order.
+/// Applies the writes of a section, in order.
 pub(crate) fn write_all(contents: &mut [Content], number: u64, writes: &[Write])
     ensures { (register : ℕ) → register < length contents.old
         → get_or contents.new register blank
@@ -43,8 +45,8 @@ pub(crate) fn write_all(contents: &mut [Content], number: u64, writes: &[Write])
     }
 }
 
-/// Takes one write of a section. It is passed over where its register is not there, or was written
-/// by a later section.
+/// Applies one write of a section. It is skipped if its register does not exist, or was written by
+/// a later section.
 fn put(contents: &mut [Content], number: u64, write: Write)
     ensures { (register : ℕ) → register < length contents.old
         → get_or contents.new register blank

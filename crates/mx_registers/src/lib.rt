@@ -1,4 +1,4 @@
-//! The registers that sections share, as the records of closed sections leave them.
+//! The registers that sections share, after the records of closed sections.
 #![tactic(auto)]
 
 mod contents;

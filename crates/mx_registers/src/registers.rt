@@ -1,4 +1,4 @@
-//! The view of the registers that follows from records.
+//! A view of the registers, derived from records.
 
 ghost use Rattle.std.specs.Prelude.{ℕ, ◌≡◌, ◌≤◌, List, [], ◌∷◌, ◌++◌, length};
 ghost use Rattle.mx_journal.specs.declared.records.Record.{Record};
@@ -14,11 +14,11 @@ use mx_journal::{Base, Record};
 use mx_stamps::MOST_REGISTERS;
 use std::marker::Model;
 
-/// The greatest number of registers that a view has.
+/// The greatest number of registers in a view.
 const ROOM: usize = MOST_REGISTERS as usize;
 
-/// The registers 0 to count - 1, each with the last write to it in the record of the greatest
-/// number that writes it. Records may be taken in any order, and more than once.
+/// A view of the registers 0 to count - 1. Each has the last write to it in the record of the
+/// greatest number that writes it. Records may be applied in any order, and more than once.
 #[derive(Drop)]
 pub struct View {
     contents: ArrayVec<Content, ROOM>,
@@ -34,7 +34,7 @@ impl Model for View {
 }
 
 impl View {
-    /// A view of this many registers that no section has written.
+    /// Creates a view of this many registers, which no section has written.
     pub fn new(count: u8) -> View
         requires least { 1 ≤ count }
         requires most { count ≤ MOST_REGISTERS }
@@ -47,14 +47,14 @@ impl View {
         View { contents }
     }
 
-    /// A view of this many registers after the sections of a base.
+    /// Creates a view of this many registers after the sections of a base.
     pub(crate) fn at(base: &Base, count: u8) -> View
         requires least { 1 ≤ count }
         requires most { count ≤ MOST_REGISTERS }
         ensures value { result ≡ registers_from base.now count [] }
         ensures cells { AreCellsOf base.now.upto base.now.cells }
     {
-        // that the cells are of the base's sections is known from this call
+        // the call shows that the base's sections wrote the cells
         let _ = base.upto();
         let mut contents = ArrayVec::new();
         for register in 0..count {
@@ -63,8 +63,8 @@ impl View {
         View { contents }
     }
 
-    /// Takes a record: each register that it writes has the last of these writes, unless a section
-    /// of a greater number wrote it. Writes to registers that are not there are passed over.
+    /// Applies a record: each register that it writes has the last of these writes, unless a
+    /// section of a greater number wrote it. Writes to registers that do not exist are skipped.
     pub fn take(&mut self, entry: &Record)
         ensures value { self.new ≡ with_taken entry.now self.old }
         ensures more { (count : ℕ) (records : List Record)
@@ -84,7 +84,8 @@ impl View {
         );
     }
 
-    /// The value of a register, 0 where no section wrote it. None where there is no such register.
+    /// Returns the value of a register, or 0 if no section wrote it. Returns `None` if there is no
+    /// such register.
     pub fn value(&self, register: u8) -> Option<u64>
         ensures { result ≡ value_in register self.now }
     {
@@ -92,8 +93,8 @@ impl View {
         Some(content.value)
     }
 
-    /// The number of the section that wrote the register. None where no section did, or where there
-    /// is no such register.
+    /// Returns the number of the section that wrote the register. Returns `None` if no section did,
+    /// or if there is no such register.
     pub fn written_by(&self, register: u8) -> Option<u64>
         ensures { result ≡ writer_in register self.now }
     {
@@ -101,7 +102,7 @@ impl View {
         content.by
     }
 
-    /// How many registers there are.
+    /// Returns the number of registers.
     pub fn count(&self) -> u8
         ensures value { result ≡ length self.now }
         ensures bound { result ≤ MOST_REGISTERS }

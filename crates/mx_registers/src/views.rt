@@ -12,8 +12,8 @@ ghost use Rattle.mx_registers.specs.Registers.{AreHeld, HaveSameMembers, registe
 use crate::registers::View;
 use mx_journal::{Journal, Record};
 
-/// The registers after all records of the list, whatever their order. Where the records agree,
-/// these are the registers of the map that they make.
+/// Returns the registers after all records of the list, whatever their order. If the records agree,
+/// these are the registers of the map that they make. The time grows with the number of records.
 pub fn view_of(records: &[Record], count: u8) -> View
     requires least { 1 ≤ count }
     requires most { count ≤ MOST_REGISTERS }
@@ -31,7 +31,8 @@ pub fn view_of(records: &[Record], count: u8) -> View
     shown
 }
 
-/// The registers of a journal: what its base has, changed by the records above it.
+/// Returns the registers of a journal: those of its base, changed by the records above it. The time
+/// grows with the number of records.
 pub fn view(journal: &Journal, count: u8) -> View
     requires least { 1 ≤ count }
     requires most { count ≤ MOST_REGISTERS }
@@ -40,7 +41,7 @@ pub fn view(journal: &Journal, count: u8) -> View
     // the writes of the sections up to k, applied in their order
     ensures order { (k : ℕ) → top_of journal.now.records ≤ k
         → AreAppliedTo journal.now.base (writes_to k journal.now.records) result }
-    // settling keeps each register
+    // settling changes no register
     ensures settled { (k : ℕ) → registers_in count (settled k journal.now) ≡ result }
     // journals of the same sections that cover the same numbers show the same registers
     ensures covered { (other : JournalState) → Ascending (suc other.base.upto) other.records
@@ -56,8 +57,8 @@ pub fn view(journal: &Journal, count: u8) -> View
     view
 }
 
-/// The registers of a journal's sections below a number, as a section of that number finds them,
-/// where the journal's base is below it too.
+/// Returns the registers after a journal's sections below a number, as a section of that number
+/// reads them. If the journal's base is not below the number, these are the registers of the base.
 pub fn view_below(journal: &Journal, count: u8, number: u64) -> View
     requires least { 1 ≤ count }
     requires most { count ≤ MOST_REGISTERS }

@@ -1,5 +1,5 @@
-//! `mx` with the commands `check`, `replay` and `explore` alone, which needs fewer crates than the
-//! whole program: it hands the words, the files and the streams of the process to `command`.
+//! `mx` with only the commands `check`, `replay` and `explore`, which needs fewer crates than the
+//! whole program. It passes the arguments, files and streams of the process to `command`.
 #![tactic(auto)]
 
 use mx_commands::command;
@@ -9,7 +9,7 @@ use std::io::{BufWriter, Write};
 use std::process::ExitCode;
 use std::rt::{Env, Files};
 
-/// Runs a command line over the files of the process and two outputs. Returns the status.
+/// Runs a command line over the files of the process and two outputs, and returns the exit status.
 fn carry_out<R: Files + Input + AllocGlobal, O: Output, E: Output>(
     rt: &R,
     words: &[&str],
@@ -20,8 +20,11 @@ fn carry_out<R: Files + Input + AllocGlobal, O: Output, E: Output>(
     command(rt.alloc(), words, &mut source, out, err)
 }
 
-/// Runs the command line of the process. An `Err` means that memory ran out, or that an argument is
-/// not UTF-8.
+/// Runs the command line of the process.
+///
+/// # Errors
+///
+/// Returns an error if memory runs out, or if an argument is not valid UTF-8.
 fn run_words<R: Files + Env + Input + AllocGlobal, O: Write + Drop, E: Write + Drop>(
     rt: &R,
     out: O,

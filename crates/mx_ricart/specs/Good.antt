@@ -25,41 +25,42 @@ HasSeen w i number = HasComeTo (λ (s : Node). s.highest) w i number
 abbrev pub IsReached : World Node RicartMsg → ℕ → Type 0
 IsReached w n = IsReachedBy (λ (s : Node). s.mine) w n
 
--- what holds of each node
+-- what holds for each node
 pub record IsNodeOk (w : World Node RicartMsg) (i : ℕ) (s : Node) : Type 0 where
   pub me : s.me ≡ i
   pub count : s.count ≡ length w.nodes
   -- a current stamp is the node's own, and its clock has seen it
   pub ours_node : IsBusy s → s.ours.node ≡ i
   pub ours_seen : IsBusy s → s.ours.number ≤ s.highest
-  -- `top` counts the node's own sections, and no section that nobody has entered
+  -- `top` is at least the number of the node's last section, and at most one that some node has
+  -- entered
   pub mine_top : s.mine ≤ s.top
   pub top_reached : IsReached w s.top
-  -- who is inside has every reply
+  -- a node that is inside has every reply
   pub inside_has : (n : ℕ) → s.phase ≡ Inside n → (j : ℕ) → j < length w.nodes → j ≢ i →
       has_reply s j ≡ true
   -- each reply that counts was sent, for the current stamp
   pub replies : IsBusy s → (j : ℕ) → has_reply s j ≡ true →
       (top : ℕ) × (WasSent w j i (Reply s.ours top)) × (top ≤ s.top)
-  -- a deferred request is of the node that it is kept for, and both clocks have seen it
+  -- a deferred request is stored under its own node, and both clocks have seen it
   pub waits : (j : ℕ) (d : Stamp) → deferred_at s j ≡ Some d →
       (j ≢ i) × (d.node ≡ j) × (d.number ≤ s.highest) × HasSeen w j d.number
 
--- what holds of each request that was sent: its sender has drawn its stamp
+-- what holds for each request that was sent: its sender has drawn its stamp
 pub record IsRequestOk (w : World Node RicartMsg) (a : ℕ) (stamp : Stamp) : Type 0 where
   pub node : stamp.node ≡ a
   pub issued : HasSeen w a stamp.number
 
--- what holds of each reply that was sent
+-- what holds for each reply that was sent
 pub record IsReplyOk (w : World Node RicartMsg) (a b : ℕ) (stamp : Stamp) (top : ℕ) : Type 0 where
   pub other : a ≢ b
   -- both clocks have seen the stamp
   pub issued : HasSeen w b stamp.number
   pub seen : HasSeen w a stamp.number
-  -- it tells of no section that nobody has entered
+  -- it carries a section number that some node has reached
   pub reached : IsReached w top
-  -- while the stamp is current, its sender has entered no section since, and has no current stamp
-  -- before it
+  -- while the stamp is current, its sender has entered no section since, and has no earlier current
+  -- stamp
   pub stands : (s t : Node) → IsNode w a s → IsNode w b t → IsBusy t → t.ours ≡ stamp →
       (s.mine ≤ top) × (IsBusy s → Before stamp s.ours)
 

@@ -1,4 +1,4 @@
--- What a node knows, as it is shown.
+-- The knowledge of a node, as it is shown.
 use Rattle.std.specs.Prelude.{ℕ, List, [], ◌++◌, Option, Some, None, codes, if◌then◌else◌}
 use Rattle.mx_nodelaws.specs.Phases.{is_busy, is_waiting}
 use Rattle.mx_knowledge.specs.declared.fact.Item.{Item}
@@ -16,7 +16,7 @@ request_of s = if is_busy s.phase then one (codes "request") (item.Stamp s.ours)
 abbrev pub missing_at : Node → ℕ → Option Item
 missing_at s j = if is_replied s j then None else Some (item.Node j)
 
--- whose replies are missing, or that it may enter
+-- the nodes whose replies are missing, or that it may enter
 abbrev pub missing_of : Node → List Known
 missing_of s =
     if has_all_replies s then word (codes "may enter")
@@ -26,7 +26,7 @@ missing_of s =
 abbrev pub permission_of : Node → List Known
 permission_of s = if is_waiting s.phase then missing_of s else []
 
--- its clock, its request with what that waits for, and the requests whose replies it holds back
+-- its clock, its request with what it waits for, and the requests whose replies it defers
 abbrev pub known_of : Node → List Known
 known_of s =
     one (codes "clock") (item.Number s.highest) ++ request_of s ++ permission_of s

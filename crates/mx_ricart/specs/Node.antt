@@ -5,7 +5,7 @@ use Rattle.mx_nodelaws.specs.declared.phase.Phase.{Phase}
 
 pub record Node : Type 0 where
   pub me : ℕ
-  -- how many nodes the cluster has
+  -- the number of nodes in the cluster
   pub count : ℕ
   -- the greatest section number
   pub limit : ℕ
@@ -16,9 +16,9 @@ pub record Node : Type 0 where
   pub ours : Stamp
   -- for each node, whether its reply to the current request has counted
   pub got : List Bool
-  -- for each node, its request whose reply is deferred
+  -- for each node, its request if the reply is deferred
   pub deferred : List (Option Stamp)
   -- the highest section number that it knows
   pub top : ℕ
-  -- the number of the last section that it entered, 0 before the first
+  -- the number of the last section that it entered, or 0 before the first
   pub mine : ℕ

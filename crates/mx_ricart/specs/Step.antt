@@ -1,6 +1,6 @@
--- The step table: for each call the node's next state, the answer, and the letters that are sent.
+-- The step table: for each call the node's next state, the result, and the letters that are sent.
 -- Each row says which part of it is published (Ricart and Agrawala 1981) and which is added here.
--- What a phase refuses is in mx_nodelaws, specs/Calls.antt.
+-- Refusals by the phase are in mx_nodelaws, specs/Calls.antt.
 use Rattle.std.specs.Prelude.{ℕ, ◌+◌, ◌<◌, ◌≤◌, ◌≡◌, ◌≢◌, Bool, true, false, ◌||◌, ◌&&◌, not, [], ◌∷◌, Option, Some, None, max, nat_lt, nat_eq, if◌then◌else◌, slice_index_or, slice_set, replicate}
 use Rattle.mx_stamps.specs.declared.limits.TheConstants.{MOST_NODES}
 use Rattle.mx_stamps.specs.declared.stamp.Stamp.{Stamp}
@@ -15,7 +15,7 @@ use Rattle.mx_nodelaws.specs.Tests.{all_below}
 use Rattle.mx_nodelaws.specs.Rows.{Rows, core_of}
 use Rattle.mx_ricart.specs.Node.{Node}
 
--- the numbers of nodes that a cluster may have
+-- the number of nodes that a cluster may have
 abbrev pub IsCount : ℕ → Type 0
 IsCount n = (0 < n) × (n ≤ MOST_NODES)
 
@@ -42,7 +42,7 @@ is_other s j = nat_lt j s.count && not (nat_eq j s.me)
 abbrev pub has_reply : Node → ℕ → Bool
 has_reply s j = slice_index_or s.got j false
 
--- the request of node j that waits for a reply
+-- the request of node j whose reply is deferred
 abbrev pub deferred_at : Node → ℕ → Option Stamp
 deferred_at s j = slice_index_or s.deferred j None
 
@@ -59,10 +59,10 @@ has_all_replies s = all_below (is_replied s) s.count
 
 -- ask: the clock's next stamp, no reply yet, and a request to every other node.
 -- Published: the process that invokes mutual exclusion, up to its wait for the replies. There the
--- request takes the highest number + 1, and leaves the highest number as it was.
--- Added: the request's number becomes the highest, so that no two requests of a node bear one
--- stamp, and a reply to an older one is known by it. A request is above all that its node has seen,
--- as there. Where no number is left the call is refused.
+-- request takes the highest number + 1, and does not change the highest number.
+-- Added: the request's number becomes the highest, so that no two requests of a node have one
+-- stamp, and a reply to an older one is known by it. As in the publication, a request is above all
+-- that its node has seen. If no number remains, the call is refused.
 abbrev pub asking : Node → Node
 asking s = record s {
   highest = s.highest + 1;
@@ -83,13 +83,13 @@ asked s = record {
 
 -- a request comes: the clock sees its number, and the reply is sent at once or deferred.
 -- Published: the process that receives REQUEST messages.
--- Added: the reply repeats the stamp that it answers, as it may come late, and carries `top`, for
+-- Added: the reply repeats the stamp of the request, as it may come late, and carries `top`, for
 -- the numbers of sections. Of two deferred requests of one node the later counts, as requests are
 -- sent again and may overtake one another.
 abbrev pub seeing : Node → ℕ → Node
 seeing s number = record s { highest = max s.highest number }
 
--- the later of the request that waits, if there is one, and the new one
+-- the later of the deferred request, if there is one, and the new one
 abbrev pub later_of : Option Stamp → Stamp → Stamp
 later_of None stamp = stamp
 later_of (Some old) stamp = if is_before_of old stamp then stamp else old
@@ -104,16 +104,16 @@ deferring s stamp = record s {
 abbrev pub replied : Node → Stamp → Done Node (Unit {0}) RicartMsg
 replied s stamp = sending s ((stamp.node, Reply stamp s.top) ∷ [])
 
--- it is deferred where the node's own request is current and comes first
+-- it is deferred if the node's own request is current and comes first
 abbrev pub take_request : Node → Stamp → Done Node (Unit {0}) RicartMsg
 take_request s stamp =
     if is_busy s.phase && is_before_of s.ours stamp
     then becoming (deferring (seeing s stamp.number) stamp)
     else replied (seeing s stamp.number) stamp
 
--- a reply comes: it counts once, while the node waits, where it bears the current stamp.
+-- a reply comes: it counts once, while the node waits, if it has the current stamp.
 -- Published: the process that receives REPLY messages, which counts every reply.
--- Added: both tests, since replies may come late or twice; and what the reply tells of `top`.
+-- Added: both tests, since replies may come late or twice; and the section number `top`.
 abbrev pub counting : Node → ℕ → ℕ → Node
 counting s from top = record s { got = slice_set s.got from true; top = max s.top top }
 
@@ -132,15 +132,15 @@ deliver_of from (Reply stamp top) s =
     if is_other s from then take_reply s from stamp top else becoming s
 
 -- enter: the section's number is one above the highest that the node knows.
--- Published: the process that invokes mutual exclusion, where no reply is outstanding any more.
--- Added: the section's number, and the refusal where the limit is reached.
+-- Published: the process that invokes mutual exclusion, once no reply is outstanding.
+-- Added: the section's number, and the refusal if the limit is reached.
 abbrev pub entering : Node → Node
 entering s = record s { top = s.top + 1; mine = s.top + 1; phase = Inside (s.top + 1) }
 
 -- leave: each deferred reply is sent.
 -- Published: the end of the process that invokes mutual exclusion.
 -- Added: the stamp and `top` in each reply.
--- cancel: the same, of a node that waits. Added: its request has ended, and it enters nothing.
+-- cancel: the same, for a waiting node. Added: its request has ended, and it enters nothing.
 abbrev pub ending : Node → Node
 ending s = record s { phase = Idle; deferred = replicate MOST_NODES None }
 

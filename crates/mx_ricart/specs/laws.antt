@@ -1,6 +1,6 @@
--- Tests (what the table's tests mean), Frame (what any step leaves as it was), Rows (each row keeps
--- a world safe), Bounds (numbers are u64 values, and names are nodes), Safety (exclusion and
--- numbering), Laws (all together, with the promises on phases).
+-- Tests: what the table's tests mean. Frame: what a step does not change. Rows: each row keeps a
+-- world safe. Bounds: numbers are u64 values, and names are nodes. Safety: exclusion and numbering.
+-- Laws: all together, with the promises on phases.
 pub mod Tests
 pub mod Frame
 pub mod Rows

@@ -1,11 +1,11 @@
-//! How many nodes a cluster has.
+//! The number of nodes in a cluster.
 
 ghost use Rattle.std.specs.Prelude.{◌≡◌, ◌<◌, ◌≤◌, ◌↔◌, IsSome, IfSome};
 
 use mx_stamps::MOST_NODES;
 use std::marker::Model;
 
-/// How many nodes a cluster has, from 1 to 21.
+/// The number of nodes in a cluster, from 1 to 21.
 #[derive(Clone, Copy, Debug, PartialEq, Eq)]
 pub struct Count {
     nodes: u8,
@@ -25,7 +25,7 @@ impl Model for Count {
 }
 
 impl Count {
-    /// This number of nodes. None where it is 0 or above 21.
+    /// Creates the count of this number of nodes. Returns `None` if it is 0 or above 21.
     pub fn of(nodes: u8) -> Option<Count>
         ensures some { IsSome result ↔ ((0 < nodes) × (nodes ≤ MOST_NODES)) }
         ensures value { IfSome result (λ c. c ≡ nodes) }
@@ -37,7 +37,7 @@ impl Count {
         }
     }
 
-    /// The number of nodes.
+    /// Returns the number of nodes.
     pub fn get(self) -> u8
         ensures value { result ≡ self }
         ensures low { 0 < result }

@@ -1,4 +1,4 @@
-//! What a node knows, as it is shown.
+//! The knowledge of a node, as it is shown.
 
 ghost use Rattle.std.specs.Prelude.{◌≡◌, ◌++◌, IfOk, OnOk};
 ghost use Rattle.mx_knowledge.specs.Tables.{below};
@@ -47,7 +47,7 @@ impl Ricart {
         }
     }
 
-    /// Adds whose replies are missing, or that the node may enter.
+    /// Adds the nodes whose replies are missing, or that the node may enter.
     fn add_missing(&self, alloc: Global, facts: &mut Facts) -> Result<(), AllocError>
         ensures { OnOk result (facts.new ≡ facts.old ++ missing_of self.now) }
     {
@@ -59,7 +59,7 @@ impl Ricart {
         }
     }
 
-    /// The other nodes whose reply to the current request has not counted.
+    /// Returns the other nodes whose reply to the current request has not counted.
     fn missing(&self, alloc: Global) -> Result<Vec<Item>, AllocError>
         ensures { IfOk result (λ items. items.items ≡ below (missing_at self.now) self.now.count) }
     {

@@ -9,13 +9,13 @@ use mx_nodelaws::Phase;
 use mx_stamps::{Clock, MOST_NODES, NodeId, Stamp};
 use std::marker::Model;
 
-/// A node of the algorithm. Its calls are those of `Exclusion`. Names with capitals are the
-/// publication's.
+/// A node of Ricart and Agrawala's algorithm. Its calls are those of `Exclusion`. Names in capitals
+/// are the publication's.
 #[derive(Drop)]
 pub struct Ricart {
     /// The node itself (ME).
     pub(crate) me: NodeId,
-    /// How many nodes the cluster has (N).
+    /// The number of nodes in the cluster (N).
     pub(crate) count: Count,
     /// The greatest section number, from 1 to 1,000,000. Added to the publication.
     pub(crate) limit: u64,
@@ -23,21 +23,21 @@ pub struct Ricart {
     /// last two.
     pub(crate) phase: Phase,
     /// The highest stamp number that the node has drawn or has seen in a request; the origin at the
-    /// start (Highest_Sequence_Number, which in the publication its own requests do not raise).
+    /// start (Highest_Sequence_Number). In the publication its own requests do not raise it.
     pub(crate) highest: Clock,
     /// The stamp of the node's latest request (Our_Sequence_Number, with ME). It is current while
     /// the node waits or is inside; while the node is idle no rule reads it.
     pub(crate) ours: Stamp,
     /// For each node, whether its reply to the current request has counted. The publication counts
-    /// down Outstanding_Reply_Count instead, but here a reply may come twice.
+    /// down Outstanding_Reply_Count instead; here a reply may come twice.
     pub(crate) got: [bool; MOST_NODES as usize],
-    /// For each node, the stamp of its request whose reply waits until this node leaves
-    /// (Reply_Deferred, which is a truth value there). All are None while the node is idle.
+    /// For each node, the stamp of its deferred request, to which this node replies when it leaves
+    /// (Reply_Deferred, a Boolean there). All are `None` while the node is idle.
     pub(crate) deferred: [Option<Stamp>; MOST_NODES as usize],
     /// The highest section number that the node knows, from its own sections and from the replies
     /// that counted; 0 at the start. Added to the publication.
     pub(crate) top: u64,
-    /// The number of the last section that the node entered, 0 before the first. Added to the
+    /// The number of the last section that the node entered, or 0 before the first. Added to the
     /// publication.
     pub(crate) mine: u64,
 }
@@ -73,21 +73,21 @@ impl Ricart {
     ghost use Rattle.mx_nodelaws.specs.Phases.{is_busy};
     ghost use Rattle.mx_ricart.specs.Step.{is_other, HasAllReplies, has_all_replies, request_others, request_missing, reply_deferred, ended, take_request, take_reply};
 
-    /// Whether this is a node of the cluster, and not this one.
+    /// Returns whether this is another node of the cluster.
     pub(crate) fn is_other(&self, node: NodeId) -> bool
         ensures { result ≡ is_other self.now node }
     {
         node.get() < self.count.get() && node.get() != self.me.get()
     }
 
-    /// Whether the node has a current stamp: it waits or is inside.
+    /// Returns whether the node has a current stamp: it waits or is inside.
     fn is_busy(&self) -> bool
         ensures { result ≡ is_busy self.now.phase }
     {
         !matches!(self.phase, Phase::Idle)
     }
 
-    /// Whether the reply of every other node has counted.
+    /// Returns whether the reply of every other node has counted.
     pub(crate) fn has_all_replies(&self) -> bool
         ensures value { result ≡ has_all_replies self.now }
         ensures all { IsTrue result ↔ HasAllReplies self.now }
@@ -101,7 +101,7 @@ impl Ricart {
         all
     }
 
-    /// Sends our request to every other node.
+    /// Sends the current request to every other node.
     pub(crate) fn send_requests(&self, out: &mut Outbox<RicartMsg>)
         requires { out.old ≡ [] }
         ensures { out.new ≡ addressed (request_others self.now) self.now.count }
@@ -115,7 +115,7 @@ impl Ricart {
         }
     }
 
-    /// Sends our request to every other node whose reply is missing.
+    /// Sends the current request to every other node whose reply is missing.
     pub(crate) fn send_missing(&self, out: &mut Outbox<RicartMsg>)
         requires { out.old ≡ [] }
         ensures { out.new ≡ addressed (request_missing self.now) self.now.count }
@@ -129,7 +129,7 @@ impl Ricart {
         }
     }
 
-    /// Sends a reply to each request that waits for one.
+    /// Sends a reply to each deferred request.
     fn send_replies(&self, out: &mut Outbox<RicartMsg>)
         requires { out.old ≡ [] }
         ensures { out.new ≡ addressed (reply_deferred self.now) self.now.count }
@@ -143,7 +143,7 @@ impl Ricart {
         }
     }
 
-    /// Ends the current request: the node is idle, and sends each deferred reply.
+    /// Ends the current request: the node becomes idle, and sends each deferred reply.
     pub(crate) fn end_request(&mut self, out: &mut Outbox<RicartMsg>)
         requires { out.old ≡ [] }
         ensures state { self.new ≡ (ended self.old).state }
@@ -155,8 +155,8 @@ impl Ricart {
         self.deferred = none;
     }
 
-    /// Takes a request of another node. Its reply has to wait where our own request is current and
-    /// comes first in the order of stamps.
+    /// Takes a request of another node. Its reply is deferred if this node's own request is current
+    /// and comes first in the order of stamps.
     pub(crate) fn take_request(&mut self, stamp: Stamp, out: &mut Outbox<RicartMsg>)
         requires { out.old ≡ [] }
         ensures state { self.new ≡ (take_request self.old stamp).state }
@@ -184,7 +184,7 @@ impl Ricart {
     }
 }
 
-/// The later of the request that waits, if there is one, and the new one.
+/// Returns the later of the deferred request, if there is one, and the new one.
 fn later(waiting: &Option<Stamp>, stamp: Stamp) -> Stamp
     ensures { result ≡ later_of waiting.now stamp }
 {

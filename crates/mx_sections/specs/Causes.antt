@@ -1,9 +1,9 @@
--- What the cause of a refusal is called.
+-- The words for the cause of a refusal.
 use Rattle.std.specs.Prelude.{ℕ, List, Option, Some, None, codes}
 use Rattle.mx_sections.specs.declared.outcome.Cause.{Cause}
 use Rattle.mx_sections.specs.declared.outcome.Cause.TheVariants.{NotIdle, StampsSpent, NotWaiting, NotGranted, NumbersSpent, NotInside, NoRegister, Gap, Full, Below}
 
--- its words, without the number that a gap or a base has
+-- its words, without the number of a gap or a base
 abbrev pub cause_words : Cause → List ℕ
 cause_words NotIdle = codes "not idle"
 cause_words StampsSpent = codes "stamps spent"
@@ -16,7 +16,7 @@ cause_words (Gap n) = codes "gap"
 cause_words Full = codes "full"
 cause_words (Below n) = codes "below"
 
--- the number that a gap or a base has
+-- the number of a gap or a base
 abbrev pub cause_number : Cause → Option ℕ
 cause_number (Gap n) = Some n
 cause_number (Below n) = Some n

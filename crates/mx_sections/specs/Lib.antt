@@ -1,5 +1,5 @@
--- Sections: the sections of a history. Serial: what a history must be to be serial.
--- Trace: what is said of a trace alone. Causes: what the cause of a refusal is called.
+-- Sections: the sections of a history. Serial: when a history is serial. Trace: properties of a
+-- trace by itself. Causes: the words for the cause of a refusal.
 pub mod Sections
 pub mod Serial
 pub mod Trace

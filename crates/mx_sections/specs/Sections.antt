@@ -1,12 +1,12 @@
--- The sections that a history tells of, in order of entry, and their journal.
+-- The sections of a history, in order of entry, and their journal.
 use Rattle.std.specs.Prelude.{ℕ, suc, ◌&&◌, ◌++◌, Bool, true, false, not, List, [], ◌∷◌, length, nat_eq, nat_lt, if◌then◌else◌}
 use Rattle.mx_journal.specs.declared.records.Write.{Write}
 use Rattle.mx_journal.specs.declared.records.Record.{Record}
 use Rattle.mx_journal.specs.declared.receipts.Receipt.{Receipt}
 use Rattle.mx_journal.specs.Drafted.{Drafted, fresh, with_read, with_write, receipt_of, record_of}
 
--- what an event tells of sections: a node enters, reads a value from a register, writes one,
--- leaves, or wakes up again
+-- a mark, what an event does in sections: a node enters, reads a value from a register, writes one,
+-- leaves, or restarts
 pub data Mark : Type 0 where
   Came : (node number : ℕ) → Mark
   Got : (node register value : ℕ) → Mark
@@ -14,8 +14,8 @@ pub data Mark : Type 0 where
   Went : (node : ℕ) (receipt : Receipt) → Mark
   Woke : (node : ℕ) → Mark
 
--- a section: the node that entered it, what the node read and wrote in it since it entered or last
--- woke up, and whether it was left
+-- a section: the node that entered it, the node's reads and writes in it since it entered or last
+-- restarted, and whether it was left
 pub record Section : Type 0 where
   pub node : ℕ
   pub draft : Drafted
@@ -30,13 +30,13 @@ redrafted f s = record { node = s.node; draft = f s.draft; closed = s.closed }
 abbrev pub closing : Section → Section
 closing s = record { node = s.node; draft = s.draft; closed = true }
 
--- the newest section that node i has entered and not left is changed by f
+-- f changes the newest section that node i has entered and not left
 abbrev pub at_open : ℕ → (Section → Section) → List Section → List Section
 at_open i f [] = []
 at_open i f (s ∷ ss) = if nat_eq s.node i && not s.closed then f s ∷ ss else s ∷ at_open i f ss
 
--- the sections after a mark. They are listed with the newest first, so that n - 1 others stand
--- behind the n-th
+-- the sections after a mark. They are listed with the newest first, so that n - 1 others follow the
+-- n-th
 abbrev pub after_mark : List Section → Mark → List Section
 after_mark ss (Came i n) = opened i ∷ ss
 after_mark ss (Got i register value) = at_open i (redrafted (with_read register value)) ss
@@ -62,7 +62,7 @@ oldest k (s ∷ ss) = if nat_lt (length ss) k then s ∷ ss else oldest k ss
 abbrev pub section_receipt : ℕ → Section → Receipt
 section_receipt n s = receipt_of n s.node s.draft
 
--- the record of the n-th section, where it is closed
+-- the record of the n-th section, if it is closed
 abbrev pub closed_record : ℕ → Section → List Record
 closed_record n s = if s.closed then record_of (section_receipt n s) ∷ [] else []
 

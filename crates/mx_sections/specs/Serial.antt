@@ -1,4 +1,4 @@
--- What a history must be so that its sections stand one behind another.
+-- When the sections of a history follow one another.
 use Rattle.std.specs.Prelude.{ℕ, suc, ◌≡◌, ◌≤◌, ◌++◌, true, false, List, [], ◌∷◌, Option, Some, None, length, take}
 use Rattle.mx_stamps.specs.Lists.{IsIn}
 use Rattle.mx_journal.specs.declared.records.Write.{Write}
@@ -15,13 +15,13 @@ abbrev pub IsInNewest : ℕ → List Section → Type 0
 IsInNewest i [] = ⊥
 IsInNewest i (s ∷ ss) = (s.node ≡ i) × (s.closed ≡ false)
 
--- node i is inside the newest section, and n is its number: how many sections there are
+-- node i is inside the newest section, and n is its number: the number of sections
 abbrev pub IsInSection : ℕ → ℕ → List Section → Type 0
 IsInSection i n ss = IsInNewest i ss × (n ≡ length ss)
 
--- what a mark must be after these sections. An entry finds all of them left, and bears the next
--- number. A read is of the node inside, and its value is what all writes so far, in order of entry,
--- leave in the register. A write is of the node inside. A receipt is the newest section's, of the
+-- when a mark fits these sections. An entry comes after all of them were left, and has the next
+-- number. A read is by the node inside, and its value is the register's after all writes so far, in
+-- order of entry. A write is by the node inside. A receipt is that of the newest section, by the
 -- node inside
 abbrev pub Fits : List Section → Mark → Type 0
 Fits ss (Came i n) = AllClosed ss × (n ≡ suc (length ss))
@@ -32,13 +32,13 @@ Fits (s ∷ ss) (Went i receipt) =
     IsInNewest i (s ∷ ss) × (receipt ≡ section_receipt (suc (length ss)) s)
 Fits ss (Woke i) = Unit {0}
 
--- each mark fits what stands before it
+-- each mark fits those before it
 abbrev pub AllFit : List Section → List Mark → Type 0
 AllFit ss [] = Unit {0}
 AllFit ss (m ∷ ms) = Fits ss m × AllFit (after_mark ss m) ms
 
--- the read has the value that the writes before its section and the section's own before it leave
--- in the register
+-- the read has the register's value after the writes before its section and the section's own
+-- before it
 abbrev pub IsSerialRead : List Write → List Write → Read → Type 0
 IsSerialRead before writes read =
     (read.after ≤ length writes)
@@ -51,8 +51,8 @@ ReadSerially (s ∷ ss) =
     ((x : Read) → IsIn x s.draft.reads → IsSerialRead (writes_in ss) s.draft.writes x)
     × ReadSerially ss
 
--- from a moment at which nobody is inside, or this node with this number: entries and leavings
--- alternate, and each leaving has the node and the number of the entry before it
+-- from a moment at which nobody is inside, or this node with this number: entries and exits
+-- alternate. Each exit has the node and the number of the entry before it
 abbrev pub Alternate : Option (ℕ × ℕ) → List Mark → Type 0
 Alternate inside [] = Unit {0}
 Alternate None (Came i n ∷ ms) = Alternate (Some (i, n)) ms
@@ -63,7 +63,7 @@ Alternate inside (Got i register value ∷ ms) = Alternate inside ms
 Alternate inside (Wrote i register value ∷ ms) = Alternate inside ms
 Alternate inside (Woke i ∷ ms) = Alternate inside ms
 
--- the entries bear the numbers from `next` on
+-- the entries have the numbers from `next` on
 abbrev pub NumberedFrom : ℕ → List Mark → Type 0
 NumberedFrom next [] = Unit {0}
 NumberedFrom next (Came i n ∷ ms) = (n ≡ next) × NumberedFrom (suc next) ms

@@ -1,4 +1,4 @@
--- What is said of a trace alone: exclusion and numbering, its sections, their journal and their
+-- Properties of a trace by itself: exclusion and numbering, its sections, their journal and their
 -- order.
 use Rattle.std.specs.Prelude.{ℕ, ◌≤◌, List, [], ◌∷◌, ◌++◌, None}
 use Rattle.mx_stamps.specs.declared.limits.TheConstants.{MOST_REGISTERS}
@@ -24,7 +24,7 @@ mark_of (Leave i) (Left receipt) = Went i receipt ∷ []
 mark_of (Restart i) Woken = Woke i ∷ []
 mark_of _ _ = []
 
--- what the items of a trace tell, in order
+-- the marks of the items of a trace, in order
 abbrev pub marks : List Entry → List Mark
 marks [] = []
 marks (e ∷ es) = mark_of e.event e.outcome ++ marks es
@@ -33,7 +33,7 @@ marks (e ∷ es) = mark_of e.event e.outcome ++ marks es
 abbrev pub IsExclusive : List Entry → Type 0
 IsExclusive trace = Alternate None (marks trace)
 
--- the n-th section entered bears the number n
+-- the n-th section entered has the number n
 abbrev pub IsNumbered : List Entry → Type 0
 IsNumbered trace = NumberedFrom 1 (marks trace)
 
@@ -45,13 +45,14 @@ sections trace = after_marks [] (marks trace)
 abbrev pub journal_of : List Entry → List Record
 journal_of trace = section_journal (sections trace)
 
--- the sections stand one behind another: each value read is what the writes before it, in order of
--- entry, leave in the register, and each receipt is that of its section
+-- the sections follow one another: each value read is the register's after the writes before it, in
+-- order of entry, and each receipt is that of its section
 abbrev pub IsSerial : List Entry → Type 0
 IsSerial trace = AllFit [] (marks trace)
 
--- where the journal covers the first k sections and no others, its registers, of which a base keeps
--- the most, are what the writes of these sections leave, applied in order of entry
+-- if the journal covers exactly the first k sections, its registers have the values after the
+-- writes of these sections, applied in order of entry. There are at most as many registers as in a
+-- base
 abbrev pub ShowsInOrder : List Entry → JournalState → Type 0
 ShowsInOrder trace journal =
     (k count : ℕ) → count ≤ MOST_REGISTERS → IsCovered k journal → top_covered journal ≤ k →

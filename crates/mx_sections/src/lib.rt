@@ -1,6 +1,6 @@
-//! What comes of events, the items of a trace, and what sections are: for members and clusters, of
-//! which it is proved, and for those who print and judge traces. None of them has to wait for the
-//! cluster.
+//! Outcomes of events, items of a trace, and the definition of sections. Members and clusters are
+//! proved to follow it, and the crates that print and judge traces use it. None of them has to wait
+//! for the cluster.
 #![tactic(auto)]
 
 mod outcome;

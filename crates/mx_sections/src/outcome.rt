@@ -1,4 +1,4 @@
-//! What comes of an event, and the items of a trace.
+//! Outcomes of events, and the items of a trace.
 
 ghost use Rattle.std.specs.Prelude.{◌≡◌};
 ghost use Rattle.mx_sections.specs.Causes.{cause_number, cause_words};
@@ -7,27 +7,34 @@ use mx_events::Event;
 use mx_journal::Receipt;
 use mx_stamps::Stamp;
 
-/// Why a node refused.
+/// Why a node refuses an event.
 #[derive(Clone, Copy, Debug, PartialEq, Eq)]
 pub enum Cause {
+    /// The node waits already, or is inside.
     NotIdle,
+    /// No next stamp exists.
     StampsSpent,
+    /// The node is idle, or inside.
     NotWaiting,
+    /// A permission is missing.
     NotGranted,
+    /// The highest section number that the node knows is the limit.
     NumbersSpent,
+    /// The node is not inside.
     NotInside,
+    /// There is no such register.
     NoRegister,
-    /// The journal does not cover this section, the first that it does not: below the one that is
-    /// read in, or up to the number that is to be settled.
+    /// The journal does not cover this section, the first that it lacks. It is below the section
+    /// that reads, or up to the number that is to be settled.
     Gap(u64),
     /// The section has eight reads already, at a read, or eight writes, at a write.
     Full,
-    /// The journal's base is of more sections already, of those up to this one.
+    /// The journal's base already covers more sections: those up to this one.
     Below(u64),
 }
 
 impl Cause {
-    /// What it is called, without the number that a gap or a base has.
+    /// Returns the words for the cause, without the number of a gap or a base.
     pub fn words(&self) -> &'static str
         ensures { result.now ≡ cause_words self.now }
     {
@@ -45,7 +52,7 @@ impl Cause {
         }
     }
 
-    /// The number that a gap or a base has.
+    /// Returns the number of a gap or a base.
     pub fn number(&self) -> Option<u64>
         ensures { result ≡ cause_number self.now }
     {
@@ -56,21 +63,21 @@ impl Cause {
     }
 }
 
-/// What came of an event.
+/// The outcome of an event.
 #[derive(Debug, PartialEq, Eq, Drop)]
 pub enum Outcome {
     /// The stamp of the request.
     Asked(Stamp),
     /// The number of the section.
     Entered(u64),
-    /// What was read.
+    /// The value that was read.
     Value(u64),
     Written,
-    /// The reads and the writes of the section.
+    /// The reads and writes of the section.
     Left(Receipt),
     Cancelled,
     Settled,
-    /// How many parcels were sent.
+    /// The number of parcels that were sent.
     Sent(u64),
     Delivered,
     Woken,
@@ -79,7 +86,7 @@ pub enum Outcome {
 }
 
 impl Outcome {
-    /// An equal outcome.
+    /// Copies the outcome.
     pub fn copy(&self) -> Outcome
         ensures { result ≡ self.now }
     {
@@ -99,9 +106,11 @@ impl Outcome {
     }
 }
 
-/// An item of the trace.
+/// An item of a trace: an event and its outcome.
 #[derive(Debug, PartialEq, Eq, Drop)]
 pub struct Entry {
+    /// The event.
     pub event: Event,
+    /// The outcome of the event.
     pub outcome: Outcome,
 }

@@ -1,4 +1,4 @@
--- What a cluster of one node keeps.
+-- What holds for a cluster of one node.
 use Rattle.std.specs.Prelude.{ℕ, ◌≡◌, ◌<◌, length}
 use Rattle.mx_nodelaws.specs.World.{World, WasSent}
 use Rattle.mx_nodelaws.specs.Bounds.{IsU64, BoundedPhase}

@@ -1,4 +1,4 @@
--- The step table: a node enters when it likes. What a phase refuses is in mx_nodelaws,
+-- The step table: a node enters at any time. Refusals by the phase are in mx_nodelaws,
 -- specs/Calls.antt.
 use Rattle.std.specs.Prelude.{ℕ, ◌+◌, true, []}
 use Rattle.mx_stamps.specs.declared.stamp.Stamp.{Stamp}
@@ -12,7 +12,7 @@ use Rattle.mx_solo.specs.Node.{Node}
 abbrev pub start_of : One → ℕ → ℕ → ℕ → Node
 start_of shape me origin limit = record { me = me; limit = limit; phase = Idle; mine = 0 }
 
--- ask: there is no clock, and the stamp bears the number of the last section
+-- ask: there is no clock, and the stamp has the number of the last section
 abbrev pub asked : Node → Done Node Stamp ℕ
 asked s = record {
   state = record s { phase = Waiting };
@@ -23,11 +23,11 @@ asked s = record {
 abbrev pub entering : Node → Node
 entering s = record s { phase = Inside (s.mine + 1); mine = s.mine + 1 }
 
--- leave and cancel: the node rests
+-- leave and cancel: the node becomes idle
 abbrev pub rested : Node → Done Node (Unit {0}) ℕ
 rested s = becoming (record s { phase = Idle })
 
--- the table of a cluster of `count` nodes that enter when they like
+-- the table of a cluster of `count` nodes that enter at any time
 abbrev pub solo_rows : ℕ → Rows One Node ℕ
 solo_rows count = record {
   count = λ shape. count;

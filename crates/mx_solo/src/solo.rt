@@ -5,7 +5,7 @@ use mx_nodelaws::{AskFault, CancelFault, EnterFault, Exclusion, LeaveFault, Phas
 use mx_stamps::{NodeId, Stamp};
 use std::marker::Model;
 
-/// The shape of a cluster of one node. It holds nothing.
+/// The shape of a cluster of one node. It has no data.
 #[derive(Clone, Copy, Debug, PartialEq, Eq)]
 pub struct One;
 
@@ -74,7 +74,7 @@ impl Exclusion for Solo {
             return Err(AskFault::NotIdle);
         }
         self.phase = Phase::Waiting;
-        // there is no clock: the stamp bears the number of the last section
+        // there is no clock: the stamp has the number of the last section
         Ok(Stamp {
             number: self.mine,
             node: self.me,

@@ -1,4 +1,5 @@
--- Stamp: the stamp order. Numbers: where numbers end. Lists: what is said of lists throughout.
+-- Stamp: the stamp order. Numbers: the last number. Lists: definitions on lists that all crates
+-- use.
 pub mod Stamp
 pub mod Numbers
 pub mod Lists

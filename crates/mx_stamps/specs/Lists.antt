@@ -1,4 +1,4 @@
--- Words on lists that all crates use.
+-- Definitions on lists that all crates use.
 use Rattle.std.specs.Prelude.{ℕ, zero, suc, ◌≡◌, ◌⊎◌, List, [], ◌∷◌, ◌++◌, max}
 
 -- x is in the list
@@ -11,7 +11,7 @@ abbrev pub each_below : {X : Type 0} → (ℕ → X) → ℕ → List X
 each_below f zero = []
 each_below f (suc n) = each_below f n ++ f n ∷ []
 
--- the greatest value of f in the list, 0 where it is empty
+-- the greatest value of f in the list, or 0 if it is empty
 abbrev pub greatest : {X : Type 0} → (X → ℕ) → List X → ℕ
 greatest f [] = 0
 greatest f (x ∷ xs) = max (f x) (greatest f xs)

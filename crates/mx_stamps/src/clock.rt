@@ -7,7 +7,7 @@ use crate::node_id::NodeId;
 use crate::stamp::Stamp;
 use std::marker::Model;
 
-/// The highest number that a node has seen or drawn.
+/// A logical clock: the highest number that a node has seen or drawn (Lamport 1978).
 #[derive(Clone, Copy, Debug, PartialEq, Eq)]
 pub struct Clock {
     highest: u64,
@@ -24,29 +24,29 @@ impl Model for Clock {
 }
 
 impl Clock {
-    /// A clock that has seen this number.
+    /// Creates a clock that has seen this number.
     pub fn at(number: u64) -> Clock
         ensures { result ≡ number }
     {
         Clock { highest: number }
     }
 
-    /// The highest number that it has seen or drawn.
+    /// Returns the highest number that it has seen or drawn.
     pub fn highest(&self) -> u64
         ensures { result ≡ self.now }
     {
         self.highest
     }
 
-    /// Notes a number that another node has drawn.
+    /// Takes note of a number that another node has drawn.
     pub fn see(&mut self, number: u64)
         ensures { self.new ≡ max self.old number }
     {
         self.highest = self.highest.max(number);
     }
 
-    /// Draws the next stamp of a node: its number is above all that the clock has seen. There is
-    /// none after 18446744073709551615.
+    /// Draws the node's next stamp, with a number above all that the clock has seen. Returns `None`
+    /// after 18446744073709551615, the greatest `u64` value.
     pub fn next(&mut self, node: NodeId) -> Option<Stamp>
         ensures spent { IsNone result ↔ (self.old ≡ last_number) }
         ensures value { IfSome result

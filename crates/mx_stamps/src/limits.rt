@@ -3,7 +3,7 @@
 /// The greatest number of nodes in a cluster.
 pub const MOST_NODES: u8 = 21;
 
-/// The greatest number of registers that a cluster guards. A base of a journal has this many.
+/// The greatest number of registers that a cluster guards, and the length of a journal's base.
 pub const MOST_REGISTERS: u8 = 32;
 
 /// The greatest section number that a cluster may allow.

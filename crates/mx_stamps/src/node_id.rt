@@ -1,4 +1,4 @@
-//! The number of a node.
+//! Node numbers.
 
 ghost use Rattle.std.specs.Prelude.{◌≡◌, ◌<◌, ◌↔◌, IsSome, IfSome, Some, decimal};
 
@@ -6,7 +6,7 @@ use crate::limits::MOST_NODES;
 use std::fmt;
 use std::marker::Model;
 
-/// A node, by its number from 0 to 20.
+/// The number of a node, from 0 to 20.
 #[derive(Clone, Copy, Debug, Default, PartialEq, Eq, PartialOrd, Ord, Hash)]
 pub struct NodeId {
     index: u8,
@@ -26,7 +26,7 @@ impl Model for NodeId {
 }
 
 impl NodeId {
-    /// The node of this number. None from 21 on: no cluster has such a node.
+    /// Returns the node with this number. Returns `None` from 21 on: no cluster has such a node.
     pub fn of(index: u8) -> Option<NodeId>
         ensures some { IsSome result ↔ (index < MOST_NODES) }
         ensures value { IfSome result (λ n. n ≡ index) }
@@ -38,7 +38,7 @@ impl NodeId {
         }
     }
 
-    /// Its number.
+    /// Returns the number.
     pub fn get(self) -> u8
         ensures value { result ≡ self }
         ensures bound { result < MOST_NODES }
@@ -47,7 +47,7 @@ impl NodeId {
     }
 }
 
-/// Writes its number, in decimal.
+/// Writes the number in decimal.
 impl fmt::Display for NodeId {
     ghost output = { λ n. Some (decimal n) };
 

@@ -6,11 +6,13 @@ ghost use Rattle.mx_stamps.specs.Stamp.{Before, is_before_of, is_same_as};
 use crate::node_id::NodeId;
 use std::cmp::Ordering;
 
-/// The stamp of a request: a number from its node's clock, and that node. Stamps are ordered by
-/// number, and then by node (Lamport 1978); `Ord` is that order.
+/// The stamp of a request: a number drawn from its node's clock, and that node. `Ord` orders stamps
+/// by number, and then by node (Lamport 1978).
 #[derive(Clone, Copy, Debug, Default, Eq, PartialOrd, Ord, Hash)]
 pub struct Stamp {
+    /// The number, drawn from the node's clock.
     pub number: u64,
+    /// The node that asks.
     pub node: NodeId,
 }
 
@@ -24,7 +26,7 @@ impl PartialEq for Stamp {
 
     ghost laws = { Prim.search (comparing, rules) };
 
-    /// Whether both are the same stamp.
+    /// Returns whether both are the same stamp.
     fn eq(&self, other: &Stamp) -> bool
         ensures value { result ≡ is_same_as self.now other.now }
         ensures same { IsTrue result ↔ (self.now ≡ other.now) }
@@ -34,7 +36,7 @@ impl PartialEq for Stamp {
 }
 
 impl Stamp {
-    /// Whether both are the same stamp.
+    /// Returns whether both are the same stamp.
     pub fn is(&self, other: &Stamp) -> bool
         ensures value { result ≡ is_same_as self.now other.now }
         ensures same { IsTrue result ↔ (self.now ≡ other.now) }
@@ -42,7 +44,7 @@ impl Stamp {
         self.number == other.number && self.node.get() == other.node.get()
     }
 
-    /// Whether this stamp comes before the other in the order of stamps.
+    /// Returns whether this stamp is less than the other.
     pub fn is_before(&self, other: &Stamp) -> bool
         ensures value { result ≡ is_before_of self.now other.now }
         ensures before { IsTrue result ↔ Before self.now other.now }
@@ -51,7 +53,7 @@ impl Stamp {
             || (self.number == other.number && self.node.get() < other.node.get())
     }
 
-    /// Compares two stamps in the order of stamps, which is total.
+    /// Compares two stamps by their numbers, and then by their nodes. The order is total.
     pub fn compare(&self, other: &Stamp) -> Ordering
         ensures less { (result ≡ Ordering.Less) ↔ Before self.now other.now }
         ensures equal { (result ≡ Ordering.Equal) ↔ (self.now ≡ other.now) }

@@ -1,18 +1,18 @@
--- What a seat knows of one node.
+-- The knowledge of a seat about one node.
 use Rattle.std.specs.Prelude.{ℕ, List, Option}
 use Rattle.mx_journal.specs.declared.receipts.Receipt.{Receipt}
 use Rattle.mx_member.specs.declared.parcel.Parcel.{Parcel}
 use Rattle.mx_member.specs.Member.{MemberState}
 use Rattle.mx_member.specs.Running.{Owned}
 
--- how far the node's move of a parcel is: it has claimed this slot, or has taken it
+-- the stage of the node's move of a parcel: it has claimed this slot, or has taken it
 pub data Stage : Type 0 where
   Idle : Stage
   Writing : ℕ → Stage
   Reading : ℕ → Stage
 
--- A parcel is in `sent` with its addressee, in `hand` with its sender, and in `placed` and
--- `taken` with the slot.
+-- A parcel is in `sent` with its addressee, in `hand` with its sender, and in `placed` and `taken`
+-- with the slot.
 pub record Entry (T P : Type 0) : Type 0 where
   pub node : ℕ
   pub member : T

@@ -1,4 +1,4 @@
--- What the stations of one table show together, and what is gathered from them.
+-- What the stations of one table show together, and the result of gathering them.
 use Rattle.std.specs.Prelude.{◌≡◌, ◌≢◌, ◌↔◌, ℕ, suc, ◌<◌, ◌≤◌, List, [], ◌∷◌, ◌++◌, Some, map, length, take, slice_get}
 use Rattle.std.specs.List.Sorted.{IsNonDecreasingBy, IsPermutation}
 use mathlib.Core.Option.{some}
@@ -34,27 +34,27 @@ module _ {T P : Type 0} where
   OfOneTable posts = (table : TableId) × (n : ℕ) × ((k : ℕ) (s : Post T P)
       → get_elem? posts k ≡ some s → (s.table ≡ table) × (s.nodes ≡ n))
 
-  -- a station that came of another by acts and moves is still at its table
+  -- a station after acts and moves is still at its table
   abbrev pub KeepsTable : Post T P → Post T P → Type 0
   KeepsTable s t = (t.table ≡ s.table) × (t.nodes ≡ s.nodes)
 
-  -- how many nodes their table has: at least one, where there is no station
+  -- the number of nodes of their table, or 1 if there is no station
   abbrev pub nodes_in : List (Post T P) → ℕ
   nodes_in [] = 1
   nodes_in (s ∷ posts) = s.nodes
 
-  -- a node's station is there
+  -- the station of a node is among these
   abbrev pub Has : List (Post T P) → ℕ → Type 0
   Has posts i = (k : ℕ) × (s : Post T P) × (get_elem? posts k ≡ some s) × (s.me.node ≡ i)
 
   abbrev pub Lacks : List (Post T P) → ℕ → Type 0
   Lacks posts i = (k : ℕ) (s : Post T P) → get_elem? posts k ≡ some s → s.me.node ≢ i
 
-  -- each node's station is there
+  -- the station of each node is among these
   abbrev pub IsWhole : List (Post T P) → Type 0
   IsWhole posts = (i : ℕ) → i < nodes_in posts → Has posts i
 
-  -- the least node whose station is not there
+  -- the least node whose station is missing
   abbrev pub IsLeastMissing : List (Post T P) → ℕ → Type 0
   IsLeastMissing posts i = (i < nodes_in posts) × Lacks posts i × ((j : ℕ) → j < i → Has posts j)
 
@@ -109,7 +109,7 @@ abbrev pub Disagree : {S : Type 0} → List (Owned S) → Type 0
 Disagree {S} nodes = (k : ℕ) × (o : Owned S) × (all : JournalState) × IsNode nodes k o
     × IsJoinOfNodes (take k nodes) all × (DoAgree all o.member.journal → ⊥)
 
--- as they are put together: the join of all journals, and all receipts, each once, by number
+-- the join of all journals, and all receipts, each once, by number
 pub record IsTogether {S M : Type 0} (posts : List (Post (MemberState S) (Parcel M)))
     (journal : JournalState) (receipts : List Receipt) : Type 0 where
   pub join : IsJoinOfNodes (owned_in posts) journal
@@ -117,29 +117,29 @@ pub record IsTogether {S M : Type 0} (posts : List (Post (MemberState S) (Parcel
   pub each : IsPermutation (receipts_of posts) receipts
   pub sorted : IsNonDecreasingBy (λ (r : Receipt). r.number) receipts
 
--- What is gathered is one serial order of all sections that were left.
+-- The gathered receipts are one serial order of all sections that were left.
 pub record IsGathered {T P : Type 0} (posts : List (Post T P)) (journal : JournalState)
     (receipts : List Receipt) : Type 0 where
   -- the receipts are those of all stations, each once, and each is of the node whose station has it
   pub each : IsPermutation (receipts_of posts) receipts
   pub own : (k : ℕ) (s : Post T P) (r : Receipt) → get_elem? posts k ≡ some s
       → IsIn r s.me.receipts → r.node ≡ s.me.node
-  -- a station's later receipts bear greater numbers
+  -- a station's later receipts have greater numbers
   pub ascends : (j k l : ℕ) (s : Post T P) (r t : Receipt) → get_elem? posts j ≡ some s
       → slice_get s.me.receipts k ≡ Some r → slice_get s.me.receipts l ≡ Some t → k < l
       → r.number < t.number
-  -- they bear 1, 2, 3 and so on
+  -- they have the numbers 1, 2, 3 and so on
   pub numbered : (k : ℕ) (r : Receipt) → slice_get receipts k ≡ Some r → r.number ≡ suc k
-  -- the journal has their records, in order, and nothing else, but that those up to its base are
-  -- settled: the base has the registers after them
+  -- the journal has exactly their records, in order, except that those up to its base are settled:
+  -- the base has the registers after them
   pub records : journal ≡ settled journal.base.upto (unsettled (map record_of receipts))
   -- so it covers the numbers up to their count, and no others
   pub covers : (n : ℕ) → Covers n journal ↔ ((1 ≤ n) × (n ≤ length receipts))
-  -- each value read is what the writes of the receipts before, in order, and the receipt's own
-  -- first writes leave
+  -- each value read is the register's after the writes of the receipts before, in order, and the
+  -- receipt's own writes before the read
   pub reads : (k : ℕ) (r : Receipt) (x : Read) → slice_get receipts k ≡ Some r
       → IsIn x r.reads.items → IsSerialRead (writes_to k (map record_of receipts)) r.writes.items x
-  -- and each register of the journal has what the writes of all receipts, in order, leave
+  -- and each register of the journal has its value after the writes of all receipts, in order
   pub shows : (count : ℕ) → count ≤ MOST_REGISTERS
       → AreApplied (writes_to (length receipts) (map record_of receipts))
       (registers_in count journal)

@@ -17,7 +17,7 @@ pub data SlotState (P : Type 0) : Type 0 where
   filled : P → SlotState P
   taken : SlotState P
 
--- the place of one slot of a link between two of n nodes: which of the four it is tells its index
+-- the place of one slot of a link between two of n nodes; the index is that among the four
 abbrev pub slot_at : ℕ → ℕ → ℕ → ℕ → ℕ
 slot_at n from to index = (from * n + to) * SLOTS + index
 
@@ -73,7 +73,7 @@ module _ {P : Type 0} where
   IsTaken (filled p) = ⊥
   IsTaken taken = Unit {0}
 
-  -- what lies in the slot
+  -- the contents of the slot
   abbrev pub Lies : List (maybe.Option (Option P)) → ℕ → SlotState P → Type 0
   Lies homes k empty = get_elem? homes k ≡ some (some None)
   Lies homes k claimed = Unit {0}
@@ -87,7 +87,7 @@ module _ {P : Type 0} where
   WasSent to sent (filled p) = IsIn (to, p) sent
   WasSent to sent taken = Unit {0}
 
--- What was taken is what was placed, in order, but for a parcel that lies there.
+-- What was taken is what was placed, in order, except a parcel that lies there.
 pub record IsSlot {T P : Type 0} (n : ℕ) (words : List ℕ) (homes : List (maybe.Option (Option P)))
     (k to : ℕ) (e f : Entry T P) (st : SlotState P) : Type 0 where
   pub word : get_elem? words (n + k) ≡ some (word_for st)

@@ -10,11 +10,11 @@ use Rattle.mx_stations.specs.declared.rule.Setup.{Setup}
 use Rattle.mx_stations.specs.Running.{fresh}
 use Rattle.mx_stations.specs.Posts.{Post}
 
--- the members at rest of a table that is told this
+-- the idle members of a table with these parameters
 abbrev pub starts_of : {H S M : Type 0} → Core H S M → Setup H → ℕ → MemberState S
 starts_of core setup i = start_of core setup.shape i setup.origin setup.limit setup.registers
 
--- one for each node, in order, at rest, all at one table
+-- one for each node, in order, idle, all at one table
 abbrev pub AreFresh : {T P : Type 0} → ℕ → (ℕ → T) → List (Post T P) → Type 0
 AreFresh {T} {P} n starts all =
     (length all ≡ n) × ((table : TableId) × ((k : ℕ) (s : Post T P) → get_elem? all k ≡ some s

@@ -1,4 +1,4 @@
--- What callers see of a station, and what its calls do.
+-- The station as callers see it, and the effects of its calls.
 use Rattle.std.specs.Prelude.{◌≡◌, ◌≢◌, ◌⊎◌, ℕ, ◌<◌, Bool, true, false, List, [], ◌∷◌, ◌++◌, Option, Some, None, OnErr, OnOk, take}
 use Rattle.atomic_table.specs.Seated.{TableId}
 use Rattle.mx_stamps.specs.Lists.{IsIn}
@@ -23,7 +23,7 @@ use Rattle.mx_stations.specs.Links.{of, slot_at}
 use Rattle.mx_stations.specs.Running.{acted}
 use Rattle.mx_stations.specs.Slides.{placing, taking, releasing}
 
--- its table, how many nodes that has, its node, and the parcels that wait in it, each with its
+-- its table, the number of its nodes, its node, and the parcels that wait in it, each with its
 -- addressee
 pub record Post (T P : Type 0) : Type 0 where
   pub table : TableId
@@ -44,7 +44,7 @@ module _ {T P : Type 0} where
   taken_in [] = []
   taken_in (e ∷ v) = e.taken
 
-  -- the node, with what its seat alone knows; it moves no parcel
+  -- the node, with the knowledge of its seat only; it moves no parcel
   abbrev pub shown : ℕ → T → Option (ℕ × P) → List Receipt → List (Entry T P) → Entry T P
   shown i x hand receipts v =
       record {
@@ -68,20 +68,20 @@ module _ {T P : Type 0} where
   abbrev pub slot_from : Post T P → ℕ → ℕ → ℕ
   slot_from s from index = slot_at s.nodes from s.me.node index
 
--- what waits was sent, to nodes that are there
+-- what waits was sent, to nodes of the cluster
 abbrev pub Waits : {P : Type 0} → ℕ → List (ℕ × P) → List (ℕ × P) → Type 0
 Waits {P} n sent waiting = (x : ℕ × P) → IsIn x waiting → IsIn x sent × (x.0 < n)
 
--- what is sent waits, and beyond the room it is lost
+-- what is sent waits; what exceeds the room is lost
 abbrev pub waiting_after : {P : Type 0} → List (ℕ × P) → List (ℕ × P) → List (ℕ × P)
 waiting_after waiting out = take WAITING_ROOM (waiting ++ out)
 
--- what a delivery leaves in hand
+-- the contents of the hand after a delivery
 abbrev pub left_in : {P : Type 0} → Bool → Option (ℕ × P) → Option (ℕ × P)
 left_in true hand = hand
 left_in false hand = None
 
--- this is so where the answer is no refusal
+-- this holds if the result is no refusal
 abbrev pub OnDone : Answer → Type 0 → Type 0
 OnDone (answer.Asked r) P = OnOk r P
 OnDone (answer.Entered r) P = OnOk r P
@@ -92,7 +92,7 @@ OnDone (answer.Cancelled r) P = OnOk r P
 OnDone (answer.Settled r) P = OnOk r P
 OnDone _ P = P
 
--- this is so where it is one
+-- this holds if it is one
 abbrev pub OnRefusal : Answer → Type 0 → Type 0
 OnRefusal (answer.Asked r) P = OnErr r P
 OnRefusal (answer.Entered r) P = OnErr r P
@@ -104,7 +104,8 @@ OnRefusal (answer.Settled r) P = OnErr r P
 OnRefusal _ P = Unit {0}
 
 module _ {H S M : Type 0} (core : Core H S M) where
-  -- one act of the node, with this in hand after it: its receipt, if it returns one, joins its own
+  -- one act of the node, with this in hand after it; its receipt, if it returns one, joins the
+  -- node's receipts
   abbrev pub act_on : Act M → Option (ℕ × Parcel M) → Entry (MemberState S) (Parcel M)
       → Entry (MemberState S) (Parcel M)
   act_on a hand e =
@@ -117,7 +118,7 @@ module _ {H S M : Type 0} (core : Core H S M) where
       post s.table s.nodes (act_on a hand s.me)
       (waiting_after s.waiting (act_of core a s.me.member).letters)
 
-  -- the station after one act of its own
+  -- the station after one act of its node
   abbrev pub does : Act M → Post (MemberState S) (Parcel M) → Post (MemberState S) (Parcel M)
   does a s = after_act a s.me.hand s
 
@@ -127,7 +128,7 @@ module _ {H S M : Type 0} (core : Core H S M) where
       (from : ℕ) × (p : Parcel M) × (s.me.hand ≡ Some (from, p))
       × (t ≡ after_act (Deliver from p) None s)
 
-  -- the same, or the parcel stays there to be delivered again
+  -- the same, or the parcel remains there to be delivered again
   abbrev pub DeliversAs : Bool → Post (MemberState S) (Parcel M) → Post (MemberState S) (Parcel M)
       → Type 0
   DeliversAs again s t =
@@ -149,8 +150,8 @@ module _ {T P : Type 0} where
       × (from ≡ s.me.node → (index : ℕ) → index < SLOTS
       → of (slot_from s from index) s.me.placed ≡ of (slot_from s from index) s.me.taken)
 
-  -- the first that waits leaves, and is placed in a slot of its link; or it moves to the end, and
-  -- this station has placed a parcel in every slot of that link before
+  -- the first waiting parcel goes out, and is placed in a slot of its link; or it moves to the end.
+  -- In that case this station has placed a parcel in every slot of that link before
   abbrev pub PutsOut : Post T P → PutOut → Post T P → Type 0
   PutsOut s Sent t =
       (to : ℕ) × (p : P) × (rest : List (ℕ × P)) × (s.waiting ≡ (to, p) ∷ rest)
@@ -163,8 +164,8 @@ module _ {T P : Type 0} where
   PutsOut s Nothing t = (s.waiting ≡ []) × (t ≡ s)
 
 module _ {H S M : Type 0} (core : Core H S M) where
-  -- a parcel in hand is delivered, and no other taken; else one parcel is taken and delivered, or
-  -- there was none
+  -- a parcel in hand is delivered, and no other taken; otherwise one parcel is taken and delivered,
+  -- or there was none
   abbrev pub TakesIn : ℕ → Post (MemberState S) (Parcel M) → Taken → Post (MemberState S) (Parcel M)
       → Type 0
   TakesIn from s Got t =
@@ -173,7 +174,7 @@ module _ {H S M : Type 0} (core : Core H S M) where
   TakesIn from s Empty t = FindsNone from s t
 
 module _ {T P : Type 0} where
-  -- memory was refused, and a parcel stays in hand: the one that was there, and nothing changed, or
+  -- memory ran out, and a parcel remains in hand: the one that was there, and nothing changed, or
   -- one that was taken
   abbrev pub KeepsInHand : ℕ → Post T P → Post T P → Type 0
   KeepsInHand from s t = ((s.me.hand ≢ None) × (t ≡ s)) ⊎ Fetches from s t

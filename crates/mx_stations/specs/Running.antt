@@ -1,4 +1,4 @@
--- What the seats know of the nodes, and the rule over all of them.
+-- The knowledge of the seats about the nodes, and the rule over all of them.
 use Rattle.std.specs.Prelude.{◌≡◌, ◌≢◌, ◌⊎◌, ℕ, zero, suc, ◌+◌, ◌*◌, ◌<◌, List, [], ◌∷◌, ◌++◌, map, length, Option, Some, None}
 use mathlib.Core.Option.{some}
 use lib.ListN.{get_elem?}
@@ -29,7 +29,7 @@ abbrev pub all_of : {A : Type 0} → ℕ → (ℕ → A) → List A
 all_of n f = all_from 0 n f
 
 module _ {T P : Type 0} where
-  -- a node with this member, which did nothing yet
+  -- a node with this member, which has done nothing yet
   abbrev pub fresh : ℕ → T → Entry T P
   fresh i x =
       record {
@@ -48,7 +48,7 @@ module _ {T P : Type 0} where
   Once [] = Unit {0}
   Once (e ∷ v) = ((f : Entry T P) → IsIn f v → f.node ≢ e.node) × Once v
 
-  -- all that the nodes sent
+  -- all parcels that the nodes sent
   abbrev pub sent_of : List (Entry T P) → List (ℕ × ℕ × P)
   sent_of [] = []
   sent_of (e ∷ es) = sent_by e.node e.sent ++ sent_of es
@@ -65,8 +65,7 @@ pub record Stands {T P : Type 0} (n : ℕ) (views : List (List (Entry T P)))
       → (v : List (Entry T P)) × (get_elem? views (owner i) ≡ some v) × IsIn e v
   pub once : (j : ℕ) (v : List (Entry T P)) → get_elem? views j ≡ some v → Once v
 
--- what the word of a node shows: twice the number of its last section, and one more while it is
--- inside
+-- the status word of a node: twice the number of its last section, and one more while it is inside
 abbrev pub status : Phase → ℕ → ℕ
 status phase.Idle mine = 2 * mine
 status phase.Waiting mine = 2 * mine
@@ -94,7 +93,7 @@ module _ {H S M : Type 0} (core : Core H S M) where
     pub shown : Shown Good s.words world
     pub links : Links n s.words s.homes world
 
--- what a node of n, with this in hand, may do: a delivery is of the parcel in hand, a want goes to
+-- a node of n, with this in hand, may do this: a delivery is of the parcel in hand, a want goes to
 -- a node
 abbrev pub MayDo : {M : Type 0} → ℕ → Option (ℕ × Parcel M) → Act M → Type 0
 MayDo n hand act.Ask = Unit {0}
@@ -123,12 +122,12 @@ IsPlain n (act.Want to) = to < n
 IsPlain n (act.Deliver from p) = ⊥
 IsPlain n act.Restart = Unit {0}
 
--- the hand is as it was, or empty
+-- the hand is unchanged, or empty
 abbrev pub Keeps : {P : Type 0} → Option (ℕ × P) → Option (ℕ × P) → Type 0
 Keeps before after = (after ≡ before) ⊎ (after ≡ None)
 
 module _ {T P : Type 0} where
-  -- the node after an act: its member, its receipts, what it sent besides, and its hand
+  -- the node after an act: its member, its receipts, all that it sent, and its hand
   abbrev pub acted : Entry T P → T → List (ℕ × P) → Option (ℕ × P) → List Receipt → Entry T P
   acted e y out hand receipts =
       record e { member = y; receipts = receipts; sent = e.sent ++ out; hand = hand }
@@ -148,8 +147,8 @@ module _ {T P : Type 0} where
   only_first [] = []
   only_first (e ∷ v) = e ∷ []
 
--- the one node in view did one act, which made this member of it, with these parcels, this in hand
--- and these receipts
+-- the one node in view did one act, which led to this member, these parcels, this hand and these
+-- receipts
 pub record DidAct {H S M : Type 0} (core : Core H S M) (n : ℕ) (v : List (Node S M))
     (y : MemberState S) (out : List (ℕ × Parcel M)) (hand : Option (ℕ × Parcel M))
     (receipts : List Receipt) : Type 0 where

@@ -17,7 +17,7 @@ module _ {T P : Type 0} where
   taking k from p e =
       record e { hand = Some (from, p); stage = Reading k; taken = e.taken ++ (k, p) ∷ [] }
 
-  -- the parcel stays in hand, or is thrown away
+  -- the parcel remains in hand, or is thrown away
   abbrev pub releasing : Option (ℕ × P) → Entry T P → Entry T P
   releasing hand e = record e { hand = hand; stage = Idle }
 
@@ -44,11 +44,11 @@ module _ {T P : Type 0} where
       (e : Entry T P) × (m.0 ≡ e ∷ [])
       × ((p : P) × (m' ≡ (taking k from p e ∷ [], (k, Some p) ∷ m.1)))
 
-  -- the seat has taken this slot, in which its parcel still lies
+  -- the seat has taken this slot, and its parcel still lies there
   abbrev pub HasTaken : ℕ → ℕ → Entry T P → P → Me (Option P) (List (Entry T P)) → Type 0
   HasTaken k from e p m = m ≡ (taking k from p e ∷ [], (k, Some p) ∷ [])
 
-  -- where the slot is of the seat's own link, all that was placed there was taken
+  -- if the slot is of the seat's own link, everything placed there was taken
   abbrev pub HasEmptied : ℕ → ℕ → Me (Option P) (List (Entry T P)) → Type 0
   HasEmptied k from m =
       (e : Entry T P) × (m.0 ≡ e ∷ []) × (from ≡ e.node → of k e.placed ≡ of k e.taken)

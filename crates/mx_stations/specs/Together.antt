@@ -13,14 +13,14 @@ use Rattle.mx_stations.specs.Running.{Once, Shown, word_of}
 abbrev pub IsOddAt : List ℕ → ℕ → Type 0
 IsOddAt words i = (w : ℕ) × (get_elem? words i ≡ some w) × (w % 2 ≡ 1)
 
--- of the first n words no two are odd
+-- no two of the first n words are odd
 abbrev pub AtMostOneOdd : ℕ → List ℕ → Type 0
 AtMostOneOdd n words =
     (i j : ℕ) → i < n → j < n → IsOddAt words i → IsOddAt words j → i ≡ j
 
--- These are different nodes of one cluster of n, each as it is. The words of its table, of which
--- the first n are the status words, show all its nodes, and at most one status word is odd. The
--- nodes run as a cluster does, and each parcel in a hand was sent to its holder by one of them.
+-- These are different nodes of one cluster of n, each as it is. The words of its table show all its
+-- nodes; the first n are the status words, and at most one of these is odd. The nodes run as a
+-- cluster does, and each parcel in a hand was sent to its holder by one of them.
 pub record RunTogether {H S M : Type 0} (core : Core H S M) (Good : World S M → Type 0) (n : ℕ)
     (these : List (Node S M)) : Type 0 where
   pub world : List (Node S M)

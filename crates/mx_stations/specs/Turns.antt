@@ -13,7 +13,7 @@ use Rattle.mx_stations.specs.declared.slots.TheConstants.{SLOTS}
 use Rattle.mx_stations.specs.Posts.{Delivers, Fetches, FindsNone, Post, PutsOut, does, post, slot_from}
 use Rattle.mx_stations.specs.Slides.{releasing, taking}
 
--- what is in hand of a parcel that is taken
+-- the contents of the hand after a parcel is taken
 abbrev pub fated_hand : {P : Type 0} → Fate → ℕ × P → Option (ℕ × P)
 fated_hand Pass x = Some x
 fated_hand Drop x = None
@@ -26,7 +26,7 @@ module _ {T P : Type 0} where
       (s.me.hand ≡ None) × ((p : P) × (index : ℕ) × (index < SLOTS) × (t ≡ post s.table s.nodes
       (releasing None (taking (slot_from s from index) from p s.me)) s.waiting))
 
-  -- what becomes of a parcel that is taken
+  -- the effect of a fate on a parcel that is taken
   abbrev pub IsFated : ℕ → Fate → Post T P → Post T P → Type 0
   IsFated from Pass s t = Fetches from s t
   IsFated from Drop s t = Throws from s t
@@ -36,7 +36,7 @@ module _ {H S M : Type 0} (core : Core H S M) where
   abbrev pub Station : Type 0
   Station = Post (MemberState S) (Parcel M)
 
-  -- the parcel in hand is delivered by one act, and stays there to be delivered again
+  -- the parcel in hand is delivered by one act, and remains there to be delivered again
   abbrev pub DeliversFirst : Station → Station → Type 0
   DeliversFirst s t =
       (from : ℕ) × (p : Parcel M) × (s.me.hand ≡ Some (from, p))
@@ -58,13 +58,13 @@ module _ {H S M : Type 0} (core : Core H S M) where
   abbrev pub Goes : Station → Station → Type 0
   Goes s t = (ms : List Station) × Chain ms s t
 
--- what a turn tells of a parcel of this fate
+-- the report of a turn after a parcel of this fate
 abbrev pub noted_fate : Fate → TurnReport → TurnReport
 noted_fate Pass r = record r { taken = r.taken + 1 }
 noted_fate Drop r = record r { taken = r.taken + 1; dropped = r.dropped + 1 }
 noted_fate Twice r = record r { taken = r.taken + 1; twice = r.twice + 1 }
 
--- of a try on a link, at which nothing was taken, or a parcel
+-- after a try on a link that took nothing, or a parcel
 abbrev pub noted : Option Fate → TurnReport → TurnReport
 noted None r = r
 noted (Some fate) r = noted_fate fate r
@@ -73,7 +73,7 @@ abbrev pub noted_all : List (Option Fate) → TurnReport → TurnReport
 noted_all [] r = r
 noted_all (x ∷ xs) r = noted_all xs (noted x r)
 
--- of a try to put a parcel out
+-- after a try to put a parcel out
 abbrev pub noted_put : PutOut → TurnReport → TurnReport
 noted_put Sent r = record r { put = r.put + 1 }
 noted_put Full r = record r { full = r.full + 1 }
@@ -83,7 +83,7 @@ abbrev pub noted_puts : List PutOut → TurnReport → TurnReport
 noted_puts [] r = r
 noted_puts (x ∷ xs) r = noted_puts xs (noted_put x r)
 
--- of the parcel that was in hand, if there was one
+-- after the parcel that was in hand, if there was one
 abbrev pub begun : Bool → TurnReport
 begun true = record { taken = 1; dropped = 0; twice = 0; put = 0; full = 0; ticked = false }
 begun false = record { taken = 0; dropped = 0; twice = 0; put = 0; full = 0; ticked = false }
@@ -121,9 +121,9 @@ module _ {H S M : Type 0} (core : Core H S M) where
   PutsEach [] s t = t ≡ s
   PutsEach (x ∷ xs) s t = (m : Station core) × PutsOut s x m × PutsEach xs m t
 
-  -- A parcel in hand is delivered; one is taken from each node that has one, and dealt with by its
-  -- fate; as often as parcels wait then, one is put out; and where none was in hand and none taken,
-  -- and none waits now, the clock ticks. The report tells just that.
+  -- A parcel in hand is delivered. One is taken from each node that has one, and dealt with by its
+  -- fate. `put_out` is tried once for each parcel that waits then. If none was in hand, none taken,
+  -- and none waits now, the clock ticks. The report counts just that.
   pub record Turns (s : Station core) (report : TurnReport) (t : Station core) : Type 0 where
     pub had : Bool
     pub after_hand : Station core

@@ -1,4 +1,4 @@
--- The acts and moves of a station at which a worker works, and of one that settles besides.
+-- The acts and moves of a worker's station, and of one that settles too.
 use Rattle.std.specs.Prelude.{◌≡◌, ◌≢◌, ◌⊎◌, ℕ, ◌-◌, ◌%◌, ◌<◌, ◌≤◌, List, [], ◌∷◌, length, None}
 use Rattle.mx_nodelaws.specs.Core.{Core}
 use Rattle.mx_nodelaws.specs.declared.phase.Phase.TheVariants.{Idle}
@@ -37,7 +37,7 @@ module _ {H S M : Type 0} (core : Core H S M) (register : ℕ) where
   abbrev pub Works : Station core → Station core → Type 0
   Works s t = (ms : List (Station core)) × Row ms s t
 
-  -- such a list in which no section is left
+  -- such a list that leaves no section
   abbrev pub LeavesNone : Station core → Station core → Type 0
   LeavesNone s t = Works s t × (length t.me.receipts ≡ length s.me.receipts)
 
@@ -46,8 +46,8 @@ module _ {H S M : Type 0} (core : Core H S M) where
   abbrev pub MayLeave : Station core → Station core → Type 0
   MayLeave s t = (t ≡ s) ⊎ (t ≡ does core act.Leave s)
 
-  -- a turn of the station, of which a report tells; or memory was refused in it, and it is some of
-  -- these acts and moves, which leave a parcel in hand
+  -- a turn of the station, with its report; or memory ran out in it, and it is some of these acts
+  -- and moves, after which a parcel is in hand
   abbrev pub HasTurned : Station core → Station core → Type 0
   HasTurned s t =
       Goes core s t × (((report : TurnReport) × Turns core s report t) ⊎ (t.me.hand ≢ None))
@@ -61,13 +61,13 @@ module _ {H S M : Type 0} (core : Core H S M) (register : ℕ) where
       × HasTurned core n t
 
 -- a section was left, since there were `before` and are `now`, and `every`, which is not 0, divides
--- how many there are now
+-- their number now
 abbrev pub IsDue : ℕ → ℕ → ℕ → Type 0
 IsDue every before now = (every ≢ 0) × (before < now) × (now % every ≡ 0)
 
 module _ {H S M : Type 0} (core : Core H S M) (every : ℕ) where
-  -- where that is due, the registers after all sections that the journal has without a gap come in
-  -- place of their records; where it is not, nothing happens
+  -- if that is due, the registers after all sections that the journal has without a gap replace
+  -- their records; otherwise nothing happens
   abbrev pub SettlesIfDue : ℕ → Station core → Station core → Type 0
   SettlesIfDue before s t =
       (IsDue every before (length s.me.receipts)
@@ -85,8 +85,8 @@ module _ {H S M : Type 0} (core : Core H S M) (register every : ℕ) where
   Rounds [] s t = t ≡ s
   Rounds (m ∷ ms) s t = Round s m × Rounds ms m t
 
-  -- some list of these, one after another: so the station settles in each turn in which the number
-  -- of its sections comes to a multiple of `every`, once, and at no other time; with 0 never
+  -- some list of these, one after another. So the station settles once in each turn in which the
+  -- number of its sections reaches a multiple of `every`, and at no other time; with 0 never
   abbrev pub WorksSettling : Station core → Station core → Type 0
   WorksSettling s t = (ms : List (Station core)) × Rounds ms s t
 
@@ -99,7 +99,7 @@ module _ {H S M : Type 0} (core : Core H S M) (register every : ℕ) where
   WorksAtMost turns s t = (made : ℕ) × (made ≤ turns) × WorksFor made s t
 
 module _ {H S M : Type 0} (core : Core H S M) (most : ℕ) where
-  -- fewer sections than this were left, or just as many, and the node asks for no other
+  -- fewer sections than this were left, or exactly this many, and the node asks for no other
   abbrev pub IsWithin : Station core → Type 0
   IsWithin s =
       (length s.me.receipts < most)

@@ -1,5 +1,5 @@
-//! What a station does to its node: each act is one event of it, and one store to its word. A
-//! refused act stores nothing.
+//! The acts of a station on its node: each is one event of it, and one store to its word. A refused
+//! act stores nothing.
 
 ghost use Rattle.std.specs.Prelude.{◌≡◌, ◌<◌, ◌↔◌, ◌++◌, ℕ, [], ◌∷◌, Err, IfOk, MatchBool, Ok, OnErr, OnOk, Some};
 ghost use Rattle.std.specs.Vec.{vec_capacity, vec_len};
@@ -22,8 +22,8 @@ use mx_member::{Act, Answer, CloseFault, Member, Parcel, ReadFault, WriteFault, 
 use mx_nodelaws::{AskFault, CancelFault, EnterFault, Exclusion, Phase};
 use mx_stamps::{NodeId, Stamp};
 
-/// Ends an act of the member: the one store that tells it, and what it sent joins what waits. The
-/// station is whole again only after it, so that no method can do this.
+/// Ends an act of the member: the one store that shows it, and the parcels that it sent join the
+/// waiting ones. The station is whole again only after it, so this cannot be a method.
 macro_rules! tell {
     ($station:expr) => {
         act(
@@ -40,7 +40,12 @@ macro_rules! tell {
 }
 
 impl<C: Exclusion> Station<C> {
-    /// Asks for the next section. The stamp is that of the request.
+    /// Asks for the next section, and returns the stamp of the request.
+    ///
+    /// # Errors
+    ///
+    /// Returns `NotIdle` if the node waits already or is inside, and `StampsSpent` if no next stamp
+    /// exists.
     pub fn ask(&mut self) -> Result<Stamp, AskFault>
         ensures answer { result ≡ (ask_of C.core self.old.me.member).answer }
         ensures done { OnOk result (self.new ≡ does C.core Ask self.old) }
@@ -52,7 +57,11 @@ impl<C: Exclusion> Station<C> {
         }
     }
 
-    /// Gives the request up: the node is idle again, and may ask anew.
+    /// Withdraws the request: the node is idle again, and may ask again.
+    ///
+    /// # Errors
+    ///
+    /// Returns `NotWaiting` if the node is idle or inside.
     pub fn cancel(&mut self) -> Result<(), CancelFault>
         ensures answer { result ≡ (cancel_of C.core self.old.me.member).answer }
         ensures done { OnOk result (self.new ≡ does C.core Cancel self.old) }
@@ -65,6 +74,11 @@ impl<C: Exclusion> Station<C> {
     }
 
     /// Enters the section with an empty draft, and returns its number.
+    ///
+    /// # Errors
+    ///
+    /// Returns `NotWaiting` if the node is idle or inside, `NotGranted` if a permission is missing,
+    /// and `NumbersSpent` if the highest section number that the node knows is the limit.
     pub fn enter(&mut self) -> Result<u64, EnterFault>
         ensures answer { result ≡ (enter_of C.core self.old.me.member).answer }
         ensures done { OnOk result (self.new ≡ does C.core Enter self.old) }
@@ -76,8 +90,12 @@ impl<C: Exclusion> Station<C> {
         }
     }
 
-    /// Reads a register inside: the value that this node's draft wrote last, or else what the
-    /// sections before left.
+    /// Reads a register inside, and adds the read to the draft. Returns the value that this section
+    /// wrote last, or otherwise that of the sections before it.
+    ///
+    /// # Errors
+    ///
+    /// Returns the first fault, in the order of `ReadFault`, as `Member::read` does.
     pub fn read(&mut self, register: u8) -> Result<u64, ReadFault>
         ensures answer { result ≡ (read_of C.core register self.old.me.member).answer }
         ensures done { OnOk result (self.new ≡ does C.core (Read register) self.old) }
@@ -89,7 +107,12 @@ impl<C: Exclusion> Station<C> {
         }
     }
 
-    /// Writes a register inside.
+    /// Writes a register inside. The write is added to the draft.
+    ///
+    /// # Errors
+    ///
+    /// Returns `NotInside` if the node is not inside, `NoRegister` if there is no such register,
+    /// and `Full` if the draft has eight writes already.
     pub fn write(&mut self, register: u8, value: u64) -> Result<(), WriteFault>
         ensures answer { result ≡ (write_of C.core register value self.old.me.member).answer }
         ensures done { OnOk result (self.new ≡ does C.core (Write register value) self.old) }
@@ -101,8 +124,13 @@ impl<C: Exclusion> Station<C> {
         }
     }
 
-    /// Puts the registers after sections 1 to `upto` in place of their records in the journal. It
-    /// is no event of the core, sends nothing, and takes no memory.
+    /// Replaces the records of sections 1 to `upto` in the journal by the registers after them. The
+    /// core takes no step, nothing is sent, and no memory is allocated.
+    ///
+    /// # Errors
+    ///
+    /// Returns `Below` with the number of the base if that is above `upto`, and `Gap` with the
+    /// first number up to `upto` that the journal does not cover.
     pub fn settle(&mut self, upto: u64) -> Result<(), SettleFault>
         ensures answer { result ≡ (settle_of upto self.old.me.member).answer }
         ensures done { OnOk result (self.new ≡ does C.core (Settle upto) self.old) }
@@ -114,14 +142,14 @@ impl<C: Exclusion> Station<C> {
         }
     }
 
-    /// Sends again what is outstanding, as any letter may have been lost.
+    /// Sends all outstanding letters again, since any letter may be lost.
     pub fn tick(&mut self)
         ensures { self.new ≡ does C.core Tick self.old }
     {
         let _ticked = self.does(Act::Tick);
     }
 
-    /// Asks another node for the records that are missing.
+    /// Asks another node for the missing records.
     pub fn want(&mut self, to: NodeId)
         requires { to < self.old.nodes }
         ensures { self.new ≡ does C.core (Want to) self.old }
@@ -129,15 +157,20 @@ impl<C: Exclusion> Station<C> {
         let _wanted = self.does(Act::Want(to));
     }
 
-    /// Wakes up again: core and journal stay, the draft is emptied.
+    /// Restarts the node: core and journal are unchanged, and the draft is emptied.
     pub fn restart(&mut self)
         ensures { self.new ≡ does C.core Restart self.old }
     {
         let _woken = self.does(Act::Restart);
     }
 
-    /// Leaves the section. Its record joins the journal, and its receipt those of this station.
-    /// Memory is asked for before anything changes.
+    /// Leaves the section, adds its record to the journal and its receipt to those of this station,
+    /// and returns the receipt.
+    ///
+    /// # Errors
+    ///
+    /// Returns `NotInside` if the node is not inside, and `Memory` if memory runs out. Memory is
+    /// allocated before anything changes.
     pub fn leave(&mut self) -> Result<Receipt, CloseFault>
         ensures not_inside { (result ≡ Err CloseFault.NotInside)
             ↔ (IsInside C.core self.old.me.member.core → ⊥) }
@@ -153,8 +186,8 @@ impl<C: Exclusion> Station<C> {
         Ok(receipt)
     }
 
-    /// One act that takes no memory, moves no parcel and closes no section, and the one store that
-    /// tells it, but none where it is refused.
+    /// Performs an act that takes no memory, moves no parcel and closes no section. It makes the
+    /// one store that shows the act, or none if the act is refused.
     fn does(&mut self, act: Act<C::Msg>) -> Answer
         requires { IsPlain self.old.nodes act }
         ensures answer { result ≡ (act_of C.core act self.old.me.member).answer }
@@ -172,8 +205,8 @@ impl<C: Exclusion> Station<C> {
         answer
     }
 
-    /// Delivers the parcel in hand, which the member takes where it lies. The hand is empty after
-    /// it, but where its parcel is to be delivered `again`.
+    /// Delivers the parcel in hand, which the member takes by reference. Empties the hand, unless
+    /// the parcel is to be delivered `again`.
     pub(crate) fn hand_over(&mut self, again: bool) -> Result<(), TakeFault>
         requires { (from : ℕ) × (p : OneParcel C.Msg) × (self.old.me.hand ≡ Some (from, p))
             × IsTakeable from p self.old.me.member }
@@ -191,7 +224,7 @@ impl<C: Exclusion> Station<C> {
     }
 }
 
-/// A member takes a parcel that it can take, so that the only way to fail is that memory runs out.
+/// Delivers a parcel that the member can take, so that only memory can be missing.
 fn receive<C: Exclusion>(
     member: &mut Member<C>,
     from: NodeId,
@@ -213,7 +246,7 @@ fn receive<C: Exclusion>(
     }
 }
 
-/// Leaves the section of a member, whose receipt joins the others.
+/// Leaves the section of a member, and adds its receipt to the others.
 fn close<C: Exclusion>(
     member: &mut Member<C>,
     receipts: &mut Vec<Receipt>,
@@ -240,7 +273,7 @@ fn close<C: Exclusion>(
     Ok(receipt)
 }
 
-/// Whether a member refused what it was asked.
+/// Returns whether the member refused the act.
 fn is_refusal(answer: &Answer) -> bool
     ensures { MatchBool result (IsRefusal answer.now) (IsRefusal answer.now → ⊥) }
 {
@@ -256,7 +289,7 @@ fn is_refusal(answer: &Answer) -> bool
     }
 }
 
-/// Empties the hand, but where its parcel is to be delivered again.
+/// Empties the hand, unless its parcel is to be delivered again.
 fn let_go<M: Copy + Default>(hand: &mut Option<(NodeId, Parcel<M>)>, again: bool)
     ensures { hand.new ≡ left_in again hand.old }
 {
@@ -265,7 +298,7 @@ fn let_go<M: Copy + Default>(hand: &mut Option<(NodeId, Parcel<M>)>, again: bool
     }
 }
 
-/// Room for one receipt more.
+/// Reserves room for one more receipt.
 fn make_room(receipts: &mut Vec<Receipt>) -> Result<(), CloseFault>
     ensures same { receipts.new.items ≡ receipts.old.items }
     ensures room { OnOk result (vec_len receipts.new < vec_capacity receipts.new) }

@@ -1,4 +1,4 @@
-//! What a station's calls return.
+//! The results of a station's calls.
 
 ghost use Rattle.std.specs.Prelude.{◌≡◌, ◌<◌};
 ghost use Rattle.mx_stations.specs.Turns.{begun, noted, noted_put};
@@ -7,39 +7,47 @@ use mx_letters::Fate;
 use std::alloc::AllocError;
 use thiserror::Error;
 
-/// What a try to put a parcel out did.
+/// The result of trying to put a parcel out.
 #[derive(Clone, Copy, Debug, PartialEq, Eq)]
 pub enum PutOut {
-    /// It is placed in a slot of its link.
+    /// The parcel was placed in a slot of its link.
     Sent,
-    /// No slot of its link was empty, and it waits behind the others.
+    /// No slot of its link was empty, and the parcel waits after the others.
     Full,
-    /// Nothing waited.
+    /// No parcel waited.
     Nothing,
 }
 
-/// What a try to take a parcel in did.
+/// The result of trying to take a parcel in.
 #[derive(Clone, Copy, Debug, PartialEq, Eq)]
 pub enum Taken {
     /// A parcel was delivered.
     Got,
+    /// No slot of the link had a parcel.
     Empty,
 }
 
-/// What a turn did: how many parcels it took or had in hand, how many of them it threw away or
-/// delivered twice, how often it put one out or found no empty slot, and whether it ticked.
+/// The report of a turn. It counts the parcels taken or in hand, those thrown away or delivered
+/// twice, those put out, and the tries that found no empty slot. It also says whether the turn
+/// ticked.
 #[derive(Clone, Copy, Debug, Default, PartialEq, Eq)]
 pub struct TurnReport {
+    /// The parcels that it took, or had in hand.
     pub taken: u32,
+    /// The parcels that it threw away.
     pub dropped: u32,
+    /// The parcels that it delivered twice.
     pub twice: u32,
+    /// The parcels that it put out.
     pub put: u32,
+    /// The tries to put a parcel out that found no empty slot.
     pub full: u32,
+    /// Whether it ticked.
     pub ticked: bool,
 }
 
 impl TurnReport {
-    /// Of a turn that begins, with a parcel in hand or without.
+    /// Creates the report of a new turn, with a parcel in hand or without.
     pub(crate) fn begin(had: bool) -> TurnReport
         ensures { result ≡ begun had }
     {
@@ -53,7 +61,7 @@ impl TurnReport {
         }
     }
 
-    /// A try on a link, at which nothing was taken, or a parcel of this fate.
+    /// Counts a try on a link that took nothing, or a parcel of this fate.
     pub(crate) fn note_taken(&mut self, took: Option<Fate>)
         requires taken { self.old.taken < 1000 }
         requires dropped { self.old.dropped < 1000 }
@@ -71,7 +79,7 @@ impl TurnReport {
         }
     }
 
-    /// A try to put a parcel out.
+    /// Counts a try to put a parcel out.
     pub(crate) fn note_put(&mut self, answer: PutOut)
         requires put { self.old.put < 1000 }
         requires full { self.old.full < 1000 }
@@ -85,9 +93,10 @@ impl TurnReport {
     }
 }
 
-/// Why a parcel was not delivered. It stays in hand, and the next call delivers it first.
+/// Why a parcel was not delivered. It remains in hand, and the next call delivers it first.
 #[derive(Clone, Copy, Debug, PartialEq, Eq, Error)]
 pub enum TakeFault {
+    /// Memory ran out.
     #[error("out of memory")]
     Memory,
 }

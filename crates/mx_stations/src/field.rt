@@ -20,7 +20,7 @@ use std::marker::Brand;
 /// The seat of one station.
 pub type SeatOf<C> = Seat<Slot<C>, Knowledge<C>>;
 
-/// A status word for each node, and for each link from a node to a node four slots, each with its
+/// A status word for each node. For each link from a node to a node, four slots, each with its
 /// word.
 #[derive(Drop)]
 pub struct Field<C: Exclusion> {
@@ -33,7 +33,7 @@ pub struct Field<C: Exclusion> {
     ghost few: { nodes ≤ MOST_NODES },
 }
 
-/// What a node's word shows.
+/// Returns the status word of a node.
 fn status_of<C: Exclusion>(member: &Member<C>) -> u64
     ensures { result ≡ word_of C.core member.now }
 {
@@ -44,7 +44,7 @@ fn status_of<C: Exclusion>(member: &Member<C>) -> u64
     }
 }
 
-/// The one step of an act. The call picks the view that it leaves.
+/// Makes the one step of an act. The call picks the view after it.
 fn store_as<C: Exclusion, N: Next<Knowledge<C>>>(
     field: &Field<C>,
     seat: &mut SeatOf<C>,
@@ -75,7 +75,7 @@ fn store_as<C: Exclusion, N: Next<Knowledge<C>>>(
         .store::<Becomes<N>>(seat, node.get() as usize, new);
 }
 
-/// One act of a seat with one node.
+/// Makes one act of a seat with one node.
 pub(crate) fn act<C: Exclusion>(
     field: &Field<C>,
     seat: &mut SeatOf<C>,
@@ -99,8 +99,8 @@ pub(crate) fn act<C: Exclusion>(
     store_as::<C, Brand>(field, seat, node, member, out, hand, receipts);
 }
 
-/// A look at a word, which tells that the parcel in hand can be taken. What it reads is of no use:
-/// it stays for the proof alone, which learns here what the rule of the table says.
+/// Reads a word, which shows that the parcel in hand can be taken. The value is not used: the call
+/// is only for the proof, which learns the rule of the table here.
 pub(crate) fn look<C: Exclusion>(field: &Field<C>, seat: &mut SeatOf<C>)
     requires table { seat.old.table_id ≡ field.now.board.shared.table_id }
     ensures same { (seat.new.table_id ≡ seat.old.table_id) × (seat.new.me ≡ seat.old.me) }

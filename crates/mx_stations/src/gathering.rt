@@ -1,6 +1,6 @@
-//! What the stations of one table have together, where all of them are there and nobody is inside.
-//! All memory is taken before a seat is joined, so that whoever is refused has the stations back as
-//! they were.
+//! Gathering: the journal and receipts of all stations of a table, while nobody is inside. All
+//! memory is allocated before a seat is joined, so on an error the caller gets the stations back
+//! unchanged.
 
 ghost use Rattle.std.specs.Prelude.{ℕ, suc, ◌≡◌, ◌≤◌, ◌↔◌, ◌++◌, ◌⊎◌, Err, IfErr, IfNone, IfOk, IfSome, IsErrAnd, IsOk, IsTrue, MatchBool, OnOk};
 ghost use Rattle.std.specs.List.Sorted.{IsNonDecreasingBy, IsPermutation};
@@ -19,36 +19,39 @@ use mx_stamps::{MOST_NODES, NodeId};
 use std::alloc::{AllocError, Global};
 use thiserror::Error;
 
-/// What the stations of a table have together.
+/// The journal and receipts of all stations of a table.
 #[derive(Drop)]
 pub struct Gathered {
-    /// All sections that were left, settled as far as any station has settled them.
+    /// The journal of all sections that were left, settled as far as any station has settled them.
     pub journal: Journal,
     /// Their receipts, in order of number.
     pub receipts: Vec<Receipt>,
 }
 
-/// Why stations were not gathered.
+/// Why stations cannot be gathered.
 #[derive(Clone, Copy, Debug, PartialEq, Eq, Error)]
 pub enum GatherFault {
-    /// The least node whose station was not handed in: node 0, where none was.
+    /// The least node without a station among these; node 0 if there are none.
     #[error("not all {}", .0.get())]
     NotAll(NodeId),
     /// The least node that is inside.
     #[error("still inside {}", .0.get())]
     StillInside(NodeId),
+    /// Memory ran out.
     #[error("out of memory")]
     Memory,
 }
 
-/// The stations that were not gathered, in the order in which they came.
+/// The stations that were not gathered, in the order in which they were passed, and why.
 #[derive(Drop)]
 pub struct Ungathered<C: Exclusion> {
+    /// Why they were not gathered.
     pub fault: GatherFault,
+    /// The stations, unchanged.
     pub stations: Vec<Station<C>>,
 }
 
-/// How many nodes the stations' table has: at least one, where there is no station.
+/// Returns the number of nodes of the stations' table, or 1 if there is no station.
 fn count_of<C: Exclusion>(stations: &[Station<C>]) -> u8
     ensures value { result ≡ nodes_in stations.now }
     ensures few { result ≤ MOST_NODES }
@@ -59,14 +62,14 @@ fn count_of<C: Exclusion>(stations: &[Station<C>]) -> u8
     }
 }
 
-/// Whether the station is this node's.
+/// Returns whether the station is this node's.
 fn is_of<C: Exclusion>(station: &Station<C>, node: NodeId) -> bool
     ensures { IsTrue result ↔ (station.now.me.node ≡ node) }
 {
     station.node().get() == node.get()
 }
 
-/// Whether the node's station is there.
+/// Returns whether the node's station is among these.
 fn has<C: Exclusion>(stations: &[Station<C>], node: NodeId) -> bool
     ensures { MatchBool result (Has stations.now node) (Lacks stations.now node) }
 {
@@ -78,14 +81,14 @@ fn has<C: Exclusion>(stations: &[Station<C>], node: NodeId) -> bool
     false
 }
 
-/// Whether its node is inside.
+/// Returns whether the station's node is inside.
 pub(crate) fn is_inside<C: Exclusion>(station: &Station<C>) -> bool
     ensures { IsTrue result ↔ IsInside C.core station.now.me.member.core }
 {
     matches!(station.phase(), Phase::Inside(_))
 }
 
-/// Whether the node is inside.
+/// Returns whether the node is inside.
 fn has_inside<C: Exclusion>(stations: &[Station<C>], node: NodeId) -> bool
     ensures { MatchBool result (HasInside C.core stations.now node)
         (NotInside C.core stations.now node) }
@@ -98,7 +101,7 @@ fn has_inside<C: Exclusion>(stations: &[Station<C>], node: NodeId) -> bool
     false
 }
 
-/// The least node whose station is not there.
+/// Returns the least node whose station is missing.
 fn least_missing<C: Exclusion>(stations: &[Station<C>]) -> Option<NodeId>
     ensures some { IfSome result (λ i. IsLeastMissing stations.now i) }
     ensures none { IfNone result (IsWhole stations.now) }
@@ -114,7 +117,7 @@ fn least_missing<C: Exclusion>(stations: &[Station<C>]) -> Option<NodeId>
     None
 }
 
-/// The least node that is inside.
+/// Returns the least node that is inside.
 fn least_inside<C: Exclusion>(stations: &[Station<C>]) -> Option<NodeId>
     ensures some { IfSome result (λ i. IsLeastInside C.core stations.now i) }
     ensures none { IfNone result (IsQuiet C.core stations.now) }
@@ -130,7 +133,7 @@ fn least_inside<C: Exclusion>(stations: &[Station<C>]) -> Option<NodeId>
     None
 }
 
-/// Why the stations can't be gathered, where it is not for want of memory.
+/// Returns why the stations cannot be gathered, apart from memory.
 fn fault_of<C: Exclusion>(stations: &[Station<C>]) -> Option<GatherFault>
     ensures some { IfSome result (λ fault. Refuses C.core stations.now fault) }
     ensures none { IfNone result (IsReady C.core stations.now) }
@@ -144,7 +147,7 @@ fn fault_of<C: Exclusion>(stations: &[Station<C>]) -> Option<GatherFault>
     None
 }
 
-/// The journals of all stations, merged one after another into an empty one.
+/// Merges the journals of all stations, one after another, into an empty one.
 fn merge_all<C: Exclusion>(alloc: Global, stations: &[Station<C>]) -> Result<Journal, MergeFault>
     ensures join { IfOk result (λ journal. IsJoinOfNodes (owned_in stations.now) journal) }
     ensures ordered { IfOk result (λ journal.
@@ -159,7 +162,7 @@ fn merge_all<C: Exclusion>(alloc: Global, stations: &[Station<C>]) -> Result<Jou
     Ok(all)
 }
 
-/// Adds equal receipts.
+/// Appends copies of the receipts.
 fn add_copies(all: &mut Vec<Receipt>, receipts: &[Receipt]) -> Result<(), AllocError>
     ensures { OnOk result (all.new.items ≡ all.old.items ++ receipts.now) }
 {
@@ -169,7 +172,7 @@ fn add_copies(all: &mut Vec<Receipt>, receipts: &[Receipt]) -> Result<(), AllocE
     Ok(())
 }
 
-/// The receipts of all stations, in order of number.
+/// Returns the receipts of all stations, in order of number.
 fn sorted_receipts<C: Exclusion>(
     alloc: Global,
     stations: &[Station<C>],
@@ -186,8 +189,8 @@ fn sorted_receipts<C: Exclusion>(
     Ok(all)
 }
 
-/// Journals and receipts, put together. That the journals do not conflict is known once the seats
-/// are joined.
+/// Puts journals and receipts together. Once the seats are joined, it is known that the journals do
+/// not conflict.
 fn put_together<C: Exclusion>(
     alloc: Global,
     stations: &[Station<C>],
@@ -203,8 +206,13 @@ fn put_together<C: Exclusion>(
 }
 
 /// Gathers the stations of one table: the receipts of all sections that were left, in order, and
-/// the journal of these sections. It needs the stations of all nodes, in any order, and nobody may
-/// be inside. What was sent and not yet delivered is dropped with the table.
+/// the journal of these sections. It needs the stations of all nodes, in any order. Parcels that
+/// were not delivered are dropped with the table.
+///
+/// # Errors
+///
+/// Returns the stations with `NotAll` and the least node without a station, with `StillInside` and
+/// the least node inside, or with `Memory` if memory runs out.
 pub fn gather<C: Exclusion>(
     alloc: Global,
     stations: Vec<Station<C>>,

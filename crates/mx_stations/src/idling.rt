@@ -1,5 +1,5 @@
-//! How long a worker waits between two turns of its station. What it looks at there tells nothing,
-//! so nothing is proved of it.
+//! Waiting of a worker between two turns of its station. Nothing is proved about what it reads
+//! meanwhile.
 
 ghost use Rattle.std.specs.Prelude.{◌≡◌, ◌<◌};
 
@@ -11,47 +11,46 @@ use mx_nodelaws::Exclusion;
 use mx_stamps::NodeId;
 use std::thread::yield_now;
 
-/// How often a worker lets others run at the most, for each node of its cluster and for `FEW`
-/// more, before its station may tick.
+/// How often at most a worker lets others run before its station may tick, for each node of its
+/// cluster and for `FEW` more.
 const YIELDS: u32 = 3;
 
-/// Among few nodes a yield returns at once, so that a worker is as patient as if there were this
-/// many more.
+/// Among few nodes a yield returns at once, so a worker is as patient as if there were this many
+/// more.
 const FEW: u32 = 8;
 
-/// How many turns in which it acts whatever comes a worker takes before it lets others run.
+/// The number of turns with an act due that a worker takes before it lets others run.
 const ACTING_TURNS: u32 = 3;
 
-/// How long a worker waits between two turns. It is asked to wait after each turn.
+/// The waiting of a worker between two turns of its station, called after each turn.
 ///
-/// A turn that finds nothing ticks, which sends again what is outstanding. What is on its way
-/// comes all the same, so that a worker lets other threads run first, until a parcel lies in a
-/// slot for its node, or its patience has run out. A tick gives it new patience, and so does a new
-/// section. A parcel that comes does not: where a letter was lost, its sender gets the letters of
-/// all whom it holds up, again and again, and would never tick.
+/// A turn that finds nothing ticks, which sends all outstanding letters again. Letters on their way
+/// arrive anyway. So a worker first lets other threads run, until a parcel lies in a slot for its
+/// node, or its patience has run out. A tick and a new section renew its patience. A parcel does
+/// not: if a letter was lost, its sender gets the letters of all nodes that it holds up, again and
+/// again, and would never tick.
 ///
-/// Patience is counted in yields, so it lasts longer the more the other threads do. It does not
-/// grow from tick to tick, as the node that all others wait for may be one that has waited long.
+/// Patience is counted in yields, so it lasts longer if the other threads do more. It does not grow
+/// from tick to tick, since the node that all others wait for may be one that has waited long.
 #[derive(Clone, Copy, Debug, Default)]
 pub struct Patience {
-    /// The last section of its station, when it waited last.
+    /// The last section of its station at the last wait.
     section: u64,
     /// How many more times it lets others run before its station may tick.
     left: u32,
-    /// How many turns in which it acts whatever comes it has taken, since it last let others run
-    /// before one, or its station entered a section.
+    /// How many turns with an act due it has taken since it last let others run after one, or since
+    /// its station entered a section.
     turns: u32,
 }
 
 impl Patience {
-    /// Of a worker that begins.
+    /// Creates the patience of a worker before its first turn.
     pub fn new() -> Patience {
         Patience::default()
     }
 
-    /// Waits after a turn of the station, which gave this report. It hardly waits where the worker
-    /// `acts` in its next turn whatever comes, as one that asks, or one whose node can enter or is
-    /// inside.
+    /// Waits after a turn of the station, which gave this report. The wait is short if the next
+    /// turn has an act due in any case: the worker `acts`, or the station can enter or is inside.
     pub fn wait<C: Exclusion>(
         &mut self,
         station: &Station<C>,
@@ -66,7 +65,7 @@ impl Patience {
         }
     }
 
-    /// New patience, where the station has ticked or entered a section.
+    /// Renews the patience, if the station has ticked or entered a section.
     fn renew<C: Exclusion>(
         &mut self,
         station: &Station<C>,
@@ -84,8 +83,8 @@ impl Patience {
     }
 
     /// Lets others run once in some turns. A node that is inside still lacks records, and each of
-    /// its turns asks another node for them. An answer has room for four, so that as many questions
-    /// may be on their way at once.
+    /// its turns asks another node for them. A reply has room for four records, so up to four
+    /// questions may be on their way at once.
     fn wait_a_little(&mut self) {
         self.turns = self.turns.saturating_add(1);
         if self.turns >= ACTING_TURNS {
@@ -95,7 +94,7 @@ impl Patience {
     }
 
     /// Lets others run until a parcel lies in a slot for the station's node, or patience has run
-    /// out: at least once, where none lies there.
+    /// out. Does so at least once if no parcel lies there.
     fn wait_for_mail<C: Exclusion>(&mut self, station: &Station<C>) {
         for _yield in 0..self.left.max(1) {
             self.left = self.left.saturating_sub(1);
@@ -107,12 +106,12 @@ impl Patience {
     }
 }
 
-/// Whether a turn ticked.
+/// Returns whether a turn ticked.
 fn has_ticked(report: &Result<TurnReport, TakeFault>) -> bool {
     matches!(report, Ok(TurnReport { ticked: true, .. }))
 }
 
-/// Whether a parcel lies in a slot for the station's node.
+/// Returns whether a parcel lies in a slot for the station's node.
 fn has_mail<C: Exclusion>(station: &Station<C>) -> bool {
     for index in 0..station.nodes() {
         if let Some(from) = NodeId::of(index)
@@ -124,7 +123,7 @@ fn has_mail<C: Exclusion>(station: &Station<C>) -> bool {
     false
 }
 
-/// Whether a parcel lies in a slot of the link from this node.
+/// Returns whether a parcel lies in a slot of the link from this node.
 fn has_mail_from<C: Exclusion>(station: &Station<C>, from: NodeId) -> bool
     requires { from < station.now.nodes }
 {

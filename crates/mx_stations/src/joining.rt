@@ -1,4 +1,4 @@
-//! All seats of a table become one, which knows the whole world.
+//! Joining of all seats of a table into one, which knows the whole world.
 
 ghost use Rattle.std.specs.Prelude.{◌≡◌, ◌<◌, length, map};
 ghost use Rattle.mx_stations.specs.Gathered.{Knows, OfOneTable, me_of, nodes_in};
@@ -19,8 +19,8 @@ fn learn_as<C: Exclusion, N: OfCount>(field: &Field<C>, seat: &mut SeatOf<C>)
     field.board.shared.load::<Learns<C, N>>(seat, 0);
 }
 
-/// A look at the rule: the nodes in view are nodes of one running world. It is made for the proof
-/// alone, and what it reads is of no use.
+/// Reads a word, which shows that the nodes in view are nodes of one running world. It is for the
+/// proof only, and the value is not used.
 fn learn<C: Exclusion>(field: &Field<C>, seat: &mut SeatOf<C>)
     requires table { seat.old.table_id ≡ field.now.board.shared.table_id }
     ensures same { (seat.new.table_id ≡ seat.old.table_id) × (seat.new.me ≡ seat.old.me) }
@@ -29,7 +29,7 @@ fn learn<C: Exclusion>(field: &Field<C>, seat: &mut SeatOf<C>)
     learn_as::<C, Brand>(field, seat);
 }
 
-/// Joins all seats, and looks at the rule.
+/// Joins all seats, and reads what the rule says about them.
 pub(crate) fn join_all<C: Exclusion>(mut stations: Vec<Station<C>>)
     requires one { OfOneTable stations.items }
     requires some { 0 < length stations.items }

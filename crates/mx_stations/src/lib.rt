@@ -1,5 +1,5 @@
-//! Stations: each node in a value of its own, which a thread may own. The stations of one cluster
-//! share a table of atomic words; what a station does to its node is one step on one word.
+//! Stations: each node as one value, which a thread may own. The stations of a cluster share a
+//! table of atomic words; an act of a station on its node is one step on one word.
 #![tactic(auto)]
 
 mod acts;

@@ -1,4 +1,4 @@
-//! How the parcels of a station cross the links: each call makes one try.
+//! The moves of a station's parcels across the links: each call tries once.
 
 ghost use Rattle.std.specs.Prelude.{◌≡◌, ◌≢◌, ◌<◌, IfOk, MatchBool, None, OnErr};
 ghost use Rattle.mx_letters.specs.declared.fates.Fate.TheVariants.{Pass};
@@ -14,8 +14,12 @@ use mx_nodelaws::Exclusion;
 use mx_stamps::NodeId;
 
 impl<C: Exclusion> Station<C> {
-    /// Delivers the parcel in hand, which stays there where it is to be delivered again. False
-    /// where the hand is empty.
+    /// Delivers the parcel in hand, which remains there if it is to be delivered again. Returns
+    /// `false` if the hand is empty.
+    ///
+    /// # Errors
+    ///
+    /// Returns `Memory` if memory runs out. The parcel remains in hand.
     pub(crate) fn deliver_as(&mut self, again: bool) -> Result<bool, TakeFault>
         ensures delivered { IfOk result (λ had.
             MatchBool had (DeliversAs C.core again self.old self.new)
@@ -31,7 +35,11 @@ impl<C: Exclusion> Station<C> {
         Ok(true)
     }
 
-    /// Delivers the parcel in hand. False where the hand is empty.
+    /// Delivers the parcel in hand. Returns `false` if the hand is empty.
+    ///
+    /// # Errors
+    ///
+    /// Returns `Memory` if memory runs out. The parcel remains in hand.
     pub(crate) fn deliver(&mut self) -> Result<bool, TakeFault>
         ensures delivered { IfOk result (λ had. MatchBool had (Delivers C.core self.old self.new)
             ((self.old.me.hand ≡ None) × (self.new ≡ self.old))) }
@@ -41,7 +49,8 @@ impl<C: Exclusion> Station<C> {
         self.deliver_as(false)
     }
 
-    /// Takes one parcel from the first filled slot of the link into the empty hand.
+    /// Takes a parcel from the first filled slot of the link into the empty hand, and returns
+    /// whether there was one.
     fn fetch(&mut self, from: NodeId) -> bool
         requires within { from < self.old.nodes }
         requires empty { self.old.me.hand ≡ None }
@@ -55,6 +64,11 @@ impl<C: Exclusion> Station<C> {
     }
 
     /// Delivers the parcel in hand, or else takes one from the link and delivers it.
+    ///
+    /// # Errors
+    ///
+    /// Returns `Memory` if memory runs out. The parcel remains in hand, and the next call delivers
+    /// it first.
     pub fn take_in(&mut self, from: NodeId) -> Result<Taken, TakeFault>
         requires { from < self.old.nodes }
         ensures taken { IfOk result (λ taken. TakesIn C.core from self.old taken self.new) }
@@ -70,7 +84,7 @@ impl<C: Exclusion> Station<C> {
         Ok(Taken::Got)
     }
 
-    /// One try to put the first waiting parcel into the first empty slot of its link.
+    /// Tries once to put the first waiting parcel into the first empty slot of its link.
     pub fn put_out(&mut self) -> PutOut
         ensures { PutsOut self.old result self.new }
     {

@@ -1,5 +1,5 @@
-//! What each step tells the seat that makes it. A `Play` can't read the table's key, so what a step
-//! leaves, and of which slot it is, are picked by the call.
+//! What each step shows to the seat that makes it. A `Play` cannot read the table's key, so the
+//! call picks the view after the step, and the slot of the step.
 
 ghost use Rattle.std.specs.Prelude.{◌≡◌, ℕ};
 ghost use Rattle.atomic_table.specs.Table.{rest};
@@ -12,7 +12,7 @@ use atomic_table::Play;
 use mx_nodelaws::Exclusion;
 use std::marker::{Brand, PhantomData};
 
-/// What a step makes of a view, and how many nodes there are.
+/// The view after a step, and the number of nodes.
 pub trait Next<V> {
     ghost after: { V → V };
 
@@ -25,7 +25,7 @@ impl<V> Next<V> for Brand {
     ghost count = { 0 };
 }
 
-/// An act: what the node sent goes to nodes.
+/// An act: the parcels of the node go to nodes.
 pub struct Becomes<N> {
     of: PhantomData<N>,
 }
@@ -35,7 +35,7 @@ impl<C: Exclusion, N: Next<Knowledge<C>>> Play<Slot<C>, Knowledge<C>> for Become
         (now ≡ (N.after before.0, before.1)) × GoToNodes N.count now.0 };
 }
 
-/// A look: what is in hand can be taken.
+/// A look, which shows that the parcel in hand can be taken.
 pub struct Looks<C> {
     of: PhantomData<C>,
 }
@@ -44,7 +44,7 @@ impl<C: Exclusion> Play<Slot<C>, Knowledge<C>> for Looks<C> {
     ghost then = { λ step before found now. (now ≡ before) × HandFits now.0 };
 }
 
-/// How many nodes there are.
+/// The number of nodes.
 pub trait OfCount {
     ghost count: { ℕ };
 }
@@ -53,7 +53,7 @@ impl OfCount for Brand {
     ghost count = { 0 };
 }
 
-/// A look at what the seat knows: its nodes are nodes of one running world.
+/// A look, which shows that the nodes of the seat are nodes of one running world.
 pub struct Learns<C, N> {
     of: PhantomData<(C, N)>,
 }
@@ -62,7 +62,7 @@ impl<C: Exclusion, N: OfCount> Play<Slot<C>, Knowledge<C>> for Learns<C, N> {
     ghost then = { λ step before found now. (now ≡ before) × Knows C.core C.Good N.count now.0 };
 }
 
-/// A slot, and who fills it.
+/// A slot, and the node that fills it.
 pub trait OfSlot {
     ghost slot: { ℕ };
 

@@ -1,4 +1,4 @@
-//! How the stations of a table are made, one for each node.
+//! Creation of the stations of a table, one for each node.
 
 ghost use Rattle.std.specs.Prelude.{◌≡◌, ◌≤◌, ◌<◌, ℕ, List, [], IfOk};
 ghost use Rattle.std.specs.Arc.{arc_value};
@@ -20,9 +20,13 @@ use std::alloc::{AllocError, Global};
 use std::sync::Arc;
 
 impl<C: Exclusion> Field<C> {
-    /// One station for each node, in order, each at rest, at one new table. `origin` is where the
-    /// numbers of requests start, `limit` the greatest section number, and `registers` how many
-    /// registers there are.
+    /// Creates idle stations, one for each node, in order, at one new table. The numbers of
+    /// requests count on from `origin`, `limit` is the greatest section number, and `registers` the
+    /// number of registers.
+    ///
+    /// # Errors
+    ///
+    /// Returns `AllocError` if memory runs out.
     pub fn stations(
         alloc: Global,
         shape: &C::Shape,
@@ -55,7 +59,7 @@ impl<C: Exclusion> Field<C> {
     }
 }
 
-/// The members at rest, in order.
+/// Creates the idle members, in order.
 fn start_members<C: Exclusion>(
     alloc: Global,
     setup: &Setup<C::Shape>,
@@ -84,7 +88,7 @@ fn start_members<C: Exclusion>(
     Ok(members)
 }
 
-/// A station for each member at rest, with a seat of its own, and the members that are left over.
+/// Creates a station for each idle member, each with a seat, and returns the remaining members too.
 fn seat_all<C: Exclusion>(
     alloc: Global,
     setup: &Setup<C::Shape>,

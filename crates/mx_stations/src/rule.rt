@@ -1,4 +1,4 @@
-//! The rule over the table, what its seats know, and how a seat hands nodes on.
+//! The rule over the table, the knowledge of its seats, and how a seat hands nodes on.
 
 ghost use Rattle.std.specs.Prelude.{[], ◌++◌};
 ghost use Rattle.mx_member.specs.Steps.{start_of};
@@ -9,21 +9,26 @@ use mx_member::Parcel;
 use mx_nodelaws::Exclusion;
 use std::marker::{Model, PhantomData};
 
-/// What a table is told once, when it is made.
+/// The parameters of a table, given when it is made.
 #[derive(Clone, Copy)]
 pub struct Setup<H> {
+    /// The number of nodes.
     pub nodes: u8,
+    /// The shape of the cluster.
     pub shape: H,
+    /// The number from which the numbers of requests count on.
     pub origin: u64,
+    /// The greatest section number.
     pub limit: u64,
+    /// The number of registers.
     pub registers: u8,
 }
 
-/// What a slot holds.
+/// The contents of a slot.
 pub type Slot<C> = Option<Parcel<<C as Exclusion>::Msg>>;
 
-/// What a seat knows: its nodes, each with its member, its receipts and its parcels. No value of it
-/// is made.
+/// The knowledge of a seat: its nodes, each with its member, its receipts and its parcels. No value
+/// of it exists at run time.
 pub struct Knowledge<C: Exclusion> {
     of: PhantomData<C>,
 }
@@ -58,7 +63,7 @@ impl<C: Exclusion> Split<Knowledge<C>> for HandOn {
     ghost right = { λ v. only_first v };
 }
 
-/// A seat takes in all nodes of another, in front of its own.
+/// A seat takes all nodes of another, in front of those that it has.
 pub struct TakeIn;
 
 impl<C: Exclusion> Join<Knowledge<C>> for TakeIn {

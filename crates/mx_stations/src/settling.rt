@@ -1,5 +1,5 @@
-//! A worker that settles: now and then it puts registers in place of the records that its station
-//! has without gaps.
+//! A worker that settles: from time to time it replaces the records that its station has without
+//! gaps by registers.
 
 ghost use Rattle.std.specs.Prelude.{◌≡◌, ◌≤◌, ◌↔◌, ℕ, length, IsTrue};
 ghost use Rattle.mx_nodelaws.specs.Core.{IsInside};
@@ -12,9 +12,9 @@ use crate::working::{Gate, Script, Stance, Worked, is_finished, take_turn};
 use mx_letters::Fates;
 use mx_nodelaws::Exclusion;
 
-/// Works as `work` does, and settles: in a turn in which the station leaves a section, where
-/// `every` divides how many it has left by then, the registers after all sections that its journal
-/// covers without gaps come in place of their records. With 0 it never settles.
+/// Works as `work` does, and settles. It does so in a turn in which the station leaves a section,
+/// if `every` divides the number of sections it has left. Then registers replace the records of all
+/// sections that its journal covers without gaps. With 0 it never settles.
 pub fn work_settling<C: Exclusion, G: Gate, F: Fates + Drop>(
     mut station: Station<C>,
     script: Script,
@@ -77,9 +77,9 @@ fn settle_on<C: Exclusion, G: Gate, F: Fates>(
     Worked::NotYet(turns)
 }
 
-/// Settles all that the journal covers without gaps, if that is due: a section was left since the
-/// station had `before` receipts, and `every` divides how many it has now. With 0 it never is. A
-/// worker calls it at the end of each of its turns.
+/// Settles all sections that the journal covers without gaps, if that is due. It is due if a
+/// section was left since the station had `before` receipts, and `every` divides the number of
+/// receipts now. With 0 it never is. A worker calls it at the end of each of its turns.
 pub fn settle_if_due<C: Exclusion>(station: &mut Station<C>, before: usize, every: u64)
     ensures { SettlesIfDue C.core every before station.old station.new }
 {
@@ -89,8 +89,7 @@ pub fn settle_if_due<C: Exclusion>(station: &mut Station<C>, before: usize, ever
     }
 }
 
-/// Whether a section was left since there were `before`, and `every` divides how many there are
-/// `now`.
+/// Returns whether there are more receipts `now` than `before`, and `every` divides their number.
 fn is_due(before: usize, now: usize, every: u64) -> bool
     ensures { IsTrue result ↔ IsDue every before now }
 {

@@ -1,5 +1,6 @@
-//! How a parcel crosses a slot: the sender claims it and gives it back filled, the receiver takes
-//! it and gives it back empty. Each is one try at one slot of the four of a link.
+//! The crossing of a parcel through a slot. The sender claims the slot and gives it back filled;
+//! the receiver takes it and gives it back empty. Each is one try at one of the four slots of a
+//! link.
 
 ghost use Rattle.std.specs.Prelude.{◌≡◌, ◌⊎◌, ℕ, ◌+◌, ◌*◌, ◌<◌, List, [], ◌∷◌, Option, Some, None, IfNone, IfSome};
 ghost use Rattle.mx_member.specs.declared.parcel.Parcel.{Parcel as OneParcel};
@@ -15,29 +16,29 @@ use mx_nodelaws::Exclusion;
 use mx_stamps::NodeId;
 use std::marker::Brand;
 
-/// How many slots each link has.
+/// The number of slots of each link.
 pub const SLOTS: u8 = 4;
 
-/// The word of a slot in which nothing lies.
+/// The word of an empty slot.
 const EMPTY: u64 = 0;
 
-/// The word of a slot that its sender fills.
+/// The word of a slot that its sender is filling.
 const CLAIMED: u64 = 1;
 
-/// The word of a slot in which a parcel lies.
+/// The word of a slot with a parcel.
 const FILLED: u64 = 2;
 
-/// The word of a slot that its receiver empties.
+/// The word of a slot that its receiver is emptying.
 const TAKEN: u64 = 3;
 
-/// The link from a node to a node.
+/// The link from one node to another.
 #[derive(Clone, Copy)]
 pub(crate) struct Link {
     pub(crate) from: NodeId,
     pub(crate) to: NodeId,
 }
 
-/// The place of one slot of the link.
+/// Returns the place of a slot of the link.
 fn slot_of<C: Exclusion>(field: &Field<C>, link: &Link, index: u8) -> usize
     requires link { IsLink field.now.nodes link.now }
     requires index { index < SLOTS }
@@ -105,7 +106,7 @@ pub(crate) fn claim_empty<C: Exclusion>(
     None
 }
 
-/// Puts the parcel into the slot that the seat holds, and gives it back.
+/// Puts the parcel into the slot that the seat holds, and gives the slot back.
 fn place_as<C: Exclusion, N: Next<Knowledge<C>>>(
     field: &Field<C>,
     seat: &mut SeatOf<C>,
@@ -152,8 +153,8 @@ pub(crate) fn place<C: Exclusion>(
     place_as::<C, Brand>(field, seat, link, index, parcel);
 }
 
-/// One try to take the slot. It looks first, since a look at an empty slot leaves its word in the
-/// caches of all who look at it.
+/// Tries once to take the slot. It reads the word first, since a read of an empty slot leaves the
+/// word in the caches of all readers.
 fn grab_as<C: Exclusion, N: OfSlot>(
     field: &Field<C>,
     seat: &mut SeatOf<C>,
@@ -234,7 +235,7 @@ pub(crate) fn lift<C: Exclusion>(
     field.board.shared.exchange(seat, slot, None).unwrap()
 }
 
-/// Gives the emptied slot back. The parcel stays in hand, or is thrown away.
+/// Gives the emptied slot back. The parcel remains in hand, or is thrown away.
 fn release_as<C: Exclusion, N: Next<Knowledge<C>>>(
     field: &Field<C>,
     seat: &mut SeatOf<C>,
@@ -278,11 +279,11 @@ pub(crate) fn release<C: Exclusion>(
     release_as::<C, Brand>(field, seat, link, index, hand);
 }
 
-/// Whether a parcel lies in a slot of the link. It is a look of which nothing is proved.
+/// Returns whether a parcel lies in a slot of the link. Nothing is proved about it.
 pub(crate) fn has_filled<C: Exclusion>(field: &Field<C>, link: &Link) -> bool
     requires { IsLink field.now.nodes link.now }
 {
-    // What all four looks share is computed once, as each of them reads memory anew.
+    // the common part of the four reads is computed once, as each of them reads memory again
     let slot = slot_of(field, link, 0);
     let first = field.nodes as usize + slot;
     for index in 0..SLOTS {

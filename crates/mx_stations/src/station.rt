@@ -1,4 +1,4 @@
-//! One node, with its seat at the table, and what it knows of itself.
+//! One node, with its seat at the table, and its own parcels and receipts.
 
 ghost use Rattle.std.specs.Prelude.{◌≡◌, ◌<◌, ◌≤◌, length};
 ghost use Rattle.mx_nodelaws.specs.Core.{BearsNumber};
@@ -16,18 +16,18 @@ use std::alloc::Global;
 use std::marker::Model;
 use std::sync::Arc;
 
-/// A node that a thread may own. What waits is at most 64 parcels; what is sent beyond is lost, as
-/// a network may lose it.
+/// A node that a thread may own. At most 64 parcels wait in it; further ones are lost, as in a
+/// network.
 #[derive(Drop)]
 pub struct Station<C: Exclusion> {
     pub(crate) field: Arc<Field<C>, Global>,
     pub(crate) seat: SeatOf<C>,
     pub(crate) node: NodeId,
     pub(crate) member: Member<C>,
-    /// The parcel that was taken and is still to be delivered, with its sender.
+    /// The parcel that was taken but not delivered yet, with its sender.
     pub(crate) hand: Option<(NodeId, Parcel<C::Msg>)>,
     pub(crate) receipts: Vec<Receipt>,
-    /// The parcels of one act on their way to the waiting list.
+    /// The parcels of one act before they join the waiting ones.
     pub(crate) out: Outbox<Parcel<C::Msg>>,
     pub(crate) waiting: Waiting<C::Msg>,
 }
@@ -51,7 +51,7 @@ impl<C: Exclusion> Model for Station<C> {
 }
 
 impl<C: Exclusion> Station<C> {
-    /// Its node.
+    /// Returns the node of this station.
     pub fn node(&self) -> NodeId
         ensures value { result ≡ self.now.me.node }
         ensures within { result < self.now.nodes }
@@ -59,7 +59,7 @@ impl<C: Exclusion> Station<C> {
         self.node
     }
 
-    /// How many nodes there are.
+    /// Returns the number of nodes.
     pub fn nodes(&self) -> u8
         ensures value { result ≡ self.now.nodes }
         ensures few { result ≤ MOST_NODES }
@@ -67,7 +67,7 @@ impl<C: Exclusion> Station<C> {
         self.field.nodes
     }
 
-    /// The phase of the node.
+    /// Returns the phase of the node.
     pub fn phase(&self) -> Phase
         ensures value { result ≡ C.core.phase self.now.me.member.core }
         ensures numbered { BearsNumber result }
@@ -75,14 +75,14 @@ impl<C: Exclusion> Station<C> {
         self.member.phase()
     }
 
-    /// Whether every permission for the current request is there.
+    /// Returns whether the node waits and has every permission for its current request.
     pub fn can_enter(&self) -> bool
         ensures { result ≡ C.core.can_enter self.now.me.member.core }
     {
         self.member.can_enter()
     }
 
-    /// The number of the last section that this node entered, 0 before the first.
+    /// Returns the number of the last section that this node entered, or 0 before the first.
     pub fn mine(&self) -> u64
         ensures value { result ≡ C.core.mine self.now.me.member.core }
         ensures high { result ≤ MOST_SECTIONS }
@@ -90,15 +90,15 @@ impl<C: Exclusion> Station<C> {
         self.member.mine()
     }
 
-    /// The sections that it knows.
+    /// Returns the journal of the sections that it knows.
     pub fn journal(&self) -> &Journal
         ensures { result.now ≡ self.now.me.member.journal }
     {
         self.member.journal()
     }
 
-    /// The value of a register after all the sections that it knows; there may be sections between
-    /// them that it does not know. None where there is no such register.
+    /// Returns the value of a register after all sections that it knows, which may lack earlier
+    /// ones. Returns `None` if there is no such register.
     pub fn value(&self, register: u8) -> Option<u64>
         ensures { result ≡ value_in register
             (registers_in self.now.me.member.setting.registers self.now.me.member.journal) }
@@ -106,14 +106,14 @@ impl<C: Exclusion> Station<C> {
         self.member.value(register)
     }
 
-    /// The receipts of the sections that this node left, in order.
+    /// Returns the receipts of the sections that this node left, in order.
     pub fn receipts(&self) -> &[Receipt]
         ensures { result.now ≡ self.now.me.receipts }
     {
         self.receipts.as_slice()
     }
 
-    /// How many parcels wait to be put out.
+    /// Returns the number of parcels that wait to be put out.
     pub fn waits(&self) -> usize
         ensures count { result ≡ length self.now.waiting }
         ensures few { result ≤ WAITING_ROOM }

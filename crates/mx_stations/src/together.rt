@@ -1,5 +1,5 @@
-//! What stations of one table show together. Looking changes nothing: it tells what the rule of the
-//! table says of the nodes in view.
+//! What stations of one table show together. Reading changes nothing: it shows what the rule of the
+//! table says about the nodes in view.
 
 ghost use Rattle.std.specs.Prelude.{◌≡◌, ◌≢◌, ◌%◌, ◌<◌, ◌++◌, [], ◌∷◌};
 ghost use Rattle.mx_journal.specs.Settled.{DoAgree};
@@ -27,7 +27,7 @@ impl<C: Exclusion, N: OfCount> Play<Slot<C>, Knowledge<C>> for Sees<C, N> {
         × ShowsNode C.core C.Good N.count step.word found now.0 };
 }
 
-/// A look at the word of a node, where the call picks how many nodes there are.
+/// Reads the word of a node; the call picks the number of nodes.
 fn see_as<C: Exclusion, N: OfCount>(field: &Field<C>, seat: &mut SeatOf<C>, node: u8) -> u64
     requires table { seat.old.table_id ≡ field.now.board.shared.table_id }
     requires within { node < field.now.nodes }
@@ -38,7 +38,7 @@ fn see_as<C: Exclusion, N: OfCount>(field: &Field<C>, seat: &mut SeatOf<C>, node
     field.board.shared.load::<Sees<C, N>>(seat, node as usize)
 }
 
-/// A look at the word of a node, which tells of the nodes in view.
+/// Reads the word of a node, which shows a fact about the nodes in view.
 fn see<C: Exclusion>(field: &Field<C>, seat: &mut SeatOf<C>, node: u8) -> u64
     requires table { seat.old.table_id ≡ field.now.board.shared.table_id }
     requires within { node < field.now.nodes }
@@ -48,7 +48,7 @@ fn see<C: Exclusion>(field: &Field<C>, seat: &mut SeatOf<C>, node: u8) -> u64
     see_as::<C, Brand>(field, seat, node)
 }
 
-/// A look with two seats of one node each as one.
+/// Reads a word with two seats of one node each as one.
 fn see_both<C: Exclusion>(field: &Field<C>, one: &mut SeatOf<C>, other: &mut SeatOf<C>)
     requires table { one.old.table_id ≡ field.now.board.shared.table_id }
     requires same_table { other.old.table_id ≡ one.old.table_id }
@@ -67,8 +67,8 @@ fn see_both<C: Exclusion>(field: &Field<C>, one: &mut SeatOf<C>, other: &mut Sea
 }
 
 impl<C: Exclusion> Station<C> {
-    /// What the status word of a node shows now: twice the number of the last section that it
-    /// entered, and one more while it is inside.
+    /// Returns the status word of a node: twice the number of the last section that it entered, and
+    /// one more while it is inside.
     pub fn status(&mut self, node: NodeId) -> u64
         requires { node < self.old.nodes }
         ensures same { self.new ≡ self.old }
@@ -80,7 +80,8 @@ impl<C: Exclusion> Station<C> {
         see(&self.field, &mut self.seat, node.get())
     }
 
-    /// Looks at two stations of one table as one. Nothing changes by it.
+    /// Shows that two stations of one table are different nodes of one cluster, and not both
+    /// inside. Changes nothing.
     pub fn apart(&mut self, other: &mut Station<C>)
         requires { self.old.table ≡ other.old.table }
         ensures same { (self.new ≡ self.old) × (other.new ≡ other.old) }

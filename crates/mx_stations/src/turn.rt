@@ -1,5 +1,5 @@
-//! A turn of a station: what waits for it comes in, what waits in it goes out, and where there was
-//! neither its clock ticks.
+//! A turn of a station: parcels for it come in, waiting parcels go out, and its clock ticks if
+//! there were none.
 
 ghost use Rattle.std.specs.Prelude.{◌≡◌, ◌≢◌, ◌<◌, ◌≤◌, ◌==◌, ◌&&◌, [], ◌∷◌, IfOk, IfSome, List, MatchBool, MatchOption, None, OnErr, OnOk, Option, length};
 ghost use Rattle.mx_letters.specs.declared.fates.Fate.{Fate as TheFate};
@@ -22,7 +22,7 @@ use mx_member::Parcel;
 use mx_nodelaws::Exclusion;
 use mx_stamps::NodeId;
 
-/// What is in hand of a parcel with this fate.
+/// Returns the contents of the hand after a parcel with this fate.
 fn hand_of<M: Copy + Default>(
     fate: Fate,
     from: NodeId,
@@ -36,9 +36,9 @@ fn hand_of<M: Copy + Default>(
     }
 }
 
-/// Takes the parcel out of the slot that the seat has taken, and gives the slot back. The parcel
-/// goes into the hand, or is thrown away, by its fate. It is a function of its own, so that a link
-/// with no parcel costs no room for one.
+/// Takes the parcel out of the slot that the seat has taken, and gives the slot back. Puts the
+/// parcel into the hand, or throws it away, by its fate. It is a separate function, so that a link
+/// without a parcel needs no room for one.
 #[inline(never)]
 fn lift_fated<C: Exclusion, A: FnOnce() -> Fate>(
     field: &Field<C>,
@@ -72,8 +72,8 @@ fn lift_fated<C: Exclusion, A: FnOnce() -> Fate>(
 }
 
 impl<C: Exclusion> Station<C> {
-    /// Delivers the parcel in hand, which stays there to be delivered again. False where the hand
-    /// is empty.
+    /// Delivers the parcel in hand, which remains there to be delivered again. Returns `false` if
+    /// the hand is empty.
     fn deliver_first(&mut self) -> Result<bool, TakeFault>
         ensures delivered { IfOk result (λ had.
             MatchBool had (DeliversFirst C.core self.old self.new)
@@ -84,8 +84,8 @@ impl<C: Exclusion> Station<C> {
         self.deliver_as(true)
     }
 
-    /// Takes one parcel from the link into the empty hand, or throws it away, by its fate. That is
-    /// asked for once the parcel is taken.
+    /// Takes one parcel from the link into the empty hand, or throws it away, by its fate. The fate
+    /// is drawn once the parcel is taken.
     pub(crate) fn fetch_fated<A: FnOnce() -> Fate>(&mut self, from: NodeId, ask: A) -> Option<Fate>
         requires within { from < self.old.nodes }
         requires empty { self.old.me.hand ≡ None }
@@ -125,7 +125,7 @@ impl<C: Exclusion> Station<C> {
         Ok(Some(fate))
     }
 
-    /// Delivers the parcel in hand a first time, where its fate is to be delivered twice.
+    /// Delivers the parcel in hand a first time, if its fate is to be delivered twice.
     fn deliver_more(&mut self, fate: Fate) -> Result<(), TakeFault>
         ensures more { OnOk result ((fate ≡ Twice → self.old.me.hand ≢ None)
             → DeliversMore C.core fate self.old self.new) }
@@ -139,7 +139,7 @@ impl<C: Exclusion> Station<C> {
         Ok(())
     }
 
-    /// One try to take a parcel from each node, in order.
+    /// Tries once to take a parcel from each node, in order.
     fn take_each<F: Fates>(
         &mut self,
         fates: &mut F,
@@ -163,7 +163,7 @@ impl<C: Exclusion> Station<C> {
         Ok(())
     }
 
-    /// As many tries to put a parcel out as parcels wait.
+    /// Tries `put_out` once for each waiting parcel.
     fn put_each(&mut self, report: &mut TurnReport)
         requires few { (report.old.put ≡ 0) × (report.old.full ≡ 0) }
         ensures put { (puts : List ThePutOut) × PutsEach C.core puts self.old self.new
@@ -176,10 +176,13 @@ impl<C: Exclusion> Station<C> {
         }
     }
 
-    /// A parcel in hand is delivered; one is taken from each node that has one, and delivered as
-    /// its fate says; as often as parcels wait then, one is put out; and where none was taken and
-    /// none waits, the clock ticks. Where memory is refused the turn ends, and the parcel stays in
-    /// hand.
+    /// Delivers the parcel in hand, takes and delivers one parcel from each node, and tries to put
+    /// out each parcel that waits then. A taken parcel is delivered as its fate says. If none was
+    /// taken and none waits, the clock ticks.
+    ///
+    /// # Errors
+    ///
+    /// Returns `Memory` if memory runs out. The turn ends, and the parcel remains in hand.
     pub fn turn<F: Fates>(&mut self, fates: &mut F) -> Result<TurnReport, TakeFault>
         ensures turns { IfOk result (λ report. Turns C.core self.old report self.new) }
         ensures goes { Goes C.core self.old self.new }
@@ -193,7 +196,7 @@ impl<C: Exclusion> Station<C> {
         Ok(report)
     }
 
-    /// Ticks where a turn took nothing, and nothing waits.
+    /// Ticks if a turn took nothing and nothing waits, and returns whether it did.
     fn tick_if_idle(&mut self, taken: u32) -> bool
         ensures ends { MatchBool result (self.new ≡ does C.core Tick self.old)
             (self.new ≡ self.old) }
@@ -208,7 +211,7 @@ impl<C: Exclusion> Station<C> {
     }
 }
 
-/// Whether a turn took nothing, and nothing waits.
+/// Returns whether a turn took nothing and nothing waits.
 fn is_idle(taken: u32, waiting: usize) -> bool
     ensures { result ≡ ((taken == 0) && (waiting == 0)) }
 {

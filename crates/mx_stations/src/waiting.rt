@@ -1,4 +1,4 @@
-//! The parcels that wait in a station, first come first.
+//! The waiting parcels of a station, first come first.
 
 ghost use Rattle.std.specs.Prelude.{◌≡◌, ◌++◌, ◌<◌, [], ◌∷◌, IfNone, IfSome, OnSome};
 ghost use Rattle.arrayvec.specs.ArrayVec.{array_vec_len};
@@ -9,18 +9,17 @@ use mx_letters::Outbox;
 use mx_member::Parcel;
 use mx_stamps::NodeId;
 
-/// The greatest number of parcels that wait in a station.
+/// The greatest number of waiting parcels in a station.
 pub const WAITING_ROOM: usize = 64;
 
 /// Parcels with their addressees.
 pub(crate) type Waiting<M> = ArrayVec<(NodeId, Parcel<M>), WAITING_ROOM>;
 
-/// Lets what was sent wait, as far as there is room.
+/// Appends the parcels of an outbox, as far as there is room.
 pub(crate) fn store_up<M: Copy + Default>(waiting: &mut Waiting<M>, out: &Outbox<Parcel<M>>)
     ensures { waiting.new.items ≡ waiting_after waiting.old.items out.now }
 {
-    // For the prover alone: it knows that no more wait than there is room for once it has seen how
-    // many there are.
+    // for the prover: it knows the bound on the number of parcels once it has seen that number
     let _count = waiting.len();
     for sent in out.as_slice() {
         if waiting.len() < WAITING_ROOM {
@@ -29,7 +28,7 @@ pub(crate) fn store_up<M: Copy + Default>(waiting: &mut Waiting<M>, out: &Outbox
     }
 }
 
-/// Takes the first.
+/// Removes and returns the first parcel.
 pub(crate) fn take_first<M: Copy + Default>(waiting: &mut Waiting<M>) -> Option<(NodeId, Parcel<M>)>
     ensures first { IfSome result (λ x. waiting.old.items ≡ x ∷ waiting.new.items) }
     ensures room { OnSome result (array_vec_len waiting.new < WAITING_ROOM) }

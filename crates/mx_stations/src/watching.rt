@@ -1,4 +1,4 @@
-//! A look at all nodes of a field, by who has none of them.
+//! A view of all nodes of a field, for threads that own none of them.
 
 ghost use Rattle.std.specs.Prelude.{◌≡◌, IfOk};
 
@@ -9,7 +9,7 @@ use std::alloc::{AllocError, Global};
 use std::marker::Model;
 use std::sync::Arc;
 
-/// Shows how far the nodes of a field have come, while their stations are owned by threads.
+/// Shows the progress of the nodes of a field, while threads own their stations.
 #[derive(Drop)]
 pub struct Watch<C: Exclusion> {
     field: Arc<Field<C>, Global>,
@@ -26,7 +26,11 @@ impl<C: Exclusion> Model for Watch<C> {
 }
 
 impl<C: Exclusion> Station<C> {
-    /// A watch over the nodes of its field.
+    /// Returns a watch over the nodes of its field.
+    ///
+    /// # Errors
+    ///
+    /// Returns `AllocError` if memory runs out.
     pub fn watch(&self) -> Result<Watch<C>, AllocError>
         ensures { IfOk result (λ watch. watch ≡ (self.now.table, self.now.nodes)) }
     {
@@ -36,8 +40,8 @@ impl<C: Exclusion> Station<C> {
 }
 
 impl<C: Exclusion> Watch<C> {
-    /// How many sections were left so far, as the words of the nodes show it one after another. It
-    /// is a look without a lock, of which nothing is proved.
+    /// Returns the number of sections left so far, read from the status words of the nodes one
+    /// after another. It reads without a lock, and nothing is proved about it.
     pub fn sections(&self) -> u64 {
         let field = &*self.field;
         let mut left = 0;
@@ -49,8 +53,8 @@ impl<C: Exclusion> Watch<C> {
     }
 }
 
-/// How many sections were left when a node's word was this: those up to its last one, which is
-/// still open where the word is odd.
+/// Returns the number of sections left when a node's word was this: those up to its last one, which
+/// is still open if the word is odd.
 fn sections_in(word: u64) -> u64 {
     (word / 2).saturating_sub(word % 2)
 }

@@ -1,5 +1,4 @@
-//! A worker: it takes a station through sections of its own, and in each of them adds 1 to a
-//! register.
+//! A worker: it takes a station through sections, and in each of them adds 1 to a register.
 
 ghost use Rattle.std.specs.Prelude.{◌≡◌, ◌<◌, ◌≤◌, ◌↔◌, ℕ, length, IsTrue};
 ghost use Rattle.mx_nodelaws.specs.Core.{IsInside};
@@ -15,19 +14,22 @@ use mx_member::ReadFault;
 use mx_nodelaws::{Exclusion, Phase};
 use mx_stamps::NodeId;
 
-/// When workers begin, and when they may stop. Either call may wait for other workers.
+/// When workers may start, and when they may stop. Both calls may wait for other workers.
 pub trait Gate {
-    /// Whether the worker of this node may begin. It is asked once, before the first act.
+    /// Returns whether the worker of this node may start. Called once, before the first act.
     fn arrive(&self, node: NodeId) -> bool;
 
-    /// Whether the worker of this node, which has its sections, may stop. It is asked on each turn.
+    /// Returns whether the worker of this node, which has its sections, may stop. Called on each
+    /// turn.
     fn done(&self, node: NodeId) -> bool;
 }
 
-/// What a worker has to do: to add 1 to this register, in a given number of sections.
+/// The task of a worker: to add 1 to this register, in a given number of sections.
 #[derive(Clone, Copy, Debug, PartialEq, Eq)]
 pub struct Script {
+    /// The number of the register.
     pub register: u8,
+    /// The number of sections.
     pub sections: u64,
 }
 
@@ -38,12 +40,12 @@ pub enum Worked {
     Done,
     /// All turns were made: this many.
     NotYet(u64),
-    /// The gate did not let it begin.
+    /// The gate did not let it start.
     GateShut,
 }
 
-/// How far a worker is: whether it has written in its section, which node it asked last for the
-/// records that it lacks, and how long it waits between two turns.
+/// The progress of a worker: whether it has written in its section, the node that it asked last for
+/// missing records, and its patience between two turns.
 #[derive(Drop)]
 pub(crate) struct Stance {
     pub(crate) written: bool,
@@ -51,13 +53,16 @@ pub(crate) struct Stance {
     pub(crate) patience: Patience,
 }
 
-/// Waits at the gate, and then works at the station for at most this many turns. In each, the acts
-/// that are due come first: it asks where it is idle and lacks sections; enters where it can;
-/// inside, reads the register and writes 1 more, or where records are missing asks the next node in
-/// the circle for them; leaves once it has written. Then the station takes a turn, by these fates
-/// of parcels. So one that begins idle leaves no more sections than it was asked for, if it had no
-/// more before. It waits only where its gate waits. The station is not to be inside; where there is
-/// no such register the worker never gets out of its first section.
+/// Waits at the gate, and then works at the station for at most this many turns.
+///
+/// In each turn the acts that are due come first. It asks if it is idle and lacks sections, and
+/// enters if it can. Inside it reads the register and writes 1 more, or asks the next node in the
+/// circle for missing records. It leaves once it has written. Then the station takes a turn, by
+/// these fates of parcels.
+///
+/// A station that starts idle leaves no more sections than it was asked for, unless it had more
+/// before. The worker waits only if its gate waits. The station must not be inside. If there is no
+/// such register, the worker never leaves its first section.
 pub fn work<C: Exclusion, G: Gate, F: Fates + Drop>(
     station: Station<C>,
     script: Script,
@@ -80,7 +85,7 @@ pub fn work<C: Exclusion, G: Gate, F: Fates + Drop>(
     work_settling(station, script, 0, gate, fates, turns)
 }
 
-/// Whether the station has this many sections, and is not inside another.
+/// Returns whether the station has this many sections, and is not inside another.
 pub(crate) fn is_finished<C: Exclusion>(station: &Station<C>, sections: u64) -> bool
     ensures enough { IsTrue result → sections ≤ length station.now.me.receipts }
     ensures outside { IsTrue result → IsInside C.core station.now.me.member.core → ⊥ }
@@ -91,15 +96,15 @@ pub(crate) fn is_finished<C: Exclusion>(station: &Station<C>, sections: u64) -> 
     has_sections(station, sections)
 }
 
-/// Whether the station has this many sections.
+/// Returns whether the station has this many sections.
 fn has_sections<C: Exclusion>(station: &Station<C>, sections: u64) -> bool
     ensures { IsTrue result ↔ (sections ≤ length station.now.me.receipts) }
 {
     station.receipts().len() as u64 >= sections
 }
 
-/// The acts that are due, and a turn of the station. An act that is not due is refused, which
-/// changes nothing. A turn in which memory is refused is a turn too.
+/// Performs the acts that are due, and takes a turn of the station. An act that is not due is
+/// refused, which changes nothing. A turn in which memory runs out counts too.
 pub(crate) fn take_turn<C: Exclusion, F: Fates>(
     station: &mut Station<C>,
     script: &Script,
@@ -119,12 +124,12 @@ pub(crate) fn take_turn<C: Exclusion, F: Fates>(
     stance.patience.wait(station, &report, asks);
 }
 
-/// Whether the next turn asks: the node is idle, and sections are lacking.
+/// Returns whether the next turn asks: the node is idle and lacks sections.
 fn is_to_ask<C: Exclusion>(station: &Station<C>, sections: u64) -> bool {
     matches!(station.phase(), Phase::Idle) && !has_sections(station, sections)
 }
 
-/// Asks where sections are lacking.
+/// Asks if sections are lacking.
 fn ask_if_due<C: Exclusion>(station: &mut Station<C>, sections: u64)
     ensures none { (register : ℕ) → LeavesNone C.core register station.old station.new }
     ensures within { IsWithin C.core sections station.old → IsWithin C.core sections station.new }
@@ -134,7 +139,7 @@ fn ask_if_due<C: Exclusion>(station: &mut Station<C>, sections: u64)
     }
 }
 
-/// Where nothing is written yet: reads the register and writes 1 more, or asks for missing records.
+/// Reads the register and writes 1 more, or asks for missing records, if nothing is written yet.
 fn add_if_due<C: Exclusion>(station: &mut Station<C>, register: u8, stance: &mut Stance)
     ensures none { LeavesNone C.core register station.old station.new }
     ensures within { (most : ℕ) → IsWithin C.core most station.old
@@ -154,7 +159,7 @@ fn add_if_due<C: Exclusion>(station: &mut Station<C>, register: u8, stance: &mut
     }
 }
 
-/// Asks the next node in the circle for the records that are missing.
+/// Asks the next node in the circle for missing records.
 fn want_next<C: Exclusion>(station: &mut Station<C>, stance: &mut Stance)
     ensures none { (register : ℕ) → LeavesNone C.core register station.old station.new }
     ensures within { (most : ℕ) → IsWithin C.core most station.old
@@ -165,7 +170,7 @@ fn want_next<C: Exclusion>(station: &mut Station<C>, stance: &mut Stance)
     stance.wanted = next;
 }
 
-/// How many nodes there are.
+/// Returns the number of nodes.
 fn count_of<C: Exclusion>(station: &Station<C>) -> u8
     ensures value { result ≡ station.now.nodes }
     ensures some { 0 < result }
@@ -173,7 +178,7 @@ fn count_of<C: Exclusion>(station: &Station<C>) -> u8
     station.field.nodes
 }
 
-/// The next node in the circle of this many.
+/// Returns the next node in the circle of this many.
 fn node_after(node: NodeId, nodes: u8) -> NodeId
     requires { 0 < nodes }
     ensures { result < nodes }
@@ -193,7 +198,7 @@ fn first_node() -> NodeId
     first
 }
 
-/// Leaves where the section has its write. Where memory is refused it stays inside.
+/// Leaves if the section has its write. If memory runs out, the node remains inside.
 fn leave_if_due<C: Exclusion>(station: &mut Station<C>, stance: &mut Stance)
     ensures { MayLeave C.core station.old station.new }
 {

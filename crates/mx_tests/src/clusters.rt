@@ -1,4 +1,4 @@
-//! Events that can't happen in a cluster, parcels that were sent, and the calls of a node alone.
+//! Events that a cluster refuses, parcels that were sent, and the calls of a single node.
 
 use crate::given::node;
 use mx_letters::Outbox;
@@ -10,13 +10,14 @@ use mx_stamps::Clock;
 use std::alloc::Global;
 use std::test::Fail;
 
-/// Two nodes at rest.
+/// Creates a cluster of two idle nodes.
 fn two_nodes(alloc: Global) -> Result<Cluster<Ricart>, Fail> {
     let shape = Count::of(2).ok_or("count")?;
     Ok(Cluster::start(alloc, &shape, 0, 1000, 1)?)
 }
 
-/// The stamp that node 2 draws of a clock at 5 that has seen 3: its number and its node.
+/// Returns the number and the node of the stamp that node 2 draws from a clock at 5 that has seen
+/// 3.
 fn drawn_after_five() -> Option<(u64, u8)> {
     let mut clock = Clock::at(5);
     clock.see(3);
@@ -24,7 +25,8 @@ fn drawn_after_five() -> Option<(u64, u8)> {
     Some((stamp.number, stamp.node.get()))
 }
 
-/// Whether a cluster that has done nothing refuses an event for this fault, and notes nothing.
+/// Returns whether a cluster without events refuses an event for this fault, and adds nothing to
+/// its trace.
 fn refuses(cluster: &mut Cluster<Ricart>, event: Event, fault: StepFault) -> bool {
     match cluster.step(event) {
         Ok(_) => false,
@@ -32,7 +34,7 @@ fn refuses(cluster: &mut Cluster<Ricart>, event: Event, fault: StepFault) -> boo
     }
 }
 
-/// Whether two nodes that have done nothing refuse what can't happen, each for its fault.
+/// Returns whether two nodes without events refuse impossible events, each for its fault.
 fn refuse_all(cluster: &mut Cluster<Ricart>) -> bool {
     refuses(cluster, Event::Ask(node(2)), StepFault::NoNode)
         && refuses(cluster, Event::Want(node(0), node(2)), StepFault::NoNode)
@@ -47,7 +49,8 @@ fn step_faults_and_clock(rt: HostRuntime) -> Result<(), Fail> {
     Ok(())
 }
 
-/// Whether node 0, which asks, sends one request to node 1, of which both calls tell the same.
+/// Returns whether node 0, which asks, sends one request to node 1, and both calls return the same
+/// parcel.
 fn tells_of_the_request(cluster: &mut Cluster<Ricart>) -> Result<bool, StepFault> {
     cluster.advance(Event::Ask(node(0)))?;
     let is_told = match cluster.parcel(0) {
@@ -68,7 +71,7 @@ fn sent_parcel_is_told_by_both_calls(rt: HostRuntime) -> Result<(), Fail> {
     Ok(())
 }
 
-/// What a node alone is called for.
+/// A call of a single node.
 #[derive(Clone, Copy)]
 enum Call {
     Ask,
@@ -79,7 +82,7 @@ enum Call {
     Deliver,
 }
 
-/// The phase of a node alone after this call, which changes nothing where it is refused.
+/// Returns the phase of a single node after this call. A refused call changes nothing.
 fn phase_after(solo: &mut Solo, call: Call) -> Phase {
     let mut out = Outbox::new();
     match call {
@@ -99,7 +102,7 @@ fn phase_after(solo: &mut Solo, call: Call) -> Phase {
     solo.phase()
 }
 
-/// Calls of a node with one section, each with its phase after it.
+/// Calls of a node with one section, each with the phase after it.
 const CALLS: [(Call, Phase); 13] = [
     (Call::Enter, Phase::Idle),
     (Call::Cancel, Phase::Idle),

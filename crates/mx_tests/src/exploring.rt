@@ -1,4 +1,4 @@
-//! Weather and schedules beside what the tests make of words that they draw themselves.
+//! Weather and schedules, compared with words that the tests draw themselves.
 
 ghost use Rattle.std.specs.Prelude.{◌<◌};
 
@@ -13,7 +13,7 @@ use rand_pcg::Pcg32;
 use std::alloc::{AllocError, Global};
 use std::test::Fail;
 
-/// Whether the fates of this seed are those of its words.
+/// Returns whether the fates of this seed are those of its words.
 fn is_of_its_seed(seed: u64) -> bool {
     let mut weather = Weather::of(seed, 16, 16);
     let mut words = Pcg32::seed_from_u64(seed);
@@ -37,7 +37,7 @@ fn weather_is_that_of_its_seed(rt: HostRuntime) {
     }
 }
 
-/// Whether a weather has this fate for each parcel.
+/// Returns whether a weather has this fate for each parcel.
 fn is_always(weather: &mut Weather, fate: Fate) -> bool {
     for _ in 0..1000 {
         if weather.fate() != fate {
@@ -58,7 +58,7 @@ fn weather_of_one_kind(rt: HostRuntime) {
 const PLAN: &str =
     "{\"algorithm\":\"ricart\",\"nodes\":[\"a\",\"b\",\"c\",\"d\",\"e\"],\"registers\":[\"x\",\"y\",\"z\"],\"sections\":100}";
 
-/// The next word, modulo this.
+/// Returns the next word, modulo this.
 fn below(words: &mut Pcg32, count: u32) -> u32
     requires { 0 < count }
     ensures { result < count }
@@ -66,17 +66,17 @@ fn below(words: &mut Pcg32, count: u32) -> u32
     words.next_u32() % count
 }
 
-/// One of the five nodes.
+/// Draws one of the five nodes.
 fn drawn_node(words: &mut Pcg32) -> NodeId {
     node(below(words, 5) as u8)
 }
 
-/// One of the three registers.
+/// Draws one of the three registers.
 fn drawn_register(words: &mut Pcg32) -> u8 {
     below(words, 3) as u8
 }
 
-/// An event of two arguments, of which the first is a node.
+/// Draws an event of two arguments. The first is a node.
 fn drawn_pair(words: &mut Pcg32, kind: u32) -> Event {
     let first = drawn_node(words);
     match kind {
@@ -86,14 +86,14 @@ fn drawn_pair(words: &mut Pcg32, kind: u32) -> Event {
     }
 }
 
-/// A node that writes a word to a register.
+/// Draws a write of a word to a register.
 fn drawn_write(words: &mut Pcg32) -> Event {
     let first = drawn_node(words);
     let register = drawn_register(words);
     Event::Write(first, register, u64::from(words.next_u32()))
 }
 
-/// The event that the next words mean.
+/// Returns the event that the next words encode.
 fn drawn_event(words: &mut Pcg32) -> Event {
     match below(words, 16) {
         0 | 1 => Event::Ask(drawn_node(words)),
@@ -108,7 +108,7 @@ fn drawn_event(words: &mut Pcg32) -> Event {
     }
 }
 
-/// Whether these are the events of the words of a seed.
+/// Returns whether these are the events of the words of a seed.
 fn are_of_seed(events: &[Event], seed: u64) -> bool {
     let mut words = Pcg32::seed_from_u64(seed);
     for event in events {
@@ -119,13 +119,13 @@ fn are_of_seed(events: &[Event], seed: u64) -> bool {
     events.len() == 1000
 }
 
-/// Whether a schedule of this seed has the events of its words.
+/// Returns whether a schedule of this seed has the events of its words.
 fn is_drawn(alloc: Global, seed: u64, plan: &Plan) -> Result<bool, AllocError> {
     let events = schedule(alloc, seed, 1000, plan)?;
     Ok(are_of_seed(events.as_slice(), seed))
 }
 
-/// Whether the schedules of ten seeds do.
+/// Returns whether this holds for the schedules of ten seeds.
 fn are_drawn(alloc: Global, plan: &Plan) -> Result<bool, AllocError> {
     for seed in 0..10 {
         if !is_drawn(alloc, seed, plan)? {

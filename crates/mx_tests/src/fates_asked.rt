@@ -1,4 +1,4 @@
-//! How often a turn asks for a fate: once for each parcel that it takes.
+//! How often a turn draws a fate: once for each parcel that it takes.
 
 use mx_letters::{Fate, Fates};
 use mx_ricart::{Count, Ricart};
@@ -6,7 +6,7 @@ use mx_stations::{Field, PutOut, Station};
 use std::alloc::Global;
 use std::test::Fail;
 
-/// A network with one fate for all parcels, which counts how often it is asked.
+/// A network with one fate for all parcels, which counts how often a fate is drawn.
 #[derive(Drop)]
 struct Asked {
     fate: Fate,
@@ -20,8 +20,8 @@ impl Fates for Asked {
     }
 }
 
-/// Whether a station of three sends its request to both others, so often: it asks, and later sends
-/// again what is outstanding.
+/// Returns whether a station of three sends its request to both others, this many times: it asks,
+/// and later sends outstanding letters again.
 fn sends(station: &mut Station<Ricart>, times: u32) -> bool {
     for _time in 0..times {
         if station.ask().is_err() {
@@ -34,7 +34,7 @@ fn sends(station: &mut Station<Ricart>, times: u32) -> bool {
     true
 }
 
-/// How often fates were asked for once the station has taken a turn more.
+/// Returns how many fates were drawn once the station has taken one more turn.
 fn times_after_a_turn(station: &mut Station<Ricart>, fates: &mut Asked) -> Option<u32> {
     if station.turn(fates).is_err() {
         return None;
@@ -42,7 +42,7 @@ fn times_after_a_turn(station: &mut Station<Ricart>, fates: &mut Asked) -> Optio
     Some(fates.times)
 }
 
-/// How many fates a station has asked for after each of three turns.
+/// Returns how many fates a station has drawn after each of three turns.
 fn times_in_three_turns(station: &mut Station<Ricart>, fate: Fate) -> Option<(u32, u32, u32)> {
     let mut fates = Asked { fate, times: 0 };
     let first = times_after_a_turn(station, &mut fates)?;
@@ -51,7 +51,7 @@ fn times_in_three_turns(station: &mut Station<Ricart>, fate: Fate) -> Option<(u3
     Some((first, second, third))
 }
 
-/// How many fates node 0 has asked for after each of three turns, where nodes 1 and 2 have sent it
+/// Returns how many fates node 0 has drawn after each of three turns, if nodes 1 and 2 have sent it
 /// these numbers of parcels.
 fn times_asked(
     stations: &mut [Station<Ricart>],
@@ -67,14 +67,14 @@ fn times_asked(
     times_in_three_turns(zero, fate)
 }
 
-/// How many fates node 0 asks for in a new cluster, after each of three turns.
+/// Returns how many fates node 0 draws in a new cluster, after each of three turns.
 fn times(alloc: Global, sent: (u32, u32), fate: Fate) -> Result<Option<(u32, u32, u32)>, Fail> {
     let shape = Count::of(3).ok_or("count")?;
     let mut all = Field::<Ricart>::stations(alloc, &shape, 0, 1000, 1)?;
     Ok(times_asked(all.as_mut_slice(), sent, fate))
 }
 
-/// Whether these numbers of fates are asked for, whatever they are.
+/// Returns whether these numbers of fates are drawn, for each fate.
 fn are_asked(alloc: Global, sent: (u32, u32), wanted: (u32, u32, u32)) -> Result<bool, Fail> {
     for fate in [Fate::Pass, Fate::Drop, Fate::Twice] {
         if times(alloc, sent, fate)? != Some(wanted) {
@@ -84,8 +84,8 @@ fn are_asked(alloc: Global, sent: (u32, u32), wanted: (u32, u32, u32)) -> Result
     Ok(true)
 }
 
-/// How many parcels nodes 1 and 2 have sent to node 0, and how many fates it has asked for after
-/// each of three turns, in which it takes one from each node that has one.
+/// The numbers of parcels that nodes 1 and 2 have sent to node 0, and of fates that it has drawn
+/// after each of three turns. In a turn it takes one parcel from each node that has one.
 const TIMES: [((u32, u32), (u32, u32, u32)); 5] = [
     ((0, 0), (0, 0, 0)),
     ((1, 0), (1, 1, 1)),

@@ -1,4 +1,4 @@
-//! Two stations whose links have four slots each: what each call returns, and what is gathered.
+//! Two stations whose links have four slots each: the result of each call, and of gathering.
 
 ghost use Rattle.std.specs.Prelude.{◌≡◌, ◌<◌, IfOk, IfSome};
 ghost use Rattle.mx_stations.specs.Gathered.{KeepsTable, OfOneTable};
@@ -15,19 +15,19 @@ use std::alloc::{AllocError, Global};
 use std::process::Abort;
 use std::test::Fail;
 
-/// A call of a station, with what it returns.
+/// A call of a station, with its result.
 #[derive(Drop)]
 enum Call {
     Ask,
     PutOut(PutOut),
-    /// It ticks first, so that what is outstanding waits again.
+    /// It ticks first, so that the outstanding letters wait again.
     PutOutAgain(PutOut),
     /// It takes from the other node.
     TakeIn(Taken),
     Enter(u64),
 }
 
-/// Whether the call returns that.
+/// Returns whether the call has that result.
 fn answers(station: &mut Station<Ricart>, call: &Call) -> bool
     ensures { KeepsTable station.old station.new }
 {
@@ -43,7 +43,7 @@ fn answers(station: &mut Station<Ricart>, call: &Call) -> bool
     }
 }
 
-/// The other of two nodes.
+/// Returns the other of two nodes.
 pub(crate) fn other_of(station: &Station<Ricart>) -> Option<NodeId>
     ensures { IfSome result (λ i. i < station.now.nodes) }
 {
@@ -55,7 +55,7 @@ pub(crate) fn other_of(station: &Station<Ricart>) -> Option<NodeId>
     }
 }
 
-/// Whether that comes of taking a parcel in from the other of two nodes.
+/// Returns whether taking a parcel in from the other of two nodes has that result.
 pub(crate) fn takes_from_other(station: &mut Station<Ricart>, answer: Taken) -> bool
     ensures { KeepsTable station.old station.new }
 {
@@ -65,7 +65,7 @@ pub(crate) fn takes_from_other(station: &mut Station<Ricart>, answer: Taken) -> 
     }
 }
 
-/// Whether a section of this number was left.
+/// Returns whether a section of this number was left.
 fn bears(left: &Result<Receipt, CloseFault>, number: u64) -> bool {
     match left {
         Ok(receipt) => receipt.number == number,
@@ -73,7 +73,7 @@ fn bears(left: &Result<Receipt, CloseFault>, number: u64) -> bool {
     }
 }
 
-/// Whether the station leaves a section of this number.
+/// Returns whether the station leaves a section of this number.
 fn leaves(station: &mut Station<Ricart>, number: u64) -> bool
     ensures { KeepsTable station.old station.new }
 {
@@ -81,7 +81,7 @@ fn leaves(station: &mut Station<Ricart>, number: u64) -> bool
     bears(&left, number)
 }
 
-/// Whether that of the two does so whose node it is.
+/// Returns whether the call has that result, at the station of this node.
 fn one_answers(zero: &mut Station<Ricart>, one: &mut Station<Ricart>, node: u8, call: &Call) -> bool
     ensures { KeepsTable zero.old zero.new × KeepsTable one.old one.new }
 {
@@ -92,7 +92,7 @@ fn one_answers(zero: &mut Station<Ricart>, one: &mut Station<Ricart>, node: u8, 
     }
 }
 
-/// All calls return that, one after another.
+/// Asserts that all calls have their results, one after another.
 fn assert_calls(
     rt: &impl Abort,
     zero: &mut Station<Ricart>,
@@ -107,7 +107,7 @@ fn assert_calls(
     }
 }
 
-/// Whether one section is all that was gathered, of node 0.
+/// Returns whether one section of node 0 was gathered, and nothing else.
 fn is_first(gathered: Result<Gathered, Ungathered<Ricart>>) -> bool {
     let Ok(all) = gathered else {
         return false;
@@ -123,7 +123,7 @@ fn is_first(gathered: Result<Gathered, Ungathered<Ricart>>) -> bool {
     }
 }
 
-/// Whether both are gathered so.
+/// Returns whether gathering both has that result.
 fn are_gathered(alloc: Global, both: (Station<Ricart>, Station<Ricart>)) -> Result<bool, AllocError>
     requires { KeepsTable both.0 both.1 }
 {
@@ -131,7 +131,7 @@ fn are_gathered(alloc: Global, both: (Station<Ricart>, Station<Ricart>)) -> Resu
     Ok(is_first(gather(alloc, stations)))
 }
 
-/// The stations that are handed back, where it is for this fault.
+/// Returns the stations that are handed back, if it is for this fault.
 fn given_back(back: Ungathered<Ricart>, fault: GatherFault) -> Option<Vec<Station<Ricart>>>
     ensures { IfSome result (λ all. all.items ≡ back.stations.items) }
 {
@@ -142,7 +142,7 @@ fn given_back(back: Ungathered<Ricart>, fault: GatherFault) -> Option<Vec<Statio
     }
 }
 
-/// The stations, as they come back where they are not gathered for this fault.
+/// Returns the stations that come back, if they are not gathered for this fault.
 fn refused(
     alloc: Global,
     stations: Vec<Station<Ricart>>,
@@ -157,7 +157,7 @@ fn refused(
     }
 }
 
-/// Whether no station at all comes back where none is gathered, for want of that of node 0.
+/// Returns whether no station comes back if none is gathered, since that of node 0 is missing.
 fn none_comes_back(alloc: Global) -> bool {
     match refused(alloc, Vec::new(alloc), GatherFault::NotAll(node(0))) {
         Some(back) => back.is_empty(),
@@ -165,7 +165,7 @@ fn none_comes_back(alloc: Global) -> bool {
     }
 }
 
-/// The station, where it comes back alone for want of that of node 0.
+/// Returns the station, if it comes back by itself since that of node 0 is missing.
 fn one_comes_back(
     alloc: Global,
     one: Station<Ricart>,
@@ -182,7 +182,7 @@ fn one_comes_back(
     }
 }
 
-/// Both stations, where they come back since node 0 is inside.
+/// Returns both stations, if they come back since node 0 is inside.
 fn both_come_back(
     alloc: Global,
     both: (Station<Ricart>, Station<Ricart>),
@@ -200,7 +200,7 @@ fn both_come_back(
     }
 }
 
-/// Both stations, where none of these is gathered: none, that of node 1 alone, and both.
+/// Returns both stations, if none of these is gathered: no station, only that of node 1, and both.
 fn all_come_back(
     alloc: Global,
     both: (Station<Ricart>, Station<Ricart>),
@@ -217,7 +217,7 @@ fn all_come_back(
     }
 }
 
-/// Whether these are the stations of nodes 0 and 1, of which the first is inside section 1.
+/// Returns whether these are the stations of nodes 0 and 1, and the first is inside section 1.
 fn are_as_they_were(zero: &Station<Ricart>, one: &Station<Ricart>) -> bool {
     zero.node().get() == 0
         && zero.phase() == Phase::Inside(1)
@@ -225,7 +225,7 @@ fn are_as_they_were(zero: &Station<Ricart>, one: &Station<Ricart>) -> bool {
         && one.phase() == Phase::Idle
 }
 
-/// Whether both, as they come back, are gathered once node 0 has left its section.
+/// Returns whether both, as they come back, are gathered once node 0 has left its section.
 fn are_gathered_later(
     alloc: Global,
     mut both: (Station<Ricart>, Station<Ricart>),

@@ -1,4 +1,4 @@
-//! Calls that nothing else makes, each at a concrete type.
+//! Calls that no other test makes, each at a concrete type.
 
 use crate::given::{entry, node};
 use mx_journal::{Journal, PutFault};
@@ -6,7 +6,7 @@ use mx_letters::Outbox;
 use mx_stamps::{Clock, NodeId};
 use std::test::Fail;
 
-/// Whether this is that letter, to that node.
+/// Returns whether this is that letter, to that node.
 fn is_letter(found: Option<&(NodeId, u64)>, to: NodeId, letter: u64) -> bool {
     match found {
         Some(there) => there.0 == to && there.1 == letter,
@@ -14,7 +14,8 @@ fn is_letter(found: Option<&(NodeId, u64)>, to: NodeId, letter: u64) -> bool {
     }
 }
 
-/// Whether an outbox has room for 32 letters, and for one less behind a first one, which is there.
+/// Returns whether an outbox has room for 32 letters, and for one less after a first one, which it
+/// holds.
 fn has_room_for_32() -> bool {
     let mut out = Outbox::new();
     let room = out.room();
@@ -22,7 +23,8 @@ fn has_room_for_32() -> bool {
     room == 32 && out.room() == 31 && is_letter(out.get(0), node(3), 7) && out.get(1).is_none()
 }
 
-/// Whether a clock knows the highest number that it has seen, and then that which it has drawn.
+/// Returns whether a clock knows the highest number that it has seen, and then the one that it has
+/// drawn.
 fn knows_the_highest() -> bool {
     let mut clock = Clock::at(5);
     clock.see(9);
@@ -30,12 +32,13 @@ fn knows_the_highest() -> bool {
     clock.next(node(0)).is_some() && seen == 9 && clock.highest() == 10
 }
 
-/// Whether a journal covers section 1 alone.
+/// Returns whether a journal covers only section 1.
 fn covers_one(journal: &Journal) -> bool {
     journal.covers(1) && !journal.covers(0) && !journal.covers(2)
 }
 
-/// Whether an empty journal covers section 1 alone once it has that record, and once it is settled.
+/// Returns whether an empty journal covers only section 1 once it has that record, and once it is
+/// settled.
 fn covers_what_it_took(journal: &mut Journal) -> Result<bool, PutFault> {
     journal.put(entry(1, &[(0, 1)]))?;
     let has = covers_one(journal);

@@ -1,4 +1,4 @@
-//! Nodes, records and journals that tests are given.
+//! Nodes, records and journals that the tests use.
 
 ghost use Rattle.std.specs.Prelude.{◌≡◌, ◌<◌};
 
@@ -8,7 +8,7 @@ use mx_stamps::NodeId;
 use std::alloc::{AllocError, Global};
 use std::test::Fail;
 
-/// The node of this number.
+/// Returns the node of this number.
 pub(crate) fn node(index: u8) -> NodeId
     requires { index < 21 }
     ensures { result ≡ index }
@@ -16,7 +16,7 @@ pub(crate) fn node(index: u8) -> NodeId
     NodeId::of(index).unwrap()
 }
 
-/// A record by node 0 of at most eight writes, each a register and a value.
+/// Returns a record by node 0 of at most eight writes, each a register and a value.
 pub(crate) fn entry(number: u64, writes: &[(u8, u64)]) -> Record {
     let mut kept = ArrayVec::new();
     for (register, value) in writes {
@@ -35,7 +35,7 @@ pub(crate) fn entry(number: u64, writes: &[(u8, u64)]) -> Record {
     }
 }
 
-/// Records of these numbers, each with one write of a value to register 0.
+/// Returns records of these numbers, each with one write of a value to register 0.
 pub(crate) fn entries(alloc: Global, pairs: &[(u64, u64)]) -> Result<Vec<Record>, AllocError> {
     let mut list = Vec::new(alloc);
     for (number, value) in pairs {
@@ -44,7 +44,7 @@ pub(crate) fn entries(alloc: Global, pairs: &[(u64, u64)]) -> Result<Vec<Record>
     Ok(list)
 }
 
-/// A journal of these numbers, of which number n writes n.
+/// Returns a journal of these numbers; the record of number n writes n.
 pub(crate) fn journal_of(alloc: Global, numbers: &[u64]) -> Result<Journal, Fail> {
     let mut journal = Journal::new(alloc);
     for number in numbers {
@@ -53,7 +53,7 @@ pub(crate) fn journal_of(alloc: Global, numbers: &[u64]) -> Result<Journal, Fail
     Ok(journal)
 }
 
-/// Vectors of these lists.
+/// Returns vectors of these lists.
 pub(crate) fn lists(alloc: Global, sets: &[&[u8]]) -> Result<Vec<Vec<u8>>, AllocError> {
     let mut lists = Vec::new(alloc);
     for set in sets {

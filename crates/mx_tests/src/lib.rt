@@ -1,5 +1,5 @@
-//! Tests across the crates, of what no contract says: worked examples where no printout shows what
-//! they must give, the texts of faults, calls at size, and draws beside words that are drawn here.
+//! Tests across the crates, for what no contract says: worked examples that no printout shows, the
+//! texts of faults, large inputs, and draws compared with words that are drawn here.
 
 #![tactic(auto)]
 

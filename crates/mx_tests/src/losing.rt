@@ -10,7 +10,7 @@ use mx_stations::{Field, Gathered, Script, Station, Worked, gather, work};
 use std::alloc::{AllocError, Global};
 use std::test::Fail;
 
-/// Works for a section that nobody permits, and notes whether it has spent all its turns.
+/// Works for a section that nobody permits, and counts whether it has spent all its turns.
 fn work_in_vain(station: Station<Ricart>, spent: &mut u8) -> Station<Ricart>
     ensures { KeepsTable station result }
 {
@@ -26,7 +26,7 @@ fn work_in_vain(station: Station<Ricart>, spent: &mut u8) -> Station<Ricart>
     station
 }
 
-/// Works at each station, one after another, and notes how many have spent all their turns.
+/// Works at each station, one after another, and counts how many have spent all their turns.
 fn work_in_turn(
     alloc: Global,
     mut stations: Vec<Station<Ricart>>,
@@ -42,7 +42,7 @@ fn work_in_turn(
     Ok(back)
 }
 
-/// Whether no section was left.
+/// Returns whether no section was left.
 fn is_empty(all: &Gathered) -> bool {
     all.receipts.is_empty()
         && all.journal.is_empty()
@@ -50,7 +50,7 @@ fn is_empty(all: &Gathered) -> bool {
         && all.journal.base().upto() == 0
 }
 
-/// Whether stations are gathered with no section.
+/// Returns whether stations are gathered with no section.
 fn have_none(alloc: Global, stations: Vec<Station<Ricart>>) -> bool
     requires { OfOneTable stations.items }
 {

@@ -10,7 +10,7 @@ use mx_ricart::{Count, Ricart};
 use std::alloc::Global;
 use std::test::Fail;
 
-/// Node 0 of two, with one register.
+/// Creates node 0 of two, with one register.
 fn started(alloc: Global) -> Result<Member<Ricart>, Fail> {
     let shape = Count::of(2).ok_or("count")?;
     let me = node(0);
@@ -20,7 +20,7 @@ fn started(alloc: Global) -> Result<Member<Ricart>, Fail> {
     Ok(Member::start(alloc, &shape, me, 0, 1000, 1))
 }
 
-/// A record by node 1.
+/// Returns a record by node 1.
 fn theirs(number: u64, writes: &[(u8, u64)]) -> Record {
     let mut record = entry(number, writes);
     record.node = node(1);
@@ -30,7 +30,7 @@ fn theirs(number: u64, writes: &[(u8, u64)]) -> Record {
 /// Numbers of records by node 1, with their writes.
 type Theirs = &'static [(u64, &'static [(u8, u64)])];
 
-/// What another node sends.
+/// The contents of a parcel from another node.
 #[derive(Clone, Copy)]
 enum Sent {
     Records(Theirs),
@@ -40,7 +40,7 @@ enum Sent {
 
 use Sent::{Records, Want};
 
-/// A parcel of at most four such records.
+/// Returns a parcel of at most four such records.
 fn records_of(list: Theirs) -> Parcel<RicartMsg> {
     let mut records = ArrayVec::new();
     for (number, writes) in list {
@@ -51,7 +51,7 @@ fn records_of(list: Theirs) -> Parcel<RicartMsg> {
     Parcel::Records(records)
 }
 
-/// The parcel that is sent.
+/// Returns the parcel that is sent.
 fn parcel_of(sent: Sent) -> Parcel<RicartMsg> {
     match sent {
         Records(list) => records_of(list),
@@ -63,7 +63,7 @@ fn parcel_of(sent: Sent) -> Parcel<RicartMsg> {
     }
 }
 
-/// Who sends, what, and what comes of it.
+/// The sender, the parcel, and the result.
 const SENT: [(u8, Sent, Result<(), DeliverFault>); 5] = [
     (1, Records(&[(1, &[(0, 5)])]), Ok(())),
     (
@@ -76,7 +76,7 @@ const SENT: [(u8, Sent, Result<(), DeliverFault>); 5] = [
     (2, Want, Err(DeliverFault::Stranger)),
 ];
 
-/// Whether a member takes such a parcel in this way, and sends nothing.
+/// Returns whether delivering such a parcel has that result, and the member sends nothing.
 fn answers(
     member: &mut Member<Ricart>,
     from: u8,
@@ -88,8 +88,8 @@ fn answers(
     told == *answer && out.is_empty()
 }
 
-/// Whether a member takes each of these parcels as the table says, and keeps what the first
-/// brought.
+/// Returns whether each of these parcels has the result of the table, and the member has the
+/// records of the first.
 fn refuses_forged(member: &mut Member<Ricart>) -> bool {
     for (from, sent, answer) in &SENT {
         if !answers(member, *from, *sent, answer)

@@ -15,7 +15,7 @@ const WRITES: [&[(u8, u64)]; 5] = [
     &[(1, 9)],
 ];
 
-/// The record of one of those sections.
+/// Returns the record of one of those sections.
 fn section(number: u8) -> Record {
     match WRITES.get(number.wrapping_sub(1) as usize) {
         Some(writes) => entry(u64::from(number), *writes),
@@ -26,7 +26,7 @@ fn section(number: u8) -> Record {
 /// For each register its value, and the section that wrote it.
 type Cells = &'static [(Option<u64>, Option<u64>)];
 
-/// What all of those sections leave in three registers.
+/// The three registers after all of those sections.
 const LEFT: Cells = &[
     (Some(3), Some(4)),
     (Some(9), Some(5)),
@@ -34,7 +34,7 @@ const LEFT: Cells = &[
     (None, None),
 ];
 
-/// Whether these registers hold that.
+/// Returns whether the registers have these values.
 fn shows(view: &View, cells: Cells) -> bool {
     for (register, (value, by)) in (0..).zip(cells) {
         if view.value(register) != *value || view.written_by(register) != *by {
@@ -44,10 +44,10 @@ fn shows(view: &View, cells: Cells) -> bool {
     true
 }
 
-/// Sections in which order they come.
+/// Orders in which sections come.
 const ORDERS: [&[u8]; 3] = [&[1, 2, 3, 4, 5], &[5, 4, 4, 2, 1, 3], &[4, 2, 5, 1]];
 
-/// The records of these sections.
+/// Returns the records of these sections.
 fn sections(alloc: Global, numbers: &[u8]) -> Result<Vec<Record>, AllocError> {
     let mut list = Vec::new(alloc);
     for number in numbers {
@@ -56,7 +56,7 @@ fn sections(alloc: Global, numbers: &[u8]) -> Result<Vec<Record>, AllocError> {
     Ok(list)
 }
 
-/// The view of records that are taken one by one.
+/// Returns the view after records that are applied one by one.
 fn taken(list: &[Record]) -> View {
     let mut view = View::new(3);
     for record in list {
@@ -65,7 +65,7 @@ fn taken(list: &[Record]) -> View {
     view
 }
 
-/// Whether these sections leave what all of them leave.
+/// Returns whether the registers after these sections are those after all of them.
 fn are_equal(alloc: Global, numbers: &[u8]) -> Result<bool, AllocError> {
     let list = sections(alloc, numbers)?;
     Ok(shows(&taken(list.as_slice()), LEFT) && shows(&view_of(list.as_slice(), 3), LEFT))
@@ -79,7 +79,7 @@ fn views_ignore_order(rt: HostRuntime) -> Result<(), Fail> {
     Ok(())
 }
 
-/// A section, and what it finds in three registers.
+/// A section, and the three registers before it.
 const FOUND: [(u64, Cells); 4] = [
     (1, &[(Some(0), None), (Some(0), None)]),
     (2, &[(Some(5), Some(1)), (Some(0), None)]),
@@ -87,7 +87,7 @@ const FOUND: [(u64, Cells); 4] = [
     (6, LEFT),
 ];
 
-/// A journal of four of those sections.
+/// Returns a journal of four of those sections.
 fn journal(alloc: Global) -> Result<Journal, Fail> {
     let mut journal = Journal::new(alloc);
     for number in [5, 4, 2, 1] {
@@ -96,7 +96,8 @@ fn journal(alloc: Global) -> Result<Journal, Fail> {
     Ok(journal)
 }
 
-/// Whether each section finds that in a journal, and all of them leave the rest.
+/// Returns whether each section reads those registers in a journal, and they are right after all of
+/// them.
 fn are_found(journal: &Journal) -> bool {
     for (number, cells) in &FOUND {
         if !shows(&view_below(journal, 3, *number), *cells) {

@@ -1,5 +1,5 @@
-//! Runs of small clusters, for what print does not show: the journals of all nodes merge after each
-//! event, a stamp bears the node that asked, and a receipt tells of its reads and writes.
+//! Runs of small clusters, for what print does not show. The journals of all nodes merge after each
+//! event, a stamp has the node that asked, and a receipt has its reads and writes.
 
 use crate::given::{lists, node};
 use crate::steps::{MAEKAWA, RAYMOND, RICART, Reads, Run, Step, Writes};
@@ -16,12 +16,12 @@ use mx_trees::Tree;
 use std::alloc::Global;
 use std::test::Fail;
 
-/// The node of this number.
+/// Returns the node of this number.
 fn name(index: &u8) -> NodeId {
     node(*index % 21)
 }
 
-/// The event of a step.
+/// Returns the event of a step.
 pub(crate) fn event_of(step: &Step) -> Event {
     match step {
         Ask(i, _) | AskInVain(i) => Event::Ask(name(i)),
@@ -37,7 +37,7 @@ pub(crate) fn event_of(step: &Step) -> Event {
     }
 }
 
-/// Whether this is the receipt of a section of a node.
+/// Returns whether this is the receipt of a section of a node.
 fn tells(receipt: &Receipt, of: (&u8, &u64), reads: Reads, writes: Writes) -> bool {
     receipt.node == name(of.0)
         && receipt.number == *of.1
@@ -45,7 +45,7 @@ fn tells(receipt: &Receipt, of: (&u8, &u64), reads: Reads, writes: Writes) -> bo
         && receipt.writes.as_slice() == writes
 }
 
-/// Whether an outcome has the stamp, or the receipt, that a step is to have.
+/// Returns whether an outcome has the stamp or the receipt of a step.
 fn is_told(step: &Step, outcome: &Outcome) -> bool {
     match (step, outcome) {
         (Ask(i, number), Outcome::Asked(stamp)) => {
@@ -60,7 +60,7 @@ fn is_told(step: &Step, outcome: &Outcome) -> bool {
     }
 }
 
-/// How many sections have been left after this step, where `left` had been before it.
+/// Returns how many sections have been left after this step; there were `left` before it.
 fn left_after(step: &Step, left: u64) -> u64 {
     match step {
         Leave(_, number, _, _) => *number,
@@ -68,13 +68,14 @@ fn left_after(step: &Step, left: u64) -> u64 {
     }
 }
 
-/// Whether the journals of all nodes merge into one that covers `left` sections, and no more.
+/// Returns whether the journals of all nodes merge into one that covers `left` sections, and no
+/// more.
 fn merge<C: Exclusion>(alloc: Global, cluster: &Cluster<C>, left: u64) -> Result<bool, Fail> {
     let all = cluster.merged(alloc, &[node(0), node(1), node(2)])?;
     Ok(all.top() == left && all.gapless_to() == left)
 }
 
-/// Whether each step has what it is to have, and after each all journals merge.
+/// Returns whether each step has its outcome, and all journals merge after each.
 fn goes_so<C: Exclusion>(
     alloc: Global,
     cluster: &mut Cluster<C>,
@@ -91,7 +92,7 @@ fn goes_so<C: Exclusion>(
     Ok(true)
 }
 
-/// A cluster for a run.
+/// Returns a cluster for a run.
 pub(crate) fn started<C: Exclusion>(
     alloc: Global,
     shape: &C::Shape,
@@ -103,7 +104,7 @@ pub(crate) fn started<C: Exclusion>(
     Ok(Cluster::start(alloc, shape, run.origin, run.limit, run.registers)?)
 }
 
-/// Whether all steps of a run have what they are to have by the algorithm of Ricart and Agrawala.
+/// Returns whether all steps of a run have their outcomes by Ricart and Agrawala's algorithm.
 fn is_so_by_ricart(alloc: Global, run: &Run) -> Result<bool, Fail> {
     let shape = Count::of(run.nodes).ok_or("count")?;
     goes_so(
@@ -113,7 +114,7 @@ fn is_so_by_ricart(alloc: Global, run: &Run) -> Result<bool, Fail> {
     )
 }
 
-/// Whether they do by Maekawa's algorithm.
+/// Returns whether they do by Maekawa's algorithm.
 fn is_so_by_maekawa(alloc: Global, sets: &[&[u8]], run: &Run) -> Result<bool, Fail> {
     let shape = Quorums::listed(&lists(alloc, sets)?)?;
     goes_so(
@@ -123,7 +124,7 @@ fn is_so_by_maekawa(alloc: Global, sets: &[&[u8]], run: &Run) -> Result<bool, Fa
     )
 }
 
-/// Whether they do by Raymond's algorithm.
+/// Returns whether they do by Raymond's algorithm.
 fn is_so_by_raymond(alloc: Global, edges: &[(u8, u8)], run: &Run) -> Result<bool, Fail> {
     let shape = Tree::of(run.nodes, edges, 0)?;
     goes_so(

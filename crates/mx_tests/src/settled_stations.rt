@@ -1,5 +1,5 @@
-//! Five threads that count to one hundred by each algorithm, and settle after each tenth of their
-//! sections what their journals have without gaps: as workers, and by calls of their own.
+//! Five threads that count to one hundred by each algorithm. After each tenth of their sections
+//! they settle all that their journals have without gaps: as workers, and by direct calls.
 
 ghost use Rattle.std.specs.Prelude.{IfOk};
 ghost use Rattle.mx_stations.specs.Gathered.{KeepsTable, OfOneTable};
@@ -24,15 +24,15 @@ use std::test::Fail;
 use std::thread;
 use std::thread::{Threads, yield_now};
 
-/// How many sections each node has.
+/// The number of sections of each node.
 const SECTIONS: usize = 20;
 
-/// Whether a station has all its sections.
+/// Returns whether a station has all its sections.
 fn has_all<C: Exclusion>(station: &Station<C>) -> bool {
     station.receipts().len() == SECTIONS
 }
 
-/// Asks where sections are lacking.
+/// Asks if sections are lacking.
 fn ask_if_due<C: Exclusion>(station: &mut Station<C>)
     ensures { KeepsTable station.old station.new }
 {
@@ -41,7 +41,7 @@ fn ask_if_due<C: Exclusion>(station: &mut Station<C>)
     }
 }
 
-/// Asks the next node in the circle for the records that are missing.
+/// Asks the next node in the circle for missing records.
 fn want_next<C: Exclusion>(station: &mut Station<C>, wanted: &mut u8)
     ensures { KeepsTable station.old station.new }
 {
@@ -52,7 +52,7 @@ fn want_next<C: Exclusion>(station: &mut Station<C>, wanted: &mut u8)
     }
 }
 
-/// Writes a value and leaves. Whether it has left.
+/// Writes a value and leaves, and returns whether it has left.
 fn leave<C: Exclusion>(station: &mut Station<C>, value: u64) -> bool
     ensures { KeepsTable station.old station.new }
 {
@@ -60,12 +60,12 @@ fn leave<C: Exclusion>(station: &mut Station<C>, value: u64) -> bool
     station.leave().is_ok()
 }
 
-/// Whether a section was left, and was a tenth of the station's.
+/// Returns whether a section was left, and was a tenth of the station's.
 fn is_due<C: Exclusion>(station: &Station<C>, has_left: bool) -> bool {
     has_left && station.receipts().len() % 10 == 0
 }
 
-/// Settles all that the journal has without gaps.
+/// Settles all sections that the journal has without gaps.
 fn settle<C: Exclusion>(station: &mut Station<C>)
     ensures { KeepsTable station.old station.new }
 {
@@ -73,7 +73,7 @@ fn settle<C: Exclusion>(station: &mut Station<C>)
     let _ = station.settle(upto);
 }
 
-/// Writes a value and leaves, and settles where it is time.
+/// Writes a value and leaves, and settles if it is time.
 fn end<C: Exclusion>(station: &mut Station<C>, value: u64)
     ensures { KeepsTable station.old station.new }
 {
@@ -83,7 +83,7 @@ fn end<C: Exclusion>(station: &mut Station<C>, value: u64)
     }
 }
 
-/// Adds 1 to the register where the station is inside and lacks no record, and leaves.
+/// Adds 1 to the register if the station is inside and lacks no record, and leaves.
 fn count<C: Exclusion>(station: &mut Station<C>, wanted: &mut u8)
     ensures { KeepsTable station.old station.new }
 {
@@ -94,14 +94,15 @@ fn count<C: Exclusion>(station: &mut Station<C>, wanted: &mut u8)
     }
 }
 
-/// Lets other threads run where nothing came.
+/// Lets other threads run if nothing came.
 fn give_way(report: &Result<TurnReport, TakeFault>) {
     if let Ok(TurnReport { taken: 0, .. }) = report {
         yield_now();
     }
 }
 
-/// What is due, and a turn of the station. An act that is not due is refused.
+/// Performs the acts that are due, and takes a turn of the station. An act that is not due is
+/// refused.
 fn take_turn<C: Exclusion, F: Fates>(station: &mut Station<C>, wanted: &mut u8, fates: &mut F)
     ensures { KeepsTable station.old station.new }
 {
@@ -112,7 +113,7 @@ fn take_turn<C: Exclusion, F: Fates>(station: &mut Station<C>, wanted: &mut u8, 
     give_way(&report);
 }
 
-/// Whether a station has all its sections, and all others have theirs too.
+/// Returns whether a station has all its sections, and all others have theirs too.
 fn may_stop<C: Exclusion>(station: &Station<C>, gate: &Assembly) -> bool {
     has_all(station) && gate.done(station.node())
 }
@@ -122,7 +123,7 @@ fn weather_of<C: Exclusion>(station: &Station<C>) -> Weather {
     Weather::of(7 + u64::from(station.node().get()), 16, 16)
 }
 
-/// Counts at a station by calls of its own, until all nodes have counted.
+/// Counts at a station by direct calls, until all nodes have counted.
 fn count_by_calls<C: Exclusion>(mut station: Station<C>, gate: &Assembly) -> Station<C>
     ensures { KeepsTable station result }
 {
@@ -164,7 +165,7 @@ fn count_on<C: Exclusion>(station: Station<C>, gate: &Assembly, by_calls: bool) 
     }
 }
 
-/// Gives each station to a thread of its own, and has them back when all threads have ended.
+/// Gives each station to a new thread, and returns them all when the threads have ended.
 fn in_threads<C: Exclusion + Send, R: Threads + Sync>(
     rt: &R,
     stations: Vec<Station<C>>,
@@ -187,7 +188,7 @@ where
     Ok(back)
 }
 
-/// Whether one hundred sections are all that was gathered, and all of them are settled.
+/// Returns whether exactly one hundred sections were gathered, and all of them are settled.
 fn is_settled(all: &Gathered) -> bool {
     let journal = &all.journal;
     all.receipts.len() == 100
@@ -197,8 +198,8 @@ fn is_settled(all: &Gathered) -> bool {
         && view(journal, 1).value(0) == Some(100)
 }
 
-/// What is gathered of stations. Section 100 is the twentieth of its node, which knows of all
-/// before it, since it read inside. So it has settled them all.
+/// Returns whether gathering the stations has the right result. Section 100 is the twentieth of its
+/// node, which knows all sections before it, since it read inside. So it has settled them all.
 fn is_counted<C: Exclusion>(alloc: Global, stations: Vec<Station<C>>) -> bool
     requires { OfOneTable stations.items }
 {
@@ -208,7 +209,7 @@ fn is_counted<C: Exclusion>(alloc: Global, stations: Vec<Station<C>>) -> bool
     }
 }
 
-/// Whether five nodes count to one hundred by the algorithm of Ricart and Agrawala.
+/// Returns whether five nodes count to one hundred by Ricart and Agrawala's algorithm.
 fn is_counted_by_ricart<R: Threads + Sync>(
     rt: &R,
     alloc: Global,
@@ -227,7 +228,7 @@ fn settling_nodes_count_by_ricart(rt: HostRuntime) -> Result<(), Fail> {
     Ok(())
 }
 
-/// Whether they do by Maekawa's algorithm, each with all nodes as arbiters.
+/// Returns whether they do by Maekawa's algorithm, each with all nodes as arbiters.
 fn is_counted_by_maekawa<R: Threads + Sync>(
     rt: &R,
     alloc: Global,
@@ -246,7 +247,7 @@ fn settling_nodes_count_by_maekawa(rt: HostRuntime) -> Result<(), Fail> {
     Ok(())
 }
 
-/// Whether they do by Raymond's algorithm, in a line.
+/// Returns whether they do by Raymond's algorithm, in a line.
 fn is_counted_by_raymond<R: Threads + Sync>(
     rt: &R,
     alloc: Global,

@@ -1,4 +1,4 @@
-//! Arbiter sets and trees: those that the worked numbers name, and each fault.
+//! Arbiter sets and trees: worked examples, and each fault.
 
 ghost use Rattle.std.specs.Prelude.{◌<◌};
 
@@ -36,13 +36,13 @@ const NO_TREES: [NoTree; 8] = [
     (3, &[(0, 1), (1, 2), (2, 0)], 9, TreeFault::WrongCount),
 ];
 
-/// Whether these lists are refused for this fault.
+/// Returns whether these lists are refused for this fault.
 fn is_refused(alloc: Global, sets: &[&[u8]], fault: QuorumFault) -> Result<bool, AllocError> {
     let sets = lists(alloc, sets)?;
     Ok(Quorums::listed(&sets).err() == Some(fault))
 }
 
-/// Whether these lists are refused, each for its fault.
+/// Returns whether these lists are refused, each for its fault.
 fn lists_are_refused(alloc: Global) -> Result<bool, AllocError> {
     for (sets, fault) in &LISTED {
         if !is_refused(alloc, *sets, *fault)? {
@@ -52,7 +52,7 @@ fn lists_are_refused(alloc: Global) -> Result<bool, AllocError> {
     Ok(true)
 }
 
-/// Whether these are no trees, each for its fault.
+/// Returns whether these are no trees, each for its fault.
 fn are_no_trees() -> bool {
     for (nodes, edges, holder, fault) in &NO_TREES {
         if Tree::of(*nodes, *edges, *holder).err() != Some(*fault) {
@@ -62,7 +62,7 @@ fn are_no_trees() -> bool {
     true
 }
 
-/// Whether planes and grids are refused that there are not.
+/// Returns whether planes and grids that do not exist are refused.
 fn are_refused() -> bool {
     for n in [0, 8, 22] {
         if Quorums::plane(n).err() != Some(QuorumFault::NoPlane(n)) {
@@ -80,7 +80,7 @@ fn shapes_checked(rt: HostRuntime) -> Result<(), Fail> {
     Ok(())
 }
 
-/// Whether exactly these nodes are in the set of node i.
+/// Returns whether exactly these nodes are in the set of node i.
 fn has_set(quorums: &Quorums, i: u8, members: &[u8]) -> bool
     requires { i < 21 }
 {
@@ -92,7 +92,8 @@ fn has_set(quorums: &Quorums, i: u8, members: &[u8]) -> bool
     true
 }
 
-/// Whether the sets of node 0 and of each of these nodes meet in the least node beside it.
+/// Returns whether the sets of node 0 and of each of these nodes meet in the least node given with
+/// it.
 fn meets(quorums: &Quorums, pairs: &[(u8, u8)]) -> bool {
     for (other, least) in pairs {
         if !meets_in(quorums, *other, *least) {
@@ -102,7 +103,7 @@ fn meets(quorums: &Quorums, pairs: &[(u8, u8)]) -> bool {
     true
 }
 
-/// Whether the sets of node 0 and of another node meet in this node.
+/// Returns whether the sets of node 0 and of another node meet in this node.
 fn meets_in(quorums: &Quorums, other: u8, least: u8) -> bool {
     other < quorums.nodes() && quorums.meeting(node(0), node(other)) == node(least % 21)
 }
@@ -124,7 +125,7 @@ const TREES: [(&[(u8, u8)], u8, [u8; 4]); 3] = [
     (&[(3, 0), (0, 2), (2, 1)], 0, [0, 2, 0, 0]),
 ];
 
-/// Whether these are the next nodes of a tree.
+/// Returns whether these are the next nodes of a tree.
 fn leads(tree: &Tree, next: &[u8]) -> bool {
     for (i, to) in (0..4).zip(next) {
         if i >= tree.nodes() || tree.toward(node(i)).get() != *to {

@@ -1,4 +1,4 @@
-//! The order of stamps, by pairs of them.
+//! The order of stamps, tested by pairs.
 
 use crate::given::node;
 use mx_stamps::Stamp;
@@ -14,7 +14,7 @@ const PAIRS: [((u64, u8), (u64, u8), Ordering); 6] = [
     ((0, 0), (u64::MAX, 0), Ordering::Less),
 ];
 
-/// The stamp of this number at one of the nodes 0 to 20.
+/// Returns the stamp of this number at one of the nodes 0 to 20.
 fn stamp(parts: (u64, u8)) -> Stamp {
     Stamp {
         number: parts.0,
@@ -22,7 +22,7 @@ fn stamp(parts: (u64, u8)) -> Stamp {
     }
 }
 
-/// Whether this is how the first compares to the second.
+/// Returns whether this is how the first compares to the second.
 fn are_ordered(a: &Stamp, b: &Stamp, order: Ordering) -> bool {
     a.compare(b) == order
         && a.is_before(b) == (order == Ordering::Less)

@@ -10,7 +10,7 @@ use mx_stations::{Field, PutOut, Station, Taken, TurnReport};
 use std::alloc::Global;
 use std::test::Fail;
 
-/// The last of a list.
+/// Returns the last of a list.
 pub(crate) fn last<T: Drop>(mut all: Vec<T>) -> Option<T>
     ensures { IfSome result (λ one. (left : List T) × (all.items ≡ left ++ one ∷ [])) }
 {
@@ -18,7 +18,7 @@ pub(crate) fn last<T: Drop>(mut all: Vec<T>) -> Option<T>
     Some(one)
 }
 
-/// The last two of a list.
+/// Returns the last two of a list.
 pub(crate) fn last_two<T: Drop>(mut all: Vec<T>) -> Option<(T, T)>
     ensures { IfSome result (λ both. (more : List T) × (left : List T)
         × (all.items ≡ more ++ both.1 ∷ []) × (more ≡ left ++ both.0 ∷ [])) }
@@ -28,7 +28,7 @@ pub(crate) fn last_two<T: Drop>(mut all: Vec<T>) -> Option<(T, T)>
     Some((next, last))
 }
 
-/// The two stations of a cluster of two nodes.
+/// Returns the two stations of a cluster of two nodes.
 pub(crate) fn two(alloc: Global) -> Result<(Station<Ricart>, Station<Ricart>), Fail>
     ensures { IfOk result (λ both. KeepsTable both.0 both.1) }
 {
@@ -50,7 +50,7 @@ impl Fates for Always {
     }
 }
 
-/// What a turn of node 1 tells, where node 0 has asked, and the request has this fate.
+/// Returns the report of a turn of node 1, if node 0 has asked and the request has this fate.
 fn report_of(
     zero: &mut Station<Ricart>,
     one: &mut Station<Ricart>,
@@ -62,13 +62,13 @@ fn report_of(
     one.turn(&mut Always(fate)).ok()
 }
 
-/// The report of such a turn in a new cluster.
+/// Returns the report of such a turn in a new cluster.
 fn report(alloc: Global, fate: Fate) -> Result<Option<TurnReport>, Fail> {
     let mut both = two(alloc)?;
     Ok(report_of(&mut both.0, &mut both.1, fate))
 }
 
-/// The report of a turn that takes one parcel, with which nothing comes to pass.
+/// The report of a turn that takes one parcel and does nothing else.
 const TAKEN: TurnReport = TurnReport {
     taken: 1,
     dropped: 0,
@@ -78,7 +78,7 @@ const TAKEN: TurnReport = TurnReport {
     ticked: false,
 };
 
-/// Reports of one parcel taken, by its fate: node 1 replies to each request that comes.
+/// Reports of one parcel taken, by its fate: node 1 replies to each delivered request.
 const REPORTS: [(Fate, TurnReport); 3] = [
     (
         Fate::Drop,
@@ -107,14 +107,15 @@ fn a_fate_decides_how_often_a_parcel_comes(rt: HostRuntime) -> Result<(), Fail> 
     Ok(())
 }
 
-/// Takes all that lies in the four slots from the other node.
+/// Takes all parcels in the four slots from the other node.
 fn take_all(station: &mut Station<Ricart>) {
     for _slot in 0..4 {
         let _ = takes_from_other(station, Taken::Got);
     }
 }
 
-/// How many parcels node 0 puts out until none waits. Where no slot is empty node 1 takes them all.
+/// Returns how many parcels node 0 puts out until none waits. If no slot is empty, node 1 takes
+/// them all.
 fn put_all(zero: &mut Station<Ricart>, one: &mut Station<Ricart>) -> u32 {
     let mut sent = 0u32;
     for _try in 0..100 {
@@ -127,7 +128,7 @@ fn put_all(zero: &mut Station<Ricart>, one: &mut Station<Ricart>) -> u32 {
     sent
 }
 
-/// Whether 64 parcels wait at node 0, which asks and sends its request again and again.
+/// Returns whether 64 parcels wait at node 0, which asks and sends its request again and again.
 fn has_sixty_four(zero: &mut Station<Ricart>) -> bool {
     let has_asked = zero.ask().is_ok();
     for _tick in 0..70 {
@@ -144,11 +145,11 @@ fn sixty_four_parcels_wait(rt: HostRuntime) -> Result<(), Fail> {
     Ok(())
 }
 
-/// A report with which nothing comes to pass.
+/// The report of a turn that does nothing.
 const NONE: TurnReport = TurnReport { taken: 0, ..TAKEN };
 
-/// Turns of two nodes, of which node 0 has asked: it puts its request out, and ticks; node 1 takes
-/// it and puts out the reply; node 0 takes that and puts the request out again.
+/// Turns of two nodes, after node 0 has asked. It puts its request out, and ticks; node 1 takes it
+/// and puts out the reply; node 0 takes that and puts the request out again.
 const TURNS: [(u8, TurnReport); 3] = [
     (
         0,
@@ -162,7 +163,7 @@ const TURNS: [(u8, TurnReport); 3] = [
     (0, TurnReport { put: 1, ..TAKEN }),
 ];
 
-/// Whether a turn is told so.
+/// Returns whether a turn has this report.
 fn is_told(station: &mut Station<Ricart>, wanted: &TurnReport) -> bool {
     match station.turn(&mut Fair) {
         Ok(told) => told == *wanted,
@@ -170,7 +171,7 @@ fn is_told(station: &mut Station<Ricart>, wanted: &TurnReport) -> bool {
     }
 }
 
-/// Whether these turns of two stations are told so.
+/// Returns whether these turns of two stations have their reports.
 fn are_told(zero: &mut Station<Ricart>, one: &mut Station<Ricart>) -> bool {
     for (node, wanted) in &TURNS {
         let is_so = if *node == 0 {
@@ -185,7 +186,7 @@ fn are_told(zero: &mut Station<Ricart>, one: &mut Station<Ricart>) -> bool {
     true
 }
 
-/// Whether three turns are all that it takes until a node that asks may enter.
+/// Returns whether a node that asks may enter after exactly three turns.
 fn enters_by_turns(zero: &mut Station<Ricart>, one: &mut Station<Ricart>) -> bool {
     zero.ask().is_ok() && are_told(zero, one) && zero.enter() == Ok(1)
 }

@@ -1,4 +1,4 @@
-//! Events of small clusters, as values, each with what print leaves out of its outcome.
+//! Events of small clusters, as values, each with the parts of its outcome that print omits.
 
 use mx_journal::{Read, Write};
 
@@ -8,7 +8,7 @@ pub(crate) type Reads = &'static [Read];
 /// The writes of a receipt.
 pub(crate) type Writes = &'static [Write];
 
-/// An event, with what print leaves out of its outcome.
+/// An event, with the parts of its outcome that print omits.
 #[derive(Clone, Copy)]
 pub(crate) enum Step {
     /// The request has a stamp of this number, and of the node.
@@ -41,8 +41,8 @@ pub(crate) struct Run {
     pub(crate) steps: &'static [Step],
 }
 
-/// Events of two nodes with two registers: node 0 reads what node 1 wrote, once node 1 has sent it
-/// the record that it lacks, and then what it has written itself.
+/// Events of two nodes with two registers. Node 0 reads the value that node 1 wrote, once node 1
+/// has sent it the missing record, and then the one that it has written itself.
 pub(crate) const READ_WAITS: Run = Run {
     name: "read_waits_for_the_gap",
     nodes: 2,
@@ -126,7 +126,7 @@ pub(crate) const READ_WAITS: Run = Run {
     ],
 };
 
-/// One node, which has one section without reads and writes.
+/// A single node, which has one section without reads and writes.
 pub(crate) const ALONE: Run = Run {
     name: "single_node",
     nodes: 1,
@@ -136,7 +136,7 @@ pub(crate) const ALONE: Run = Run {
     steps: &[Ask(0, 1), Enter(0), Leave(0, 1, &[], &[])],
 };
 
-/// Runs by the algorithm of Ricart and Agrawala.
+/// Runs by Ricart and Agrawala's algorithm.
 pub(crate) const RICART: [Run; 8] = [
     READ_WAITS,
     ALONE,
@@ -304,7 +304,7 @@ pub(crate) const MAEKAWA: [(&[&[u8]], Run); 2] = [
     ),
 ];
 
-/// Runs by Raymond's algorithm, each with the edges of the tree, of which node 0 is the holder.
+/// Runs by Raymond's algorithm, each with the edges of the tree; node 0 is the holder.
 pub(crate) const RAYMOND: [(&[(u8, u8)], Run); 2] = [
     (
         &[(0, 1), (1, 2)],

@@ -1,4 +1,4 @@
-//! What each fault says of itself.
+//! The texts of faults.
 
 use crate::given::node;
 use mx_journal::{BaseFault, Full, PutFault, SettleFault};
@@ -12,7 +12,7 @@ use mx_trees::TreeFault;
 use std::alloc::Global;
 use std::fmt::Display;
 
-/// Whether a fault is told by this text.
+/// Returns whether a fault has this text.
 fn is_told<F: Display>(alloc: Global, fault: &F, text: &str) -> bool {
     match format!(in alloc; "{fault}") {
         Ok(told) => told.as_str() == text,
@@ -20,7 +20,7 @@ fn is_told<F: Display>(alloc: Global, fault: &F, text: &str) -> bool {
     }
 }
 
-/// Whether each of these faults is told by its text.
+/// Returns whether each of these faults has its text.
 fn are_told<F: Display>(alloc: Global, cases: &[(F, &str)]) -> bool {
     for (fault, text) in cases {
         if !is_told(alloc, fault, *text) {

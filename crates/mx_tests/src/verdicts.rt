@@ -10,7 +10,7 @@ use mx_ricart::{Count, Ricart};
 use std::alloc::{AllocError, Global};
 use std::test::Fail;
 
-/// An item of a trace: the node, and what it did. A register and its value, or a number, follow.
+/// An item of a trace: the node, and its act. A register and its value, or a number, follow.
 #[derive(Clone, Copy)]
 enum Did {
     Entered(u8, u64),
@@ -18,15 +18,15 @@ enum Did {
     Written(u8, u8, u64),
     Left(u8, u64),
     Woken(u8),
-    /// The node was not let in.
+    /// The node was refused entry.
     Refused(u8),
-    /// An outcome that is not its event's.
+    /// An outcome of another kind of event.
     Mispaired(u8),
 }
 
 use Did::{Entered, Left, Mispaired, Refused, Value, Woken, Written};
 
-/// The event, and what came of it.
+/// Returns the event and its outcome.
 fn item(did: Did) -> Entry {
     let (event, outcome) = match did {
         Entered(index, number) => (Event::Enter(node(index % 21)), Outcome::Entered(number)),
@@ -58,7 +58,7 @@ fn item(did: Did) -> Entry {
     Entry { event, outcome }
 }
 
-/// A trace of these items.
+/// Returns a trace of these items.
 fn trace(alloc: Global, items: &[Did]) -> Result<Vec<Entry>, AllocError> {
     let mut trace = Vec::new(alloc);
     for did in items {
@@ -81,8 +81,8 @@ const SHORT: [(&[Did], Verdict); 4] = [
     ),
 ];
 
-/// A leaving is of the node inside, with its number; entries bear the next number; at one item the
-/// overlap comes before the number.
+/// An exit is by the node inside, with its number; entries have the next number; for the same item
+/// the overlap comes before the number.
 const SECTIONS: [(&[Did], Verdict); 7] = [
     (
         &[Entered(1, 1), Left(1, 1), Entered(0, 2), Left(0, 2)],
@@ -114,8 +114,8 @@ const SECTIONS: [(&[Did], Verdict); 7] = [
     ),
 ];
 
-/// Reads see what the sections before leave, and the node's own writes until it wakes up again.
-/// What is written outside counts for nothing.
+/// Reads have the values of the sections before, and of the node's own writes until it restarts. A
+/// write outside a section does not count.
 const READS: [(&[Did], Verdict); 8] = [
     (
         &[
@@ -187,7 +187,7 @@ const READS: [(&[Did], Verdict); 8] = [
     ),
 ];
 
-/// Refusals count for nothing, nor does an outcome that is not its event's.
+/// Refusals do not count, nor does an outcome of another kind of event.
 const OTHERS: [(&[Did], Verdict); 1] = [(
     &[Entered(0, 1), Refused(1), Mispaired(1), Left(0, 1)],
     Verdict::Sound,
@@ -196,7 +196,7 @@ const OTHERS: [(&[Did], Verdict); 1] = [(
 /// All of these.
 const TABLES: [&[(&[Did], Verdict)]; 4] = [&SHORT, &SECTIONS, &READS, &OTHERS];
 
-/// Whether each of these traces has its verdict.
+/// Returns whether each of these traces has its verdict.
 fn are_judged(alloc: Global, table: &[(&[Did], Verdict)]) -> Result<bool, AllocError> {
     for (items, verdict) in table {
         if judge(trace(alloc, *items)?.as_slice()) != *verdict {
@@ -214,7 +214,7 @@ fn verdicts_on_short_traces(rt: HostRuntime) -> Result<(), Fail> {
     Ok(())
 }
 
-/// What is done to one item of a trace.
+/// An edit of one item of a trace.
 #[derive(Clone, Copy)]
 enum Edit {
     Keep,
@@ -224,7 +224,7 @@ enum Edit {
 
 use Edit::{Become, Keep, Remove};
 
-/// The item that is edited, how, and the verdict of the trace then.
+/// The item that is edited, the edit, and the verdict of the trace after it.
 const EDITS: [(usize, Edit, Verdict); 7] = [
     (0, Keep, Verdict::Sound),
     (5, Remove, Verdict::Broken(8, Clause::Overlap)),
@@ -243,7 +243,7 @@ const EDITS: [(usize, Edit, Verdict); 7] = [
     ),
 ];
 
-/// A trace with one item edited.
+/// Returns a trace with one item edited.
 fn edited(
     alloc: Global,
     trace: &[Entry],
@@ -261,7 +261,7 @@ fn edited(
     Ok(list)
 }
 
-/// A copy of an item.
+/// Returns a copy of an item.
 fn copied(entry: &Entry) -> Entry {
     Entry {
         event: entry.event,
@@ -269,7 +269,7 @@ fn copied(entry: &Entry) -> Entry {
     }
 }
 
-/// Whether each edit of a trace gives its verdict.
+/// Returns whether each edit of a trace gives its verdict.
 fn are_found(alloc: Global, trace: &[Entry]) -> Result<bool, AllocError> {
     for (place, edit, verdict) in &EDITS {
         if judge(edited(alloc, trace, *place, *edit)?.as_slice()) != *verdict {
@@ -279,8 +279,8 @@ fn are_found(alloc: Global, trace: &[Entry]) -> Result<bool, AllocError> {
     Ok(true)
 }
 
-/// What two nodes do in four sections, of which the last reads what the second wrote, before and
-/// after a write of its own: 30 items.
+/// Returns the cluster after four sections of two nodes: 30 items. The last section reads the value
+/// that the second wrote, before and after a write to the register.
 fn four_sections(alloc: Global) -> Result<Cluster<Ricart>, Fail> {
     let shape = Count::of(2).ok_or("count")?;
     let mut cluster = started(alloc, &shape, &READ_WAITS)?;

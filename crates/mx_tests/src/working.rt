@@ -1,4 +1,4 @@
-//! Workers at stations: what their gate decides, how many turns they make, and that they count.
+//! Workers at stations: the effect of their gate, the number of their turns, and their counting.
 
 use mx_letters::{Fair, Fate, Fates};
 use mx_ricart::{Count, Ricart};
@@ -11,16 +11,16 @@ use std::thread;
 use std::thread::{Threads, yield_now};
 
 /// A gate that opens once a given number of nodes have arrived, and stays shut once one of them has
-/// looked too often. Nobody may stop before all have their sections.
+/// checked too often. No worker may stop before all have their sections.
 #[derive(Drop)]
 pub(crate) struct Assembly {
     nodes: u64,
     looks: u64,
     arrived: AtomicU64,
     finished: AtomicU64,
-    /// How many have looked too often.
+    /// How many have checked too often.
     gone: AtomicU64,
-    /// How many parcels came before all had arrived.
+    /// How many parcels were delivered before all had arrived.
     early: AtomicU64,
 }
 
@@ -64,7 +64,7 @@ impl Gate for Assembly {
     }
 }
 
-/// A network that loses nothing, and notes each parcel that comes before the gate is open.
+/// A network that loses nothing, and counts each parcel that is delivered before the gate is open.
 #[derive(Drop)]
 struct Noting<'a>(&'a Assembly);
 
@@ -82,7 +82,8 @@ fn stations_of(alloc: Global, nodes: u8) -> Result<Vec<Station<Ricart>>, Fail> {
     Ok(Field::<Ricart>::stations(alloc, &shape, 0, 1000, 1)?)
 }
 
-/// How a worker ends that counts 20 sections, and the register as its node knows it then.
+/// Counts 20 sections as a worker. Returns how it ends, and the value of the register at its node
+/// then.
 fn count_on(station: Station<Ricart>, gate: &Assembly) -> (Worked, u64) {
     let script = Script {
         register: 0,
@@ -92,7 +93,7 @@ fn count_on(station: Station<Ricart>, gate: &Assembly) -> (Worked, u64) {
     (ended, station.value(0).unwrap_or(0))
 }
 
-/// The greatest value that a worker knows, where all are done.
+/// Returns the greatest value that a worker knows, if all are done.
 fn counted(ended: &[(Worked, u64)]) -> Option<u64> {
     let mut most = 0;
     for (worked, value) in ended {
@@ -104,8 +105,8 @@ fn counted(ended: &[(Worked, u64)]) -> Option<u64> {
     Some(most)
 }
 
-/// The greatest value that workers know who have a thread each, and how many parcels came before
-/// all of them had arrived.
+/// Returns the greatest value that workers in threads know, and how many parcels were delivered
+/// before all of them had arrived.
 fn counted_in_threads<R: Threads + Sync>(
     rt: &R,
     stations: Vec<Station<Ricart>>,
@@ -126,8 +127,8 @@ fn gate_holds_until_all_arrive(rt: HostRuntime) -> Result<(), Fail> {
     Ok(())
 }
 
-/// Whether the gate stays shut for each of five workers in turn, which refuses the wrong body
-/// `workers_run_in_turn`.
+/// Returns whether the gate stays shut for each of five workers in turn, which refuses the wrong
+/// body `workers_run_in_turn`.
 fn is_shut_for_all(stations: Vec<Station<Ricart>>) -> bool {
     let gate = Assembly::new(5, 1000);
     for station in stations {
@@ -161,8 +162,8 @@ impl Gate for Open {
     }
 }
 
-/// Nodes, of which the first ones do nothing; whether the workers of the others may stop, how many
-/// turns they have, and how each of them ends.
+/// A number of nodes, and how many of the first do nothing. Also whether the workers of the others
+/// may stop, how many turns they have, and how each of them ends.
 #[derive(Clone, Copy)]
 struct Ending {
     nodes: u8,
@@ -203,7 +204,7 @@ const ENDINGS: [Ending; 4] = [
     },
 ];
 
-/// Whether the worker of a station, which is to enter once, ends so. Some do not begin.
+/// Returns whether the worker of a station, which is to enter once, ends so. Some do not start.
 fn ends_so(station: Station<Ricart>, ending: &Ending) -> bool {
     if station.node().get() < ending.unworked {
         return true;
@@ -218,7 +219,7 @@ fn ends_so(station: Station<Ricart>, ending: &Ending) -> bool {
     work(station, script, &gate, Fair, ending.turns).1 == ending.worked
 }
 
-/// Whether all workers end so, one after another.
+/// Returns whether all workers end so, one after another.
 fn end_so(stations: Vec<Station<Ricart>>, ending: &Ending) -> bool {
     for station in stations {
         if !ends_so(station, ending) {

@@ -1,4 +1,4 @@
--- A tree by the list of its edges, and what is wrong with a list that is no tree.
+-- A tree by the list of its edges, and the faults of a list that is no tree.
 use Rattle.std.specs.Prelude.{ℕ, ◌+◌, ◌<◌, ◌≤◌, ◌≡◌, ◌≢◌, ◌⊎◌, ◌↔◌, List, length, slice_index_or}
 use Rattle.mx_stamps.specs.declared.limits.TheConstants.{MOST_NODES}
 use Rattle.mx_stamps.specs.Lists.{IsIn}
@@ -32,7 +32,7 @@ pub record IsTree (n : ℕ) (edges : List (ℕ × ℕ)) : Type 0 where
   pub joined : AreJoined n edges
 
 -- the rooted tree of n nodes, these edges and this holder. Its tables have places for 21 nodes;
--- from one that is none of the tree's, the holder is next
+-- from a place that is no node of the tree, the holder is next
 pub record IsTreeOf (n : ℕ) (edges : List (ℕ × ℕ)) (holder : ℕ) (t : Rooted) : Type 0 where
   pub count : t.count ≡ n
   pub root : t.holder ≡ holder
@@ -55,7 +55,7 @@ IsFirstUnjoined n edges i =
 abbrev pub AreEdgesOf : ℕ → List (ℕ × ℕ) → Type 0
 AreEdgesOf n edges = (0 < n) × (n ≤ MOST_NODES) × AreEdges n (length edges) edges
 
--- the fault is the first in the order of the faults: everything that comes before it is right
+-- the fault is the first in the order of the faults: everything before it is right
 abbrev pub IsFirstFault : ℕ → List (ℕ × ℕ) → ℕ → TreeFault → Type 0
 IsFirstFault n edges holder NoNodes = n ≡ 0
 IsFirstFault n edges holder TooMany = MOST_NODES < n

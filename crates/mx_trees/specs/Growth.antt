@@ -27,9 +27,9 @@ is_branch g e = is_step g e.0 e.1 || is_step g e.1 e.0
 abbrev pub AreReached : Growth → List ℕ → Type 0
 AreReached g is = (k : ℕ) → IsIn k is → is_reached g k ≡ true
 
--- from each node that it has reached a path leads to the root by way of the next nodes, and from
--- any other node the root is next; and besides the root it has reached at most one node for each
--- edge that it has grown along
+-- from each reached node a path leads to the root along the next nodes, and from any other node the
+-- root is next. Besides the root it has reached at most one node for each edge that it has grown
+-- along
 pub record IsGrown (edges : List (ℕ × ℕ)) (root : ℕ) (g : Growth) : Type 0 where
   pub size : length g.reached ≡ MOST_NODES
   pub sizes : length g.next ≡ MOST_NODES
@@ -44,7 +44,7 @@ pub record IsGrown (edges : List (ℕ × ℕ)) (root : ℕ) (g : Growth) : Type 
 abbrev pub IsClosed : List (ℕ × ℕ) → Growth → Type 0
 IsClosed edges g = (i j : ℕ) → IsLinked edges i j → is_reached g i ≡ is_reached g j
 
--- an edge leads out of it, from a node that it has reached to one that it hasn't
+-- an edge leads out of it, from a node that it has reached to one that it has not
 pub record IsCrossing (edges : List (ℕ × ℕ)) (g : Growth) (near far : ℕ) : Type 0 where
   pub linked : IsLinked edges far near
   pub inside : is_reached g near ≡ true

@@ -12,7 +12,7 @@ abbrev pub IsOnce : List ℕ → Type 0
 IsOnce [] = Unit {0}
 IsOnce (i ∷ is) = (IsIn i is → ⊥) × IsOnce is
 
--- a path from i to j: a walk that comes by no node twice
+-- a path from i to j: a walk that visits no node twice
 pub record IsPath (Near : ℕ → ℕ → Type 0) (i : ℕ) (rest : List ℕ) (j : ℕ) : Type 0 where
   pub walk : IsWalk Near i rest j
   pub once : IsOnce (i ∷ rest)

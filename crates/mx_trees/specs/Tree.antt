@@ -3,8 +3,8 @@ use Rattle.std.specs.Prelude.{ℕ, ◌<◌, ◌≤◌, ◌≡◌, ◌≢◌, ◌
 use Rattle.mx_stamps.specs.declared.limits.TheConstants.{MOST_NODES}
 use Rattle.mx_trees.specs.Paths.{IsPath}
 
--- how many nodes there are, the holder, for each node a row (which nodes are its neighbours), and
--- for each the next node towards the holder
+-- the number of nodes, the holder, for each node a row (which nodes are its neighbours), and for
+-- each the next node towards the holder
 pub record Rooted : Type 0 where
   pub count : ℕ
   pub holder : ℕ
@@ -33,9 +33,9 @@ abbrev pub IsToward : Rooted → ℕ → ℕ → Type 0
 IsToward t i j =
     ((i ≡ t.holder) × (j ≡ i)) ⊎ ((rest : List ℕ) × IsPath (IsNear t) i (j ∷ rest) t.holder)
 
--- a rooted tree: neighbours are two different nodes, and each is a neighbour of the other; from
--- each node exactly one node is next on a path to the holder; and of two neighbours one is next
--- from the other
+-- a rooted tree: neighbours are two different nodes, and each is a neighbour of the other. From
+-- each node exactly one node is next on a path to the holder. Of two neighbours one is next from
+-- the other
 pub record IsRooted (t : Rooted) : Type 0 where
   pub some : 0 < t.count
   pub few : t.count ≤ MOST_NODES

@@ -1,4 +1,4 @@
-//! The checks of a list of edges, and the neighbours that it makes.
+//! The checks of a list of edges, and the neighbours that it defines.
 
 ghost use Rattle.std.specs.Prelude.{ℕ, ◌≡◌, ◌≤◌, ◌↔◌, true, false, [], length, slice_index_or, IfNone, IfSome};
 ghost use Rattle.mx_trees.specs.Tree.{IsSquare};
@@ -7,7 +7,7 @@ ghost use Rattle.mx_trees.specs.Edges.{IsLinked, AreEdges, AreJoined, IsFirstBad
 use crate::growth::Growth;
 use mx_stamps::MOST_NODES;
 
-/// The first edge with an end that is no node, or with equal ends.
+/// Returns the first edge with an end that is no node, or with equal ends.
 pub fn bad_edge(nodes: u8, edges: &[(u8, u8)]) -> Option<u64>
     ensures none { IfNone result (AreEdges nodes (length edges.now) edges.now) }
     ensures some { IfSome result (λ k. IsFirstBadEdge nodes edges.now k) }
@@ -20,7 +20,7 @@ pub fn bad_edge(nodes: u8, edges: &[(u8, u8)]) -> Option<u64>
     None
 }
 
-/// The first node with no path to node 0.
+/// Returns the first node with no path to node 0.
 pub fn unjoined(nodes: u8, edges: &[(u8, u8)]) -> Option<u8>
     requires few { nodes ≤ MOST_NODES }
     requires edges { AreEdges MOST_NODES (length edges.now) edges.now }
@@ -36,7 +36,7 @@ pub fn unjoined(nodes: u8, edges: &[(u8, u8)]) -> Option<u8>
     None
 }
 
-/// For each node, which nodes are its neighbours.
+/// Returns for each node which nodes are its neighbours.
 pub fn neighbours(edges: &[(u8, u8)]) -> [[bool; MOST_NODES as usize]; MOST_NODES as usize]
     requires { AreEdges MOST_NODES (length edges.now) edges.now }
     ensures square { IsSquare result }

@@ -1,9 +1,8 @@
-//! Why some nodes, edges and a holder are no tree.
+//! Why nodes, edges and a holder are no tree.
 
 use thiserror::Error;
 
-/// Why there is no tree with these nodes, these edges and this holder: the first fault, in this
-/// order.
+/// Why no tree has these nodes, these edges and this holder: the first fault, in this order.
 #[derive(Clone, Copy, Debug, PartialEq, Eq, Drop, Error)]
 pub enum TreeFault {
     /// There are 0 nodes.

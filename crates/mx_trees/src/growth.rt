@@ -1,4 +1,4 @@
-//! A tree that grows from its root along the edges of a graph, as far as they lead.
+//! A tree that grows from its root along the edges of a graph, until no edge leads out of it.
 
 ghost use Rattle.std.specs.Prelude.{ℕ, ◌≡◌, ◌<◌, List, length, IfNone, IfSome};
 ghost use Rattle.mx_trees.specs.Edges.{AreEdges};
@@ -6,15 +6,17 @@ ghost use Rattle.mx_trees.specs.Growth.{is_reached, with_node, IsGrown, IsClosed
 
 use mx_stamps::MOST_NODES;
 
-/// Which nodes have been reached, and from which node each.
+/// The nodes that have been reached, each with the node that it was reached from.
 #[derive(Clone, Copy)]
 pub struct Growth {
+    /// For each node, whether it has been reached.
     pub reached: [bool; MOST_NODES as usize],
+    /// For each node, the node that it was reached from.
     pub next: [u8; MOST_NODES as usize],
 }
 
 impl Growth {
-    /// The root alone.
+    /// Creates the tree with only the root.
     fn at(root: u8) -> Growth
         requires { root < MOST_NODES }
         ensures { (edges : List (ℕ × ℕ)) → IsGrown edges root result }
@@ -27,7 +29,7 @@ impl Growth {
         }
     }
 
-    /// The root and every node that these edges join to it.
+    /// Returns the tree of the root and every node that these edges join to it.
     pub fn from(edges: &[(u8, u8)], root: u8) -> Growth
         requires edges { AreEdges MOST_NODES (length edges.now) edges.now }
         requires root { root < MOST_NODES }
@@ -41,7 +43,7 @@ impl Growth {
         growth
     }
 
-    /// Whether it has reached this node.
+    /// Returns whether it has reached this node.
     pub fn has(&self, i: u8) -> bool
         requires { i < MOST_NODES }
         ensures { result ≡ is_reached self.now i }
@@ -49,7 +51,7 @@ impl Growth {
         self.reached[i as usize]
     }
 
-    /// An edge that leads out of it: the end that it has reached, and the other.
+    /// Returns an edge that leads out of it: the end that it has reached, and the other.
     fn crossing(&self, edges: &[(u8, u8)]) -> Option<(u8, u8)>
         requires { AreEdges MOST_NODES (length edges.now) edges.now }
         ensures none { IfNone result (IsClosed edges.now self.now) }
@@ -66,7 +68,7 @@ impl Growth {
         None
     }
 
-    /// Reaches one more node.
+    /// Adds a node, reached from another.
     fn add(&mut self, near: u8, far: u8)
         requires { far < MOST_NODES }
         ensures { self.new ≡ with_node self.old near far }

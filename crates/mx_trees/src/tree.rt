@@ -1,4 +1,4 @@
-//! A rooted tree, and the way to its holder.
+//! A rooted tree, and the path to its holder.
 
 ghost use Rattle.std.specs.Prelude.{ℕ, ◌≡◌, ◌≢◌, ◌<◌, ◌≤◌, ◌↔◌, true, IsOk, IfOk, IfErr, IsErrOf};
 ghost use Rattle.mx_trees.specs.Edges.{IsTree, IsTreeOf, IsFirstFault};
@@ -10,8 +10,7 @@ use crate::growth::Growth;
 use mx_stamps::{MOST_NODES, NodeId};
 use std::marker::Model;
 
-/// A tree of 1 to 21 nodes, of which one is the holder of the privilege at the start (Raymond
-/// 1989).
+/// A rooted tree of 1 to 21 nodes; the root holds the privilege at the start (Raymond 1989).
 #[derive(Clone, Copy, Debug, PartialEq, Eq)]
 pub struct Tree {
     nodes: u8,
@@ -43,7 +42,11 @@ impl Model for Tree {
     } };
 }
 
-/// The holder as a node, where the nodes, edges and holder are a tree; else the first fault.
+/// Checks that the nodes, edges and holder are a tree, and returns the holder.
+///
+/// # Errors
+///
+/// Returns the first fault, in the order of `TreeFault`.
 fn checked(nodes: u8, edges: &[(u8, u8)], holder: u8) -> Result<NodeId, TreeFault>
     ensures tree { IfOk result (λ root. IsTree nodes edges.now × (holder < nodes)) }
     ensures root { IfOk result (λ root. root ≡ holder) }
@@ -71,12 +74,15 @@ fn checked(nodes: u8, edges: &[(u8, u8)], holder: u8) -> Result<NodeId, TreeFaul
 }
 
 impl Tree {
-    /// The tree of these edges, each between two nodes that become neighbours. The refusals come in
-    /// the order of `TreeFault`.
+    /// Creates the tree with these edges, each between two nodes that become neighbours.
+    ///
+    /// # Errors
+    ///
+    /// Returns the first fault, in the order of `TreeFault`, with its least witness.
     pub fn of(nodes: u8, edges: &[(u8, u8)], holder: u8) -> Result<Tree, TreeFault>
         ensures ok { IsOk result ↔ (IsTree nodes edges.now × (holder < nodes)) }
         ensures value { IfOk result (λ t. IsTreeOf nodes edges.now holder t) }
-        // what is valid and is of these edges is this tree
+        // any valid tree of these edges is this one
         ensures only { IfOk result (λ t. (u : Rooted) → IsRooted u →
             IsTreeOf nodes edges.now holder u → u ≡ t) }
         // the first fault in their order, with its least witness; there is at most one
@@ -95,7 +101,7 @@ impl Tree {
         })
     }
 
-    /// How many nodes it has.
+    /// Returns the number of nodes.
     pub fn nodes(&self) -> u8
         ensures value { result ≡ self.now.count }
         ensures low { 0 < result }
@@ -105,7 +111,7 @@ impl Tree {
         self.nodes
     }
 
-    /// The holder of the privilege at the start.
+    /// Returns the node that holds the privilege at the start.
     pub fn holder(&self) -> NodeId
         ensures value { result ≡ self.now.holder }
         ensures node { result < self.now.count }
@@ -113,7 +119,8 @@ impl Tree {
         self.holder
     }
 
-    /// The neighbour on the path to the holder, and the holder itself for the holder.
+    /// Returns the neighbour of a node on the path to the holder. For the holder, returns the
+    /// holder itself.
     pub fn toward(&self, i: NodeId) -> NodeId
         requires { i < self.now.count }
         ensures value { result ≡ toward_of self.now i }
@@ -124,7 +131,8 @@ impl Tree {
         NodeId::of(self.next[i.get() as usize]).unwrap()
     }
 
-    /// Whether nodes i and j are neighbours. False where either is no node of the tree.
+    /// Returns whether nodes i and j are neighbours. Returns `false` if either is no node of the
+    /// tree.
     pub fn neighbours(&self, i: NodeId, j: NodeId) -> bool
         ensures value { result ≡ are_neighbours self.now i j }
         ensures nodes { result ≡ true → (i < self.now.count) × (j < self.now.count) × (i ≢ j) }

@@ -1,5 +1,5 @@
--- What the definitions that the promise rests on refuse: small histories, traces and journals. And
--- what they say of journals that have settled nothing.
+-- What the definitions of the promise refuse: small histories, traces and journals. And facts on
+-- journals that have settled nothing.
 use Rattle.std.specs.Prelude.{ℕ, ◌≡◌, true, List, [], ◌∷◌, None}
 use Rattle.mx_journal.specs.declared.records.Record.{Record}
 use Rattle.mx_journal.specs.declared.records.Write.{Write}
@@ -27,7 +27,7 @@ receipt_of number node writes =
       writes = record { items = writes };
     }
 
--- register 0 is given this value
+-- a write of this value to register 0
 abbrev pub to_zero : ℕ → Write
 to_zero value = record { register = 0; value = value }
 
@@ -37,13 +37,13 @@ written_seven rest = Came 0 1 ∷ Wrote 0 0 7 ∷ rest
 
 -- histories that are refused
 pub record RefusesHistories : Type 0 where
-  -- two entries without a leaving between them
+  -- two entries without an exit between them
   pub two_inside : AllFit [] (Came 0 1 ∷ Came 1 2 ∷ []) → ⊥
   pub two_alternate : Alternate None (Came 0 1 ∷ Came 1 2 ∷ []) → ⊥
-  -- a leaving of another node, or of another number
+  -- an exit of another node, or with another number
   pub other_leaves : Alternate None (Came 0 1 ∷ Went 1 (receipt_of 1 1 []) ∷ []) → ⊥
   pub other_number : Alternate None (Came 0 1 ∷ Went 0 (receipt_of 2 0 []) ∷ []) → ⊥
-  -- a first entry that bears 2
+  -- a first entry with the number 2
   pub second_first : AllFit [] (Came 0 2 ∷ []) → ⊥
   pub second_numbered : NumberedFrom 1 (Came 0 2 ∷ []) → ⊥
   -- a read of a value that nobody wrote, or that a section before overwrote
@@ -53,7 +53,7 @@ pub record RefusesHistories : Type 0 where
   -- a read or a write of a node that is not inside
   pub read_outside : AllFit [] (Came 0 1 ∷ Got 1 0 0 ∷ []) → ⊥
   pub written_outside : AllFit [] (Wrote 0 0 7 ∷ []) → ⊥
-  -- a receipt that misses a write, and one that keeps a write from before its node woke up
+  -- a receipt that misses a write, and one that has a write from before its node restarted
   pub missed : AllFit [] (written_seven (Went 0 (receipt_of 1 0 []) ∷ [])) → ⊥
   pub kept : AllFit [] (written_seven (Woke 0 ∷ Went 0 (receipt_of 1 0 (to_zero 7 ∷ [])) ∷ []))
       → ⊥
@@ -64,7 +64,7 @@ one_section =
     is (event.Enter 0) (Entered 1) ∷ is (event.Write 0 0 7) Written
     ∷ is (event.Leave 0) (Left first_receipt) ∷ []
 
--- the record of section 1 of node 0, which gave register 0 this value
+-- the record of section 1 of node 0, which wrote this value to register 0
 abbrev pub wrote : ℕ → Record
 wrote value =
     record { number = 1; node = 0; writes = record { items = to_zero value ∷ [] } }
@@ -78,21 +78,21 @@ read_five =
       closed = true;
     }
 
--- journals that are refused, beside those that are accepted
+-- journals that are refused, and others that are accepted
 pub record RefusesJournals : Type 0 where
   -- the journal of one section shows its writes, whether that is settled or not; one with another
   -- value does not
   pub shown : ShowsInOrder one_section (unsettled (wrote 7 ∷ []))
   pub shown_settled : ShowsInOrder one_section (settled 1 (unsettled (wrote 7 ∷ [])))
   pub other_shown : ShowsInOrder one_section (unsettled (wrote 9 ∷ [])) → ⊥
-  -- a section that read what nobody wrote
+  -- a section that read a value that nobody wrote
   pub unwritten : ReadSerially (read_five ∷ []) → ⊥
   -- a record is in no empty map, and the join of two empty ones does not have it
   pub not_below : IsSubmap (wrote 7 ∷ []) [] → ⊥
   pub no_join : IsLeastUpperBound [] [] (wrote 7 ∷ []) → ⊥
 
--- of two journals that have settled nothing and agree, the merged one is their least upper bound as
--- maps of records, and has settled nothing
+-- if two journals have settled nothing and agree, the merged one is their least upper bound as maps
+-- of records, and has settled nothing
 abbrev pub MapsJoin : Type 0
 MapsJoin =
     (a b : JournalState) → a.base ≡ origin → b.base ≡ origin → Ascending 1 a.records →

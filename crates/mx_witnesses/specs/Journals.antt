@@ -1,4 +1,4 @@
--- A run with events of every kind, and the journals that it leaves, merged.
+-- A run with events of every kind, and the journals after it, merged.
 use Rattle.std.specs.Prelude.{ℕ, ◌≡◌, List, [], ◌∷◌, ◌++◌, Option, Some, None, replicate, slice_get}
 use Rattle.mx_journal.specs.declared.records.Record.{Record}
 use Rattle.mx_journal.specs.declared.receipts.Read.{Read}
@@ -36,7 +36,7 @@ pub record Merges {H S M : Type 0} (core : Core H S M) (IsShape : H → Type 0) 
   pub join : IsLeastJournal a b j
   pub shown : registers_in 1 j ≡ registers
 
--- a section that read these and wrote this value, both of register 0
+-- a section that read these values and wrote this one, all of register 0
 abbrev pub receipt : ℕ → ℕ → List Read → ℕ → Receipt
 receipt number node reads value =
     record {
@@ -50,7 +50,7 @@ receipt number node reads value =
 abbrev pub got : ℕ → Read
 got value = record { value = value; register = 0; after = 0 }
 
--- node 1 gives a request up; node 0 enters section 1, and sends its request twice on the way
+-- node 1 withdraws a request; node 0 enters section 1, and sends its request twice on the way
 abbrev pub first_part : List Entry
 first_part =
     is (event.Ask 1) (Asked (stamp 1 1)) ∷ is (event.Cancel 1) Cancelled ∷
@@ -59,7 +59,7 @@ first_part =
     is (event.Enter 0) (Entered 1) ∷ is (event.Write 0 0 7) Written
     ∷ is (event.Leave 0) (Left first_receipt) ∷ []
 
--- node 0 enters section 2, wakes up again in it, and settles section 1
+-- node 0 enters section 2, restarts in it, and settles section 1
 abbrev pub second_part : List Entry
 second_part =
     is (event.Ask 0) (Asked (stamp 2 0)) ∷ is (event.Deliver 4) Delivered
@@ -93,7 +93,7 @@ fourth_part =
 abbrev pub journals_trace : List Entry
 journals_trace = first_part ++ (second_part ++ (third_part ++ fourth_part))
 
--- the base of a given number of sections, of which this one wrote the value to register 0
+-- the base of a given number of sections; this one wrote the value to register 0
 abbrev pub base : ℕ → ℕ → ℕ → BaseState
 base upto value number =
     record {
@@ -110,7 +110,7 @@ entry number node value =
       writes = record { items = record { register = 0; value = value } ∷ [] };
     }
 
--- what node 0 has at the end, what node 1 has, and both together
+-- the journal of node 0 at the end, the one of node 1, and both together
 abbrev pub zeros_journal : JournalState
 zeros_journal = record { base = base 2 9 2; records = entry 4 0 6 ∷ [] }
 
@@ -120,6 +120,6 @@ ones_journal = record { base = base 1 7 1; records = entry 2 0 9 ∷ entry 3 1 5
 abbrev pub joint_journal : JournalState
 joint_journal = record { base = base 2 9 2; records = entry 3 1 5 ∷ entry 4 0 6 ∷ [] }
 
--- register 0 has what section 4 wrote
+-- register 0 has the value of section 4
 abbrev pub joint_registers : List Content
 joint_registers = record { value = 6; by = Some 4 } ∷ []

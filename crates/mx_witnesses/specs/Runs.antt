@@ -1,5 +1,5 @@
--- A run from a cluster at rest, and one trace of each algorithm: node 0 is in section 1 while node
--- 1 waits, and then node 1 enters section 2.
+-- A run of an idle cluster, and one trace of each algorithm: node 0 is in section 1 while node 1
+-- waits, and then node 1 enters section 2.
 use Rattle.std.specs.Prelude.{ℕ, ◌≡◌, true, false, List, [], ◌∷◌, map}
 use Rattle.mx_stamps.specs.Lists.{each_below}
 use Rattle.mx_stamps.specs.declared.stamp.Stamp.{Stamp}
@@ -16,7 +16,7 @@ use Rattle.mx_sections.specs.declared.outcome.Outcome.{Outcome}
 use Rattle.mx_sections.specs.declared.outcome.Outcome.TheVariants.{Asked, Entered, Written, Left, Delivered, Refused}
 use Rattle.mx_network.specs.Step.{ClusterState, RunsTo}
 
--- a cluster at rest with origin 0, limit 10 and one register
+-- an idle cluster with origin 0, limit 10 and one register
 abbrev pub at_rest : {H S M : Type 0} → Core H S M → H → ClusterState S M
 at_rest core shape =
     record {
@@ -29,7 +29,7 @@ at_rest core shape =
 abbrev pub events_of : List Entry → List Event
 events_of trace = map (λ (e : Entry). e.event) trace
 
--- over this shape, which is a valid one, the events of the trace come out as it says
+-- over this valid shape, the events of the trace have the outcomes in it
 pub record Happens {H S M : Type 0} (core : Core H S M) (IsShape : H → Type 0) (shape : H)
     (trace : List Entry) : Type 0 where
   pub valid : IsShape shape
@@ -50,7 +50,7 @@ first_receipt =
       writes = record { items = record { register = 0; value = 7 } ∷ [] };
     }
 
--- an event, and what comes of it
+-- an event, and its outcome
 abbrev pub is : Event → Outcome → Entry
 is event outcome = record { event = event; outcome = outcome }
 
@@ -62,7 +62,7 @@ ricart_trace =
     ∷ is (Leave 0) (Left first_receipt) ∷
     is (Deliver 3) Delivered ∷ is (Enter 1) (Entered 2) ∷ []
 
--- two nodes: the set of node 0 is node 0 alone, that of node 1 are both
+-- two nodes: the set of node 0 has only node 0, and the set of node 1 has both
 abbrev pub two_sets : Family
 two_sets = record { count = 2; rows = (true ∷ false ∷ []) ∷ (true ∷ true ∷ []) ∷ [] }
 
@@ -74,7 +74,7 @@ maekawa_trace =
     ∷ is (Write 0 0 7) Written ∷ is (Leave 0) (Left first_receipt) ∷
     is (Deliver 6) Delivered ∷ is (Deliver 7) Delivered ∷ is (Enter 1) (Entered 2) ∷ []
 
--- two nodes that are neighbours, of which node 0 has the privilege
+-- two neighbours; node 0 has the privilege
 abbrev pub two_nodes : Rooted
 two_nodes =
     record {

@@ -1,8 +1,8 @@
-//! Runs that the step tables prove: small clusters, from rest. For each of the three algorithms one
-//! in which a node enters the first section while the other waits, and then that one enters the
-//! second; and one with events of every kind, whose journals are merged. So the definitions that
-//! the promise rests on are met by clusters that do something. And small histories and journals
-//! that the definitions refuse.
+//! Runs that the step tables prove: small clusters, from the start. For each of the three
+//! algorithms there is one in which a node enters the first section while the other waits, and then
+//! that one enters the second. One more run has events of every kind, and its journals are merged.
+//! So there are clusters that act and have the properties that the promise relies on. Small
+//! histories and journals show what the definitions refuse.
 #![tactic(auto)]
 
 mod definitions;

@@ -1,4 +1,4 @@
--- Fail and Grant keep a world sound, by an induction over the parts that they are made of.
+-- Fail and Grant keep a world sound, by an induction over their parts.
 use Rattle.std.proofs.Common.{ℕ, zero, suc, ◌<◌, ◌≤◌, ◌≡◌, ◌≢◌, inl, inr, true, List, [], ◌++◌, Option, Some, None, slice_set, nat_lt, refl, sym, ◌∙◌, ap, subst, arith}
 use Rattle.std.proofs.lemmas.Option.{same_Some}
 use Rattle.std.proofs.lemmas.List.{length-set}
@@ -24,7 +24,7 @@ use Rattle.mx_maekawa.specs.laws.Changes.{IsSendable}
 use Rattle.mx_maekawa.specs.laws.LockParts.{granted_sound}
 use Rattle.mx_maekawa.specs.laws.GrantParts.{gave_sound}
 
--- what giving back keeps
+-- parts of the state that giving back does not change
 giving_phase : (o : Option ℕ) (r : RequesterState) (b : ℕ) → (giving o r b).state.phase ≡ r.phase
 giving_phase None r b = refl
 giving_phase (Some g) r b = refl

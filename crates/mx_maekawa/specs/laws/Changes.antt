@@ -8,13 +8,13 @@ use Rattle.mx_nodelaws.specs.declared.phase.Phase.TheVariants.{Waiting}
 use Rattle.mx_maekawa.specs.Node.{Node}
 use Rattle.mx_maekawa.specs.Good.{NodeWorld, IsEnded, IsGiven, IsReached, IsLockedFor}
 
--- the letter that ends a lock has come, and `last` takes in the section number that it tells
+-- the letter that ends a lock has come, and `last` takes in its section number
 abbrev pub IsToEnd : NodeWorld → ℕ → Stamp → ℕ → ℕ → Type 0
 IsToEnd w i stamp g last = WasSent w stamp.node i (Relinquish stamp g)
     ⊎ ((later : Stamp) × (t : ℕ) × WasSent w stamp.node i (Release later t)
     × (stamp.number ≤ later.number) × (t ≤ last))
 
--- how a step of a node may change what other nodes and letters rest on
+-- how a step of a node may change what other nodes and letters rely on
 pub record MovesForward (w : NodeWorld) (i : ℕ) (s new : Node) : Type 0 where
   pub own : new.requester.own ≡ s.requester.own
   pub issued : s.requester.issued ≤ new.requester.issued

@@ -1,4 +1,4 @@
--- What a step of one node leaves as it was.
+-- What a step of one node does not change.
 use Rattle.std.proofs.Common.{ℕ, ◌<◌, ◌≤◌, ◌≡◌, ◌⊎◌, inl, inr, true, false, Some, slice_index_or, refl, sym, ◌∙◌, ap, subst, arith, Bool, List}
 use Rattle.std.proofs.lemmas.Option.{same_Some}
 use Rattle.mx_stamps.specs.declared.stamp.Stamp.{Stamp}
@@ -93,7 +93,7 @@ module _ {A : Type 0} (w : NodeWorld) (i : ℕ) (s : Node) (done : Done Node A M
         ]);
   }
 
-  -- the entry of node j into its last section, where node j takes the step
+  -- the entry of node j into its last section, if node j takes the step
   kept_here : (j a : ℕ) (t : Node) (en : IsEntered w j t) → IsNode w j t → j ≡ i
       → IsGivingBack i s done.state a en.stamp (en.grant_of a) → ⊥
   kept_here j a t en tat e back =
@@ -299,7 +299,7 @@ module _ {A : Type 0} (w : NodeWorld) (i : ℕ) (s : Node) (done : Done Node A M
     reached = reached_after t new.reached;
   }
 
-  -- a step is sound where the node's new state is
+  -- a step is sound if the node's new state is
   pub sound_after : IsNodeOk (after w i done) i done.state → IsSound (after w i done)
   sound_after node = each_after_step IsNodeOk IsLetterOk w i s done at good
       (λ j t tat _. node_ok_after j t tat) (λ a b m _ ok. letter_old a b m ok) node

@@ -1,4 +1,4 @@
--- Parts of steps that change only what no lock and no grant rests on keep a world sound.
+-- Parts of steps that change nothing that a lock or a grant relies on keep a world sound.
 use Rattle.std.proofs.Common.{ℕ, ◌≤◌, ◌≡◌, inl, inr, Bool, true, false, List, [], ◌∷◌, Option, Some, None, slice_index_or, get_or, refl, sym, ◌∙◌, ap, subst, arith}
 use Rattle.mx_stamps.specs.declared.stamp.Stamp.{Stamp}
 use Rattle.mx_stamps.specs.Lists.{IsIn}

@@ -1,4 +1,4 @@
--- A write to a list changes one place and leaves the others.
+-- A write to a list changes one place and no other.
 use Rattle.std.proofs.Common.{ℕ, zero, suc, ◌<◌, ◌≡◌, ◌≢◌, inl, inr, Bool, false, List, [], ◌∷◌, Option, Some, None, slice_set, length, get_or, refl, sym, ◌∙◌, ap, subst, arith}
 use Rattle.mx_stamps.proofs.Lists.{dec_eq, none_is_no_some}
 
@@ -23,7 +23,7 @@ get_or_set_none [] n = refl
 get_or_set_none (x ∷ xs) zero = refl
 get_or_set_none (x ∷ xs) (suc n) = get_or_set_none xs n
 
--- what is found after place n was emptied was there before, and at another place
+-- a value in the list after place n was emptied was there before, at another place
 pub emptied : (xs : List (Option ℕ)) (n b y : ℕ) → get_or (slice_set xs n None) b None ≡ Some y
     → (get_or xs b None ≡ Some y) × (b ≢ n)
 emptied xs n b y h = elim (dec_eq b n) [

@@ -20,7 +20,7 @@ use Rattle.mx_maekawa.specs.laws.Safety.{holds_own, held_lock}
 use Rattle.mx_maekawa.specs.laws.Parts.{held_as, entered_as}
 use Rattle.mx_maekawa.specs.laws.Changes.{MovesForward, IsReleasing, IsSendable}
 
--- the grant that is held, 0 where there is none
+-- the grant that is held, or 0 if there is none
 value_or_zero : Option ℕ → ℕ
 value_or_zero None = 0
 value_or_zero (Some g) = g
@@ -202,7 +202,7 @@ module _ (w : NodeWorld) (i : ℕ) (s : Node) (good : IsSound w) (at : IsNode w 
 
   -- leave and cancel
 
-  -- the stamp of the last entry is no later than its last one
+  -- the stamp of the last entry is no later than its latest stamp
   entry_issued : (v : NodeWorld) (p : Phase) → s.requester.phase ≡ p → s.requester.ours.number
       ≡ s.requester.issued → (en : IsEntered v i s) → en.stamp.number ≤ s.requester.issued
   entry_issued v Idle e number en =

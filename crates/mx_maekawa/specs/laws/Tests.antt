@@ -1,4 +1,4 @@
--- What the tests of the step table mean: of the permission, and of failed arbiters.
+-- What the tests of the step table mean: the permission, and failed arbiters.
 use Rattle.std.proofs.Common.{ℕ, Option, Some, None, zero, suc, ◌<◌, ◌≡◌, ◌↔◌, inl, inr, Bool, true, false, not, ◌||◌, refl, sym, ap, subst, arith}
 use Rattle.mx_stamps.proofs.Lists.{dec_eq}
 use Rattle.mx_stamps.proofs.Choices.{not_both, or_cases, or_false, neither}

@@ -1,4 +1,4 @@
-//! What an arbiter knows, as it is shown.
+//! The knowledge of an arbiter, as it is shown.
 
 ghost use Rattle.std.specs.Prelude.{◌≡◌, ◌++◌, OnOk};
 ghost use Rattle.mx_maekawa.specs.Knows.{arbiter_known, grant_of, lock_of};
@@ -8,7 +8,7 @@ use mx_knowledge::{Facts, Item, stamps_in};
 use std::alloc::{AllocError, Global};
 
 impl Arbiter {
-    /// Adds what it knows.
+    /// Adds all that the arbiter knows.
     pub(crate) fn add_facts(&self, alloc: Global, facts: &mut Facts) -> Result<(), AllocError>
         ensures { OnOk result (facts.new ≡ facts.old ++ arbiter_known self.now) }
     {

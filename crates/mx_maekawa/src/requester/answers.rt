@@ -1,4 +1,4 @@
-//! What a requester does with the letters of its arbiters.
+//! The letters that a requester takes from its arbiters.
 
 use super::Requester;
 use mx_letters::{MaekawaMsg, Outbox};
@@ -10,7 +10,8 @@ impl Requester {
     ghost use Rattle.mx_letters.specs.declared.outbox.TheConstants.{OUTBOX_ROOM};
     ghost use Rattle.mx_maekawa.specs.RequesterStep.{HasFailed, has_failed_below, is_current_wait, has_ended, give_remembered, fail, release_ended, take_locked, take_failed, inquired_held, take_inquire};
 
-    /// Whether some arbiter counts as failed: the node cannot enter before that one grants again.
+    /// Returns whether some arbiter counts as failed: the node cannot enter before that arbiter
+    /// grants again.
     fn has_failed(&self) -> bool
         ensures value { result ≡ has_failed_below self.now self.now.count }
         ensures some { IsTrue result ↔ HasFailed self.now }
@@ -24,14 +25,14 @@ impl Requester {
         any
     }
 
-    /// Whether the node waits, and this is the stamp of its request.
+    /// Returns whether the node waits, and this is the stamp of its request.
     fn is_current_wait(&self, stamp: &Stamp) -> bool
         ensures { result ≡ is_current_wait self.now stamp.now }
     {
         matches!(self.phase, Phase::Waiting) && stamp.is(&self.ours)
     }
 
-    /// Whether this stamp of the node has ended: it was drawn, and is no longer current.
+    /// Returns whether this stamp of the node has ended: it was drawn, and is no longer current.
     fn has_ended(&self, stamp: &Stamp) -> bool
         ensures { result ≡ has_ended self.now stamp.now }
     {
@@ -39,7 +40,7 @@ impl Requester {
         !is_current && stamp.number <= self.issued
     }
 
-    /// Gives the grant of arbiter b back, where that arbiter has asked for it.
+    /// Gives the grant of arbiter b back, if that arbiter has asked for it.
     fn give_remembered(&mut self, b: NodeId, out: &mut Outbox<MaekawaMsg>)
         requires { length out.old < OUTBOX_ROOM }
         ensures state { self.new ≡ (give_remembered b self.old).state }
@@ -56,7 +57,7 @@ impl Requester {
         }
     }
 
-    /// Notes that arbiter a has failed the request, and gives back each grant that was asked for.
+    /// Records that arbiter a has failed the request, and gives back each grant that was asked for.
     fn fail(&mut self, a: NodeId, out: &mut Outbox<MaekawaMsg>)
         requires { length out.old ≤ 1 }
         ensures state { self.new ≡ (fail a self.old).state }
@@ -70,7 +71,7 @@ impl Requester {
         }
     }
 
-    /// Sends a release to an arbiter whose letter is about a stamp that has ended.
+    /// Sends a release to an arbiter whose letter is about an ended stamp.
     fn release_ended(&self, stamp: &Stamp, a: NodeId, out: &mut Outbox<MaekawaMsg>)
         requires { out.old ≡ [] }
         ensures { out.new ≡ (release_ended self.now stamp.now a).letters }
@@ -80,7 +81,7 @@ impl Requester {
         }
     }
 
-    /// Takes a grant (LOCKED). One that was given back before does not count again.
+    /// Takes a grant (LOCKED). A grant that was given back does not count again.
     pub(crate) fn take_locked(
         &mut self,
         a: NodeId,
@@ -146,8 +147,8 @@ impl Requester {
         }
     }
 
-    /// Takes an INQUIRE for the grant that is held: it is given back where some arbiter has failed,
-    /// and else the inquiry is remembered.
+    /// Takes an INQUIRE for the grant that is held. Gives it back if some arbiter has failed, and
+    /// otherwise remembers the inquiry.
     fn take_inquire_held(
         &mut self,
         a: NodeId,

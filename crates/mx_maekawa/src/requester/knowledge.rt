@@ -1,4 +1,4 @@
-//! What a requester knows, as it is shown.
+//! The knowledge of a requester, as it is shown.
 
 ghost use Rattle.std.specs.Prelude.{◌≡◌, ◌++◌, IfOk, OnOk};
 ghost use Rattle.mx_knowledge.specs.Tables.{below};
@@ -11,7 +11,7 @@ use mx_stamps::NodeId;
 use std::alloc::{AllocError, Global};
 
 impl Requester {
-    /// Adds what it knows.
+    /// Adds all that the requester knows.
     pub(crate) fn add_facts(&self, alloc: Global, facts: &mut Facts) -> Result<(), AllocError>
         ensures { OnOk result (facts.new ≡ facts.old ++ requester_known self.now) }
     {
@@ -43,7 +43,7 @@ impl Requester {
         }
     }
 
-    /// Adds whose grants are missing, or that the node may enter.
+    /// Adds the arbiters whose grants are missing, or that the node may enter.
     fn add_missing(&self, alloc: Global, facts: &mut Facts) -> Result<(), AllocError>
         ensures { OnOk result (facts.new ≡ facts.old ++ missing_of self.now) }
     {
@@ -55,7 +55,7 @@ impl Requester {
         }
     }
 
-    /// Its arbiters whose grant is not held.
+    /// Returns its arbiters whose grant is not held.
     fn missing(&self, alloc: Global) -> Result<Vec<Item>, AllocError>
         ensures { IfOk result (λ items. items.items ≡ below (missing_at self.now) self.now.count) }
     {
@@ -70,7 +70,7 @@ impl Requester {
         Ok(items)
     }
 
-    /// Adds the arbiters that failed the request, and the inquiries that are remembered.
+    /// Adds the arbiters that failed the request, and the remembered inquiries.
     fn add_answers(&self, alloc: Global, facts: &mut Facts) -> Result<(), AllocError>
         ensures { OnOk result (facts.new ≡ facts.old ++ answers_of self.now) }
     {

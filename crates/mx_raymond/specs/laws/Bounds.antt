@@ -129,7 +129,7 @@ module _ (n : ℕ) (s : Node) (ok : BoundedNode n s) where
       }))
       (λ _. record { state = ok; letters = one BoundedLetter n from (Got hop) lt p })
 
-  -- word of an arrival
+  -- an acknowledgement
 
   got_bounded : (from hop : ℕ) → BoundedDone n (take_got from hop s)
   got_bounded from hop =

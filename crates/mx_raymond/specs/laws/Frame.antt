@@ -1,4 +1,4 @@
--- What a step of one node leaves as it was.
+-- What a step of one node does not change.
 use Rattle.std.proofs.Common.{ℕ, ◌<◌, ◌≤◌, ◌⊎◌, inl, inr, sym, subst, arith}
 use Rattle.mx_stamps.specs.Lists.{IsIn}
 use Rattle.mx_stamps.proofs.Lists.{get_after}
@@ -52,7 +52,7 @@ module _ {A : Type 0} (w : World Node RaymondMsg) (i : ℕ) (s : Node) (done : D
         }
     letter_after a b (Got hop) sent = tt
 
-    -- a step is safe where the node's new state, its new letters and the place of the privilege are
+    -- a step is safe if the node's new state, its new letters and the place of the privilege are
     pub safe_after : IsNodeOk (after w i done) higher i done.state
         → ((b : ℕ) (m : RaymondMsg) → IsIn (b, m) done.letters
         → IsLetterOk (after w i done) higher b m) → IsHeld (after w i done) higher

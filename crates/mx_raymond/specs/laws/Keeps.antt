@@ -96,7 +96,7 @@ module _ (w : World Node RaymondMsg) (i : ℕ) (s : Node) (at : IsNode w i s) (s
       }))
       (λ _. still_safe w i s at safe)
 
--- a safe step, and then one that keeps each world safe
+-- a safe step, followed by one that keeps each world safe
 then_safe : {A : Type 0} (w : World Node RaymondMsg) (i : ℕ) (s : Node) (at : IsNode w i s)
     (first : NodeDone A) (second : Node → NodeDone (Unit {0}))
     → ((v : World Node RaymondMsg) (t : Node) → IsNode v i t → IsSafe v
@@ -182,7 +182,7 @@ module _ (w : World Node RaymondMsg) (i : ℕ) (s : Node) (at : IsNode w i s) (s
       }))
       (λ _. told_safe from hop)
 
-  -- word of an arrival comes
+  -- an acknowledgement comes
 
   got_safe : (from hop : ℕ) → IsSafe (after w i (take_got from hop s))
   got_safe from hop =
@@ -221,7 +221,7 @@ module _ (w : World Node RaymondMsg) (i : ℕ) (s : Node) (at : IsNode w i s) (s
         at = entered_kept w i s at safe.highest safe.at {A = Unit {0}} tt mine h.0 h.1;
       }
 
-  -- leave and cancel: the node rests, with its queue or another
+  -- leave and cancel: the node becomes idle, with its queue or another
 
   rested_safe : (queue : List ℕ) → IsSafe
       (after w i (serving (becoming (record s { phase = Idle; queue = queue }))))

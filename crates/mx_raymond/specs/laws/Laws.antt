@@ -22,7 +22,7 @@ use Rattle.mx_raymond.specs.laws.Bounds.{start_bounded, asked_bounded, deliver_b
 
 -- phases
 
--- the two states have one course
+-- the two states have the same course
 abbrev IsSteady : Node → Node → Type 0
 IsSteady s new = course_of raymond_rows new ≡ course_of raymond_rows s
 

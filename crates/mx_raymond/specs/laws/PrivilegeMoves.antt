@@ -1,4 +1,4 @@
--- The three steps that matter to the privilege keep a world safe: it is passed on, it arrives, its
+-- The three steps that concern the privilege keep a world safe: it is passed on, it arrives, its
 -- holder enters.
 use Rattle.std.proofs.Common.{ℕ, ◌<◌, ◌≤◌, ◌+◌, ◌≡◌, ◌≢◌, inl, inr, [], ◌∷◌, max, refl, sym, ◌∙◌, ap, subst, arith}
 use Rattle.std.proofs.lemmas.Option.{same_Some, slice_get_within}

@@ -1,4 +1,4 @@
--- A step that leaves the privilege where it is keeps a world safe.
+-- A step that does not move the privilege keeps a world safe.
 use Rattle.std.proofs.Common.{ℕ, ◌<◌, ◌≤◌, ◌≡◌, ◌⊎◌, inl, inr, Some, sym, ◌∙◌, ap, subst, arith}
 use Rattle.mx_stamps.specs.Lists.{IsIn}
 use Rattle.mx_stamps.proofs.Lists.{dec_eq, get_after}

@@ -1,4 +1,4 @@
--- In a safe world at most one node is inside, and who enters draws the next number.
+-- In a safe world at most one node is inside, and a node that enters draws the next number.
 use Rattle.std.proofs.Common.{ℕ, ◌≡◌, true, sym, ◌∙◌, ap, subst}
 use Rattle.mx_letters.specs.declared.raymond.RaymondMsg.{RaymondMsg}
 use Rattle.mx_nodelaws.specs.World.{World, IsNode}

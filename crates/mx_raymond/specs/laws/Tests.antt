@@ -34,7 +34,7 @@ queued_joined queue name node =
     (is_queued queue name) queue (queue ++ name ∷ [])
     (λ _ h. inl h) (λ _ h. queued_pushed queue name node h)
 
--- a name that is left once another has gone
+-- a name that remains after another was removed
 pub queued_without : (queue : List ℕ) (name node : ℕ) → is_queued (without queue name) node ≡ true
     → (is_queued queue node ≡ true) × (node ≢ name)
 queued_without [] name node h = let bad : ⊥ = cc in absurd bad
@@ -54,7 +54,7 @@ queued_without (first ∷ rest) name node h =
     (or_right (nat_eq node first) (is_queued rest node) p.0, p.1))
     h
 
--- a name behind the head is in the queue
+-- a name after the head is in the queue
 pub queued_behind : (queue : List ℕ) (node : ℕ) → is_queued (rest_of queue) node ≡ true
     → is_queued queue node ≡ true
 queued_behind [] node h = h

@@ -1,4 +1,4 @@
--- What a step of one node leaves as it was.
+-- What a step of one node does not change.
 use Rattle.std.proofs.Common.{ℕ, ◌<◌, ◌≤◌, ◌≡◌, ◌≢◌, ◌⊎◌, inl, inr, true, length, refl, sym, ◌∙◌, ap, subst, arith}
 use Rattle.std.proofs.lemmas.Option.{slice_get_within}
 use Rattle.std.proofs.lemmas.List.{length-set}
@@ -34,7 +34,7 @@ module _ {A : Type 0} (w : World Node RicartMsg) (i : ℕ) (s : Node) (done : Do
   pub reached_after : (n : ℕ) → IsReached w n → IsReached (after w i done) n
   reached_after n h = still_reached w i s done at (λ x. x.mine) moves.mine n h
 
-  -- a reply that stands, where its addressee takes the step
+  -- a reply remains valid when its addressee takes the step
   stands_to : (a : ℕ) (stamp : Stamp) (top : ℕ) → IsReplyOk w a i stamp top → (sa : Node)
       → IsNode w a sa → IsBusy done.state → done.state.ours ≡ stamp → (sa.mine ≤ top)
       × (IsBusy sa → Before stamp sa.ours)
@@ -109,7 +109,7 @@ module _ {A : Type 0} (w : World Node RicartMsg) (i : ℕ) (s : Node) (done : Do
     waits = λ k d was. let r = ok.waits k d was in (r.0, r.1, r.2, seen_after k d.number r.3);
   }
 
-  -- a step is good where the node's new state and its new letters are
+  -- a step is good if the node's new state and its new letters are
   pub good_after : IsNodeOk (after w i done) i done.state
       → ((b : ℕ) (m : RicartMsg) → IsIn (b, m) done.letters → IsLetterOk (after w i done) i b m)
       → IsSafe (after w i done)

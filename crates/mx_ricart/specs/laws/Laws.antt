@@ -63,7 +63,7 @@ started_safe count origin limit =
     (start_of count i origin limit) refl refl refl (sym e) (omega arith)
     (i, start_of count i origin limit, at, omega arith))
 
--- which letters were sent matters, and not how often or in which order
+-- the set of the letters that were sent counts, not how often or in which order
 
 module _ (w : World Node RicartMsg) (sent : List (ℕ × ℕ × RicartMsg))
     (same : (x : ℕ × ℕ × RicartMsg) → IsIn x w.sent ↔ IsIn x sent) where

@@ -103,7 +103,7 @@ module _ (w : World Node RicartMsg) (i : ℕ) (s : Node) (good : IsSafe w) (at :
     entry = inl m;
   }
 
-  -- what then waits for node j is the new request or the old one
+  -- the request of node j that is deferred then is the new one or the old one
   waits_new : {A : Type 0} (from : ℕ) (stamp : Stamp) → from ≢ i → stamp.node ≡ from
       → IsRequestOk w from stamp → (done : Done Node A RicartMsg) → MovesForward w i s done.state
       → (j : ℕ) (d : Stamp) → j ≡ stamp.node → (old : Option Stamp) → deferred_at s stamp.node ≡ old

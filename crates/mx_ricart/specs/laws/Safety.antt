@@ -1,4 +1,4 @@
--- In a safe world at most one node is inside, and who enters draws the next number.
+-- In a safe world at most one node is inside, and a node that enters draws the next number.
 use Rattle.std.proofs.Common.{ℕ, ◌≤◌, ◌≡◌, ◌≢◌, inl, inr, true, refl, sym, ◌∙◌, ap, arith}
 use Rattle.std.proofs.lemmas.Option.{slice_get_within}
 use Rattle.mx_stamps.proofs.Lists.{dec_eq}
