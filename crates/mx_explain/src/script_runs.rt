@@ -6,7 +6,7 @@ use crate::runs::refusal;
 use mx_commands::by_shape;
 use mx_diagnosis::FileReport;
 use mx_knowledge::Knowledge;
-use mx_lines::{Line, LineFault, Order, read_line, words_in};
+use mx_lines::{Line, LineFault, Order, Scope, read_line, words_in};
 use mx_network::{Cluster, Event, StepFault};
 use mx_nodelaws::Exclusion;
 use mx_plan::{Plan, read_plan};
@@ -140,7 +140,7 @@ fn obey<C: Exclusion + Knowledge>(
 ) -> Result<bool, AllocError> {
     match order {
         Order::Happens(event) => happen(lines, plan, cluster, mail, number, event),
-        Order::AllArrive => deliver_all(lines, plan, cluster, mail, number),
+        Order::AllArrive(scope) => deliver_all(lines, plan, cluster, mail, number, scope),
         Order::Arrives(from, to) => {
             let parcel = mail.oldest_between(cluster, *from, *to);
             deliver(lines, plan, cluster, mail, number, parcel)
@@ -150,19 +150,29 @@ fn obey<C: Exclusion + Knowledge>(
             deliver(lines, plan, cluster, mail, number, parcel)
         }
         Order::IsLost(from, to) => Ok(lose(cluster, mail, *from, *to)),
+        Order::AllAreLost(scope) => {
+            lose_all(cluster, mail, scope);
+            Ok(true)
+        }
+        Order::LinksChange(change) => {
+            mail.change(change);
+            Ok(true)
+        }
     }
 }
 
-/// Delivers all parcels under way, the oldest first, until none is left.
+/// Delivers the parcels under way that a line means, the oldest first, until none is left that is
+/// on a link that is not cut.
 fn deliver_all<C: Exclusion + Knowledge>(
     lines: &mut FileReport<'_>,
     plan: &Plan,
     cluster: &mut Cluster<C>,
     mail: &mut Mail,
     number: u64,
+    scope: &Scope,
 ) -> Result<bool, AllocError> {
     for _ in 0..MOST_EVENTS {
-        let parcel = mail.oldest(cluster.sent());
+        let parcel = mail.next_to_arrive(cluster, scope);
         if parcel.is_none() {
             return Ok(true);
         }
@@ -199,7 +209,16 @@ fn lose<C: Exclusion>(cluster: &Cluster<C>, mail: &mut Mail, from: NodeId, to: N
     }
 }
 
-/// Does an event, and warns if it is refused.
+/// Loses the parcels under way that a line means.
+fn lose_all<C: Exclusion>(cluster: &Cluster<C>, mail: &mut Mail, scope: &Scope) {
+    for parcel in 0..cluster.sent() {
+        if mail.is_waiting(cluster, scope, parcel) {
+            mail.lose(parcel);
+        }
+    }
+}
+
+/// Does an event, unless its link is cut, and warns if it is refused.
 fn happen<C: Exclusion + Knowledge>(
     lines: &mut FileReport<'_>,
     plan: &Plan,
@@ -208,7 +227,7 @@ fn happen<C: Exclusion + Knowledge>(
     number: u64,
     event: &Event,
 ) -> Result<bool, AllocError> {
-    if cluster.trace().len() >= MOST_EVENTS {
+    if cluster.trace().len() >= MOST_EVENTS || !mail.can_pass(event, cluster) {
         return Ok(false);
     }
     let outcome = match cluster.step(*event) {
