@@ -116,6 +116,53 @@ impl<T: Drop, P: Promise<T> + Drop> ThreadGroup<T, P> {
         }
     }
 
+    /// Starts a thread for a task, which is given the gate.
+    ///
+    /// # Errors
+    ///
+    /// If memory or a thread is refused, the gate is shut, and the task is dropped. It does not run
+    /// here, since the stack may lack the room.
+    pub fn start_or_drop<R: Threads, F: FnOnce(&StartGate) -> T + Send + Drop + 'static>(
+        &mut self,
+        rt: &R,
+        promise: P,
+        task: F,
+    ) -> Result<(), AllocError>
+    where
+        T: Send + 'static,
+        requires runs { F.IsAlwaysCallable task }
+        requires keeps { (gate : _) (left : T) → F.post task gate left → P.kept_by promise left }
+        ensures ok { OnOk result (self.new ≡ self.old ++ promise ∷ []) }
+        ensures same { OnErr result (self.new ≡ self.old) }
+    {
+        let Ok(()) = self.handles.reserve(1) else {
+            self.shut();
+            return Err(AllocError);
+        };
+        let Ok(share) = Arc::try_clone(&self.gate) else {
+            self.shut();
+            return Err(AllocError);
+        };
+        let started = thread::spawn_with(
+            rt,
+            promise,
+            move || -> T
+                requires { F.IsAlwaysCallable task }
+                ensures { (gate : _) × F.post task gate result }
+            {
+                let left = task(&*share);
+                share.note_end();
+                left
+            },
+        );
+        let Ok(handle) = started else {
+            self.shut();
+            return Err(AllocError);
+        };
+        self.handles.push_reserved(handle);
+        Ok(())
+    }
+
     /// Shuts the gate, and runs a task here.
     fn run_here<F: FnOnce(&StartGate) -> T>(&self, task: F, fault: StartFault) -> NotStarted<T>
         requires { F.IsAlwaysCallable task }

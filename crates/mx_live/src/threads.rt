@@ -85,7 +85,7 @@ where
         at: Snapshot::of(&station),
         orders,
     };
-    workers.start(
+    workers.start_or_drop(
         rt,
         promise,
         move |gate: &StartGate| -> Ended<C>
