@@ -98,7 +98,8 @@ def fault(runs):
     by_type, by_list = found(), listed()
     if by_type != set(by_list):
         return f"not listed: {sorted(by_type - set(by_list))}, not found: {sorted(set(by_list) - by_type)}"
-    unknown = [where for where in by_list.values() if not where.isdigit() and where not in runs]
+    known = {*runs, *(call for (_, call), where in by_list.items() if where.isdigit())}
+    unknown = [where for where in by_list.values() if not where.isdigit() and where not in known]
     return f"no such runs: {unknown}" if unknown else None
 
 
