@@ -5,7 +5,7 @@ use Rattle.mx_diagnosis.specs.Shown.{ArePrintable, IsPrintable, shown}
 
 -- ---- lines
 
--- a line that is told, of a fault or of a warning
+-- one line of a report: a fault or a warning
 pub record Told : Type 0 where
   pub is_fault : Bool
   pub text : Text
@@ -37,18 +37,18 @@ pub record IsLineOf (is_fault : Bool) (file : Text) (message : Option Text) (t :
 
 -- ---- reports
 
--- whether the files are well, and the lines that are told of them
+-- whether the command found no fault, and the lines of the report
 pub record Reported : Type 0 where
   pub is_well : Bool
   pub lines : List Told
 
--- lines of a report: where the files are well, none is of a fault
+-- the lines of a report: none is a fault if the command found none
 pub record IsReport (is_well has : Bool) (lines : List Told) : Type 0 where
   pub each : AreLines lines
   pub fault : has ≡ has_fault lines
   pub well : is_well ≡ true → has ≡ false
 
--- what was told before stays, and lines are added
+-- the earlier lines stay, and lines are added after them
 pub record IsLonger (old new : Reported) : Type 0 where
   pub added : List Told
   pub each : AreLines added
@@ -69,7 +69,7 @@ lines_text (t ∷ ts) = t.text ++ 10 ∷ lines_text ts
 abbrev pub report_text : List Told → Text
 report_text lines = lines_text lines ++ (if has_fault lines then [] else nothing_at_fault ++ 10 ∷ [])
 
--- the last line that ends within a text, after this line and the begin of another
+-- the last complete line of a text that follows this line and the start of another
 abbrev pub line_after : Text → Text → Text → Text
 line_after last begun [] = last
 line_after last begun (b ∷ bs) = if b == 10 then line_after begun [] bs else line_after last (begun ++ b ∷ []) bs

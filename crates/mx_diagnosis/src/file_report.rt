@@ -1,4 +1,4 @@
-//! What is told of one file, a line for each fault and each warning.
+//! The report on one file, with a line for each fault and each warning.
 
 ghost use Rattle.std.specs.Prelude.{◌≡◌, OnOk};
 ghost use Rattle.mx_diagnosis.specs.Reports.{has_fault};
@@ -27,7 +27,7 @@ pub struct FileReport<'a> {
     /// The text that is looked at, and how many lines of the file are above it.
     source: Vec<u8>,
     above: usize,
-    /// Whether it is the begin of a text, of which more can't be told.
+    /// Whether the text is only the start of the file, whose rest cannot be read.
     is_begin: bool,
 }
 
@@ -113,14 +113,14 @@ impl<'a> FileReport<'a> {
         Ok(())
     }
 
-    /// Looks at the begin of a text of the file, behind which more stands than can be told.
+    /// Looks at the start of a text whose rest cannot be read.
     pub(crate) fn look_at_begin(&mut self, text: &[u8], above: usize) -> Result<(), AllocError> {
         self.look_at(text, above)?;
         self.is_begin = true;
         Ok(())
     }
 
-    /// Whether what is not there may stand behind what is looked at.
+    /// Whether the text goes on after the part that is looked at.
     pub(crate) fn is_begin(&self) -> bool {
         self.is_begin
     }

@@ -1,4 +1,4 @@
-//! What is told of files, line by line.
+//! The report on all files, line by line.
 
 ghost use Rattle.std.specs.Prelude.{◌≡◌, ◌↔◌, ◌||◌, ◌&&◌, [], ◌++◌, OnOk, IfOk, codes, false, not, string_bytes};
 ghost use Rattle.mx_diagnosis.specs.Reports.{AreLines, AreShown, IsLonger, has_fault, last_line, lines_text, nothing_at_fault, report_text};

@@ -19,7 +19,7 @@ fn nodes_of(alloc: Global, plan: &Plan) -> Result<Vec<&str>, AllocError> {
     Ok(names)
 }
 
-/// What is to be told of a node that is named and that the plan does not have: printable text.
+/// Returns the message for a node name that the plan does not have: printable text.
 pub fn told_of_node(alloc: Global, plan: &Plan, name: &str) -> Result<String, AllocError>
     ensures { IfOk result (λ text. ArePrintable (string_bytes text)) }
 {

@@ -42,15 +42,15 @@ ExplainsMatter takes_out takes_err told (script names) old new status =
 abbrev pub FailsToPrint : Bool → Stop → Type 0
 FailsToPrint takes_all end = (end ≡ Memory) ⊎ ((end ≡ Writer) × (takes_all ≡ false))
 
--- a report was printed: printable lines, of which the last says that nothing is at fault exactly if
--- no line is of a fault
+-- A report was printed: printable lines. The last is `nothing is at fault` exactly if no line is a
+-- fault.
 abbrev pub PrintsReport : Held → Held → Bool → Type 0
 PrintsReport old new is_fault =
     (text : Text) × Appends old new text × AreShown text
     × ((last_line text ≡ nothing_at_fault) ↔ (is_fault ≡ false))
 
--- what was printed of files: printable lines, of which the last says that nothing is at fault
--- exactly if the command succeeds
+-- What was printed about the files: printable lines. The last is `nothing is at fault` exactly if
+-- the command succeeds.
 abbrev pub Prints : {T E : Type 0} → Held → Held → Result T E → Type 0
 Prints old new ended =
     (text : Text) × Appends old new text × AreShown text

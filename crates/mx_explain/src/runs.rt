@@ -1,4 +1,4 @@
-//! What is told of a run of events: which events are refused, and which parcel was not sent.
+//! The warnings of a run of events: which are refused, and which parcel was not sent.
 
 ghost use Rattle.mx_diagnosis.specs.Reports.{IsLonger};
 
