@@ -11,7 +11,7 @@ import sys
 import oracle
 
 SLOTS = 4  # of the link from the node to itself
-MOST_WAITING = 64
+MAX_WAITING = 64
 LOST = 16  # of 256 parcels that are taken from a link
 REPEATED = 16
 
@@ -47,7 +47,7 @@ class Station:
         outcome = act(*words)
         letters = [letter for _, letter in self.member.core.out]
         self.member.core.out = []
-        self.waiting = (self.waiting + letters)[:MOST_WAITING]
+        self.waiting = (self.waiting + letters)[:MAX_WAITING]
         return outcome
 
     def take(self):

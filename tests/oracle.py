@@ -25,10 +25,10 @@ IDLE = "idle"
 WAITING = "waiting"
 INSIDE = "inside"
 
-MOST_READS = 8  # in one section
-MOST_WRITES = 8
-MOST_RANGES = 8  # in one want
-MOST_RECORDS = 4  # in one answer to a want
+MAX_READS = 8  # in one section
+MAX_WRITES = 8
+MAX_RANGES = 8  # in one want
+MAX_RECORDS = 4  # in one answer to a want
 
 PLANES = {7: (0, 1, 3), 13: (0, 1, 3, 9), 21: (0, 1, 4, 14, 16)}
 
@@ -750,7 +750,7 @@ class Member:
         gap = self.journal.gapless() + 1
         if gap < self.core.mine:
             return f"refused gap {gap}"
-        if self.reads == MOST_READS:
+        if self.reads == MAX_READS:
             return "refused full"
         self.reads += 1
         value = last_written(self.writes, register, None)
@@ -761,7 +761,7 @@ class Member:
     def write(self, register, value):
         if self.core.phase != INSIDE:
             return "refused not inside"
-        if len(self.writes) == MOST_WRITES:
+        if len(self.writes) == MAX_WRITES:
             return "refused full"
         self.writes.append((register, value))
         return "written"
@@ -781,7 +781,7 @@ class Member:
 
     def want(self, node):
         """Asks a node for records that are missing here."""
-        gaps = self.journal.gaps(self.core.limit)[:MOST_RANGES]
+        gaps = self.journal.gaps(self.core.limit)[:MAX_RANGES]
         if gaps:
             self.core.send(node, Want(tuple(gaps)))
 
@@ -809,7 +809,7 @@ class Member:
         """Sends the base where some of these sections are settled, and then the first records of them."""
         if self.journal.has_settled(ranges):
             self.core.send(node, self.journal.base)
-        records = self.journal.within(ranges)[:MOST_RECORDS]
+        records = self.journal.within(ranges)[:MAX_RECORDS]
         if records:
             self.core.send(node, Records(tuple(records)))
 

@@ -1,7 +1,7 @@
 //! Times stations in threads, one for each node, over a network that loses nothing. Measures how
 //! long they take to enter a given number of sections in all, and how many parcels that takes.
 
-use crate::meeting::Meeting;
+use crate::gate::Meeting;
 use crate::nodes::{AnyStation, sections_of};
 use crate::shapes::stations_of;
 use anyhow::Result;

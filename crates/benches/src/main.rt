@@ -3,10 +3,10 @@
 //! SECTIONS. Without arguments it prints this usage.
 #![tactic(auto)]
 
+mod gate;
 mod jobs;
 mod journals;
 mod live;
-mod meeting;
 mod nodes;
 mod shapes;
 

@@ -1,6 +1,6 @@
 //! A node of any of the three algorithms, and its work.
 
-use crate::meeting::Meeting;
+use crate::gate::Meeting;
 use mx_letters::{Fair, Fate, Fates};
 use mx_maekawa::Maekawa;
 use mx_nodelaws::Exclusion;
@@ -10,7 +10,7 @@ use mx_stations::{Script, Station, Worked, work};
 use std::sync::atomic::{AtomicU64, Ordering};
 
 /// The greatest number of turns of a node.
-const MOST_TURNS: u64 = 1_000_000_000_000;
+const MAX_TURNS: u64 = 1_000_000_000_000;
 
 /// A station that a thread can own, whichever its algorithm.
 #[derive(Drop)]
@@ -45,7 +45,7 @@ fn worked<C: Exclusion>(
         register: 0,
         sections,
     };
-    let (station, ended) = work(station, script, meeting, Counting { parcels }, MOST_TURNS);
+    let (station, ended) = work(station, script, meeting, Counting { parcels }, MAX_TURNS);
     match ended {
         Worked::Done => station.receipts().len() as u64,
         Worked::NotYet(_) | Worked::GateShut => 0,

@@ -1,13 +1,13 @@
 -- What the words of `live` ask for, as `clap` reads them.
 use Rattle.std.specs.Prelude.{ℕ, Bool, List, Option, codes, option_map, option_and_then, unwrap_or}
 use Rattle.clap.specs.Words.{App, Row, Rule, Text, first_of, new_app, with_rule}
-use Rattle.mx_stamps.specs.declared.limits.TheConstants.{MOST_SECTIONS}
+use Rattle.mx_stamps.specs.declared.limits.TheConstants.{MAX_SECTIONS}
 use Rattle.mx_cli.specs.declared.live_words.LiveRequest.{LiveRequest as Given}
 use Rattle.mx_cli.specs.Words.{asked_of, by_name, flag_rule, is_given, line_with, needed, number_at, number_rule, plan_rule}
 
 -- `--sections M`, a number up to that of the last section that a cluster may have
 abbrev pub sections_rule : Rule
-sections_rule = needed (number_rule (codes "sections") MOST_SECTIONS)
+sections_rule = needed (number_rule (codes "sections") MAX_SECTIONS)
 
 -- `--seed S`, a number of 64 bits
 abbrev pub link_seed_rule : Rule
@@ -19,7 +19,7 @@ turns_rule = number_rule (codes "turns") 18446744073709551615
 
 -- `--settle N`, a number up to the same
 abbrev pub settle_rule : Rule
-settle_rule = number_rule (codes "settle") MOST_SECTIONS
+settle_rule = number_rule (codes "settle") MAX_SECTIONS
 
 -- `--progress`
 abbrev pub progress_rule : Rule

@@ -22,7 +22,7 @@ use Rattle.mx_cli.specs.declared.words.Request.TheVariants as given
 use Rattle.clap.specs.declared.error.Error.{Error}
 use Rattle.clap.specs.declared.error.kind.ErrorKind.{ErrorKind}
 use Rattle.clap.specs.declared.error.kind.ErrorKind.TheVariants.{DisplayHelp, DisplayVersion}
-use Rattle.mx_stamps.specs.declared.limits.TheConstants.{MOST_EVENTS}
+use Rattle.mx_stamps.specs.declared.limits.TheConstants.{MAX_EVENTS}
 
 -- an argument that has to be given
 abbrev pub needed : Rule → Rule
@@ -70,7 +70,7 @@ seed_rule = needed (number_rule (codes "seed") 18446744073709551615)
 
 -- `--steps K`, a number up to that of the most events
 abbrev pub steps_rule : Rule
-steps_rule = needed (number_rule (codes "steps") MOST_EVENTS)
+steps_rule = needed (number_rule (codes "steps") MAX_EVENTS)
 
 -- `--asks`
 abbrev pub asks_rule : Rule

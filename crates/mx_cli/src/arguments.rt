@@ -4,11 +4,11 @@ ghost use Rattle.mx_cli.specs.Words.{IsArgument, events_rule, file_rule, flag_ru
 
 use clap::builder::ValueParser;
 use clap::{Arg, ArgAction};
-use mx_stamps::MOST_EVENTS;
+use mx_stamps::MAX_EVENTS;
 use std::alloc::Global;
 
 /// The greatest number of steps of an exploration.
-const MOST_STEPS: u64 = MOST_EVENTS as u64;
+const MAX_STEPS: u64 = MAX_EVENTS as u64;
 
 /// A file that has to be named.
 pub fn file_arg<'a>(alloc: Global, id: &'a str, help: &'a str) -> Arg<'a>
@@ -71,5 +71,5 @@ pub fn steps_arg<'a>(alloc: Global) -> Arg<'a>
     ensures { IsArgument steps_rule result }
 {
     let help = "How many steps the schedule has, 0 to 1000000";
-    number_arg(alloc, "steps", help, MOST_STEPS).required(true)
+    number_arg(alloc, "steps", help, MAX_STEPS).required(true)
 }

@@ -11,7 +11,7 @@ use crate::help;
 use crate::line::{line_of, matches_in, plan_command, with_arg};
 use crate::words::{is_given, number_at, text_at};
 use clap::{Arg, ArgMatches, Command, Error};
-use mx_stamps::MOST_SECTIONS;
+use mx_stamps::MAX_SECTIONS;
 use std::alloc::{AllocError, Global};
 
 /// The seed, if none is given.
@@ -37,7 +37,7 @@ fn sections_arg<'a>(alloc: Global) -> Arg<'a>
     ensures { IsArgument sections_rule result }
 {
     let help = "How many sections each node is to have, 0 to 1000000";
-    number_arg(alloc, "sections", help, MOST_SECTIONS).required(true)
+    number_arg(alloc, "sections", help, MAX_SECTIONS).required(true)
 }
 
 fn link_seed_arg<'a>(alloc: Global) -> Arg<'a>
@@ -60,7 +60,7 @@ fn settle_arg<'a>(alloc: Global) -> Arg<'a>
 {
     let help =
         "After how many of its sections each node settles its journal, 0 to 1000000; 0 for never";
-    number_arg(alloc, "settle", help, MOST_SECTIONS)
+    number_arg(alloc, "settle", help, MAX_SECTIONS)
 }
 
 fn progress_arg<'a>(alloc: Global) -> Arg<'a>

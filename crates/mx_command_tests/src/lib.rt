@@ -4,8 +4,8 @@
 #![tactic(auto)]
 
 #[cfg(test)]
-mod living;
+mod live_runs;
 #[cfg(test)]
-mod refusing;
+mod refused_outputs;
 #[cfg(test)]
-mod working;
+mod workers;

@@ -8,7 +8,7 @@ use Rattle.mx_explorer.specs.Place.{place_of}
 use Rattle.mx_explorer.specs.declared.verdict.Verdict.{Verdict}
 use Rattle.mx_explorer.specs.declared.verdict.Verdict.TheVariants.{Sound}
 use Rattle.mx_plan.specs.Text.{Text}
-use Rattle.mx_texts.specs.PlanTexts.{explored_line}
+use Rattle.mx_format.specs.PlanTexts.{explored_line}
 use Rattle.mx_commands.specs.Explored.{after_drawn, after_placed}
 use Rattle.mx_commands.specs.VerdictLines.{verdict_line}
 

@@ -14,7 +14,7 @@ use Rattle.mx_member.specs.Steps.{start_of}
 use Rattle.mx_network.specs.Step.{ClusterState, step_of, at_part, at_member, part_of, grown, answer_of, IsFaultOf, NamesNoNode}
 use Rattle.mx_events.specs.declared.event.Event.{Event}
 use Rattle.mx_events.specs.declared.event.Event.TheVariants as event
-use Rattle.mx_sections.specs.declared.outcome.Outcome.{Outcome}
+use Rattle.mx_trace.specs.declared.outcome.Outcome.{Outcome}
 use Rattle.mx_network.specs.declared.faults.StepFault.{StepFault}
 use Rattle.mx_network.specs.declared.faults.StepFault.TheVariants as step_fault
 use Rattle.mx_plan.specs.Text.{Text}
@@ -25,8 +25,8 @@ use Rattle.mx_cli.specs.declared.faults.Fault.{Fault}
 use Rattle.mx_cli.specs.declared.faults.Fault.TheVariants.{NoParcel}
 use Rattle.mx_io.specs.declared.output.OutputFault.{OutputFault}
 use Rattle.mx_io.specs.declared.output.OutputFault.TheVariants as output_fault
-use Rattle.mx_texts.specs.EventTexts.{event_line}
-use Rattle.mx_texts.specs.ParcelTexts.{parcel_lines}
+use Rattle.mx_format.specs.EventTexts.{event_line}
+use Rattle.mx_format.specs.ParcelTexts.{parcel_lines}
 use Rattle.mx_cli.proofs.OutputLemmas.{some_keeps}
 use Rattle.mx_commands.specs.Runs.{Report, at_rest, after_texts, closing_text, whole, ends_with, event_lines, text_of, stepped, run_from, NamesNodes, AllNameNodes}
 use Rattle.mx_io.specs.Outputs.{Held, refused_by}

@@ -8,9 +8,9 @@ use Rattle.mx_raymond.specs.Step.{raymond_core}
 use Rattle.mx_network.specs.Step.{ClusterState, step_of}
 use Rattle.mx_events.specs.declared.event.Event.{Event}
 use Rattle.mx_network.specs.declared.faults.StepFault.{StepFault}
-use Rattle.mx_sections.specs.declared.outcome.Entry.{Entry}
-use Rattle.mx_sections.specs.declared.outcome.Outcome.{Outcome}
-use Rattle.mx_sections.specs.declared.outcome.Outcome.TheVariants.{Entered}
+use Rattle.mx_trace.specs.declared.outcome.Entry.{Entry}
+use Rattle.mx_trace.specs.declared.outcome.Outcome.{Outcome}
+use Rattle.mx_trace.specs.declared.outcome.Outcome.TheVariants.{Entered}
 use Rattle.mx_explorer.specs.Drawn.{drawn_list}
 use Rattle.mx_explorer.specs.Place.{place_of}
 use Rattle.mx_explorer.specs.Weather.{generator_of}
@@ -19,7 +19,7 @@ use Rattle.mx_plan.specs.Text.{Text}
 use Rattle.mx_plan.specs.Fields.{Fields}
 use Rattle.mx_plan.specs.declared.shape.Shape.{Shape}
 use Rattle.mx_plan.specs.declared.shape.Shape.TheVariants.{Ricart, Maekawa, Raymond}
-use Rattle.mx_texts.specs.PlanTexts.{explored_line}
+use Rattle.mx_format.specs.PlanTexts.{explored_line}
 use Rattle.mx_commands.specs.Runs.{at_rest}
 use Rattle.mx_commands.specs.VerdictLines.{verdict_line}
 

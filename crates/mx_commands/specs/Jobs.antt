@@ -11,9 +11,9 @@ use Rattle.mx_plan.specs.Events.{events_at}
 use Rattle.mx_plan.specs.declared.faults.PlanFault.{PlanFault}
 use Rattle.mx_plan.specs.declared.shape.Shape.{Shape}
 use Rattle.mx_plan.specs.declared.shape.Shape.TheVariants.{Ricart, Maekawa, Raymond}
-use Rattle.mx_texts.specs.LetterTexts.{ricart_text, maekawa_text, raymond_text}
-use Rattle.mx_texts.specs.PlanTexts.{plan_text}
-use Rattle.mx_texts.specs.AskTexts.{plan_asks_text}
+use Rattle.mx_format.specs.LetterTexts.{ricart_text, maekawa_text, raymond_text}
+use Rattle.mx_format.specs.PlanTexts.{plan_text}
+use Rattle.mx_format.specs.AskTexts.{plan_asks_text}
 use Rattle.mx_cli.specs.declared.faults.Fault.TheVariants.{CannotRead}
 use Rattle.mx_cli.specs.declared.faults.Named.TheVariants.{Plan, Events}
 use Rattle.mx_cli.specs.Reading.{fault_of, IsRead, plan_told, text_told}

@@ -7,16 +7,16 @@ use Rattle.mx_network.specs.Step.{ClusterState, step_of}
 use Rattle.mx_events.specs.declared.event.Event.{Event}
 use Rattle.mx_events.specs.declared.event.Event.TheVariants.{Ask, Enter, Read, Write, Leave, Cancel, Tick, Want, Settle, Restart, Deliver}
 use Rattle.mx_network.specs.declared.faults.StepFault.{StepFault}
-use Rattle.mx_sections.specs.declared.outcome.Entry.{Entry}
+use Rattle.mx_trace.specs.declared.outcome.Entry.{Entry}
 use Rattle.mx_plan.specs.Text.{Text}
 use Rattle.mx_plan.specs.Fields.{Fields}
 use Rattle.mx_cli.specs.declared.faults.Fault.{Fault}
 use Rattle.mx_cli.specs.declared.faults.Fault.TheVariants.{NoParcel}
-use Rattle.mx_texts.specs.EventTexts.{event_line}
-use Rattle.mx_texts.specs.Lines.{texts_from}
-use Rattle.mx_texts.specs.ParcelTexts.{parcel_lines}
+use Rattle.mx_format.specs.EventTexts.{event_line}
+use Rattle.mx_format.specs.Lines.{texts_from}
+use Rattle.mx_format.specs.ParcelTexts.{parcel_lines}
 use Rattle.mx_explorer.specs.declared.verdict.Verdict.TheVariants.{Sound}
-use Rattle.mx_texts.specs.NodeTexts.{node_lines}
+use Rattle.mx_format.specs.NodeTexts.{node_lines}
 use Rattle.mx_commands.specs.VerdictLines.{verdict_line}
 
 -- the texts in order, and the fault that ends the run, if one does

@@ -1,16 +1,16 @@
 //! The lines of a cluster: those of its nodes, and those of the parcels that it sent.
 
 ghost use Rattle.std.specs.Prelude.{◌≡◌, ◌+◌, ◌<◌, ◌≤◌, ◌++◌, length, drop, string_bytes, OnOk};
-ghost use Rattle.mx_texts.specs.LetterTexts.{letter_text};
-ghost use Rattle.mx_texts.specs.NodeTexts.{member_line, node_lines};
-ghost use Rattle.mx_texts.specs.ParcelTexts.{parcel_lines};
-ghost use Rattle.mx_texts.specs.Lines.{texts_from};
+ghost use Rattle.mx_format.specs.LetterTexts.{letter_text};
+ghost use Rattle.mx_format.specs.NodeTexts.{member_line, node_lines};
+ghost use Rattle.mx_format.specs.ParcelTexts.{parcel_lines};
+ghost use Rattle.mx_format.specs.Lines.{texts_from};
 
+use mx_format::{Letter, add_member_line, add_parcel_line};
 use mx_network::Cluster;
 use mx_nodelaws::Exclusion;
 use mx_plan::Plan;
-use mx_stamps::{MOST_NODES, NodeId};
-use mx_texts::{Letter, add_member_line, add_parcel_line};
+use mx_stamps::{MAX_NODES, NodeId};
 use std::alloc::AllocError;
 
 /// Appends the line of each node.
@@ -36,7 +36,7 @@ fn add_member<C: Exclusion>(
     index: u8,
     text: &mut String,
 ) -> Result<(), AllocError>
-    requires few { index < MOST_NODES }
+    requires few { index < MAX_NODES }
     requires there { index < length cluster.now.members }
     ensures { OnOk result (string_bytes text.old
         ++ texts_from (member_line C.core plan.now) index (drop index cluster.now.members)

@@ -1,18 +1,18 @@
 //! The commands of `mx`, over any source of named bytes and any two outputs.
 #![tactic(auto)]
 
-mod checking;
+mod check_plan;
 mod cluster_lines;
-mod commanding;
-mod exploring;
-mod replaying;
-mod running;
+mod command_line;
+mod exploration;
+mod replays;
+mod runs;
 mod shapes;
 mod verdicts;
 
-pub use checking::print;
+pub use check_plan::print;
 pub use cluster_lines::add_nodes;
-pub use commanding::{carry_out, command, names_in};
-pub use exploring::{entries_in, happen};
-pub use running::{add_closing, start, step};
+pub use command_line::{carry_out, command, names_in};
+pub use exploration::{entries_in, happen};
+pub use runs::{add_closing, start, step};
 pub use verdicts::{VerdictLine, verdict_status};

@@ -8,11 +8,11 @@ use Rattle.mx_nodelaws.specs.Core.{Core}
 use Rattle.mx_events.specs.declared.event.Event.{Event}
 use Rattle.mx_member.specs.declared.parcel.Parcel.{Parcel}
 use Rattle.mx_network.specs.Step.{ClusterState}
-use Rattle.mx_sections.specs.declared.outcome.Entry.{Entry}
+use Rattle.mx_trace.specs.declared.outcome.Entry.{Entry}
 use Rattle.mx_explorer.specs.declared.verdict.Verdict.{Verdict}
 use Rattle.mx_explorer.specs.declared.verdict.Verdict.TheVariants.{Sound}
 use Rattle.mx_plan.specs.Text.{Text}
-use Rattle.mx_texts.specs.Lines.{each_text}
+use Rattle.mx_format.specs.Lines.{each_text}
 use Rattle.mx_cli.specs.declared.faults.Stop.{Stop}
 use Rattle.mx_commands.specs.Explored.{is_entry}
 use Rattle.mx_commands.specs.VerdictLines.{verdict_line}
@@ -20,7 +20,7 @@ use Rattle.mx_commands.proofs.ExploreLemmas.{with_verdict}
 use Rattle.mx_count.specs.Counted.{AddsCounts, Leads, counts_text, first_text}
 use Rattle.mx_count.specs.Counts.{longest_wait, parcels_text, refusals_text, share_text, tallies_text, tally_line}
 use Rattle.mx_count.specs.Kinds.{is_under, letter_names, names_with, other_names, refusal_names}
-use Rattle.mx_count.specs.declared.running.Course.{Course}
+use Rattle.mx_count.specs.declared.counted_run.Course.{Course}
 
 -- one text after another
 joined : (t t1 t2 a b : Text) → t1 ≡ t ++ a → t2 ≡ t1 ++ b → t2 ≡ t ++ (a ++ b)

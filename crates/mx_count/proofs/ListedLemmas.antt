@@ -12,8 +12,8 @@ use Rattle.mx_commands.specs.Ran.{Ran}
 use Rattle.mx_commands.specs.Runs.{whole}
 use Rattle.mx_count.specs.Counted.{AddsCountsBy}
 use Rattle.mx_count.specs.Listed.{PrintsCountsOf, PrintsListed}
-use Rattle.mx_count.specs.declared.running.Course.{Course}
-use Rattle.mx_count.specs.declared.running.Course.TheVariants.{Given}
+use Rattle.mx_count.specs.declared.counted_run.Course.{Course}
+use Rattle.mx_count.specs.declared.counted_run.Course.TheVariants.{Given}
 
 -- a text that was printed whole, and is the counts
 pub counts_printed : (course : Course) (p : Fields) (es : List Event) (takes : Bool) (a b : Held) (empty text bytes : Text) (r : Result ℕ Stop) → empty ≡ []

@@ -12,8 +12,8 @@ use Rattle.mx_io.specs.Outputs.{Held}
 use Rattle.mx_io.specs.Told.{Telling}
 use Rattle.mx_cli.proofs.OutputLemmas.{Appends-keeps}
 use Rattle.mx_count.specs.Listed.{AreEventsOf, Lists, PrintsCountsOf, PrintsListed}
-use Rattle.mx_count.specs.declared.running.Course.{Course}
-use Rattle.mx_count.specs.declared.running.Course.TheVariants.{Drawn}
+use Rattle.mx_count.specs.declared.counted_run.Course.{Course}
+use Rattle.mx_count.specs.declared.counted_run.Course.TheVariants.{Drawn}
 use Rattle.mx_count.specs.CountWords.{Request, given, drawn}
 use Rattle.mx_count.specs.Printed.{PrintsCounts, course_of}
 

@@ -12,14 +12,14 @@ use Rattle.mx_plan.specs.Text.{Text}
 use Rattle.mx_plan.specs.Fields.{Fields}
 use Rattle.mx_plan.specs.declared.shape.Shape.{Shape}
 use Rattle.mx_plan.specs.declared.shape.Shape.TheVariants.{Ricart, Maekawa, Raymond}
-use Rattle.mx_texts.specs.Parts.{maekawa_parts, maekawa_words, raymond_parts, raymond_words, ricart_parts, ricart_words, word_by}
-use Rattle.mx_texts.specs.PlanTexts.{explored_line}
+use Rattle.mx_format.specs.Parts.{maekawa_parts, maekawa_words, raymond_parts, raymond_words, ricart_parts, ricart_words, word_by}
+use Rattle.mx_format.specs.PlanTexts.{explored_line}
 use Rattle.mx_commands.specs.Explored.{after_drawn, is_entry}
 use Rattle.mx_commands.specs.Runs.{at_rest}
 use Rattle.mx_commands.specs.VerdictLines.{verdict_line}
 use Rattle.mx_count.specs.Counts.{head_text, tallies_text}
-use Rattle.mx_count.specs.declared.running.Course.{Course}
-use Rattle.mx_count.specs.declared.running.Course.TheVariants.{Given, Drawn}
+use Rattle.mx_count.specs.declared.counted_run.Course.{Course}
+use Rattle.mx_count.specs.declared.counted_run.Course.TheVariants.{Given, Drawn}
 
 -- how many events, sections and parcels there are, as `count` and as `explore` has them
 abbrev pub first_text : Course → ℕ → ℕ → ℕ → Text

@@ -5,11 +5,11 @@ use Rattle.mx_member.specs.declared.parcel.Parcel.{Parcel}
 use Rattle.mx_network.specs.Step.{ClusterState}
 use Rattle.mx_events.specs.declared.event.Event.{Event}
 use Rattle.mx_events.specs.declared.event.Event.TheVariants.{Enter, Cancel}
-use Rattle.mx_sections.specs.declared.outcome.Entry.{Entry}
-use Rattle.mx_sections.specs.declared.outcome.Outcome.{Outcome}
-use Rattle.mx_sections.specs.declared.outcome.Outcome.TheVariants.{Asked, Refused}
+use Rattle.mx_trace.specs.declared.outcome.Entry.{Entry}
+use Rattle.mx_trace.specs.declared.outcome.Outcome.{Outcome}
+use Rattle.mx_trace.specs.declared.outcome.Outcome.TheVariants.{Asked, Refused}
 use Rattle.mx_plan.specs.Text.{Text, line_feed}
-use Rattle.mx_texts.specs.Lines.{each_text}
+use Rattle.mx_format.specs.Lines.{each_text}
 use Rattle.mx_count.specs.Kinds.{is_refused_under, is_under, names_with, refusal_names}
 
 -- a name and its count

@@ -3,9 +3,9 @@ use Rattle.std.specs.Prelude.{ℕ, ◌||◌, Bool, false, List, [], ◌∷◌, �
 use Rattle.std.specs.Str.{bytes_eq}
 use Rattle.mx_member.specs.declared.parcel.Parcel.{Parcel}
 use Rattle.mx_member.specs.declared.parcel.Parcel.TheVariants as parcel
-use Rattle.mx_sections.specs.Causes.{cause_words}
-use Rattle.mx_sections.specs.declared.outcome.Outcome.{Outcome}
-use Rattle.mx_sections.specs.declared.outcome.Outcome.TheVariants.{Refused}
+use Rattle.mx_trace.specs.Causes.{cause_words}
+use Rattle.mx_trace.specs.declared.outcome.Outcome.{Outcome}
+use Rattle.mx_trace.specs.declared.outcome.Outcome.TheVariants.{Refused}
 use Rattle.mx_plan.specs.Text.{Text}
 
 -- a letter counts under `letters` and under its kind, unless a node sent it to itself; a parcel of

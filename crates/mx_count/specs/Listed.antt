@@ -8,8 +8,8 @@ use Rattle.mx_plan.specs.Events.{events_at}
 use Rattle.mx_io.specs.Outputs.{Held}
 use Rattle.mx_io.specs.Told.{Telling}
 use Rattle.mx_count.specs.Counted.{AddsCountsBy}
-use Rattle.mx_count.specs.declared.running.Course.{Course}
-use Rattle.mx_count.specs.declared.running.Course.TheVariants.{Given}
+use Rattle.mx_count.specs.declared.counted_run.Course.{Course}
+use Rattle.mx_count.specs.declared.counted_run.Course.TheVariants.{Given}
 
 -- the counts of a cluster to which the events lead were printed, by the plan's algorithm, and
 -- nothing else

@@ -8,8 +8,8 @@ use Rattle.mx_cli.specs.Reading.{IsPlanOf, plan_told, text_told}
 use Rattle.mx_io.specs.Outputs.{Held}
 use Rattle.mx_io.specs.Told.{Telling}
 use Rattle.mx_count.specs.Listed.{AreEventsOf, PrintsCountsOf}
-use Rattle.mx_count.specs.declared.running.Course.{Course}
-use Rattle.mx_count.specs.declared.running.Course.TheVariants.{Given, Drawn}
+use Rattle.mx_count.specs.declared.counted_run.Course.{Course}
+use Rattle.mx_count.specs.declared.counted_run.Course.TheVariants.{Given, Drawn}
 use Rattle.mx_count.specs.CountWords.{Request, given, drawn}
 
 -- the plan and the events that the words ask for: those that the source tells of, or the schedule

@@ -2,12 +2,12 @@
 
 ghost use Rattle.std.specs.Prelude.{◌≡◌, ◌||◌, map};
 ghost use Rattle.std.specs.Str.{bytes_eq};
-ghost use Rattle.mx_texts.specs.Parts.{word_by};
+ghost use Rattle.mx_format.specs.Parts.{word_by};
 ghost use Rattle.mx_count.specs.Kinds.{is_refused_under, is_under, letter_names, other_names, refusal_names};
 
+use mx_format::Letter;
 use mx_member::{Parcel, SentParcel};
 use mx_network::Outcome;
-use mx_texts::Letter;
 
 /// The name of all letters that went from one node to another, in whose first line their count is.
 pub(crate) fn letter_names() -> &'static [&'static str]

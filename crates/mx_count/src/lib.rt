@@ -2,16 +2,16 @@
 //! and why they refused, and how long they waited.
 #![tactic(auto)]
 
+mod count_command;
 mod count_lines;
-mod counting;
+mod counted_run;
 mod help;
 mod kinds;
 mod parcel_counts;
-mod printing;
+mod printed_counts;
 mod refusal_counts;
-mod running;
 mod waits;
 mod words;
 
-pub use counting::count;
-pub use running::Course;
+pub use count_command::count;
+pub use counted_run::Course;

@@ -2,15 +2,15 @@
 
 ghost use Rattle.std.specs.Prelude.{◌≡◌, ◌+◌, ◌<◌, ◌++◌, OnOk, drop, length, string_bytes, map};
 ghost use Rattle.std.specs.List.{count_by};
-ghost use Rattle.mx_texts.specs.Parts.{word_by};
+ghost use Rattle.mx_format.specs.Parts.{word_by};
 ghost use Rattle.mx_count.specs.Counts.{parcels_text};
 ghost use Rattle.mx_count.specs.Kinds.{is_under, names_with};
 
 use crate::count_lines::TallyLine;
 use crate::kinds::{is_under, letter_names, other_names};
+use mx_format::Letter;
 use mx_network::Cluster;
 use mx_nodelaws::Exclusion;
-use mx_texts::Letter;
 use std::alloc::AllocError;
 
 /// Appends a line for each name under which parcels are counted.

@@ -12,7 +12,7 @@ use Rattle.mx_cli.proofs.OutputLemmas.{Appends-keeps, Appends-nil, Keeps-refl}
 use Rattle.mx_scripts.specs.declared.halts.Halt.{Halt}
 use Rattle.mx_scripts.specs.declared.halts.Halt.TheVariants as halt
 use Rattle.mx_scripts.specs.Ended.{ClosesScript}
-use Rattle.mx_diagnosis.specs.Reports.{AreShown, last_line, nothing_at_fault}
+use Rattle.mx_diagnostics.specs.Reports.{AreShown, last_line, nothing_at_fault}
 use Rattle.mx_explain.specs.Explained.{Prints, PrintsReport, TellsLines}
 
 -- ---- what is printed

@@ -7,7 +7,7 @@ ghost use Rattle.mx_cli.specs.Closed.{IsRunStatus, PassesOn};
 ghost use Rattle.mx_commands.specs.Ran.{RanOf};
 ghost use Rattle.mx_explain.specs.Asked.{explain_line, matter_of, request_asked};
 ghost use Rattle.mx_explain.specs.Explained.{Explains, ExplainsMatter, FailsToPrint, Prints, PrintsReport, TellsLines};
-ghost use Rattle.mx_diagnosis.specs.Reports.{has_fault};
+ghost use Rattle.mx_diagnostics.specs.Reports.{has_fault};
 ghost use Rattle.std.specs.Io.KnownBytes.{Keeps};
 
 use crate::asking::{Matter, asked};
@@ -16,7 +16,7 @@ use crate::reasons::Reasons;
 use crate::scripts::explain_script;
 use mx_cli::{Fault, Request, Stop, close, refuse};
 use mx_commands::{carry_out, names_in};
-use mx_diagnosis::Report;
+use mx_diagnostics::Report;
 use mx_io::{Output, OutputFault, Source};
 use std::alloc::{AllocError, Global};
 

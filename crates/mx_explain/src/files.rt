@@ -1,12 +1,12 @@
 //! What is wrong in the files that a check, a replay or a script reads.
 
-ghost use Rattle.mx_diagnosis.specs.Reports.{IsLonger};
+ghost use Rattle.mx_diagnostics.specs.Reports.{IsLonger};
 
 use crate::reasons::Reasons;
 use crate::runs::explain_run;
 use crate::script_runs::explain_script_run;
 use mx_cli::{Fault, Names, Request, are_dashes, split_line};
-use mx_diagnosis::{
+use mx_diagnostics::{
     FileReport, Report, Unreadable, explain_event_text, explain_plan_text, explain_script_text,
 };
 use mx_io::{Source, SourceFault};

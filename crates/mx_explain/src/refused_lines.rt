@@ -1,6 +1,6 @@
 //! Why a line of a script is refused once it is done.
 
-use mx_diagnosis::FileReport;
+use mx_diagnostics::FileReport;
 use mx_scripts::BadLine;
 use std::alloc::AllocError;
 use std::fmt;

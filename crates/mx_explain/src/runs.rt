@@ -1,17 +1,17 @@
 //! The warnings of a run of events: which are refused, and which parcel was not sent.
 
-ghost use Rattle.mx_diagnosis.specs.Reports.{IsLonger};
+ghost use Rattle.mx_diagnostics.specs.Reports.{IsLonger};
 
 use mx_commands::by_shape;
-use mx_diagnosis::{FileReport, Report};
+use mx_diagnostics::{FileReport, Report};
 use mx_events::Event;
+use mx_format::{EventText, OutcomeText, add_facts_line};
 use mx_knowledge::Knowledge;
 use mx_network::{Cluster, StepFault};
 use mx_nodelaws::Exclusion;
 use mx_plan::{Plan, read_events, read_plan};
-use mx_sections::{Cause, Outcome};
 use mx_stamps::NodeId;
-use mx_texts::{EventText, OutcomeText, add_facts_line};
+use mx_trace::{Cause, Outcome};
 use std::alloc::{AllocError, Global};
 use std::fmt;
 

@@ -4,16 +4,16 @@
 use crate::refused_lines::explain_refused;
 use crate::runs::refusal;
 use mx_commands::by_shape;
-use mx_diagnosis::FileReport;
+use mx_diagnostics::FileReport;
+use mx_format::{Letter, add_parcel_line};
 use mx_knowledge::Knowledge;
 use mx_lines::{Line, LineFault, Order, Scope, read_line, words_in};
 use mx_network::{Cluster, Event, StepFault};
 use mx_nodelaws::Exclusion;
 use mx_plan::{Plan, read_plan};
 use mx_scripts::{BadLine, Mail};
-use mx_sections::{Cause, Outcome};
-use mx_stamps::{MOST_EVENTS, NodeId};
-use mx_texts::{Letter, add_parcel_line};
+use mx_stamps::{MAX_EVENTS, NodeId};
+use mx_trace::{Cause, Outcome};
 use std::alloc::{AllocError, Global};
 
 /// Warns of each event of a script that is refused, and tells of the line that can't be done. The
@@ -171,7 +171,7 @@ fn deliver_all<C: Exclusion + Knowledge>(
     number: u64,
     scope: &Scope,
 ) -> Result<bool, AllocError> {
-    for _ in 0..MOST_EVENTS {
+    for _ in 0..MAX_EVENTS {
         let parcel = mail.next_to_arrive(cluster, scope);
         if parcel.is_none() {
             return Ok(true);
@@ -227,7 +227,7 @@ fn happen<C: Exclusion + Knowledge>(
     number: u64,
     event: &Event,
 ) -> Result<bool, AllocError> {
-    if cluster.trace().len() >= MOST_EVENTS || !mail.can_pass(event, cluster) {
+    if cluster.trace().len() >= MAX_EVENTS || !mail.can_pass(event, cluster) {
         return Ok(false);
     }
     let outcome = match cluster.step(*event) {

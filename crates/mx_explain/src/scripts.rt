@@ -4,7 +4,7 @@ ghost use Rattle.std.specs.Prelude.{◌≡◌, ◌&&◌, ◌||◌, Bool, IfErr, 
 ghost use Rattle.std.specs.Io.KnownBytes.{Keeps};
 ghost use Rattle.mx_cli.specs.Closed.{IsRunStatus, PassesOn};
 ghost use Rattle.mx_cli.specs.Words.{names_of};
-ghost use Rattle.mx_diagnosis.specs.Reports.{has_fault};
+ghost use Rattle.mx_diagnostics.specs.Reports.{has_fault};
 ghost use Rattle.mx_explain.specs.Explained.{FailsToPrint, Prints, PrintsReport, TellsLines};
 ghost use Rattle.mx_scripts.specs.Ended.{EndsScript, ScriptsOf};
 
@@ -12,7 +12,7 @@ use crate::explaining::put_report;
 use crate::files::{Second, explain_both, shape_fault_in};
 use crate::reasons::Reasons;
 use mx_cli::{Fault, Names, Stop};
-use mx_diagnosis::Report;
+use mx_diagnostics::Report;
 use mx_io::{Output, Source};
 use mx_scripts::{BadLine, Halt, close_script, file_of_names};
 use std::alloc::{AllocError, Global};

@@ -5,8 +5,8 @@ use Rattle.mx_stamps.proofs.Lists.{none_is_no_some}
 use Rattle.mx_journal.proofs.Choices.{cond_true, eq_is}
 use Rattle.mx_journal.specs.declared.receipts.Receipt.{Receipt}
 use Rattle.mx_registers.specs.Registers.{applied}
-use Rattle.mx_sections.specs.Sections.{Mark, Came, Got, Wrote, Went, Woke, Section, writes_in}
-use Rattle.mx_sections.specs.Serial.{AllClosed, Alternate, Fits, IsInNewest}
+use Rattle.mx_trace.specs.Sections.{Mark, Came, Got, Wrote, Went, Woke, Section, writes_in}
+use Rattle.mx_trace.specs.Serial.{AllClosed, Alternate, Fits, IsInNewest}
 use Rattle.mx_explorer.specs.declared.verdict.Clause.{Clause}
 use Rattle.mx_explorer.specs.declared.verdict.Clause.TheVariants.{Overlap, Number, Read}
 use Rattle.mx_explorer.specs.Ledger.{at_entry, broken_by, holder, is_node, older}

@@ -3,14 +3,14 @@ use Rattle.std.proofs.Common.{ℕ, zero, suc, ◌≡◌, ◌↔◌, ◌+◌, ◌
 use Rattle.std.proofs.lemmas.List.{drop_all}
 use Rattle.mx_stamps.proofs.Lists.{none_is_no_some}
 use Rattle.mx_journal.proofs.Choices.{drop_here}
-use Rattle.mx_sections.specs.Sections.{Mark, Section, after_marks}
-use Rattle.mx_sections.specs.Serial.{AllClosed, AllFit}
+use Rattle.mx_trace.specs.Sections.{Mark, Section, after_marks}
+use Rattle.mx_trace.specs.Serial.{AllClosed, AllFit}
 use Rattle.mx_events.specs.declared.event.Event.{Event}
 use Rattle.mx_events.specs.declared.event.Event.TheVariants.{Enter, Read, Write, Leave, Restart}
-use Rattle.mx_sections.specs.declared.outcome.Outcome.{Outcome}
-use Rattle.mx_sections.specs.declared.outcome.Outcome.TheVariants.{Entered, Value, Written, Left, Woken}
-use Rattle.mx_sections.specs.declared.outcome.Entry.{Entry}
-use Rattle.mx_sections.specs.Trace.{mark_of, marks, IsSerial}
+use Rattle.mx_trace.specs.declared.outcome.Outcome.{Outcome}
+use Rattle.mx_trace.specs.declared.outcome.Outcome.TheVariants.{Entered, Value, Written, Left, Woken}
+use Rattle.mx_trace.specs.declared.outcome.Entry.{Entry}
+use Rattle.mx_trace.specs.Trace.{mark_of, marks, IsSerial}
 use Rattle.mx_explorer.specs.declared.verdict.Clause.{Clause}
 use Rattle.mx_explorer.specs.declared.verdict.Clause.TheVariants.{Overlap, Number, Read as Reads}
 use Rattle.mx_explorer.specs.declared.verdict.Verdict.{Verdict}

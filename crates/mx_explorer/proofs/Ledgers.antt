@@ -6,8 +6,8 @@ use Rattle.mx_journal.proofs.Choices.{cond_true, cond_false, eq_is, eq_not}
 use Rattle.mx_journal.specs.declared.records.Write.{Write}
 use Rattle.mx_journal.specs.Drafted.{with_write}
 use Rattle.mx_registers.specs.Registers.{applied}
-use Rattle.mx_sections.specs.Sections.{Section, at_open, redrafted, writes_in}
-use Rattle.mx_sections.specs.Serial.{AllClosed}
+use Rattle.mx_trace.specs.Sections.{Section, at_open, redrafted, writes_in}
+use Rattle.mx_trace.specs.Serial.{AllClosed}
 use Rattle.mx_explorer.specs.declared.ledger.Ledger.{Ledger}
 use Rattle.mx_explorer.specs.Ledger.{IsLedgerOf, Shows, holder, is_node, older}
 

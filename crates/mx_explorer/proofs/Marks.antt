@@ -4,8 +4,8 @@ use Rattle.mx_stamps.proofs.Lists.{and_true}
 use Rattle.mx_journal.proofs.Choices.{eq_true}
 use Rattle.mx_journal.specs.Drafted.{Drafted, with_read, with_write, fresh}
 use Rattle.mx_registers.specs.Registers.{applied}
-use Rattle.mx_sections.specs.Sections.{Mark, Came, Got, Wrote, Went, Woke, Section, after_marks, at_open, closing, redrafted, writes_in}
-use Rattle.mx_sections.specs.Serial.{AllClosed, Alternate, IsInNewest, NumberedFrom}
+use Rattle.mx_trace.specs.Sections.{Mark, Came, Got, Wrote, Went, Woke, Section, after_marks, at_open, closing, redrafted, writes_in}
+use Rattle.mx_trace.specs.Serial.{AllClosed, Alternate, IsInNewest, NumberedFrom}
 use Rattle.mx_explorer.specs.declared.verdict.Clause.{Clause}
 use Rattle.mx_explorer.specs.declared.verdict.Clause.TheVariants.{Overlap, Number, Read}
 use Rattle.mx_explorer.specs.Verdict.{ReadsFit}

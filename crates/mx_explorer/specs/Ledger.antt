@@ -2,8 +2,8 @@
 use Rattle.std.specs.Prelude.{ℕ, suc, ◌≡◌, ◌<◌, ◌&&◌, Bool, false, List, [], ◌∷◌, Option, Some, None, length, nat_eq, slice_index, if◌then◌else◌}
 use Rattle.mx_journal.specs.declared.records.Write.{Write}
 use Rattle.mx_registers.specs.Registers.{applied}
-use Rattle.mx_sections.specs.Sections.{Mark, Came, Got, Wrote, Went, Woke, Section, after_marks, writes_in}
-use Rattle.mx_sections.specs.Serial.{AllClosed}
+use Rattle.mx_trace.specs.Sections.{Mark, Came, Got, Wrote, Went, Woke, Section, after_marks, writes_in}
+use Rattle.mx_trace.specs.Serial.{AllClosed}
 use Rattle.mx_explorer.specs.declared.ledger.Ledger.{Ledger}
 use Rattle.mx_explorer.specs.declared.verdict.Clause.{Clause}
 use Rattle.mx_explorer.specs.declared.verdict.Clause.TheVariants.{Overlap, Number, Read}

@@ -1,10 +1,10 @@
 -- Sound traces, and where a trace is first broken.
 use Rattle.std.specs.Prelude.{ℕ, suc, ◌≡◌, List, [], ◌∷◌, take}
 use Rattle.mx_registers.specs.Registers.{applied}
-use Rattle.mx_sections.specs.Sections.{Mark, Came, Got, Wrote, Went, Woke, Section, after_mark, writes_in}
-use Rattle.mx_sections.specs.Serial.{IsInNewest}
-use Rattle.mx_sections.specs.declared.outcome.Entry.{Entry}
-use Rattle.mx_sections.specs.Trace.{IsExclusive, IsNumbered, marks}
+use Rattle.mx_trace.specs.Sections.{Mark, Came, Got, Wrote, Went, Woke, Section, after_mark, writes_in}
+use Rattle.mx_trace.specs.Serial.{IsInNewest}
+use Rattle.mx_trace.specs.declared.outcome.Entry.{Entry}
+use Rattle.mx_trace.specs.Trace.{IsExclusive, IsNumbered, marks}
 use Rattle.mx_explorer.specs.declared.verdict.Clause.{Clause}
 use Rattle.mx_explorer.specs.declared.verdict.Clause.TheVariants.{Overlap, Number, Read}
 

@@ -1,14 +1,14 @@
 //! What the judge remembers of the items before.
 
 ghost use Rattle.std.specs.Prelude.{◌≡◌, ◌∷◌, [], None, Option};
-ghost use Rattle.mx_sections.specs.Sections.{Came, Got, Wrote, Went, Woke};
-ghost use Rattle.mx_sections.specs.Trace.{mark_of};
+ghost use Rattle.mx_trace.specs.Sections.{Came, Got, Wrote, Went, Woke};
+ghost use Rattle.mx_trace.specs.Trace.{mark_of};
 ghost use Rattle.mx_explorer.specs.Ledger.{IsLedgerOf, Takes, is_node};
 
 use crate::verdict::Clause;
 use mx_journal::Receipt;
-use mx_sections::{Entry, Event, Outcome};
 use mx_stamps::NodeId;
+use mx_trace::{Entry, Event, Outcome};
 
 /// How many registers an event can name.
 const REGISTERS: usize = 256;

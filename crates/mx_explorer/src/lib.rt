@@ -1,15 +1,15 @@
 //! Judges traces, draws schedules of events, and draws the fates of parcels (the weather).
 #![tactic(auto)]
 
-mod drawing;
-mod judging;
+mod judgement;
 mod ledger;
-mod placing;
+mod places;
+mod schedules;
 mod verdict;
 mod weather;
 
-pub use drawing::schedule;
-pub use judging::judge;
-pub use placing::place;
+pub use judgement::judge;
+pub use places::place;
+pub use schedules::schedule;
 pub use verdict::{Clause, Verdict};
 pub use weather::Weather;

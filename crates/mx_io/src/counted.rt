@@ -7,7 +7,7 @@ use std::io::{ErrorKind, Read};
 
 /// The greatest number of reads from a file or from standard input. A read may return a single
 /// byte, or none if a signal interrupts it.
-const MOST_READS: u64 = 268_435_456;
+const MAX_READS: u64 = 268_435_456;
 
 /// A reader that allows a limited number of reads. Reads that a signal interrupts count too, so
 /// reading ends for every input.
@@ -24,7 +24,7 @@ impl<R: Read + Drop> Counted<R> {
     {
         Counted {
             inner,
-            left: MOST_READS,
+            left: MAX_READS,
         }
     }
 }

@@ -13,4 +13,4 @@ pub use given::{as_slices, given_words, status_of};
 pub use output::{Output, OutputFault};
 pub use source::{Source, SourceFault, Table};
 pub use stream::Stream;
-pub use streams::{MOST_BYTES, Refusal, Streams, read_name};
+pub use streams::{MAX_BYTES, Refusal, Streams, read_name};

@@ -10,7 +10,7 @@ use std::rt::Files;
 use std::{fs, io};
 
 /// The greatest length, in bytes, of a file or of standard input.
-pub const MOST_BYTES: u64 = 268_435_456;
+pub const MAX_BYTES: u64 = 268_435_456;
 
 /// Why a name cannot be read.
 #[derive(Clone, Copy)]
@@ -68,12 +68,12 @@ pub fn read_name<R: Files + Input>(rt: &R, alloc: Global, name: &str) -> Result<
 /// Returns `Because` if reading fails or there are more bytes, and `Memory` if memory runs out.
 fn read_all<R: Read + Drop>(alloc: Global, reader: R) -> Result<Vec<u8>, Refusal>
     ensures all { IfOk result (λ bytes. IfSome (R.remaining reader) (λ all. bytes.items ≡ all)) }
-    ensures within { IfOk result (λ bytes. length bytes.items ≤ MOST_BYTES) }
+    ensures within { IfOk result (λ bytes. length bytes.items ≤ MAX_BYTES) }
 {
     let mut bytes = Vec::new(alloc);
-    let mut counted = Counted::new(reader.take(MOST_BYTES + 1));
+    let mut counted = Counted::new(reader.take(MAX_BYTES + 1));
     match counted.read_to_end(&mut bytes) {
-        Ok(_) if bytes.len() as u64 > MOST_BYTES => {
+        Ok(_) if bytes.len() as u64 > MAX_BYTES => {
             Err(Refusal::Because("it has more than 268435456 bytes"))
         }
         Ok(_) => Ok(bytes),

@@ -4,7 +4,7 @@ use Rattle.std.proofs.lemmas.List.{append-nil, append_assoc}
 use Rattle.mx_journal.specs.declared.records.Write.{Write as OneWrite}
 use Rattle.mx_journal.specs.declared.receipts.Receipt.{Receipt}
 use Rattle.mx_journal.specs.Drafted.{receipt_of}
-use Rattle.mx_journal.specs.declared.settling.SettleFault.{SettleFault}
+use Rattle.mx_journal.specs.declared.settlement.SettleFault.{SettleFault}
 use Rattle.mx_nodelaws.specs.Core.{Core, KeepsPhases}
 use Rattle.mx_nodelaws.specs.World.{Quiet}
 use Rattle.mx_nodelaws.specs.declared.faults.EnterFault.{EnterFault}

@@ -5,7 +5,7 @@ use Rattle.std.proofs.Math.ListN.{set}
 use Rattle.std.proofs.lemmas.List.{append-nil, get_or-replicate, get_or-set_other, get_or-set_same, length-map, length-replicate, length-set}
 use Rattle.std.proofs.lemmas.Option.{get_or_from_slice_get, slice_get_within}
 use Rattle.mx_stamps.specs.Lists.{IsIn, each_below}
-use Rattle.mx_stamps.specs.declared.limits.TheConstants.{MOST_REGISTERS}
+use Rattle.mx_stamps.specs.declared.limits.TheConstants.{MAX_REGISTERS}
 use Rattle.mx_stamps.proofs.Choices.{bool_cases, eq_false, eq_is, eq_true}
 use Rattle.mx_stamps.proofs.Lists.{has_each_below, in_get, length_each_below}
 use Rattle.mx_journal.specs.declared.records.Write.{Write}
@@ -120,7 +120,7 @@ module _ (count : ℕ) (receipts : List Receipt) (journal : JournalState) (seria
       ∙ ap (λ ws. applied x.register ws 0) (append-nil (writes_to k (map record_of receipts)))
 
   -- what the journal shows
-  pub shown : count ≤ MOST_REGISTERS → contents_of count journal ≡ contents (length receipts)
+  pub shown : count ≤ MAX_REGISTERS → contents_of count journal ≡ contents (length receipts)
   shown few =
       let f = λ (register : ℕ). applied register (writes_to (length receipts) (map record_of receipts)) 0 in
       let size = length_each_below f count in
@@ -154,7 +154,7 @@ module _ (count : ℕ) (receipts : List Receipt) (journal : JournalState) (seria
         (holds_at sections begins k (omega arith)) in
         subst (Holds (suc k)) (sym (step k r e.1)) (subst (λ (n : ℕ). Holds n (after_writes r.writes.items (contents k))) number kept)
 
-    pub holds_shown : AreSections → ((n : ℕ) → Holds 0 (replicate n 0)) → count ≤ MOST_REGISTERS → Holds (length receipts) (contents_of count journal)
+    pub holds_shown : AreSections → ((n : ℕ) → Holds 0 (replicate n 0)) → count ≤ MAX_REGISTERS → Holds (length receipts) (contents_of count journal)
     holds_shown sections begins few = subst (Holds (length receipts)) (sym (shown few)) (holds_at sections begins (length receipts) (omega arith))
 
 module _ {J : Type 0} (AsksFor : J → List ℕ → Type 0) (Makes : J → ℕ → List ℕ → List Write → J → Type 0) (Holds : ℕ → List ℕ → Type 0) (Finished : J → Type 0) (count : ℕ) where
@@ -164,7 +164,7 @@ module _ {J : Type 0} (AsksFor : J → List ℕ → Type 0) (Makes : J → ℕ �
   section_in job (x ∷ rs) after runs r (inr h) = section_in runs.0 rs after runs.2 r h
 
   -- what holds at the end of a run
-  pub law_holds : (jobs : List J) (receipts : List Receipt) (journal : JournalState) (afters : List J) → HaveRun AsksFor Makes Holds Finished count jobs receipts journal afters → ((n : ℕ) → Holds 0 (replicate n 0)) → count ≤ MOST_REGISTERS
+  pub law_holds : (jobs : List J) (receipts : List Receipt) (journal : JournalState) (afters : List J) → HaveRun AsksFor Makes Holds Finished count jobs receipts journal afters → ((n : ℕ) → Holds 0 (replicate n 0)) → count ≤ MAX_REGISTERS
       → Holds (length receipts) (contents_of count journal)
   law_holds jobs receipts journal afters ran begins few =
       holds_shown count receipts journal ran.serial AsksFor Makes Holds

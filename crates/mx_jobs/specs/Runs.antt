@@ -2,7 +2,7 @@
 use Rattle.std.specs.Prelude.{◌≡◌, ◌<◌, ◌≤◌, ◌+◌, ◌==◌, ℕ, Bool, List, [], ◌∷◌, filter, length, map, slice_get, Some}
 use Rattle.atomic_table.specs.Seated.{TableId}
 use Rattle.mx_stamps.specs.Lists.{IsIn}
-use Rattle.mx_stamps.specs.declared.limits.TheConstants.{MOST_REGISTERS}
+use Rattle.mx_stamps.specs.declared.limits.TheConstants.{MAX_REGISTERS}
 use Rattle.mx_journal.specs.declared.records.Write.{Write}
 use Rattle.mx_journal.specs.declared.receipts.Receipt.{Receipt}
 use Rattle.mx_journal.specs.Settled.{JournalState}
@@ -45,7 +45,7 @@ pub record AreNew {H S M : Type 0} (core : Core H S M) (stations : List (Station
   pub origin : ℕ
   pub limit : ℕ
   pub registers : ℕ
-  pub few : registers ≤ MOST_REGISTERS
+  pub few : registers ≤ MAX_REGISTERS
   pub have : registers ≡ registers_at stations
   pub fresh_ones : AreFresh (core.count shape)
       (λ i. start_of core shape i origin limit registers) stations

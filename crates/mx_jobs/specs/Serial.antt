@@ -1,6 +1,6 @@
 -- One serial order of sections.
 use Rattle.std.specs.Prelude.{◌≡◌, ◌↔◌, ℕ, suc, ◌≤◌, List, Some, map, length, slice_get}
-use Rattle.mx_stamps.specs.declared.limits.TheConstants.{MOST_REGISTERS}
+use Rattle.mx_stamps.specs.declared.limits.TheConstants.{MAX_REGISTERS}
 use Rattle.mx_stamps.specs.Lists.{IsIn}
 use Rattle.mx_journal.specs.declared.receipts.Read.{Read}
 use Rattle.mx_journal.specs.declared.receipts.Receipt.{Receipt}
@@ -8,7 +8,7 @@ use Rattle.mx_journal.specs.Drafted.{record_of}
 use Rattle.mx_journal.specs.Settled.{Covers, JournalState, settled, unsettled}
 use Rattle.mx_registers.specs.Based.{registers_in}
 use Rattle.mx_registers.specs.Registers.{AreApplied, writes_to}
-use Rattle.mx_sections.specs.Serial.{IsSerialRead}
+use Rattle.mx_trace.specs.Serial.{IsSerialRead}
 
 -- Receipts and journal are one serial order of sections.
 pub record AreSerial (receipts : List Receipt) (journal : JournalState) : Type 0 where
@@ -24,6 +24,6 @@ pub record AreSerial (receipts : List Receipt) (journal : JournalState) : Type 0
   pub reads : (k : ℕ) (r : Receipt) (x : Read) → slice_get receipts k ≡ Some r
       → IsIn x r.reads.items → IsSerialRead (writes_to k (map record_of receipts)) r.writes.items x
   -- and each register of the journal has what the writes of all receipts, in order, leave
-  pub shows : (count : ℕ) → count ≤ MOST_REGISTERS
+  pub shows : (count : ℕ) → count ≤ MAX_REGISTERS
       → AreApplied (writes_to (length receipts) (map record_of receipts))
       (registers_in count journal)

@@ -1,21 +1,21 @@
 //! What the registers of a journal hold, as a list.
 
 ghost use Rattle.std.specs.Prelude.{◌≡◌, ◌≤◌, get_or, map};
-ghost use Rattle.mx_stamps.specs.declared.limits.TheConstants.{MOST_REGISTERS};
+ghost use Rattle.mx_stamps.specs.declared.limits.TheConstants.{MAX_REGISTERS};
 ghost use Rattle.mx_jobs.specs.Laws.{contents_of, values_in};
 
 use arrayvec::ArrayVec;
 use mx_journal::Journal;
 use mx_registers::{View, view};
-use mx_stamps::MOST_REGISTERS;
+use mx_stamps::MAX_REGISTERS;
 
 /// The greatest number of registers.
-const ROOM: usize = MOST_REGISTERS as usize;
+const ROOM: usize = MAX_REGISTERS as usize;
 
 /// The values of the first `count` registers, in order, 0 for one that no section wrote.
 pub fn contents(journal: &Journal, count: u8) -> ArrayVec<u64, ROOM>
     requires least { 1 ≤ count }
-    requires most { count ≤ MOST_REGISTERS }
+    requires most { count ≤ MAX_REGISTERS }
     ensures { result.items ≡ contents_of count journal.now }
 {
     let view = view(journal, count);

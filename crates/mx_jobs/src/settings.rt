@@ -1,7 +1,7 @@
 //! The stations of a new cluster.
 
 ghost use Rattle.std.specs.Prelude.{◌≡◌, ◌<◌, ◌≤◌, IfOk};
-ghost use Rattle.mx_stamps.specs.declared.limits.TheConstants.{MOST_REGISTERS, MOST_SECTIONS};
+ghost use Rattle.mx_stamps.specs.declared.limits.TheConstants.{MAX_REGISTERS, MAX_SECTIONS};
 ghost use Rattle.mx_member.specs.Steps.{start_of};
 ghost use Rattle.mx_stations.specs.Opened.{AreFresh};
 ghost use Rattle.mx_jobs.specs.Runs.{AreNew, registers_at};
@@ -26,9 +26,9 @@ pub fn stations<C: Exclusion>(
     settings: &Settings,
 ) -> Result<Vec<Station<C>>, AllocError>
     requires low { 0 < settings.now.sections }
-    requires high { settings.now.sections ≤ MOST_SECTIONS }
+    requires high { settings.now.sections ≤ MAX_SECTIONS }
     requires some { 0 < settings.now.registers }
-    requires few { settings.now.registers ≤ MOST_REGISTERS }
+    requires few { settings.now.registers ≤ MAX_REGISTERS }
     ensures new { IfOk result (λ all. AreNew C.core all.items) }
     ensures registers { IfOk result (λ all. registers_at all.items ≡ settings.now.registers) }
     ensures fresh { IfOk result (λ all. AreFresh (C.core.count shape.now)

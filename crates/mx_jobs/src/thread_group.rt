@@ -11,7 +11,7 @@ use std::thread;
 use std::thread::{Promise, PromisedHandle, Threads};
 
 /// How often a worker looks at the most whether all have arrived.
-const MOST_LOOKS: u64 = 100_000_000;
+const MAX_LOOKS: u64 = 100_000_000;
 
 /// Why a thread was not started.
 #[derive(Clone, Copy, Debug, PartialEq, Eq)]
@@ -57,7 +57,7 @@ impl<T: Drop, P: Promise<T> + Drop> ThreadGroup<T, P> {
         requires { nodes < 22 }
         ensures { IfOk result (λ group. group ≡ []) }
     {
-        let gate = Arc::new(alloc, StartGate::new(nodes, MOST_LOOKS))?;
+        let gate = Arc::new(alloc, StartGate::new(nodes, MAX_LOOKS))?;
         Ok(ThreadGroup {
             handles: Vec::new(alloc),
             gate,
@@ -98,7 +98,7 @@ impl<T: Drop, P: Promise<T> + Drop> ThreadGroup<T, P> {
                 ensures { (gate : _) × F.post task gate result }
             {
                 let left = task(&*share);
-                share.note_end();
+                share.finish();
                 left
             },
         );
@@ -151,7 +151,7 @@ impl<T: Drop, P: Promise<T> + Drop> ThreadGroup<T, P> {
                 ensures { (gate : _) × F.post task gate result }
             {
                 let left = task(&*share);
-                share.note_end();
+                share.finish();
                 left
             },
         );

@@ -52,7 +52,7 @@ pub enum Ended {
 /// How far a worker is: whether a section of its job is made and not left yet, which node it asked
 /// last for the records that it lacks, and how long it waits between two turns.
 #[derive(Drop)]
-struct Stance {
+struct WorkerState {
     pending: bool,
     wanted: NodeId,
     patience: Patience,
@@ -85,7 +85,7 @@ pub fn work<C: Exclusion, J: Job, G: Gate, F: Fates>(
     if !gate.arrive(node) {
         return Ended::GateShut;
     }
-    let mut stance = Stance {
+    let mut stance = WorkerState {
         pending: false,
         wanted: node,
         patience: Patience::new(),
@@ -118,7 +118,7 @@ fn is_inside<C: Exclusion>(station: &Station<C>) -> bool
 fn take_turn<C: Exclusion, J: Job, F: Fates>(
     station: &mut Station<C>,
     job: &mut J,
-    stance: &mut Stance,
+    stance: &mut WorkerState,
     fates: &mut F,
     every: u64,
 ) -> Result<bool, JobFault>
@@ -156,7 +156,7 @@ fn rest<C: Exclusion>(
 fn act<C: Exclusion, J: Job>(
     station: &mut Station<C>,
     job: &mut J,
-    stance: &mut Stance,
+    stance: &mut WorkerState,
 ) -> Result<bool, JobFault>
     requires ready { (j : J) → J.ready j }
     ensures reaches { (first : J) (from : Post (MemberState C) (Parcel C.Msg))
@@ -181,7 +181,7 @@ fn act<C: Exclusion, J: Job>(
 fn go_on<C: Exclusion, J: Job>(
     station: &mut Station<C>,
     job: &mut J,
-    stance: &mut Stance,
+    stance: &mut WorkerState,
 ) -> Result<bool, JobFault>
     requires ready { (j : J) → J.ready j }
     requires left { stance.old.pending ≡ false }
@@ -208,7 +208,7 @@ fn next_section<C: Exclusion, J: Job>(
     station: &mut Station<C>,
     job: &mut J,
     registers: &[u8],
-    stance: &mut Stance,
+    stance: &mut WorkerState,
 ) -> Result<(), JobFault>
     requires few { length registers.now ≤ 8 }
     requires asked { J.asks_for job.old registers.now }
@@ -232,7 +232,7 @@ fn next_section<C: Exclusion, J: Job>(
 }
 
 /// Asks the next node in the circle for the records that are missing.
-fn want_next<C: Exclusion>(station: &mut Station<C>, stance: &mut Stance)
+fn want_next<C: Exclusion>(station: &mut Station<C>, stance: &mut WorkerState)
     ensures rests { Rests C.core station.old station.new }
     ensures acts { ActsForJob C.core station.old station.new }
     ensures same { stance.new.pending ≡ stance.old.pending }

@@ -103,7 +103,7 @@ sewn_none (run ∷ more ∷ runs) = ap (λ l. run ∷ l) (sewn_none (more ∷ ru
 last_place : (run : List Record) (runs : List (List Record)) → length (run ∷ runs) - 1 ≡ length runs
 last_place run runs = omega arith
 
--- both, as `sew` finds them
+-- both, as `splice` finds them
 pub sewn_by_touch : (runs others : List (List Record)) → 1 ≤ length others → TouchesBelow (first_number (get_or others 0 [])) (length runs) runs → slice_set runs (length runs - 1) (get_or runs (length runs - 1) [] ++ get_or others 0 []) ++ drop 1 others ≡ sewn runs others
 sewn_by_touch runs [] l t = absurd (omega arith)
 sewn_by_touch [] (next ∷ others) l t = absurd (let q = t.0 in omega arith)

@@ -1,7 +1,7 @@
 -- Bases: the contents of the registers after the first sections, which replace the records of
 -- these.
 use Rattle.std.specs.Prelude.{ℕ, ◌≡◌, ◌≢◌, ◌≤◌, ◌⊎◌, List, [], ◌∷◌, Option, Some, None, get_or, replicate}
-use Rattle.mx_stamps.specs.declared.limits.TheConstants.{MOST_REGISTERS}
+use Rattle.mx_stamps.specs.declared.limits.TheConstants.{MAX_REGISTERS}
 use Rattle.mx_stamps.specs.Lists.{IsIn, each_below}
 use Rattle.mx_journal.specs.declared.records.Record.{Record}
 use Rattle.mx_journal.specs.declared.cells.Cell.{Cell}
@@ -18,7 +18,7 @@ unwritten = record { value = 0; number = 0 }
 
 -- the registers before the first section
 abbrev pub origin : BaseState
-origin = record { upto = 0; cells = replicate MOST_REGISTERS unwritten }
+origin = record { upto = 0; cells = replicate MAX_REGISTERS unwritten }
 
 -- one of the sections 1 to k wrote the cell, or none did and it has the value 0
 abbrev pub IsCellOf : ℕ → Cell → Type 0
@@ -40,7 +40,7 @@ with_section entry cells =
     (λ register.
     after_section entry.number (last_value register entry.writes.items)
     (get_or cells register unwritten))
-    MOST_REGISTERS
+    MAX_REGISTERS
 
 -- the registers after the sections of these records, one after another
 abbrev pub with_sections : List Record → List Cell → List Cell

@@ -6,10 +6,10 @@ ghost use Rattle.mx_journal.specs.Drafted.{last_value};
 ghost use Rattle.mx_journal.specs.Written.{after_one};
 
 use crate::records::{Record, Write};
-use mx_stamps::MOST_REGISTERS;
+use mx_stamps::MAX_REGISTERS;
 
 /// The number of registers in a base. It has no writes to others.
-pub(crate) const REGISTERS: usize = MOST_REGISTERS as usize;
+pub(crate) const REGISTERS: usize = MAX_REGISTERS as usize;
 
 /// The contents of a register: a value, and the number of the section that wrote it, or 0 if none
 /// did.
@@ -56,7 +56,7 @@ pub(crate) fn take_section(cells: &mut [Cell; REGISTERS], entry: &Record)
 
 /// Applies the writes of a section, in order.
 fn write_all(cells: &mut [Cell; REGISTERS], number: u64, writes: &[Write])
-    ensures { (register : ℕ) → register < MOST_REGISTERS → get_or cells.new register unwritten
+    ensures { (register : ℕ) → register < MAX_REGISTERS → get_or cells.new register unwritten
         ≡ after_section number (last_value register writes.now)
         (get_or cells.old register unwritten) }
 {
@@ -67,7 +67,7 @@ fn write_all(cells: &mut [Cell; REGISTERS], number: u64, writes: &[Write])
 
 /// Applies one write of a section. A write to a register that is not in the base is skipped.
 fn put(cells: &mut [Cell; REGISTERS], number: u64, write: Write)
-    ensures { (register : ℕ) → register < MOST_REGISTERS → get_or cells.new register unwritten
+    ensures { (register : ℕ) → register < MAX_REGISTERS → get_or cells.new register unwritten
         ≡ after_one (after_section number) register write (get_or cells.old register unwritten) }
 {
     let at = usize::from(write.register);

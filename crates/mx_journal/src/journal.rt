@@ -5,7 +5,7 @@ ghost use Rattle.std.specs.Prelude.{ℕ, suc, ◌≡◌, ◌+◌, ◌≤◌, ◌
 ghost use Rattle.mx_journal.specs.Agreement.{IsConsistent, IsFirstConflict, IsOther};
 ghost use Rattle.mx_journal.specs.Bases.{AreOpposed};
 ghost use Rattle.mx_journal.specs.Gapless.{first_missing};
-ghost use Rattle.mx_journal.specs.declared.settling.SettleFault.TheVariants.{Below, Gap};
+ghost use Rattle.mx_journal.specs.declared.settlement.SettleFault.TheVariants.{Below, Gap};
 ghost use Rattle.mx_journal.specs.Records.{Ascending, IsNumbered, IsThere, above, in_range, record_at};
 ghost use Rattle.mx_journal.specs.Settled.{BringsUncovered, Covers, DoAgree, IsCovered, IsFirstGap, IsSettled, IsWithin, beyond, covered, joined, settled, top_covered, unsettled, with_base, with_entry, with_list};
 
@@ -14,7 +14,7 @@ use crate::puts::{Put, PutFault};
 use crate::ranges::Range;
 use crate::record_map::{RECORDS_AT_ONCE, RecordMap};
 use crate::records::Record;
-use crate::settling::{BaseFault, SettleFault, settled_base};
+use crate::settlement::{BaseFault, SettleFault, settled_base};
 use arrayvec::ArrayVec;
 use std::alloc::{AllocError, Global};
 use std::marker::Model;

@@ -4,8 +4,8 @@
 
 mod base;
 mod cells;
-mod cutting;
 mod draft;
+mod insertion;
 mod joins;
 mod journal;
 mod places;
@@ -14,9 +14,9 @@ mod ranges;
 mod receipts;
 mod record_map;
 mod records;
+mod removal;
 mod runs;
-mod settling;
-mod sewing;
+mod settlement;
 
 pub use base::Base;
 pub use cells::Cell;
@@ -26,4 +26,4 @@ pub use puts::{Put, PutFault};
 pub use ranges::Range;
 pub use receipts::{Read, Receipt};
 pub use records::{Record, Write};
-pub use settling::{BaseFault, SettleFault};
+pub use settlement::{BaseFault, SettleFault};

@@ -6,14 +6,14 @@ ghost use Rattle.mx_journal.specs.Gapless.{first_missing};
 ghost use Rattle.mx_journal.specs.Records.{Ascending, BringsNew, IsNumbered, IsThere, above, in_range, record_at, top_of, with_record, with_records};
 ghost use Rattle.mx_journal.specs.Settled.{beyond};
 
-use crate::cutting::cut_up_to;
+use crate::insertion::put_runs;
 use crate::joins::{are_there, join_runs, runs_of_new};
 use crate::places::{find, gapless_in, insert, is_there, least_in, len_of, next_in, top_in};
 use crate::puts::{Put, PutFault, has_zero, least_conflict};
 use crate::ranges::Range;
 use crate::records::Record;
+use crate::removal::cut_up_to;
 use crate::runs::Run;
-use crate::sewing::put_runs;
 use arrayvec::ArrayVec;
 use std::alloc::{AllocError, Global};
 use std::marker::Model;

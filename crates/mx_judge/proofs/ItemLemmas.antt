@@ -1,7 +1,7 @@
 -- Entries of items, one after another.
 use Rattle.std.proofs.Common.{◌≡◌, ◌∙◌, ◌⊎◌, ℕ, ◌+◌, ◌<◌, ◌≤◌, List, ◌∷◌, length, map, drop, get_or, ap, inl, inr, refl, subst, sym, add-one, drop-cons, Option, Some, None, false, Result, Ok, Err}
 use Rattle.std.proofs.lemmas.List.{drop_all}
-use Rattle.mx_sections.specs.declared.outcome.Entry.{Entry}
+use Rattle.mx_trace.specs.declared.outcome.Entry.{Entry}
 use Rattle.std.specs.List.{list_all}
 use Rattle.serde_json.specs.Data.{Data}
 use Rattle.mx_plan.specs.Text.{Text}

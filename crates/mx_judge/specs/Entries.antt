@@ -8,7 +8,7 @@ use Rattle.mx_events.specs.declared.event.Event.{Event}
 use Rattle.mx_events.specs.declared.event.Event.TheVariants.{Ask, Enter, Read, Write, Leave, Cancel, Settle, Tick, Want, Deliver, Restart}
 use Rattle.mx_events.specs.declared.kind.EventKind.{EventKind}
 use Rattle.mx_events.specs.declared.kind.EventKind.TheVariants as kind
-use Rattle.mx_sections.specs.declared.outcome.Entry.{Entry}
+use Rattle.mx_trace.specs.declared.outcome.Entry.{Entry}
 use Rattle.mx_judge.specs.Members.{and_then, has_member, number_at, text_at}
 use Rattle.mx_judge.specs.Outcomes.{outcome_of}
 use Rattle.mx_judge.specs.declared.members.Member.{Member}

@@ -6,8 +6,8 @@ use Rattle.std.specs.declared.alloc.Global.{Global}
 use Rattle.mx_plan.specs.Text.{Text}
 use Rattle.mx_plan.specs.Fields.{Fields}
 use Rattle.mx_plan.specs.Values.{list_in, value_of}
-use Rattle.mx_stamps.specs.declared.limits.TheConstants.{MOST_EVENTS}
-use Rattle.mx_sections.specs.declared.outcome.Entry.{Entry}
+use Rattle.mx_stamps.specs.declared.limits.TheConstants.{MAX_EVENTS}
+use Rattle.mx_trace.specs.declared.outcome.Entry.{Entry}
 use Rattle.mx_judge.specs.Entries.{item_of}
 use Rattle.mx_judge.specs.Faults.{line_fault, list_fault}
 use Rattle.mx_judge.specs.declared.faults.ItemFault.{ItemFault}
@@ -42,7 +42,7 @@ line_item p line =
 abbrev pub with_entry : List Entry → Option Entry → Result (List Entry) ItemFault
 with_entry entries None = Ok entries
 with_entry entries (Some entry) =
-    if nat_lt (length entries) MOST_EVENTS then Ok (entries ++ entry ∷ []) else Err item.TooMany
+    if nat_lt (length entries) MAX_EVENTS then Ok (entries ++ entry ∷ []) else Err item.TooMany
 
 abbrev pub with_item : List Entry → Result (Option Entry) ItemFault → Result (List Entry) ItemFault
 with_item entries (Ok entry) = with_entry entries entry

@@ -9,8 +9,8 @@ use crate::members::{Member, has_member, number_at, text_at};
 use crate::outcome_reader::outcome_in;
 use mx_events::{Event, EventKind};
 use mx_plan::Plan;
-use mx_sections::Entry;
 use mx_stamps::NodeId;
+use mx_trace::Entry;
 use serde_json::Value;
 
 /// Returns the entry of an item: an event with its outcome. Returns `None` for an object of a

@@ -9,8 +9,8 @@ use crate::members::{Member, number_at, text_at};
 use arrayvec::ArrayVec;
 use mx_events::{Event, EventKind};
 use mx_journal::Receipt;
-use mx_sections::{Cause, Outcome};
 use mx_stamps::{NodeId, Stamp};
+use mx_trace::{Cause, Outcome};
 use serde_json::Value;
 
 /// Reads the outcome of an event: a refusal, or an outcome that its act can have.

@@ -12,8 +12,8 @@ use crate::entry_reader::item_in;
 use crate::faults::{ItemFault, TraceFault};
 use mx_cli::split_line;
 use mx_plan::Plan;
-use mx_sections::Entry;
-use mx_stamps::MOST_EVENTS;
+use mx_stamps::MAX_EVENTS;
+use mx_trace::Entry;
 use serde_json::Value;
 use std::alloc::Global;
 
@@ -158,7 +158,7 @@ fn add_item(
 {
     match item? {
         None => Ok(()),
-        Some(_) if entries.len() >= MOST_EVENTS => Err(ItemFault::TooMany),
+        Some(_) if entries.len() >= MAX_EVENTS => Err(ItemFault::TooMany),
         Some(entry) => match entries.push(entry) {
             Ok(()) => Ok(()),
             Err(_) => Err(ItemFault::Memory),

@@ -1,11 +1,11 @@
 //! The values in a table with an entry for each node.
 
 ghost use Rattle.std.specs.Prelude.{◌≡◌, ◌≤◌, IfOk, length};
-ghost use Rattle.mx_stamps.specs.declared.limits.TheConstants.{MOST_NODES};
+ghost use Rattle.mx_stamps.specs.declared.limits.TheConstants.{MAX_NODES};
 ghost use Rattle.mx_knowledge.specs.Tables.{below, node_at, number_at, stamp_at};
 
 use crate::fact::Item;
-use mx_stamps::{MOST_NODES, NodeId, Stamp};
+use mx_stamps::{MAX_NODES, NodeId, Stamp};
 use std::alloc::{AllocError, Global};
 
 /// Returns the nodes below `count` that a table marks.
@@ -15,10 +15,10 @@ use std::alloc::{AllocError, Global};
 /// Returns `AllocError` if memory runs out.
 pub fn nodes_in(
     alloc: Global,
-    marks: &[bool; MOST_NODES as usize],
+    marks: &[bool; MAX_NODES as usize],
     count: u8,
 ) -> Result<Vec<Item>, AllocError>
-    requires { count ≤ MOST_NODES }
+    requires { count ≤ MAX_NODES }
     ensures { IfOk result (λ items. items.items ≡ below (node_at marks.now) count) }
 {
     let mut items = Vec::new(alloc);
@@ -39,10 +39,10 @@ pub fn nodes_in(
 /// Returns `AllocError` if memory runs out.
 pub fn stamps_in(
     alloc: Global,
-    stamps: &[Option<Stamp>; MOST_NODES as usize],
+    stamps: &[Option<Stamp>; MAX_NODES as usize],
     count: u8,
 ) -> Result<Vec<Item>, AllocError>
-    requires { count ≤ MOST_NODES }
+    requires { count ≤ MAX_NODES }
     ensures { IfOk result (λ items. items.items ≡ below (stamp_at stamps.now) count) }
 {
     let mut items = Vec::new(alloc);
@@ -61,10 +61,10 @@ pub fn stamps_in(
 /// Returns `AllocError` if memory runs out.
 pub fn numbers_in(
     alloc: Global,
-    numbers: &[Option<u64>; MOST_NODES as usize],
+    numbers: &[Option<u64>; MAX_NODES as usize],
     count: u8,
 ) -> Result<Vec<Item>, AllocError>
-    requires { count ≤ MOST_NODES }
+    requires { count ≤ MAX_NODES }
     ensures { IfOk result (λ items. items.items ≡ below (number_at numbers.now) count) }
 {
     let mut items = Vec::new(alloc);

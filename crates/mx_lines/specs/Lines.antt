@@ -2,7 +2,7 @@
 use Rattle.std.specs.Prelude.{ℕ, List, [], ◌∷◌, Option, Some, None, Result, Ok, codes, nat_le, if◌then◌else◌}
 use Rattle.std.specs.Option.{option_map_or}
 use Rattle.std.specs.Str.{bytes_eq}
-use Rattle.mx_stamps.specs.declared.limits.TheConstants.{MOST_EVENTS}
+use Rattle.mx_stamps.specs.declared.limits.TheConstants.{MAX_EVENTS}
 use Rattle.mx_plan.specs.Text.{Text}
 use Rattle.mx_lines.specs.Names.{Known}
 use Rattle.mx_lines.specs.Numbers.{number_of}
@@ -16,7 +16,7 @@ use Rattle.mx_lines.specs.declared.lines.Line.{Line}
 abbrev pub times_of : Text → Result ℕ LineError
 times_of text =
     option_map_or
-    (λ times. if nat_le times MOST_EVENTS then Ok times else refused fault.TooMany 1 expected.Times)
+    (λ times. if nat_le times MAX_EVENTS then Ok times else refused fault.TooMany 1 expected.Times)
     (number_of text) (refused fault.NotNumber 1 expected.Times)
 
 module _ (names : Known) where

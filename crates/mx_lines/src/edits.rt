@@ -7,10 +7,10 @@ use std::alloc::{AllocError, Global};
 use strsim::osa_distance;
 
 /// A name to which more edits lead is not near.
-const MOST_EDITS: usize = 3;
+const MAX_EDITS: usize = 3;
 
 /// A longer name is not looked at.
-const MOST_BYTES: usize = 64;
+const MAX_BYTES: usize = 64;
 
 /// The first of these names to which the fewest edits lead: at most three, and fewer than the
 /// longer name has bytes.
@@ -21,7 +21,7 @@ pub fn nearest<'a>(
 ) -> Result<Option<&'a str>, AllocError>
     ensures { IfOk result (λ found. IfSome found (Contains known.now)) }
 {
-    let mut least = MOST_EDITS + 1;
+    let mut least = MAX_EDITS + 1;
     let mut best = None;
     for other in known {
         let count = edits(alloc, name, other)?;
@@ -35,8 +35,8 @@ pub fn nearest<'a>(
 
 /// How many edits lead from a name to another. Letters of the other case count for none.
 fn edits(alloc: Global, name: &str, other: &str) -> Result<usize, AllocError> {
-    if name.len() > MOST_BYTES || other.len() > MOST_BYTES {
-        return Ok(MOST_BYTES);
+    if name.len() > MAX_BYTES || other.len() > MAX_BYTES {
+        return Ok(MAX_BYTES);
     }
     if name.eq_ignore_ascii_case(other) {
         return Ok(0);

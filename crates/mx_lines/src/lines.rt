@@ -8,7 +8,7 @@ use crate::errors::{Expected, LineError, LineFault, refuse};
 use crate::names::Names;
 use crate::numbers::number_of;
 use crate::orders::{Order, error_after, order_at};
-use mx_stamps::MOST_EVENTS;
+use mx_stamps::MAX_EVENTS;
 
 /// A line: what it asks for, and how often.
 #[derive(Clone, Copy)]
@@ -56,7 +56,7 @@ fn times_of(text: &str) -> Result<u64, LineError>
     ensures { result ≡ times_of text.now }
 {
     match number_of(text) {
-        Some(times) if times <= MOST_EVENTS as u64 => Ok(times),
+        Some(times) if times <= MAX_EVENTS as u64 => Ok(times),
         Some(_) => refuse(LineFault::TooMany, 1, Expected::Times),
         None => refuse(LineFault::NotNumber, 1, Expected::Times),
     }

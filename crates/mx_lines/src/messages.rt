@@ -11,7 +11,7 @@ use std::fmt;
 use std::fmt::Display;
 
 /// A longer word is not shown.
-const MOST_BYTES: usize = 40;
+const MAX_BYTES: usize = 40;
 
 /// The words of scripts that are none of events, and those of sessions alone.
 const SCRIPT_WORDS: [&str; 5] = ["lose", "again", "cut", "heal", "times"];
@@ -198,7 +198,7 @@ struct Quoted<'a>(&'a str);
 impl Display for Quoted<'_> {
     fn fmt<W: fmt::Write>(&self, f: &mut fmt::Formatter<W>) -> fmt::Result {
         let text = self.0;
-        if text.len() > MOST_BYTES {
+        if text.len() > MAX_BYTES {
             return write!(f, "a text of {} bytes", text.len());
         }
         write!(f, "{text:?}")

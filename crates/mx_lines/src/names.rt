@@ -5,7 +5,7 @@ ghost use Rattle.std.specs.Str.{bytes_eq};
 ghost use Rattle.mx_lines.specs.Names.{Known, first_texts};
 
 use mx_plan::Plan;
-use mx_stamps::{MOST_NODES, MOST_REGISTERS, NodeId};
+use mx_stamps::{MAX_NODES, MAX_REGISTERS, NodeId};
 use std::alloc::{AllocError, Global};
 
 /// The names of nodes and registers, each numbered from 0.
@@ -73,14 +73,14 @@ impl Names for NameLists<'_> {
     } };
 
     fn node_named(&self, name: &str) -> Option<NodeId> {
-        match place_in(self.nodes, name, MOST_NODES) {
+        match place_in(self.nodes, name, MAX_NODES) {
             Some(place) => NodeId::of(place),
             None => None,
         }
     }
 
     fn register_named(&self, name: &str) -> Option<u8> {
-        place_in(self.registers, name, MOST_REGISTERS)
+        place_in(self.registers, name, MAX_REGISTERS)
     }
 
     fn node_names(&self, alloc: Global) -> Result<Vec<&str>, AllocError> {

@@ -19,12 +19,12 @@ use Rattle.mx_cli.proofs.OutputLemmas.{Keeps-refl}
 use Rattle.mx_io.specs.Outputs.{Held}
 use Rattle.mx_cli.specs.Outputs.{refused_after}
 use Rattle.mx_io.specs.Told.{Telling}
-use Rattle.mx_stations.specs.declared.working.Worked.{Worked}
-use Rattle.mx_stations.specs.declared.working.Worked.TheVariants as worked
+use Rattle.mx_stations.specs.declared.worker.Worked.{Worked}
+use Rattle.mx_stations.specs.declared.worker.Worked.TheVariants as worked
 use Rattle.mx_jobs.specs.Serial.{AreSerial}
 use Rattle.mx_live.specs.declared.halts.Halt.{Halt}
 use Rattle.mx_live.specs.declared.halts.Halt.TheVariants.{Plan, TooFewSections, TurnsSpent, GateShut, Writer, Memory}
-use Rattle.mx_live.specs.declared.threads.Orders.{Orders}
+use Rattle.mx_live.specs.declared.threads.WorkerConfig.{WorkerConfig}
 use Rattle.mx_live.specs.Halts.{Fails, HasNone, InVain, InVainBy, IsWhy, RunsInVain, halt_of_stop}
 use Rattle.mx_live.specs.Workers.{orders_in}
 use Rattle.mx_live.specs.Shown.{live_text}
@@ -37,10 +37,10 @@ why_of worked.Done halt why = absurd why
 why_of (worked.NotYet n) halt why = inl why
 why_of worked.GateShut halt why = inr why
 
-vain_of : {H S M : Type 0} (core : Core H S M) (shape : H) (p : Fields) (orders : Orders) (halt : Halt) → RunsInVain core shape p orders halt → (halt ≡ TurnsSpent) ⊎ (halt ≡ GateShut)
+vain_of : {H S M : Type 0} (core : Core H S M) (shape : H) (p : Fields) (orders : WorkerConfig) (halt : Halt) → RunsInVain core shape p orders halt → (halt ≡ TurnsSpent) ⊎ (halt ≡ GateShut)
 vain_of core shape p orders halt vain = why_of vain.halts.one.1 halt vain.halts.why
 
-vain_by : (shape : Shape) (p : Fields) (orders : Orders) (halt : Halt) → InVainBy shape p orders halt → (halt ≡ TurnsSpent) ⊎ (halt ≡ GateShut)
+vain_by : (shape : Shape) (p : Fields) (orders : WorkerConfig) (halt : Halt) → InVainBy shape p orders halt → (halt ≡ TurnsSpent) ⊎ (halt ≡ GateShut)
 vain_by (planned.Ricart count) p orders halt vain = vain_of ricart_core count p orders halt vain
 vain_by (planned.Maekawa family) p orders halt vain = vain_of maekawa_core family p orders halt vain
 vain_by (planned.Raymond tree) p orders halt vain = vain_of raymond_core tree p orders halt vain

@@ -12,14 +12,14 @@ use Rattle.mx_journal.specs.Settled.{JournalState}
 use Rattle.mx_nodelaws.specs.Core.{Core}
 use Rattle.mx_plan.specs.Fields.{Fields}
 use Rattle.mx_plan.specs.declared.shape.Shape.{Shape}
-use Rattle.mx_stations.specs.declared.working.Worked.{Worked}
+use Rattle.mx_stations.specs.declared.worker.Worked.{Worked}
 use Rattle.mx_stations.specs.Gathered.{IsGathered, receipts_of}
 use Rattle.mx_stations.specs.Posts.{Post}
 use Rattle.mx_stations.specs.Turns.{Station}
 use Rattle.mx_jobs.specs.Serial.{AreSerial}
 use Rattle.mx_live.specs.declared.halts.Halt.{Halt}
 use Rattle.mx_live.specs.declared.halts.Halt.TheVariants.{Memory}
-use Rattle.mx_live.specs.declared.threads.Orders.{Orders}
+use Rattle.mx_live.specs.declared.threads.WorkerConfig.{WorkerConfig}
 use Rattle.mx_live.specs.Halts.{HasNone, InVainBy}
 use Rattle.mx_live.specs.Together.{AreGathered, ComeOf, GatheredBy, HaveSections}
 use Rattle.mx_live.specs.Workers.{AreDone, HaveRun, stations_of}
@@ -96,7 +96,7 @@ module _ {T P : Type 0} (sections : ℕ) where
       let both = length-append t.me.receipts (receipts_of posts) in
       both ∙ ap (λ (n : ℕ). n + length (receipts_of posts)) own ∙ ap (λ (n : ℕ). sections + n) rest ∙ turn ∙ sym (suc-mul (length posts) sections)
 
-module _ {H S M : Type 0} (core : Core H S M) (shape : H) (p : Fields) (orders : Orders) where
+module _ {H S M : Type 0} (core : Core H S M) (shape : H) (p : Fields) (orders : WorkerConfig) where
   full : (left : List (Station core × Worked)) (journal : JournalState) (receipts : List Receipt) → HaveRun core shape p orders left → AreDone left → IsGathered (stations_of left) journal receipts → AreFull orders.sections 0 (stations_of left)
   full left journal receipts run done gathered = λ k s at.
       let one = unmapped (λ (ended : Station core × Worked). ended.0) left k s at in
@@ -128,9 +128,9 @@ module _ {T P : Type 0} where
       record { numbered = g.numbered; records = g.records; covers = g.covers; reads = g.reads; shows = g.shows }
 
 -- what is gathered by the algorithm of a shape, where that is the plan's
-pub come_by : (shape : Shape) (p : Fields) (orders : Orders) (receipts : List Receipt) (journal : JournalState) → p.shape ≡ shape → GatheredBy shape p orders receipts journal → ComeOf p orders receipts journal
+pub come_by : (shape : Shape) (p : Fields) (orders : WorkerConfig) (receipts : List Receipt) (journal : JournalState) → p.shape ≡ shape → GatheredBy shape p orders receipts journal → ComeOf p orders receipts journal
 come_by shape p orders receipts journal is come = subst (λ (s : Shape). GatheredBy s p orders receipts journal) (sym is) come
 
 -- and why nothing is
-pub none_by : (shape : Shape) (p : Fields) (orders : Orders) (halt : Halt) → p.shape ≡ shape → InVainBy shape p orders halt ⊎ (halt ≡ Memory) → HasNone p orders halt
+pub none_by : (shape : Shape) (p : Fields) (orders : WorkerConfig) (halt : Halt) → p.shape ≡ shape → InVainBy shape p orders halt ⊎ (halt ≡ Memory) → HasNone p orders halt
 none_by shape p orders halt is none = subst (λ (s : Shape). InVainBy s p orders halt ⊎ (halt ≡ Memory)) (sym is) none

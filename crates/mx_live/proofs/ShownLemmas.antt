@@ -3,11 +3,11 @@ use Rattle.std.proofs.Common.{◌≡◌, ◌∙◌, ◌<◌, ◌+◌, ◌++◌, 
 use Rattle.mx_journal.specs.Settled.{JournalState}
 use Rattle.mx_plan.specs.Text.{Text}
 use Rattle.mx_plan.specs.Fields.{Fields}
-use Rattle.mx_texts.specs.EventTexts.{register_name_of}
-use Rattle.mx_texts.specs.Lines.{texts_from}
-use Rattle.mx_texts.specs.NodeTexts.{register_in}
-use Rattle.mx_texts.proofs.NodeLemmas.{is_at}
-use Rattle.mx_texts.proofs.Places.{place_more}
+use Rattle.mx_format.specs.EventTexts.{register_name_of}
+use Rattle.mx_format.specs.Lines.{texts_from}
+use Rattle.mx_format.specs.NodeTexts.{register_in}
+use Rattle.mx_format.proofs.NodeLemmas.{is_at}
+use Rattle.mx_format.proofs.Places.{place_more}
 use Rattle.mx_live.specs.Shown.{value_line}
 
 -- the line of one more register

@@ -11,8 +11,8 @@ use Rattle.mx_member.specs.declared.parcel.Parcel.{Parcel}
 use Rattle.mx_member.specs.Member.{MemberState}
 use Rattle.mx_member.specs.Steps.{start_of}
 use Rattle.mx_plan.specs.Fields.{Fields}
-use Rattle.mx_stations.specs.declared.working.Worked.{Worked}
-use Rattle.mx_stations.specs.declared.working.Worked.TheVariants.{Done}
+use Rattle.mx_stations.specs.declared.worker.Worked.{Worked}
+use Rattle.mx_stations.specs.declared.worker.Worked.TheVariants.{Done}
 use Rattle.mx_stations.specs.Entries.{Entry}
 use Rattle.mx_stations.specs.Gathered.{OfOneTable}
 use Rattle.mx_stations.specs.Opened.{AreFresh}
@@ -20,19 +20,19 @@ use Rattle.mx_stations.specs.Running.{fresh}
 use Rattle.mx_stations.specs.Turns.{Station}
 use Rattle.mx_stations.specs.Works.{IsWithin}
 use Rattle.mx_stations.proofs.Rounding.{rounds_kept, rounds_node, rounds_some}
-use Rattle.mx_live.specs.declared.threads.Orders.{Orders}
+use Rattle.mx_live.specs.declared.threads.WorkerConfig.{WorkerConfig}
 use Rattle.mx_live.specs.Stations.{AreAtRest}
 use Rattle.mx_live.specs.declared.threads.WorkAt.{WorkAt}
 use Rattle.mx_live.specs.Workers.{AreDone, AreLeft, HaveRun, IsLeft, ordered, stations_of, told}
 use Rattle.mx_live.proofs.StationLemmas.{first_and_more, nil_is_no_more, there, unmapped, zip_at, zip_many}
 
 -- what a thread was told
-pub told_as : {X : Type 0} (x x' : X) (orders orders' : Orders) → x ≡ x' → orders ≡ orders' → ordered x orders ≡ ordered x' orders'
+pub told_as : {X : Type 0} (x x' : X) (orders orders' : WorkerConfig) → x ≡ x' → orders ≡ orders' → ordered x orders ≡ ordered x' orders'
 told_as x x' orders orders' one other = ap (λ z. ordered z orders) one ∙ ap (λ o. ordered x' o) other
 
 module _ {H S M : Type 0} (core : Core H S M) where
   -- what workers with these orders left by their promises
-  pub left_by : (orders : Orders) (workers : List (WorkAt (Station core))) (stations : List (Station core)) (left : List (Station core × Worked)) → map told workers ≡ map (λ (s : Station core). ordered s orders) stations
+  pub left_by : (orders : WorkerConfig) (workers : List (WorkAt (Station core))) (stations : List (Station core)) (left : List (Station core × Worked)) → map told workers ≡ map (λ (s : Station core). ordered s orders) stations
       → AllZip (λ (w : WorkAt (Station core)) ended. IsLeft core w.orders w.at.value ended) workers left → AreLeft core orders stations left
   left_by orders [] [] [] same all = tt
   left_by orders [] [] (e ∷ left) same all = absurd all
@@ -41,12 +41,12 @@ module _ {H S M : Type 0} (core : Core H S M) where
   left_by orders (w ∷ workers) (s ∷ stations) [] same all = absurd all
   left_by orders (w ∷ workers) (s ∷ stations) (e ∷ left) same all =
       let both = first_and_more same in (
-        subst (λ (x : Station core × Orders). IsLeft core x.1 x.0 e) both.0 all.0,
+        subst (λ (x : Station core × WorkerConfig). IsLeft core x.1 x.0 e) both.0 all.0,
         left_by orders workers stations left both.1 all.1,
       )
 
   -- what a worker left is of the station at its place
-  pub left_at : (orders : Orders) (stations : List (Station core)) (left : List (Station core × Worked)) → AreLeft core orders stations left → (k : ℕ) (ended : Station core × Worked) → get_elem? left k ≡ some ended
+  pub left_at : (orders : WorkerConfig) (stations : List (Station core)) (left : List (Station core × Worked)) → AreLeft core orders stations left → (k : ℕ) (ended : Station core × Worked) → get_elem? left k ≡ some ended
       → (from : Station core) × (get_elem? stations k ≡ some from) × IsLeft core orders from ended
   left_at orders stations left all k ended at = zip_at (IsLeft core orders) stations left all k ended at
 
@@ -66,7 +66,7 @@ module _ {H S M : Type 0} (core : Core H S M) where
       → (shape : H) (i origin limit registers : ℕ) → from.me ≡ fresh i (start_of core shape i origin limit registers) → length to.me.receipts ≤ most
   none_more phases most from to within shape i origin limit registers rest = within_most most to (within (rests_within phases most from shape i origin limit registers rest))
 
-module _ {H S M : Type 0} (core : Core H S M) (shape : H) (p : Fields) (orders : Orders) where
+module _ {H S M : Type 0} (core : Core H S M) (shape : H) (p : Fields) (orders : WorkerConfig) where
   -- where what was left is: at the plan's table, each station at its node's place
   pub left_home : (left : List (Station core × Worked)) (run : HaveRun core shape p orders left) (k : ℕ) (ended : Station core × Worked) → get_elem? left k ≡ some ended
       → (ended.0.table ≡ run.rested.table) × (ended.0.nodes ≡ length p.nodes) × (ended.0.me.node ≡ k)

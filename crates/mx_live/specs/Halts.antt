@@ -16,12 +16,12 @@ use Rattle.mx_io.specs.declared.output.OutputFault.{OutputFault}
 use Rattle.mx_io.specs.declared.output.OutputFault.TheVariants as output_fault
 use Rattle.mx_cli.specs.FaultLines.{fault_line, memory_line}
 use Rattle.mx_cli.specs.Told.{MayTell}
-use Rattle.mx_stations.specs.declared.working.Worked.{Worked}
-use Rattle.mx_stations.specs.declared.working.Worked.TheVariants as worked
+use Rattle.mx_stations.specs.declared.worker.Worked.{Worked}
+use Rattle.mx_stations.specs.declared.worker.Worked.TheVariants as worked
 use Rattle.mx_stations.specs.Turns.{Station}
 use Rattle.mx_live.specs.declared.halts.Halt.{Halt}
 use Rattle.mx_live.specs.declared.halts.Halt.TheVariants.{Plan, TooFewSections, TurnsSpent, GateShut, Writer, Memory}
-use Rattle.mx_live.specs.declared.threads.Orders.{Orders}
+use Rattle.mx_live.specs.declared.threads.WorkerConfig.{WorkerConfig}
 use Rattle.mx_live.specs.Workers.{AreDone, HaveRun}
 
 -- the line of a halt, where the plan has this name
@@ -70,23 +70,23 @@ EndInVain left halt = HaltsIn left halt ⊎ (AreDone left × (halt ≡ Memory))
 -- The threads of a run of this plan left a worker that is not done, and the one of the least node
 -- says why.
 pub record RunsInVain {H S M : Type 0} (core : Core H S M) (shape : H) (p : Fields)
-    (orders : Orders) (halt : Halt) : Type 0 where
+    (orders : WorkerConfig) (halt : Halt) : Type 0 where
   pub left : List (Station core × Worked)
   pub run : HaveRun core shape p orders left
   pub halts : HaltsIn left halt
 
 -- the same, by the algorithm of this shape
-abbrev pub InVainBy : Shape → Fields → Orders → Halt → Type 0
+abbrev pub InVainBy : Shape → Fields → WorkerConfig → Halt → Type 0
 InVainBy (planned.Ricart count) p orders halt = RunsInVain ricart_core count p orders halt
 InVainBy (planned.Maekawa family) p orders halt = RunsInVain maekawa_core family p orders halt
 InVainBy (planned.Raymond tree) p orders halt = RunsInVain raymond_core tree p orders halt
 
 -- by the plan's own
-abbrev pub InVain : Fields → Orders → Halt → Type 0
+abbrev pub InVain : Fields → WorkerConfig → Halt → Type 0
 InVain p orders halt = InVainBy p.shape p orders halt
 
 -- a run of this plan came to no journal: a worker was not done, or memory ran out
-abbrev pub HasNone : Fields → Orders → Halt → Type 0
+abbrev pub HasNone : Fields → WorkerConfig → Halt → Type 0
 HasNone p orders halt = InVain p orders halt ⊎ (halt ≡ Memory)
 
 -- an output failed to take what was printed, which one that takes all does only for want of memory

@@ -4,8 +4,8 @@ use Rattle.mx_journal.specs.Gapless.{first_missing}
 use Rattle.mx_journal.specs.Settled.{JournalState}
 use Rattle.mx_plan.specs.Text.{Text, line_feed}
 use Rattle.mx_plan.specs.Fields.{Fields}
-use Rattle.mx_texts.specs.Lines.{texts_from}
-use Rattle.mx_texts.specs.NodeTexts.{register_in}
+use Rattle.mx_format.specs.Lines.{texts_from}
+use Rattle.mx_format.specs.NodeTexts.{register_in}
 
 -- a name, what stands behind it, and a number
 abbrev pub number_line : Text → Text → ℕ → Text

@@ -10,10 +10,10 @@ use Rattle.mx_plan.specs.declared.shape.Shape.TheVariants as planned
 use Rattle.mx_ricart.specs.Step.{ricart_core}
 use Rattle.mx_maekawa.specs.Step.{maekawa_core}
 use Rattle.mx_raymond.specs.Step.{raymond_core}
-use Rattle.mx_stations.specs.declared.working.Worked.{Worked}
+use Rattle.mx_stations.specs.declared.worker.Worked.{Worked}
 use Rattle.mx_stations.specs.Gathered.{IsGathered}
 use Rattle.mx_stations.specs.Turns.{Station}
-use Rattle.mx_live.specs.declared.threads.Orders.{Orders}
+use Rattle.mx_live.specs.declared.threads.WorkerConfig.{WorkerConfig}
 use Rattle.mx_live.specs.Workers.{AreDone, HaveRun, stations_of}
 
 -- each of these nodes has just this many sections among the receipts, and there are no others
@@ -24,14 +24,14 @@ pub record HaveSections (nodes sections : ℕ) (receipts : List Receipt) : Type 
 -- The threads of a run of this plan left each worker done, and receipts and journal were gathered
 -- from their stations.
 pub record AreGathered {H S M : Type 0} (core : Core H S M) (shape : H) (p : Fields)
-    (orders : Orders) (receipts : List Receipt) (journal : JournalState) : Type 0 where
+    (orders : WorkerConfig) (receipts : List Receipt) (journal : JournalState) : Type 0 where
   pub left : List (Station core × Worked)
   pub run : HaveRun core shape p orders left
   pub done : AreDone left
   pub gathered : IsGathered (stations_of left) journal receipts
 
 -- the same, by the algorithm of this shape
-abbrev pub GatheredBy : Shape → Fields → Orders → List Receipt → JournalState → Type 0
+abbrev pub GatheredBy : Shape → Fields → WorkerConfig → List Receipt → JournalState → Type 0
 GatheredBy (planned.Ricart count) p orders receipts journal =
     AreGathered ricart_core count p orders receipts journal
 GatheredBy (planned.Maekawa family) p orders receipts journal =
@@ -40,5 +40,5 @@ GatheredBy (planned.Raymond tree) p orders receipts journal =
     AreGathered raymond_core tree p orders receipts journal
 
 -- by the plan's own
-abbrev pub ComeOf : Fields → Orders → List Receipt → JournalState → Type 0
+abbrev pub ComeOf : Fields → WorkerConfig → List Receipt → JournalState → Type 0
 ComeOf p orders receipts journal = GatheredBy p.shape p orders receipts journal

@@ -3,14 +3,14 @@
 #![tactic(auto)]
 
 mod halts;
-mod living;
+mod live_command;
+mod live_text;
+mod node_runs;
 mod progress;
-mod running;
-mod shown;
 mod threads;
 
 pub use halts::{Halt, tell};
-pub use living::live;
-pub use running::{gather_left, run_stations, stations_in};
-pub use shown::add_journal;
+pub use live_command::live;
+pub use live_text::add_journal;
+pub use node_runs::{gather_left, run_stations, stations_in};
 pub use threads::Ended;

@@ -21,7 +21,7 @@ const DOUBLED: u16 = 16;
 /// What each worker is to do, the seed of the first one's links, and after how many of its sections
 /// each settles its journal, 0 for never.
 #[derive(Clone, Copy)]
-pub(crate) struct Orders {
+pub(crate) struct WorkerConfig {
     pub(crate) sections: u64,
     pub(crate) seed: u64,
     pub(crate) turns: u64,
@@ -36,7 +36,7 @@ pub type Ended<C> = (Station<C>, Worked);
 #[derive(Drop)]
 pub(crate) struct WorkAt<S> {
     at: Snapshot<S>,
-    orders: Orders,
+    orders: WorkerConfig,
 }
 
 impl<C: Exclusion> Promise<Ended<C>> for WorkAt<Station<C>> {
@@ -50,7 +50,7 @@ pub(crate) type Workers<C> = ThreadGroup<Ended<C>, WorkAt<Station<C>>>;
 
 /// Does the work at a station, under links of its own seed. It settles after as many sections
 /// of its own as the orders say, with 0 never.
-fn work_at<C: Exclusion>(station: Station<C>, gate: &StartGate, orders: Orders) -> Ended<C>
+fn work_at<C: Exclusion>(station: Station<C>, gate: &StartGate, orders: WorkerConfig) -> Ended<C>
     ensures { IsLeft C.core orders station result }
 {
     let script = Script {
@@ -74,7 +74,7 @@ fn start_one<C: Exclusion + Send + 'static, R: Threads>(
     rt: &R,
     workers: &mut Workers<C>,
     station: Station<C>,
-    orders: Orders,
+    orders: WorkerConfig,
 ) -> Result<(), AllocError>
 where
     C::Msg: Send + 'static,
@@ -100,7 +100,7 @@ fn start_each<C: Exclusion + Send + 'static, R: Threads>(
     rt: &R,
     workers: &mut Workers<C>,
     stations: Vec<Station<C>>,
-    orders: Orders,
+    orders: WorkerConfig,
 ) -> Result<(), AllocError>
 where
     C::Msg: Send + 'static,
@@ -121,7 +121,7 @@ pub(crate) fn start_all<C: Exclusion + Send + 'static, R: Threads>(
     alloc: Global,
     nodes: u8,
     stations: Vec<Station<C>>,
-    orders: Orders,
+    orders: WorkerConfig,
 ) -> Result<Workers<C>, AllocError>
 where
     C::Msg: Send + 'static,

@@ -1,7 +1,7 @@
 -- The arbiter's rows of the step table. Each says which part of it is published (Maekawa 1985) and
 -- which is added here.
 use Rattle.std.specs.Prelude.{ℕ, zero, suc, ◌+◌, ◌<◌, ◌≡◌, Bool, false, ◌||◌, ◌&&◌, List, [], ◌∷◌, Option, Some, None, max, nat_lt, nat_eq, if◌then◌else◌, slice_index_or, slice_set, replicate}
-use Rattle.mx_stamps.specs.declared.limits.TheConstants.{MOST_NODES}
+use Rattle.mx_stamps.specs.declared.limits.TheConstants.{MAX_NODES}
 use Rattle.mx_stamps.specs.declared.stamp.Stamp.{Stamp}
 use Rattle.mx_stamps.specs.Stamp.{Before, is_before_of, is_same_as}
 use Rattle.mx_stamps.specs.Numbers.{last_number}
@@ -17,8 +17,8 @@ start_arbiter count origin = record {
   count = count;
   lock = None;
   granted = origin;
-  waiting = replicate MOST_NODES None;
-  ended = replicate MOST_NODES origin;
+  waiting = replicate MAX_NODES None;
+  ended = replicate MAX_NODES origin;
   last = 0;
 }
 

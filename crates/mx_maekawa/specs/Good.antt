@@ -1,6 +1,6 @@
 -- The worlds that are reached from the start.
 use Rattle.std.specs.Prelude.{ℕ, ◌<◌, ◌≤◌, ◌≡◌, ◌⊎◌, true, false, Some, length, Bool, List, slice_index_or}
-use Rattle.mx_stamps.specs.declared.limits.TheConstants.{MOST_NODES}
+use Rattle.mx_stamps.specs.declared.limits.TheConstants.{MAX_NODES}
 use Rattle.mx_stamps.specs.declared.stamp.Stamp.{Stamp}
 use Rattle.mx_letters.specs.declared.maekawa.MaekawaMsg.{MaekawaMsg}
 use Rattle.mx_letters.specs.declared.maekawa.MaekawaMsg.TheVariants.{Request, Locked, Failed, Inquire, Relinquish, Release}
@@ -83,7 +83,7 @@ pub record IsHeldOk (w : NodeWorld) (s : Node) (a g : ℕ) : Type 0 where
 -- each other set
 pub record IsPlaced (w : NodeWorld) (i name count : ℕ) (row : List Bool) : Type 0 where
   pub me : name ≡ i
-  pub few : count ≤ MOST_NODES
+  pub few : count ≤ MAX_NODES
   pub own_few : (a : ℕ) → slice_index_or row a false ≡ true → a < count
   pub own_node : (a : ℕ) → slice_index_or row a false ≡ true → (arbiter : Node) × IsNode w a arbiter
   pub meet : (j : ℕ) (t : Node) → IsNode w j t →
@@ -92,8 +92,8 @@ pub record IsPlaced (w : NodeWorld) (i name count : ℕ) (row : List Bool) : Typ
 -- what holds for each node
 pub record IsNodeOk (w : NodeWorld) (i : ℕ) (s : Node) : Type 0 where
   pub placed : IsPlaced w i s.requester.me s.requester.count s.requester.own
-  pub back_places : length s.requester.back ≡ MOST_NODES
-  pub held_places : length s.requester.held ≡ MOST_NODES
+  pub back_places : length s.requester.back ≡ MAX_NODES
+  pub held_places : length s.requester.held ≡ MAX_NODES
   -- a current stamp is its last one, and the clock has seen it
   pub issued : s.requester.issued ≤ s.requester.highest
   pub ours_node : IsBusy s.requester → s.requester.ours.node ≡ i

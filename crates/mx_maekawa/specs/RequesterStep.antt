@@ -1,7 +1,7 @@
 -- The requester's rows of the step table. Each says which part of it is published (Maekawa 1985)
 -- and which is added here.
 use Rattle.std.specs.Prelude.{ℕ, zero, suc, ◌+◌, ◌<◌, ◌≡◌, Bool, true, false, ◌||◌, ◌&&◌, not, List, [], ◌∷◌, ◌++◌, Option, Some, None, Result, max, nat_lt, nat_eq, if◌then◌else◌, slice_index_or, slice_set, replicate}
-use Rattle.mx_stamps.specs.declared.limits.TheConstants.{MOST_NODES}
+use Rattle.mx_stamps.specs.declared.limits.TheConstants.{MAX_NODES}
 use Rattle.mx_stamps.specs.declared.stamp.Stamp.{Stamp}
 use Rattle.mx_stamps.specs.Stamp.{is_same_as}
 use Rattle.mx_letters.specs.declared.maekawa.MaekawaMsg.{MaekawaMsg}
@@ -30,10 +30,10 @@ start_requester me own count origin limit = record {
   highest = origin;
   issued = origin;
   ours = record { number = 0; node = me };
-  held = replicate MOST_NODES None;
-  back = replicate MOST_NODES origin;
-  failed = replicate MOST_NODES false;
-  remembered = replicate MOST_NODES None;
+  held = replicate MAX_NODES None;
+  back = replicate MAX_NODES origin;
+  failed = replicate MAX_NODES false;
+  remembered = replicate MAX_NODES None;
   top = 0;
   mine = 0;
 }
@@ -139,9 +139,9 @@ asking r = record r {
   highest = r.highest + 1;
   issued = r.highest + 1;
   ours = record { number = r.highest + 1; node = r.me };
-  held = replicate MOST_NODES None;
-  failed = replicate MOST_NODES false;
-  remembered = replicate MOST_NODES None;
+  held = replicate MAX_NODES None;
+  failed = replicate MAX_NODES false;
+  remembered = replicate MAX_NODES None;
   phase = Waiting;
 }
 
@@ -244,7 +244,7 @@ entering r = record r {
   top = r.top + 1;
   mine = r.top + 1;
   phase = Inside (r.top + 1);
-  remembered = replicate MOST_NODES None;
+  remembered = replicate MAX_NODES None;
 }
 
 abbrev pub enter_in : Phase → RequesterState → Quiet RequesterState (Result ℕ EnterFault)
@@ -259,9 +259,9 @@ enter_in p r =
 abbrev pub ending : RequesterState → RequesterState
 ending r = record r {
   phase = Idle;
-  held = replicate MOST_NODES None;
-  failed = replicate MOST_NODES false;
-  remembered = replicate MOST_NODES None;
+  held = replicate MAX_NODES None;
+  failed = replicate MAX_NODES false;
+  remembered = replicate MAX_NODES None;
 }
 
 abbrev pub ended : RequesterState → RequesterDone (Unit {0})

@@ -2,9 +2,9 @@
 //! arbiter's rows of the step table.
 
 use crate::lock::{Lock, is_exactly, is_for, is_up_to, stamp_of};
-use crate::waiting::{drop_up_to, is_below, is_later, lesser, or_else};
+use crate::wait_list::{drop_up_to, is_below, is_later, lesser, or_else};
 use mx_letters::{MaekawaMsg, Outbox};
-use mx_stamps::{MOST_NODES, NodeId, Stamp};
+use mx_stamps::{MAX_NODES, NodeId, Stamp};
 use std::marker::Model;
 
 mod knowledge;
@@ -22,10 +22,10 @@ pub(crate) struct Arbiter {
     granted: u64,
     /// For each node, its request that waits for a grant (the waiting queue). The least stamp is
     /// granted first.
-    waiting: [Option<Stamp>; MOST_NODES as usize],
+    waiting: [Option<Stamp>; MAX_NODES as usize],
     /// For each node, the greatest stamp number that it has released, or the origin before the
     /// first. Added to the publication: a request up to that number is an old one.
-    ended: [u64; MOST_NODES as usize],
+    ended: [u64; MAX_NODES as usize],
     /// The highest section number received in a release, or 0 before the first. Added to the
     /// publication.
     last: u64,
@@ -33,7 +33,7 @@ pub(crate) struct Arbiter {
 
 impl Model for Arbiter {
     ghost use Rattle.std.specs.Prelude.{◌≤◌};
-    ghost use Rattle.mx_stamps.specs.declared.limits.TheConstants.{MOST_NODES};
+    ghost use Rattle.mx_stamps.specs.declared.limits.TheConstants.{MAX_NODES};
     ghost use Rattle.mx_maekawa.specs.Node.{ArbiterState};
 
     ghost Value = { ArbiterState };
@@ -47,25 +47,25 @@ impl Model for Arbiter {
       last = a.last;
     } };
 
-    ghost invariant = { λ a. a.count ≤ MOST_NODES };
+    ghost invariant = { λ a. a.count ≤ MAX_NODES };
 }
 
 impl Arbiter {
     ghost use Rattle.std.specs.Prelude.{◌≡◌, ◌≤◌, ◌<◌, [], ◌++◌, length, Some};
-    ghost use Rattle.mx_stamps.specs.declared.limits.TheConstants.{MOST_NODES};
+    ghost use Rattle.mx_stamps.specs.declared.limits.TheConstants.{MAX_NODES};
     ghost use Rattle.mx_maekawa.specs.ArbiterStep.{start_arbiter, waiting_at, others_at, IsLeastOf, least_of, lock_letter, grant_to, grant, rank, queue, take_request, take_relinquish, take_release};
 
     /// Creates an arbiter that has just been started.
     pub(crate) fn start(count: u8, origin: u64) -> Self
-        requires { count ≤ MOST_NODES }
+        requires { count ≤ MAX_NODES }
         ensures { result ≡ start_arbiter count origin }
     {
         Arbiter {
             count,
             lock: None,
             granted: origin,
-            waiting: [None; MOST_NODES as usize],
-            ended: [origin; MOST_NODES as usize],
+            waiting: [None; MAX_NODES as usize],
+            ended: [origin; MAX_NODES as usize],
             last: 0,
         }
     }
@@ -165,7 +165,7 @@ impl Arbiter {
 
     /// Sends the grant of the lock, if there is a lock.
     fn send_lock(&self, out: &mut Outbox<MaekawaMsg>)
-        requires { length out.old ≤ MOST_NODES }
+        requires { length out.old ≤ MAX_NODES }
         ensures { out.new ≡ out.old ++ lock_letter self.now.lock }
     {
         if let Some(lock) = &self.lock {
@@ -233,7 +233,7 @@ impl Arbiter {
 
     /// Sends the grant of the lock again, if there is a lock.
     pub(crate) fn tick(&self, out: &mut Outbox<MaekawaMsg>)
-        requires { length out.old ≤ MOST_NODES }
+        requires { length out.old ≤ MAX_NODES }
         ensures { out.new ≡ out.old ++ lock_letter self.now.lock }
     {
         self.send_lock(out);

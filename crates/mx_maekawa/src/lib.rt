@@ -29,6 +29,6 @@ mod knowledge;
 mod lock;
 mod maekawa;
 mod requester;
-mod waiting;
+mod wait_list;
 
 pub use maekawa::Maekawa;

@@ -2,7 +2,7 @@
 
 use mx_letters::{MaekawaMsg, Outbox};
 use mx_nodelaws::{AskFault, CancelFault, EnterFault, LeaveFault, Phase};
-use mx_stamps::{Clock, MOST_NODES, NodeId, Stamp};
+use mx_stamps::{Clock, MAX_NODES, NodeId, Stamp};
 use std::marker::Model;
 
 mod answers;
@@ -14,7 +14,7 @@ pub(crate) struct Requester {
     /// The node itself.
     me: NodeId,
     /// For each node, whether it is one of this node's arbiters (S_i in the publication).
-    own: [bool; MOST_NODES as usize],
+    own: [bool; MAX_NODES as usize],
     /// The number of nodes in the cluster.
     count: u8,
     /// The greatest section number, from 1 to 1,000,000. Added to the publication.
@@ -32,16 +32,16 @@ pub(crate) struct Requester {
     ours: Stamp,
     /// For each arbiter, the number of its grant (LOCKED) that is held for the current request.
     /// `None` if it has not come or was given back, and while the node is idle.
-    held: [Option<u64>; MOST_NODES as usize],
+    held: [Option<u64>; MAX_NODES as usize],
     /// For each arbiter, the highest grant number that was given back to it (RELINQUISH), or the
     /// origin before the first. Added to the publication: a grant up to it does not count again.
-    back: [u64; MOST_NODES as usize],
+    back: [u64; MAX_NODES as usize],
     /// For each arbiter, whether it has failed the current request (FAILED) or got its grant back,
     /// and has not granted the request since.
-    failed: [bool; MOST_NODES as usize],
+    failed: [bool; MAX_NODES as usize],
     /// For each arbiter, the grant that it has asked back (INQUIRE), while the node waits and does
     /// not know yet whether it will get every grant. `None` if no inquiry is remembered.
-    remembered: [Option<u64>; MOST_NODES as usize],
+    remembered: [Option<u64>; MAX_NODES as usize],
     /// The highest section number that the node knows, from its own sections and from the grants
     /// that it took; 0 at the start. Added to the publication.
     top: u64,
@@ -52,7 +52,7 @@ pub(crate) struct Requester {
 
 impl Model for Requester {
     ghost use Rattle.std.specs.Prelude.{◌≤◌};
-    ghost use Rattle.mx_stamps.specs.declared.limits.TheConstants.{MOST_NODES, MOST_SECTIONS};
+    ghost use Rattle.mx_stamps.specs.declared.limits.TheConstants.{MAX_NODES, MAX_SECTIONS};
     ghost use Rattle.mx_nodelaws.specs.Core.{BearsNumber};
     ghost use Rattle.mx_maekawa.specs.Node.{RequesterState};
 
@@ -75,13 +75,13 @@ impl Model for Requester {
       mine = r.mine;
     } };
 
-    ghost invariant = { λ r. (r.count ≤ MOST_NODES) × (r.mine ≤ MOST_SECTIONS)
-        × (r.limit ≤ MOST_SECTIONS) × BearsNumber r.phase };
+    ghost invariant = { λ r. (r.count ≤ MAX_NODES) × (r.mine ≤ MAX_SECTIONS)
+        × (r.limit ≤ MAX_SECTIONS) × BearsNumber r.phase };
 }
 
 impl Requester {
     ghost use Rattle.std.specs.Prelude.{◌≡◌, ◌≤◌, ◌↔◌, [], length, max, IsTrue};
-    ghost use Rattle.mx_stamps.specs.declared.limits.TheConstants.{MOST_NODES, MOST_SECTIONS};
+    ghost use Rattle.mx_stamps.specs.declared.limits.TheConstants.{MAX_NODES, MAX_SECTIONS};
     ghost use Rattle.mx_nodelaws.specs.Core.{BearsNumber};
     ghost use Rattle.mx_nodelaws.specs.World.{addressed};
     ghost use Rattle.mx_nodelaws.specs.declared.phase.Phase.TheVariants.{Waiting};
@@ -90,13 +90,13 @@ impl Requester {
     /// Creates a requester that has just been started.
     pub(crate) fn start(
         me: NodeId,
-        own: &[bool; MOST_NODES as usize],
+        own: &[bool; MAX_NODES as usize],
         count: u8,
         origin: u64,
         limit: u64,
     ) -> Self
-        requires few { count ≤ MOST_NODES }
-        requires high { limit ≤ MOST_SECTIONS }
+        requires few { count ≤ MAX_NODES }
+        requires high { limit ≤ MAX_SECTIONS }
         ensures { result ≡ start_requester me own.now count origin limit }
     {
         Requester {
@@ -111,10 +111,10 @@ impl Requester {
                 number: 0,
                 node: me,
             },
-            held: [None; MOST_NODES as usize],
-            back: [origin; MOST_NODES as usize],
-            failed: [false; MOST_NODES as usize],
-            remembered: [None; MOST_NODES as usize],
+            held: [None; MAX_NODES as usize],
+            back: [origin; MAX_NODES as usize],
+            failed: [false; MAX_NODES as usize],
+            remembered: [None; MAX_NODES as usize],
             top: 0,
             mine: 0,
         }
@@ -138,7 +138,7 @@ impl Requester {
     /// Returns the number of the last section that the node entered, or 0 before the first.
     pub(crate) fn mine(&self) -> u64
         ensures value { result ≡ self.now.mine }
-        ensures high { result ≤ MOST_SECTIONS }
+        ensures high { result ≤ MAX_SECTIONS }
     {
         self.mine
     }
@@ -189,7 +189,7 @@ impl Requester {
     fn send_missing(&self, letter: &MaekawaMsg, out: &mut Outbox<MaekawaMsg>)
         requires { out.old ≡ [] }
         ensures value { out.new ≡ addressed (to_missing self.now letter.now) self.now.count }
-        ensures room { length out.new ≤ MOST_NODES }
+        ensures room { length out.new ≤ MAX_NODES }
     {
         for i in 0..self.count {
             if let Some(to) = NodeId::of(i) {
@@ -220,9 +220,9 @@ impl Requester {
         };
         self.issued = ours.number;
         self.ours = ours;
-        self.held = [None; MOST_NODES as usize];
-        self.failed = [false; MOST_NODES as usize];
-        self.remembered = [None; MOST_NODES as usize];
+        self.held = [None; MAX_NODES as usize];
+        self.failed = [false; MAX_NODES as usize];
+        self.remembered = [None; MAX_NODES as usize];
         self.phase = Phase::Waiting;
         self.send_own(&MaekawaMsg::Request(ours), out);
         Ok(ours)
@@ -266,7 +266,7 @@ impl Requester {
         self.top += 1;
         self.mine = self.top;
         self.phase = Phase::Inside(self.top);
-        let none_remembered = [None; MOST_NODES as usize];
+        let none_remembered = [None; MAX_NODES as usize];
         self.remembered = none_remembered;
         Ok(self.top)
     }
@@ -317,11 +317,11 @@ impl Requester {
     {
         self.send_own(&MaekawaMsg::Release(self.ours, self.top), out);
         self.phase = Phase::Idle;
-        let no_grants = [None; MOST_NODES as usize];
+        let no_grants = [None; MAX_NODES as usize];
         self.held = no_grants;
-        let no_failures = [false; MOST_NODES as usize];
+        let no_failures = [false; MAX_NODES as usize];
         self.failed = no_failures;
-        let no_inquiries = [None; MOST_NODES as usize];
+        let no_inquiries = [None; MAX_NODES as usize];
         self.remembered = no_inquiries;
     }
 
@@ -329,7 +329,7 @@ impl Requester {
     pub(crate) fn tick(&self, out: &mut Outbox<MaekawaMsg>)
         requires { out.old ≡ [] }
         ensures letters { out.new ≡ request_again self.now }
-        ensures room { length out.new ≤ MOST_NODES }
+        ensures room { length out.new ≤ MAX_NODES }
     {
         if matches!(self.phase, Phase::Waiting) {
             self.send_missing(&MaekawaMsg::Request(self.ours), out);

@@ -14,9 +14,9 @@ use Rattle.mx_member.specs.Journals.{IsJournalOf, IsParcelOf}
 use Rattle.mx_member.specs.Member.{MemberState}
 use Rattle.mx_member.specs.Steps.{IsAcceptable, IsTakeable}
 use Rattle.mx_member.specs.Acts.{Arrives, Grows, IsDoable, act_of}
-use Rattle.mx_sections.specs.Sections.{Section, after_marks, section_journal}
+use Rattle.mx_trace.specs.Sections.{Section, after_marks, section_journal}
 use Rattle.mx_member.specs.Told.{told}
-use Rattle.mx_sections.specs.Serial.{AllFit}
+use Rattle.mx_trace.specs.Serial.{AllFit}
 use Rattle.mx_member.specs.World.{IsMember, IsSound}
 use Rattle.mx_member.proofs.CallsKept.{Keeps, ask_kept, cancel_kept, enter_kept, leave_kept, read_kept, settle_kept, take_kept, tick_kept, want_kept, write_kept}
 use Rattle.mx_member.proofs.DraftSteps.{wake_sound}

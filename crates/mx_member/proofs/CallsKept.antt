@@ -14,8 +14,8 @@ use Rattle.mx_nodelaws.specs.declared.faults.CancelFault.{CancelFault}
 use Rattle.mx_nodelaws.specs.declared.faults.EnterFault.{EnterFault}
 use Rattle.mx_journal.specs.declared.records.Record.{Record}
 use Rattle.mx_journal.specs.declared.ranges.Range.{Range}
-use Rattle.mx_journal.specs.declared.settling.SettleFault.TheVariants as settle
-use Rattle.mx_journal.specs.declared.settling.SettleFault.{SettleFault}
+use Rattle.mx_journal.specs.declared.settlement.SettleFault.TheVariants as settle
+use Rattle.mx_journal.specs.declared.settlement.SettleFault.{SettleFault}
 use Rattle.mx_journal.specs.Agreement.{IsSubmap}
 use Rattle.mx_journal.specs.Drafted.{with_read, with_write}
 use Rattle.mx_journal.specs.Settled.{settled, with_base, with_list}
@@ -34,9 +34,9 @@ use Rattle.mx_member.specs.declared.faults.WriteFault.TheVariants as write
 use Rattle.mx_member.specs.Journals.{IsParcelOf}
 use Rattle.mx_member.specs.Member.{MemberState, first_gap, guarded, with_core, with_draft, with_journal}
 use Rattle.mx_member.specs.Steps.{answers_to, base_to, entered, leave_at, read_at, reaches, records_to, refusing, settle_of, shown_inside, take_of, want_to, write_at}
-use Rattle.mx_sections.specs.Sections.{Mark, after_marks, section_journal}
+use Rattle.mx_trace.specs.Sections.{Mark, after_marks, section_journal}
 use Rattle.mx_member.specs.Told.{told}
-use Rattle.mx_sections.specs.Serial.{AllFit}
+use Rattle.mx_trace.specs.Serial.{AllFit}
 use Rattle.mx_member.specs.World.{IsSound, letters_in}
 use Rattle.mx_member.proofs.CorePart.{letter_of}
 use Rattle.mx_member.proofs.DraftSteps.{read_sound, write_sound}

@@ -17,7 +17,7 @@ use Rattle.mx_member.specs.declared.faults.ReadFault.TheVariants as read
 use Rattle.mx_member.specs.Journals.{IsJournalOf}
 use Rattle.mx_member.specs.Member.{MemberState, first_gap, with_draft}
 use Rattle.mx_member.specs.Steps.{read_at, read_of, refusing, shown_inside}
-use Rattle.mx_sections.specs.Sections.{Section, oldest, section_journal, writes_in}
+use Rattle.mx_trace.specs.Sections.{Section, oldest, section_journal, writes_in}
 use Rattle.mx_member.specs.World.{IsDraftOf, IsMember, IsSound, core_part}
 use Rattle.mx_member.proofs.CorePart.{get_map}
 use Rattle.mx_member.proofs.EntrySteps.{drafted, journal_rest}

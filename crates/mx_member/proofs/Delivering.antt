@@ -5,8 +5,8 @@ use Rattle.mx_journal.specs.declared.records.Record.{Record}
 use Rattle.mx_journal.specs.declared.puts.PutFault.{PutFault}
 use Rattle.mx_journal.specs.declared.puts.PutFault.TheVariants as put
 use Rattle.arrayvec.specs.ArrayVec.{ArrayVec}
-use Rattle.mx_journal.specs.declared.settling.BaseFault.{BaseFault}
-use Rattle.mx_journal.specs.declared.settling.BaseFault.TheVariants as base
+use Rattle.mx_journal.specs.declared.settlement.BaseFault.{BaseFault}
+use Rattle.mx_journal.specs.declared.settlement.BaseFault.TheVariants as base
 use Rattle.mx_journal.specs.Agreement.{IsConsistent, IsFirstConflict}
 use Rattle.mx_journal.specs.Bases.{AreOpposed, BaseState}
 use Rattle.mx_journal.specs.Records.{IsNumbered, IsThere}

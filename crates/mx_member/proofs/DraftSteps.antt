@@ -14,8 +14,8 @@ use Rattle.mx_member.specs.declared.parcel.Parcel.{Parcel}
 use Rattle.mx_member.specs.Journals.{IsJournalOf}
 use Rattle.mx_member.specs.Member.{MemberState, first_gap, with_draft}
 use Rattle.mx_member.specs.Steps.{shown_inside}
-use Rattle.mx_sections.specs.Sections.{Section, Got, Wrote, at_open, redrafted, section_journal, writes_in}
-use Rattle.mx_sections.specs.Serial.{Fits, IsInNewest, IsSerialRead, ReadSerially}
+use Rattle.mx_trace.specs.Sections.{Section, Got, Wrote, at_open, redrafted, section_journal, writes_in}
+use Rattle.mx_trace.specs.Serial.{Fits, IsInNewest, IsSerialRead, ReadSerially}
 use Rattle.mx_member.specs.World.{IsMember, IsSound, draft_of}
 use Rattle.mx_member.proofs.Consequences.{never_settled}
 use Rattle.mx_member.proofs.CoreSteps.{alone, core_still, counted_same}

@@ -14,8 +14,8 @@ use Rattle.mx_journal.proofs.Settled.{ascending_beyond}
 use Rattle.mx_member.specs.declared.parcel.Parcel.{Parcel}
 use Rattle.mx_member.specs.Member.{MemberState, guarded, with_core, with_draft}
 use Rattle.mx_member.specs.Steps.{left}
-use Rattle.mx_sections.specs.Sections.{Section, Came, Went, at_open, closing, opened, section_journal, section_receipt}
-use Rattle.mx_sections.specs.Serial.{AllClosed, Fits, ReadSerially}
+use Rattle.mx_trace.specs.Sections.{Section, Came, Went, at_open, closing, opened, section_journal, section_receipt}
+use Rattle.mx_trace.specs.Serial.{AllClosed, Fits, ReadSerially}
 use Rattle.mx_member.specs.World.{IsDraftOf, IsSound, core_part, draft_of}
 use Rattle.mx_member.proofs.CorePart.{get_map, letters_guarded, map_set}
 use Rattle.mx_member.proofs.CoreSteps.{alone, core_kept, counted_same, letters_sent}

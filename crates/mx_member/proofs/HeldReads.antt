@@ -10,8 +10,8 @@ use Rattle.mx_journal.specs.Records.{top_of}
 use Rattle.mx_journal.proofs.Choices.{compared}
 use Rattle.mx_registers.specs.Registers.{applied, register_of}
 use Rattle.mx_registers.proofs.Applying.{applied_append, applied_last}
-use Rattle.mx_sections.specs.Sections.{Got, Section, section_journal, section_receipt, writes_in}
-use Rattle.mx_sections.specs.Serial.{AllClosed, Fits, IsSerialRead}
+use Rattle.mx_trace.specs.Sections.{Got, Section, section_journal, section_receipt, writes_in}
+use Rattle.mx_trace.specs.Serial.{AllClosed, Fits, IsSerialRead}
 use Rattle.mx_member.proofs.SectionLists.{journal_ascends, journal_high, journal_newest, journal_older, oldest_all}
 use Rattle.mx_member.proofs.SectionWrites.{gapless_shows}
 

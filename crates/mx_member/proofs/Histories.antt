@@ -8,8 +8,8 @@ use Rattle.mx_journal.specs.Drafted.{with_read, with_write, fresh}
 use Rattle.mx_journal.proofs.Choices.{cond_true, cond_false}
 use Rattle.mx_member.specs.declared.parcel.Parcel.{Parcel}
 use Rattle.mx_member.specs.Member.{MemberState}
-use Rattle.mx_sections.specs.Sections.{Came, Got, Mark, Section, Went, Woke, Wrote, after_mark, after_marks, at_open, closing, opened, redrafted}
-use Rattle.mx_sections.specs.Serial.{AllClosed, AllFit, Alternate, NumberedFrom}
+use Rattle.mx_trace.specs.Sections.{Came, Got, Mark, Section, Went, Woke, Wrote, after_mark, after_marks, at_open, closing, opened, redrafted}
+use Rattle.mx_trace.specs.Serial.{AllClosed, AllFit, Alternate, NumberedFrom}
 use Rattle.mx_member.specs.World.{IsSound}
 use Rattle.mx_member.proofs.SectionLists.{at_open_newest, at_open_none, length_at_open}
 

@@ -5,8 +5,8 @@ use Rattle.mx_nodelaws.specs.Core.{Core, IsInside}
 use Rattle.mx_nodelaws.specs.declared.phase.Phase.TheVariants.{Inside}
 use Rattle.mx_member.specs.declared.parcel.Parcel.{Parcel}
 use Rattle.mx_member.specs.Member.{MemberState}
-use Rattle.mx_sections.specs.Sections.{Section}
-use Rattle.mx_sections.specs.Serial.{AllClosed, IsInNewest, IsInSection}
+use Rattle.mx_trace.specs.Sections.{Section}
+use Rattle.mx_trace.specs.Serial.{AllClosed, IsInNewest, IsInSection}
 use Rattle.mx_member.specs.World.{IsMember, IsSound}
 use Rattle.mx_member.proofs.DraftSteps.{someone}
 use Rattle.mx_member.proofs.EntrySteps.{drafted}

@@ -15,7 +15,7 @@ use Rattle.mx_nodelaws.specs.Core.{Core}
 use Rattle.mx_member.specs.declared.parcel.Parcel.{Parcel}
 use Rattle.mx_member.specs.Journals.{IsBaseOf, IsJournalOf}
 use Rattle.mx_member.specs.Running.{IsAboveNodes, IsJoinOfNodes, IsNode, IsRunning, Owned}
-use Rattle.mx_sections.specs.Sections.{section_journal}
+use Rattle.mx_trace.specs.Sections.{section_journal}
 use Rattle.mx_member.proofs.OfSections.{journals_of_one, origin_of}
 use Rattle.mx_member.proofs.Running.{member_at}
 use Rattle.mx_member.proofs.SectionLists.{journal_ascends}

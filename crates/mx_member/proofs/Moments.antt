@@ -14,8 +14,8 @@ use Rattle.mx_member.specs.declared.parcel.Parcel.{Parcel}
 use Rattle.mx_member.specs.Journals.{IsJournalOf, IsParcelOf}
 use Rattle.mx_member.specs.Member.{MemberState}
 use Rattle.mx_member.specs.Acts.{Grows}
-use Rattle.mx_sections.specs.Sections.{Section, section_journal}
-use Rattle.mx_sections.specs.Serial.{AllClosed, ReadSerially}
+use Rattle.mx_trace.specs.Sections.{Section, section_journal}
+use Rattle.mx_trace.specs.Serial.{AllClosed, ReadSerially}
 use Rattle.mx_member.specs.World.{IsDraftOf, IsMember, IsSound, core_part}
 use Rattle.mx_member.proofs.CorePart.{get_map}
 use Rattle.mx_member.proofs.OfSections.{journal_stays, parcel_stays}

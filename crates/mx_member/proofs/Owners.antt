@@ -13,9 +13,9 @@ use Rattle.mx_member.specs.Acts.{Arrives, Grows, act_of}
 use Rattle.mx_member.specs.Member.{MemberState}
 use Rattle.mx_member.specs.Receipts.{own_in, receipts_in}
 use Rattle.mx_member.specs.Running.{IsNode, IsRun, Owned, members_of, owned_after, owned_start, owners, owners_from}
-use Rattle.mx_sections.specs.Sections.{Section, after_marks}
+use Rattle.mx_trace.specs.Sections.{Section, after_marks}
 use Rattle.mx_member.specs.Told.{told}
-use Rattle.mx_sections.specs.Serial.{AllFit}
+use Rattle.mx_trace.specs.Serial.{AllFit}
 use Rattle.mx_member.specs.Steps.{start_of}
 use Rattle.mx_member.specs.World.{IsMember, IsSound}
 use Rattle.mx_member.proofs.CorePart.{map_each_below, map_set}

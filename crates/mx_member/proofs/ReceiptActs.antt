@@ -9,8 +9,8 @@ use Rattle.mx_nodelaws.specs.declared.phase.Phase.TheVariants.{Idle, Waiting, In
 use Rattle.mx_nodelaws.specs.declared.faults.EnterFault.{EnterFault}
 use Rattle.mx_nodelaws.specs.declared.faults.LeaveFault.{LeaveFault}
 use Rattle.mx_journal.specs.declared.receipts.Receipt.{Receipt}
-use Rattle.mx_journal.specs.declared.settling.SettleFault.{SettleFault}
-use Rattle.mx_journal.specs.declared.settling.SettleFault.TheVariants as settle
+use Rattle.mx_journal.specs.declared.settlement.SettleFault.{SettleFault}
+use Rattle.mx_journal.specs.declared.settlement.SettleFault.TheVariants as settle
 use Rattle.mx_journal.specs.Drafted.{receipt_of, record_of, with_read, with_write}
 use Rattle.mx_journal.specs.Records.{Ascending}
 use Rattle.mx_journal.specs.Settled.{Covers, settled}
@@ -27,7 +27,7 @@ use Rattle.mx_member.specs.declared.faults.WriteFault.TheVariants as write
 use Rattle.mx_member.specs.Acts.{act_of}
 use Rattle.mx_member.specs.Member.{MemberState, first_gap, with_core, with_draft, with_journal}
 use Rattle.mx_member.specs.Receipts.{closed_by}
-use Rattle.mx_sections.specs.Sections.{Section}
+use Rattle.mx_trace.specs.Sections.{Section}
 use Rattle.mx_member.specs.Told.{told}
 use Rattle.mx_member.specs.Steps.{entered, leave_at, read_at, refusing, settle_of, shown_inside, take_of, write_at}
 use Rattle.mx_member.specs.World.{IsMember, IsSound}

@@ -12,7 +12,7 @@ use Rattle.mx_journal.proofs.Maps.{record_at_case}
 use Rattle.mx_registers.specs.Registers.{writes_of, writes_to}
 use Rattle.mx_member.specs.Receipts.{StandInOrder, own_in, receipt_writes, records_of}
 use Rattle.mx_member.specs.Running.{IsHistory, IsNode, IsReceiptAt, Owned, receipt_count}
-use Rattle.mx_sections.specs.Serial.{IsSerialRead}
+use Rattle.mx_trace.specs.Serial.{IsSerialRead}
 use Rattle.mx_member.proofs.OwnReceipts.{in_own, own_ascends, own_count, own_has, own_place, place_in, sum_below}
 use Rattle.mx_member.proofs.ReceiptLists.{ordered_each, ordered_same, ordered_within}
 

@@ -6,8 +6,8 @@ use Rattle.mx_journal.specs.declared.receipts.Receipt.{Receipt}
 use Rattle.mx_journal.specs.Drafted.{Drafted, record_of, with_read, with_write, fresh}
 use Rattle.mx_journal.proofs.Choices.{cond_true, cond_false}
 use Rattle.mx_member.specs.Receipts.{StandInOrder, receipt_writes, receipts_in, records_of}
-use Rattle.mx_sections.specs.Sections.{Came, Got, Mark, Section, Went, Woke, Wrote, after_mark, after_marks, at_open, closed_record, closing, redrafted, section_journal, section_receipt, writes_in}
-use Rattle.mx_sections.specs.Serial.{AllClosed, AllFit, Fits, IsSerialRead, ReadSerially}
+use Rattle.mx_trace.specs.Sections.{Came, Got, Mark, Section, Went, Woke, Wrote, after_mark, after_marks, at_open, closed_record, closing, redrafted, section_journal, section_receipt, writes_in}
+use Rattle.mx_trace.specs.Serial.{AllClosed, AllFit, Fits, IsSerialRead, ReadSerially}
 use Rattle.mx_member.proofs.SectionLists.{at_open_newest, length_at_open}
 
 -- the receipt of a mark, and those of marks, the newest first

@@ -3,7 +3,7 @@ use Rattle.std.proofs.Common.{ℕ, ◌≡◌, [], Result, Ok, Err, length, nat_l
 use Rattle.mx_stamps.proofs.Lists.{cond_case}
 use Rattle.mx_stamps.specs.declared.stamp.Stamp.{Stamp}
 use Rattle.mx_journal.specs.Drafted.{with_read, with_write}
-use Rattle.mx_journal.specs.declared.settling.SettleFault.{SettleFault}
+use Rattle.mx_journal.specs.declared.settlement.SettleFault.{SettleFault}
 use Rattle.mx_journal.specs.Settled.{settled}
 use Rattle.mx_nodelaws.specs.World.{Done, Quiet}
 use Rattle.mx_nodelaws.specs.Core.{Core, KeepsPhases}

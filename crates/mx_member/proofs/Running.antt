@@ -15,9 +15,9 @@ use Rattle.mx_member.specs.declared.parcel.Parcel.{Parcel}
 use Rattle.mx_member.specs.Acts.{Arrives, Grows, act_of}
 use Rattle.mx_member.specs.Receipts.{StandInOrder, closed_by, own_in, receipts_in}
 use Rattle.mx_member.specs.Running.{IsHistory, IsNode, IsRun, IsRunning, Owned, members_of, owned_after, owned_start}
-use Rattle.mx_sections.specs.Sections.{Section, after_marks}
+use Rattle.mx_trace.specs.Sections.{Section, after_marks}
 use Rattle.mx_member.specs.Told.{told}
-use Rattle.mx_sections.specs.Serial.{AllFit, ReadSerially}
+use Rattle.mx_trace.specs.Serial.{AllFit, ReadSerially}
 use Rattle.mx_member.specs.World.{IsMember, IsSound}
 use Rattle.mx_member.proofs.ActsKept.{act_kept}
 use Rattle.mx_member.proofs.AtRest.{at_start}

@@ -27,8 +27,8 @@ use Rattle.mx_member.specs.Journals.{IsJournalOf}
 use Rattle.mx_member.specs.Member.{MemberState}
 use Rattle.mx_member.specs.Receipts.{receipts_in, records_of}
 use Rattle.mx_member.specs.Running.{IsAccount, IsHistory, IsJoinOfNodes, IsNode, IsReceiptAt, IsRunning, Owned, members_of, receipt_count}
-use Rattle.mx_sections.specs.Sections.{section_journal}
-use Rattle.mx_sections.specs.Serial.{IsSerialRead}
+use Rattle.mx_trace.specs.Sections.{section_journal}
+use Rattle.mx_trace.specs.Serial.{IsSerialRead}
 use Rattle.mx_member.specs.Steps.{IsTakeable}
 use Rattle.mx_member.specs.World.{IsMember, core_part}
 use Rattle.mx_member.proofs.ActsKept.{doable}

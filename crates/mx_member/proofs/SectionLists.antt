@@ -10,9 +10,9 @@ use Rattle.mx_journal.specs.Records.{Ascending, IsNumbered}
 use Rattle.mx_journal.specs.Settled.{Covers, JournalState}
 use Rattle.mx_journal.proofs.Choices.{cond_true, cond_false, eq_is, eq_not, lt_is}
 use Rattle.mx_journal.proofs.Maps.{ascending_above, ascending_same}
-use Rattle.mx_sections.specs.Sections.{Section, at_open, closed_record, oldest, section_journal, section_receipt}
+use Rattle.mx_trace.specs.Sections.{Section, at_open, closed_record, oldest, section_journal, section_receipt}
 use Rattle.mx_member.specs.Journals.{IsJournalOf}
-use Rattle.mx_sections.specs.Serial.{AllClosed}
+use Rattle.mx_trace.specs.Serial.{AllClosed}
 use Rattle.mx_member.proofs.OfSections.{covered_there}
 
 -- the newest section, where it is open, is its node's

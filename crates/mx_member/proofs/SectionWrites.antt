@@ -19,7 +19,7 @@ use Rattle.mx_registers.proofs.Based.{registers_unsettled}
 use Rattle.mx_registers.proofs.Covered.{IsOf, same_coverage}
 use Rattle.mx_member.specs.Journals.{IsJournalOf}
 use Rattle.mx_member.specs.Member.{first_gap}
-use Rattle.mx_sections.specs.Sections.{Section, oldest, section_journal, writes_in}
+use Rattle.mx_trace.specs.Sections.{Section, oldest, section_journal, writes_in}
 use Rattle.mx_member.specs.Steps.{register_below}
 use Rattle.mx_member.proofs.Covering.{covered_to_gap, top_covers}
 use Rattle.mx_member.proofs.OfSections.{covered_there, origin_of}

@@ -6,7 +6,7 @@ use Rattle.mx_stamps.proofs.Lists.{in_append}
 use Rattle.mx_journal.specs.declared.records.Write.{Write}
 use Rattle.mx_journal.specs.declared.receipts.Read.{Read}
 use Rattle.mx_registers.specs.Registers.{applied}
-use Rattle.mx_sections.specs.Serial.{IsSerialRead}
+use Rattle.mx_trace.specs.Serial.{IsSerialRead}
 
 -- a write comes after the reads before it
 pub serial_write : (before writes : List Write) (w : Write) (read : Read) → IsSerialRead before writes read → IsSerialRead before (writes ++ w ∷ []) read

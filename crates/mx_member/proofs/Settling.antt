@@ -2,8 +2,8 @@
 use Rattle.std.proofs.Common.{ℕ, suc, ◌<◌, ◌≤◌, ◌≡◌, ◌↔◌, Result, Ok, Err, IsOk, OnErr, OnOk, List, nat_le, nat_lt, refl, sym, ◌∙◌, ap, arith}
 use Rattle.std.proofs.lemmas.Bool.Decides.{nat_tests}
 use Rattle.mx_stamps.proofs.Choices.{cond_false, cond_true, lt_is, lt_not}
-use Rattle.mx_journal.specs.declared.settling.SettleFault.{SettleFault}
-use Rattle.mx_journal.specs.declared.settling.SettleFault.TheVariants as settle
+use Rattle.mx_journal.specs.declared.settlement.SettleFault.{SettleFault}
+use Rattle.mx_journal.specs.declared.settlement.SettleFault.TheVariants as settle
 use Rattle.mx_journal.specs.Bases.{AreCellsOf}
 use Rattle.mx_journal.specs.Records.{Ascending}
 use Rattle.mx_journal.specs.Settled.{IsCovered, IsFirstGap, JournalState, settled}

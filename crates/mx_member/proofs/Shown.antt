@@ -6,9 +6,9 @@ use Rattle.mx_journal.specs.declared.receipts.Read.{Read}
 use Rattle.mx_journal.specs.declared.receipts.Receipt.{Receipt}
 use Rattle.mx_member.specs.declared.acts.Act.TheVariants as act
 use Rattle.mx_member.specs.declared.acts.Answer.TheVariants as answer
-use Rattle.mx_sections.specs.Sections.{Came, Got, Mark, Went, Woke, Wrote, after_marks, section_journal}
+use Rattle.mx_trace.specs.Sections.{Came, Got, Mark, Went, Woke, Wrote, after_marks, section_journal}
 use Rattle.mx_member.specs.Told.{told}
-use Rattle.mx_sections.specs.Serial.{AllFit, Alternate, NumberedFrom}
+use Rattle.mx_trace.specs.Serial.{AllFit, Alternate, NumberedFrom}
 use Rattle.mx_member.proofs.Histories.{alternate_if_fit, numbered_if_fit}
 
 -- the receipt of a section

@@ -12,7 +12,7 @@ use Rattle.mx_journal.specs.Settled.{JournalState}
 use Rattle.mx_member.specs.declared.parcel.Parcel.{Parcel}
 use Rattle.mx_member.specs.Journals.{IsJournalOf, IsParcelOf}
 use Rattle.mx_member.specs.Member.{MemberState, guarded, with_core, with_journal}
-use Rattle.mx_sections.specs.Sections.{Section, section_journal}
+use Rattle.mx_trace.specs.Sections.{Section, section_journal}
 use Rattle.mx_member.specs.World.{IsDraftOf, IsMember, IsSound, core_part, draft_of, letters_in}
 use Rattle.mx_member.proofs.CorePart.{letters_guarded}
 use Rattle.mx_member.proofs.CoreSteps.{core_kept, core_still, counted_same, letters_sent}

@@ -1,6 +1,6 @@
 -- The faults of a member for those of its journal.
-use Rattle.mx_journal.specs.declared.settling.BaseFault.{BaseFault}
-use Rattle.mx_journal.specs.declared.settling.BaseFault.TheVariants as base
+use Rattle.mx_journal.specs.declared.settlement.BaseFault.{BaseFault}
+use Rattle.mx_journal.specs.declared.settlement.BaseFault.TheVariants as base
 use Rattle.mx_journal.specs.declared.puts.PutFault.{PutFault}
 use Rattle.mx_journal.specs.declared.puts.PutFault.TheVariants as put
 use Rattle.mx_member.specs.declared.faults.DeliverFault.{DeliverFault}

@@ -8,8 +8,8 @@ use Rattle.mx_journal.specs.declared.receipts.Receipt.{Receipt}
 use Rattle.mx_journal.specs.Drafted.{record_of}
 use Rattle.mx_member.specs.declared.acts.Answer.{Answer}
 use Rattle.mx_member.specs.declared.acts.Answer.TheVariants as answer
-use Rattle.mx_sections.specs.Sections.{Section, section_receipt}
-use Rattle.mx_sections.specs.Serial.{IsSerialRead}
+use Rattle.mx_trace.specs.Sections.{Section, section_receipt}
+use Rattle.mx_trace.specs.Serial.{IsSerialRead}
 
 -- the receipt in a result, if it is that of an accepted leave
 abbrev pub closed_by : Answer → List Receipt

@@ -1,6 +1,6 @@
 -- Nodes with their own receipts, and what holds in a running world of them.
 use Rattle.std.specs.Prelude.{ℕ, suc, ◌≡◌, ◌<◌, ◌≤◌, ◌↔◌, ◌+◌, ◌++◌, ◌⊎◌, List, [], ◌∷◌, Some, length, map, slice_get}
-use Rattle.mx_stamps.specs.declared.limits.TheConstants.{MOST_REGISTERS}
+use Rattle.mx_stamps.specs.declared.limits.TheConstants.{MAX_REGISTERS}
 use Rattle.mx_stamps.specs.Lists.{IsIn}
 use Rattle.mx_journal.specs.declared.records.Record.{Record}
 use Rattle.mx_journal.specs.declared.receipts.Read.{Read}
@@ -18,8 +18,8 @@ use Rattle.mx_member.specs.declared.parcel.Parcel.{Parcel}
 use Rattle.mx_member.specs.Acts.{act_of}
 use Rattle.mx_member.specs.Member.{MemberState}
 use Rattle.mx_member.specs.Receipts.{StandInOrder, closed_by, own_in, receipts_in}
-use Rattle.mx_sections.specs.Sections.{Section}
-use Rattle.mx_sections.specs.Serial.{IsSerialRead}
+use Rattle.mx_trace.specs.Sections.{Section}
+use Rattle.mx_trace.specs.Serial.{IsSerialRead}
 use Rattle.mx_member.specs.Steps.{start_of}
 use Rattle.mx_member.specs.World.{IsSound}
 
@@ -142,5 +142,5 @@ pub record IsAccount {S : Type 0} (nodes : List (Owned S)) (sections : List Reco
   pub reads : (i k n : ℕ) (r : Receipt) (x : Read) → IsReceiptAt nodes i k r → r.number ≡ suc n →
       IsIn x r.reads.items → IsSerialRead (writes_to n sections) r.writes.items x
   -- and each register of the journal has its value after the writes of all sections, in order
-  pub shows : (count : ℕ) → count ≤ MOST_REGISTERS →
+  pub shows : (count : ℕ) → count ≤ MAX_REGISTERS →
       AreApplied (writes_to (receipt_count nodes) sections) (registers_in count journal)

@@ -14,8 +14,8 @@ use Rattle.mx_nodelaws.specs.declared.faults.LeaveFault.TheVariants as leave
 use Rattle.mx_journal.specs.declared.ranges.Range.{Range}
 use Rattle.mx_journal.specs.declared.records.Record.{Record}
 use Rattle.mx_journal.specs.declared.receipts.Receipt.{Receipt}
-use Rattle.mx_journal.specs.declared.settling.SettleFault.{SettleFault}
-use Rattle.mx_journal.specs.declared.settling.SettleFault.TheVariants as settle
+use Rattle.mx_journal.specs.declared.settlement.SettleFault.{SettleFault}
+use Rattle.mx_journal.specs.declared.settlement.SettleFault.TheVariants as settle
 use Rattle.mx_journal.specs.Agreement.{IsConsistent, IsFirstConflict}
 use Rattle.mx_journal.specs.Bases.{AreOpposed}
 use Rattle.mx_journal.specs.Drafted.{last_value, with_read, with_write, receipt_of, record_of, fresh}

@@ -1,6 +1,6 @@
 -- The marks of an act: what it does in sections.
 use Rattle.std.specs.Prelude.{ℕ, List, [], ◌∷◌, Ok}
-use Rattle.mx_sections.specs.Sections.{Mark, Came, Got, Wrote, Went, Woke}
+use Rattle.mx_trace.specs.Sections.{Mark, Came, Got, Wrote, Went, Woke}
 use Rattle.mx_member.specs.declared.acts.Act.{Act}
 use Rattle.mx_member.specs.declared.acts.Act.TheVariants as act
 use Rattle.mx_member.specs.declared.acts.Answer.{Answer}

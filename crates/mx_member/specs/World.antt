@@ -1,7 +1,7 @@
 -- Whole worlds: members, the parcels ever sent, and the sections so far; and what holds in each of
 -- them.
 use Rattle.std.specs.Prelude.{ℕ, suc, ◌≡◌, ◌<◌, ◌≤◌, ◌++◌, false, List, [], ◌∷◌, Some, length, map, slice_get}
-use Rattle.mx_stamps.specs.declared.limits.TheConstants.{MOST_REGISTERS}
+use Rattle.mx_stamps.specs.declared.limits.TheConstants.{MAX_REGISTERS}
 use Rattle.mx_stamps.specs.Lists.{IsIn}
 use Rattle.mx_journal.specs.Records.{Ascending}
 use Rattle.mx_nodelaws.specs.World.{World}
@@ -11,8 +11,8 @@ use Rattle.mx_nodelaws.specs.declared.phase.Phase.TheVariants.{Inside}
 use Rattle.mx_member.specs.declared.parcel.Parcel.{Parcel}
 use Rattle.mx_member.specs.Journals.{IsJournalOf, IsParcelOf}
 use Rattle.mx_member.specs.Member.{MemberState, letter_in}
-use Rattle.mx_sections.specs.Sections.{Section, section_journal}
-use Rattle.mx_sections.specs.Serial.{AllClosed, ReadSerially}
+use Rattle.mx_trace.specs.Sections.{Section, section_journal}
+use Rattle.mx_trace.specs.Serial.{AllClosed, ReadSerially}
 
 -- the letters of the cores among the parcels
 abbrev pub letters_in : {M : Type 0} → List (ℕ × ℕ × Parcel M) → List (ℕ × ℕ × M)
@@ -56,7 +56,7 @@ pub record IsSound {H S M : Type 0} (core : Core H S M) (Good : World S M → Ty
   pub known : (i : ℕ) (m : MemberState S) → IsMember members i m → m.setting.nodes ≡ length members
   -- there are at most as many registers as in a base
   pub few : (i : ℕ) (m : MemberState S) → IsMember members i m
-      → m.setting.registers ≤ MOST_REGISTERS
+      → m.setting.registers ≤ MAX_REGISTERS
   -- journals, bases and records in parcels are of the section journal
   pub journals : (i : ℕ) (m : MemberState S) → IsMember members i m →
       IsJournalOf (section_journal ss) m.journal

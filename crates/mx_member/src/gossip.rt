@@ -2,7 +2,7 @@
 
 ghost use Rattle.std.specs.Prelude.{ℕ, ◌≡◌, ◌≤◌, ◌<◌, ◌↔◌, ◌⊎◌, ◌++◌, [], List, length, Err, IfOk, IsOk, OnErr, OnOk};
 ghost use Rattle.std.specs.List.{list_any};
-ghost use Rattle.mx_stamps.specs.declared.limits.TheConstants.{MOST_REGISTERS};
+ghost use Rattle.mx_stamps.specs.declared.limits.TheConstants.{MAX_REGISTERS};
 ghost use Rattle.mx_journal.specs.declared.records.Record.{Record};
 ghost use Rattle.mx_journal.specs.Bases.{AreOpposed, BaseState};
 ghost use Rattle.mx_journal.specs.Records.{Ascending};
@@ -202,7 +202,7 @@ fn take_base(
     base: &Base,
 ) -> Result<(), BaseFault>
     requires least { 1 ≤ registers }
-    requires most { registers ≤ MOST_REGISTERS }
+    requires most { registers ≤ MAX_REGISTERS }
     ensures conflict { (n : ℕ) → (result ≡ Err (BaseFault.Conflict n))
         ↔ ((n ≡ base.now.upto) × AreOpposed journal.old.base base.now) }
     ensures agreed { IsOk result

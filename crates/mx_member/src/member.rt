@@ -1,7 +1,7 @@
 //! The member, and the calls that it passes to its core.
 
 ghost use Rattle.std.specs.Prelude.{◌≡◌, ◌≤◌, ◌<◌, []};
-ghost use Rattle.mx_stamps.specs.declared.limits.TheConstants.{MOST_REGISTERS, MOST_SECTIONS};
+ghost use Rattle.mx_stamps.specs.declared.limits.TheConstants.{MAX_REGISTERS, MAX_SECTIONS};
 ghost use Rattle.mx_nodelaws.specs.Core.{BearsNumber};
 ghost use Rattle.mx_member.specs.Steps.{ask_of, cancel_of, enter_of, start_of, tick_of};
 
@@ -34,7 +34,7 @@ pub struct Member<C: Exclusion> {
 
 impl<C: Exclusion> Model for Member<C> {
     ghost use Rattle.std.specs.Prelude.{◌≡◌, ◌≤◌, ◌<◌, [], length};
-    ghost use Rattle.mx_stamps.specs.declared.limits.TheConstants.{MOST_REGISTERS};
+    ghost use Rattle.mx_stamps.specs.declared.limits.TheConstants.{MAX_REGISTERS};
     ghost use Rattle.mx_member.specs.Member.{IsViewOf, MemberState};
 
     ghost Value = { MemberState C };
@@ -46,7 +46,7 @@ impl<C: Exclusion> Model for Member<C> {
       draft = m.draft;
     } };
 
-    ghost invariant = { λ m. (m.letters ≡ []) × (0 < m.registers) × (m.registers ≤ MOST_REGISTERS)
+    ghost invariant = { λ m. (m.letters ≡ []) × (0 < m.registers) × (m.registers ≤ MAX_REGISTERS)
         × (length m.draft.reads ≤ 8) × (length m.draft.writes ≤ 8)
         × IsViewOf m.registers m.journal m.shown };
 }
@@ -64,9 +64,9 @@ impl<C: Exclusion> Member<C> {
     ) -> Self
         requires node { me < C.core.count shape.now }
         requires low { 0 < limit }
-        requires high { limit ≤ MOST_SECTIONS }
+        requires high { limit ≤ MAX_SECTIONS }
         requires some { 0 < registers }
-        requires few { registers ≤ MOST_REGISTERS }
+        requires few { registers ≤ MAX_REGISTERS }
         ensures { result ≡ start_of C.core shape.now me origin limit registers }
     {
         Member {
@@ -158,7 +158,7 @@ impl<C: Exclusion> Member<C> {
     /// Returns the number of the last section that this node entered, or 0 before the first.
     pub fn mine(&self) -> u64
         ensures value { result ≡ C.core.mine self.now.core }
-        ensures high { result ≤ MOST_SECTIONS }
+        ensures high { result ≤ MAX_SECTIONS }
     {
         self.core.mine()
     }

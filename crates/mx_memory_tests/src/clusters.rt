@@ -1,7 +1,7 @@
 //! A cluster starts, reserves memory, steps, advances and runs, and its journals are merged.
 
 use crate::members::member_shown;
-use crate::telling::{back, call, expect, refused};
+use crate::report::{back, call, expect, refused};
 use anyhow::{Result, bail};
 use mx_journal::Journal;
 use mx_merge::MergeFault;

@@ -4,7 +4,7 @@ ghost use Rattle.std.specs.Prelude.{IfOk};
 ghost use Rattle.mx_jobs.specs.Runs.{AreNew};
 ghost use Rattle.mx_ricart.specs.Step.{ricart_core};
 
-use crate::telling::{back, call, expect, refused};
+use crate::report::{back, call, expect, refused};
 use anyhow::{Result, bail};
 use arrayvec::ArrayVec;
 use mx_jobs::{

@@ -1,7 +1,7 @@
 //! Puts, merges and joins. Beside each journal there is its twin with the same records, to which no
 //! memory is refused.
 
-use crate::telling::{back, call, expect, refused};
+use crate::report::{back, call, expect, refused};
 use anyhow::Result;
 use mx_journal::{Journal, Put, PutFault, Record, Write};
 use mx_merge::{MergeFault, agree, merge};

@@ -2,7 +2,7 @@
 //! A line `call NAME` comes before such a call, and `back` after it. If it returned that memory ran
 //! out, its promises are checked, `refused NAME` is printed, and the call is made again, which has
 //! to succeed. Anything else ends the program with status 1. The file `stdout`, in which no call is
-//! refused, refuses the wrong body `always_out_of_memory`.
+//! refused, refuses the mutant `always_out_of_memory`.
 #![tactic(auto)]
 
 mod clusters;
@@ -10,8 +10,8 @@ mod jobs;
 mod journals;
 mod members;
 mod readers;
+mod report;
 mod stations;
-mod telling;
 mod texts;
 
 use anyhow::Result;

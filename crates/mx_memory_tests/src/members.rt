@@ -3,7 +3,7 @@
 ghost use Rattle.std.specs.Prelude.{◌≡◌, []};
 
 use crate::journals::record;
-use crate::telling::{back, call, expect, refused};
+use crate::report::{back, call, expect, refused};
 use anyhow::{Result, bail};
 use arrayvec::ArrayVec;
 use mx_journal::Receipt;

@@ -1,6 +1,6 @@
 //! A plan and events are read, and a schedule is drawn. If memory is refused there is no value.
 
-use crate::telling::{back, call, expect, refused};
+use crate::report::{back, call, expect, refused};
 use crate::texts;
 use anyhow::{Result, bail};
 use mx_explorer::schedule;

@@ -3,7 +3,7 @@
 ghost use Rattle.std.specs.Prelude.{◌≡◌, length};
 ghost use Rattle.mx_stations.specs.Gathered.{OfOneTable};
 
-use crate::telling::{back, call, expect, refused};
+use crate::report::{back, call, expect, refused};
 use anyhow::{Result, bail};
 use mx_letters::{Fate, Fates};
 use mx_member::CloseFault;

@@ -2,16 +2,16 @@
 //! the string that takes the text, and the text starts again.
 
 use crate::members::{parcel_of, started};
-use crate::telling::{back, call, expect, refused};
+use crate::report::{back, call, expect, refused};
 use anyhow::{Result, bail};
 use arrayvec::ArrayVec;
+use mx_format::{Letter, add_asks, add_member_line, add_parcel, add_parcel_line, add_plan};
 use mx_journal::{Base, Cell, Range};
 use mx_letters::{MaekawaMsg, RaymondMsg, RicartMsg};
 use mx_member::{Member, Parcel, SentParcel};
 use mx_plan::Plan;
 use mx_ricart::Ricart;
 use mx_stamps::{NodeId, Stamp};
-use mx_texts::{Letter, add_asks, add_member_line, add_parcel, add_parcel_line, add_plan};
 use std::alloc::{AllocError, Global};
 
 /// The subject of a text.

@@ -5,9 +5,9 @@
 mod agreement;
 mod answers;
 mod gaps;
-mod merging;
+mod join;
 
 pub use agreement::agree;
 pub use answers::answer;
 pub use gaps::missing;
-pub use merging::{MergeFault, merge};
+pub use join::{MergeFault, merge};

@@ -15,7 +15,7 @@ use Rattle.mx_events.specs.declared.event.Event.TheVariants as event
 use Rattle.mx_network.specs.declared.faults.StepFault.{StepFault}
 use Rattle.mx_network.specs.declared.faults.StepFault.TheVariants.{NoNode, NoParcel}
 use Rattle.mx_network.specs.Step.{answer_of, delivery_of, own_act, own_node, part_of, IsByItself}
-use Rattle.mx_sections.specs.Trace.{mark_of}
+use Rattle.mx_trace.specs.Trace.{mark_of}
 use Rattle.mx_network.proofs.Marks.{entering, reading, writing, leaving}
 
 pub same_Ok : {A E : Type 0} (x y : A) → ◌≡◌ {A = Result A E} (Ok x) (Ok y) → x ≡ y

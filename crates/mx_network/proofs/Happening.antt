@@ -11,8 +11,8 @@ use Rattle.mx_member.specs.declared.parcel.Parcel.{Parcel}
 use Rattle.mx_member.specs.Member.{MemberState}
 use Rattle.mx_events.specs.declared.event.Event.{Event}
 use Rattle.mx_events.specs.declared.event.Event.TheVariants as event
-use Rattle.mx_sections.specs.declared.outcome.Outcome.{Outcome}
-use Rattle.mx_sections.specs.declared.outcome.Entry.{Entry}
+use Rattle.mx_trace.specs.declared.outcome.Outcome.{Outcome}
+use Rattle.mx_trace.specs.declared.outcome.Entry.{Entry}
 use Rattle.mx_network.specs.declared.faults.StepFault.{StepFault}
 use Rattle.mx_network.specs.declared.faults.StepFault.TheVariants.{NoNode, NoParcel, Memory}
 use Rattle.mx_network.proofs.EventParts.{err_no_ok, same_Ok}

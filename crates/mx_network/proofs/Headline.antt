@@ -11,7 +11,7 @@ use Rattle.mx_member.specs.Journals.{IsJournalOf}
 use Rattle.mx_member.specs.declared.parcel.Parcel.{Parcel}
 use Rattle.mx_member.specs.Member.{MemberState}
 use Rattle.mx_member.specs.Steps.{IsTakeable}
-use Rattle.mx_sections.specs.Serial.{AllClosed, IsInSection}
+use Rattle.mx_trace.specs.Serial.{AllClosed, IsInSection}
 use Rattle.mx_member.specs.World.{IsMember, core_part}
 use Rattle.mx_member.specs.declared.acts.Act.TheVariants as act
 use Rattle.mx_member.proofs.ActsKept.{doable}
@@ -20,9 +20,9 @@ use Rattle.mx_member.proofs.CorePart.{get_map}
 use Rattle.mx_member.proofs.Histories.{alternate_if_fit, numbered_if_fit}
 use Rattle.mx_member.proofs.Inside.{in_section, nobody_in, section_in}
 use Rattle.mx_member.proofs.SectionLists.{journal_ascends}
-use Rattle.mx_sections.specs.declared.outcome.Entry.{Entry}
+use Rattle.mx_trace.specs.declared.outcome.Entry.{Entry}
 use Rattle.mx_network.specs.Kept.{IsKept}
-use Rattle.mx_sections.specs.Trace.{IsSerial, ShowsInOrder, journal_of, sections, IsExclusive, IsNumbered, marks}
+use Rattle.mx_trace.specs.Trace.{IsSerial, ShowsInOrder, journal_of, sections, IsExclusive, IsNumbered, marks}
 use Rattle.mx_network.specs.Step.{AreTakeable, ClusterState, IsInsideAt, IsInsideWith}
 use Rattle.mx_network.proofs.KeptSound.{kept_sound}
 

@@ -10,19 +10,19 @@ use Rattle.mx_stamps.proofs.Lists.{in_get}
 use Rattle.mx_member.specs.declared.parcel.Parcel.{Parcel}
 use Rattle.mx_member.specs.Acts.{act_of}
 use Rattle.mx_member.specs.Member.{MemberState}
-use Rattle.mx_sections.specs.Sections.{Mark, after_marks}
+use Rattle.mx_trace.specs.Sections.{Mark, after_marks}
 use Rattle.mx_member.specs.Told.{told}
 use Rattle.mx_member.specs.Running.{IsRun, owners}
-use Rattle.mx_sections.specs.Serial.{AllFit}
+use Rattle.mx_trace.specs.Serial.{AllFit}
 use Rattle.mx_member.specs.Steps.{start_of}
 use Rattle.mx_member.proofs.Histories.{AllFit-append, after_marks-append}
 use Rattle.mx_member.proofs.Owners.{owners_at_start, owners_kept}
 use Rattle.mx_events.specs.declared.event.Event.{Event}
-use Rattle.mx_sections.specs.declared.outcome.Entry.{Entry}
+use Rattle.mx_trace.specs.declared.outcome.Entry.{Entry}
 use Rattle.mx_network.specs.declared.faults.StepFault.{StepFault}
 use Rattle.mx_network.specs.declared.faults.StepFault.TheVariants.{NoNode}
 use Rattle.mx_network.specs.Kept.{IsKept}
-use Rattle.mx_sections.specs.Trace.{sections, marks}
+use Rattle.mx_trace.specs.Trace.{sections, marks}
 use Rattle.mx_network.specs.Step.{AreUnsettled, ClusterState, answer_of, part_of, grown, at_member, at_part, step_of, IsStep, RunsTo}
 use Rattle.mx_network.proofs.Marks.{marks-snoc}
 use Rattle.mx_events.specs.declared.event.Event.TheVariants as event

@@ -15,10 +15,10 @@ use Rattle.mx_member.specs.declared.faults.WriteFault.TheVariants as write
 use Rattle.mx_member.specs.Told.{told}
 use Rattle.mx_events.specs.declared.event.Event.{Event}
 use Rattle.mx_events.specs.declared.event.Event.TheVariants as event
-use Rattle.mx_sections.specs.declared.outcome.Outcome.{Outcome}
-use Rattle.mx_sections.specs.declared.outcome.Entry.{Entry}
+use Rattle.mx_trace.specs.declared.outcome.Outcome.{Outcome}
+use Rattle.mx_trace.specs.declared.outcome.Entry.{Entry}
 use Rattle.mx_network.specs.Outcome.{outcome_of}
-use Rattle.mx_sections.specs.Trace.{mark_of, marks}
+use Rattle.mx_trace.specs.Trace.{mark_of, marks}
 
 marks-append : (es fs : List Entry) → marks (es ++ fs) ≡ marks es ++ marks fs
 marks-append [] fs = refl

@@ -8,8 +8,8 @@ use Rattle.mx_journal.specs.declared.records.Record.{Record}
 use Rattle.mx_journal.specs.declared.receipts.Receipt.{Receipt}
 use Rattle.mx_journal.specs.Records.{Ascending, IsThere}
 use Rattle.mx_journal.specs.Settled.{Covers, DoAgree, IsWithin, JournalState, joined, settled, unsettled}
-use Rattle.mx_merge.specs.declared.merging.MergeFault.{MergeFault}
-use Rattle.mx_merge.specs.declared.merging.MergeFault.TheVariants.{Conflict, Memory}
+use Rattle.mx_merge.specs.declared.join.MergeFault.{MergeFault}
+use Rattle.mx_merge.specs.declared.join.MergeFault.TheVariants.{Conflict, Memory}
 use Rattle.mx_merge.specs.Join.{IsLeastJournal}
 use Rattle.mx_nodelaws.specs.World.{World}
 use Rattle.mx_nodelaws.specs.Core.{Core}
@@ -29,7 +29,7 @@ use Rattle.mx_member.proofs.Running.{members_count}
 use Rattle.mx_member.proofs.SectionLists.{journal_ascends}
 use Rattle.mx_network.specs.Kept.{IsKept}
 use Rattle.mx_network.specs.Merged.{IsAboveAll, IsBelowEach, IsOfAll}
-use Rattle.mx_sections.specs.Trace.{journal_of, sections}
+use Rattle.mx_trace.specs.Trace.{journal_of, sections}
 use Rattle.mx_network.specs.Step.{ClusterState}
 use Rattle.mx_network.proofs.Happening.{held}
 use Rattle.mx_network.proofs.KeptSound.{kept_sound}

@@ -17,16 +17,16 @@ use Rattle.mx_member.proofs.Consequences.{read_unsettled}
 use Rattle.mx_member.proofs.Refused.{refused_stays}
 use Rattle.mx_events.specs.declared.event.Event.{Event}
 use Rattle.mx_events.specs.declared.event.Event.TheVariants as event
-use Rattle.mx_sections.specs.declared.outcome.Cause.{Cause}
-use Rattle.mx_sections.specs.declared.outcome.Cause.TheVariants as cause
-use Rattle.mx_sections.specs.declared.outcome.Entry.{Entry}
-use Rattle.mx_sections.specs.declared.outcome.Outcome.{Outcome}
-use Rattle.mx_sections.specs.declared.outcome.Outcome.TheVariants.{Refused}
+use Rattle.mx_trace.specs.declared.outcome.Cause.{Cause}
+use Rattle.mx_trace.specs.declared.outcome.Cause.TheVariants as cause
+use Rattle.mx_trace.specs.declared.outcome.Entry.{Entry}
+use Rattle.mx_trace.specs.declared.outcome.Outcome.{Outcome}
+use Rattle.mx_trace.specs.declared.outcome.Outcome.TheVariants.{Refused}
 use Rattle.mx_network.specs.declared.faults.StepFault.{StepFault}
 use Rattle.mx_network.specs.declared.faults.StepFault.TheVariants.{NoNode}
 use Rattle.mx_network.specs.Kept.{IsKept}
 use Rattle.mx_network.specs.Outcome.{outcome_of}
-use Rattle.mx_sections.specs.Trace.{sections}
+use Rattle.mx_trace.specs.Trace.{sections}
 use Rattle.mx_network.specs.Step.{AreUnsettled, ClusterState, IsSettledRead, IsUnchanged, answer_of, at_member, at_part, grown, part_of, step_of}
 use Rattle.mx_network.proofs.EventParts.{err_no_ok, same_Ok}
 use Rattle.mx_network.proofs.KeptSound.{kept_sound}

@@ -6,14 +6,14 @@ use Rattle.mx_journal.specs.declared.receipts.Read.{Read}
 use Rattle.mx_journal.specs.Agreement.{IsSubmap}
 use Rattle.mx_journal.specs.Settled.{IsCovered, settled, unsettled}
 use Rattle.mx_merge.specs.Join.{IsLeastUpperBound}
-use Rattle.mx_sections.specs.Serial.{IsSerialRead, ReadSerially}
+use Rattle.mx_trace.specs.Serial.{IsSerialRead, ReadSerially}
 use Rattle.mx_member.proofs.SectionLists.{journal_ascends}
 use Rattle.mx_member.proofs.OfSections.{settled_ascends, settled_of, unsettled_of}
 use Rattle.mx_member.proofs.SectionWrites.{covered_shows}
 use Rattle.mx_events.specs.declared.event.Event.TheVariants as event
-use Rattle.mx_sections.specs.declared.outcome.Outcome.TheVariants.{Entered, Written, Left}
-use Rattle.mx_sections.specs.declared.outcome.Entry.{Entry}
-use Rattle.mx_sections.specs.Trace.{ShowsInOrder, journal_of, sections}
+use Rattle.mx_trace.specs.declared.outcome.Outcome.TheVariants.{Entered, Written, Left}
+use Rattle.mx_trace.specs.declared.outcome.Entry.{Entry}
+use Rattle.mx_trace.specs.Trace.{ShowsInOrder, journal_of, sections}
 
 -- the record of section 1 by node 0, which gave register 0 this value
 abbrev wrote : ℕ → Record

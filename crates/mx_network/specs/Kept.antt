@@ -2,7 +2,7 @@
 use Rattle.mx_nodelaws.specs.World.{World}
 use Rattle.mx_nodelaws.specs.Core.{Core}
 use Rattle.mx_member.specs.Running.{IsRun, owners}
-use Rattle.mx_sections.specs.Trace.{sections, IsSerial}
+use Rattle.mx_trace.specs.Trace.{sections, IsSerial}
 use Rattle.mx_network.specs.Step.{AreUnsettled, ClusterState}
 
 -- the world runs with the sections of the trace, these follow one another, and no read met its own

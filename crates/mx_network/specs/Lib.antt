@@ -1,6 +1,6 @@
--- Mail: the parcels that were sent. Outcome: the outcome of a result. Step: one event of a cluster.
+-- ParcelLog: the parcels that were sent. Outcome: the outcome of a result. Step: one event of a cluster.
 -- Merged: journals of members, merged. Kept: what holds for every cluster.
-pub mod Mail
+pub mod ParcelLog
 pub mod Outcome
 pub mod Step
 pub mod Merged

@@ -4,14 +4,14 @@ use Rattle.mx_nodelaws.specs.declared.faults.AskFault.TheVariants as ask
 use Rattle.mx_nodelaws.specs.declared.faults.CancelFault.TheVariants as cancel
 use Rattle.mx_nodelaws.specs.declared.faults.EnterFault.TheVariants as enter
 use Rattle.mx_nodelaws.specs.declared.faults.LeaveFault.TheVariants as leave
-use Rattle.mx_journal.specs.declared.settling.SettleFault.TheVariants as settle
+use Rattle.mx_journal.specs.declared.settlement.SettleFault.TheVariants as settle
 use Rattle.mx_member.specs.declared.acts.Answer.{Answer}
 use Rattle.mx_member.specs.declared.acts.Answer.TheVariants as answer
 use Rattle.mx_member.specs.declared.faults.ReadFault.TheVariants as read
 use Rattle.mx_member.specs.declared.faults.WriteFault.TheVariants as write
-use Rattle.mx_sections.specs.declared.outcome.Outcome.{Outcome}
-use Rattle.mx_sections.specs.declared.outcome.Outcome.TheVariants.{Asked, Entered, Value, Written, Left, Cancelled, Settled, Sent, Delivered, Woken, Refused}
-use Rattle.mx_sections.specs.declared.outcome.Cause.TheVariants as cause
+use Rattle.mx_trace.specs.declared.outcome.Outcome.{Outcome}
+use Rattle.mx_trace.specs.declared.outcome.Outcome.TheVariants.{Asked, Entered, Value, Written, Left, Cancelled, Settled, Sent, Delivered, Woken, Refused}
+use Rattle.mx_trace.specs.declared.outcome.Cause.TheVariants as cause
 
 -- the outcome of a result, and of the number of parcels that were sent with it. In a cluster no
 -- read meets its own section settled, so its outcome here never occurs

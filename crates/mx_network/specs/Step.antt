@@ -13,11 +13,11 @@ use Rattle.mx_member.specs.Member.{MemberState}
 use Rattle.mx_member.specs.Steps.{IsTakeable}
 use Rattle.mx_events.specs.declared.event.Event.{Event}
 use Rattle.mx_events.specs.declared.event.Event.TheVariants as event
-use Rattle.mx_sections.specs.declared.outcome.Outcome.{Outcome}
-use Rattle.mx_sections.specs.declared.outcome.Outcome.TheVariants.{Refused}
-use Rattle.mx_sections.specs.declared.outcome.Cause.{Cause}
-use Rattle.mx_sections.specs.declared.outcome.Cause.TheVariants as cause
-use Rattle.mx_sections.specs.declared.outcome.Entry.{Entry}
+use Rattle.mx_trace.specs.declared.outcome.Outcome.{Outcome}
+use Rattle.mx_trace.specs.declared.outcome.Outcome.TheVariants.{Refused}
+use Rattle.mx_trace.specs.declared.outcome.Cause.{Cause}
+use Rattle.mx_trace.specs.declared.outcome.Cause.TheVariants as cause
+use Rattle.mx_trace.specs.declared.outcome.Entry.{Entry}
 use Rattle.mx_network.specs.declared.faults.StepFault.{StepFault}
 use Rattle.mx_network.specs.declared.faults.StepFault.TheVariants.{NoNode, NoParcel, Memory}
 use Rattle.mx_network.specs.Outcome.{outcome_of}

@@ -1,7 +1,7 @@
 //! The cluster.
 
 ghost use Rattle.std.specs.Prelude.{◌≡◌, ◌≤◌, ◌<◌, ◌↔◌, ℕ, [], ◌∷◌, ◌++◌, length, OnOk, OnErr, IfOk, IfErr, IfSome, MatchOption, slice_get, take};
-ghost use Rattle.mx_stamps.specs.declared.limits.TheConstants.{MOST_REGISTERS, MOST_SECTIONS};
+ghost use Rattle.mx_stamps.specs.declared.limits.TheConstants.{MAX_REGISTERS, MAX_SECTIONS};
 ghost use Rattle.mx_stamps.specs.Lists.{each_below};
 ghost use Rattle.mx_journal.specs.Records.{Ascending};
 ghost use Rattle.mx_journal.specs.Settled.{DoAgree, settled, unsettled};
@@ -11,13 +11,13 @@ ghost use Rattle.mx_member.specs.Journals.{IsJournalOf};
 ghost use Rattle.mx_member.specs.Member.{MemberState};
 ghost use Rattle.mx_member.specs.Steps.{start_of};
 ghost use Rattle.mx_member.specs.World.{IsMember};
-ghost use Rattle.mx_sections.specs.Serial.{AllClosed, IsInSection, ReadSerially};
+ghost use Rattle.mx_trace.specs.Serial.{AllClosed, IsInSection, ReadSerially};
 ghost use Rattle.mx_network.specs.Merged.{IsAboveAll, IsBelowEach, IsOfAll};
-ghost use Rattle.mx_sections.specs.Trace.{IsSerial, ShowsInOrder, journal_of, sections, IsExclusive, IsNumbered};
+ghost use Rattle.mx_trace.specs.Trace.{IsSerial, ShowsInOrder, journal_of, sections, IsExclusive, IsNumbered};
 ghost use Rattle.mx_network.specs.Step.{step_of, AreTakeable, AreUnsettled, IsInsideAt, IsInsideWith, IsFaultOf, IsSettledRead, IsUnchanged, NamesNoNode, NamesNoParcel, RunsTo};
 
 use crate::faults::{RunFault, StepFault};
-use crate::mail::Mail;
+use crate::parcel_log::ParcelLog;
 use crate::parts::{newest, start_members};
 use mx_events::Event;
 use mx_journal::Journal;
@@ -25,8 +25,8 @@ use mx_letters::Outbox;
 use mx_member::{Member, Parcel, SentParcel};
 use mx_merge::{MergeFault, merge};
 use mx_nodelaws::Exclusion;
-use mx_sections::{Cause, Entry, Outcome};
 use mx_stamps::NodeId;
+use mx_trace::{Cause, Entry, Outcome};
 use std::alloc::{AllocError, Global};
 use std::marker::Model;
 
@@ -34,7 +34,7 @@ use std::marker::Model;
 #[derive(Drop)]
 pub struct Cluster<C: Exclusion> {
     pub(crate) members: Vec<Member<C>>,
-    pub(crate) mail: Mail<C>,
+    pub(crate) parcel_log: ParcelLog<C>,
     pub(crate) trace: Vec<Entry>,
     /// The parcels of the current event. Empty between events.
     pub(crate) out: Outbox<Parcel<C::Msg>>,
@@ -51,14 +51,14 @@ impl<C: Exclusion> Model for Cluster<C> {
 
     ghost view = { λ c. record {
       members = c.members.items;
-      sent = c.mail.sent;
+      sent = c.parcel_log.sent;
       trace = c.trace.items;
     } };
 
     ghost invariant = { λ c. (c.out ≡ [])
         × IsKept C.core C.Good (record {
           members = c.members.items;
-          sent = c.mail.sent;
+          sent = c.parcel_log.sent;
           trace = c.trace.items;
         }) };
 }
@@ -78,9 +78,9 @@ impl<C: Exclusion> Cluster<C> {
         registers: u8,
     ) -> Result<Self, AllocError>
         requires low { 0 < limit }
-        requires high { limit ≤ MOST_SECTIONS }
+        requires high { limit ≤ MAX_SECTIONS }
         requires some { 0 < registers }
-        requires few { registers ≤ MOST_REGISTERS }
+        requires few { registers ≤ MAX_REGISTERS }
         ensures { IfOk result (λ cluster. cluster ≡ record {
           members = each_below (λ i. start_of C.core shape.now i origin limit registers)
               (C.core.count shape.now);
@@ -90,7 +90,7 @@ impl<C: Exclusion> Cluster<C> {
     {
         Ok(Cluster {
             members: start_members(alloc, shape, origin, limit, registers)?,
-            mail: Mail::new(alloc),
+            parcel_log: ParcelLog::new(alloc),
             trace: Vec::new(alloc),
             out: Outbox::new(),
             size: None,
@@ -124,7 +124,7 @@ impl<C: Exclusion> Cluster<C> {
     {
         // for the prover: the use of a field shows what holds for a cluster
         let _ = &self.trace;
-        if let Err(fault) = self.happen(event) {
+        if let Err(fault) = self.apply(event) {
             return Err(fault);
         }
         Ok(newest(&self.trace))
@@ -148,7 +148,7 @@ impl<C: Exclusion> Cluster<C> {
     {
         // for the prover: the use of a field shows what holds for a cluster
         let _ = &self.trace;
-        self.happen(event)
+        self.apply(event)
     }
 
     /// Reserves memory for more events and parcels, so that their lists need not grow step by step.
@@ -161,7 +161,7 @@ impl<C: Exclusion> Cluster<C> {
         ensures { self.new ≡ self.old }
     {
         self.trace.reserve(events)?;
-        self.mail.reserve(events)
+        self.parcel_log.reserve(events)
     }
 
     /// Applies these events in order, up to the first that fails.
@@ -210,7 +210,7 @@ impl<C: Exclusion> Cluster<C> {
     pub fn sent(&self) -> u64
         ensures { result ≡ length self.now.sent }
     {
-        self.mail.len() as u64
+        self.parcel_log.len() as u64
     }
 
     /// Returns the sender and the addressee of the parcel of this number, counted from 0, and the
@@ -220,7 +220,7 @@ impl<C: Exclusion> Cluster<C> {
             (λ parcel. slice_get self.now.sent number
             ≡ Some (parcel.0, parcel.1, parcel.2.now)) }
     {
-        match self.mail.get(number) {
+        match self.parcel_log.get(number) {
             Some(found) => Some((found.from, found.to, found.parcel)),
             None => None,
         }
@@ -232,7 +232,7 @@ impl<C: Exclusion> Cluster<C> {
             (λ found. slice_get self.now.sent number
             ≡ Some (found.from, found.to, found.parcel.now)) }
     {
-        self.mail.get(number)
+        self.parcel_log.get(number)
     }
 
     /// Returns the trace: all events in order, with their outcomes. At every moment of every run:
@@ -286,7 +286,7 @@ impl<C: Exclusion> Cluster<C> {
         ensures whole { IsOfAll self.now.members nodes.now → IfOk result (λ journal.
             journal ≡ settled journal.base.upto (unsettled (journal_of self.now.trace))) }
         ensures shown { IsOfAll self.now.members nodes.now → IfOk result (λ journal.
-            (count : ℕ) → count ≤ MOST_REGISTERS
+            (count : ℕ) → count ≤ MAX_REGISTERS
             → registers_in count journal ≡ registers_of count (journal_of self.now.trace)) }
         ensures in_order { IfOk result (λ journal. ShowsInOrder self.now.trace journal) }
         ensures conflict { (n : ℕ) → (result ≡ Err (MergeFault.Conflict n)) → ⊥ }

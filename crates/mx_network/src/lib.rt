@@ -7,11 +7,11 @@
 
 mod cluster;
 mod faults;
-mod mail;
 mod outcome;
+mod parcel_log;
 mod parts;
 
 pub use cluster::Cluster;
 pub use faults::{RunFault, StepFault};
 pub use mx_events::Event;
-pub use mx_sections::{Cause, Entry, Outcome};
+pub use mx_trace::{Cause, Entry, Outcome};

@@ -7,8 +7,8 @@ ghost use Rattle.mx_network.specs.Outcome.{outcome_of};
 use mx_journal::SettleFault;
 use mx_member::{ReadFault, WriteFault};
 use mx_nodelaws::{AskFault, CancelFault, EnterFault};
-use mx_sections::{Cause, Outcome};
 use mx_stamps::Stamp;
+use mx_trace::{Cause, Outcome};
 
 /// Returns the outcome of a request.
 #[inline(always)]

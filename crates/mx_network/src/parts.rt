@@ -1,7 +1,7 @@
 //! One event of a cluster: a parcel reaches its addressee, or a node does something by itself.
 
 ghost use Rattle.std.specs.Prelude.{◌≡◌, ◌^◌, ◌≤◌, ◌<◌, List, [], ◌∷◌, ◌++◌, length, IfOk, OnErr, OnOk, vec_len, vec_capacity};
-ghost use Rattle.mx_stamps.specs.declared.limits.TheConstants.{MOST_REGISTERS, MOST_SECTIONS};
+ghost use Rattle.mx_stamps.specs.declared.limits.TheConstants.{MAX_REGISTERS, MAX_SECTIONS};
 ghost use Rattle.mx_stamps.specs.Lists.{each_below};
 ghost use Rattle.mx_letters.specs.declared.outbox.TheConstants.{OUTBOX_ROOM};
 ghost use Rattle.mx_member.specs.Member.{BringsUnknown};
@@ -11,19 +11,19 @@ ghost use Rattle.mx_network.specs.Step.{own_act, own_node, IsByItself, IsStep, N
 
 use crate::cluster::Cluster;
 use crate::faults::StepFault;
-use crate::mail::Mail;
 use crate::outcome::{asked, cancelled, entered, read, settled, written};
+use crate::parcel_log::ParcelLog;
 use mx_events::Event;
 use mx_letters::{OUTBOX_ROOM, Outbox};
 use mx_member::{CloseFault, Member, Parcel};
 use mx_nodelaws::Exclusion;
-use mx_sections::{Cause, Entry, Outcome};
 use mx_stamps::NodeId;
+use mx_trace::{Cause, Entry, Outcome};
 use std::alloc::{AllocError, Global};
 
 impl<C: Exclusion> Cluster<C> {
     /// Applies one event.
-    pub(crate) fn happen(&mut self, event: Event) -> Result<(), StepFault>
+    pub(crate) fn apply(&mut self, event: Event) -> Result<(), StepFault>
         ensures { IsStep C.core event self.old self.new result }
     {
         match event {
@@ -37,8 +37,8 @@ impl<C: Exclusion> Cluster<C> {
     fn deliver(&mut self, number: u64) -> Result<(), StepFault>
         ensures { IsStep C.core (Event.Deliver number) self.old self.new result }
     {
-        let room = reserve(&mut self.mail, &mut self.trace);
-        match self.mail.get(number) {
+        let room = reserve(&mut self.parcel_log, &mut self.trace);
+        match self.parcel_log.get(number) {
             Some(found) => {
                 room?;
                 let to = found.to;
@@ -51,7 +51,7 @@ impl<C: Exclusion> Cluster<C> {
                     &mut self.out,
                     &mut self.trace,
                 )?;
-                self.mail.send_all(to, &mut self.out);
+                self.parcel_log.send_all(to, &mut self.out);
                 Ok(())
             }
             None => Err(StepFault::NoParcel),
@@ -68,14 +68,14 @@ impl<C: Exclusion> Cluster<C> {
         if index >= self.members.len() {
             return Err(StepFault::NoNode);
         }
-        reserve(&mut self.mail, &mut self.trace)?;
+        reserve(&mut self.parcel_log, &mut self.trace)?;
         do_and_note(
             &mut self.members[index],
             event,
             &mut self.out,
             &mut self.trace,
         )?;
-        self.mail.send_all(node, &mut self.out);
+        self.parcel_log.send_all(node, &mut self.out);
         Ok(())
     }
 }
@@ -89,9 +89,9 @@ pub(crate) fn start_members<C: Exclusion>(
     registers: u8,
 ) -> Result<Vec<Member<C>>, AllocError>
     requires low { 0 < limit }
-    requires high { limit ≤ MOST_SECTIONS }
+    requires high { limit ≤ MAX_SECTIONS }
     requires some { 0 < registers }
-    requires few { registers ≤ MOST_REGISTERS }
+    requires few { registers ≤ MAX_REGISTERS }
     ensures members { IfOk result (λ members. members.items
         ≡ each_below (λ i. start_of C.core shape.now i origin limit registers)
         (C.core.count shape.now)) }
@@ -119,14 +119,17 @@ fn node_of(nodes: usize, event: &Event) -> Result<NodeId, StepFault>
 }
 
 /// Reserves memory for all that an event may add: the parcels of a full outbox, and an item.
-fn reserve<C: Exclusion>(mail: &mut Mail<C>, trace: &mut Vec<Entry>) -> Result<(), AllocError>
-    ensures sent { mail.new.sent ≡ mail.old.sent }
+fn reserve<C: Exclusion>(
+    parcel_log: &mut ParcelLog<C>,
+    trace: &mut Vec<Entry>,
+) -> Result<(), AllocError>
+    ensures sent { parcel_log.new.sent ≡ parcel_log.old.sent }
     ensures trace { trace.new.items ≡ trace.old.items }
-    ensures room { OnOk result (OUTBOX_ROOM ≤ mail.new.room) }
+    ensures room { OnOk result (OUTBOX_ROOM ≤ parcel_log.new.room) }
     ensures item { OnOk result (vec_len trace.new < vec_capacity trace.new) }
 {
     trace.reserve(1)?;
-    mail.reserve(OUTBOX_ROOM)
+    parcel_log.reserve(OUTBOX_ROOM)
 }
 
 /// Delivers a parcel that the member can take, so that only memory can be missing, and adds the

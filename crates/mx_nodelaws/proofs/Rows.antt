@@ -1,6 +1,6 @@
 -- From what an algorithm proves of its own rows: the promises on phases, and the laws.
 use Rattle.std.proofs.Common.{ℕ, ◌<◌, ◌≤◌, ◌^◌, ◌≡◌, ◌&&◌, Result, Ok, Err, length, true, cond, ◌+◌, nat_lt, refl, sym, ap, subst}
-use Rattle.mx_stamps.specs.declared.limits.TheConstants.{MOST_SECTIONS}
+use Rattle.mx_stamps.specs.declared.limits.TheConstants.{MAX_SECTIONS}
 use Rattle.mx_stamps.specs.declared.stamp.Stamp.{Stamp}
 use Rattle.mx_stamps.specs.Lists.{greatest}
 use Rattle.mx_stamps.specs.Numbers.{last_number}
@@ -65,7 +65,7 @@ module _ {H S M : Type 0} (rows : Rows H S M) (IsShape : H → Type 0) (Safe : W
   abbrev Good : World S M → Type 0
   Good w = IsGoodWorld Safe Node Letter w
 
-  start_good : (shape : H) (origin limit : ℕ) → IsShape shape → origin < 2 ^ 64 → 0 < limit → limit ≤ MOST_SECTIONS → Good (started (core_of rows) shape origin limit)
+  start_good : (shape : H) (origin limit : ℕ) → IsShape shape → origin < 2 ^ 64 → 0 < limit → limit ≤ MAX_SECTIONS → Good (started (core_of rows) shape origin limit)
   start_good shape origin limit valid small low high = record {
     safe = safe.start shape origin limit valid;
     bounded = bounded_start Node Letter (λ i. rows.start shape i origin limit) (rows.count shape) (λ i lt. bounds.start shape origin limit i valid small high lt);

@@ -1,6 +1,6 @@
 -- The step table of an exclusion algorithm, and the promises on phases.
 use Rattle.std.specs.Prelude.{ℕ, ◌<◌, ◌≤◌, ◌≡◌, ◌≢◌, ◌↔◌, Bool, true, false, [], Result, Ok, Err}
-use Rattle.mx_stamps.specs.declared.limits.TheConstants.{MOST_SECTIONS}
+use Rattle.mx_stamps.specs.declared.limits.TheConstants.{MAX_SECTIONS}
 use Rattle.mx_stamps.specs.declared.stamp.Stamp.{Stamp}
 use Rattle.mx_nodelaws.specs.declared.phase.Phase.{Phase}
 use Rattle.mx_nodelaws.specs.declared.phase.Phase.TheVariants.{Idle, Waiting, Inside}
@@ -40,7 +40,7 @@ IsInside core s = (n : ℕ) × (core.phase s ≡ Inside n)
 abbrev pub BearsNumber : Phase → Type 0
 BearsNumber Idle = Unit {0}
 BearsNumber Waiting = Unit {0}
-BearsNumber (Inside n) = (0 < n) × (n ≤ MOST_SECTIONS)
+BearsNumber (Inside n) = (0 < n) × (n ≤ MAX_SECTIONS)
 
 -- the promises on the phase, on `mine` (the last section that the node entered) and on the limit,
 -- for every state

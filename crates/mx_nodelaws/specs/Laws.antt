@@ -1,6 +1,6 @@
 -- The laws of an exclusion algorithm, with a predicate Good over worlds.
 use Rattle.std.specs.Prelude.{ℕ, ◌+◌, ◌<◌, ◌≤◌, ◌^◌, ◌≡◌, ◌↔◌, true, List, [], Ok, Err, length, nat_lt, if◌then◌else◌}
-use Rattle.mx_stamps.specs.declared.limits.TheConstants.{MOST_SECTIONS}
+use Rattle.mx_stamps.specs.declared.limits.TheConstants.{MAX_SECTIONS}
 use Rattle.mx_stamps.specs.Lists.{IsIn, each_below, greatest}
 use Rattle.mx_nodelaws.specs.declared.faults.EnterFault.TheVariants.{NumbersSpent}
 use Rattle.mx_nodelaws.specs.World.{World, quietly, IsNode, WasSent, after}
@@ -22,7 +22,7 @@ module _ {H S M : Type 0} where
       (Good : World S M → Type 0) : Type 0 where
     -- start law: the world at rest is Good
     pub at_start : (shape : H) (origin limit : ℕ) → IsShape shape → origin < 2 ^ 64 → 0 < limit →
-        limit ≤ MOST_SECTIONS → Good (started core shape origin limit)
+        limit ≤ MAX_SECTIONS → Good (started core shape origin limit)
     -- step law: each call of each node keeps Good; a delivered letter was sent to that node, at any
     -- earlier time
     pub after_ask : (w : World S M) (i : ℕ) (s : S) → Good w → IsNode w i s →

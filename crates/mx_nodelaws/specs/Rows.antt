@@ -1,7 +1,7 @@
 -- The rows of an algorithm's step table, for the phases in which the call is accepted. Refusals by
 -- the phase and the numbers of sections are the same for all algorithms: core_of adds them.
 use Rattle.std.specs.Prelude.{ℕ, ◌+◌, ◌<◌, ◌≤◌, ◌^◌, ◌≡◌, ◌↔◌, ◌&&◌, Bool, true, List}
-use Rattle.mx_stamps.specs.declared.limits.TheConstants.{MOST_SECTIONS}
+use Rattle.mx_stamps.specs.declared.limits.TheConstants.{MAX_SECTIONS}
 use Rattle.mx_stamps.specs.declared.stamp.Stamp.{Stamp}
 use Rattle.mx_stamps.specs.Lists.{IsIn, greatest}
 use Rattle.mx_stamps.specs.Numbers.{last_number}
@@ -124,7 +124,7 @@ pub record KeepsSafe {H S M : Type 0} (rows : Rows H S M) (IsShape : H → Type 
 pub record KeepsBounds {H S M : Type 0} (rows : Rows H S M) (IsShape : H → Type 0)
     (Node : ℕ → S → Type 0) (Letter : ℕ → M → Type 0) : Type 0 where
   pub start : (shape : H) (origin limit i : ℕ) → IsShape shape → origin < 2 ^ 64 →
-      limit ≤ MOST_SECTIONS → i < rows.count shape →
+      limit ≤ MAX_SECTIONS → i < rows.count shape →
       Node (rows.count shape) (rows.start shape i origin limit)
   pub ask : (n : ℕ) (s : S) → Node n s → rows.counter s < last_number →
       IsBoundedDone Node Letter n (rows.ask s)

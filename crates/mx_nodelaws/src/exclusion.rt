@@ -11,7 +11,7 @@ use mx_stamps::{NodeId, Stamp};
 /// the new state, the result, and the letters in order. A cluster relies on the laws below the
 /// calls. A refused call changes nothing and sends nothing.
 pub trait Exclusion: Drop {
-    ghost use Rattle.mx_stamps.specs.declared.limits.TheConstants.{MOST_NODES, MOST_SECTIONS};
+    ghost use Rattle.mx_stamps.specs.declared.limits.TheConstants.{MAX_NODES, MAX_SECTIONS};
     ghost use Rattle.mx_nodelaws.specs.World.{World};
     ghost use Rattle.mx_nodelaws.specs.Core.{Core, KeepsPhases, BearsNumber};
     ghost use Rattle.mx_nodelaws.specs.Laws.{KeepsGood};
@@ -38,7 +38,7 @@ pub trait Exclusion: Drop {
         ensures value { result ≡ core.count shape.now }
         ensures valid { IsShape shape.now }
         ensures low { 0 < result }
-        ensures high { result ≤ MOST_NODES };
+        ensures high { result ≤ MAX_NODES };
 
     /// Returns whether both are the same letter, so that a letter to many nodes can be stored once.
     fn is_same(one: &Self::Msg, other: &Self::Msg) -> bool
@@ -49,7 +49,7 @@ pub trait Exclusion: Drop {
     fn start(shape: &Self::Shape, me: NodeId, origin: u64, limit: u64) -> Self
         requires node { me < core.count shape.now }
         requires low { 0 < limit }
-        requires high { limit ≤ MOST_SECTIONS }
+        requires high { limit ≤ MAX_SECTIONS }
         ensures { result ≡ core.start shape.now me origin limit };
 
     /// Asks for the next section, and returns the stamp of the request.
@@ -120,7 +120,7 @@ pub trait Exclusion: Drop {
     /// Returns the number of the last section that this node entered, or 0 before the first.
     fn mine(&self) -> u64
         ensures value { result ≡ core.mine self.now }
-        ensures high { result ≤ MOST_SECTIONS };
+        ensures high { result ≤ MAX_SECTIONS };
 
     ghost phases: { KeepsPhases core };
 

@@ -2,7 +2,7 @@
 
 ghost use Rattle.std.specs.Prelude.{◌≡◌, ◌≤◌, Ok, Err, None, length, IfErr, OnOk};
 ghost use Rattle.mx_network.specs.Step.{step_of};
-ghost use Rattle.mx_texts.specs.LetterTexts.{letter_text};
+ghost use Rattle.mx_format.specs.LetterTexts.{letter_text};
 ghost use Rattle.mx_commands.specs.Runs.{AllNameNodes, NamesNodes, run_from};
 ghost use Rattle.mx_commands.specs.Ran.{StopsAt};
 ghost use Rattle.mx_picture.specs.Drawn.{StopsAs};
@@ -14,11 +14,11 @@ use crate::part::Part;
 use crate::passing::{Happening, happening_of, is_shown, pass_over, phase_after};
 use crate::sheet::Sheet;
 use mx_cli::{Fault, Stop};
+use mx_format::{EventText, Letter, OutcomeText};
 use mx_network::{Cluster, Entry, Event, Outcome, StepFault};
 use mx_nodelaws::{Exclusion, Phase};
 use mx_plan::Plan;
 use mx_stamps::NodeId;
-use mx_texts::{EventText, Letter, OutcomeText};
 use std::alloc::{AllocError, Global};
 use std::collections::HashSet;
 

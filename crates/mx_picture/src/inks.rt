@@ -1,7 +1,7 @@
 //! The styles of parcels: requests, grants, and all others.
 
+use mx_format::{Letter, Style};
 use mx_member::Parcel;
-use mx_texts::{Letter, Style};
 
 /// Returns the name of a parcel's style: `request`, `grant` or `other`.
 pub(crate) fn ink_of<M: Letter>(parcel: &Parcel<M>) -> &'static str {

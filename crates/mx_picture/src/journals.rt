@@ -1,11 +1,11 @@
 //! The contents of the nodes' journals, shown when they change.
 
 use mx_journal::Journal;
-use mx_stamps::{MOST_NODES, NodeId};
+use mx_stamps::{MAX_NODES, NodeId};
 use std::alloc::AllocError;
 
 /// The greatest number of ranges of records that are shown.
-const MOST_RANGES: usize = 8;
+const MAX_RANGES: usize = 8;
 
 /// The extent of a journal: a journal that changes has another base or more records.
 #[derive(Clone, Copy, PartialEq, Eq)]
@@ -17,7 +17,7 @@ struct Extent {
 /// The extent of each node's journal when it was last shown.
 #[derive(Clone, Copy, Drop)]
 pub(crate) struct Known {
-    extents: [Extent; MOST_NODES as usize],
+    extents: [Extent; MAX_NODES as usize],
 }
 
 impl Known {
@@ -27,7 +27,7 @@ impl Known {
             records: 0,
         };
         Known {
-            extents: [nothing; MOST_NODES as usize],
+            extents: [nothing; MAX_NODES as usize],
         }
     }
 
@@ -64,7 +64,7 @@ fn add_base(upto: u64, label: &mut String) -> Result<(), AllocError> {
 /// Appends the numbers of the records, as ranges without gaps.
 fn add_ranges(journal: &Journal, label: &mut String) -> Result<(), AllocError> {
     let mut last = journal.base().upto();
-    for _ in 0..MOST_RANGES {
+    for _ in 0..MAX_RANGES {
         let Some(record) = journal.next_after(last) else {
             return Ok(());
         };

@@ -133,7 +133,7 @@ impl Label {
         let own = self.ways.saturating_sub(1);
         ways.iter()
             .skip(own)
-            .take(MOST_WAYS)
+            .take(MAX_WAYS)
             .any(|way| way.crosses(&room))
     }
 
@@ -154,7 +154,7 @@ const HALF_HIGH: u64 = 5;
 
 /// The greatest number of arrows that are checked for one text: those that end in its row or the
 /// next below.
-const MOST_WAYS: usize = 400;
+const MAX_WAYS: usize = 400;
 
 /// How far texts extend, in pixels: to the left of the first node, and to the right of it.
 #[derive(Clone, Copy)]

@@ -4,12 +4,12 @@ use crate::drawing::{Drawing, tell_journal};
 use crate::inks::ink_of;
 use crate::labels::Spot;
 use crate::passing::concerns;
+use mx_format::{Letter, add_parcel};
 use mx_member::{Parcel, SentParcel};
 use mx_network::Cluster;
 use mx_nodelaws::Exclusion;
 use mx_plan::Plan;
 use mx_stamps::NodeId;
-use mx_texts::{Letter, add_parcel};
 use std::alloc::AllocError;
 
 /// Draws the arrow of a parcel to its delivery.

@@ -4,10 +4,10 @@ use crate::drawing::Drawing;
 use crate::inks::ink_of;
 use crate::part::Part;
 use crate::sheet::Sheet;
+use mx_format::Letter;
 use mx_network::{Cluster, Entry, Event, Outcome};
 use mx_nodelaws::{Exclusion, Phase};
 use mx_stamps::NodeId;
-use mx_texts::Letter;
 use std::alloc::AllocError;
 
 /// The kind of an event: an act of a node, or the delivery of the parcel of a number.

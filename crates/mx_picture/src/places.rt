@@ -11,7 +11,7 @@ pub(crate) const LANE: u64 = 180;
 const ROW: u64 = 13;
 
 /// The greatest number of rows in a picture.
-pub(crate) const MOST_ROWS: u64 = 1_000_000_000_000;
+pub(crate) const MAX_ROWS: u64 = 1_000_000_000_000;
 
 /// Returns the horizontal position of a node's line.
 pub(crate) fn x_of(node: NodeId) -> u64

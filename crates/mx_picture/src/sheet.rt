@@ -5,9 +5,9 @@ ghost use Rattle.std.specs.List.{list_all};
 
 use crate::escaping::add_escaped;
 use crate::labels::{Labels, SHIFT, Spot, Way};
-use crate::places::{MOST_ROWS, x_of, y_of};
+use crate::places::{MAX_ROWS, x_of, y_of};
 use mx_nodelaws::Phase;
-use mx_stamps::{MOST_NODES, NodeId};
+use mx_stamps::{MAX_NODES, NodeId};
 use std::alloc::{AllocError, Global};
 
 /// A phase of a node, and the row in which it started.
@@ -37,7 +37,7 @@ const LONG_NODES: u8 = 6;
 #[derive(Clone, Copy)]
 pub(crate) struct NameRow {
     pub(crate) y: u64,
-    inside: [bool; MOST_NODES as usize],
+    inside: [bool; MAX_NODES as usize],
 }
 
 impl NameRow {
@@ -76,7 +76,7 @@ pub(crate) struct Sheet {
     event: u64,
     index: u64,
     trips: Vec<Trip>,
-    stays: [Stay; MOST_NODES as usize],
+    stays: [Stay; MAX_NODES as usize],
     ghost short: { row ≤ 1000000000000 },
     ghost present: { event ≤ row },
     ghost sent: { IsTrue (list_all (λ trip. nat_le trip.row row) trips.items) },
@@ -106,13 +106,13 @@ impl Sheet {
             event: 0,
             index: 0,
             trips: Vec::new(alloc),
-            stays: [idle; MOST_NODES as usize],
+            stays: [idle; MAX_NODES as usize],
         }
     }
 
     /// Moves to the next row. Returns `AllocError` if there are too many.
     pub(crate) fn go_down(&mut self) -> Result<(), AllocError> {
-        if self.row >= MOST_ROWS {
+        if self.row >= MAX_ROWS {
             return Err(AllocError);
         }
         self.row += 1;
@@ -142,8 +142,8 @@ impl Sheet {
 
     /// The present row, as one that shows names.
     fn name_row(&self) -> NameRow {
-        let mut inside = [false; MOST_NODES as usize];
-        for index in 0..MOST_NODES as usize {
+        let mut inside = [false; MAX_NODES as usize];
+        for index in 0..MAX_NODES as usize {
             inside[index] = matches!(self.stays[index].phase, Phase::Inside(_));
         }
         NameRow {
@@ -387,7 +387,7 @@ impl Sheet {
 
     /// Ends all phases and parcels at the end of the picture, and places the texts.
     pub(crate) fn close(&mut self) -> Result<(), AllocError> {
-        for index in 0..MOST_NODES {
+        for index in 0..MAX_NODES {
             if let Some(node) = NodeId::of(index) {
                 self.change(node, Phase::Idle)?;
             }

@@ -17,7 +17,7 @@ use Rattle.mx_events.specs.declared.argument.ArgumentKind.TheVariants.{Node, Reg
 use Rattle.mx_events.specs.declared.event.Event.{Event}
 use Rattle.mx_events.specs.declared.kind.EventKind.{EventKind}
 use Rattle.mx_events.specs.Words.{kind_named}
-use Rattle.mx_stamps.specs.declared.limits.TheConstants.{MOST_EVENTS}
+use Rattle.mx_stamps.specs.declared.limits.TheConstants.{MAX_EVENTS}
 
 -- whether a value has the form of an argument: a name for a node or a register, and a whole number
 -- otherwise
@@ -85,8 +85,8 @@ events_from p = each_from (event_of p)
 
 abbrev pub few : Fields → List Data → Result (List Event) PlanFault
 few p ds =
-    if nat_lt MOST_EVENTS (length ds)
-    then Err (NotPlan (place.Event MOST_EVENTS))
+    if nat_lt MAX_EVENTS (length ds)
+    then Err (NotPlan (place.Event MAX_EVENTS))
     else events_from p 0 ds
 
 abbrev pub events_of : Fields → Data → Result (List Event) PlanFault

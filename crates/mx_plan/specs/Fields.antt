@@ -1,7 +1,7 @@
 -- The parts of a plan.
 use Rattle.std.specs.Prelude.{◌≡◌, ◌≤◌, ℕ, List, Option, length, position}
 use Rattle.std.specs.Str.{bytes_eq}
-use Rattle.mx_stamps.specs.declared.limits.TheConstants.{MOST_NODES, MOST_REGISTERS, MOST_SECTIONS}
+use Rattle.mx_stamps.specs.declared.limits.TheConstants.{MAX_NODES, MAX_REGISTERS, MAX_SECTIONS}
 use Rattle.mx_quorums.specs.Family.{IsMeeting, IsWithin}
 use Rattle.mx_trees.specs.Tree.{IsRooted}
 use Rattle.mx_plan.specs.Text.{Text, AreNames}
@@ -25,10 +25,10 @@ IsShape n (Raymond tree) = IsRooted tree × (tree.count ≡ n)
 
 -- what holds for every plan
 pub record IsPlan (p : Fields) : Type 0 where
-  pub nodes : AreNames MOST_NODES p.nodes
-  pub registers : AreNames MOST_REGISTERS p.registers
+  pub nodes : AreNames MAX_NODES p.nodes
+  pub registers : AreNames MAX_REGISTERS p.registers
   pub some_sections : 1 ≤ p.sections
-  pub few_sections : p.sections ≤ MOST_SECTIONS
+  pub few_sections : p.sections ≤ MAX_SECTIONS
   pub shape : IsShape (length p.nodes) p.shape
 
 -- the number of a node's name

@@ -2,7 +2,7 @@
 use Rattle.std.specs.Prelude.{◌≡◌, ◌⊎◌, ℕ, List, codes, Result, Ok, Err}
 use Rattle.serde_json.specs.Data.{Data}
 use Rattle.serde_json.specs.Find.{get}
-use Rattle.mx_stamps.specs.declared.limits.TheConstants.{MOST_NODES, MOST_REGISTERS}
+use Rattle.mx_stamps.specs.declared.limits.TheConstants.{MAX_NODES, MAX_REGISTERS}
 use Rattle.mx_plan.specs.Text.{Text}
 use Rattle.mx_plan.specs.Fields.{Fields}
 use Rattle.mx_plan.specs.Shapes.{PlannedShape, IsShapeOf, IsRefusalOf}
@@ -18,8 +18,8 @@ use Rattle.mx_plan.specs.declared.faults.PlanFault.TheVariants.{BadShape, Memory
 -- the names of the nodes, and of the registers
 abbrev pub both_names : Data → Result (List Text × List Text) PlanFault
 both_names d =
-    and_then (names_of MOST_NODES place.Nodes (get (codes "nodes") d))
-    (λ nodes. and_then (names_of MOST_REGISTERS place.Registers (get (codes "registers") d))
+    and_then (names_of MAX_NODES place.Nodes (get (codes "nodes") d))
+    (λ nodes. and_then (names_of MAX_REGISTERS place.Registers (get (codes "registers") d))
     (λ registers. Ok (nodes, registers)))
 
 -- the last section, the origin, and the shape of a plan for an algorithm over these nodes

@@ -4,7 +4,7 @@ use Rattle.std.specs.Option.{option_map_or}
 use Rattle.std.specs.Str.{bytes_eq}
 use Rattle.serde_json.specs.Data.{Data}
 use Rattle.serde_json.specs.Find.{get, as_str}
-use Rattle.mx_stamps.specs.declared.limits.TheConstants.{MOST_NODES, MOST_REGISTERS, MOST_SECTIONS}
+use Rattle.mx_stamps.specs.declared.limits.TheConstants.{MAX_NODES, MAX_REGISTERS, MAX_SECTIONS}
 use Rattle.mx_plan.specs.Text.{Text}
 use Rattle.mx_plan.specs.Fields.{Fields, IsShape}
 use Rattle.mx_plan.specs.Shapes.{PlannedShape, all_others, tree, IsShapeOf, IsRefusalOf}
@@ -39,7 +39,7 @@ algorithm_of d =
 -- the number, if it is from 1 to the greatest section number
 abbrev pub in_range : Place → Option ℕ → Result ℕ PlanFault
 in_range p None = Err (NotPlan p)
-in_range p (Some n) = if nat_le 1 n && nat_le n MOST_SECTIONS then Ok n else Err (NotPlan p)
+in_range p (Some n) = if nat_le 1 n && nat_le n MAX_SECTIONS then Ok n else Err (NotPlan p)
 
 -- the origin in the value of a key: 0 if the key is absent
 abbrev pub origin_of : Option Data → Result ℕ PlanFault
@@ -74,8 +74,8 @@ abbrev pub draft_of : Data → Result Draft PlanFault
 draft_of d =
     if not (is_object d) then Err (NotPlan place.Plan)
     else and_then (algorithm_of d)
-    (λ algorithm. and_then (names_of MOST_NODES place.Nodes (get (codes "nodes") d))
-    (λ nodes. and_then (names_of MOST_REGISTERS place.Registers (get (codes "registers") d))
+    (λ algorithm. and_then (names_of MAX_NODES place.Nodes (get (codes "nodes") d))
+    (λ nodes. and_then (names_of MAX_REGISTERS place.Registers (get (codes "registers") d))
     (λ registers. and_then (in_range place.Sections (number_of (get (codes "sections") d)))
     (λ sections. and_then (origin_of (get (codes "origin") d))
     (λ origin. and_then (planned_of algorithm nodes d)

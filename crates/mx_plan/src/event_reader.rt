@@ -14,7 +14,7 @@ use crate::plan::Plan;
 use crate::values::{elements, list_in, parse, text_in};
 use arrayvec::ArrayVec;
 use mx_events::{Argument, ArgumentKind, Event, EventKind};
-use mx_stamps::{MOST_EVENTS, NodeId};
+use mx_stamps::{MAX_EVENTS, NodeId};
 use serde_json::Value;
 use std::alloc::Global;
 
@@ -41,8 +41,8 @@ fn events_in(alloc: Global, value: &Value, plan: &Plan) -> Result<Vec<Event>, Pl
 {
     match elements(value) {
         None => Err(PlanFault::NotPlan(Place::Events)),
-        Some(values) if values.len() > MOST_EVENTS => Err(PlanFault::NotPlan(Place::Event(
-            MOST_EVENTS as u64,
+        Some(values) if values.len() > MAX_EVENTS => Err(PlanFault::NotPlan(Place::Event(
+            MAX_EVENTS as u64,
         ))),
         Some(values) => each_event(alloc, values, plan),
     }

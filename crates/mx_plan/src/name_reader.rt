@@ -11,7 +11,7 @@ use crate::faults::PlanFault;
 use crate::names::{Names, is_name};
 use crate::place::Place;
 use crate::values::{array_in, elements, text_in};
-use mx_stamps::MOST_NODES;
+use mx_stamps::MAX_NODES;
 use serde_json::Value;
 use std::alloc::Global;
 
@@ -95,7 +95,7 @@ pub fn is_name_list(value: &Value) -> bool
 ///
 /// Returns `UnknownName` if no node has it.
 pub fn number_of_name(value: &Value, nodes: &Names, place: Place) -> Result<u8, PlanFault>
-    requires { length nodes.now ≤ MOST_NODES }
+    requires { length nodes.now ≤ MAX_NODES }
     ensures value { result ≡ spec.number_in place nodes.now (view value.now) }
     ensures within { IfOk result (λ n. n < length nodes.now) }
 {
@@ -116,7 +116,7 @@ pub fn numbers_of_names(
     nodes: &Names,
     place: Place,
 ) -> Result<Vec<u8>, PlanFault>
-    requires { length nodes.now ≤ MOST_NODES }
+    requires { length nodes.now ≤ MAX_NODES }
     ensures { Gives (each (spec.number_in place nodes.now) (map view values.now)) result }
 {
     let mut numbers = Vec::new(alloc);

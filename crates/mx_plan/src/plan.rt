@@ -7,7 +7,7 @@ ghost use Rattle.mx_plan.specs.PlanParts.{plan_of};
 
 use crate::names::Names;
 use crate::shape::Shape;
-use mx_stamps::{MOST_NODES, MOST_REGISTERS, MOST_SECTIONS, NodeId};
+use mx_stamps::{MAX_NODES, MAX_REGISTERS, MAX_SECTIONS, NodeId};
 use std::marker::Model;
 
 /// A plan of a cluster. It has the names of the nodes, 1 to 21, and of the registers that they
@@ -54,10 +54,10 @@ impl Plan {
         origin: u64,
         shape: Shape,
     ) -> Plan
-        requires nodes { AreNames MOST_NODES nodes }
-        requires registers { AreNames MOST_REGISTERS registers }
+        requires nodes { AreNames MAX_NODES nodes }
+        requires registers { AreNames MAX_REGISTERS registers }
         requires some_sections { 1 ≤ sections }
-        requires few_sections { sections ≤ MOST_SECTIONS }
+        requires few_sections { sections ≤ MAX_SECTIONS }
         requires shape { IsShape (length nodes) shape }
         ensures { result ≡ plan_of nodes registers sections origin shape }
     {
@@ -82,7 +82,7 @@ impl Plan {
     pub fn nodes(&self) -> u8
         ensures value { result ≡ length self.now.nodes }
         ensures low { 0 < result }
-        ensures high { result ≤ MOST_NODES }
+        ensures high { result ≤ MAX_NODES }
     {
         self.nodes.len() as u8
     }
@@ -91,7 +91,7 @@ impl Plan {
     pub fn registers(&self) -> u8
         ensures value { result ≡ length self.now.registers }
         ensures low { 0 < result }
-        ensures high { result ≤ MOST_REGISTERS }
+        ensures high { result ≤ MAX_REGISTERS }
     {
         self.registers.len() as u8
     }
@@ -100,7 +100,7 @@ impl Plan {
     pub fn sections(&self) -> u64
         ensures value { result ≡ self.now.sections }
         ensures low { 1 ≤ result }
-        ensures high { result ≤ MOST_SECTIONS }
+        ensures high { result ≤ MAX_SECTIONS }
     {
         self.sections
     }

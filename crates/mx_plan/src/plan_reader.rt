@@ -19,7 +19,7 @@ use crate::quorum_reader::quorums_in;
 use crate::shape::Shape;
 use crate::tree_reader::tree_in;
 use crate::values::{number_in, parse};
-use mx_stamps::{MOST_NODES, MOST_REGISTERS, MOST_SECTIONS};
+use mx_stamps::{MAX_NODES, MAX_REGISTERS, MAX_SECTIONS};
 use serde_json::Value;
 use std::alloc::Global;
 
@@ -61,14 +61,14 @@ fn plan_in(alloc: Global, value: &Value) -> Result<Plan, PlanFault>
 /// Reads the names of the nodes and of the registers.
 fn both_names(alloc: Global, value: &Value) -> Result<(Names, Names), PlanFault>
     ensures answers { Answers (part.both_names (view value.now)) result }
-    ensures nodes { IfOk result (λ names. AreNames MOST_NODES names.0) }
-    ensures registers { IfOk result (λ names. AreNames MOST_REGISTERS names.1) }
+    ensures nodes { IfOk result (λ names. AreNames MAX_NODES names.0) }
+    ensures registers { IfOk result (λ names. AreNames MAX_REGISTERS names.1) }
 {
-    let nodes = names_at(alloc, value.get("nodes"), MOST_NODES as usize, Place::Nodes)?;
+    let nodes = names_at(alloc, value.get("nodes"), MAX_NODES as usize, Place::Nodes)?;
     names_at(
         alloc,
         value.get("registers"),
-        MOST_REGISTERS as usize,
+        MAX_REGISTERS as usize,
         Place::Registers,
     )
     .map(|registers| (nodes, registers))
@@ -81,11 +81,11 @@ fn setting_in(
     value: &Value,
     nodes: &Names,
 ) -> Result<(u64, u64, Shape), PlanFault>
-    requires { AreNames MOST_NODES nodes.now }
+    requires { AreNames MAX_NODES nodes.now }
     ensures answers { part.SettingAnswers (length nodes.now)
         (part.setting_of algorithm nodes.now (view value.now)) result }
     ensures low { IfOk result (λ setting. 1 ≤ setting.0) }
-    ensures high { IfOk result (λ setting. setting.0 ≤ MOST_SECTIONS) }
+    ensures high { IfOk result (λ setting. setting.0 ≤ MAX_SECTIONS) }
     ensures shape { IfOk result (λ setting. IsShape (length nodes.now) setting.2) }
 {
     let sections = sections_in(value)?;
@@ -97,10 +97,10 @@ fn sections_in(value: &Value) -> Result<u64, PlanFault>
     ensures value { result
         ≡ spec.in_range Place.Sections (number_of (get (codes "sections") (view value.now))) }
     ensures low { IfOk result (λ n. 1 ≤ n) }
-    ensures high { IfOk result (λ n. n ≤ MOST_SECTIONS) }
+    ensures high { IfOk result (λ n. n ≤ MAX_SECTIONS) }
 {
     match number_in(value.get("sections")) {
-        Some(n) if 1 <= n && n <= MOST_SECTIONS => Ok(n),
+        Some(n) if 1 <= n && n <= MAX_SECTIONS => Ok(n),
         _ => Err(PlanFault::NotPlan(Place::Sections)),
     }
 }
@@ -121,7 +121,7 @@ fn shape_in(
     value: &Value,
     nodes: &Names,
 ) -> Result<Shape, PlanFault>
-    requires { AreNames MOST_NODES nodes.now }
+    requires { AreNames MAX_NODES nodes.now }
     ensures { spec.ShapeAnswers (length nodes.now)
         (spec.planned_of algorithm nodes.now (view value.now)) result }
 {

@@ -15,7 +15,7 @@ use crate::names::Names;
 use crate::place::Place;
 use crate::shape::Shape;
 use crate::values::{array_in, list_in, number_in};
-use mx_stamps::MOST_NODES;
+use mx_stamps::MAX_NODES;
 use serde_json::Value;
 use std::alloc::Global;
 
@@ -26,7 +26,7 @@ use std::alloc::Global;
 /// Returns `NotPlan` if the value has another form, and `UnknownName` if no node has a name.
 /// Returns `BadShape` if the sets are no family, and `Memory` if memory runs out.
 pub fn quorums_in(alloc: Global, value: Option<&Value>, nodes: &Names) -> Result<Shape, PlanFault>
-    requires { AreNames MOST_NODES nodes.now }
+    requires { AreNames MAX_NODES nodes.now }
     ensures { ShapeAnswers (length nodes.now)
         (spec.quorums_of nodes.now (option_map (λ v. view v.now) value.entry)) result }
 {
@@ -37,7 +37,7 @@ pub fn quorums_in(alloc: Global, value: Option<&Value>, nodes: &Names) -> Result
 }
 
 fn quorums_from(alloc: Global, value: &Value, nodes: &Names) -> Result<Shape, PlanFault>
-    requires { AreNames MOST_NODES nodes.now }
+    requires { AreNames MAX_NODES nodes.now }
     ensures { ShapeAnswers (length nodes.now)
         (spec.quorums_from nodes.now (view value.now)) result }
 {
@@ -48,7 +48,7 @@ fn quorums_from(alloc: Global, value: &Value, nodes: &Names) -> Result<Shape, Pl
 }
 
 fn of_kind(alloc: Global, kind: &str, value: &Value, nodes: &Names) -> Result<Shape, PlanFault>
-    requires { AreNames MOST_NODES nodes.now }
+    requires { AreNames MAX_NODES nodes.now }
     ensures { ShapeAnswers (length nodes.now)
         (spec.kind_of nodes.now (view value.now) kind.now) result }
 {
@@ -68,7 +68,7 @@ fn of_kind(alloc: Global, kind: &str, value: &Value, nodes: &Names) -> Result<Sh
 /// Returns a grid with one place for each node.
 fn grid_in(nodes: u8, rows: Option<u64>, cols: Option<u64>) -> Result<Shape, PlanFault>
     requires some { 0 < nodes }
-    requires few { nodes ≤ MOST_NODES }
+    requires few { nodes ≤ MAX_NODES }
     ensures { ShapeAnswers nodes (spec.grid_of nodes rows cols) result }
 {
     match (rows, cols) {
@@ -88,7 +88,7 @@ fn is_size(nodes: u8, rows: u64, cols: u64) -> bool
 
 /// Reads the family of the sets that the value of the key `sets` lists.
 fn sets_in(alloc: Global, value: Option<&Value>, nodes: &Names) -> Result<Shape, PlanFault>
-    requires { AreNames MOST_NODES nodes.now }
+    requires { AreNames MAX_NODES nodes.now }
     ensures { ShapeAnswers (length nodes.now)
         (spec.sets_of nodes.now (option_map (λ v. view v.now) value.entry)) result }
 {
@@ -118,7 +118,7 @@ fn all_name_lists(values: &[Value]) -> bool
 
 /// Reads the family of these arrays of names, one for each node.
 fn family_of(alloc: Global, values: &[Value], nodes: &Names) -> Result<Shape, PlanFault>
-    requires few { length nodes.now ≤ MOST_NODES }
+    requires few { length nodes.now ≤ MAX_NODES }
     requires one_each { length values.now ≡ length nodes.now }
     ensures { ShapeAnswers (length nodes.now)
         (spec.family_of nodes.now (map view values.now)) result }
@@ -129,7 +129,7 @@ fn family_of(alloc: Global, values: &[Value], nodes: &Names) -> Result<Shape, Pl
 
 /// Reads the nodes of each set, in order.
 fn all_sets(alloc: Global, values: &[Value], nodes: &Names) -> Result<Vec<Vec<u8>>, PlanFault>
-    requires { length nodes.now ≤ MOST_NODES }
+    requires { length nodes.now ≤ MAX_NODES }
     ensures sets { spec.GivesSets (each (spec.set_of nodes.now) (map view values.now)) result }
     ensures one_each { IfOk result (λ sets. length sets.items ≡ length values.now) }
 {

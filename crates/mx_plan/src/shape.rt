@@ -8,7 +8,7 @@ ghost use Rattle.mx_plan.specs.Shapes as shape_planned;
 use crate::faults::ShapeFault;
 use mx_quorums::Quorums;
 use mx_ricart::Count;
-use mx_stamps::MOST_NODES;
+use mx_stamps::MAX_NODES;
 use mx_trees::Tree;
 
 /// The shape of a cluster, by the algorithm that its nodes run.
@@ -26,7 +26,7 @@ impl Shape {
     /// Creates the shape in which each of n nodes asks all others.
     pub(crate) fn all_others(n: u8) -> Shape
         requires some { 0 < n }
-        requires few { n ≤ MOST_NODES }
+        requires few { n ≤ MAX_NODES }
         ensures { result ≡ Shape.Ricart n }
     {
         Shape::Ricart(Count::of(n).unwrap())
@@ -42,7 +42,7 @@ impl Shape {
     /// Creates the grid of n nodes with these rows and columns.
     pub(crate) fn grid(n: u8, rows: u8, cols: u8) -> Result<Shape, ShapeFault>
         requires some { 0 < n }
-        requires few { n ≤ MOST_NODES }
+        requires few { n ≤ MAX_NODES }
         requires size { rows * cols ≡ n }
         ensures { IsShaped n (shape_planned.grid rows cols) result }
     {

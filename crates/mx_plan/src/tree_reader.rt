@@ -14,7 +14,7 @@ use crate::names::Names;
 use crate::place::Place;
 use crate::shape::Shape;
 use crate::values::{array_in, list_in};
-use mx_stamps::MOST_NODES;
+use mx_stamps::MAX_NODES;
 use serde_json::Value;
 use std::alloc::Global;
 
@@ -25,7 +25,7 @@ use std::alloc::Global;
 /// Returns `NotPlan` if a value has another form, and `UnknownName` if no node has a name. Returns
 /// `BadShape` if the edges and the holder are no tree, and `Memory` if memory runs out.
 pub fn tree_in(alloc: Global, plan: &Value, nodes: &Names) -> Result<Shape, PlanFault>
-    requires { AreNames MOST_NODES nodes.now }
+    requires { AreNames MAX_NODES nodes.now }
     ensures { ShapeAnswers (length nodes.now) (tree_of nodes.now (view plan.now)) result }
 {
     let edges = edges_in(alloc, plan.get("edges"), nodes)?;
@@ -36,7 +36,7 @@ pub fn tree_in(alloc: Global, plan: &Value, nodes: &Names) -> Result<Shape, Plan
 /// Reads the edges that the value of a key lists. Their form is checked first, and then their
 /// names.
 fn edges_in(alloc: Global, value: Option<&Value>, nodes: &Names) -> Result<Vec<(u8, u8)>, PlanFault>
-    requires { length nodes.now ≤ MOST_NODES }
+    requires { length nodes.now ≤ MAX_NODES }
     ensures { Gives (spec.edges_of nodes.now (option_map (λ v. view v.now) value.entry)) result }
 {
     match array_in(value) {
@@ -68,7 +68,7 @@ fn is_edge(value: &Value) -> bool
 }
 
 fn each_edge(alloc: Global, values: &[Value], nodes: &Names) -> Result<Vec<(u8, u8)>, PlanFault>
-    requires { length nodes.now ≤ MOST_NODES }
+    requires { length nodes.now ≤ MAX_NODES }
     ensures { Gives (each (spec.edge_of nodes.now) (map view values.now)) result }
 {
     let mut edges = Vec::new(alloc);
@@ -81,7 +81,7 @@ fn each_edge(alloc: Global, values: &[Value], nodes: &Names) -> Result<Vec<(u8, 
 
 /// Returns the nodes that an edge joins.
 fn edge_in(value: &Value, nodes: &Names) -> Result<(u8, u8), PlanFault>
-    requires { length nodes.now ≤ MOST_NODES }
+    requires { length nodes.now ≤ MAX_NODES }
     ensures { result ≡ spec.edge_of nodes.now (view value.now) }
 {
     match list_in(value) {
@@ -96,7 +96,7 @@ fn edge_in(value: &Value, nodes: &Names) -> Result<(u8, u8), PlanFault>
 
 /// Returns the node that the value of a key names.
 fn holder_in(value: Option<&Value>, nodes: &Names) -> Result<u8, PlanFault>
-    requires { length nodes.now ≤ MOST_NODES }
+    requires { length nodes.now ≤ MAX_NODES }
     ensures { result ≡ spec.holder_of nodes.now (option_map (λ v. view v.now) value.entry) }
 {
     match value {

@@ -2,8 +2,8 @@
 use Rattle.std.specs.Prelude.{ℕ, ◌&&◌, ◌||◌, ◌==◌, Bool, true, [], ◌++◌, Option, Some, None, codes, drop, if◌then◌else◌}
 use Rattle.mx_plan.specs.Text.{Text, line_feed}
 use Rattle.mx_plan.specs.Fields.{Fields}
-use Rattle.mx_texts.specs.EventTexts.{name_of}
-use Rattle.mx_texts.specs.Lines.{texts_from}
+use Rattle.mx_format.specs.EventTexts.{name_of}
+use Rattle.mx_format.specs.Lines.{texts_from}
 use Rattle.mx_scripts.specs.Links.{LinkState, is_cut}
 
 -- it is the node that is named, where one is

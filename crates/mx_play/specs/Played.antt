@@ -10,7 +10,7 @@ use Rattle.mx_plan.specs.Text.{Text}
 use Rattle.mx_plan.specs.Fields.{Fields}
 use Rattle.mx_plan.specs.declared.shape.Shape.{Shape}
 use Rattle.mx_plan.specs.declared.shape.Shape.TheVariants.{Ricart, Maekawa, Raymond}
-use Rattle.mx_texts.specs.LetterTexts.{ricart_text, maekawa_text, raymond_text}
+use Rattle.mx_format.specs.LetterTexts.{ricart_text, maekawa_text, raymond_text}
 use Rattle.mx_cli.specs.Reading.{IsPlanOf, IsRead, is_dash}
 use Rattle.mx_io.specs.Told.{Telling}
 use Rattle.mx_io.specs.Outputs.{Held}

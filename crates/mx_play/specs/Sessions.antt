@@ -11,11 +11,11 @@ use Rattle.mx_lines.specs.declared.orders.LinkChange.{LinkChange}
 use Rattle.mx_lines.specs.declared.orders.Scope.{Scope}
 use Rattle.mx_plan.specs.Text.{Text, line_feed}
 use Rattle.mx_plan.specs.Fields.{Fields}
-use Rattle.mx_texts.specs.Lines.{texts_from}
+use Rattle.mx_format.specs.Lines.{texts_from}
 use Rattle.mx_knowledge.specs.Facts.{Known}
-use Rattle.mx_texts.specs.FactTexts.{facts_line}
-use Rattle.mx_texts.specs.NodeTexts.{member_line}
-use Rattle.mx_texts.specs.ParcelTexts.{parcel_line}
+use Rattle.mx_format.specs.FactTexts.{facts_line}
+use Rattle.mx_format.specs.NodeTexts.{member_line}
+use Rattle.mx_format.specs.ParcelTexts.{parcel_line}
 use Rattle.mx_io.specs.Outputs.{Held}
 use Rattle.mx_commands.specs.Runs.{closing_text}
 use Rattle.mx_scripts.specs.Fates.{is_under_way, is_waiting}

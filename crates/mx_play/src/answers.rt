@@ -1,7 +1,7 @@
 //! What a line comes to.
 
 ghost use Rattle.std.specs.Prelude.{◌≡◌, ◌++◌, [], IfOk, MatchOption, OnOk, drop, length, slice_index_or, string_bytes, take};
-ghost use Rattle.mx_texts.specs.LetterTexts.{letter_text};
+ghost use Rattle.mx_format.specs.LetterTexts.{letter_text};
 ghost use Rattle.mx_scripts.specs.Scripts.{IsOver};
 ghost use Rattle.mx_play.specs.Moments.{CanLead, Leads, first_moment};
 ghost use Rattle.mx_play.specs.Sessions.{Comes, HasTurned, IsSession, mark_line, state};
@@ -14,12 +14,12 @@ use crate::moment::{go_back, replay};
 use crate::orders::repeat;
 use crate::session::{Session, list_session, show_session};
 use crate::undone::Undone;
+use mx_format::Letter;
 use mx_knowledge::Knowledge;
 use mx_lines::{Line, SessionCommand};
 use mx_nodelaws::Exclusion;
 use mx_plan::Plan;
 use mx_scripts::LineStop;
-use mx_texts::Letter;
 use std::alloc::{AllocError, Global};
 
 /// Does what a line asks for, and adds what is printed of it. Where it can't be done, nothing

@@ -4,10 +4,10 @@ ghost use Rattle.std.specs.Prelude.{◌≡◌, ◌<◌, ◌++◌, length, string
 ghost use Rattle.mx_play.specs.Cuts.{cut_line, cut_lines, cut_lines_of, cut_text, is_shown};
 
 use crate::showing::is_to;
+use mx_format::name_of;
 use mx_plan::Plan;
 use mx_scripts::Mail;
-use mx_stamps::{MOST_NODES, NodeId};
-use mx_texts::name_of;
+use mx_stamps::{MAX_NODES, NodeId};
 use std::alloc::AllocError;
 use std::fmt;
 
@@ -54,7 +54,7 @@ fn add_cuts_of(
     text: &mut String,
 ) -> Result<(), AllocError>
     requires there { i < length plan.now.nodes }
-    requires few { i < MOST_NODES }
+    requires few { i < MAX_NODES }
     ensures { OnOk result (string_bytes text.new ≡ string_bytes text.old
         ++ cut_lines_of plan.now to.now mail.now.links i) }
 {
@@ -73,8 +73,8 @@ fn add_cut(
     j: u8,
     text: &mut String,
 ) -> Result<(), AllocError>
-    requires one { i < MOST_NODES }
-    requires other { j < MOST_NODES }
+    requires one { i < MAX_NODES }
+    requires other { j < MAX_NODES }
     ensures { OnOk result (string_bytes text.new ≡ string_bytes text.old
         ++ cut_text plan.now to.now mail.now.links i j) }
 {

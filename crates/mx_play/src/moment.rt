@@ -2,7 +2,7 @@
 
 ghost use Rattle.std.specs.Prelude.{◌≡◌, ◌++◌, Ok, IfNone, IfOk, IfSome, IsOk, IsTrue, OnOk, length, string_bytes, take};
 ghost use Rattle.mx_network.specs.Step.{step_of};
-ghost use Rattle.mx_texts.specs.LetterTexts.{letter_text};
+ghost use Rattle.mx_format.specs.LetterTexts.{letter_text};
 ghost use Rattle.mx_commands.specs.Runs.{NamesNodes, text_of};
 ghost use Rattle.mx_scripts.specs.Fates.{NoneArrives, can_pass, is_under_way, is_waiting};
 ghost use Rattle.mx_play.specs.Moments.{Brings, CanHappen, CanLead, Leads, first_moment, shown};
@@ -10,13 +10,13 @@ ghost use Rattle.mx_play.specs.Moments.{Brings, CanHappen, CanLead, Leads, first
 use crate::happening::Happening;
 use mx_cli::Stop;
 use mx_commands::{start, step};
+use mx_format::Letter;
 use mx_lines::{LineFault, LinkChange, Scope};
 use mx_network::{Cluster, Event, StepFault};
 use mx_nodelaws::Exclusion;
 use mx_plan::Plan;
 use mx_scripts::{LineStop, Mail};
 use mx_stamps::NodeId;
-use mx_texts::Letter;
 use std::alloc::{AllocError, Global};
 use std::marker::Model;
 

@@ -2,7 +2,7 @@
 
 ghost use Rattle.std.specs.Prelude.{◌≡◌, IsTrue, length, string_bytes, OnErr, OnOk};
 ghost use Rattle.mx_explorer.specs.Drawn.{IsDrawn};
-ghost use Rattle.mx_texts.specs.LetterTexts.{letter_text};
+ghost use Rattle.mx_format.specs.LetterTexts.{letter_text};
 ghost use Rattle.mx_plan.specs.Text.{Text};
 ghost use Rattle.mx_scripts.specs.Fates.{NoneArrives, NoneWaits, is_under_way};
 ghost use Rattle.mx_scripts.specs.Scripts.{IsOver};
@@ -10,13 +10,13 @@ ghost use Rattle.mx_play.specs.Sessions.{Adds, Extends, Loses, LosesOne, Relinks
 
 use crate::happening::Happening;
 use crate::moment::Moment;
+use mx_format::Letter;
 use mx_lines::{Line, LineFault, LinkChange, Order, Scope};
 use mx_network::Event;
 use mx_nodelaws::Exclusion;
 use mx_plan::Plan;
 use mx_scripts::LineStop;
-use mx_stamps::{MOST_EVENTS, NodeId};
-use mx_texts::Letter;
+use mx_stamps::{MAX_EVENTS, NodeId};
 use std::alloc::Global;
 
 /// What a line asks for, as often as it asks. What happened joins the list, and the texts of the
@@ -110,7 +110,7 @@ where
         done.old.items done.new.items (string_bytes text.old) (string_bytes text.new)) }
     ensures err { OnErr result (Extends done.old.items done.new.items) }
 {
-    if moment.cluster().trace().len() >= MOST_EVENTS {
+    if moment.cluster().trace().len() >= MAX_EVENTS {
         return Err(LineStop::Undone(LineFault::TooMany));
     }
     if !moment.can_pass(event) {
@@ -162,7 +162,7 @@ where
     ensures leaves { OnOk result (NoneArrives moment.new.fates moment.new.cluster.sent scope.now) }
     ensures err { OnErr result (Extends done.old.items done.new.items) }
 {
-    for _ in 0..MOST_EVENTS {
+    for _ in 0..MAX_EVENTS {
         let Some(number) = moment.next_to_arrive(scope) else {
             return Ok(());
         };

@@ -1,7 +1,7 @@
 //! A session is played in the cluster of a plan.
 
 ghost use Rattle.std.specs.Prelude.{◌≡◌, length, IfOk, OnOk};
-ghost use Rattle.mx_texts.specs.LetterTexts.{letter_text};
+ghost use Rattle.mx_format.specs.LetterTexts.{letter_text};
 ghost use Rattle.mx_play.specs.Played.{IsPlayedBy};
 ghost use Rattle.mx_play.specs.Sessions.{HasTalked, IsPlayed, IsSession, at_start, state};
 
@@ -9,6 +9,7 @@ use crate::reading::{Lines, Listed};
 use crate::session::{Session, begin};
 use crate::talking::{finish, greet, talk};
 use mx_cli::Stop;
+use mx_format::Letter;
 use mx_io::Output;
 use mx_knowledge::Knowledge;
 use mx_maekawa::Maekawa;
@@ -16,7 +17,6 @@ use mx_nodelaws::Exclusion;
 use mx_plan::{Plan, Shape};
 use mx_raymond::Raymond;
 use mx_ricart::Ricart;
-use mx_texts::Letter;
 use std::alloc::Global;
 
 /// Plays a session by the plan's algorithm: the lines of a script, and then those that come.

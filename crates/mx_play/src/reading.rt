@@ -1,7 +1,7 @@
 //! Where the lines of a session come from.
 
 use mx_cli::split_line;
-use mx_io::{Counted, MOST_BYTES};
+use mx_io::{Counted, MAX_BYTES};
 use std::alloc::AllocError;
 use std::io::{ErrorKind, Read};
 
@@ -9,10 +9,10 @@ use std::io::{ErrorKind, Read};
 const LONGEST_LINE: usize = 65_536;
 
 /// How many bytes are read at once, where so many are there.
-const MOST_AHEAD: usize = 4096;
+const MAX_AHEAD: usize = 4096;
 
 /// A line at which more bytes come, or signals interrupt more reads, can't be read.
-const MOST_STEPS: u64 = 2 * MOST_BYTES;
+const MAX_STEPS: u64 = 2 * MAX_BYTES;
 
 /// What comes of asking for a line.
 #[derive(Clone, Copy)]
@@ -70,7 +70,7 @@ pub struct Typed<R: Read + Drop> {
     /// How many bytes may still be asked for.
     left: u64,
     /// What was read; the bytes from `next` to `end` have not been asked for.
-    ahead: [u8; MOST_AHEAD],
+    ahead: [u8; MAX_AHEAD],
     next: usize,
     end: usize,
 }
@@ -91,8 +91,8 @@ impl<R: Read + Drop> Typed<R> {
         Typed {
             reader: Counted::new(reader),
             is_terminal,
-            left: MOST_BYTES,
-            ahead: [0; MOST_AHEAD],
+            left: MAX_BYTES,
+            ahead: [0; MAX_AHEAD],
             next: 0,
             end: 0,
         }
@@ -119,7 +119,7 @@ impl<R: Read + Drop> Typed<R> {
     /// The next byte of what was read, where one more may be asked for.
     fn take(&mut self) -> Got {
         let place = self.next;
-        if place < MOST_AHEAD && self.left > 0 {
+        if place < MAX_AHEAD && self.left > 0 {
             self.next = place + 1;
             self.left -= 1;
             Got::Byte(self.ahead[place])
@@ -133,7 +133,7 @@ impl<R: Read + Drop> Lines for Typed<R> {
     fn next(&mut self, line: &mut Vec<u8>) -> Result<Given, AllocError> {
         line.clear();
         let mut is_long = false;
-        for _ in 0..MOST_STEPS {
+        for _ in 0..MAX_STEPS {
             match self.byte() {
                 Got::Byte(b'\n') => return Ok(line_of(is_long)),
                 Got::Byte(_) if line.len() >= LONGEST_LINE => is_long = true,

@@ -1,7 +1,7 @@
 //! A session: what its lines made.
 
 ghost use Rattle.std.specs.Prelude.{◌≡◌, ◌++◌, length, string_bytes, IfOk, OnOk};
-ghost use Rattle.mx_texts.specs.LetterTexts.{letter_text};
+ghost use Rattle.mx_format.specs.LetterTexts.{letter_text};
 ghost use Rattle.mx_commands.specs.Runs.{closing_text};
 ghost use Rattle.mx_scripts.specs.Files.{file_text};
 ghost use Rattle.mx_scripts.specs.Played.{events_of};
@@ -12,11 +12,11 @@ use crate::happening::Happening;
 use crate::moment::Moment;
 use crate::showing::{add_end, add_events, show};
 use crate::undone::Undone;
+use mx_format::Letter;
 use mx_knowledge::Knowledge;
 use mx_nodelaws::Exclusion;
 use mx_plan::Plan;
 use mx_stamps::NodeId;
-use mx_texts::Letter;
 use std::alloc::{AllocError, Global};
 
 /// A cluster and its parcels as they are now, and what happened by which lines.

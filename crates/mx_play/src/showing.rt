@@ -1,9 +1,9 @@
 //! What is shown of a session.
 
 ghost use Rattle.std.specs.Prelude.{◌≡◌, ◌+◌, ◌<◌, ◌++◌, ◌&&◌, drop, length, string_bytes, IfOk, OnOk, Some};
-ghost use Rattle.mx_texts.specs.LetterTexts.{letter_text};
-ghost use Rattle.mx_texts.specs.FactTexts.{facts_line};
-ghost use Rattle.mx_texts.specs.Lines.{texts_from};
+ghost use Rattle.mx_format.specs.LetterTexts.{letter_text};
+ghost use Rattle.mx_format.specs.FactTexts.{facts_line};
+ghost use Rattle.mx_format.specs.Lines.{texts_from};
 ghost use Rattle.mx_commands.specs.Runs.{closing_text};
 ghost use Rattle.mx_scripts.specs.Fates.{is_under_way};
 ghost use Rattle.mx_scripts.specs.Files.{file_text};
@@ -14,14 +14,14 @@ ghost use Rattle.mx_play.specs.Sessions.{node_shown, standing_lines, waiting_lin
 use crate::cuts::add_cuts;
 use crate::moment::Moment;
 use mx_commands::{add_closing, verdict_status};
+use mx_format::{Letter, add_facts_line, add_member_line, add_parcel_line};
 use mx_knowledge::Knowledge;
 use mx_member::{Member, SentParcel};
 use mx_network::Cluster;
 use mx_nodelaws::Exclusion;
 use mx_plan::Plan;
 use mx_scripts::add_file;
-use mx_stamps::{MOST_NODES, NodeId};
-use mx_texts::{Letter, add_facts_line, add_member_line, add_parcel_line};
+use mx_stamps::{MAX_NODES, NodeId};
 use std::alloc::{AllocError, Global};
 
 /// Appends the line of each node, or of one, those of its links that are cut, and those of the
@@ -120,7 +120,7 @@ fn add_member<C: Exclusion + Knowledge>(
     index: u8,
     text: &mut String,
 ) -> Result<(), AllocError>
-    requires few { index < MOST_NODES }
+    requires few { index < MAX_NODES }
     requires there { index < length cluster.now.members }
     ensures { OnOk result (string_bytes text.old
         ++ texts_from (node_shown C.core C.knows plan.now) index (drop index cluster.now.members)

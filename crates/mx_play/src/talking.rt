@@ -2,7 +2,7 @@
 
 ghost use Rattle.std.specs.Prelude.{◌≡◌, [], false, length, string_bytes, IfOk, OnOk};
 ghost use Rattle.std.specs.Io.KnownBytes.{Appends};
-ghost use Rattle.mx_texts.specs.LetterTexts.{letter_text};
+ghost use Rattle.mx_format.specs.LetterTexts.{letter_text};
 ghost use Rattle.mx_commands.specs.Runs.{closing_text};
 ghost use Rattle.mx_play.specs.Sessions.{HasTalked, HasTurned, IsSession, SaysTurn, state};
 ghost use Rattle.mx_play.specs.Commands.{IsHeard};
@@ -12,13 +12,13 @@ use crate::faults::{Complaint, ComplaintLine};
 use crate::reading::{Given, Lines};
 use crate::session::{Session, end_session};
 use mx_cli::{Fault, Named, Stop, put_line};
+use mx_format::Letter;
 use mx_io::{Output, OutputFault};
 use mx_knowledge::Knowledge;
 use mx_lines::{SessionCommand, read_command, words_in};
 use mx_nodelaws::Exclusion;
 use mx_plan::Plan;
 use mx_scripts::LineStop;
-use mx_texts::Letter;
 use std::alloc::{AllocError, Global};
 use std::str;
 

@@ -1,6 +1,6 @@
 -- A family of arbiter sets: any two sets meet (Maekawa 1985).
 use Rattle.std.specs.Prelude.{ℕ, ◌<◌, ◌≤◌, ◌≡◌, Bool, true, false, List, [], slice_index_or}
-use Rattle.mx_stamps.specs.declared.limits.TheConstants.{MOST_NODES}
+use Rattle.mx_stamps.specs.declared.limits.TheConstants.{MAX_NODES}
 
 -- the number of nodes, and for each node a row that marks the nodes of its set
 pub record Family : Type 0 where
@@ -17,7 +17,7 @@ has_of f i j = slice_index_or (row_of f i) j false
 -- any two sets meet, and each contains only nodes, and its own node
 pub record IsMeeting (f : Family) : Type 0 where
   pub some : 0 < f.count
-  pub few : f.count ≤ MOST_NODES
+  pub few : f.count ≤ MAX_NODES
   pub own : (i : ℕ) → i < f.count → has_of f i i ≡ true
   pub nodes : (i j : ℕ) → i < f.count → has_of f i j ≡ true → j < f.count
   pub meet : (i j : ℕ) → i < f.count → j < f.count →

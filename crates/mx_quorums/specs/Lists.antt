@@ -1,7 +1,7 @@
 -- Sets given as lists of members.
 use Rattle.std.specs.Prelude.{ℕ, ◌<◌, ◌≤◌, ◌≡◌, ◌≢◌, ◌⊎◌, ◌↔◌, true, List, [], map, length, slice_index_or, nat_le, find, Some, Vec}
 use Rattle.std.specs.declared.alloc.Global.{Global}
-use Rattle.mx_stamps.specs.declared.limits.TheConstants.{MOST_NODES}
+use Rattle.mx_stamps.specs.declared.limits.TheConstants.{MAX_NODES}
 use Rattle.mx_stamps.specs.Lists.{IsIn}
 use Rattle.mx_quorums.specs.Family.{Family, has_of}
 use Rattle.mx_quorums.specs.Rules.{IsLeast, AllOwn, AllMeet, IsFirstNotOwn, IsFirstApart}
@@ -22,7 +22,7 @@ IsListed lists i j = IsIn j (list_of lists i)
 
 -- there are 1 to 21 lists
 abbrev pub IsCounted : List (List ℕ) → Type 0
-IsCounted lists = (0 < length lists) × (length lists ≤ MOST_NODES)
+IsCounted lists = (0 < length lists) × (length lists ≤ MAX_NODES)
 
 abbrev pub NoneEmpty : List (List ℕ) → Type 0
 NoneEmpty lists = (i : ℕ) → i < length lists → list_of lists i ≢ []
@@ -56,7 +56,7 @@ IsFirstStranger lists i j =
 -- the first rule that the lists break, in the order of the faults, at its least witness
 abbrev pub IsFirstFault : List (List ℕ) → QuorumFault → Type 0
 IsFirstFault lists NoNodes = length lists ≡ 0
-IsFirstFault lists TooMany = MOST_NODES < length lists
+IsFirstFault lists TooMany = MAX_NODES < length lists
 IsFirstFault lists (EmptySet i) = IsCounted lists × IsFirstEmpty lists i
 IsFirstFault lists (Stranger i j) = IsCounted lists × NoneEmpty lists × IsFirstStranger lists i j
 IsFirstFault lists (NotOwnMember i) =
@@ -70,7 +70,7 @@ IsFirstFault lists (NoPlane n) = ⊥
 -- the faults that the check of the count finds, and those that the checks of the members find
 abbrev pub IsCountFault : ℕ → QuorumFault → Type 0
 IsCountFault count fault =
-    ((fault ≡ NoNodes) × (count ≡ 0)) ⊎ ((fault ≡ TooMany) × (MOST_NODES < count))
+    ((fault ≡ NoNodes) × (count ≡ 0)) ⊎ ((fault ≡ TooMany) × (MAX_NODES < count))
 
 abbrev pub IsEmptyFault : List (List ℕ) → QuorumFault → Type 0
 IsEmptyFault lists fault = (i : ℕ) × (fault ≡ EmptySet i) × IsFirstEmpty lists i

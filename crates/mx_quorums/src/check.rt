@@ -6,13 +6,13 @@ ghost use Rattle.mx_quorums.specs.Rows.{IsMember, BothMark, IsFirstRowFault};
 ghost use Rattle.mx_quorums.specs.Lists.{IsCountFault};
 
 use crate::fault::QuorumFault;
-use mx_stamps::{MOST_NODES, NodeId};
+use mx_stamps::{MAX_NODES, NodeId};
 
 /// The members of a set: for each node, whether it is in the set.
-pub type Row = [bool; MOST_NODES as usize];
+pub type Row = [bool; MAX_NODES as usize];
 
 /// The set of each node. The rows after the last node are empty.
-pub type Rows = [Row; MOST_NODES as usize];
+pub type Rows = [Row; MAX_NODES as usize];
 
 /// Checks that the number of nodes is from 1 to 21, and returns it.
 ///
@@ -21,12 +21,12 @@ pub type Rows = [Row; MOST_NODES as usize];
 /// Returns `NoNodes` if it is 0, and `TooMany` if it is above 21.
 pub fn node_count(count: usize) -> Result<u8, QuorumFault>
     ensures { MatchResult result
-        (λ n. (n ≡ count) × (0 < n) × (n ≤ MOST_NODES))
+        (λ n. (n ≡ count) × (0 < n) × (n ≤ MAX_NODES))
         (λ fault. IsCountFault count fault) }
 {
     match count {
         0 => Err(QuorumFault::NoNodes),
-        _ if count > MOST_NODES as usize => Err(QuorumFault::TooMany),
+        _ if count > MAX_NODES as usize => Err(QuorumFault::TooMany),
         _ => Ok(count as u8),
     }
 }
@@ -35,9 +35,9 @@ pub fn node_count(count: usize) -> Result<u8, QuorumFault>
 pub fn first_common(a: &Row, b: &Row) -> Option<NodeId>
     ensures { MatchOption result
         ((k : ℕ) → BothMark a.now b.now k → ⊥)
-        (λ k. IsLeast (BothMark a.now b.now) MOST_NODES k) }
+        (λ k. IsLeast (BothMark a.now b.now) MAX_NODES k) }
 {
-    for k in 0..MOST_NODES {
+    for k in 0..MAX_NODES {
         if a[k as usize] && b[k as usize] {
             return NodeId::of(k);
         }
@@ -47,7 +47,7 @@ pub fn first_common(a: &Row, b: &Row) -> Option<NodeId>
 
 /// Returns the least node whose set has no node in common with that of node i.
 fn first_apart(nodes: u8, rows: &Rows, i: u8) -> Option<u8>
-    requires few { nodes ≤ MOST_NODES }
+    requires few { nodes ≤ MAX_NODES }
     requires node { i < nodes }
     ensures { MatchOption result
         (MeetsAll (IsMember rows.now) nodes i)
@@ -67,7 +67,7 @@ fn first_apart(nodes: u8, rows: &Rows, i: u8) -> Option<u8>
 ///
 /// Returns `NotOwnMember` with the least node that is not.
 fn check_own(nodes: u8, rows: &Rows) -> Result<(), QuorumFault>
-    requires { nodes ≤ MOST_NODES }
+    requires { nodes ≤ MAX_NODES }
     ensures { MatchResult result
         (λ _. AllOwn (IsMember rows.now) nodes)
         (λ fault. IsFirstRowFault nodes rows.now fault) }
@@ -86,7 +86,7 @@ fn check_own(nodes: u8, rows: &Rows) -> Result<(), QuorumFault>
 ///
 /// Returns `Apart` with the least pair of nodes whose sets do not meet.
 fn check_pairs(nodes: u8, rows: &Rows) -> Result<(), QuorumFault>
-    requires few { nodes ≤ MOST_NODES }
+    requires few { nodes ≤ MAX_NODES }
     requires own { AllOwn (IsMember rows.now) nodes }
     ensures { MatchResult result
         (λ _. AllMeet (IsMember rows.now) nodes)
@@ -107,7 +107,7 @@ fn check_pairs(nodes: u8, rows: &Rows) -> Result<(), QuorumFault>
 /// Returns `NotOwnMember` with the least node that is not in its own set. Otherwise returns `Apart`
 /// with the least pair of nodes whose sets do not meet.
 pub fn check(nodes: u8, rows: &Rows) -> Result<(), QuorumFault>
-    requires { nodes ≤ MOST_NODES }
+    requires { nodes ≤ MAX_NODES }
     ensures { MatchResult result
         (λ _. AllOwn (IsMember rows.now) nodes × AllMeet (IsMember rows.now) nodes)
         (λ fault. IsFirstRowFault nodes rows.now fault) }

@@ -5,7 +5,7 @@ ghost use Rattle.mx_quorums.specs.Rows.{IsMarked, IsMember};
 ghost use Rattle.mx_quorums.specs.Shapes.{ShareLine, IsInLine};
 
 use crate::check::{Row, Rows};
-use mx_stamps::MOST_NODES;
+use mx_stamps::MAX_NODES;
 
 /// Returns whether nodes i and j are in the same row or in the same column.
 fn share_line(cols: u8, i: u8, j: u8) -> bool
@@ -17,11 +17,11 @@ fn share_line(cols: u8, i: u8, j: u8) -> bool
 
 /// Returns the row and the column of node i, as one set.
 fn lines_of(nodes: u8, cols: u8, i: u8) -> Row
-    requires few { nodes ≤ MOST_NODES }
+    requires few { nodes ≤ MAX_NODES }
     requires some { 0 < cols }
     ensures { (j : ℕ) → IsMarked result j ↔ IsInLine nodes cols i j }
 {
-    let mut row = [false; MOST_NODES as usize];
+    let mut row = [false; MAX_NODES as usize];
     for j in 0..nodes {
         row[j as usize] = share_line(cols, i, j);
     }
@@ -30,11 +30,11 @@ fn lines_of(nodes: u8, cols: u8, i: u8) -> Row
 
 /// Returns the row and the column of each node.
 pub fn grid_rows(nodes: u8, cols: u8) -> Rows
-    requires few { nodes ≤ MOST_NODES }
+    requires few { nodes ≤ MAX_NODES }
     requires some { 0 < cols }
     ensures { (i j : ℕ) → IsMember result i j ↔ ((i < nodes) × IsInLine nodes cols i j) }
 {
-    let mut rows = [[false; MOST_NODES as usize]; MOST_NODES as usize];
+    let mut rows = [[false; MAX_NODES as usize]; MAX_NODES as usize];
     for i in 0..nodes {
         rows[i as usize] = lines_of(nodes, cols, i);
     }

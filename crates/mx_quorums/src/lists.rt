@@ -7,7 +7,7 @@ ghost use Rattle.mx_stamps.specs.Lists.{IsIn};
 
 use crate::check::{Row, Rows};
 use crate::fault::QuorumFault;
-use mx_stamps::MOST_NODES;
+use mx_stamps::MAX_NODES;
 
 /// Checks that no set is empty.
 ///
@@ -15,7 +15,7 @@ use mx_stamps::MOST_NODES;
 ///
 /// Returns `EmptySet` with the least node whose set is empty.
 pub fn check_filled(sets: &[Vec<u8>]) -> Result<(), QuorumFault>
-    requires { length sets.now ≤ MOST_NODES }
+    requires { length sets.now ≤ MAX_NODES }
     ensures { MatchResult result
         (λ _. NoneEmpty (lists_of sets.now))
         (λ fault. IsEmptyFault (lists_of sets.now) fault) }
@@ -43,7 +43,7 @@ fn first_stranger(set: &[u8], nodes: u8) -> Option<u8>
 /// such member.
 pub fn check_members(sets: &[Vec<u8>], nodes: u8) -> Result<(), QuorumFault>
     requires count { nodes ≡ length sets.now }
-    requires few { length sets.now ≤ MOST_NODES }
+    requires few { length sets.now ≤ MAX_NODES }
     ensures { MatchResult result
         (λ _. AllNodes (lists_of sets.now))
         (λ fault. IsStrangerFault (lists_of sets.now) fault) }
@@ -58,10 +58,10 @@ pub fn check_members(sets: &[Vec<u8>], nodes: u8) -> Result<(), QuorumFault>
 
 /// Returns the row that marks the nodes of a list.
 fn row_of(set: &[u8]) -> Row
-    requires { (j : ℕ) → IsIn j set.now → j < MOST_NODES }
+    requires { (j : ℕ) → IsIn j set.now → j < MAX_NODES }
     ensures { Marks result set.now }
 {
-    let mut row = [false; MOST_NODES as usize];
+    let mut row = [false; MAX_NODES as usize];
     for j in set {
         row[*j as usize] = true;
     }
@@ -70,11 +70,11 @@ fn row_of(set: &[u8]) -> Row
 
 /// Returns the rows that mark the nodes of each list.
 pub fn rows_of(sets: &[Vec<u8>]) -> Rows
-    requires few { length sets.now ≤ MOST_NODES }
+    requires few { length sets.now ≤ MAX_NODES }
     requires nodes { AllNodes (lists_of sets.now) }
     ensures { MarksLists result (lists_of sets.now) }
 {
-    let mut rows = [[false; MOST_NODES as usize]; MOST_NODES as usize];
+    let mut rows = [[false; MAX_NODES as usize]; MAX_NODES as usize];
     for (i, set) in sets.iter().enumerate() {
         rows[i] = row_of(set);
     }

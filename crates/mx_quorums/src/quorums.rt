@@ -12,7 +12,7 @@ use crate::fault::QuorumFault;
 use crate::lines::grid_rows;
 use crate::lists::{check_filled, check_members, rows_of};
 use crate::shifts::{differences, plane_rows};
-use mx_stamps::{MOST_NODES, NodeId};
+use mx_stamps::{MAX_NODES, NodeId};
 use std::marker::Model;
 
 /// A family of arbiter sets, one for each of 1 to 21 nodes. Each node is in its own set, and any
@@ -64,10 +64,10 @@ impl Quorums {
     ///
     /// Returns `NoNodes` if the grid has no node, and `TooMany` if it has more than 21.
     pub fn grid(rows: u8, cols: u8) -> Result<Quorums, QuorumFault>
-        ensures ok { IsOk result ↔ ((0 < rows * cols) × (rows * cols ≤ MOST_NODES)) }
+        ensures ok { IsOk result ↔ ((0 < rows * cols) × (rows * cols ≤ MAX_NODES)) }
         ensures sets { IfOk result (λ family. IsGrid rows cols family) }
         ensures no_nodes { IsErrOf result QuorumFault.NoNodes ↔ (rows * cols ≡ 0) }
-        ensures too_many { IsErrOf result QuorumFault.TooMany ↔ (MOST_NODES < rows * cols) }
+        ensures too_many { IsErrOf result QuorumFault.TooMany ↔ (MAX_NODES < rows * cols) }
     {
         let nodes = node_count(rows as usize * cols as usize)?;
         Quorums::checked(nodes, grid_rows(nodes, cols))
@@ -97,7 +97,7 @@ impl Quorums {
     /// Returns `NotOwnMember` if a node is not in its own set, and `Apart` if two sets do not meet.
     fn checked(nodes: u8, rows: Rows) -> Result<Quorums, QuorumFault>
         requires some { 0 < nodes }
-        requires few { nodes ≤ MOST_NODES }
+        requires few { nodes ≤ MAX_NODES }
         requires marks { MarksNodes nodes rows }
         ensures { IsChecked nodes rows result }
     {
@@ -109,7 +109,7 @@ impl Quorums {
     pub fn nodes(&self) -> u8
         ensures value { result ≡ self.now.count }
         ensures low { 0 < result }
-        ensures high { result ≤ MOST_NODES }
+        ensures high { result ≤ MAX_NODES }
         ensures valid { IsMeeting self.now }
         ensures within { IsWithin self.now }
     {
@@ -126,7 +126,7 @@ impl Quorums {
     }
 
     /// Returns the set of node i.
-    pub fn set(&self, i: NodeId) -> [bool; MOST_NODES as usize]
+    pub fn set(&self, i: NodeId) -> [bool; MAX_NODES as usize]
         ensures { result ≡ row_of self.now i }
     {
         self.rows[i.get() as usize]

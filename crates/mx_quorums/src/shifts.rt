@@ -6,7 +6,7 @@ ghost use Rattle.mx_quorums.specs.Rows.{IsMarked, IsMember};
 ghost use Rattle.mx_quorums.specs.Shapes.{IsPlaneSize, difference_set, IsShifted};
 
 use crate::check::{Row, Rows};
-use mx_stamps::MOST_NODES;
+use mx_stamps::MAX_NODES;
 
 /// Returns numbers whose differences, modulo n, are all the numbers below n. Returns `None` unless
 /// n is 7, 13 or 21.
@@ -26,12 +26,12 @@ pub fn differences(n: u8) -> Option<&'static [u8]>
 /// Returns node i plus each of the differences, modulo n, as one set.
 fn shifted(n: u8, differences: &[u8], i: u8) -> Row
     requires some { 0 < n }
-    requires few { n ≤ MOST_NODES }
+    requires few { n ≤ MAX_NODES }
     requires node { i < n }
     requires small { (d : ℕ) → IsIn d differences.now → d < n }
     ensures { (j : ℕ) → IsMarked result j ↔ IsShifted n differences.now i j }
 {
-    let mut row = [false; MOST_NODES as usize];
+    let mut row = [false; MAX_NODES as usize];
     for d in differences {
         row[((i + *d) % n) as usize] = true;
     }
@@ -41,11 +41,11 @@ fn shifted(n: u8, differences: &[u8], i: u8) -> Row
 /// Returns each node plus each of the differences, modulo n.
 pub fn plane_rows(n: u8, differences: &[u8]) -> Rows
     requires some { 0 < n }
-    requires few { n ≤ MOST_NODES }
+    requires few { n ≤ MAX_NODES }
     requires small { (d : ℕ) → IsIn d differences.now → d < n }
     ensures { (i j : ℕ) → IsMember result i j ↔ ((i < n) × IsShifted n differences.now i j) }
 {
-    let mut rows = [[false; MOST_NODES as usize]; MOST_NODES as usize];
+    let mut rows = [[false; MAX_NODES as usize]; MAX_NODES as usize];
     for i in 0..n {
         rows[i as usize] = shifted(n, differences, i);
     }

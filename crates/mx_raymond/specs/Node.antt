@@ -1,6 +1,6 @@
 -- The state of a node.
 use Rattle.std.specs.Prelude.{ℕ, ◌≤◌, ◌≡◌, Bool, true, List, Option, Some}
-use Rattle.mx_stamps.specs.declared.limits.TheConstants.{MOST_SECTIONS}
+use Rattle.mx_stamps.specs.declared.limits.TheConstants.{MAX_SECTIONS}
 use Rattle.mx_nodelaws.specs.declared.phase.Phase.{Phase}
 use Rattle.mx_nodelaws.specs.declared.phase.Phase.TheVariants.{Waiting}
 use Rattle.mx_nodelaws.specs.Core.{BearsNumber}
@@ -37,8 +37,8 @@ pub record Node : Type 0 where
 
 -- what holds for the state of every node, whatever the others do
 pub record IsState (s : Node) : Type 0 where
-  pub mine : s.mine ≤ MOST_SECTIONS
-  pub limit : s.limit ≤ MOST_SECTIONS
+  pub mine : s.mine ≤ MAX_SECTIONS
+  pub limit : s.limit ≤ MAX_SECTIONS
   pub phase : BearsNumber s.phase
   -- its own name is in its queue only while it waits
   pub queued : is_queued s.queue s.me ≡ true → s.phase ≡ Waiting

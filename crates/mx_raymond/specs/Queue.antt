@@ -1,7 +1,7 @@
 -- The queue of a node: names of nodes, each once, the oldest first.
 use Rattle.std.specs.Prelude.{ℕ, ◌<◌, ◌≡◌, Bool, true, false, not, List, [], ◌∷◌, ◌++◌, Option, Some, None, filter, map, nat_eq, if◌then◌else◌}
 use Rattle.std.specs.List.{list_any, IsDistinct}
-use Rattle.mx_stamps.specs.declared.limits.TheConstants.{MOST_NODES}
+use Rattle.mx_stamps.specs.declared.limits.TheConstants.{MAX_NODES}
 use Rattle.mx_knowledge.specs.declared.fact.Item.{Item}
 use Rattle.mx_knowledge.specs.declared.fact.Item.TheVariants as item
 
@@ -34,7 +34,7 @@ without queue node = filter (λ name. not (nat_eq name node)) queue
 -- each name is in it at most once, and each is the name of a node
 pub record IsQueue (queue : List ℕ) : Type 0 where
   pub once : IsDistinct nat_eq queue
-  pub nodes : (node : ℕ) → is_queued queue node ≡ true → node < MOST_NODES
+  pub nodes : (node : ℕ) → is_queued queue node ≡ true → node < MAX_NODES
 
 -- its names, as the values of a fact
 abbrev pub queue_items : List ℕ → List Item

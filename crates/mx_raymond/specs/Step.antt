@@ -2,7 +2,7 @@
 -- Each row says which part of it is published (Raymond 1989) and which is added here. Refusals by
 -- the phase are in mx_nodelaws, specs/Calls.antt.
 use Rattle.std.specs.Prelude.{ℕ, ◌+◌, ◌≡◌, Bool, true, false, ◌&&◌, not, List, [], ◌∷◌, ◌++◌, Option, Some, None, max, nat_lt, nat_eq, if◌then◌else◌, slice_index_or, slice_set, replicate}
-use Rattle.mx_stamps.specs.declared.limits.TheConstants.{MOST_NODES}
+use Rattle.mx_stamps.specs.declared.limits.TheConstants.{MAX_NODES}
 use Rattle.mx_stamps.specs.declared.stamp.Stamp.{Stamp}
 use Rattle.mx_stamps.specs.Numbers.{last_number}
 use Rattle.mx_letters.specs.declared.raymond.RaymondMsg.{RaymondMsg}
@@ -34,7 +34,7 @@ start_of tree me origin limit = record {
   unacked = None;
   asks = 0;
   sent = 0;
-  heard = replicate MOST_NODES 0;
+  heard = replicate MAX_NODES 0;
   top = 0;
   mine = 0;
 }

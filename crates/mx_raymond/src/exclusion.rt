@@ -4,7 +4,7 @@ use crate::queue::Queue;
 use crate::raymond::Raymond;
 use mx_letters::{Outbox, RaymondMsg};
 use mx_nodelaws::{AskFault, CancelFault, EnterFault, Exclusion, LeaveFault, Phase};
-use mx_stamps::{MOST_NODES, NodeId, Stamp};
+use mx_stamps::{MAX_NODES, NodeId, Stamp};
 use mx_trees::Tree;
 
 impl Exclusion for Raymond {
@@ -50,7 +50,7 @@ impl Exclusion for Raymond {
             unacked: None,
             asks: 0,
             sent: 0,
-            heard: [0; MOST_NODES as usize],
+            heard: [0; MAX_NODES as usize],
             top: 0,
             mine: 0,
         }

@@ -5,18 +5,18 @@ ghost use Rattle.mx_raymond.specs.Queue.{is_queued, is_empty, head_of, rest_of, 
 
 use arrayvec::ArrayVec;
 use mx_knowledge::Item;
-use mx_stamps::{MOST_NODES, NodeId};
+use mx_stamps::{MAX_NODES, NodeId};
 use std::alloc::{AllocError, Global};
 use std::marker::Model;
 
 /// The greatest length: each node is in the queue at most once.
-const MOST_NAMES: usize = MOST_NODES as usize;
+const MAX_NAMES: usize = MAX_NODES as usize;
 
 /// The nodes that want the privilege from a node, the oldest first. They are its neighbours and the
 /// node itself, each at most once.
 #[derive(Drop)]
 pub struct Queue {
-    names: ArrayVec<NodeId, MOST_NAMES>,
+    names: ArrayVec<NodeId, MAX_NAMES>,
 }
 
 impl Model for Queue {
@@ -81,7 +81,7 @@ impl Queue {
         requires { is_queued self.old node ≡ false }
         ensures { self.new ≡ self.old ++ node ∷ [] }
     {
-        prove!(node.get() < MOST_NODES);
+        prove!(node.get() < MAX_NODES);
         self.names.push(node);
     }
 

@@ -6,7 +6,7 @@ use crate::queue::Queue;
 use crate::unacked::Unacked;
 use mx_letters::{Outbox, RaymondMsg};
 use mx_nodelaws::Phase;
-use mx_stamps::{MOST_NODES, NodeId};
+use mx_stamps::{MAX_NODES, NodeId};
 use mx_trees::Tree;
 use std::marker::Model;
 
@@ -45,7 +45,7 @@ pub struct Raymond {
     pub(crate) sent: u64,
     /// For each neighbour, the highest number of its requests that were taken, or 0 before the
     /// first. Added to the publication: a request up to that number is an old one.
-    pub(crate) heard: [u64; MOST_NODES as usize],
+    pub(crate) heard: [u64; MAX_NODES as usize],
     /// The highest section number that the node knows, from its own sections and from the
     /// privileges that it took; 0 at the start. Added to the publication.
     pub(crate) top: u64,

@@ -11,11 +11,11 @@ ghost use Rattle.mx_registers.specs.Registers.{registers_of, value_in, with_take
 use crate::contents::{BLANK, Content, shown_cell, write_all};
 use arrayvec::ArrayVec;
 use mx_journal::{Base, Record};
-use mx_stamps::MOST_REGISTERS;
+use mx_stamps::MAX_REGISTERS;
 use std::marker::Model;
 
 /// The greatest number of registers in a view.
-const ROOM: usize = MOST_REGISTERS as usize;
+const ROOM: usize = MAX_REGISTERS as usize;
 
 /// A view of the registers 0 to count - 1. Each has the last write to it in the record of the
 /// greatest number that writes it. Records may be applied in any order, and more than once.
@@ -37,7 +37,7 @@ impl View {
     /// Creates a view of this many registers, which no section has written.
     pub fn new(count: u8) -> View
         requires least { 1 ≤ count }
-        requires most { count ≤ MOST_REGISTERS }
+        requires most { count ≤ MAX_REGISTERS }
         ensures { result ≡ registers_of count [] }
     {
         let mut contents = ArrayVec::new();
@@ -50,7 +50,7 @@ impl View {
     /// Creates a view of this many registers after the sections of a base.
     pub(crate) fn at(base: &Base, count: u8) -> View
         requires least { 1 ≤ count }
-        requires most { count ≤ MOST_REGISTERS }
+        requires most { count ≤ MAX_REGISTERS }
         ensures value { result ≡ registers_from base.now count [] }
         ensures cells { AreCellsOf base.now.upto base.now.cells }
     {
@@ -105,7 +105,7 @@ impl View {
     /// Returns the number of registers.
     pub fn count(&self) -> u8
         ensures value { result ≡ length self.now }
-        ensures bound { result ≤ MOST_REGISTERS }
+        ensures bound { result ≤ MAX_REGISTERS }
     {
         self.contents.len() as u8
     }

@@ -1,7 +1,7 @@
 //! The registers of journals and of lists of records.
 
 ghost use Rattle.std.specs.Prelude.{ℕ, suc, ◌≡◌, ◌≤◌, [], List};
-ghost use Rattle.mx_stamps.specs.declared.limits.TheConstants.{MOST_REGISTERS};
+ghost use Rattle.mx_stamps.specs.declared.limits.TheConstants.{MAX_REGISTERS};
 ghost use Rattle.mx_journal.specs.declared.records.Record.{Record};
 ghost use Rattle.mx_journal.specs.Agreement.{IsConsistent};
 ghost use Rattle.mx_journal.specs.Records.{Ascending, top_of, with_records};
@@ -16,7 +16,7 @@ use mx_journal::{Journal, Record};
 /// these are the registers of the map that they make. The time grows with the number of records.
 pub fn view_of(records: &[Record], count: u8) -> View
     requires least { 1 ≤ count }
-    requires most { count ≤ MOST_REGISTERS }
+    requires most { count ≤ MAX_REGISTERS }
     ensures value { result ≡ registers_of count records.now }
     ensures held { AreHeld records.now result }
     ensures same { (others : List Record) → IsConsistent records.now
@@ -35,7 +35,7 @@ pub fn view_of(records: &[Record], count: u8) -> View
 /// grows with the number of records.
 pub fn view(journal: &Journal, count: u8) -> View
     requires least { 1 ≤ count }
-    requires most { count ≤ MOST_REGISTERS }
+    requires most { count ≤ MAX_REGISTERS }
     ensures value { result ≡ registers_in count journal.now }
     ensures held { AreHeldIn journal.now result }
     // the writes of the sections up to k, applied in their order
@@ -61,7 +61,7 @@ pub fn view(journal: &Journal, count: u8) -> View
 /// reads them. If the journal's base is not below the number, these are the registers of the base.
 pub fn view_below(journal: &Journal, count: u8, number: u64) -> View
     requires least { 1 ≤ count }
-    requires most { count ≤ MOST_REGISTERS }
+    requires most { count ≤ MAX_REGISTERS }
     ensures value { result ≡ registers_below number count journal.now }
 {
     let mut earlier = View::at(journal.base(), count);

@@ -2,7 +2,7 @@
 -- Each row says which part of it is published (Ricart and Agrawala 1981) and which is added here.
 -- Refusals by the phase are in mx_nodelaws, specs/Calls.antt.
 use Rattle.std.specs.Prelude.{ℕ, ◌+◌, ◌<◌, ◌≤◌, ◌≡◌, ◌≢◌, Bool, true, false, ◌||◌, ◌&&◌, not, [], ◌∷◌, Option, Some, None, max, nat_lt, nat_eq, if◌then◌else◌, slice_index_or, slice_set, replicate}
-use Rattle.mx_stamps.specs.declared.limits.TheConstants.{MOST_NODES}
+use Rattle.mx_stamps.specs.declared.limits.TheConstants.{MAX_NODES}
 use Rattle.mx_stamps.specs.declared.stamp.Stamp.{Stamp}
 use Rattle.mx_stamps.specs.Stamp.{is_before_of, is_same_as}
 use Rattle.mx_letters.specs.declared.ricart.RicartMsg.{RicartMsg}
@@ -17,7 +17,7 @@ use Rattle.mx_ricart.specs.Node.{Node}
 
 -- the number of nodes that a cluster may have
 abbrev pub IsCount : ℕ → Type 0
-IsCount n = (0 < n) × (n ≤ MOST_NODES)
+IsCount n = (0 < n) × (n ≤ MAX_NODES)
 
 -- a node that has just been started: from the count, the node, the origin and the limit
 abbrev pub start_of : ℕ → ℕ → ℕ → ℕ → Node
@@ -28,8 +28,8 @@ start_of count me origin limit = record {
   phase = Idle;
   highest = origin;
   ours = record { number = 0; node = me };
-  got = replicate MOST_NODES false;
-  deferred = replicate MOST_NODES None;
+  got = replicate MAX_NODES false;
+  deferred = replicate MAX_NODES None;
   top = 0;
   mine = 0;
 }
@@ -67,7 +67,7 @@ abbrev pub asking : Node → Node
 asking s = record s {
   highest = s.highest + 1;
   ours = record { number = s.highest + 1; node = s.me };
-  got = replicate MOST_NODES false;
+  got = replicate MAX_NODES false;
   phase = Waiting;
 }
 
@@ -142,7 +142,7 @@ entering s = record s { top = s.top + 1; mine = s.top + 1; phase = Inside (s.top
 -- Added: the stamp and `top` in each reply.
 -- cancel: the same, for a waiting node. Added: its request has ended, and it enters nothing.
 abbrev pub ending : Node → Node
-ending s = record s { phase = Idle; deferred = replicate MOST_NODES None }
+ending s = record s { phase = Idle; deferred = replicate MAX_NODES None }
 
 abbrev pub reply_to : Option Stamp → ℕ → Option RicartMsg
 reply_to None top = None

@@ -2,7 +2,7 @@
 
 ghost use Rattle.std.specs.Prelude.{◌≡◌, ◌<◌, ◌≤◌, ◌↔◌, IsSome, IfSome};
 
-use mx_stamps::MOST_NODES;
+use mx_stamps::MAX_NODES;
 use std::marker::Model;
 
 /// The number of nodes in a cluster, from 1 to 21.
@@ -13,13 +13,13 @@ pub struct Count {
 
 impl Model for Count {
     ghost use Rattle.std.specs.Prelude.{ℕ, ◌<◌, ◌≤◌};
-    ghost use Rattle.mx_stamps.specs.declared.limits.TheConstants.{MOST_NODES};
+    ghost use Rattle.mx_stamps.specs.declared.limits.TheConstants.{MAX_NODES};
 
     ghost Value = { ℕ };
 
     ghost view = { λ c. c.nodes };
 
-    ghost invariant = { λ c. (0 < c.nodes) × (c.nodes ≤ MOST_NODES) };
+    ghost invariant = { λ c. (0 < c.nodes) × (c.nodes ≤ MAX_NODES) };
 
     ghost inverse = { λ n. record { nodes = n } };
 }
@@ -27,10 +27,10 @@ impl Model for Count {
 impl Count {
     /// Creates the count of this number of nodes. Returns `None` if it is 0 or above 21.
     pub fn of(nodes: u8) -> Option<Count>
-        ensures some { IsSome result ↔ ((0 < nodes) × (nodes ≤ MOST_NODES)) }
+        ensures some { IsSome result ↔ ((0 < nodes) × (nodes ≤ MAX_NODES)) }
         ensures value { IfSome result (λ c. c ≡ nodes) }
     {
-        if nodes > 0 && nodes <= MOST_NODES {
+        if nodes > 0 && nodes <= MAX_NODES {
             Some(Count { nodes })
         } else {
             None
@@ -41,7 +41,7 @@ impl Count {
     pub fn get(self) -> u8
         ensures value { result ≡ self }
         ensures low { 0 < result }
-        ensures high { result ≤ MOST_NODES }
+        ensures high { result ≤ MAX_NODES }
     {
         self.nodes
     }

@@ -4,7 +4,7 @@ use crate::count::Count;
 use crate::ricart::Ricart;
 use mx_letters::{Outbox, RicartMsg};
 use mx_nodelaws::{AskFault, CancelFault, EnterFault, Exclusion, LeaveFault, Phase};
-use mx_stamps::{Clock, MOST_NODES, NodeId, Stamp};
+use mx_stamps::{Clock, MAX_NODES, NodeId, Stamp};
 
 impl Exclusion for Ricart {
     type Msg = RicartMsg;
@@ -46,8 +46,8 @@ impl Exclusion for Ricart {
                 number: 0,
                 node: me,
             },
-            got: [false; MOST_NODES as usize],
-            deferred: [None; MOST_NODES as usize],
+            got: [false; MAX_NODES as usize],
+            deferred: [None; MAX_NODES as usize],
             top: 0,
             mine: 0,
         }
@@ -61,7 +61,7 @@ impl Exclusion for Ricart {
             return Err(AskFault::StampsSpent);
         };
         self.ours = ours;
-        self.got = [false; MOST_NODES as usize];
+        self.got = [false; MAX_NODES as usize];
         self.phase = Phase::Waiting;
         self.send_requests(out);
         Ok(ours)

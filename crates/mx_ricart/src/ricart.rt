@@ -6,7 +6,7 @@ ghost use Rattle.mx_ricart.specs.Step.{later_of};
 use crate::count::Count;
 use mx_letters::{Outbox, RicartMsg};
 use mx_nodelaws::Phase;
-use mx_stamps::{Clock, MOST_NODES, NodeId, Stamp};
+use mx_stamps::{Clock, MAX_NODES, NodeId, Stamp};
 use std::marker::Model;
 
 /// A node of Ricart and Agrawala's algorithm. Its calls are those of `Exclusion`. Names in capitals
@@ -30,10 +30,10 @@ pub struct Ricart {
     pub(crate) ours: Stamp,
     /// For each node, whether its reply to the current request has counted. The publication counts
     /// down Outstanding_Reply_Count instead; here a reply may come twice.
-    pub(crate) got: [bool; MOST_NODES as usize],
+    pub(crate) got: [bool; MAX_NODES as usize],
     /// For each node, the stamp of its deferred request, to which this node replies when it leaves
     /// (Reply_Deferred, a Boolean there). All are `None` while the node is idle.
-    pub(crate) deferred: [Option<Stamp>; MOST_NODES as usize],
+    pub(crate) deferred: [Option<Stamp>; MAX_NODES as usize],
     /// The highest section number that the node knows, from its own sections and from the replies
     /// that counted; 0 at the start. Added to the publication.
     pub(crate) top: u64,
@@ -44,7 +44,7 @@ pub struct Ricart {
 
 impl Model for Ricart {
     ghost use Rattle.std.specs.Prelude.{◌≤◌};
-    ghost use Rattle.mx_stamps.specs.declared.limits.TheConstants.{MOST_SECTIONS};
+    ghost use Rattle.mx_stamps.specs.declared.limits.TheConstants.{MAX_SECTIONS};
     ghost use Rattle.mx_nodelaws.specs.Core.{BearsNumber};
     ghost use Rattle.mx_ricart.specs.Node.{Node};
 
@@ -63,7 +63,7 @@ impl Model for Ricart {
       mine = r.mine;
     } };
 
-    ghost invariant = { λ r. (r.mine ≤ MOST_SECTIONS) × (r.limit ≤ MOST_SECTIONS)
+    ghost invariant = { λ r. (r.mine ≤ MAX_SECTIONS) × (r.limit ≤ MAX_SECTIONS)
         × BearsNumber r.phase };
 }
 
@@ -151,7 +151,7 @@ impl Ricart {
     {
         self.send_replies(out);
         self.phase = Phase::Idle;
-        let none = [None; MOST_NODES as usize];
+        let none = [None; MAX_NODES as usize];
         self.deferred = none;
     }
 

@@ -1,10 +1,10 @@
 -- The file of a trace, from its parts.
 use Rattle.std.proofs.Common.{◌≡◌, ◌∙◌, List, [], ◌∷◌, ◌++◌, ap, sym, refl, append_assoc, Result, Ok, Err, OnOk, is_ok, if◌then◌else◌}
 use Rattle.std.specs.Bool.{⊤}
-use Rattle.mx_sections.specs.declared.outcome.Entry.{Entry}
+use Rattle.mx_trace.specs.declared.outcome.Entry.{Entry}
 use Rattle.mx_plan.specs.Text.{Text}
 use Rattle.mx_plan.specs.Fields.{Fields}
-use Rattle.mx_texts.specs.Lines.{each_text}
+use Rattle.mx_format.specs.Lines.{each_text}
 use Rattle.mx_scripts.specs.Files.{file_text, item_text, next_text}
 use Rattle.mx_scripts.specs.Played.{events_of}
 

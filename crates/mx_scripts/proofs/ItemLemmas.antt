@@ -23,7 +23,7 @@ use Rattle.mx_events.specs.Events.{kind_of}
 use Rattle.mx_events.specs.Words.{word_of}
 use Rattle.mx_plan.specs.Text.{Text, is_name_byte}
 use Rattle.mx_plan.specs.Fields.{Fields}
-use Rattle.mx_texts.specs.EventTexts.{name_of, register_name_of}
+use Rattle.mx_format.specs.EventTexts.{name_of, register_name_of}
 use Rattle.mx_scripts.specs.Files.{quoted, item_text}
 
 -- ---- a word

@@ -14,7 +14,7 @@ use Rattle.mx_member.specs.Member.{MemberState}
 use Rattle.mx_network.specs.Step.{ClusterState, RunsTo, step_of, at_part, at_member, part_of, grown, answer_of}
 use Rattle.mx_events.specs.declared.event.Event.{Event}
 use Rattle.mx_network.specs.declared.faults.StepFault.{StepFault}
-use Rattle.mx_sections.specs.declared.outcome.Entry.{Entry}
+use Rattle.mx_trace.specs.declared.outcome.Entry.{Entry}
 use Rattle.mx_plan.specs.Text.{Text}
 use Rattle.mx_plan.specs.Fields.{Fields}
 use Rattle.mx_plan.specs.declared.shape.Shape.{Shape}

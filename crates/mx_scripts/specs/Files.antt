@@ -6,8 +6,8 @@ use Rattle.mx_events.specs.declared.kind.EventKind.TheVariants as kind
 use Rattle.mx_events.specs.Words.{word_of}
 use Rattle.mx_plan.specs.Text.{Text, line_feed}
 use Rattle.mx_plan.specs.Fields.{Fields}
-use Rattle.mx_texts.specs.EventTexts.{name_of, register_name_of}
-use Rattle.mx_texts.specs.Lines.{each_text}
+use Rattle.mx_format.specs.EventTexts.{name_of, register_name_of}
+use Rattle.mx_format.specs.Lines.{each_text}
 
 abbrev pub quoted : Text → Text
 quoted word = codes "\"" ++ word ++ codes "\""

@@ -1,6 +1,6 @@
 -- Events that are read back from their file.
 use Rattle.std.specs.Prelude.{◌≤◌, ◌<◌, ◌^◌, ⊤, List, length}
-use Rattle.mx_stamps.specs.declared.limits.TheConstants.{MOST_EVENTS}
+use Rattle.mx_stamps.specs.declared.limits.TheConstants.{MAX_EVENTS}
 use Rattle.mx_stamps.specs.Lists.{IsIn}
 use Rattle.mx_events.specs.declared.event.Event.{Event}
 use Rattle.mx_events.specs.declared.event.Event.TheVariants.{Write, Settle, Deliver}
@@ -18,4 +18,4 @@ IsNumbered _ = ⊤
 pub record AreReadable (p : Fields) (es : List Event) : Type 0 where
   pub over : AreOver (length p.nodes) (length p.registers) es
   pub numbered : (e : Event) → IsIn e es → IsNumbered e
-  pub few : length es ≤ MOST_EVENTS
+  pub few : length es ≤ MAX_EVENTS

@@ -19,7 +19,7 @@ use mx_io::Output;
 use mx_network::{Cluster, Event};
 use mx_nodelaws::Exclusion;
 use mx_plan::Plan;
-use mx_stamps::MOST_EVENTS;
+use mx_stamps::MAX_EVENTS;
 use std::alloc::{AllocError, Global};
 
 /// Prints the file of the events that `explore` does from a seed: the schedule of this many steps,
@@ -47,7 +47,7 @@ pub(crate) fn draw_schedule<O: Output>(
 /// A replay of the file of a seed reads the placed schedule, and that leads to the very cluster
 /// that `explore` judges: the same members, parcels and trace. There is nothing to do.
 pub fn replays_as_explored(plan: &Plan, seed: u64, steps: u64)
-    ensures reads { IsPlan plan.now → steps ≤ MOST_EVENTS
+    ensures reads { IsPlan plan.now → steps ≤ MAX_EVENTS
         → parcels_in plan.now (schedule_of plan.now seed steps) plan.now.shape ≤ 2 ^ 64
         → events_at plan.now (drawn_file plan.now seed steps)
         ≡ Ok (placed_schedule plan.now seed steps) }

@@ -5,16 +5,16 @@ ghost use Rattle.mx_events.specs.Events.{kind_of};
 ghost use Rattle.mx_events.specs.Words.{word_of};
 ghost use Rattle.mx_plan.specs.Events.{events_at};
 ghost use Rattle.mx_plan.specs.Fields.{IsPlan};
-ghost use Rattle.mx_texts.specs.EventTexts.{name_of, register_name_of};
-ghost use Rattle.mx_texts.specs.Lines.{each_text};
+ghost use Rattle.mx_format.specs.EventTexts.{name_of, register_name_of};
+ghost use Rattle.mx_format.specs.Lines.{each_text};
 ghost use Rattle.mx_scripts.specs.Files.{file_text, item_text, items_text, next_text, of_node, quoted};
 ghost use Rattle.mx_scripts.specs.Played.{events_of};
 ghost use Rattle.mx_scripts.specs.Readable.{AreReadable};
 
+use mx_format::{name_of, register_name_of};
 use mx_network::{Entry, Event};
 use mx_plan::Plan;
 use mx_stamps::NodeId;
-use mx_texts::{name_of, register_name_of};
 use std::alloc::{AllocError, Global};
 use std::fmt;
 

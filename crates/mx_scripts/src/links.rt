@@ -4,7 +4,7 @@ ghost use Rattle.std.specs.Prelude.{◌≡◌, ◌<◌};
 ghost use Rattle.mx_scripts.specs.Links.{changed, is_cut, link_of, uncut};
 
 use mx_lines::LinkChange;
-use mx_stamps::{MOST_NODES, NodeId};
+use mx_stamps::{MAX_NODES, NodeId};
 use std::marker::Model;
 
 /// How many links there are between the nodes of the greatest cluster, each with itself too.
@@ -35,7 +35,7 @@ pub(crate) fn link(from: NodeId, to: NodeId) -> usize
     ensures value { result ≡ link_of from to }
     ensures below { result < 441 }
 {
-    usize::from(from.get()) * usize::from(MOST_NODES) + usize::from(to.get())
+    usize::from(from.get()) * usize::from(MAX_NODES) + usize::from(to.get())
 }
 
 impl Links {

@@ -14,7 +14,7 @@ use mx_lines::{Line, LineFault, Order, Scope, read_line, words_in};
 use mx_network::{Cluster, Event};
 use mx_nodelaws::Exclusion;
 use mx_plan::Plan;
-use mx_stamps::{MOST_EVENTS, NodeId};
+use mx_stamps::{MAX_EVENTS, NodeId};
 use std::alloc::Global;
 
 /// The file of the events of a script, by the plan's algorithm.
@@ -162,7 +162,7 @@ fn happen<C: Exclusion>(
     ensures noted { OnOk result (mail.new ≡ noted cluster.new.sent event.now mail.old) }
     ensures passes { OnOk result (IsTrue (can_pass mail.old cluster.old.sent event.now)) }
 {
-    if cluster.trace().len() >= MOST_EVENTS {
+    if cluster.trace().len() >= MAX_EVENTS {
         return Err(LineStop::Undone(LineFault::TooMany));
     }
     if !mail.can_pass(event, cluster) {
@@ -185,7 +185,7 @@ fn all_arrive<C: Exclusion>(
         (Plays C.core (length plan.now.nodes) (length plan.now.registers) cluster.old cluster.new) }
     ensures leaves { OnOk result (NoneArrives mail.new cluster.new.sent scope.now) }
 {
-    for _ in 0..MOST_EVENTS {
+    for _ in 0..MAX_EVENTS {
         let Some(number) = mail.next_to_arrive(cluster, scope) else {
             return Ok(());
         };

@@ -7,6 +7,6 @@ mod node_id;
 mod stamp;
 
 pub use clock::Clock;
-pub use limits::{MOST_EVENTS, MOST_NODES, MOST_REGISTERS, MOST_SECTIONS};
+pub use limits::{MAX_EVENTS, MAX_NODES, MAX_REGISTERS, MAX_SECTIONS};
 pub use node_id::NodeId;
 pub use stamp::Stamp;

@@ -1,13 +1,13 @@
 //! The limits of a cluster, each defined once.
 
 /// The greatest number of nodes in a cluster.
-pub const MOST_NODES: u8 = 21;
+pub const MAX_NODES: u8 = 21;
 
 /// The greatest number of registers that a cluster guards, and the length of a journal's base.
-pub const MOST_REGISTERS: u8 = 32;
+pub const MAX_REGISTERS: u8 = 32;
 
 /// The greatest section number that a cluster may allow.
-pub const MOST_SECTIONS: u64 = 1_000_000;
+pub const MAX_SECTIONS: u64 = 1_000_000;
 
 /// The greatest number of events that a file lists, or that a command draws.
-pub const MOST_EVENTS: usize = 1_000_000;
+pub const MAX_EVENTS: usize = 1_000_000;

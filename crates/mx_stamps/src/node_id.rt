@@ -2,7 +2,7 @@
 
 ghost use Rattle.std.specs.Prelude.{◌≡◌, ◌<◌, ◌↔◌, IsSome, IfSome, Some, decimal};
 
-use crate::limits::MOST_NODES;
+use crate::limits::MAX_NODES;
 use std::fmt;
 use std::marker::Model;
 
@@ -14,13 +14,13 @@ pub struct NodeId {
 
 impl Model for NodeId {
     ghost use Rattle.std.specs.Prelude.{ℕ, ◌<◌};
-    ghost use Rattle.mx_stamps.specs.declared.limits.TheConstants.{MOST_NODES};
+    ghost use Rattle.mx_stamps.specs.declared.limits.TheConstants.{MAX_NODES};
 
     ghost Value = { ℕ };
 
     ghost view = { λ n. n.index };
 
-    ghost invariant = { λ n. n.index < MOST_NODES };
+    ghost invariant = { λ n. n.index < MAX_NODES };
 
     ghost inverse = { λ n. record { index = n } };
 }
@@ -28,10 +28,10 @@ impl Model for NodeId {
 impl NodeId {
     /// Returns the node with this number. Returns `None` from 21 on: no cluster has such a node.
     pub fn of(index: u8) -> Option<NodeId>
-        ensures some { IsSome result ↔ (index < MOST_NODES) }
+        ensures some { IsSome result ↔ (index < MAX_NODES) }
         ensures value { IfSome result (λ n. n ≡ index) }
     {
-        if index < MOST_NODES {
+        if index < MAX_NODES {
             Some(NodeId { index })
         } else {
             None
@@ -41,7 +41,7 @@ impl NodeId {
     /// Returns the number.
     pub fn get(self) -> u8
         ensures value { result ≡ self }
-        ensures bound { result < MOST_NODES }
+        ensures bound { result < MAX_NODES }
     {
         self.index
     }

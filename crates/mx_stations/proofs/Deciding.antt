@@ -4,8 +4,8 @@ use mathlib.Core.Option.{some-ne-none}
 use Rattle.mx_nodelaws.specs.Core.{Core}
 use Rattle.mx_member.specs.declared.parcel.Parcel.{Parcel}
 use Rattle.mx_member.specs.Member.{MemberState}
-use Rattle.mx_stations.specs.declared.gathering.GatherFault.{GatherFault}
-use Rattle.mx_stations.specs.declared.gathering.GatherFault.TheVariants.{NotAll, StillInside, Memory}
+use Rattle.mx_stations.specs.declared.collection.GatherFault.{GatherFault}
+use Rattle.mx_stations.specs.declared.collection.GatherFault.TheVariants.{NotAll, StillInside, Memory}
 use Rattle.mx_stations.specs.Posts.{Post}
 use Rattle.mx_stations.specs.Gathered.{IsLeastInside, IsLeastMissing, IsQuiet, IsReady, IsWhole, Refuses}
 

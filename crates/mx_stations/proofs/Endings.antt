@@ -1,6 +1,6 @@
 -- The ends of a worker are different ones.
 use Rattle.std.proofs.Common.{◌≡◌, ℕ}
-use Rattle.mx_stations.specs.declared.working.Worked.TheVariants.{Done, NotYet, GateShut}
+use Rattle.mx_stations.specs.declared.worker.Worked.TheVariants.{Done, NotYet, GateShut}
 
 pub shut_done : GateShut ≡ Done → ⊥
 shut_done e = cc

@@ -9,8 +9,8 @@ use Rattle.atomic_table.specs.Table.{Me, Allows}
 use Rattle.atomic_table.proofs.Lists.{at_longer, at_last}
 use Rattle.mx_journal.specs.declared.receipts.Receipt.{Receipt}
 use Rattle.mx_journal.specs.Settled.{JournalState, joined}
-use Rattle.mx_merge.specs.declared.merging.MergeFault.{MergeFault}
-use Rattle.mx_merge.specs.declared.merging.MergeFault.TheVariants.{Conflict, Memory}
+use Rattle.mx_merge.specs.declared.join.MergeFault.{MergeFault}
+use Rattle.mx_merge.specs.declared.join.MergeFault.TheVariants.{Conflict, Memory}
 use Rattle.mx_merge.specs.Join.{IsLeastJournal}
 use Rattle.mx_nodelaws.specs.World.{World}
 use Rattle.mx_nodelaws.specs.Core.{Core}

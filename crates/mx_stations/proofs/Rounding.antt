@@ -5,7 +5,7 @@ use Rattle.mx_stamps.proofs.Choices.{cond_false, lt_not}
 use Rattle.atomic_table.specs.Seated.{TableId}
 use Rattle.mx_journal.proofs.Below.{first_missing_above}
 use Rattle.mx_journal.specs.declared.receipts.Receipt.{Receipt}
-use Rattle.mx_journal.specs.declared.settling.SettleFault.{SettleFault}
+use Rattle.mx_journal.specs.declared.settlement.SettleFault.{SettleFault}
 use Rattle.mx_nodelaws.specs.World.{Quiet}
 use Rattle.mx_nodelaws.specs.Core.{Core}
 use Rattle.mx_member.specs.declared.acts.Act.TheVariants.{Settle}

@@ -22,7 +22,7 @@ use Rattle.mx_member.specs.Running.{IsAccount, IsJoinOfNodes, IsNode, IsReceiptA
 use Rattle.mx_member.proofs.CorePart.{get_map}
 use Rattle.mx_member.proofs.Joining.{joins_agree}
 use Rattle.mx_member.proofs.OwnReceipts.{place_in}
-use Rattle.mx_sections.specs.Serial.{IsSerialRead}
+use Rattle.mx_trace.specs.Serial.{IsSerialRead}
 use Rattle.mx_member.proofs.RunningTells.{join_account, section_of}
 use Rattle.mx_stations.specs.Entries.{Node, owned_of}
 use Rattle.mx_stations.specs.Posts.{Post}

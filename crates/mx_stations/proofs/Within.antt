@@ -5,8 +5,8 @@ use Rattle.std.proofs.lemmas.List.{append-nil}
 use Rattle.mx_stamps.proofs.Choices.{compared, cond_case}
 use Rattle.mx_journal.specs.Settled.{settled}
 use Rattle.mx_journal.specs.declared.receipts.Receipt.{Receipt}
-use Rattle.mx_journal.specs.declared.settling.SettleFault.{SettleFault}
-use Rattle.mx_journal.specs.declared.settling.SettleFault.TheVariants as settle
+use Rattle.mx_journal.specs.declared.settlement.SettleFault.{SettleFault}
+use Rattle.mx_journal.specs.declared.settlement.SettleFault.TheVariants as settle
 use Rattle.mx_nodelaws.specs.Core.{Core, KeepsPhases}
 use Rattle.mx_nodelaws.specs.World.{Quiet}
 use Rattle.mx_nodelaws.specs.declared.faults.CancelFault.{CancelFault}

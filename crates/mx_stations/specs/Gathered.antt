@@ -5,7 +5,7 @@ use mathlib.Core.Option.{some}
 use lib.ListN.{get_elem?}
 use Rattle.atomic_table.specs.Seated.{TableId}
 use Rattle.mx_stamps.specs.Lists.{IsIn}
-use Rattle.mx_stamps.specs.declared.limits.TheConstants.{MOST_REGISTERS}
+use Rattle.mx_stamps.specs.declared.limits.TheConstants.{MAX_REGISTERS}
 use Rattle.mx_journal.specs.declared.receipts.Read.{Read}
 use Rattle.mx_journal.specs.declared.receipts.Receipt.{Receipt}
 use Rattle.mx_journal.specs.Drafted.{record_of}
@@ -18,9 +18,9 @@ use Rattle.mx_nodelaws.specs.Core.{Core, IsInside}
 use Rattle.mx_member.specs.declared.parcel.Parcel.{Parcel}
 use Rattle.mx_member.specs.Member.{MemberState}
 use Rattle.mx_member.specs.Running.{IsJoinOfNodes, IsNode, IsRunning, Owned}
-use Rattle.mx_sections.specs.Serial.{IsSerialRead}
-use Rattle.mx_stations.specs.declared.gathering.GatherFault.{GatherFault}
-use Rattle.mx_stations.specs.declared.gathering.GatherFault.TheVariants.{NotAll, StillInside, Memory}
+use Rattle.mx_trace.specs.Serial.{IsSerialRead}
+use Rattle.mx_stations.specs.declared.collection.GatherFault.{GatherFault}
+use Rattle.mx_stations.specs.declared.collection.GatherFault.TheVariants.{NotAll, StillInside, Memory}
 use Rattle.mx_stations.specs.Entries.{Entry, Node, owned_of}
 use Rattle.mx_stations.specs.Posts.{Post}
 use Rattle.mx_stations.specs.Running.{Once, sent_of}
@@ -140,6 +140,6 @@ pub record IsGathered {T P : Type 0} (posts : List (Post T P)) (journal : Journa
   pub reads : (k : ℕ) (r : Receipt) (x : Read) → slice_get receipts k ≡ Some r
       → IsIn x r.reads.items → IsSerialRead (writes_to k (map record_of receipts)) r.writes.items x
   -- and each register of the journal has its value after the writes of all receipts, in order
-  pub shows : (count : ℕ) → count ≤ MOST_REGISTERS
+  pub shows : (count : ℕ) → count ≤ MAX_REGISTERS
       → AreApplied (writes_to (length receipts) (map record_of receipts))
       (registers_in count journal)

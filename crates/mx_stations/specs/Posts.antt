@@ -17,7 +17,7 @@ use Rattle.mx_stations.specs.declared.answers.PutOut.TheVariants.{Sent, Full, No
 use Rattle.mx_stations.specs.declared.answers.Taken.{Taken}
 use Rattle.mx_stations.specs.declared.answers.Taken.TheVariants.{Got, Empty}
 use Rattle.mx_stations.specs.declared.slots.TheConstants.{SLOTS}
-use Rattle.mx_stations.specs.declared.waiting.TheConstants.{WAITING_ROOM}
+use Rattle.mx_stations.specs.declared.queue.TheConstants.{WAITING_ROOM}
 use Rattle.mx_stations.specs.Entries.{Entry, Idle}
 use Rattle.mx_stations.specs.Links.{of, slot_at}
 use Rattle.mx_stations.specs.Running.{acted}

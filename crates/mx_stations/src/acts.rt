@@ -14,8 +14,8 @@ ghost use Rattle.mx_stations.specs.Running.{IsPlain};
 
 use crate::answers::TakeFault;
 use crate::field::act;
+use crate::queue::store_up;
 use crate::station::Station;
-use crate::waiting::store_up;
 use mx_journal::{Receipt, SettleFault};
 use mx_letters::Outbox;
 use mx_member::{Act, Answer, CloseFault, Member, Parcel, ReadFault, WriteFault, perform};

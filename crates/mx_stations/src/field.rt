@@ -1,7 +1,7 @@
 //! The table that the stations share, and the step of an act.
 
 ghost use Rattle.std.specs.Prelude.{◌≡◌, ◌+◌, ◌*◌, ◌<◌, ◌≤◌, ◌∷◌, []};
-ghost use Rattle.mx_stamps.specs.declared.limits.TheConstants.{MOST_NODES};
+ghost use Rattle.mx_stamps.specs.declared.limits.TheConstants.{MAX_NODES};
 ghost use Rattle.mx_stations.specs.declared.slots.TheConstants.{SLOTS};
 ghost use Rattle.mx_stations.specs.Entries.{Node};
 ghost use Rattle.mx_stations.specs.Running.{DidAct, GoToNodes, HandFits, acted_view, word_of};
@@ -30,7 +30,7 @@ pub struct Field<C: Exclusion> {
     ghost words: { board.shared.table_id.words ≡ nodes + nodes * nodes * SLOTS },
     ghost slots: { board.shared.table_id.slots ≡ nodes * nodes * SLOTS },
     ghost some: { 0 < nodes },
-    ghost few: { nodes ≤ MOST_NODES },
+    ghost few: { nodes ≤ MAX_NODES },
 }
 
 /// Returns the status word of a node.

@@ -6,9 +6,9 @@ ghost use Rattle.mx_stations.specs.Posts.{Delivers, DeliversAs, Fetches, FindsNo
 
 use crate::answers::{PutOut, TakeFault, Taken};
 use crate::field::look;
+use crate::queue::take_first;
 use crate::slots::{Link, claim_empty, place};
 use crate::station::Station;
-use crate::waiting::take_first;
 use mx_letters::Fate;
 use mx_nodelaws::Exclusion;
 use mx_stamps::NodeId;

@@ -6,12 +6,12 @@ ghost use Rattle.mx_registers.specs.Based.{registers_in};
 ghost use Rattle.mx_registers.specs.Registers.{value_in};
 
 use crate::field::{Field, SeatOf};
-use crate::waiting::{WAITING_ROOM, Waiting};
+use crate::queue::{WAITING_ROOM, Waiting};
 use mx_journal::{Journal, Receipt};
 use mx_letters::Outbox;
 use mx_member::{Member, Parcel};
 use mx_nodelaws::{Exclusion, Phase};
-use mx_stamps::{MOST_NODES, MOST_SECTIONS, NodeId};
+use mx_stamps::{MAX_NODES, MAX_SECTIONS, NodeId};
 use std::alloc::Global;
 use std::marker::Model;
 use std::sync::Arc;
@@ -62,7 +62,7 @@ impl<C: Exclusion> Station<C> {
     /// Returns the number of nodes.
     pub fn nodes(&self) -> u8
         ensures value { result ≡ self.now.nodes }
-        ensures few { result ≤ MOST_NODES }
+        ensures few { result ≤ MAX_NODES }
     {
         self.field.nodes
     }
@@ -85,7 +85,7 @@ impl<C: Exclusion> Station<C> {
     /// Returns the number of the last section that this node entered, or 0 before the first.
     pub fn mine(&self) -> u64
         ensures value { result ≡ C.core.mine self.now.me.member.core }
-        ensures high { result ≤ MOST_SECTIONS }
+        ensures high { result ≤ MAX_SECTIONS }
     {
         self.member.mine()
     }

@@ -1,11 +1,11 @@
 //! Events that a cluster refuses, parcels that were sent, and the calls of a single node.
 
 use crate::given::node;
+use example_algorithm::{One, Solo};
 use mx_letters::Outbox;
 use mx_network::{Cluster, Event, StepFault};
 use mx_nodelaws::{Exclusion, Phase};
 use mx_ricart::{Count, Ricart};
-use mx_solo::{One, Solo};
 use mx_stamps::Clock;
 use std::alloc::Global;
 use std::test::Fail;

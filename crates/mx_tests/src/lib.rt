@@ -6,8 +6,6 @@
 #[cfg(test)]
 mod clusters;
 #[cfg(test)]
-mod exploring;
-#[cfg(test)]
 mod fates_asked;
 #[cfg(test)]
 mod four_slots;
@@ -18,13 +16,15 @@ mod given;
 #[cfg(test)]
 mod journals;
 #[cfg(test)]
-mod losing;
+mod lost_letters;
 #[cfg(test)]
 mod members;
 #[cfg(test)]
 mod registers;
 #[cfg(test)]
 mod runs;
+#[cfg(test)]
+mod schedules;
 #[cfg(test)]
 mod settled_stations;
 #[cfg(test)]
@@ -44,4 +44,4 @@ mod texts;
 #[cfg(test)]
 mod verdicts;
 #[cfg(test)]
-mod working;
+mod workers;

@@ -5,7 +5,7 @@ ghost use Rattle.std.specs.Prelude.{IfOk};
 ghost use Rattle.mx_stations.specs.Gathered.{KeepsTable, OfOneTable};
 
 use crate::given::{lists, node};
-use crate::working::Assembly;
+use crate::workers::Assembly;
 use mx_explorer::Weather;
 use mx_letters::Fates;
 use mx_maekawa::Maekawa;

@@ -1,6 +1,6 @@
 -- A tree by the list of its edges, and the faults of a list that is no tree.
 use Rattle.std.specs.Prelude.{ℕ, ◌+◌, ◌<◌, ◌≤◌, ◌≡◌, ◌≢◌, ◌⊎◌, ◌↔◌, List, length, slice_index_or}
-use Rattle.mx_stamps.specs.declared.limits.TheConstants.{MOST_NODES}
+use Rattle.mx_stamps.specs.declared.limits.TheConstants.{MAX_NODES}
 use Rattle.mx_stamps.specs.Lists.{IsIn}
 use Rattle.mx_trees.specs.declared.fault.TreeFault.{TreeFault}
 use Rattle.mx_trees.specs.declared.fault.TreeFault.TheVariants.{NoNodes, TooMany, BadEdge, WrongCount, NotJoined, BadHolder}
@@ -26,7 +26,7 @@ AreJoined k edges = (i : ℕ) → i < k → IsJoined (IsLinked edges) i 0
 -- 1 to 21 nodes, n - 1 edges between different nodes, a path from every node to node 0
 pub record IsTree (n : ℕ) (edges : List (ℕ × ℕ)) : Type 0 where
   pub some : 0 < n
-  pub few : n ≤ MOST_NODES
+  pub few : n ≤ MAX_NODES
   pub linked : AreEdges n (length edges) edges
   pub count : length edges + 1 ≡ n
   pub joined : AreJoined n edges
@@ -38,8 +38,8 @@ pub record IsTreeOf (n : ℕ) (edges : List (ℕ × ℕ)) (holder : ℕ) (t : Ro
   pub root : t.holder ≡ holder
   pub near : (i j : ℕ) → IsNear t i j ↔ IsLinked edges i j
   pub square : IsSquare t.rows
-  pub long : length t.next ≡ MOST_NODES
-  pub beyond : (i : ℕ) → n ≤ i → i < MOST_NODES → toward_of t i ≡ holder
+  pub long : length t.next ≡ MAX_NODES
+  pub beyond : (i : ℕ) → n ≤ i → i < MAX_NODES → toward_of t i ≡ holder
 
 -- the least k whose edge has an end that is no node, or equal ends
 abbrev pub IsFirstBadEdge : ℕ → List (ℕ × ℕ) → ℕ → Type 0
@@ -53,13 +53,13 @@ IsFirstUnjoined n edges i =
 
 -- there are 1 to 21 nodes, and each edge joins two different ones of them
 abbrev pub AreEdgesOf : ℕ → List (ℕ × ℕ) → Type 0
-AreEdgesOf n edges = (0 < n) × (n ≤ MOST_NODES) × AreEdges n (length edges) edges
+AreEdgesOf n edges = (0 < n) × (n ≤ MAX_NODES) × AreEdges n (length edges) edges
 
 -- the fault is the first in the order of the faults: everything before it is right
 abbrev pub IsFirstFault : ℕ → List (ℕ × ℕ) → ℕ → TreeFault → Type 0
 IsFirstFault n edges holder NoNodes = n ≡ 0
-IsFirstFault n edges holder TooMany = MOST_NODES < n
-IsFirstFault n edges holder (BadEdge k) = (0 < n) × (n ≤ MOST_NODES) × IsFirstBadEdge n edges k
+IsFirstFault n edges holder TooMany = MAX_NODES < n
+IsFirstFault n edges holder (BadEdge k) = (0 < n) × (n ≤ MAX_NODES) × IsFirstBadEdge n edges k
 IsFirstFault n edges holder WrongCount = AreEdgesOf n edges × (length edges + 1 ≢ n)
 IsFirstFault n edges holder (NotJoined i) =
     AreEdgesOf n edges × (length edges + 1 ≡ n) × IsFirstUnjoined n edges i

@@ -1,7 +1,7 @@
 -- A tree that grows from its root along the edges of a graph, one node at a time.
 use Rattle.std.specs.Prelude.{ℕ, ◌+◌, ◌<◌, ◌≤◌, ◌≡◌, ◌≢◌, Bool, true, false, ◌&&◌, ◌||◌, nat_eq, List, ◌∷◌, length, slice_index_or, slice_set}
 use Rattle.std.specs.List.{count_by}
-use Rattle.mx_stamps.specs.declared.limits.TheConstants.{MOST_NODES}
+use Rattle.mx_stamps.specs.declared.limits.TheConstants.{MAX_NODES}
 use Rattle.mx_stamps.specs.Lists.{IsIn}
 use Rattle.mx_trees.specs.declared.growth.Growth.{Growth}
 use Rattle.mx_trees.specs.Paths.{IsPath}
@@ -31,13 +31,13 @@ AreReached g is = (k : ℕ) → IsIn k is → is_reached g k ≡ true
 -- root is next. Besides the root it has reached at most one node for each edge that it has grown
 -- along
 pub record IsGrown (edges : List (ℕ × ℕ)) (root : ℕ) (g : Growth) : Type 0 where
-  pub size : length g.reached ≡ MOST_NODES
-  pub sizes : length g.next ≡ MOST_NODES
+  pub size : length g.reached ≡ MAX_NODES
+  pub sizes : length g.next ≡ MAX_NODES
   pub begun : is_reached g root ≡ true
   pub home : next_of g root ≡ root
   pub way : (i : ℕ) → is_reached g i ≡ true → i ≢ root → (rest : List ℕ)
       × IsPath (IsLinked edges) i (next_of g i ∷ rest) root × AreReached g (next_of g i ∷ rest)
-  pub rest : (i : ℕ) → i < MOST_NODES → is_reached g i ≡ false → next_of g i ≡ root
+  pub rest : (i : ℕ) → i < MAX_NODES → is_reached g i ≡ false → next_of g i ≡ root
   pub counted : count_by (λ r. r) g.reached ≤ count_by (λ e. is_branch g e) edges + 1
 
 -- no edge leads out of it
@@ -49,7 +49,7 @@ pub record IsCrossing (edges : List (ℕ × ℕ)) (g : Growth) (near far : ℕ) 
   pub linked : IsLinked edges far near
   pub inside : is_reached g near ≡ true
   pub outside : is_reached g far ≡ false
-  pub node : far < MOST_NODES
+  pub node : far < MAX_NODES
 
 -- one more node, reached from node near
 abbrev pub with_node : Growth → ℕ → ℕ → Growth

@@ -1,6 +1,6 @@
 -- A rooted tree: the shape of Raymond's algorithm (Raymond 1989).
 use Rattle.std.specs.Prelude.{ℕ, ◌<◌, ◌≤◌, ◌≡◌, ◌≢◌, ◌⊎◌, Bool, true, false, List, [], ◌∷◌, length, slice_index_or}
-use Rattle.mx_stamps.specs.declared.limits.TheConstants.{MOST_NODES}
+use Rattle.mx_stamps.specs.declared.limits.TheConstants.{MAX_NODES}
 use Rattle.mx_trees.specs.Paths.{IsPath}
 
 -- the number of nodes, the holder, for each node a row (which nodes are its neighbours), and for
@@ -25,8 +25,8 @@ IsNear t i j = are_neighbours t i j ≡ true
 
 -- 21 rows of 21 places
 pub record IsSquare (rows : List (List Bool)) : Type 0 where
-  pub tall : length rows ≡ MOST_NODES
-  pub wide : (i : ℕ) → i < MOST_NODES → length (slice_index_or rows i []) ≡ MOST_NODES
+  pub tall : length rows ≡ MAX_NODES
+  pub wide : (i : ℕ) → i < MAX_NODES → length (slice_index_or rows i []) ≡ MAX_NODES
 
 -- j is the second node of a path from i to the holder; or i and j both are the holder
 abbrev pub IsToward : Rooted → ℕ → ℕ → Type 0
@@ -38,7 +38,7 @@ IsToward t i j =
 -- the other
 pub record IsRooted (t : Rooted) : Type 0 where
   pub some : 0 < t.count
-  pub few : t.count ≤ MOST_NODES
+  pub few : t.count ≤ MAX_NODES
   pub holder : t.holder < t.count
   pub nodes : (i j : ℕ) → IsNear t i j → (i < t.count) × (j < t.count) × (i ≢ j)
   pub both : (i j : ℕ) → IsNear t i j → IsNear t j i

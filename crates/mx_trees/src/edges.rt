@@ -5,7 +5,7 @@ ghost use Rattle.mx_trees.specs.Tree.{IsSquare};
 ghost use Rattle.mx_trees.specs.Edges.{IsLinked, AreEdges, AreJoined, IsFirstBadEdge, IsFirstUnjoined};
 
 use crate::growth::Growth;
-use mx_stamps::MOST_NODES;
+use mx_stamps::MAX_NODES;
 
 /// Returns the first edge with an end that is no node, or with equal ends.
 pub fn bad_edge(nodes: u8, edges: &[(u8, u8)]) -> Option<u64>
@@ -22,8 +22,8 @@ pub fn bad_edge(nodes: u8, edges: &[(u8, u8)]) -> Option<u64>
 
 /// Returns the first node with no path to node 0.
 pub fn unjoined(nodes: u8, edges: &[(u8, u8)]) -> Option<u8>
-    requires few { nodes ≤ MOST_NODES }
-    requires edges { AreEdges MOST_NODES (length edges.now) edges.now }
+    requires few { nodes ≤ MAX_NODES }
+    requires edges { AreEdges MAX_NODES (length edges.now) edges.now }
     ensures none { IfNone result (AreJoined nodes edges.now) }
     ensures some { IfSome result (λ i. IsFirstUnjoined nodes edges.now i) }
 {
@@ -37,13 +37,13 @@ pub fn unjoined(nodes: u8, edges: &[(u8, u8)]) -> Option<u8>
 }
 
 /// Returns for each node which nodes are its neighbours.
-pub fn neighbours(edges: &[(u8, u8)]) -> [[bool; MOST_NODES as usize]; MOST_NODES as usize]
-    requires { AreEdges MOST_NODES (length edges.now) edges.now }
+pub fn neighbours(edges: &[(u8, u8)]) -> [[bool; MAX_NODES as usize]; MAX_NODES as usize]
+    requires { AreEdges MAX_NODES (length edges.now) edges.now }
     ensures square { IsSquare result }
     ensures near { (i j : ℕ) →
         (slice_index_or (slice_index_or result i []) j false ≡ true) ↔ IsLinked edges.now i j }
 {
-    let mut rows = [[false; MOST_NODES as usize]; MOST_NODES as usize];
+    let mut rows = [[false; MAX_NODES as usize]; MAX_NODES as usize];
     for &(a, b) in edges {
         rows[a as usize][b as usize] = true;
         rows[b as usize][a as usize] = true;

@@ -7,7 +7,7 @@ ghost use Rattle.mx_trees.specs.Tree.{toward_of, are_neighbours, IsToward, IsRoo
 use crate::edges::{bad_edge, neighbours, unjoined};
 use crate::fault::TreeFault;
 use crate::growth::Growth;
-use mx_stamps::{MOST_NODES, NodeId};
+use mx_stamps::{MAX_NODES, NodeId};
 use std::marker::Model;
 
 /// A rooted tree of 1 to 21 nodes; the root holds the privilege at the start (Raymond 1989).
@@ -15,8 +15,8 @@ use std::marker::Model;
 pub struct Tree {
     nodes: u8,
     holder: NodeId,
-    neighbours: [[bool; MOST_NODES as usize]; MOST_NODES as usize],
-    next: [u8; MOST_NODES as usize],
+    neighbours: [[bool; MAX_NODES as usize]; MAX_NODES as usize],
+    next: [u8; MAX_NODES as usize],
 }
 
 impl Model for Tree {
@@ -55,7 +55,7 @@ fn checked(nodes: u8, edges: &[(u8, u8)], holder: u8) -> Result<NodeId, TreeFaul
     if nodes == 0 {
         return Err(TreeFault::NoNodes);
     }
-    if nodes > MOST_NODES {
+    if nodes > MAX_NODES {
         return Err(TreeFault::TooMany);
     }
     if let Some(k) = bad_edge(nodes, edges) {
@@ -105,7 +105,7 @@ impl Tree {
     pub fn nodes(&self) -> u8
         ensures value { result ≡ self.now.count }
         ensures low { 0 < result }
-        ensures high { result ≤ MOST_NODES }
+        ensures high { result ≤ MAX_NODES }
         ensures valid { IsRooted self.now }
     {
         self.nodes

@@ -6,11 +6,11 @@ use Rattle.mx_explorer.specs.declared.verdict.Verdict.TheVariants.{Sound}
 use Rattle.mx_journal.specs.Settled.{JournalState}
 use Rattle.mx_plan.specs.Text.{Text}
 use Rattle.mx_plan.specs.Fields.{Fields}
-use Rattle.mx_texts.specs.EventTexts.{register_name_of}
-use Rattle.mx_texts.specs.Lines.{texts_from}
-use Rattle.mx_texts.specs.NodeTexts.{register_in}
-use Rattle.mx_texts.proofs.NodeLemmas.{is_at}
-use Rattle.mx_texts.proofs.Places.{place_more}
+use Rattle.mx_format.specs.EventTexts.{register_name_of}
+use Rattle.mx_format.specs.Lines.{texts_from}
+use Rattle.mx_format.specs.NodeTexts.{register_in}
+use Rattle.mx_format.proofs.NodeLemmas.{is_at}
+use Rattle.mx_format.proofs.Places.{place_more}
 use Rattle.mx_views.specs.NodeJson.{register_json}
 use Rattle.mx_views.specs.Shown.{verdict_text}
 use Rattle.mx_views.specs.declared.selection.View.{View}

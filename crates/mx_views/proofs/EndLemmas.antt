@@ -14,8 +14,8 @@ use Rattle.mx_network.specs.declared.faults.StepFault.{StepFault}
 use Rattle.mx_plan.specs.Fields.{Fields}
 use Rattle.mx_plan.specs.declared.shape.Shape.{Shape}
 use Rattle.mx_plan.specs.declared.shape.Shape.TheVariants.{Ricart, Maekawa, Raymond}
-use Rattle.mx_texts.specs.LetterTexts.{letter_text}
-use Rattle.mx_texts.specs.Parts.{Parts, maekawa_parts, raymond_parts, ricart_parts}
+use Rattle.mx_format.specs.LetterTexts.{letter_text}
+use Rattle.mx_format.specs.Parts.{Parts, maekawa_parts, raymond_parts, ricart_parts}
 use Rattle.mx_commands.specs.Jobs.{run_by}
 use Rattle.mx_commands.specs.Runs.{at_rest, run_from, stepped}
 use Rattle.mx_views.specs.Shown.{view_by, view_from, view_step}

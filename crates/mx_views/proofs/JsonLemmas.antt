@@ -7,7 +7,7 @@ use Rattle.mx_knowledge.specs.Facts.{Known, fact_of}
 use Rattle.mx_knowledge.specs.declared.fact.Fact.{Fact}
 use Rattle.mx_plan.specs.Text.{Text}
 use Rattle.mx_plan.specs.Fields.{Fields}
-use Rattle.mx_texts.specs.Lines.{each_text}
+use Rattle.mx_format.specs.Lines.{each_text}
 use Rattle.mx_views.specs.FactJson.{fact_json, knows_json}
 use Rattle.mx_views.specs.Members.{array_json, values_json}
 

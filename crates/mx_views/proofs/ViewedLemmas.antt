@@ -23,7 +23,7 @@ use Rattle.mx_plan.specs.declared.shape.Shape.{Shape}
 use Rattle.mx_plan.specs.declared.shape.Shape.TheVariants.{Ricart, Maekawa, Raymond}
 use Rattle.mx_io.specs.Outputs.{Held}
 use Rattle.mx_io.specs.Told.{Telling}
-use Rattle.mx_texts.specs.Parts.{Parts, maekawa_parts, raymond_parts, ricart_parts}
+use Rattle.mx_format.specs.Parts.{Parts, maekawa_parts, raymond_parts, ricart_parts}
 use Rattle.mx_cli.specs.Closed.{Closes}
 use Rattle.mx_cli.specs.Naming.{fault_named, stop_named}
 use Rattle.mx_cli.specs.Reading.{Fetches, IsPlanOf, Reads, ReadsBoth, fault_of, plan_told, refusal_of, text_told}

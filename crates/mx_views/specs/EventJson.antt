@@ -5,11 +5,11 @@ use Rattle.mx_events.specs.Words.{word_of}
 use Rattle.mx_events.specs.declared.event.Event.{Event}
 use Rattle.mx_events.specs.declared.event.Event.TheVariants.{Read, Write, Settle, Want, Deliver}
 use Rattle.mx_journal.specs.declared.receipts.Receipt.{Receipt}
-use Rattle.mx_sections.specs.Causes.{cause_number, cause_words}
-use Rattle.mx_sections.specs.declared.outcome.Cause.{Cause}
-use Rattle.mx_sections.specs.declared.outcome.Entry.{Entry}
-use Rattle.mx_sections.specs.declared.outcome.Outcome.{Outcome}
-use Rattle.mx_sections.specs.declared.outcome.Outcome.TheVariants.{Asked, Entered, Value, Written, Left, Cancelled, Sent, Settled, Delivered, Woken, Refused}
+use Rattle.mx_trace.specs.Causes.{cause_number, cause_words}
+use Rattle.mx_trace.specs.declared.outcome.Cause.{Cause}
+use Rattle.mx_trace.specs.declared.outcome.Entry.{Entry}
+use Rattle.mx_trace.specs.declared.outcome.Outcome.{Outcome}
+use Rattle.mx_trace.specs.declared.outcome.Outcome.TheVariants.{Asked, Entered, Value, Written, Left, Cancelled, Sent, Settled, Delivered, Woken, Refused}
 use Rattle.mx_plan.specs.Text.{Text}
 use Rattle.mx_plan.specs.Fields.{Fields}
 use Rattle.mx_views.specs.Members.{node_member, number_member, number_start, register_member, word_member}

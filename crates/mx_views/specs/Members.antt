@@ -3,8 +3,8 @@
 use Rattle.std.specs.Prelude.{ℕ, List, [], ◌∷◌, ◌++◌, codes, decimal}
 use Rattle.mx_plan.specs.Text.{Text}
 use Rattle.mx_plan.specs.Fields.{Fields}
-use Rattle.mx_texts.specs.EventTexts.{name_of, register_name_of}
-use Rattle.mx_texts.specs.Lines.{each_text}
+use Rattle.mx_format.specs.EventTexts.{name_of, register_name_of}
+use Rattle.mx_format.specs.Lines.{each_text}
 
 -- a member whose value is a text, after a comma
 abbrev pub word_member : Text → Text → Text

@@ -10,8 +10,8 @@ use Rattle.mx_explorer.specs.declared.verdict.Verdict.{Verdict}
 use Rattle.mx_explorer.specs.declared.verdict.Verdict.TheVariants.{Sound, Broken}
 use Rattle.mx_plan.specs.Text.{Text}
 use Rattle.mx_plan.specs.Fields.{Fields}
-use Rattle.mx_texts.specs.Lines.{texts_from}
-use Rattle.mx_texts.specs.NodeTexts.{register_in}
+use Rattle.mx_format.specs.Lines.{texts_from}
+use Rattle.mx_format.specs.NodeTexts.{register_in}
 use Rattle.mx_commands.specs.VerdictLines.{clause_text}
 use Rattle.mx_views.specs.FactJson.{knows_json}
 use Rattle.mx_views.specs.Members.{node_start, number_member, word_member}

@@ -6,7 +6,7 @@ use Rattle.mx_member.specs.declared.parcel.Parcel.{Parcel}
 use Rattle.mx_member.specs.declared.parcel.Parcel.TheVariants.{Guard, Want, Base, Records}
 use Rattle.mx_plan.specs.Text.{Text}
 use Rattle.mx_plan.specs.Fields.{Fields}
-use Rattle.mx_texts.specs.Parts.{Parts}
+use Rattle.mx_format.specs.Parts.{Parts}
 use Rattle.mx_views.specs.LetterJson.{letter_json}
 use Rattle.mx_views.specs.Members.{array_json, node_member, number_member, number_start, word_member}
 

@@ -18,7 +18,7 @@ use Rattle.mx_events.specs.declared.event.Event.{Event}
 use Rattle.mx_events.specs.declared.event.Event.TheVariants.{Deliver}
 use Rattle.mx_network.specs.Step.{ClusterState, RunsTo, step_of}
 use Rattle.mx_network.specs.declared.faults.StepFault.{StepFault}
-use Rattle.mx_sections.specs.declared.outcome.Entry.{Entry}
+use Rattle.mx_trace.specs.declared.outcome.Entry.{Entry}
 use Rattle.mx_explorer.specs.declared.verdict.Verdict.{Verdict}
 use Rattle.mx_explorer.specs.declared.verdict.Verdict.TheVariants.{Sound}
 use Rattle.mx_plan.specs.Text.{Text}
@@ -26,13 +26,13 @@ use Rattle.mx_plan.specs.Fields.{Fields}
 use Rattle.mx_plan.specs.declared.shape.Shape.{Shape}
 use Rattle.mx_plan.specs.declared.shape.Shape.TheVariants.{Ricart, Maekawa, Raymond}
 use Rattle.mx_io.specs.Outputs.{Held}
-use Rattle.mx_texts.specs.EventTexts.{event_line}
-use Rattle.mx_texts.specs.FactTexts.{facts_line}
-use Rattle.mx_texts.specs.LetterTexts.{letter_text}
-use Rattle.mx_texts.specs.Lines.{texts_from}
-use Rattle.mx_texts.specs.NodeTexts.{member_line}
-use Rattle.mx_texts.specs.ParcelTexts.{parcel_line}
-use Rattle.mx_texts.specs.Parts.{Parts, maekawa_parts, raymond_parts, ricart_parts}
+use Rattle.mx_format.specs.EventTexts.{event_line}
+use Rattle.mx_format.specs.FactTexts.{facts_line}
+use Rattle.mx_format.specs.LetterTexts.{letter_text}
+use Rattle.mx_format.specs.Lines.{texts_from}
+use Rattle.mx_format.specs.NodeTexts.{member_line}
+use Rattle.mx_format.specs.ParcelTexts.{parcel_line}
+use Rattle.mx_format.specs.Parts.{Parts, maekawa_parts, raymond_parts, ricart_parts}
 use Rattle.mx_cli.specs.declared.faults.Fault.TheVariants.{NoParcel}
 use Rattle.mx_commands.specs.Runs.{Report, after_texts, at_rest, ends_with, whole}
 use Rattle.mx_commands.specs.VerdictLines.{verdict_line}

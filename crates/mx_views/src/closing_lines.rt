@@ -1,20 +1,20 @@
 //! The closing lines that are shown.
 
 ghost use Rattle.std.specs.Prelude.{◌≡◌, ◌+◌, ◌<◌, ◌++◌, length, drop, string_bytes, IfOk, OnOk};
-ghost use Rattle.mx_texts.specs.Lines.{texts_from};
-ghost use Rattle.mx_texts.specs.NodeTexts.{member_line};
+ghost use Rattle.mx_format.specs.Lines.{texts_from};
+ghost use Rattle.mx_format.specs.NodeTexts.{member_line};
 ghost use Rattle.mx_views.specs.Shown.{closing_text, member_text, shown_member, state_text, verdict_text};
 
 use crate::node_json::{VerdictJson, add_node_json};
 use crate::selection::Selection;
 use mx_commands::VerdictLine;
 use mx_explorer::{Verdict, judge};
+use mx_format::{add_facts_line, add_member_line};
 use mx_knowledge::Knowledge;
 use mx_member::Member;
 use mx_network::Cluster;
 use mx_nodelaws::Exclusion;
-use mx_stamps::{MOST_NODES, NodeId};
-use mx_texts::{add_facts_line, add_member_line};
+use mx_stamps::{MAX_NODES, NodeId};
 use std::alloc::{AllocError, Global};
 
 /// Appends the lines of the nodes that are shown and of the verdict. Returns the verdict.
@@ -78,7 +78,7 @@ fn add_node<C: Exclusion + Knowledge>(
     index: u8,
     text: &mut String,
 ) -> Result<(), AllocError>
-    requires few { index < MOST_NODES }
+    requires few { index < MAX_NODES }
     requires there { index < length cluster.now.members }
     ensures { OnOk result (string_bytes text.old
         ++ texts_from (shown_member selection.now.plan.now selection.now.view C.core C.knows)

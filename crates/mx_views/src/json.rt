@@ -4,12 +4,12 @@
 ghost use Rattle.std.specs.Prelude.{◌≡◌, ◌++◌, OnOk, Some, codes, string_bytes};
 ghost use Rattle.mx_plan.specs.Fields.{Fields};
 ghost use Rattle.mx_plan.specs.Text.{Text};
-ghost use Rattle.mx_texts.specs.Lines.{each_text};
+ghost use Rattle.mx_format.specs.Lines.{each_text};
 ghost use Rattle.mx_views.specs.Members.{array_json, node_member, node_start, number_member, number_start, register_member, values_json, word_member};
 
+use mx_format::{name_of, register_name_of};
 use mx_plan::Plan;
 use mx_stamps::NodeId;
-use mx_texts::{name_of, register_name_of};
 use std::alloc::AllocError;
 use std::fmt;
 

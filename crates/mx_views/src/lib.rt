@@ -12,9 +12,9 @@ mod letter_json;
 mod node_json;
 mod parcel_json;
 mod selection;
-mod showing;
-mod viewing;
+mod shown_run;
+mod view_command;
 mod words;
 
 pub use laws::ends_as_replay;
-pub use viewing::replay_view;
+pub use view_command::replay_view;

@@ -8,6 +8,7 @@ ghost use Rattle.mx_views.specs.NodeJson.{broken_json, comma_at, contents_json, 
 use crate::fact_json::add_knows_json;
 use crate::json::{NodeStart, Number, Word, add_number, add_word};
 use mx_explorer::{Clause, Verdict};
+use mx_format::register_name_of;
 use mx_journal::Journal;
 use mx_knowledge::Knowledge;
 use mx_member::Member;
@@ -15,7 +16,6 @@ use mx_nodelaws::{Exclusion, Phase};
 use mx_plan::Plan;
 use mx_registers::view;
 use mx_stamps::NodeId;
-use mx_texts::register_name_of;
 use std::alloc::{AllocError, Global};
 use std::fmt;
 

@@ -5,10 +5,10 @@ ghost use Rattle.mx_views.specs.ParcelJson.{base_json, content_json, parcel_json
 
 use crate::json::{NumberStart, Value, add_array, add_node_name, add_number, add_word};
 use crate::letter_json::add_letter_json;
+use mx_format::Letter;
 use mx_journal::{Range, Record};
 use mx_member::{Parcel, SentParcel};
 use mx_plan::Plan;
-use mx_texts::Letter;
 use std::alloc::AllocError;
 use std::fmt;
 

@@ -11,7 +11,7 @@ use Rattle.mx_plan.specs.Text.{Text}
 use Rattle.mx_plan.specs.Fields.{Fields}
 use Rattle.mx_plan.specs.declared.shape.Shape.{Shape}
 use Rattle.mx_plan.specs.declared.shape.Shape.TheVariants.{Ricart, Maekawa, Raymond}
-use Rattle.mx_texts.specs.PlanTexts.{explored_line}
+use Rattle.mx_format.specs.PlanTexts.{explored_line}
 use Rattle.mx_commands.specs.Explored.{after_drawn, is_entry, schedule_of}
 use Rattle.mx_commands.specs.Runs.{at_rest}
 use Rattle.mx_commands.specs.VerdictLines.{verdict_line}

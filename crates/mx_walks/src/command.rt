@@ -8,9 +8,9 @@ ghost use Rattle.mx_commands.specs.Ran.{RanOn};
 ghost use Rattle.mx_walks.specs.Printed.{Explores, ExploresWalk, seed_job};
 ghost use Rattle.mx_walks.specs.WalkWords.{request_asked, request_of, walk_line};
 
-use crate::exploring::explore_plan;
 use crate::manner::Manner;
 use crate::walk_words::{WalkRequest, asked_walk};
+use crate::walked_cluster::explore_plan;
 use mx_cli::{Exploration, Names, Stop, close, fetch_plan, refuse};
 use mx_io::{Output, Source};
 use std::alloc::Global;

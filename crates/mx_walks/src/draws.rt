@@ -4,13 +4,13 @@ ghost use Rattle.std.specs.Prelude.{◌≡◌, ◌<◌, ◌≤◌, ◌%◌};
 ghost use Rattle.mx_explorer.specs.Drawn.{after_words, word};
 ghost use Rattle.mx_walks.specs.Walk.{byte_of};
 
-use mx_stamps::{MOST_NODES, NodeId};
+use mx_stamps::{MAX_NODES, NodeId};
 use rand_core::utils::NextWord;
 use rand_pcg::Pcg32;
 
 /// The node that the next word means, of this many.
 pub(crate) fn draw_node(words: &mut Pcg32, nodes: u8) -> NodeId
-    requires nodes { (0 < nodes) × (nodes ≤ MOST_NODES) }
+    requires nodes { (0 < nodes) × (nodes ≤ MAX_NODES) }
     ensures value { result ≡ word words.old % nodes }
     ensures next { words.new ≡ after_words 1 words.old }
 {

@@ -5,10 +5,10 @@ ghost use Rattle.mx_commands.specs.Runs.{whole};
 ghost use Rattle.mx_commands.specs.Ran.{Ran};
 ghost use Rattle.mx_walks.specs.Seeds.{end_status, end_text, seeds_text, sums_of};
 
-use crate::exploring::explore_seed;
 use crate::manner::Manner;
 use crate::seeds::Seeds;
 use crate::sums::{SeedsEnd, Sums};
+use crate::walked_cluster::explore_seed;
 use mx_cli::Stop;
 use mx_commands::{print, verdict_status};
 use mx_io::Output;

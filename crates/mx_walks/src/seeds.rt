@@ -5,7 +5,7 @@ ghost use Rattle.mx_lines.specs.Numbers.{number_of};
 ghost use Rattle.mx_walks.specs.Seeds.{IsRange};
 
 /// The most seeds that are explored one after another.
-const MOST_SEEDS: u64 = 1_000_000;
+const MAX_SEEDS: u64 = 1_000_000;
 
 /// Seeds one after another: the first, and how many there are.
 #[derive(Clone, Copy, Debug, PartialEq, Eq)]
@@ -27,7 +27,7 @@ pub fn seeds_in(text: &str) -> Option<Seeds>
     let Some(last) = number_of(parts.1) else {
         return None;
     };
-    if last < first || last - first >= MOST_SEEDS {
+    if last < first || last - first >= MAX_SEEDS {
         return None;
     }
     Some(Seeds {

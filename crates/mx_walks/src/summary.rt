@@ -5,7 +5,7 @@ ghost use Rattle.mx_walks.specs.Summaries.{summary_text};
 
 use mx_commands::VerdictLine;
 use mx_explorer::Verdict;
-use mx_texts::ExploredLine;
+use mx_format::ExploredLine;
 use std::fmt;
 
 /// How many steps there were, how often a node entered, how many parcels were sent, and the verdict.

@@ -5,13 +5,13 @@ ghost use Rattle.std.specs.Prelude.{◌≡◌, ◌<◌, ◌≤◌, OnOk, false};
 ghost use Rattle.mx_walks.specs.Walk.{at_first, chosen, is_delivery, is_empty, looked, next_step, repeated, taken_up};
 ghost use Rattle.mx_walks.specs.States.{state_of};
 
-use crate::acting::act;
 use crate::conditions::Conditions;
 use crate::draws::byte_of;
+use crate::own_actions::act;
 use crate::parcels::{drawn_of, is_empty, oldest_beside, put_new, take};
 use mx_network::{Cluster, Event};
 use mx_nodelaws::Exclusion;
-use mx_stamps::MOST_NODES;
+use mx_stamps::MAX_NODES;
 use rand_core::SeedableRng;
 use rand_core::utils::NextWord;
 use rand_pcg::Pcg32;
@@ -64,7 +64,7 @@ impl Walk {
         registers: u8,
         cluster: &Cluster<C>,
     ) -> Option<Event>
-        requires nodes { (0 < nodes) × (nodes ≤ MOST_NODES) }
+        requires nodes { (0 < nodes) × (nodes ≤ MAX_NODES) }
         requires registers { 0 < registers }
         ensures event { result ≡ (next_step C.core conditions.now cluster.now
             nodes registers (state_of self.old)).event }

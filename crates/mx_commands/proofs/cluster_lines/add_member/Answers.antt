@@ -1,6 +1,6 @@
 use Rattle.std.proofs.Common.{◌≡◌, ◌<◌, ◌++◌, ℕ, OnOk, Some, length, rules, slice_get, string_bytes, subst, sym}
-use Rattle.mx_texts.specs.NodeTexts.{member_line}
-use Rattle.mx_texts.proofs.Places.{is_there, place_written}
+use Rattle.mx_format.specs.NodeTexts.{member_line}
+use Rattle.mx_format.proofs.Places.{is_there, place_written}
 use Rattle.mx_commands.proofs.cluster_lines.add_member.Goals as goal
 
 pub member-requires : goal.member-requires

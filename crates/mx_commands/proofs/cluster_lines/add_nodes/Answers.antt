@@ -1,6 +1,6 @@
 use Rattle.std.proofs.Common.{◌≡◌, ◌∙◌, ◌<◌, ◌≤◌, arith, length, rules, string_bytes, sym}
-use Rattle.mx_texts.specs.NodeTexts.{member_line}
-use Rattle.mx_texts.proofs.Places.{place_end}
+use Rattle.mx_format.specs.NodeTexts.{member_line}
+use Rattle.mx_format.proofs.Places.{place_end}
 use Rattle.mx_commands.proofs.cluster_lines.add_nodes.Goals as goal
 
 pub add_member-requires : goal.add_member-requires

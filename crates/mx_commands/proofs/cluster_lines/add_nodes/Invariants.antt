@@ -1,6 +1,6 @@
 use Rattle.std.proofs.Common.{◌≡◌, ◌≤◌, ◌++◌, drop, length, string_bytes}
-use Rattle.mx_texts.specs.NodeTexts.{member_line}
-use Rattle.mx_texts.specs.Lines.{texts_from}
+use Rattle.mx_format.specs.NodeTexts.{member_line}
+use Rattle.mx_format.specs.Lines.{texts_from}
 use Rattle.mx_commands.proofs.cluster_lines.add_nodes.Given as goal
 
 abbrev pub invariant-loop-index : goal.invariant-loop-index

@@ -1,7 +1,7 @@
 use Rattle.std.proofs.Common.{string_bytes}
-use Rattle.mx_texts.proofs.Places.{is_there, place_written}
-use Rattle.mx_texts.specs.LetterTexts.{letter_text}
-use Rattle.mx_texts.specs.ParcelTexts.{parcel_line}
+use Rattle.mx_format.proofs.Places.{is_there, place_written}
+use Rattle.mx_format.specs.LetterTexts.{letter_text}
+use Rattle.mx_format.specs.ParcelTexts.{parcel_line}
 use Rattle.mx_commands.proofs.cluster_lines.add_numbered.Goals as goal
 
 pub returns : goal.returns

@@ -1,7 +1,7 @@
 use Rattle.std.proofs.Common.{◌≡◌, ◌∙◌, ◌<◌, ◌≤◌, ℕ, arith, length, rules, string_bytes, subst, sym}
-use Rattle.mx_texts.specs.LetterTexts.{letter_text}
-use Rattle.mx_texts.specs.ParcelTexts.{parcel_line}
-use Rattle.mx_texts.proofs.Places.{place_end}
+use Rattle.mx_format.specs.LetterTexts.{letter_text}
+use Rattle.mx_format.specs.ParcelTexts.{parcel_line}
+use Rattle.mx_format.proofs.Places.{place_end}
 use Rattle.mx_commands.proofs.cluster_lines.add_parcels.Goals as goal
 
 pub add_numbered-requires : goal.add_numbered-requires

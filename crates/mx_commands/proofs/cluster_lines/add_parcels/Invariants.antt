@@ -1,6 +1,6 @@
 use Rattle.std.proofs.Common.{◌≡◌, ◌≤◌, ◌++◌, drop, length, string_bytes}
-use Rattle.mx_texts.specs.LetterTexts.{letter_text}
-use Rattle.mx_texts.specs.ParcelTexts.{parcel_lines}
+use Rattle.mx_format.specs.LetterTexts.{letter_text}
+use Rattle.mx_format.specs.ParcelTexts.{parcel_lines}
 use Rattle.mx_commands.proofs.cluster_lines.add_parcels.Given as goal
 
 abbrev pub invariant-loop-number : goal.invariant-loop-number

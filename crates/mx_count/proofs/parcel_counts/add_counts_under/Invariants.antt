@@ -2,8 +2,8 @@ use Rattle.std.proofs.Common.{◌≡◌, ◌++◌, string_bytes, drop}
 use Rattle.std.specs.Borrow.{Bor}
 use Rattle.std.specs.List.{count_by}
 use Rattle.mx_plan.specs.Text.{Text}
-use Rattle.mx_texts.specs.Lines.{each_text}
-use Rattle.mx_texts.specs.Parts.{word_by}
+use Rattle.mx_format.specs.Lines.{each_text}
+use Rattle.mx_format.specs.Parts.{word_by}
 use Rattle.mx_count.specs.Counts.{tally_line}
 use Rattle.mx_count.specs.Kinds.{is_under}
 use Rattle.mx_count.proofs.parcel_counts.add_counts_under.Given as goal

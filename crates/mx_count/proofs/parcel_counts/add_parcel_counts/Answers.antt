@@ -1,7 +1,7 @@
 use Rattle.std.proofs.Common.{map, string_bytes}
 use Rattle.std.specs.Borrow.{Bor}
 use Rattle.mx_plan.specs.Text.{Text}
-use Rattle.mx_texts.specs.Parts.{word_by}
+use Rattle.mx_format.specs.Parts.{word_by}
 use Rattle.mx_count.proofs.CountedLemmas.{named_is}
 use Rattle.mx_count.proofs.parcel_counts.add_parcel_counts.Goals as goal
 

@@ -1,5 +1,5 @@
-use Rattle.mx_texts.specs.Parts.{word_by}
-use Rattle.mx_texts.proofs.Places.{is_there}
+use Rattle.mx_format.specs.Parts.{word_by}
+use Rattle.mx_format.proofs.Places.{is_there}
 use Rattle.mx_count.specs.Kinds.{is_under}
 use Rattle.mx_count.proofs.CountLemmas.{count_more}
 use Rattle.mx_count.proofs.parcel_counts.count_parcel.Goals as goal

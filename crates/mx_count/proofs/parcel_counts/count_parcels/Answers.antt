@@ -1,7 +1,7 @@
 use Rattle.std.proofs.Common.{◌≡◌, ◌≤◌, arith, length}
 use Rattle.std.specs.List.{count_by}
 use Rattle.std.proofs.lemmas.List.Sums.{count_by-le-length}
-use Rattle.mx_texts.specs.Parts.{word_by}
+use Rattle.mx_format.specs.Parts.{word_by}
 use Rattle.mx_count.specs.Kinds.{is_under}
 use Rattle.mx_count.proofs.CountLemmas.{count_end}
 use Rattle.mx_count.proofs.parcel_counts.count_parcels.Goals as goal

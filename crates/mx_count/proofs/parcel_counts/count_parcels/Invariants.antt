@@ -1,6 +1,6 @@
 use Rattle.std.proofs.Common.{◌≡◌, ◌+◌, ◌≤◌, drop, length}
 use Rattle.std.specs.List.{count_by}
-use Rattle.mx_texts.specs.Parts.{word_by}
+use Rattle.mx_format.specs.Parts.{word_by}
 use Rattle.mx_count.specs.Kinds.{is_under}
 use Rattle.mx_count.proofs.parcel_counts.count_parcels.Given as goal
 

@@ -2,7 +2,7 @@ use Rattle.std.proofs.Common.{◌∙◌, ◌++◌, ap, string_bytes, sym}
 use Rattle.std.specs.Borrow.{Bor}
 use Rattle.std.specs.List.{count_by}
 use Rattle.mx_plan.specs.Text.{Text}
-use Rattle.mx_texts.proofs.Places.{each_end, each_more}
+use Rattle.mx_format.proofs.Places.{each_end, each_more}
 use Rattle.mx_count.specs.Counts.{is_entry_under, tally_line}
 use Rattle.mx_count.proofs.CountedLemmas.{each_map, tally_is}
 use Rattle.mx_count.proofs.refusal_counts.add_refusal_counts.Goals as goal

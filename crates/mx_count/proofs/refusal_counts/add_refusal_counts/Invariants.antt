@@ -2,7 +2,7 @@ use Rattle.std.proofs.Common.{◌≡◌, ◌++◌, string_bytes, drop}
 use Rattle.std.specs.Borrow.{Bor}
 use Rattle.std.specs.List.{count_by}
 use Rattle.mx_plan.specs.Text.{Text}
-use Rattle.mx_texts.specs.Lines.{each_text}
+use Rattle.mx_format.specs.Lines.{each_text}
 use Rattle.mx_count.specs.Counts.{is_entry_under, tally_line}
 use Rattle.mx_count.proofs.refusal_counts.add_refusal_counts.Given as goal
 

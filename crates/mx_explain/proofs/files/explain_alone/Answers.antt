@@ -1,4 +1,4 @@
-use Rattle.mx_diagnosis.proofs.ReportLemmas.{longer_then}
+use Rattle.mx_diagnostics.proofs.ReportLemmas.{longer_then}
 use Rattle.mx_explain.proofs.files.explain_alone.Goals as goal
 
 pub returns-in_err-explain_plan_text : goal.returns-in_err-explain_plan_text

@@ -1,4 +1,4 @@
-use Rattle.mx_diagnosis.proofs.ReportLemmas.{longer_then}
+use Rattle.mx_diagnostics.proofs.ReportLemmas.{longer_then}
 use Rattle.mx_explain.proofs.files.explain_two.Goals as goal
 
 pub returns-in_err-plan : goal.returns-in_err-plan

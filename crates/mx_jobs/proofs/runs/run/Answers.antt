@@ -1,6 +1,6 @@
 use Rattle.std.proofs.Common.{◌≤◌, ℕ, IfOk, map, subst, sym}
 use Rattle.std.proofs.lemmas.Result.{IfErr-weaker, IfOk-weaker}
-use Rattle.mx_stamps.specs.declared.limits.TheConstants.{MOST_REGISTERS}
+use Rattle.mx_stamps.specs.declared.limits.TheConstants.{MAX_REGISTERS}
 use Rattle.mx_stations.specs.Turns.{Station}
 use Rattle.mx_jobs.specs.declared.worker.Ended.TheVariants.{Done}
 use Rattle.mx_jobs.specs.Runs.{AreBack, HaveRun}
@@ -27,7 +27,7 @@ returns-in-Ok-clause-ran g c =
 pub returns-in-Ok-clause-law : goal.returns-in-Ok-clause-law
 returns-in-Ok-clause-law g c =
     let new = c.requires.new in
-    let few = subst (λ (n : ℕ). n ≤ MOST_REGISTERS) new.have new.few in
+    let few = subst (λ (n : ℕ). n ≤ MAX_REGISTERS) new.have new.few in
     IfOk-weaker c.finish.result _ _ (λ out ran. law_holds g.J.Job.asks_for g.J.Job.makes g.J.Job.holds g.J.Job.finished _ c.args.jobs.items _ _ _ ran c.requires.begins few) (returns-in-Ok-clause-ran g c)
 
 pub returns-in-Ok-clause-told : goal.returns-in-Ok-clause-told

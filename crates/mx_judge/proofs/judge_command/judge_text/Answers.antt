@@ -1,5 +1,5 @@
 use Rattle.std.proofs.Common.{List, Err, subst, sym}
-use Rattle.mx_sections.specs.declared.outcome.Entry.{Entry}
+use Rattle.mx_trace.specs.declared.outcome.Entry.{Entry}
 use Rattle.mx_judge.specs.Judged.{IsVerdictOf, JudgesText}
 use Rattle.mx_judge.specs.declared.errors.JudgeError.{JudgeError}
 use Rattle.mx_judge.proofs.JudgeLemmas.{text_judged, text_refused}

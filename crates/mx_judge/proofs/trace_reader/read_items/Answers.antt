@@ -1,6 +1,6 @@
 use Rattle.std.proofs.Common.{◌≡◌, ◌∙◌, ◌+◌, [], Err, Option, Result, ap, refl, subst, sym}
 use Rattle.serde_json.specs.View.{view}
-use Rattle.mx_sections.specs.declared.outcome.Entry.{Entry}
+use Rattle.mx_trace.specs.declared.outcome.Entry.{Entry}
 use Rattle.mx_judge.specs.Entries.{item_of}
 use Rattle.mx_judge.specs.Faults.{list_fault}
 use Rattle.mx_judge.specs.Traces.{Gives, Refuses, with_item}

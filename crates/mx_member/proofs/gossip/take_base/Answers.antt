@@ -1,5 +1,5 @@
 use Rattle.std.proofs.Common.{ℕ, ◌≡◌, ◌↔◌, Err, sym, subst}
-use Rattle.mx_journal.specs.declared.settling.BaseFault.TheVariants.{Conflict}
+use Rattle.mx_journal.specs.declared.settlement.BaseFault.TheVariants.{Conflict}
 use Rattle.mx_journal.specs.Bases.{AreOpposed}
 use Rattle.mx_member.specs.Member.{IsViewOf}
 use Rattle.mx_member.proofs.Delivering.{same_refusal}

@@ -2,7 +2,7 @@ use Rattle.std.proofs.Common.{Err, refl, sym, ap, ◌∙◌, [], ◌∷◌, ◌+
 use Rattle.mx_member.specs.declared.acts.Act.TheVariants.{Leave}
 use Rattle.mx_member.specs.declared.faults.CloseFault.{CloseFault}
 use Rattle.mx_member.proofs.Leaving.{not_inside}
-use Rattle.mx_sections.specs.declared.outcome.Outcome.{Outcome}
+use Rattle.mx_trace.specs.declared.outcome.Outcome.{Outcome}
 use Rattle.mx_network.specs.Outcome.{outcome_of}
 use Rattle.mx_network.proofs.parts.leave_and_note.Goals as goal
 

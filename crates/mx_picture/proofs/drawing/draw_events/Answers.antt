@@ -1,7 +1,7 @@
 use Rattle.std.proofs.Common.{◌≡◌, ◌∙◌, Err, ap, length, refl, rules, subst, sym, ℕ}
 use Rattle.mx_network.specs.Step.{step_of}
 use Rattle.mx_events.specs.declared.event.Event.{Event}
-use Rattle.mx_texts.specs.LetterTexts.{letter_text}
+use Rattle.mx_format.specs.LetterTexts.{letter_text}
 use Rattle.mx_commands.specs.Runs.{NamesNodes, Report, run_from}
 use Rattle.mx_commands.specs.Ran.{StopsAt}
 use Rattle.mx_commands.proofs.RunLemmas.{err_is, grows, named_at, rest_end, rest_ok}

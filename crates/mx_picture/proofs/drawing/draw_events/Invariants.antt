@@ -1,5 +1,5 @@
 use Rattle.std.proofs.Common.{◌≡◌, length}
-use Rattle.mx_texts.specs.LetterTexts.{letter_text}
+use Rattle.mx_format.specs.LetterTexts.{letter_text}
 use Rattle.mx_commands.specs.Runs.{run_from}
 use Rattle.mx_commands.proofs.RunLemmas.{rest}
 use Rattle.mx_picture.proofs.drawing.draw_events.Given as goal

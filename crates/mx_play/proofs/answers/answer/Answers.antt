@@ -1,6 +1,6 @@
 use Rattle.std.proofs.Common.{◌∙◌, ◌++◌, ap, refl, rules, string_bytes}
 use Rattle.mx_plan.specs.Text.{Text}
-use Rattle.mx_texts.specs.LetterTexts.{letter_text}
+use Rattle.mx_format.specs.LetterTexts.{letter_text}
 use Rattle.mx_scripts.specs.Files.{file_text}
 use Rattle.mx_scripts.specs.Played.{events_of}
 use Rattle.mx_play.specs.Sessions.{brings_back, does, helps, lists, mark_line, rests, says, shows, standing_lines, state, takes_back, waiting_lines}

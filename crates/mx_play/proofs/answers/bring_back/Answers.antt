@@ -1,5 +1,5 @@
 use Rattle.std.proofs.Common.{refl, rules}
-use Rattle.mx_texts.specs.LetterTexts.{letter_text}
+use Rattle.mx_format.specs.LetterTexts.{letter_text}
 use Rattle.mx_play.specs.Sessions.{state}
 use Rattle.mx_play.proofs.SessionLemmas.{can_redo, session_redone}
 use Rattle.mx_play.proofs.answers.bring_back.Goals as goal

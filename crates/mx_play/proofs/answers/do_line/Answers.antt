@@ -1,5 +1,5 @@
 use Rattle.std.proofs.Common.{◌≡◌, arith, length, rules, string_bytes}
-use Rattle.mx_texts.specs.LetterTexts.{letter_text}
+use Rattle.mx_format.specs.LetterTexts.{letter_text}
 use Rattle.mx_play.specs.Sessions.{state}
 use Rattle.mx_play.proofs.SessionLemmas.{can_undo, is_undone, line_done, same_holds, session_adds}
 use Rattle.mx_play.proofs.answers.do_line.Goals as goal

@@ -1,7 +1,7 @@
 use Rattle.std.proofs.Common.{◌≡◌, ◌∙◌, ◌<◌, ◌≤◌, ℕ, arith, length, string_bytes, subst, sym}
 use Rattle.mx_play.specs.Cuts.{cut_lines_of}
-use Rattle.mx_texts.proofs.Places.{place_end, place_more}
-use Rattle.mx_texts.proofs.NodeLemmas.{is_at}
+use Rattle.mx_format.proofs.Places.{place_end, place_more}
+use Rattle.mx_format.proofs.NodeLemmas.{is_at}
 use Rattle.mx_play.proofs.cuts.add_cuts.Goals as goal
 
 pub loop-i-preserved : goal.loop-i-preserved

@@ -1,5 +1,5 @@
 use Rattle.std.proofs.Common.{◌≡◌, ◌≤◌, ◌++◌, drop, length, string_bytes}
-use Rattle.mx_texts.specs.Lines.{texts_from}
+use Rattle.mx_format.specs.Lines.{texts_from}
 use Rattle.mx_play.specs.Cuts.{cut_lines_of, cut_text}
 use Rattle.mx_play.proofs.cuts.add_cuts_of.Given as goal
 

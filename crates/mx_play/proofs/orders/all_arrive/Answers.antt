@@ -1,5 +1,5 @@
 use Rattle.std.proofs.Common.{◌∙◌, ap, length, rules, string_bytes, subst, sym}
-use Rattle.mx_texts.specs.LetterTexts.{letter_text}
+use Rattle.mx_format.specs.LetterTexts.{letter_text}
 use Rattle.mx_scripts.specs.Fates.{NoneArrives}
 use Rattle.mx_play.specs.Moments.{MomentState}
 use Rattle.mx_play.specs.Sessions.{Adds, Extends}

@@ -1,5 +1,5 @@
 use Rattle.std.proofs.Common.{◌∙◌, ℕ, length, rules, string_bytes, subst, sym}
-use Rattle.mx_texts.specs.LetterTexts.{letter_text}
+use Rattle.mx_format.specs.LetterTexts.{letter_text}
 use Rattle.mx_commands.specs.Runs.{NamesNodes}
 use Rattle.mx_play.specs.Sessions.{Extends}
 use Rattle.mx_play.specs.declared.happening.Happening.TheVariants.{Happens}

@@ -1,6 +1,6 @@
 use Rattle.std.proofs.Common.{◌≡◌, ◌∙◌, [], ap, arith, false, length, refl}
 use Rattle.mx_network.specs.Step.{ClusterState}
-use Rattle.mx_texts.specs.LetterTexts.{letter_text}
+use Rattle.mx_format.specs.LetterTexts.{letter_text}
 use Rattle.mx_scripts.specs.Fates.{is_waiting}
 use Rattle.mx_scripts.proofs.FateLemmas.{below_more, none_waits}
 use Rattle.mx_play.specs.Sessions.{Extends}

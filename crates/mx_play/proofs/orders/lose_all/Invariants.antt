@@ -1,6 +1,6 @@
 use Rattle.std.proofs.Common.{◌≡◌, ◌≤◌, ◌<◌, ℕ, false}
 use Rattle.mx_plan.specs.Text.{Text}
-use Rattle.mx_texts.specs.LetterTexts.{letter_text}
+use Rattle.mx_format.specs.LetterTexts.{letter_text}
 use Rattle.mx_scripts.specs.Fates.{is_waiting}
 use Rattle.mx_play.specs.Sessions.{Adds}
 use Rattle.mx_play.proofs.orders.lose_all.Given as goal

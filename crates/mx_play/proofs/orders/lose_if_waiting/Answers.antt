@@ -1,5 +1,5 @@
 use Rattle.std.proofs.Common.{◌∙◌, rules, sym}
-use Rattle.mx_texts.specs.LetterTexts.{letter_text}
+use Rattle.mx_format.specs.LetterTexts.{letter_text}
 use Rattle.mx_scripts.proofs.FateLemmas.{waiting_under_way}
 use Rattle.mx_play.proofs.SessionLemmas.{adds_not, loses_waits, losses_one, waits_not}
 use Rattle.mx_play.proofs.orders.lose_if_waiting.Goals as goal

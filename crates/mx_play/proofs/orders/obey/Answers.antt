@@ -1,5 +1,5 @@
 use Rattle.std.proofs.Common.{◌∙◌, ap, length, rules, string_bytes}
-use Rattle.mx_texts.specs.LetterTexts.{letter_text}
+use Rattle.mx_format.specs.LetterTexts.{letter_text}
 use Rattle.mx_play.specs.Moments.{MomentState}
 use Rattle.mx_play.proofs.SessionLemmas.{adds_from, loss_adds, losses_add, relinked_adds}
 use Rattle.mx_play.proofs.orders.obey.Goals as goal

@@ -1,5 +1,5 @@
 use Rattle.std.proofs.Common.{◌∙◌, rules, string_bytes}
-use Rattle.mx_texts.specs.LetterTexts.{letter_text}
+use Rattle.mx_format.specs.LetterTexts.{letter_text}
 use Rattle.mx_play.specs.Sessions.{Extends}
 use Rattle.mx_play.proofs.SessionLemmas.{adds_extends, adds_members, adds_more, adds_not, extends_more, on_err}
 use Rattle.mx_play.proofs.orders.repeat.Goals as goal

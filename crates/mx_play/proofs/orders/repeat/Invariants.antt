@@ -1,5 +1,5 @@
 use Rattle.std.proofs.Common.{string_bytes}
-use Rattle.mx_texts.specs.LetterTexts.{letter_text}
+use Rattle.mx_format.specs.LetterTexts.{letter_text}
 use Rattle.mx_play.specs.Sessions.{Adds}
 use Rattle.mx_play.proofs.orders.repeat.Given as goal
 

@@ -1,5 +1,5 @@
 use Rattle.std.proofs.Common.{rules}
-use Rattle.mx_texts.specs.LetterTexts.{letter_text}
+use Rattle.mx_format.specs.LetterTexts.{letter_text}
 use Rattle.mx_play.specs.Sessions.{state}
 use Rattle.mx_play.proofs.SessionLemmas.{session_start, whole_on_ok}
 use Rattle.mx_play.proofs.playing.play_in.Goals as goal

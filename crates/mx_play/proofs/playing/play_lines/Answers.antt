@@ -1,4 +1,4 @@
-use Rattle.mx_texts.specs.LetterTexts.{letter_text}
+use Rattle.mx_format.specs.LetterTexts.{letter_text}
 use Rattle.mx_play.specs.Sessions.{state}
 use Rattle.mx_play.proofs.SessionLemmas.{talked_on}
 use Rattle.mx_play.proofs.playing.play_lines.Goals as goal

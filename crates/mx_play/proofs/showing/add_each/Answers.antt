@@ -1,6 +1,6 @@
 use Rattle.std.proofs.Common.{◌≡◌, ◌∙◌, ◌<◌, ◌≤◌, arith, length, rules, string_bytes, sym}
 use Rattle.mx_play.specs.Sessions.{node_shown}
-use Rattle.mx_texts.proofs.Places.{place_end}
+use Rattle.mx_format.proofs.Places.{place_end}
 use Rattle.mx_play.proofs.showing.add_each.Goals as goal
 
 pub add_member-requires : goal.add_member-requires

@@ -1,6 +1,6 @@
 use Rattle.std.proofs.Common.{◌≡◌, ◌≤◌, ◌++◌, drop, length, string_bytes}
 use Rattle.mx_play.specs.Sessions.{node_shown}
-use Rattle.mx_texts.specs.Lines.{texts_from}
+use Rattle.mx_format.specs.Lines.{texts_from}
 use Rattle.mx_play.proofs.showing.add_each.Given as goal
 
 abbrev pub invariant-loop-index : goal.invariant-loop-index

@@ -1,7 +1,7 @@
 use Rattle.std.proofs.Common.{◌∙◌, ap, rules, slice_get, string_bytes, sym}
 use Rattle.mx_network.specs.Step.{ClusterState}
-use Rattle.mx_texts.proofs.Places.{is_there, place_written}
-use Rattle.mx_texts.specs.LetterTexts.{letter_text}
+use Rattle.mx_format.proofs.Places.{is_there, place_written}
+use Rattle.mx_format.specs.LetterTexts.{letter_text}
 use Rattle.mx_play.specs.Sessions.{waiting_line}
 use Rattle.mx_play.proofs.showing.add_if_waiting.Goals as goal
 

@@ -1,7 +1,7 @@
 use Rattle.std.proofs.Common.{◌∙◌, string_bytes, sym}
 use Rattle.std.specs.Prelude.{◌&&◌}
-use Rattle.mx_texts.specs.LetterTexts.{letter_text}
-use Rattle.mx_texts.specs.ParcelTexts.{parcel_line}
+use Rattle.mx_format.specs.LetterTexts.{letter_text}
+use Rattle.mx_format.specs.ParcelTexts.{parcel_line}
 use Rattle.mx_scripts.specs.Fates.{is_under_way}
 use Rattle.mx_play.specs.Cuts.{is_to}
 use Rattle.mx_play.proofs.ShownLemmas.{not_shown}

@@ -1,7 +1,7 @@
 use Rattle.std.proofs.Common.{◌≡◌, ◌∙◌, ◌<◌, ◌≤◌, ℕ, ap, arith, length, rules, string_bytes, subst, sym}
 use Rattle.mx_network.specs.Step.{ClusterState}
-use Rattle.mx_texts.proofs.Places.{place_end}
-use Rattle.mx_texts.specs.LetterTexts.{letter_text}
+use Rattle.mx_format.proofs.Places.{place_end}
+use Rattle.mx_format.specs.LetterTexts.{letter_text}
 use Rattle.mx_play.specs.Sessions.{waiting_line}
 use Rattle.mx_play.proofs.showing.add_waiting.Goals as goal
 

@@ -1,6 +1,6 @@
 use Rattle.std.proofs.Common.{◌≡◌, ◌≤◌, ◌++◌, drop, length, string_bytes}
-use Rattle.mx_texts.specs.LetterTexts.{letter_text}
-use Rattle.mx_texts.specs.Lines.{texts_from}
+use Rattle.mx_format.specs.LetterTexts.{letter_text}
+use Rattle.mx_format.specs.Lines.{texts_from}
 use Rattle.mx_play.specs.Sessions.{waiting_line}
 use Rattle.mx_play.proofs.showing.add_waiting.Given as goal
 

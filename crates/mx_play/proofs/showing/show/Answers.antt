@@ -1,6 +1,6 @@
 use Rattle.std.proofs.Common.{◌∙◌, ◌++◌, ap, string_bytes}
 use Rattle.mx_network.specs.Step.{ClusterState}
-use Rattle.mx_texts.specs.LetterTexts.{letter_text}
+use Rattle.mx_format.specs.LetterTexts.{letter_text}
 use Rattle.mx_scripts.specs.Fates.{Fates}
 use Rattle.mx_play.specs.Cuts.{cut_lines}
 use Rattle.mx_play.specs.Sessions.{standing_lines, waiting_lines}

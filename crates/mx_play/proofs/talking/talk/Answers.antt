@@ -1,5 +1,5 @@
 use Rattle.std.proofs.Common.{rules}
-use Rattle.mx_texts.specs.LetterTexts.{letter_text}
+use Rattle.mx_format.specs.LetterTexts.{letter_text}
 use Rattle.mx_play.specs.Sessions.{state}
 use Rattle.mx_play.proofs.SessionLemmas.{talked_not, talked_on, turn_talks}
 use Rattle.mx_play.proofs.talking.talk.Goals as goal

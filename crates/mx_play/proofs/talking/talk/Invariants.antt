@@ -1,4 +1,4 @@
-use Rattle.mx_texts.specs.LetterTexts.{letter_text}
+use Rattle.mx_format.specs.LetterTexts.{letter_text}
 use Rattle.mx_play.specs.Sessions.{HasTalked, IsSession, state}
 use Rattle.mx_play.proofs.talking.talk.Given as goal
 

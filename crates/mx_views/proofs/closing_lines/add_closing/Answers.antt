@@ -1,5 +1,5 @@
 use Rattle.std.proofs.Common.{string_bytes}
-use Rattle.mx_texts.specs.Lines.{texts_from}
+use Rattle.mx_format.specs.Lines.{texts_from}
 use Rattle.mx_views.specs.Shown.{shown_member}
 use Rattle.mx_views.proofs.ClosingLemmas.{with_verdict}
 use Rattle.mx_views.proofs.closing_lines.add_closing.Goals as goal

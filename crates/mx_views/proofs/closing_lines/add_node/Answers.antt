@@ -1,5 +1,5 @@
 use Rattle.std.proofs.Common.{◌≡◌, ◌<◌, ◌++◌, ℕ, OnOk, Some, length, rules, slice_get, string_bytes, subst, sym}
-use Rattle.mx_texts.proofs.Places.{is_there, place_written}
+use Rattle.mx_format.proofs.Places.{is_there, place_written}
 use Rattle.mx_views.specs.Shown.{shown_member}
 use Rattle.mx_views.proofs.closing_lines.add_node.Goals as goal
 

@@ -1,5 +1,5 @@
 use Rattle.std.proofs.Common.{◌≡◌, ◌∙◌, ◌<◌, ◌≤◌, arith, length, rules, string_bytes, sym}
-use Rattle.mx_texts.proofs.Places.{place_end}
+use Rattle.mx_format.proofs.Places.{place_end}
 use Rattle.mx_views.specs.Shown.{shown_member}
 use Rattle.mx_views.proofs.closing_lines.add_nodes.Goals as goal
 

@@ -1,5 +1,5 @@
 use Rattle.std.proofs.Common.{◌≡◌, ◌≤◌, ◌++◌, drop, length, string_bytes}
-use Rattle.mx_texts.specs.Lines.{texts_from}
+use Rattle.mx_format.specs.Lines.{texts_from}
 use Rattle.mx_views.specs.Shown.{shown_member}
 use Rattle.mx_views.proofs.closing_lines.add_nodes.Given as goal
 

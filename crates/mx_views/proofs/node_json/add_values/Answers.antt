@@ -1,7 +1,7 @@
 use Rattle.std.proofs.Common.{◌≡◌, ◌∙◌, ◌<◌, ℕ, Option, ap, arith, length, string_bytes, subst, sym, unwrap_or}
 use Rattle.mx_registers.specs.Registers.{value_in}
-use Rattle.mx_texts.specs.NodeTexts.{register_in}
-use Rattle.mx_texts.proofs.NodeLemmas.{value_there}
+use Rattle.mx_format.specs.NodeTexts.{register_in}
+use Rattle.mx_format.proofs.NodeLemmas.{value_there}
 use Rattle.mx_views.proofs.ClosingLemmas.{value_more}
 use Rattle.mx_views.proofs.node_json.add_values.Goals as goal
 

@@ -1,6 +1,6 @@
 use Rattle.std.proofs.Common.{◌≡◌, ◌≤◌, ◌++◌, drop, length, string_bytes}
-use Rattle.mx_texts.specs.NodeTexts.{register_in}
-use Rattle.mx_texts.specs.Lines.{texts_from}
+use Rattle.mx_format.specs.NodeTexts.{register_in}
+use Rattle.mx_format.specs.Lines.{texts_from}
 use Rattle.mx_views.specs.NodeJson.{register_json, values_of}
 use Rattle.mx_views.proofs.node_json.add_values.Given as goal
 

@@ -1,6 +1,6 @@
 use Rattle.std.proofs.Common.{refl, sym, ◌∙◌}
 use Rattle.mx_journal.specs.Drafted.{with_write}
-use Rattle.mx_sections.specs.Sections.{redrafted}
+use Rattle.mx_trace.specs.Sections.{redrafted}
 use Rattle.mx_explorer.proofs.Ledgers.{ledger_unmoved, ledger_written}
 use Rattle.mx_explorer.proofs.ledger.Ledger.wrote.Goals as goal
 

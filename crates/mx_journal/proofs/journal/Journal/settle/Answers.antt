@@ -1,5 +1,5 @@
 use Rattle.std.proofs.Common.{ℕ, suc, ◌≡◌, ◌≤◌, ◌+◌, ◌∙◌, Err, refl, sym, ap, subst, arith}
-use Rattle.mx_journal.specs.declared.settling.SettleFault.TheVariants.{Gap}
+use Rattle.mx_journal.specs.declared.settlement.SettleFault.TheVariants.{Gap}
 use Rattle.mx_journal.specs.Bases.{BaseState}
 use Rattle.mx_journal.specs.Gapless.{first_missing}
 use Rattle.mx_journal.specs.Records.{Ascending, above}

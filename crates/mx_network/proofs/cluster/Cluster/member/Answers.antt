@@ -1,6 +1,6 @@
 use Rattle.mx_member.specs.Journals.{IsJournalOf}
 use Rattle.mx_member.specs.Member.{MemberState}
-use Rattle.mx_sections.specs.Trace.{ShowsInOrder, journal_of}
+use Rattle.mx_trace.specs.Trace.{ShowsInOrder, journal_of}
 use Rattle.mx_network.proofs.Finding.{found, if_found}
 use Rattle.mx_network.proofs.Headline.{of_sections, shows_in_order}
 use Rattle.mx_network.proofs.cluster.Cluster.member.Goals as goal

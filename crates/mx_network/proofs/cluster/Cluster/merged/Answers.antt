@@ -7,10 +7,10 @@ use Rattle.mx_member.specs.Journals.{IsJournalOf}
 use Rattle.mx_member.proofs.OfSections.{unsettled_of, whole_registers}
 use Rattle.mx_member.proofs.SectionLists.{journal_ascends}
 use Rattle.mx_member.proofs.SectionWrites.{covered_shows}
-use Rattle.mx_merge.specs.declared.merging.MergeFault.TheVariants.{Conflict}
+use Rattle.mx_merge.specs.declared.join.MergeFault.TheVariants.{Conflict}
 use Rattle.mx_network.specs.Kept.{IsKept}
 use Rattle.mx_network.specs.Merged.{IsAboveAll, IsBelowEach}
-use Rattle.mx_sections.specs.Trace.{journal_of, sections}
+use Rattle.mx_trace.specs.Trace.{journal_of, sections}
 use Rattle.mx_network.specs.Step.{ClusterState}
 use Rattle.mx_network.proofs.Finding.{none_at, some_at}
 use Rattle.mx_network.proofs.Merging.{least_more, least_same, mergeable, merged_more, merged_same, merged_whole, merged_within, no_conflict}

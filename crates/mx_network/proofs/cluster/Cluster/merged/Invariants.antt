@@ -2,7 +2,7 @@ use Rattle.std.proofs.Common.{suc, take}
 use Rattle.mx_journal.specs.Records.{Ascending}
 use Rattle.mx_member.specs.Journals.{IsJournalOf}
 use Rattle.mx_network.specs.Merged.{IsAboveAll, IsBelowEach}
-use Rattle.mx_sections.specs.Trace.{journal_of}
+use Rattle.mx_trace.specs.Trace.{journal_of}
 use Rattle.mx_network.proofs.cluster.Cluster.merged.Given as goal
 
 abbrev pub invariant-loop-node : goal.invariant-loop-node

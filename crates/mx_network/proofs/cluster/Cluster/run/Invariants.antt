@@ -1,5 +1,5 @@
 use Rattle.std.proofs.Common.{take}
-use Rattle.mx_sections.specs.Trace.{IsSerial, IsExclusive, IsNumbered}
+use Rattle.mx_trace.specs.Trace.{IsSerial, IsExclusive, IsNumbered}
 use Rattle.mx_network.specs.Step.{RunsTo}
 use Rattle.mx_network.proofs.cluster.Cluster.run.Given as goal
 

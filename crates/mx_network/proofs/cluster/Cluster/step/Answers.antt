@@ -1,7 +1,7 @@
 use Rattle.std.proofs.Common.{◌≡◌, ◌<◌, ◌∙◌, Err, List, Ok, [], ◌∷◌, ◌++◌, ap, arith, length, subst, sym}
 use Rattle.std.proofs.Math.ListN.{length-append}
-use Rattle.mx_sections.specs.declared.outcome.Entry.{Entry}
-use Rattle.mx_sections.specs.declared.outcome.Outcome.{Outcome}
+use Rattle.mx_trace.specs.declared.outcome.Entry.{Entry}
+use Rattle.mx_trace.specs.declared.outcome.Outcome.{Outcome}
 use Rattle.mx_network.specs.declared.faults.StepFault.TheVariants.{NoNode, NoParcel}
 use Rattle.mx_network.specs.Kept.{IsKept}
 use Rattle.mx_network.specs.Step.{ClusterState}
@@ -18,7 +18,7 @@ ends xs front x is = omega (arith, simp length-append at (ap length is))
 
 pub newest-requires : goal.newest-requires
 newest-requires g c =
-    let n = noted g.C.Exclusion.core c.args.self.now c.args.event c.happen.new.self c.in_default.ensures.ok in
+    let n = noted g.C.Exclusion.core c.args.self.now c.args.event c.apply.new.self c.in_default.ensures.ok in
     let entry : Entry = record { event = c.args.event; outcome = n.0 } in
     let ends_so = c.deref.ensures.value ∙ ap (λ (x : ClusterState g.row.C.Denot g.row.C-Msg.Denot). x.trace) c.self-2.view_is ∙ n.1 in
     ends c.deref.result.now c.args.self.now.trace entry ends_so
@@ -28,42 +28,42 @@ returns-clause-ok g c = c.in_default.ensures.ok
 
 pub returns-clause-outcome : goal.returns-clause-outcome
 returns-clause-outcome g c =
-    let n = noted g.C.Exclusion.core c.args.self.now c.args.event c.happen.new.self c.in_default.ensures.ok in
+    let n = noted g.C.Exclusion.core c.args.self.now c.args.event c.apply.new.self c.in_default.ensures.ok in
     let entry : Entry = record { event = c.args.event; outcome = n.0 } in
     let ends_so = c.deref.ensures.value ∙ ap (λ (x : ClusterState g.row.C.Denot g.row.C-Msg.Denot). x.trace) c.self-2.view_is ∙ n.1 in
     n.1 ∙ ap (λ (o : Outcome). c.args.self.now.trace ++ record { event = c.args.event; outcome = o } ∷ []) (sym (c.newest.ensures c.args.self.now.trace entry ends_so))
 
 pub returns-clause-no_node : goal.returns-clause-no_node
 returns-clause-no_node g c =
-    no_node g.C.Exclusion.core g.C.Exclusion.Good c.args.self.now c.happen.new.self c.args.event (Ok c.newest.result)
+    no_node g.C.Exclusion.core g.C.Exclusion.Good c.args.self.now c.apply.new.self c.args.event (Ok c.newest.result)
     (subst (λ (x : ClusterState g.row.C.Denot g.row.C-Msg.Denot). IsKept g.C.Exclusion.core g.C.Exclusion.Good x) c.self.view_is c.self.invariant.1)
     c.in_default.ensures.ok tt
 
 pub returns-in-Err-clause-no_node : goal.returns-in-Err-clause-no_node
 returns-in-Err-clause-no_node g c =
-    no_node g.C.Exclusion.core g.C.Exclusion.Good c.args.self.now c.happen.new.self c.args.event (Err c.in-Err.fault)
+    no_node g.C.Exclusion.core g.C.Exclusion.Good c.args.self.now c.apply.new.self c.args.event (Err c.in-Err.fault)
     (subst (λ (x : ClusterState g.row.C.Denot g.row.C-Msg.Denot). IsKept g.C.Exclusion.core g.C.Exclusion.Good x) c.self.view_is c.self.invariant.1)
     tt c.in-Err.ensures.fault
 
 pub returns-clause-no_parcel : goal.returns-clause-no_parcel
 returns-clause-no_parcel g c =
-    no_parcel g.C.Exclusion.core g.C.Exclusion.Good c.args.self.now c.happen.new.self c.args.event (Ok c.newest.result)
+    no_parcel g.C.Exclusion.core g.C.Exclusion.Good c.args.self.now c.apply.new.self c.args.event (Ok c.newest.result)
     (subst (λ (x : ClusterState g.row.C.Denot g.row.C-Msg.Denot). IsKept g.C.Exclusion.core g.C.Exclusion.Good x) c.self.view_is c.self.invariant.1)
     c.in_default.ensures.ok tt
 
 pub returns-in-Err-clause-no_parcel : goal.returns-in-Err-clause-no_parcel
 returns-in-Err-clause-no_parcel g c =
-    no_parcel g.C.Exclusion.core g.C.Exclusion.Good c.args.self.now c.happen.new.self c.args.event (Err c.in-Err.fault)
+    no_parcel g.C.Exclusion.core g.C.Exclusion.Good c.args.self.now c.apply.new.self c.args.event (Err c.in-Err.fault)
     (subst (λ (x : ClusterState g.row.C.Denot g.row.C-Msg.Denot). IsKept g.C.Exclusion.core g.C.Exclusion.Good x) c.self.view_is c.self.invariant.1)
     tt c.in-Err.ensures.fault
 
 pub returns-clause-refused : goal.returns-clause-refused
 returns-clause-refused g c =
-    refused_unchanged g.C.Exclusion.core g.met.C.Exclusion.phases c.args.self.now c.happen.new.self c.args.event (Ok c.newest.result) c.in_default.ensures.ok (returns-clause-outcome g c)
+    refused_unchanged g.C.Exclusion.core g.met.C.Exclusion.phases c.args.self.now c.apply.new.self c.args.event (Ok c.newest.result) c.in_default.ensures.ok (returns-clause-outcome g c)
 
 pub returns-clause-unsettled : goal.returns-clause-unsettled
 returns-clause-unsettled g c =
-    never_settled g.C.Exclusion.core g.C.Exclusion.Good c.args.self.now c.happen.new.self
+    never_settled g.C.Exclusion.core g.C.Exclusion.Good c.args.self.now c.apply.new.self
     (subst (λ (x : ClusterState g.row.C.Denot g.row.C-Msg.Denot). IsKept g.C.Exclusion.core g.C.Exclusion.Good x) c.self.view_is c.self.invariant.1)
     c.args.event (Ok c.newest.result) c.in_default.ensures.ok (returns-clause-outcome g c)
 
@@ -75,26 +75,26 @@ returns-in-Err-clause-err g c = c.in-Err.ensures.err
 
 pub returns-clause-serial : goal.returns-clause-serial
 returns-clause-serial g c =
-    (kept_by g.C.Exclusion.core g.C.Exclusion.IsShape g.C.Exclusion.Good g.met.C.Exclusion.phases g.met.C.Exclusion.laws c.args.self.now c.args.event c.happen.new.self c.happen.result c.happen.ensures
+    (kept_by g.C.Exclusion.core g.C.Exclusion.IsShape g.C.Exclusion.Good g.met.C.Exclusion.phases g.met.C.Exclusion.laws c.args.self.now c.args.event c.apply.new.self c.apply.result c.apply.ensures
     (subst (λ (x : ClusterState g.row.C.Denot g.row.C-Msg.Denot). IsKept g.C.Exclusion.core g.C.Exclusion.Good x) c.self.view_is c.self.invariant.1)).serial
 
 pub returns-clause-exclusive : goal.returns-clause-exclusive
-returns-clause-exclusive g c = exclusive c.happen.new.self.trace (kept_by g.C.Exclusion.core g.C.Exclusion.IsShape g.C.Exclusion.Good g.met.C.Exclusion.phases g.met.C.Exclusion.laws c.args.self.now c.args.event c.happen.new.self c.happen.result c.happen.ensures
+returns-clause-exclusive g c = exclusive c.apply.new.self.trace (kept_by g.C.Exclusion.core g.C.Exclusion.IsShape g.C.Exclusion.Good g.met.C.Exclusion.phases g.met.C.Exclusion.laws c.args.self.now c.args.event c.apply.new.self c.apply.result c.apply.ensures
     (subst (λ (x : ClusterState g.row.C.Denot g.row.C-Msg.Denot). IsKept g.C.Exclusion.core g.C.Exclusion.Good x) c.self.view_is c.self.invariant.1)).serial
 
 pub returns-clause-numbered : goal.returns-clause-numbered
-returns-clause-numbered g c = numbered c.happen.new.self.trace (kept_by g.C.Exclusion.core g.C.Exclusion.IsShape g.C.Exclusion.Good g.met.C.Exclusion.phases g.met.C.Exclusion.laws c.args.self.now c.args.event c.happen.new.self c.happen.result c.happen.ensures
+returns-clause-numbered g c = numbered c.apply.new.self.trace (kept_by g.C.Exclusion.core g.C.Exclusion.IsShape g.C.Exclusion.Good g.met.C.Exclusion.phases g.met.C.Exclusion.laws c.args.self.now c.args.event c.apply.new.self c.apply.result c.apply.ensures
     (subst (λ (x : ClusterState g.row.C.Denot g.row.C-Msg.Denot). IsKept g.C.Exclusion.core g.C.Exclusion.Good x) c.self.view_is c.self.invariant.1)).serial
 
 pub returns-in-Err-clause-serial : goal.returns-in-Err-clause-serial
 returns-in-Err-clause-serial g c =
-    (kept_by g.C.Exclusion.core g.C.Exclusion.IsShape g.C.Exclusion.Good g.met.C.Exclusion.phases g.met.C.Exclusion.laws c.args.self.now c.args.event c.happen.new.self c.happen.result c.happen.ensures
+    (kept_by g.C.Exclusion.core g.C.Exclusion.IsShape g.C.Exclusion.Good g.met.C.Exclusion.phases g.met.C.Exclusion.laws c.args.self.now c.args.event c.apply.new.self c.apply.result c.apply.ensures
     (subst (λ (x : ClusterState g.row.C.Denot g.row.C-Msg.Denot). IsKept g.C.Exclusion.core g.C.Exclusion.Good x) c.self.view_is c.self.invariant.1)).serial
 
 pub returns-in-Err-clause-exclusive : goal.returns-in-Err-clause-exclusive
-returns-in-Err-clause-exclusive g c = exclusive c.happen.new.self.trace (kept_by g.C.Exclusion.core g.C.Exclusion.IsShape g.C.Exclusion.Good g.met.C.Exclusion.phases g.met.C.Exclusion.laws c.args.self.now c.args.event c.happen.new.self c.happen.result c.happen.ensures
+returns-in-Err-clause-exclusive g c = exclusive c.apply.new.self.trace (kept_by g.C.Exclusion.core g.C.Exclusion.IsShape g.C.Exclusion.Good g.met.C.Exclusion.phases g.met.C.Exclusion.laws c.args.self.now c.args.event c.apply.new.self c.apply.result c.apply.ensures
     (subst (λ (x : ClusterState g.row.C.Denot g.row.C-Msg.Denot). IsKept g.C.Exclusion.core g.C.Exclusion.Good x) c.self.view_is c.self.invariant.1)).serial
 
 pub returns-in-Err-clause-numbered : goal.returns-in-Err-clause-numbered
-returns-in-Err-clause-numbered g c = numbered c.happen.new.self.trace (kept_by g.C.Exclusion.core g.C.Exclusion.IsShape g.C.Exclusion.Good g.met.C.Exclusion.phases g.met.C.Exclusion.laws c.args.self.now c.args.event c.happen.new.self c.happen.result c.happen.ensures
+returns-in-Err-clause-numbered g c = numbered c.apply.new.self.trace (kept_by g.C.Exclusion.core g.C.Exclusion.IsShape g.C.Exclusion.Good g.met.C.Exclusion.phases g.met.C.Exclusion.laws c.args.self.now c.args.event c.apply.new.self c.apply.result c.apply.ensures
     (subst (λ (x : ClusterState g.row.C.Denot g.row.C-Msg.Denot). IsKept g.C.Exclusion.core g.C.Exclusion.Good x) c.self.view_is c.self.invariant.1)).serial

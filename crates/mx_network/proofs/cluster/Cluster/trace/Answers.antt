@@ -1,6 +1,6 @@
 use Rattle.std.proofs.Common.{sym, subst}
-use Rattle.mx_sections.specs.Serial.{ReadSerially}
-use Rattle.mx_sections.specs.Trace.{IsSerial, sections, IsExclusive, IsNumbered}
+use Rattle.mx_trace.specs.Serial.{ReadSerially}
+use Rattle.mx_trace.specs.Trace.{IsSerial, sections, IsExclusive, IsNumbered}
 use Rattle.mx_network.specs.Step.{AreUnsettled}
 use Rattle.mx_network.proofs.Headline.{agreed, exclusive, inside_is, journal_ordered, journals_of, nobody_is, numbered, one_alone, takeable}
 use Rattle.mx_network.proofs.cluster.Cluster.trace.Goals as goal

@@ -1,0 +1,68 @@
+//! `replay`: the plan is read, then the events, and they happen one after another.
+
+ghost use Rattle.std.specs.Prelude.{◌≡◌, length, IfOk};
+ghost use Rattle.mx_cli.specs.Words.{names_of};
+ghost use Rattle.mx_cli.specs.Words as wants;
+ghost use Rattle.mx_cli.specs.Outputs.{refused_after};
+ghost use Rattle.mx_commands.specs.Jobs.{report_of_events};
+ghost use Rattle.mx_commands.specs.Jobs as job;
+ghost use Rattle.mx_commands.specs.Ran.{Ran, RanOf};
+ghost use Rattle.mx_commands.specs.Runs.{AllNameNodes};
+
+use crate::by_shape;
+use crate::runs::run;
+use mx_cli::{Names, Stop, fetch_both};
+use mx_io::{Output, Source};
+use mx_network::Event;
+use mx_plan::{Plan, read_events};
+use std::alloc::Global;
+
+/// Reads the plan, then the events, and replays them. Returns the status.
+pub(crate) fn replay<S: Source, O: Output>(
+    alloc: Global,
+    names: &Names<'_>,
+    source: &mut S,
+    out: &mut O,
+) -> Result<u8, Stop>
+    ensures ran { RanOf (O.takes_all out.old) (O.written out.old) (O.written out.new)
+        (S.told source.old) (wants.replay (names_of names.now)) result }
+    ensures refused { O.has_refused out.new ≡ refused_after result (O.has_refused out.old) }
+    ensures zero { IfOk result (λ status. status ≡ 0) }
+    ensures stays { O.takes_all out.new ≡ O.takes_all out.old }
+{
+    let both = fetch_both(alloc, source, names)?;
+    replay_events(alloc, &both.plan, both.text.as_slice(), out)
+}
+
+/// Reads the events and replays them, by the plan's algorithm.
+fn replay_events<O: Output>(
+    alloc: Global,
+    plan: &Plan,
+    text: &[u8],
+    out: &mut O,
+) -> Result<u8, Stop>
+    ensures ran { Ran (O.takes_all out.old) (O.written out.old) (O.written out.new)
+        (report_of_events text.now plan.now) result }
+    ensures refused { O.has_refused out.new ≡ refused_after result (O.has_refused out.old) }
+    ensures zero { IfOk result (λ status. status ≡ 0) }
+    ensures stays { O.takes_all out.new ≡ O.takes_all out.old }
+{
+    let events = read_events(alloc, text, plan)?;
+    run_by(alloc, plan, events.as_slice(), out)
+}
+
+/// Runs events of a plan, by its algorithm.
+fn run_by<O: Output>(alloc: Global, plan: &Plan, events: &[Event], out: &mut O) -> Result<u8, Stop>
+    requires { AllNameNodes (length plan.now.nodes) events.now }
+    ensures ran { Ran (O.takes_all out.old) (O.written out.old) (O.written out.new)
+        (job.run_by plan.now plan.now.shape events.now) result }
+    ensures refused { O.has_refused out.new ≡ refused_after result (O.has_refused out.old) }
+    ensures zero { IfOk result (λ status. status ≡ 0) }
+    ensures stays { O.takes_all out.new ≡ O.takes_all out.old }
+{
+    by_shape!(
+        alloc,
+        plan,
+        |cluster| run(alloc, plan, cluster, events, out)
+    )
+}

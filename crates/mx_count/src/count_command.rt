@@ -1,0 +1,110 @@
+//! `count`: from words, named bytes and two outputs to a status.
+
+ghost use Rattle.std.specs.Prelude.{◌≡◌, IsSome, IfSome, IfOk};
+ghost use Rattle.mx_cli.specs.Words.{names_of, texts_of};
+ghost use Rattle.mx_cli.specs.Told.{Answers, seen};
+ghost use Rattle.mx_cli.specs.Closed.{IsRunStatus, PassesOn};
+ghost use Rattle.mx_count.specs.CountWords.{request_asked, request_of, count_line};
+ghost use Rattle.mx_count.specs.CountWords as wants;
+ghost use Rattle.mx_count.specs.Printed.{PrintsCounts};
+
+use crate::printed_counts::{count_listed, count_schedule};
+use crate::words::{Request, asked};
+use mx_cli::{Exploration, Named, Names, Stop, close, fetch_named, fetch_plan, naming, refuse};
+use mx_io::{Output, Source};
+use std::alloc::Global;
+
+/// Runs the words of a command line of which the first is `count`, or `explore` with `--count`,
+/// without the program's name, and returns the status: 0 where all went well, or help was asked
+/// for, 1 where the plan, its events, a file or an output is at fault, 2 where the words are not
+/// those of the command, 5 where memory ran out.
+pub fn count<S: Source, O: Output, E: Output>(
+    alloc: Global,
+    words: &[&str],
+    source: &mut S,
+    out: &mut O,
+    err: &mut E,
+) -> u8
+    ensures printed { IfSome (request_asked (texts_of words.entry.now)) (λ request.
+        result ≡ 0
+        → PrintsCounts (S.told source.old) request (O.written out.old) (O.written out.new)) }
+    ensures passed { IsSome (request_asked (texts_of words.entry.now))
+        → PassesOn (E.written err.old) (E.written err.new) (O.keeps_back out.new) result }
+    ensures status { IsSome (request_asked (texts_of words.entry.now)) → IsRunStatus result }
+    ensures answers { Answers count_line (texts_of words.entry.now) (O.takes_all out.old)
+        (seen O.Output E.Output out.old err.old) (seen O.Output E.Output out.new err.new) result }
+{
+    match asked(alloc, words) {
+        Ok(Some(request)) => count_and_close(alloc, &request, source, out, err),
+        Ok(None) => 2,
+        Err(e) => refuse(alloc, &e, out, err),
+    }
+}
+
+/// Counts what is asked for, and closes the run. Returns the status.
+fn count_and_close<S: Source, O: Output, E: Output>(
+    alloc: Global,
+    request: &Request<'_>,
+    source: &mut S,
+    out: &mut O,
+    err: &mut E,
+) -> u8
+    ensures printed { result ≡ 0 → PrintsCounts (S.told source.old) (request_of request.now)
+        (O.written out.old) (O.written out.new) }
+    ensures passed { PassesOn (E.written err.old) (E.written err.new) (O.keeps_back out.new)
+        result }
+    ensures status { IsRunStatus result }
+{
+    let ended = count_request(alloc, request, source, out);
+    close(alloc, ended, &request.names(), out, err)
+}
+
+/// Counts what is asked for. Returns the status.
+fn count_request<S: Source, O: Output>(
+    alloc: Global,
+    request: &Request<'_>,
+    source: &mut S,
+    out: &mut O,
+) -> Result<u8, Stop>
+    ensures printed { IfOk result (λ _. PrintsCounts (S.told source.old) (request_of request.now)
+        (O.written out.old) (O.written out.new)) }
+    ensures zero { IfOk result (λ status. status ≡ 0) }
+{
+    match request {
+        Request::Given(names) => count_given(alloc, names, source, out),
+        Request::Drawn(exploration) => count_drawn(alloc, exploration, source, out),
+    }
+}
+
+/// Reads a plan and its events, as `replay` does, and prints what is counted of them.
+fn count_given<S: Source, O: Output>(
+    alloc: Global,
+    names: &Names<'_>,
+    source: &mut S,
+    out: &mut O,
+) -> Result<u8, Stop>
+    ensures printed { IfOk result (λ _.
+        PrintsCounts (S.told source.old) (wants.given (names_of names.now))
+        (O.written out.old) (O.written out.new)) }
+    ensures zero { IfOk result (λ status. status ≡ 0) }
+{
+    let both = fetch_named(alloc, source, names)?;
+    let ended = count_listed(alloc, &both.plan, both.text.as_slice(), out);
+    naming(ended, Named::Events)
+}
+
+/// Reads a plan, draws a schedule of this many steps, and prints what is counted of it.
+fn count_drawn<S: Source, O: Output>(
+    alloc: Global,
+    exploration: &Exploration<'_>,
+    source: &mut S,
+    out: &mut O,
+) -> Result<u8, Stop>
+    ensures printed { IfOk result (λ _. PrintsCounts (S.told source.old)
+        (wants.drawn exploration.now.plan.now exploration.now.seed exploration.now.steps)
+        (O.written out.old) (O.written out.new)) }
+    ensures zero { IfOk result (λ status. status ≡ 0) }
+{
+    let plan = fetch_plan(alloc, source, exploration.plan)?;
+    count_schedule(alloc, &plan, exploration.seed, exploration.steps, out)
+}

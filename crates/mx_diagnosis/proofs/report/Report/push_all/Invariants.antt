@@ -1,5 +1,0 @@
-use Rattle.mx_diagnosis.specs.Reports.{IsLonger}
-use Rattle.mx_diagnosis.proofs.report.Report.push_all.Given as goal
-
-abbrev pub invariant-loop-line : goal.invariant-loop-line
-invariant-loop-line l = IsLonger l.initial.self l.self

@@ -1,0 +1,84 @@
+-- The lines of a report, and its text.
+use Rattle.std.specs.Prelude.{◌≡◌, ◌==◌, ◌||◌, ◌++◌, ◌⊎◌, ℕ, Bool, true, false, List, [], ◌∷◌, Option, IfSome, codes, if◌then◌else◌}
+use Rattle.mx_plan.specs.Text.{Text}
+use Rattle.mx_diagnostics.specs.Shown.{ArePrintable, IsPrintable, shown}
+
+-- ---- lines
+
+-- one line of a report: a fault or a warning
+pub record Told : Type 0 where
+  pub is_fault : Bool
+  pub text : Text
+
+-- whether a text has a colon
+abbrev pub has_colon : Text → Bool
+has_colon [] = false
+has_colon (b ∷ bs) = (b == 58) || has_colon bs
+
+-- printable text with a colon
+pub record IsLine (text : Text) : Type 0 where
+  pub printable : ArePrintable text
+  pub colon : has_colon text ≡ true
+
+-- each line is such a text
+abbrev pub AreLines : List Told → Type 0
+AreLines [] = Unit {0}
+AreLines (t ∷ ts) = IsLine t.text × AreLines ts
+
+-- whether a line is of a fault
+abbrev pub has_fault : List Told → Bool
+has_fault [] = false
+has_fault (t ∷ ts) = t.is_fault || has_fault ts
+
+-- the line of a file, of a message whose text is known or not
+pub record IsLineOf (is_fault : Bool) (file : Text) (message : Option Text) (t : Told) : Type 0 where
+  pub kind : t.is_fault ≡ is_fault
+  pub text : IfSome message (λ said. t.text ≡ shown file ++ codes ":" ++ shown said)
+
+-- ---- reports
+
+-- whether the command found no fault, and the lines of the report
+pub record Reported : Type 0 where
+  pub is_well : Bool
+  pub lines : List Told
+
+-- the lines of a report: none is a fault if the command found none
+pub record IsReport (is_well has : Bool) (lines : List Told) : Type 0 where
+  pub each : AreLines lines
+  pub fault : has ≡ has_fault lines
+  pub well : is_well ≡ true → has ≡ false
+
+-- the earlier lines stay, and lines are added after them
+pub record IsLonger (old new : Reported) : Type 0 where
+  pub added : List Told
+  pub each : AreLines added
+  pub lines : new.lines ≡ old.lines ++ added
+  pub is_well : new.is_well ≡ old.is_well
+
+-- ---- texts
+
+abbrev pub nothing_at_fault : Text
+nothing_at_fault = codes "nothing is at fault"
+
+-- each line, and a line feed after it
+abbrev pub lines_text : List Told → Text
+lines_text [] = []
+lines_text (t ∷ ts) = t.text ++ 10 ∷ lines_text ts
+
+-- a further line says that nothing is at fault, if no line is of a fault
+abbrev pub report_text : List Told → Text
+report_text lines = lines_text lines ++ (if has_fault lines then [] else nothing_at_fault ++ 10 ∷ [])
+
+-- the last complete line of a text that follows this line and the start of another
+abbrev pub line_after : Text → Text → Text → Text
+line_after last begun [] = last
+line_after last begun (b ∷ bs) = if b == 10 then line_after begun [] bs else line_after last (begun ++ b ∷ []) bs
+
+-- the last line of a text, or nothing
+unfoldable pub last_line : Text → Text
+last_line text = line_after [] [] text
+
+-- printable lines: each byte is printable or a line feed
+abbrev pub AreShown : Text → Type 0
+AreShown [] = Unit {0}
+AreShown (b ∷ bs) = ((b ≡ 10) ⊎ IsPrintable b) × AreShown bs

@@ -1,0 +1,159 @@
+//! The report on all files, line by line.
+
+ghost use Rattle.std.specs.Prelude.{◌≡◌, ◌↔◌, ◌||◌, ◌&&◌, [], ◌++◌, OnOk, IfOk, codes, false, not, string_bytes};
+ghost use Rattle.mx_diagnostics.specs.Reports.{AreLines, AreShown, IsLonger, has_fault, last_line, lines_text, nothing_at_fault, report_text};
+
+use crate::file_report::FileReport;
+use crate::report_line::ReportLine;
+use std::alloc::{AllocError, Global};
+use std::fmt::Display;
+use std::marker::Model;
+
+/// The lines of faults and of warnings. Where the files are well it has warnings alone.
+#[derive(Drop)]
+pub struct Report {
+    alloc: Global,
+    is_well: bool,
+    lines: Vec<ReportLine>,
+    has_fault: bool,
+}
+
+impl Model for Report {
+    ghost use Rattle.mx_diagnostics.specs.Reports.{IsReport, Reported};
+
+    ghost Value = { Reported };
+
+    ghost view = { λ r. record { is_well = r.is_well; lines = r.lines.items } };
+
+    ghost invariant = { λ r. IsReport r.is_well r.has_fault r.lines.items };
+}
+
+impl Report {
+    /// A report without lines. `is_well` says that the command on these files finds no fault.
+    pub fn new(alloc: Global, is_well: bool) -> Report
+        ensures well { result.is_well ≡ is_well }
+        ensures empty { result.lines ≡ [] }
+    {
+        Report {
+            alloc,
+            is_well,
+            lines: Vec::new(alloc),
+            has_fault: false,
+        }
+    }
+
+    /// The allocator of its lines.
+    pub fn alloc(&self) -> Global {
+        self.alloc
+    }
+
+    /// Adds a fault of a file as a whole. The message begins with a space.
+    pub fn add_fault<D: Display + Drop>(&mut self, file: &str, message: D) -> Result<(), AllocError>
+        ensures longer { IsLonger self.old self.new }
+        ensures fault { OnOk result (has_fault self.new.lines
+            ≡ (has_fault self.old.lines || not self.old.is_well)) }
+    {
+        let line = ReportLine::new(self.alloc, true, file, message)?;
+        self.push(line)
+    }
+
+    /// Adds the lines of a file.
+    pub fn add(&mut self, file: FileReport<'_>) -> Result<(), AllocError>
+        ensures longer { IsLonger self.old self.new }
+    {
+        let lines = file.into_lines()?;
+        self.push_all(lines)
+    }
+
+    fn push_all(&mut self, lines: Vec<ReportLine>) -> Result<(), AllocError>
+        ensures { IsLonger self.old self.new }
+    {
+        for line in lines {
+            self.push(line)?;
+        }
+        Ok(())
+    }
+
+    /// Adds a line, unless it is of a fault and the files are well.
+    fn push(&mut self, line: ReportLine) -> Result<(), AllocError>
+        ensures longer { IsLonger self.old self.new }
+        ensures fault { OnOk result (has_fault self.new.lines
+            ≡ (has_fault self.old.lines || (line.is_fault && not self.old.is_well))) }
+    {
+        if both(self.is_well, line.is_fault()) {
+            return Ok(());
+        }
+        let has_fault = either(self.has_fault, line.is_fault());
+        self.lines.push(line)?;
+        self.has_fault = has_fault;
+        Ok(())
+    }
+
+    /// Ends the lines. Where the files are not well and no line is of a fault, one says so.
+    pub fn end(&mut self, file: &str) -> Result<(), AllocError>
+        ensures longer { IsLonger self.old self.new }
+        ensures well { OnOk result (has_fault self.new.lines ≡ not self.old.is_well) }
+    {
+        if self.is_well || self.has_fault {
+            return Ok(());
+        }
+        self.add_fault(
+            file,
+            " the fault that standard error names has no place here",
+        )
+    }
+
+    /// All lines, in order; the last one says `nothing is at fault` if no line is of a fault.
+    pub fn text(&self) -> Result<String, AllocError>
+        ensures value { IfOk result (λ text. string_bytes text ≡ report_text self.now.lines) }
+        ensures printable { IfOk result (λ text. AreShown (string_bytes text)) }
+        ensures last { IfOk result (λ text. (last_line (string_bytes text) ≡ nothing_at_fault)
+            ↔ (has_fault self.now.lines ≡ false)) }
+    {
+        let text = self.written()?;
+        Ok(text)
+    }
+
+    fn written(&self) -> Result<String, AllocError>
+        ensures value { IfOk result (λ text. string_bytes text ≡ report_text self.now.lines) }
+        ensures lines { IfOk result (λ _. AreLines self.now.lines) }
+    {
+        let mut text = String::new(self.alloc);
+        add_lines(self.lines.as_slice(), &mut text)?;
+        if !self.has_fault {
+            text.push_str("nothing is at fault\n")?;
+        }
+        Ok(text)
+    }
+}
+
+fn both(a: bool, b: bool) -> bool
+    ensures { result ≡ (a && b) }
+{
+    a && b
+}
+
+fn either(a: bool, b: bool) -> bool
+    ensures { result ≡ (a || b) }
+{
+    a || b
+}
+
+/// Appends lines.
+fn add_lines(lines: &[ReportLine], text: &mut String) -> Result<(), AllocError>
+    ensures { OnOk result (string_bytes text.new ≡ string_bytes text.old ++ lines_text lines.now) }
+{
+    for line in lines {
+        add_line(line, text)?;
+    }
+    Ok(())
+}
+
+/// Appends a line, and a line feed.
+fn add_line(line: &ReportLine, text: &mut String) -> Result<(), AllocError>
+    ensures { OnOk result (string_bytes text.new
+        ≡ (string_bytes text.old ++ line.now.text) ++ codes "\n") }
+{
+    text.push_str(line.as_str())?;
+    text.push_str("\n")
+}

@@ -1,0 +1,48 @@
+//! Texts that others wrote, shown without control characters.
+
+ghost use Rattle.std.specs.Prelude.{◌≡◌, ◌++◌, OnOk, codes, false, string_bytes};
+ghost use Rattle.std.specs.Fmt.{digits};
+ghost use Rattle.mx_diagnostics.specs.Shown.{escaped, shown, shown_char};
+
+use std::alloc::AllocError;
+
+/// Appends a text as it is, but for its control characters, which are escaped: as `\0`, `\t`, `\n`
+/// or `\r`, else by their number, as `\u{1b}`.
+pub(crate) fn add_shown(raw: &str, text: &mut String) -> Result<(), AllocError>
+    ensures { OnOk result (string_bytes text.new ≡ string_bytes text.old ++ shown raw.now) }
+{
+    for character in raw.chars() {
+        add_character(character, text)?;
+    }
+    Ok(())
+}
+
+fn add_character(character: char, text: &mut String) -> Result<(), AllocError>
+    ensures { OnOk result (string_bytes text.new ≡ string_bytes text.old ++ shown_char character) }
+{
+    if character.is_control() {
+        add_escaped(character, text)
+    } else {
+        text.push(character)
+    }
+}
+
+fn add_escaped(control: char, text: &mut String) -> Result<(), AllocError>
+    ensures { OnOk result (string_bytes text.new ≡ string_bytes text.old ++ escaped control) }
+{
+    match control {
+        '\0' => text.push_str("\\0"),
+        '\t' => text.push_str("\\t"),
+        '\n' => text.push_str("\\n"),
+        '\r' => text.push_str("\\r"),
+        _ => add_number(control as u32, text),
+    }
+}
+
+/// Appends the number of a character.
+fn add_number(number: u32, text: &mut String) -> Result<(), AllocError>
+    ensures { OnOk result (string_bytes text.new
+        ≡ string_bytes text.old ++ (codes "\\u{" ++ digits 16 false number ++ codes "}")) }
+{
+    write!(text, "\\u{{{number:x}}}")
+}

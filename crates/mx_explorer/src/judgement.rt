@@ -1,0 +1,30 @@
+//! The verdict of a trace, in one pass.
+
+ghost use Rattle.std.specs.Prelude.{◌≡◌, ◌↔◌, ℕ};
+ghost use Rattle.mx_trace.specs.Trace.{IsSerial};
+ghost use Rattle.mx_explorer.specs.Verdict.{IsSoundTrace, IsFirstBroken};
+
+use crate::ledger::Ledger;
+use crate::verdict::{Clause, Verdict};
+use mx_trace::Entry;
+
+/// Judges a trace, whoever made it. Entries and leavings have to alternate, each leaving by the
+/// node and with the number of the entry before it. The n-th section entered has to bear n. A value
+/// has to be read by the node inside, and has to be what the sections before it leave, followed by
+/// the node's own writes since it entered or last woke up. The node of an item is that of its
+/// event; of a receipt only the number is looked at. A write of a node that is not inside is passed
+/// over. No memory is taken; the trace is gone through once.
+pub fn judge(trace: &[Entry]) -> Verdict
+    ensures sound { (result ≡ Verdict.Sound) ↔ IsSoundTrace trace.now }
+    ensures broken { (k : ℕ) (c : Clause)
+        → ((result ≡ Verdict.Broken k c) ↔ IsFirstBroken trace.now k c) }
+    ensures serial { IsSerial trace.now → result ≡ Verdict.Sound }
+{
+    let mut ledger = Ledger::new();
+    for (index, entry) in trace.iter().enumerate() {
+        if let Some(clause) = ledger.take(entry) {
+            return Verdict::Broken(index as u64, clause);
+        }
+    }
+    Verdict::Sound
+}

@@ -1,0 +1,117 @@
+//! Schedules drawn from a seed.
+
+ghost use Rattle.std.specs.Prelude.{◌≡◌, ◌<◌, ◌≤◌, ◌%◌, IfOk, length, vec_len};
+ghost use Rattle.mx_stamps.specs.Lists.{IsIn};
+ghost use Rattle.mx_explorer.specs.Drawn.{IsDrawn, after_drawn, after_words, arguments, drawn, drawn_list, event_by, word};
+ghost use Rattle.mx_explorer.specs.Weather.{generator_of};
+
+use mx_plan::Plan;
+use mx_stamps::{MAX_NODES, NodeId};
+use mx_trace::Event;
+use rand_core::SeedableRng;
+use rand_core::utils::NextWord;
+use rand_pcg::Pcg32;
+use std::alloc::{AllocError, Global};
+
+/// A drawn section to settle up to is below this.
+const SETTLED: u8 = 17;
+
+/// A drawn schedule of this many steps, over the nodes and registers of a plan. The generator is
+/// `Pcg32` by `seed_from_u64`. Each step takes a word for the kind of the event and one for each of
+/// its arguments. The word of a delivery is not yet the number of a parcel: see `place`. Its only
+/// fault is that memory runs out.
+pub fn schedule(alloc: Global, seed: u64, steps: u64, plan: &Plan) -> Result<Vec<Event>, AllocError>
+    ensures value { IfOk result (λ v. v.items ≡ drawn_list steps (length plan.now.nodes)
+        (length plan.now.registers) (generator_of seed)) }
+    ensures count { IfOk result (λ v. vec_len v ≡ steps) }
+    ensures named { IfOk result (λ v. (e : Event) → IsIn e v.items
+        → IsDrawn (length plan.now.nodes) (length plan.now.registers) e) }
+{
+    schedule_over(alloc, seed, steps, plan.nodes(), plan.registers())
+}
+
+/// A drawn schedule over this many nodes and registers.
+fn schedule_over(
+    alloc: Global,
+    seed: u64,
+    steps: u64,
+    nodes: u8,
+    registers: u8,
+) -> Result<Vec<Event>, AllocError>
+    requires nodes { (0 < nodes) × (nodes ≤ MAX_NODES) }
+    requires registers { 0 < registers }
+    ensures value { IfOk result (λ v. v.items
+        ≡ drawn_list steps nodes registers (generator_of seed)) }
+    ensures count { IfOk result (λ v. vec_len v ≡ steps) }
+    ensures named { IfOk result (λ v. (e : Event) → IsIn e v.items → IsDrawn nodes registers e) }
+{
+    let mut words = Pcg32::seed_from_u64(seed);
+    let mut events = Vec::new(alloc);
+    for _ in 0..steps {
+        events.push(draw(&mut words, nodes, registers))?;
+    }
+    Ok(events)
+}
+
+/// The next event.
+fn draw(words: &mut Pcg32, nodes: u8, registers: u8) -> Event
+    requires nodes { (0 < nodes) × (nodes ≤ MAX_NODES) }
+    requires registers { 0 < registers }
+    ensures value { result ≡ drawn nodes registers words.old }
+    ensures next { words.new ≡ after_drawn result words.old }
+{
+    let number = words.next_word() % 16;
+    draw_by(number, words, nodes, registers)
+}
+
+/// The event that a number below 16 means. Deliveries are the most frequent.
+#[tactic(auto, using(crate::proofs::Schedules::leaves, crate::proofs::Schedules::delivers, crate::proofs::Schedules::cancels))]
+fn draw_by(number: u32, words: &mut Pcg32, nodes: u8, registers: u8) -> Event
+    requires nodes { (0 < nodes) × (nodes ≤ MAX_NODES) }
+    requires registers { 0 < registers }
+    ensures value { result ≡ event_by number nodes registers words.old }
+    ensures next { words.new ≡ after_words (arguments result) words.old }
+{
+    match number {
+        0 | 1 => Event::Ask(draw_node(words, nodes)),
+        2 | 3 => Event::Enter(draw_node(words, nodes)),
+        4 => {
+            let node = draw_node(words, nodes);
+            Event::Read(node, draw_below(words, registers))
+        }
+        5 => {
+            let node = draw_node(words, nodes);
+            let register = draw_below(words, registers);
+            Event::Write(node, register, u64::from(words.next_word()))
+        }
+        6 | 7 => Event::Leave(draw_node(words, nodes)),
+        8 => Event::Tick(draw_node(words, nodes)),
+        9 => {
+            let node = draw_node(words, nodes);
+            Event::Want(node, draw_node(words, nodes))
+        }
+        10 => Event::Restart(draw_node(words, nodes)),
+        11..=13 => Event::Deliver(u64::from(words.next_word())),
+        14 => {
+            let node = draw_node(words, nodes);
+            Event::Settle(node, u64::from(draw_below(words, SETTLED)))
+        }
+        _ => Event::Cancel(draw_node(words, nodes)),
+    }
+}
+
+fn draw_node(words: &mut Pcg32, nodes: u8) -> NodeId
+    requires nodes { (0 < nodes) × (nodes ≤ MAX_NODES) }
+    ensures value { result ≡ word words.old % nodes }
+    ensures next { words.new ≡ after_words 1 words.old }
+{
+    NodeId::of(draw_below(words, nodes)).unwrap()
+}
+
+fn draw_below(words: &mut Pcg32, count: u8) -> u8
+    requires { 0 < count }
+    ensures value { result ≡ word words.old % count }
+    ensures next { words.new ≡ after_words 1 words.old }
+{
+    (words.next_word() % u32::from(count)) as u8
+}

@@ -1,0 +1,50 @@
+-- The lines of parcels.
+use Rattle.std.specs.Prelude.{ℕ, List, ◌++◌, codes, decimal}
+use Rattle.mx_journal.specs.declared.ranges.Range.{Range}
+use Rattle.mx_journal.specs.declared.records.Record.{Record}
+use Rattle.mx_journal.specs.Bases.{BaseState}
+use Rattle.mx_member.specs.declared.parcel.Parcel.{Parcel}
+use Rattle.mx_member.specs.declared.parcel.Parcel.TheVariants.{Guard, Want, Base, Records}
+use Rattle.mx_plan.specs.Text.{Text, line_feed}
+use Rattle.mx_plan.specs.Fields.{Fields}
+use Rattle.mx_format.specs.EventTexts.{name_of}
+use Rattle.mx_format.specs.Lines.{each_text, texts_from}
+
+abbrev pub range_text : Range → Text
+range_text range = codes " " ++ decimal range.first ++ codes ".." ++ decimal range.last
+
+-- a record, by its number alone
+abbrev pub record_text : Record → Text
+record_text entry = codes " " ++ decimal entry.number
+
+abbrev pub want_text : List Range → Text
+want_text ranges = codes "want" ++ each_text range_text ranges
+
+abbrev pub records_text : List Record → Text
+records_text records = codes "records" ++ each_text record_text records
+
+-- a base, by the number of its last section alone
+abbrev pub base_text : BaseState → Text
+base_text base = codes "base " ++ decimal base.upto
+
+-- the k-th parcel goes from one node to another
+abbrev pub route_text : Fields → ℕ → ℕ → ℕ → Text
+route_text p k from to =
+    codes "#" ++ decimal k ++ codes " " ++ name_of p from ++ codes ">" ++ name_of p to
+
+module _ {M : Type 0} (letter_text : Fields → M → Text) (p : Fields) where
+  abbrev pub parcel_text : Parcel M → Text
+  parcel_text (Guard letter) = letter_text p letter
+  parcel_text (Want ranges) = want_text ranges.items
+  parcel_text (Base base) = base_text base
+  parcel_text (Records records) = records_text records.items
+
+  -- the line of the k-th parcel
+  abbrev pub parcel_line : ℕ → ℕ × ℕ × Parcel M → Text
+  parcel_line k parcel =
+      codes "  " ++ route_text p k parcel.0 parcel.1 ++ codes " " ++ parcel_text parcel.2
+      ++ line_feed
+
+  -- the lines of parcels, the first of which is the k-th
+  abbrev pub parcel_lines : ℕ → List (ℕ × ℕ × Parcel M) → Text
+  parcel_lines = texts_from parcel_line

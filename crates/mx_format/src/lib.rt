@@ -1,0 +1,24 @@
+//! The printed texts of plans, events, parcels and nodes, each with the bytes that it has.
+#![tactic(auto)]
+
+mod events;
+mod facts;
+mod letters;
+mod nodes;
+mod parcels;
+mod parts;
+mod peers;
+mod plan_lines;
+mod plans;
+mod standings;
+mod words;
+
+pub use events::{ArgumentText, EventLine, EventText, OutcomeText, name_of, register_name_of};
+pub use facts::add_facts_line;
+pub use letters::Letter;
+pub use nodes::add_member_line;
+pub use parcels::{add_parcel, add_parcel_line};
+pub use parts::{LetterParts, Numbers, Style, Subject};
+pub use peers::add_asks;
+pub use plan_lines::ExploredLine;
+pub use plans::add_plan;

@@ -1,0 +1,104 @@
+//! The parts of a letter, by which its text, its JSON, its counts and its arrows go.
+
+ghost use Rattle.std.specs.Prelude.{Some};
+ghost use Rattle.mx_format.specs.Parts.{numbers_of, subject_of};
+ghost use Rattle.mx_format.specs.LetterTexts.{numbers_text, said_text, subject_text};
+
+use crate::events::name_of;
+use mx_plan::Plan;
+use mx_stamps::Stamp;
+use std::fmt;
+
+/// What a letter is about: the request of a stamp, or a number of its sender, by its name.
+#[derive(Clone, Copy, Debug, PartialEq, Eq)]
+pub enum Subject {
+    Stamp(Stamp),
+    Number(&'static str, u64),
+}
+
+/// The further numbers of a letter, each by its name.
+#[derive(Clone, Copy, Debug, PartialEq, Eq)]
+pub enum Numbers {
+    None,
+    One(&'static str, u64),
+    Two(&'static str, u64, &'static str, u64),
+}
+
+/// How a letter is drawn: as a request, as what grants one, or as all others.
+#[derive(Clone, Copy, Debug, PartialEq, Eq)]
+pub enum Style {
+    Request,
+    Grant,
+    Other,
+}
+
+/// The parts of a letter.
+#[derive(Clone, Copy, Debug, PartialEq, Eq)]
+pub struct LetterParts {
+    /// The word that its text begins with, and under which it is counted.
+    pub word: &'static str,
+    pub subject: Subject,
+    pub numbers: Numbers,
+    pub style: Style,
+}
+
+/// A subject, without the name of a number.
+#[derive(Clone, Copy)]
+struct SubjectText<'a> {
+    plan: &'a Plan,
+    subject: &'a Subject,
+}
+
+impl fmt::Display for SubjectText<'_> {
+    ghost output = { λ s. Some (subject_text s.plan.now (subject_of s.subject.now)) };
+
+    fn fmt<W: fmt::Write>(&self, f: &mut fmt::Formatter<W>) -> fmt::Result {
+        match self.subject {
+            Subject::Stamp(stamp) => {
+                let number = stamp.number;
+                let name = name_of(self.plan, stamp.node);
+                write!(f, "{number}.{name}")
+            }
+            Subject::Number(_, number) => write!(f, "{number}"),
+        }
+    }
+}
+
+/// Numbers, each after its name.
+#[derive(Clone, Copy)]
+struct NumbersText<'a>(&'a Numbers);
+
+impl fmt::Display for NumbersText<'_> {
+    ghost output = { λ n. Some (numbers_text (numbers_of n.0.now)) };
+
+    fn fmt<W: fmt::Write>(&self, f: &mut fmt::Formatter<W>) -> fmt::Result {
+        match self.0 {
+            Numbers::None => Ok(()),
+            Numbers::One(name, number) => write!(f, " {name} {number}"),
+            Numbers::Two(name, number, second, other) => {
+                write!(f, " {name} {number} {second} {other}")
+            }
+        }
+    }
+}
+
+/// The text of a letter of these parts.
+#[derive(Clone, Copy)]
+pub(crate) struct PartsText<'a> {
+    pub(crate) plan: &'a Plan,
+    pub(crate) parts: &'a LetterParts,
+}
+
+impl fmt::Display for PartsText<'_> {
+    ghost output = { λ t. Some (said_text t.plan.now t.parts.now) };
+
+    fn fmt<W: fmt::Write>(&self, f: &mut fmt::Formatter<W>) -> fmt::Result {
+        let word = self.parts.word;
+        let numbers = NumbersText(&self.parts.numbers);
+        let subject = SubjectText {
+            plan: self.plan,
+            subject: &self.parts.subject,
+        };
+        write!(f, "{word} {subject}{numbers}")
+    }
+}

@@ -1,0 +1,72 @@
+//! The phase of a node, and what its journal has.
+
+ghost use Rattle.std.specs.Prelude.{Some};
+ghost use Rattle.mx_format.specs.NodeTexts.{phase_text, standing_text, known_text, value_text};
+
+use mx_nodelaws::Phase;
+use std::fmt;
+
+/// The phase of a node, as a text.
+#[derive(Clone, Copy)]
+pub struct PhaseText(pub Phase);
+
+impl fmt::Display for PhaseText {
+    ghost output = { λ p. Some (phase_text p.0) };
+
+    fn fmt<W: fmt::Write>(&self, f: &mut fmt::Formatter<W>) -> fmt::Result {
+        match self.0 {
+            Phase::Idle => f.write_str("idle"),
+            Phase::Waiting => f.write_str("waiting"),
+            Phase::Inside(number) => write!(f, "inside {number}"),
+        }
+    }
+}
+
+/// The name of a node, its phase, and the number of the last section that it entered.
+#[derive(Clone, Copy)]
+pub struct Standing<'a> {
+    pub name: &'a str,
+    pub phase: Phase,
+    pub mine: u64,
+}
+
+impl fmt::Display for Standing<'_> {
+    ghost output = { λ s. Some (standing_text s.name.now s.phase s.mine) };
+
+    fn fmt<W: fmt::Write>(&self, f: &mut fmt::Formatter<W>) -> fmt::Result {
+        let name = self.name;
+        let phase = PhaseText(self.phase);
+        let mine = self.mine;
+        write!(f, "{name}: {phase}, mine {mine}")
+    }
+}
+
+/// How many records a journal has, and up to which number none is missing.
+#[derive(Clone, Copy)]
+pub struct Known {
+    pub records: u64,
+    pub gapless: u64,
+}
+
+impl fmt::Display for Known {
+    ghost output = { λ k. Some (known_text k.records k.gapless) };
+
+    fn fmt<W: fmt::Write>(&self, f: &mut fmt::Formatter<W>) -> fmt::Result {
+        write!(f, ", records {}, gapless {}", self.records, self.gapless)
+    }
+}
+
+/// The name of a register and its value.
+#[derive(Clone, Copy)]
+pub struct ValueText<'a> {
+    pub name: &'a str,
+    pub value: u64,
+}
+
+impl fmt::Display for ValueText<'_> {
+    ghost output = { λ v. Some (value_text v.name.now v.value) };
+
+    fn fmt<W: fmt::Write>(&self, f: &mut fmt::Formatter<W>) -> fmt::Result {
+        write!(f, ", {}={}", self.name, self.value)
+    }
+}

@@ -1,0 +1,33 @@
+use Rattle.std.proofs.Common.{Bool, Ok, Err, refl, subst}
+use Rattle.mx_cli.specs.LiveWords.{request_of}
+use Rattle.mx_cli.proofs.OutputLemmas.{Keeps-refl}
+use Rattle.mx_live.specs.Halts.{TellsHalt}
+use Rattle.mx_live.proofs.HaltLemmas.{ends_whole}
+use Rattle.mx_live.proofs.live_command.run_live.Goals as goal
+
+pub returns-in-Ok : goal.returns-in-Ok
+returns-in-Ok g c =
+    let ran = c.in-Ok.ensures in
+    record {
+      ended = Ok tt;
+      ends = ran.ends;
+      after_progress = g.E.Output.written c.live_and_show.new.err;
+      progress = ran.progress;
+      closes = (refl, Keeps-refl (g.E.Output.written c.live_and_show.new.err));
+      whole = ends_whole (g.O.Output.takes_all c.args.out.now) (g.S.Source.told c.args.source.now c.args.request.now.plan.now) (request_of c.args.request.now)
+          (Ok tt) (g.O.Output.written c.args.out.now) (g.O.Output.written c.live_and_show.new.out) (g.O.Output.keeps_back c.live_and_show.new.out) ran.ends;
+    }
+
+pub returns-in-Err : goal.returns-in-Err
+returns-in-Err g c =
+    let ran = c.in-Err.ensures in
+    record {
+      ended = Err c.in-Err.halt;
+      ends = ran.ends;
+      after_progress = g.E.Output.written c.live_and_show.new.err;
+      progress = ran.progress;
+      closes = subst (λ (takes : Bool). TellsHalt takes c.args.request.now.plan.now c.in-Err.halt (g.E.Output.written c.live_and_show.new.err) (g.E.Output.written c.tell.new.err) c.tell.result)
+          ran.stays c.tell.ensures;
+      whole = ends_whole (g.O.Output.takes_all c.args.out.now) (g.S.Source.told c.args.source.now c.args.request.now.plan.now) (request_of c.args.request.now)
+          (Err c.in-Err.halt) (g.O.Output.written c.args.out.now) (g.O.Output.written c.live_and_show.new.out) (g.O.Output.keeps_back c.live_and_show.new.out) ran.ends;
+    }

@@ -1,0 +1,23 @@
+use Rattle.std.proofs.Common.{◌≡◌, ◌∙◌, ◌<◌, ℕ, Option, ap, arith, length, string_bytes, subst, sym, unwrap_or}
+use Rattle.mx_registers.specs.Registers.{value_in}
+use Rattle.mx_format.specs.NodeTexts.{register_in}
+use Rattle.mx_format.proofs.NodeLemmas.{value_there}
+use Rattle.mx_live.proofs.ShownLemmas.{value_more}
+use Rattle.mx_live.proofs.live_text.add_values.Goals as goal
+
+pub loop-register-preserved : goal.loop-register-preserved
+loop-register-preserved c =
+    let i = c.loop-register.invariant in
+    let p = c.args.plan.now in
+    let journal = c.args.journal.now in
+    let k = c.loop-register.register in
+    let lt : k < length p.registers = subst (λ (n : ℕ). k < n) c.registers-register-end.ensures.value c.loop-register-test.true in
+    let few : k < c.registers.result = subst (λ (n : ℕ). k < n) (c.registers-register-end.ensures.value ∙ sym c.registers.ensures.value) c.loop-register-test.true in
+    let value : c.unwrap_or.result ≡ (register_in k journal).value =
+    c.unwrap_or.ensures ∙ ap (λ (o : Option ℕ). unwrap_or o 0)
+    (c.value.ensures ∙ ap (λ cells. value_in k cells) c.view-shown.ensures.value ∙ value_there c.registers.result journal k few) in
+    record {
+      in_range = omega (arith, lt);
+      written = i.written ∙ value_more p journal k c.name_of.result.now c.unwrap_or.result (string_bytes c.loop-register.text) (string_bytes c.write.new.self)
+          lt c.name_of.ensures value c.in_ok-write.ensures.bytes;
+    }

@@ -1,0 +1,39 @@
+use Rattle.std.proofs.Common.{inl, inr, refl}
+use Rattle.std.proofs.lemmas.Result.{IfErr-weaker}
+use Rattle.mx_live.proofs.SectionLemmas.{both_ok, come_gathered}
+use Rattle.mx_live.proofs.WorkerLemmas.{of_one_table}
+use Rattle.mx_live.proofs.node_runs.live_at.Goals as goal
+
+pub run_stations-requires-send-C : goal.run_stations-requires-send-C
+run_stations-requires-send-C g c κs within = c.type_bounds.send-C
+
+pub run_stations-requires-send-C-Msg : goal.run_stations-requires-send-C-Msg
+run_stations-requires-send-C-Msg g c κs within = c.type_bounds.send-C-Msg
+
+pub run_stations-requires-send-C-Shape : goal.run_stations-requires-send-C-Shape
+run_stations-requires-send-C-Shape g c κs within = c.type_bounds.send-C-Shape
+
+pub gather_left-requires : goal.gather_left-requires
+gather_left-requires g c =
+    let at = c.requires in
+    (search (c.requires-raw), of_one_table g.C.Exclusion.core at.0 c.args.plan.now _ _ (record { stations = c.args.stations.items; rested = at.1; worked = c.in-Ok.ensures.left }))
+
+pub returns-in-Ok-clause-come : goal.returns-in-Ok-clause-come
+returns-in-Ok-clause-come g c = λ shape rested.
+    both_ok c.gather_left.result _ _ _ c.gather_left.ensures.done c.gather_left.ensures.gathered
+    (λ all done gathered. come_gathered g.C.Exclusion.core shape c.args.plan.now _ _ _ _ (record { stations = c.args.stations.items; rested = rested; worked = c.in-Ok.ensures.left }) done gathered)
+
+pub returns-in-Ok-clause-err : goal.returns-in-Ok-clause-err
+returns-in-Ok-clause-err g c = λ shape rested.
+    IfErr-weaker c.gather_left.result _ _
+    (λ halt vain. elim vain [
+      | inl halts ↦ inl (record { left = _; run = record { stations = c.args.stations.items; rested = rested; worked = c.in-Ok.ensures.left }; halts = halts })
+      | inr out ↦ inr out.1
+    ])
+    c.gather_left.ensures.err
+
+pub returns-in-Err-clause-err : goal.returns-in-Err-clause-err
+returns-in-Err-clause-err g c = λ shape at. inr refl
+
+pub run_stations-requires-after_bounds : goal.run_stations-requires-after_bounds
+run_stations-requires-after_bounds g c κs within = search (c.requires-raw)

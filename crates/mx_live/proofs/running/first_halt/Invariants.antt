@@ -1,7 +1,0 @@
-use Rattle.std.proofs.Common.{◌≡◌, take}
-use Rattle.std.specs.List.{All}
-use Rattle.mx_stations.specs.declared.working.Worked.TheVariants.{Done}
-use Rattle.mx_live.proofs.running.first_halt.Given as goal
-
-abbrev pub invariant-loop-one : goal.invariant-loop-one
-invariant-loop-one g l = All (λ one. one.1 ≡ Done) (take l.one-index l.left)

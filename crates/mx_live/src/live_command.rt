@@ -1,0 +1,137 @@
+//! `live`: from words, named bytes and two outputs to a status, by threads.
+
+ghost use Rattle.std.specs.Prelude.{◌≡◌, ◌⊎◌, Option, false, length, IfErr, IfSome, OnErr, OnOk};
+ghost use Rattle.std.specs.Io.KnownBytes.{Appends, Keeps};
+ghost use Rattle.mx_cli.specs.Words.{texts_of};
+ghost use Rattle.mx_cli.specs.LiveWords.{request_asked, request_of, live_line};
+ghost use Rattle.mx_cli.specs.Told.{Answers, Declines, seen};
+ghost use Rattle.mx_io.specs.Told.{Telling};
+ghost use Rattle.mx_live.specs.Halts.{Fails};
+ghost use Rattle.mx_live.specs.Shown.{live_text};
+ghost use Rattle.mx_cli.specs.Reading.{IsPlanOf};
+ghost use Rattle.mx_live.specs.Lives.{AskNothing, Ends, Lives};
+ghost use Rattle.mx_live.specs.Progress.{TellsProgress};
+
+use crate::halts::{Halt, tell};
+use crate::live_text::add_journal;
+use crate::node_runs::live_by_shape;
+use mx_cli::{LiveRequest, asked_live, fetch_plan, refuse};
+use mx_io::{Output, Source};
+use mx_plan::Plan;
+use mx_stations::Gathered;
+use std::alloc::Global;
+use std::rt::Clock;
+use std::thread::Threads;
+
+/// Runs the words of a command line of which `live` is the first, without the program's name, and
+/// returns the status: 0 where all went well, or help was asked for, 1 where the plan, its file or
+/// an output is at fault or the plan allows too few sections, 2 where the words are not those of
+/// `live`, 3 where turns were spent or the gate was shut, 5 where memory ran out or a thread could
+/// not be started.
+///
+/// A status says of the threads only that there is such an outcome. Which one it was is said by
+/// `run_stations` and `gather_left`, which return it.
+pub fn live<R: Threads + Clock, S: Source, O: Output, E: Output>(
+    rt: &R,
+    alloc: Global,
+    words: &[&str],
+    source: &mut S,
+    out: &mut O,
+    err: &mut E,
+) -> u8
+    ensures lives { IfSome (request_asked (texts_of words.entry.now)) (λ request.
+        Lives (O.takes_all out.old) (E.takes_all err.old) (S.told source.old request.plan) request
+        (seen O.Output E.Output out.old err.old) (seen O.Output E.Output out.new err.new) result) }
+    ensures answers { Answers live_line (texts_of words.entry.now) (O.takes_all out.old)
+        (seen O.Output E.Output out.old err.old) (seen O.Output E.Output out.new err.new) result }
+    ensures other { AskNothing (texts_of words.entry.now) → Declines
+        (seen O.Output E.Output out.old err.old) (seen O.Output E.Output out.new err.new) result }
+{
+    match asked_live(alloc, words) {
+        Ok(Some(request)) => run_live(rt, alloc, &request, source, out, err),
+        Ok(None) => 2,
+        Err(e) => refuse(alloc, &e, out, err),
+    }
+}
+
+/// Runs what is asked for, and tells why there is no journal where there is none. Returns the
+/// status.
+fn run_live<R: Threads + Clock, S: Source, O: Output, E: Output>(
+    rt: &R,
+    alloc: Global,
+    request: &LiveRequest<'_>,
+    source: &mut S,
+    out: &mut O,
+    err: &mut E,
+) -> u8
+    ensures { Lives (O.takes_all out.old) (E.takes_all err.old)
+        (S.told source.old request.now.plan.now) (request_of request.now)
+        (seen O.Output E.Output out.old err.old) (seen O.Output E.Output out.new err.new) result }
+{
+    match live_and_show(rt, alloc, request, source, out, err) {
+        Ok(()) => 0,
+        Err(halt) => tell(alloc, halt, request.plan, err),
+    }
+}
+
+/// Runs the nodes of a plan from its source, and prints what their journals have together.
+fn live_and_show<R: Threads + Clock, S: Source, O: Output, E: Output>(
+    rt: &R,
+    alloc: Global,
+    request: &LiveRequest<'_>,
+    source: &mut S,
+    out: &mut O,
+    err: &mut E,
+) -> Result<(), Halt>
+    ensures ends { Ends (O.takes_all out.old) (S.told source.old request.now.plan.now)
+        (request_of request.now)
+        (O.written out.old) (O.written out.new) (O.keeps_back out.new) result }
+    ensures progress { TellsProgress request.now.progress
+        (E.written err.old) (E.written err.new) }
+    ensures stays { E.takes_all err.new ≡ E.takes_all err.old }
+{
+    let plan = fetch_plan(alloc, source, request.plan)?;
+    live_plan(rt, alloc, &plan, request, out, err)
+}
+
+/// Runs the nodes of a plan, where it has sections enough, and prints what their journals have
+/// together.
+fn live_plan<R: Threads + Clock, O: Output, E: Output>(
+    rt: &R,
+    alloc: Global,
+    plan: &Plan,
+    request: &LiveRequest<'_>,
+    out: &mut O,
+    err: &mut E,
+) -> Result<(), Halt>
+    ensures ends { (told : Option Telling) → IsPlanOf told plan.now
+        → Ends (O.takes_all out.old) told (request_of request.now)
+        (O.written out.old) (O.written out.new) (O.keeps_back out.new) result }
+    ensures progress { TellsProgress request.now.progress
+        (E.written err.old) (E.written err.new) }
+    ensures stays { E.takes_all err.new ≡ E.takes_all err.old }
+{
+    if u64::from(plan.nodes()).saturating_mul(request.sections) > plan.sections() {
+        return Err(Halt::TooFewSections);
+    }
+    let gathered = live_by_shape(rt, alloc, plan, request, err)?;
+    show(alloc, plan, &gathered, out)
+}
+
+/// Prints what the nodes have together, whole or not at all.
+fn show<O: Output>(alloc: Global, plan: &Plan, gathered: &Gathered, out: &mut O) -> Result<(), Halt>
+    ensures ok { OnOk result (Appends (O.written out.old) (O.written out.new)
+        (live_text plan.now (length gathered.now.receipts.items) gathered.now.journal)) }
+    ensures passed { OnOk result (O.keeps_back out.new ≡ false) }
+    ensures err { IfErr result (Fails (O.takes_all out.old)) }
+    ensures whole { OnErr result (Keeps (O.written out.old) (O.written out.new)
+        ⊎ Appends (O.written out.old) (O.written out.new)
+        (live_text plan.now (length gathered.now.receipts.items) gathered.now.journal)) }
+{
+    let mut text = String::new(alloc);
+    let receipts = gathered.receipts.len() as u64;
+    add_journal(plan, receipts, &gathered.journal, &mut text)?;
+    out.put(text.as_bytes())?;
+    out.flush()?;
+    Ok(())
+}

@@ -1,0 +1,219 @@
+//! The nodes of a plan, each run in a thread of its own, and what they have together.
+
+ghost use Rattle.std.specs.Prelude.{◌≡◌, ◌⊎◌, length, IfErr, IfNone, IfOk, IfSome};
+ghost use Rattle.mx_cli.specs.LiveWords.{request_of};
+ghost use Rattle.mx_stations.specs.Gathered.{IsGathered, OfOneTable};
+ghost use Rattle.mx_jobs.specs.Serial.{AreSerial};
+ghost use Rattle.mx_live.specs.Halts.{EndInVain, HaltsIn, HasNone, RunsInVain};
+ghost use Rattle.mx_live.specs.Progress.{TellsProgress};
+ghost use Rattle.mx_live.specs.Stations.{AreAtRest};
+ghost use Rattle.mx_live.specs.Together.{AreGathered, ComeOf, HaveSections};
+ghost use Rattle.mx_live.specs.Workers.{AreDone, AreLeft, orders_in, stations_of};
+
+use crate::halts::Halt;
+use crate::progress::tell_if_asked;
+use crate::threads::{Ended, WorkerConfig, join_all, start_all};
+use mx_cli::LiveRequest;
+use mx_io::Output;
+use mx_maekawa::Maekawa;
+use mx_nodelaws::Exclusion;
+use mx_plan::{Plan, Shape};
+use mx_raymond::Raymond;
+use mx_ricart::Ricart;
+use mx_stations::{Field, Gathered, Station, Watch, Worked, gather};
+use std::alloc::{AllocError, Global};
+use std::rt::Clock;
+use std::thread::Threads;
+
+/// Runs the nodes of a plan, by its algorithm, and gathers them.
+pub(crate) fn live_by_shape<R: Threads + Clock, E: Output>(
+    rt: &R,
+    alloc: Global,
+    plan: &Plan,
+    request: &LiveRequest<'_>,
+    err: &mut E,
+) -> Result<Gathered, Halt>
+    ensures serial { IfOk result (λ all. AreSerial all.receipts.items all.journal) }
+    ensures sections { IfOk result (λ all.
+        HaveSections (length plan.now.nodes) request.now.sections all.receipts.items) }
+    ensures come { IfOk result (λ all.
+        ComeOf plan.now (orders_in (request_of request.now)) all.receipts.items all.journal) }
+    ensures err { IfErr result (HasNone plan.now (orders_in (request_of request.now))) }
+    ensures progress { TellsProgress request.now.progress
+        (E.written err.old) (E.written err.new) }
+    ensures stays { E.takes_all err.new ≡ E.takes_all err.old }
+{
+    match plan.shape() {
+        Shape::Ricart(shape) => {
+            let stations = stations_in::<Ricart>(alloc, plan, shape)?;
+            live_at(rt, alloc, plan, stations, request, err)
+        }
+        Shape::Maekawa(shape) => {
+            let stations = stations_in::<Maekawa>(alloc, plan, shape)?;
+            live_at(rt, alloc, plan, stations, request, err)
+        }
+        Shape::Raymond(shape) => {
+            let stations = stations_in::<Raymond>(alloc, plan, shape)?;
+            live_at(rt, alloc, plan, stations, request, err)
+        }
+    }
+}
+
+/// Runs the nodes of a plan, from its stations.
+fn live_at<C: Exclusion + Send + 'static, R: Threads + Clock, E: Output>(
+    rt: &R,
+    alloc: Global,
+    plan: &Plan,
+    stations: Vec<Station<C>>,
+    request: &LiveRequest<'_>,
+    err: &mut E,
+) -> Result<Gathered, Halt>
+where
+    C::Msg: Send + 'static,
+    C::Shape: Send + 'static,
+    requires { (shape : C.Shape) × AreAtRest C.core shape plan.now stations.items }
+    ensures serial { IfOk result (λ all. AreSerial all.receipts.items all.journal) }
+    ensures come { (shape : C.Shape) → AreAtRest C.core shape plan.now stations.items
+        → IfOk result (λ all.
+        HaveSections (length plan.now.nodes) request.now.sections all.receipts.items
+        × AreGathered C.core shape plan.now
+        (orders_in (request_of request.now)) all.receipts.items all.journal) }
+    ensures err { (shape : C.Shape) → AreAtRest C.core shape plan.now stations.items
+        → IfErr result (λ halt.
+        RunsInVain C.core shape plan.now (orders_in (request_of request.now)) halt
+        ⊎ (halt ≡ Halt.Memory)) }
+    ensures progress { TellsProgress request.now.progress
+        (E.written err.old) (E.written err.new) }
+    ensures stays { E.takes_all err.new ≡ E.takes_all err.old }
+{
+    match run_stations(rt, alloc, plan, stations, request, err) {
+        Ok(left) => gather_left(alloc, left),
+        Err(AllocError) => Err(Halt::Memory),
+    }
+}
+
+/// The stations of a plan, each at rest.
+pub fn stations_in<C: Exclusion>(
+    alloc: Global,
+    plan: &Plan,
+    shape: &C::Shape,
+) -> Result<Vec<Station<C>>, AllocError>
+    requires { C.core.count shape.now ≡ length plan.now.nodes }
+    ensures { IfOk result (λ all. AreAtRest C.core shape.now plan.now all.items) }
+{
+    Field::<C>::stations(
+        alloc,
+        shape,
+        plan.origin(),
+        plan.sections(),
+        plan.registers(),
+    )
+}
+
+/// Runs each station in a thread of its own, until all threads have ended, and returns what they
+/// left: the stations, in the same order, and how their workers ended. An `Err` means that memory
+/// ran out, or that a thread could not be started.
+pub fn run_stations<C: Exclusion + Send + 'static, R: Threads + Clock, E: Output>(
+    rt: &R,
+    alloc: Global,
+    plan: &Plan,
+    stations: Vec<Station<C>>,
+    request: &LiveRequest<'_>,
+    err: &mut E,
+) -> Result<Vec<Ended<C>>, AllocError>
+where
+    C::Msg: Send + 'static,
+    C::Shape: Send + 'static,
+    ensures left { IfOk result (λ left.
+        AreLeft C.core (orders_in (request_of request.now)) stations.items left.items) }
+    ensures progress { TellsProgress request.now.progress
+        (E.written err.old) (E.written err.new) }
+    ensures stays { E.takes_all err.new ≡ E.takes_all err.old }
+{
+    let watch = watch_over(stations.as_slice())?;
+    let workers = start_all(rt, alloc, plan.nodes(), stations, orders_of(request))?;
+    tell_if_asked(rt, alloc, request.progress, watch, &workers, err);
+    join_all(rt, workers)
+}
+
+/// What is ordered of each worker.
+fn orders_of(request: &LiveRequest<'_>) -> WorkerConfig
+    ensures { result ≡ orders_in (request_of request.now) }
+{
+    WorkerConfig {
+        sections: request.sections,
+        seed: request.seed,
+        turns: request.turns,
+        settle: request.settle,
+    }
+}
+
+/// What the stations that workers left have together, if each worker is done. Else why the first
+/// that is not done is not.
+pub fn gather_left<C: Exclusion>(alloc: Global, left: Vec<Ended<C>>) -> Result<Gathered, Halt>
+    requires { OfOneTable (stations_of left.items) }
+    ensures serial { IfOk result (λ all. AreSerial all.receipts.items all.journal) }
+    ensures done { IfOk result (λ all. AreDone left.items) }
+    ensures gathered { IfOk result (λ all.
+        IsGathered (stations_of left.items) all.journal all.receipts.items) }
+    ensures err { IfErr result (EndInVain left.items) }
+{
+    match first_halt(left.as_slice()) {
+        Some(halt) => Err(halt),
+        None => match only_stations(alloc, left) {
+            Ok(stations) => gather_all(alloc, stations),
+            Err(AllocError) => Err(Halt::Memory),
+        },
+    }
+}
+
+/// The stations that were left.
+fn only_stations<C: Exclusion>(
+    alloc: Global,
+    left: Vec<Ended<C>>,
+) -> Result<Vec<Station<C>>, AllocError>
+    ensures { IfOk result (λ all. all.items ≡ stations_of left.items) }
+{
+    let mut stations = Vec::new(alloc);
+    for one in left {
+        stations.push(one.0)?;
+    }
+    Ok(stations)
+}
+
+/// A watch over the nodes, where there are any.
+fn watch_over<C: Exclusion>(stations: &[Station<C>]) -> Result<Option<Watch<C>>, AllocError> {
+    match stations.first() {
+        Some(station) => Ok(Some(station.watch()?)),
+        None => Ok(None),
+    }
+}
+
+/// Why the first worker that is not done is not.
+fn first_halt<S>(left: &[(S, Worked)]) -> Option<Halt>
+    ensures some { IfSome result (HaltsIn left.now) }
+    ensures none { IfNone result (AreDone left.now) }
+{
+    for one in left {
+        match one.1 {
+            Worked::Done => {}
+            Worked::NotYet(_) => return Some(Halt::TurnsSpent),
+            Worked::GateShut => return Some(Halt::GateShut),
+        }
+    }
+    None
+}
+
+/// What stations have together.
+fn gather_all<C: Exclusion>(alloc: Global, stations: Vec<Station<C>>) -> Result<Gathered, Halt>
+    requires { OfOneTable stations.items }
+    ensures serial { IfOk result (λ all. AreSerial all.receipts.items all.journal) }
+    ensures gathered { IfOk result (λ all.
+        IsGathered stations.items all.journal all.receipts.items) }
+    ensures err { IfErr result (λ halt. halt ≡ Halt.Memory) }
+{
+    match gather(alloc, stations) {
+        Ok(gathered) => Ok(gathered),
+        Err(_) => Err(Halt::Memory),
+    }
+}

@@ -1,0 +1,25 @@
+//! One run of each algorithm.
+
+ghost use Rattle.mx_quorums.specs.Family.{IsMeeting};
+ghost use Rattle.mx_trees.specs.Tree.{IsRooted};
+ghost use Rattle.mx_ricart.specs.Step.{IsCount, ricart_core};
+ghost use Rattle.mx_maekawa.specs.Step.{maekawa_core};
+ghost use Rattle.mx_raymond.specs.Step.{raymond_core};
+ghost use Rattle.mx_model_runs.specs.Runs.{Happens, maekawa_trace, raymond_trace, ricart_trace, two_nodes, two_sets};
+
+/// Shows a run of two nodes that ask with the same number. The request of node 1 waits, since that
+/// of node 0 comes first.
+pub fn ricart_runs()
+    ensures { Happens ricart_core IsCount 2 ricart_trace }
+{}
+
+/// Shows a run in which node 0 is its own only arbiter, and one of the two of node 1. It grants
+/// node 1 once node 0 has left.
+pub fn maekawa_runs()
+    ensures { Happens maekawa_core IsMeeting two_sets maekawa_trace }
+{}
+
+/// Shows a run in which node 0 has the privilege at first, and passes it on once it has left.
+pub fn raymond_runs()
+    ensures { Happens raymond_core IsRooted two_nodes raymond_trace }
+{}

@@ -1,0 +1,135 @@
+//! Waiting of a worker between two turns of its station. Nothing is proved about what it reads
+//! meanwhile.
+
+ghost use Rattle.std.specs.Prelude.{◌≡◌, ◌<◌};
+
+use crate::answers::{TakeFault, TurnReport};
+use crate::collection::is_inside;
+use crate::slots::{Link, has_filled};
+use crate::station::Station;
+use mx_nodelaws::Exclusion;
+use mx_stamps::NodeId;
+use std::thread::yield_now;
+
+/// How often at most a worker lets others run before its station may tick, for each node of its
+/// cluster and for `FEW` more.
+const YIELDS: u32 = 3;
+
+/// Among few nodes a yield returns at once, so a worker is as patient as if there were this many
+/// more.
+const FEW: u32 = 8;
+
+/// The number of turns with an act due that a worker takes before it lets others run.
+const ACTING_TURNS: u32 = 3;
+
+/// The waiting of a worker between two turns of its station, called after each turn.
+///
+/// A turn that finds nothing ticks, which sends all outstanding letters again. Letters on their way
+/// arrive anyway. So a worker first lets other threads run, until a parcel lies in a slot for its
+/// node, or its patience has run out. A tick and a new section renew its patience. A parcel does
+/// not: if a letter was lost, its sender gets the letters of all nodes that it holds up, again and
+/// again, and would never tick.
+///
+/// Patience is counted in yields, so it lasts longer if the other threads do more. It does not grow
+/// from tick to tick, since the node that all others wait for may be one that has waited long.
+#[derive(Clone, Copy, Debug, Default)]
+pub struct Patience {
+    /// The last section of its station at the last wait.
+    section: u64,
+    /// How many more times it lets others run before its station may tick.
+    left: u32,
+    /// How many turns with an act due it has taken since it last let others run after one, or since
+    /// its station entered a section.
+    turns: u32,
+}
+
+impl Patience {
+    /// Creates the patience of a worker before its first turn.
+    pub fn new() -> Patience {
+        Patience::default()
+    }
+
+    /// Waits after a turn of the station, which gave this report. The wait is short if the next
+    /// turn has an act due in any case: the worker `acts`, or the station can enter or is inside.
+    pub fn wait<C: Exclusion>(
+        &mut self,
+        station: &Station<C>,
+        report: &Result<TurnReport, TakeFault>,
+        acts: bool,
+    ) {
+        self.renew(station, report);
+        if acts || station.can_enter() || is_inside(station) {
+            self.wait_a_little();
+        } else {
+            self.wait_for_mail(station);
+        }
+    }
+
+    /// Renews the patience, if the station has ticked or entered a section.
+    fn renew<C: Exclusion>(
+        &mut self,
+        station: &Station<C>,
+        report: &Result<TurnReport, TakeFault>,
+    ) {
+        let section = station.mine();
+        let is_new = section != self.section;
+        if is_new {
+            self.section = section;
+            self.turns = 0;
+        }
+        if is_new || has_ticked(report) {
+            self.left = YIELDS * (FEW + u32::from(station.nodes()));
+        }
+    }
+
+    /// Lets others run once in some turns. A node that is inside still lacks records, and each of
+    /// its turns asks another node for them. A reply has room for four records, so up to four
+    /// questions may be on their way at once.
+    fn wait_a_little(&mut self) {
+        self.turns = self.turns.saturating_add(1);
+        if self.turns >= ACTING_TURNS {
+            self.turns = 0;
+            yield_now();
+        }
+    }
+
+    /// Lets others run until a parcel lies in a slot for the station's node, or patience has run
+    /// out. Does so at least once if no parcel lies there.
+    fn wait_for_mail<C: Exclusion>(&mut self, station: &Station<C>) {
+        for _yield in 0..self.left.max(1) {
+            self.left = self.left.saturating_sub(1);
+            if has_mail(station) {
+                return;
+            }
+            yield_now();
+        }
+    }
+}
+
+/// Returns whether a turn ticked.
+fn has_ticked(report: &Result<TurnReport, TakeFault>) -> bool {
+    matches!(report, Ok(TurnReport { ticked: true, .. }))
+}
+
+/// Returns whether a parcel lies in a slot for the station's node.
+fn has_mail<C: Exclusion>(station: &Station<C>) -> bool {
+    for index in 0..station.nodes() {
+        if let Some(from) = NodeId::of(index)
+            && has_mail_from(station, from)
+        {
+            return true;
+        }
+    }
+    false
+}
+
+/// Returns whether a parcel lies in a slot of the link from this node.
+fn has_mail_from<C: Exclusion>(station: &Station<C>, from: NodeId) -> bool
+    requires { from < station.now.nodes }
+{
+    let link = Link {
+        from,
+        to: station.node,
+    };
+    has_filled(&station.field, &link)
+}

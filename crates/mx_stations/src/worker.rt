@@ -1,0 +1,208 @@
+//! A worker: it takes a station through sections, and in each of them adds 1 to a register.
+
+ghost use Rattle.std.specs.Prelude.{◌≡◌, ◌<◌, ◌≤◌, ◌↔◌, ℕ, length, IsTrue};
+ghost use Rattle.mx_nodelaws.specs.Core.{IsInside};
+ghost use Rattle.mx_stations.specs.Gathered.{KeepsTable};
+ghost use Rattle.mx_stations.specs.Works.{IsWithin, LeavesNone, MayLeave, TakesTurn, Works, WorksAtMost, WorksFor};
+
+use crate::collection::is_inside;
+use crate::patience::Patience;
+use crate::settlement::work_settling;
+use crate::station::Station;
+use mx_letters::Fates;
+use mx_member::ReadFault;
+use mx_nodelaws::{Exclusion, Phase};
+use mx_stamps::NodeId;
+
+/// When workers may start, and when they may stop. Both calls may wait for other workers.
+pub trait Gate {
+    /// Returns whether the worker of this node may start. Called once, before the first act.
+    fn arrive(&self, node: NodeId) -> bool;
+
+    /// Returns whether the worker of this node, which has its sections, may stop. Called on each
+    /// turn.
+    fn done(&self, node: NodeId) -> bool;
+}
+
+/// The task of a worker: to add 1 to this register, in a given number of sections.
+#[derive(Clone, Copy, Debug, PartialEq, Eq)]
+pub struct Script {
+    /// The number of the register.
+    pub register: u8,
+    /// The number of sections.
+    pub sections: u64,
+}
+
+/// How a worker ended.
+#[derive(Clone, Copy, Debug, PartialEq, Eq)]
+pub enum Worked {
+    /// The station has its sections, and the gate let it stop.
+    Done,
+    /// All turns were made: this many.
+    NotYet(u64),
+    /// The gate did not let it start.
+    GateShut,
+}
+
+/// The progress of a worker: whether it has written in its section, the node that it asked last for
+/// missing records, and its patience between two turns.
+#[derive(Drop)]
+pub(crate) struct WorkerState {
+    pub(crate) written: bool,
+    pub(crate) wanted: NodeId,
+    pub(crate) patience: Patience,
+}
+
+/// Waits at the gate, and then works at the station for at most this many turns.
+///
+/// In each turn the acts that are due come first. It asks if it is idle and lacks sections, and
+/// enters if it can. Inside it reads the register and writes 1 more, or asks the next node in the
+/// circle for missing records. It leaves once it has written. Then the station takes a turn, by
+/// these fates of parcels.
+///
+/// A station that starts idle leaves no more sections than it was asked for, unless it had more
+/// before. The worker waits only if its gate waits. The station must not be inside. If there is no
+/// such register, the worker never leaves its first section.
+pub fn work<C: Exclusion, G: Gate, F: Fates + Drop>(
+    station: Station<C>,
+    script: Script,
+    gate: &G,
+    fates: F,
+    turns: u64,
+) -> (Station<C>, Worked)
+    ensures works { Works C.core script.register station result.0 }
+    ensures most { WorksAtMost C.core script.register 0 turns station result.0 }
+    ensures same { KeepsTable station result.0 }
+    ensures node { result.0.me.node ≡ station.me.node }
+    ensures within { IsWithin C.core script.sections station
+        → IsWithin C.core script.sections result.0 }
+    ensures done { result.1 ≡ Worked.Done → script.sections ≤ length result.0.me.receipts }
+    ensures outside { result.1 ≡ Worked.Done → IsInside C.core result.0.me.member.core → ⊥ }
+    ensures not_yet { (n : ℕ) → result.1 ≡ Worked.NotYet n
+        → (n ≡ turns) × WorksFor C.core script.register 0 n station result.0 }
+    ensures shut { result.1 ≡ Worked.GateShut → result.0 ≡ station }
+{
+    work_settling(station, script, 0, gate, fates, turns)
+}
+
+/// Returns whether the station has this many sections, and is not inside another.
+pub(crate) fn is_finished<C: Exclusion>(station: &Station<C>, sections: u64) -> bool
+    ensures enough { IsTrue result → sections ≤ length station.now.me.receipts }
+    ensures outside { IsTrue result → IsInside C.core station.now.me.member.core → ⊥ }
+{
+    if is_inside(station) {
+        return false;
+    }
+    has_sections(station, sections)
+}
+
+/// Returns whether the station has this many sections.
+fn has_sections<C: Exclusion>(station: &Station<C>, sections: u64) -> bool
+    ensures { IsTrue result ↔ (sections ≤ length station.now.me.receipts) }
+{
+    station.receipts().len() as u64 >= sections
+}
+
+/// Performs the acts that are due, and takes a turn of the station. An act that is not due is
+/// refused, which changes nothing. A turn in which memory runs out counts too.
+pub(crate) fn take_turn<C: Exclusion, F: Fates>(
+    station: &mut Station<C>,
+    script: &Script,
+    stance: &mut WorkerState,
+    fates: &mut F,
+)
+    ensures turn { TakesTurn C.core script.now.register station.old station.new }
+    ensures within { IsWithin C.core script.now.sections station.old
+        → IsWithin C.core script.now.sections station.new }
+{
+    ask_if_due(station, script.sections);
+    let _ = station.enter();
+    add_if_due(station, script.register, stance);
+    leave_if_due(station, stance);
+    let report = station.turn(fates);
+    let asks = is_to_ask(station, script.sections);
+    stance.patience.wait(station, &report, asks);
+}
+
+/// Returns whether the next turn asks: the node is idle and lacks sections.
+fn is_to_ask<C: Exclusion>(station: &Station<C>, sections: u64) -> bool {
+    matches!(station.phase(), Phase::Idle) && !has_sections(station, sections)
+}
+
+/// Asks if sections are lacking.
+fn ask_if_due<C: Exclusion>(station: &mut Station<C>, sections: u64)
+    ensures none { (register : ℕ) → LeavesNone C.core register station.old station.new }
+    ensures within { IsWithin C.core sections station.old → IsWithin C.core sections station.new }
+{
+    if !has_sections(station, sections) {
+        let _ = station.ask();
+    }
+}
+
+/// Reads the register and writes 1 more, or asks for missing records, if nothing is written yet.
+fn add_if_due<C: Exclusion>(station: &mut Station<C>, register: u8, stance: &mut WorkerState)
+    ensures none { LeavesNone C.core register station.old station.new }
+    ensures within { (most : ℕ) → IsWithin C.core most station.old
+        → IsWithin C.core most station.new }
+{
+    if stance.written {
+        return;
+    }
+    match station.read(register) {
+        Ok(value) => {
+            stance.written = station.write(register, value.wrapping_add(1)).is_ok();
+        }
+        Err(ReadFault::Gap(_)) => want_next(station, stance),
+        Err(
+            ReadFault::NotInside | ReadFault::NoRegister | ReadFault::Full | ReadFault::Settled(_),
+        ) => {}
+    }
+}
+
+/// Asks the next node in the circle for missing records.
+fn want_next<C: Exclusion>(station: &mut Station<C>, stance: &mut WorkerState)
+    ensures none { (register : ℕ) → LeavesNone C.core register station.old station.new }
+    ensures within { (most : ℕ) → IsWithin C.core most station.old
+        → IsWithin C.core most station.new }
+{
+    let next = node_after(stance.wanted, count_of(station));
+    station.want(next);
+    stance.wanted = next;
+}
+
+/// Returns the number of nodes.
+fn count_of<C: Exclusion>(station: &Station<C>) -> u8
+    ensures value { result ≡ station.now.nodes }
+    ensures some { 0 < result }
+{
+    station.field.nodes
+}
+
+/// Returns the next node in the circle of this many.
+fn node_after(node: NodeId, nodes: u8) -> NodeId
+    requires { 0 < nodes }
+    ensures { result < nodes }
+{
+    match NodeId::of(node.get() + 1) {
+        Some(next) if next.get() < nodes => next,
+        _ => first_node(),
+    }
+}
+
+fn first_node() -> NodeId
+    ensures { result ≡ 0 }
+{
+    let Some(first) = NodeId::of(0) else {
+        unreachable!();
+    };
+    first
+}
+
+/// Leaves if the section has its write. If memory runs out, the node remains inside.
+fn leave_if_due<C: Exclusion>(station: &mut Station<C>, stance: &mut WorkerState)
+    ensures { MayLeave C.core station.old station.new }
+{
+    if stance.written && station.leave().is_ok() {
+        stance.written = false;
+    }
+}

@@ -1,0 +1,16 @@
+use Rattle.std.proofs.Common.{inl, inr}
+use Rattle.mx_cli.specs.Words.{texts_of}
+use Rattle.mx_cli.proofs.ClosedLemmas.{not_five}
+use Rattle.mx_cli.proofs.RefusedLemmas.{refused, runs_out}
+use Rattle.mx_views.specs.ViewWords.{view_line, request_asked, request_in}
+use Rattle.mx_views.proofs.view_command.replay_view.Goals as goal
+
+pub returns-in-Err : goal.returns-in-Err
+unfolding request_asked
+returns-in-Err g c = record {
+  views = refused view_line request_in (texts_of c.args.words.now) c.in-Err.e c.in-Err.ensures c.refuse.ensures.memory _ (λ m request. inl (inl (m.0, m.2), m.1));
+  printed = refused view_line request_in (texts_of c.args.words.now) c.in-Err.e c.in-Err.ensures c.refuse.ensures.memory _ (λ m request zero. absurd (not_five c.refuse.result m.0 zero));
+  passed = λ asks. inr (inr (runs_out view_line request_in (texts_of c.args.words.now) c.in-Err.e c.in-Err.ensures c.refuse.ensures.memory asks).0);
+  status = λ asks. inr (inr (runs_out view_line request_in (texts_of c.args.words.now) c.in-Err.e c.in-Err.ensures c.refuse.ensures.memory asks).0);
+  answers = c.refuse.ensures.answers view_line (texts_of c.args.words.now) c.in-Err.ensures;
+}

@@ -1,0 +1,224 @@
+//! `replay` with `--quiet`, `--node`, `--json` or `--state`: from words, named bytes and two outputs
+//! to a status.
+
+ghost use Rattle.std.specs.Prelude.{◌≡◌, ◌&&◌, IsSome, IfSome, IfOk, length, option_map};
+ghost use Rattle.mx_plan.specs.Events.{events_at};
+ghost use Rattle.mx_cli.specs.Words.{texts_of};
+ghost use Rattle.mx_cli.specs.Told.{Answers, seen};
+ghost use Rattle.mx_cli.specs.Closed.{IsRunStatus, PassesOn};
+ghost use Rattle.mx_commands.specs.Ran.{Ran};
+ghost use Rattle.mx_commands.specs.Runs.{AllNameNodes};
+ghost use Rattle.mx_views.specs.Printed.{PrintsPlanned, PrintsText, PrintsView};
+ghost use Rattle.mx_views.specs.Shown.{PrintsBy, view_by};
+ghost use Rattle.mx_views.specs.ViewWords.{request_asked, request_of, view_line};
+ghost use Rattle.mx_views.specs.Viewed.{CourseRan, IsFound, IsStranger, ViewRan, ViewRanOf, Views, course_of, course_on, reports};
+
+use crate::halts::{Halt, Stranger};
+use crate::selection::{Selection, View};
+use crate::shown_run::show;
+use crate::words::{Request, asked};
+use mx_cli::{Named, Stop, close, close_with, fetch_named, refuse, stop_named};
+use mx_commands::by_shape;
+use mx_diagnostics::told_of_node;
+use mx_io::{Output, Source};
+use mx_network::Event;
+use mx_plan::{Plan, read_events};
+use mx_stamps::NodeId;
+use std::alloc::Global;
+
+/// Runs the words of a command line of which `replay` is the first, with `--quiet`, `--node`,
+/// `--json` or `--state`, without the program's name, and returns the status: 0 where all went well,
+/// or help was asked for, 1 where the plan, its events, the node, a file or an output is at fault, 2
+/// where the words are not those of the command, 5 where memory ran out.
+pub fn replay_view<S: Source, O: Output, E: Output>(
+    alloc: Global,
+    words: &[&str],
+    source: &mut S,
+    out: &mut O,
+    err: &mut E,
+) -> u8
+    ensures views { IfSome (request_asked (texts_of words.entry.now)) (λ request.
+        Views (O.takes_all out.old && E.takes_all err.old) (S.told source.old) request
+        (seen O.Output E.Output out.old err.old) (seen O.Output E.Output out.new err.new) result) }
+    ensures printed { IfSome (request_asked (texts_of words.entry.now)) (λ request.
+        result ≡ 0
+        → PrintsView (S.told source.old) request (O.written out.old) (O.written out.new)) }
+    ensures passed { IsSome (request_asked (texts_of words.entry.now))
+        → PassesOn (E.written err.old) (E.written err.new) (O.keeps_back out.new) result }
+    ensures status { IsSome (request_asked (texts_of words.entry.now)) → IsRunStatus result }
+    ensures answers { Answers view_line (texts_of words.entry.now) (O.takes_all out.old)
+        (seen O.Output E.Output out.old err.old) (seen O.Output E.Output out.new err.new) result }
+{
+    match asked(alloc, words) {
+        Ok(Some(request)) => view_and_close(alloc, &request, source, out, err),
+        Ok(None) => 2,
+        Err(e) => refuse(alloc, &e, out, err),
+    }
+}
+
+/// Shows what is asked for, and closes the run. Returns the status.
+fn view_and_close<S: Source, O: Output, E: Output>(
+    alloc: Global,
+    request: &Request<'_>,
+    source: &mut S,
+    out: &mut O,
+    err: &mut E,
+) -> u8
+    ensures views { Views (O.takes_all out.old && E.takes_all err.old) (S.told source.old)
+        (request_of request.now)
+        (seen O.Output E.Output out.old err.old) (seen O.Output E.Output out.new err.new) result }
+    ensures printed { result ≡ 0 → PrintsView (S.told source.old) (request_of request.now)
+        (O.written out.old) (O.written out.new) }
+    ensures passed { PassesOn (E.written err.old) (E.written err.new) (O.keeps_back out.new)
+        result }
+    ensures status { IsRunStatus result }
+{
+    match view_run(alloc, request, source, out) {
+        Ok(status) => close(alloc, Ok(status), &request.names, out, err),
+        Err(Halt::Stop(stop)) => close(alloc, Err(stop), &request.names, out, err),
+        Err(Halt::NoNode(stranger)) => close_with(alloc, stranger, out, err),
+    }
+}
+
+/// Reads a plan and its events, and shows what is asked for of their replay.
+fn view_run<S: Source, O: Output>(
+    alloc: Global,
+    request: &Request<'_>,
+    source: &mut S,
+    out: &mut O,
+) -> Result<u8, Halt>
+    ensures ran { ViewRanOf (O.takes_all out.old) (O.written out.old) (O.written out.new)
+        (S.told source.old) (request_of request.now) result }
+    ensures printed { IfOk result (λ _. PrintsView (S.told source.old) (request_of request.now)
+        (O.written out.old) (O.written out.new)) }
+    ensures zero { IfOk result (λ status. status ≡ 0) }
+    ensures stays { O.takes_all out.new ≡ O.takes_all out.old }
+{
+    match fetch_named(alloc, source, &request.names) {
+        Ok(both) => view_text(alloc, request, &both.plan, both.text.as_slice(), out),
+        Err(stop) => Err(Halt::Stop(stop)),
+    }
+}
+
+/// Reads the events of a plan, and shows what is asked for of their replay. A text that is no JSON
+/// is named.
+fn view_text<O: Output>(
+    alloc: Global,
+    request: &Request<'_>,
+    plan: &Plan,
+    text: &[u8],
+    out: &mut O,
+) -> Result<u8, Halt>
+    ensures ran { CourseRan (O.takes_all out.old) (O.written out.old) (O.written out.new)
+        (course_of (request_of request.now) plan.now (events_at plan.now text.now)) result }
+    ensures printed { IfOk result (λ _. PrintsText plan.now text.now (request_of request.now)
+        (O.written out.old) (O.written out.new)) }
+    ensures zero { IfOk result (λ status. status ≡ 0) }
+    ensures stays { O.takes_all out.new ≡ O.takes_all out.old }
+{
+    match read_events(alloc, text, plan) {
+        Ok(events) => view_events(alloc, request, plan, events.as_slice(), out),
+        Err(fault) => Err(Halt::Stop(stop_named(Stop::from(fault), Named::Events))),
+    }
+}
+
+/// Shows what is asked for of the replay of these events.
+fn view_events<O: Output>(
+    alloc: Global,
+    request: &Request<'_>,
+    plan: &Plan,
+    events: &[Event],
+    out: &mut O,
+) -> Result<u8, Halt>
+    requires { AllNameNodes (length plan.now.nodes) events.now }
+    ensures ran { CourseRan (O.takes_all out.old) (O.written out.old) (O.written out.new)
+        (course_on (request_of request.now) plan.now events.now) result }
+    ensures printed { IfOk result (λ _. PrintsPlanned plan.now events.now (request_of request.now)
+        (O.written out.old) (O.written out.new)) }
+    ensures zero { IfOk result (λ status. status ≡ 0) }
+    ensures stays { O.takes_all out.new ≡ O.takes_all out.old }
+{
+    match node_in(alloc, plan, request.node) {
+        Ok(node) => {
+            let selection = Selection {
+                plan,
+                view: View {
+                    node,
+                    is_quiet: request.is_quiet,
+                    is_json: request.is_json,
+                    has_state: request.has_state,
+                },
+            };
+            show_halting(alloc, &selection, events, out)
+        }
+        Err(halt) => Err(halt),
+    }
+}
+
+/// The node of this name, where one is named.
+fn node_in(alloc: Global, plan: &Plan, name: Option<&str>) -> Result<Option<NodeId>, Halt>
+    ensures { IsFound plan.now (option_map (λ text. text.now) name.entry) result }
+{
+    let Some(name) = name else {
+        return Ok(None);
+    };
+    match plan.node(name) {
+        Some(node) => Ok(Some(node)),
+        None => Err(stranger_in(alloc, plan, name)),
+    }
+}
+
+/// Why nothing is shown of a name that no node has.
+fn stranger_in(alloc: Global, plan: &Plan, name: &str) -> Halt
+    ensures { IsStranger result }
+{
+    match told_of_node(alloc, plan, name) {
+        Ok(told) => Halt::NoNode(Stranger(told)),
+        Err(_) => Halt::Stop(Stop::Memory),
+    }
+}
+
+/// Replays the events by the plan's algorithm.
+fn show_halting<O: Output>(
+    alloc: Global,
+    selection: &Selection<'_>,
+    events: &[Event],
+    out: &mut O,
+) -> Result<u8, Halt>
+    requires { AllNameNodes (length selection.now.plan.now.nodes) events.now }
+    ensures ran { ViewRan (O.takes_all out.old) (O.written out.old) (O.written out.new)
+        (reports (view_by selection.now.plan.now selection.now.view selection.now.plan.now.shape
+        events.now)) result }
+    ensures prints { IfOk result (λ _. PrintsBy selection.now.plan.now selection.now.view events.now
+        (O.written out.old) (O.written out.new) selection.now.plan.now.shape) }
+    ensures zero { IfOk result (λ status. status ≡ 0) }
+    ensures stays { O.takes_all out.new ≡ O.takes_all out.old }
+{
+    match show_by_shape(alloc, selection, events, out) {
+        Ok(status) => Ok(status),
+        Err(stop) => Err(Halt::Stop(stop)),
+    }
+}
+
+/// Replays the events by the plan's algorithm.
+fn show_by_shape<O: Output>(
+    alloc: Global,
+    selection: &Selection<'_>,
+    events: &[Event],
+    out: &mut O,
+) -> Result<u8, Stop>
+    requires { AllNameNodes (length selection.now.plan.now.nodes) events.now }
+    ensures ran { Ran (O.takes_all out.old) (O.written out.old) (O.written out.new)
+        (view_by selection.now.plan.now selection.now.view selection.now.plan.now.shape events.now)
+        result }
+    ensures prints { IfOk result (λ _. PrintsBy selection.now.plan.now selection.now.view events.now
+        (O.written out.old) (O.written out.new) selection.now.plan.now.shape) }
+    ensures zero { IfOk result (λ status. status ≡ 0) }
+    ensures stays { O.takes_all out.new ≡ O.takes_all out.old }
+{
+    by_shape!(
+        alloc,
+        selection.plan,
+        |cluster| show(alloc, selection, cluster, events, out)
+    )
+}

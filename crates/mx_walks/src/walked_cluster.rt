@@ -1,0 +1,134 @@
+//! The events of a seed happen in the cluster of a plan.
+
+ghost use Rattle.std.specs.Prelude.{◌≡◌, IfOk, OnOk};
+ghost use Rattle.mx_cli.specs.Outputs.{refused_after};
+ghost use Rattle.mx_commands.specs.Runs.{whole};
+ghost use Rattle.mx_commands.specs.Ran.{Ran, verdict_status};
+ghost use Rattle.mx_walks.specs.Summaries.{after_seed, seed_text, summary_in, summary_of, summary_text};
+
+use crate::manner::Manner;
+use crate::steps::walk_cluster;
+use crate::summary::Summary;
+use mx_cli::Stop;
+use mx_commands::{by_shape, entries_in, happen, print, verdict_status};
+use mx_explorer::{judge, schedule};
+use mx_io::Output;
+use mx_network::Cluster;
+use mx_nodelaws::Exclusion;
+use mx_plan::Plan;
+use std::alloc::{AllocError, Global};
+
+/// The events of a seed happen; then the counts and the verdict are printed. Returns the status.
+pub fn explore_plan<O: Output>(
+    alloc: Global,
+    plan: &Plan,
+    manner: &Manner,
+    seed: u64,
+    steps: u64,
+    out: &mut O,
+) -> Result<u8, Stop>
+    ensures ran { Ran (O.takes_all out.old) (O.written out.old) (O.written out.new)
+        (whole (seed_text plan.now manner.now seed steps)) result }
+    ensures refused { O.has_refused out.new ≡ refused_after result (O.has_refused out.old) }
+    ensures zero { IfOk result (λ status. status ≡ 0) }
+    ensures stays { O.takes_all out.new ≡ O.takes_all out.old }
+{
+    let summary = explore_seed(alloc, plan, manner, seed, steps)?;
+    print_summary(alloc, &summary, out)
+}
+
+/// Prints what came of a seed. Returns the status of the verdict.
+fn print_summary<O: Output>(alloc: Global, summary: &Summary, out: &mut O) -> Result<u8, Stop>
+    ensures ran { Ran (O.takes_all out.old) (O.written out.old) (O.written out.new)
+        (whole (summary_text summary.now)) result }
+    ensures refused { O.has_refused out.new ≡ refused_after result (O.has_refused out.old) }
+    ensures status { IfOk result (λ status. status ≡ verdict_status summary.now.verdict) }
+    ensures stays { O.takes_all out.new ≡ O.takes_all out.old }
+{
+    let mut text = String::new(alloc);
+    text.write(*summary)?;
+    match print(text.as_bytes(), out) {
+        Ok(_) => Ok(verdict_status(summary.verdict)),
+        Err(stop) => Err(stop),
+    }
+}
+
+/// What came of the events of a seed, by the plan's algorithm.
+pub(crate) fn explore_seed(
+    alloc: Global,
+    plan: &Plan,
+    manner: &Manner,
+    seed: u64,
+    steps: u64,
+) -> Result<Summary, AllocError>
+    ensures { IfOk result (λ summary.
+        summary ≡ summary_of plan.now manner.now seed steps plan.now.shape) }
+{
+    by_shape!(
+        alloc,
+        plan,
+        |cluster| explore_cluster(alloc, plan, cluster, manner, seed, steps)
+    )
+}
+
+/// The events of a seed happen in a cluster.
+fn explore_cluster<C: Exclusion>(
+    alloc: Global,
+    plan: &Plan,
+    mut cluster: Cluster<C>,
+    manner: &Manner,
+    seed: u64,
+    steps: u64,
+) -> Result<Summary, AllocError>
+    ensures { IfOk result (λ summary. summary
+        ≡ summary_in steps (after_seed C.core plan.now manner.now seed steps cluster)) }
+{
+    apply_events(alloc, plan, &mut cluster, manner, seed, steps)?;
+    Ok(summary_in(&cluster, steps))
+}
+
+/// The events of a seed, each in turn.
+fn apply_events<C: Exclusion>(
+    alloc: Global,
+    plan: &Plan,
+    cluster: &mut Cluster<C>,
+    manner: &Manner,
+    seed: u64,
+    steps: u64,
+) -> Result<(), AllocError>
+    ensures { OnOk result
+        (after_seed C.core plan.now manner.now seed steps cluster.old ≡ cluster.new) }
+{
+    match manner {
+        Manner::Schedule => do_schedule(alloc, plan, cluster, seed, steps),
+        Manner::Walk(conditions) => walk_cluster(alloc, plan, cluster, conditions, seed, steps),
+    }
+}
+
+/// The events that are drawn each alone.
+fn do_schedule<C: Exclusion>(
+    alloc: Global,
+    plan: &Plan,
+    cluster: &mut Cluster<C>,
+    seed: u64,
+    steps: u64,
+) -> Result<(), AllocError>
+    ensures { OnOk result
+        (after_seed C.core plan.now Manner.Schedule seed steps cluster.old ≡ cluster.new) }
+{
+    let events = schedule(alloc, seed, steps, plan)?;
+    happen(cluster, events.as_slice())
+}
+
+/// The counts of a cluster after this many steps, and the verdict on its trace.
+fn summary_in<C: Exclusion>(cluster: &Cluster<C>, steps: u64) -> Summary
+    ensures { result ≡ summary_in steps cluster.now }
+{
+    let trace = cluster.trace();
+    Summary {
+        steps,
+        entered: entries_in(trace),
+        sent: cluster.sent(),
+        verdict: judge(trace),
+    }
+}
