@@ -1,4 +1,4 @@
-"""The bodies that a crate's page lists, and the copy of the crate in which they are tried."""
+"""The mutants that a crate's page lists, and the copy of the crate in which they are tried."""
 import os
 import re
 import shutil
@@ -9,11 +9,11 @@ PARTS = ("src", "specs", "proofs")
 
 
 @dataclass
-class Body:
+class Mutant:
     name: str
     function: str = ""
     pairs: list = field(default_factory=list)
-    # The goals whose answers don't fit the body.
+    # The goals whose answers don't fit the mutant.
     given_up: list = field(default_factory=list)
 
 
@@ -22,12 +22,12 @@ def text_of(room, file):
         return it.read()
 
 
-def bodies_of(crate):
-    """The bodies that the crate's page lists, none where it has no page."""
+def mutants_of(crate):
+    """The mutants that the crate's page lists, none where it has no page."""
     page = text_of(crate.folder, PAGE) if os.path.isfile(f"{crate.folder}/{PAGE}") else ""
     found = []
     for section in page.split("\n## ")[1:]:
-        found.append(Body(section.partition("\n")[0].strip()))
+        found.append(Mutant(section.partition("\n")[0].strip()))
         said = {}
         for word, text in re.findall(r"^    (\w+): (.*)", section, re.MULTILINE):
             said[word] = text
@@ -47,23 +47,23 @@ def place_of(text, function, old):
     return text.index(old) if text.count(old) == 1 else None
 
 
-def put_in(room, body):
-    """Writes the body into the crate's copy, or changes nothing and says why it can't."""
+def put_in(room, mutant):
+    """Writes the mutant into the crate's copy, or changes nothing and says why it can't."""
     texts = {}
-    for file, old, new in body.pairs:
+    for file, old, new in mutant.pairs:
         text = texts.get(file) or text_of(room, file)
-        place = place_of(text, body.function, old)
+        place = place_of(text, mutant.function, old)
         if place is None:
             return f"an old text stands in {file} {text.count(old)} times, and not once"
         texts[file] = text[:place] + new + text[place + len(old) :]
-    answers = f"proofs/{body.function.replace('::', '/')}/Answers.antt"
-    for goal in body.given_up if os.path.isfile(f"{room}/{answers}") else ():
+    answers = f"proofs/{mutant.function.replace('::', '/')}/Answers.antt"
+    for goal in mutant.given_up if os.path.isfile(f"{room}/{answers}") else ():
         own = rf"^pub {re.escape(goal)} :.*\n(?:.+\n)*"
         texts[answers] = re.sub(own, "", texts.get(answers) or text_of(room, answers), flags=re.MULTILINE)
     for file, text in texts.items():
         with open(f"{room}/{file}", "w", encoding="utf-8") as it:
             it.write(text)
-    return None if body.pairs else "it has no pair of old and new"
+    return None if mutant.pairs else "it has no pair of old and new"
 
 
 def copy_sources(crate, room):
