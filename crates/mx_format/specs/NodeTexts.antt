@@ -24,8 +24,8 @@ standing_text name phase mine =
     name ++ codes ": " ++ phase_text phase ++ codes ", mine " ++ decimal mine
 
 -- how many records a journal has above its base, and up to which number none is missing
-abbrev pub known_text : ℕ → ℕ → Text
-known_text records gapless =
+abbrev pub summary_text : ℕ → ℕ → Text
+summary_text records gapless =
     codes ", records " ++ decimal records ++ codes ", gapless " ++ decimal gapless
 
 abbrev pub value_text : Text → ℕ → Text
@@ -43,7 +43,7 @@ values_text p journal =
 
 abbrev pub journal_text : Fields → JournalState → Text
 journal_text p journal =
-    known_text (length journal.records) (first_gap journal - 1) ++ values_text p journal
+    summary_text (length journal.records) (first_gap journal - 1) ++ values_text p journal
 
 -- the line of the i-th node
 abbrev pub member_line : {H S M : Type 0} → Core H S M → Fields → ℕ → MemberState S → Text

@@ -4,7 +4,7 @@ ghost use Rattle.std.specs.Prelude.{◌≡◌, ◌++◌, string_bytes, OnOk};
 ghost use Rattle.mx_format.specs.NodeTexts.{journal_text, member_line, values_text};
 
 use crate::events::{name_of, register_name_of};
-use crate::standings::{Known, Standing, ValueText};
+use crate::standings::{JournalSummary, Standing, ValueText};
 use mx_journal::Journal;
 use mx_member::Member;
 use mx_nodelaws::Exclusion;
@@ -37,7 +37,7 @@ fn add_journal(plan: &Plan, journal: &Journal, text: &mut String) -> Result<(), 
     ensures { OnOk result (string_bytes text.new
         ≡ string_bytes text.old ++ journal_text plan.now journal.now) }
 {
-    text.write(Known {
+    text.write(JournalSummary {
         records: journal.len() as u64,
         gapless: journal.gapless_to(),
     })?;

@@ -1,7 +1,7 @@
 //! The phase of a node, and what its journal has.
 
 ghost use Rattle.std.specs.Prelude.{Some};
-ghost use Rattle.mx_format.specs.NodeTexts.{phase_text, standing_text, known_text, value_text};
+ghost use Rattle.mx_format.specs.NodeTexts.{phase_text, standing_text, summary_text, value_text};
 
 use mx_nodelaws::Phase;
 use std::fmt;
@@ -43,13 +43,13 @@ impl fmt::Display for Standing<'_> {
 
 /// How many records a journal has, and up to which number none is missing.
 #[derive(Clone, Copy)]
-pub struct Known {
+pub struct JournalSummary {
     pub records: u64,
     pub gapless: u64,
 }
 
-impl fmt::Display for Known {
-    ghost output = { λ k. Some (known_text k.records k.gapless) };
+impl fmt::Display for JournalSummary {
+    ghost output = { λ k. Some (summary_text k.records k.gapless) };
 
     fn fmt<W: fmt::Write>(&self, f: &mut fmt::Formatter<W>) -> fmt::Result {
         write!(f, ", records {}, gapless {}", self.records, self.gapless)

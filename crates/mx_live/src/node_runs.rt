@@ -11,7 +11,7 @@ ghost use Rattle.mx_live.specs.Together.{AreGathered, ComeOf, HaveSections};
 ghost use Rattle.mx_live.specs.Workers.{AreDone, AreLeft, orders_in, stations_of};
 
 use crate::halts::Halt;
-use crate::progress::tell_if_asked;
+use crate::progress::report_if_asked;
 use crate::threads::{Ended, WorkerConfig, join_all, start_all};
 use mx_cli::LiveRequest;
 use mx_io::Output;
@@ -132,7 +132,7 @@ where
 {
     let watch = watch_over(stations.as_slice())?;
     let workers = start_all(rt, alloc, plan.nodes(), stations, orders_of(request))?;
-    tell_if_asked(rt, alloc, request.progress, watch, &workers, err);
+    report_if_asked(rt, alloc, request.progress, watch, &workers, err);
     join_all(rt, workers)
 }
 

@@ -30,7 +30,7 @@ impl fmt::Display for ProgressLine {
 }
 
 /// Tells how far the workers are if that was asked for, until all have ended.
-pub(crate) fn tell_if_asked<C: Exclusion, K: Clock, E: Output>(
+pub(crate) fn report_if_asked<C: Exclusion, K: Clock, E: Output>(
     clock: &K,
     alloc: Global,
     asked: bool,
@@ -45,13 +45,13 @@ pub(crate) fn tell_if_asked<C: Exclusion, K: Clock, E: Output>(
         return;
     }
     if let Some(watch) = watch {
-        tell_progress(clock, alloc, &watch, workers, err);
+        report_progress(clock, alloc, &watch, workers, err);
     }
 }
 
 /// Tells about once a second how many sections stand, until all workers have ended. What can't be
 /// told is left out.
-fn tell_progress<C: Exclusion, K: Clock, E: Output>(
+fn report_progress<C: Exclusion, K: Clock, E: Output>(
     clock: &K,
     alloc: Global,
     watch: &Watch<C>,
@@ -65,12 +65,12 @@ fn tell_progress<C: Exclusion, K: Clock, E: Output>(
         if is_over(clock, workers) {
             return;
         }
-        tell_sections(alloc, watch.sections(), err);
+        report_sections(alloc, watch.sections(), err);
     }
 }
 
 /// Tells how many sections stand, or nothing.
-fn tell_sections<E: Output>(alloc: Global, sections: u64, err: &mut E)
+fn report_sections<E: Output>(alloc: Global, sections: u64, err: &mut E)
     ensures progress { Progresses (E.written err.old) (E.written err.new) }
     ensures stays { E.takes_all err.new ≡ E.takes_all err.old }
 {

@@ -22,8 +22,8 @@ returns-clause-left g c =
 pub start_all-requires-after_bounds : goal.start_all-requires-after_bounds
 start_all-requires-after_bounds g c κs within = (search (c.requires-raw), omega (arith, c.nodes.ensures.high))
 
-pub tell_if_asked-requires : goal.tell_if_asked-requires
-tell_if_asked-requires g c = search (c.requires-raw)
+pub report_if_asked-requires : goal.report_if_asked-requires
+report_if_asked-requires g c = search (c.requires-raw)
 
 pub join_all-requires : goal.join_all-requires
 join_all-requires g c = search (c.requires-raw)

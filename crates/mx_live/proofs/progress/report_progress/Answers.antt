@@ -1,12 +1,12 @@
 use Rattle.std.proofs.Common.{◌∙◌, refl}
 use Rattle.mx_live.proofs.ProgressLemmas.{more_told, none_told}
-use Rattle.mx_live.proofs.progress.tell_progress.Goals as goal
+use Rattle.mx_live.proofs.progress.report_progress.Goals as goal
 
 pub loop-second-init : goal.loop-second-init
 loop-second-init g c = record { progress = none_told (g.E.Output.written c.args.err.now); stays = refl }
 
 pub loop-second-preserved : goal.loop-second-preserved
 loop-second-preserved g c = record {
-  progress = more_told _ _ _ c.loop-second.invariant.progress c.tell_sections.ensures.progress;
-  stays = c.tell_sections.ensures.stays ∙ c.loop-second.invariant.stays;
+  progress = more_told _ _ _ c.loop-second.invariant.progress c.report_sections.ensures.progress;
+  stays = c.report_sections.ensures.stays ∙ c.loop-second.invariant.stays;
 }

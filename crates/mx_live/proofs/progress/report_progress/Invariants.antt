@@ -1,6 +1,6 @@
 use Rattle.std.proofs.Common.{◌≡◌}
 use Rattle.mx_live.specs.Progress.{Progresses}
-use Rattle.mx_live.proofs.progress.tell_progress.Given as goal
+use Rattle.mx_live.proofs.progress.report_progress.Given as goal
 
 abbrev pub invariant-loop-second : goal.invariant-loop-second
 invariant-loop-second g l = record {
