@@ -75,7 +75,7 @@ pub fn replay_command<'a>(alloc: Global) -> Result<Command<'a>, AllocError>
     with_arg(with_json, state)
 }
 
-/// `explore PLAN --seed S --steps K`, which may have `--count`.
+/// Creates the command line `explore PLAN --seed S --steps K [--count]`.
 pub fn explore_command<'a>(alloc: Global) -> Result<Command<'a>, AllocError>
     ensures { IfOk result (IsCommand explore_app) }
 {
@@ -215,7 +215,7 @@ fn is_view(matches: &ArgMatches<'_>) -> bool
         || is_given(matches, "state")
 }
 
-/// The names that were given for a plan and its events.
+/// Returns the file names of a plan and its events, if both are given.
 pub fn names_at<'a>(matches: &ArgMatches<'a>) -> Option<Names<'a>>
     ensures { option_map names_of result ≡ names_at (rows_of (found_of matches.now)) }
 {
@@ -258,7 +258,7 @@ pub fn number_at(matches: &ArgMatches<'_>, id: &str) -> Option<u64>
     matches.get_one::<u64>(id)
 }
 
-/// Whether a flag was given.
+/// Returns whether a flag was given.
 pub fn is_given(matches: &ArgMatches<'_>, id: &str) -> bool
     ensures { result ≡ is_given id.now (rows_of (found_of matches.now)) }
 {

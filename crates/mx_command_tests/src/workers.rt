@@ -15,7 +15,7 @@ fn stations_of(alloc: Global, nodes: u8) -> Result<Vec<Station<Ricart>>, Fail> {
     Ok(Field::<Ricart>::stations(alloc, &shape, 0, 1000, 1)?)
 }
 
-/// How a worker ends that has no section of its own.
+/// Returns how a worker without sections ends.
 fn work_at(station: Station<Ricart>, gate: &StartGate) -> Worked {
     let script = Script {
         register: 0,

@@ -15,10 +15,9 @@ use mx_cli::{Names, Request, Stop, asked, is_refused, refuse, tell, tell_memory}
 use mx_io::{Output, Source};
 use std::alloc::Global;
 
-/// Runs the words of a command line, without the program's name, and returns the status: 0 where
-/// all went well, or help or the version was asked for, 1 where a plan, its events, a file or an
-/// output is at fault, 2 where the words are no command, 4 where the verdict is that the trace is
-/// broken, 5 where memory ran out.
+/// Runs the arguments of a command line, without the program's name, and returns the exit status: 0
+/// if all went well, or for help and the version; 1 for an error in a plan, its events, a file or
+/// an output; 2 for arguments that are no command; 4 if the trace is broken; 5 if memory ran out.
 pub fn command<S: Source, O: Output, E: Output>(
     alloc: Global,
     words: &[&str],
@@ -62,7 +61,7 @@ fn run_request<S: Source, O: Output, E: Output>(
     }
 }
 
-/// The names that the lines of faults have.
+/// Returns the names for messages about faults.
 pub fn names_in<'a>(request: &Request<'a>) -> Names<'a>
     ensures { names_of result ≡ names_in (request_of request.now) }
 {

@@ -1,4 +1,4 @@
-//! `explore`: events drawn from a seed, and the verdict of what came of them.
+//! `explore`: events drawn from a seed, and the verdict on their trace.
 
 ghost use Rattle.std.specs.Prelude.{◌≡◌, ◌+◌, ◌<◌, ◌++◌, length, string_bytes, IfOk, OnOk};
 ghost use Rattle.std.specs.List.{count_by};
@@ -22,8 +22,8 @@ use mx_nodelaws::Exclusion;
 use mx_plan::Plan;
 use std::alloc::{AllocError, Global};
 
-/// Reads a plan, draws a schedule of this many steps, does its events, and prints the counts
-/// and the verdict. Returns the status.
+/// Reads a plan, draws and runs a schedule, and prints the counts and the verdict. Returns the
+/// status.
 pub(crate) fn explore<S: Source, O: Output>(
     alloc: Global,
     exploration: &Exploration<'_>,
@@ -62,7 +62,7 @@ fn explore_plan<O: Output>(
     }
 }
 
-/// The events happen, by the plan's algorithm; then the summary.
+/// Runs the events by the plan's algorithm, then appends the summary.
 fn add_summary_of(
     alloc: Global,
     plan: &Plan,
@@ -80,7 +80,7 @@ fn add_summary_of(
     )
 }
 
-/// The events happen; then the summary.
+/// Runs the events, then appends the summary.
 fn add_summary_after<C: Exclusion>(
     mut cluster: Cluster<C>,
     events: &[Event],
@@ -94,7 +94,7 @@ fn add_summary_after<C: Exclusion>(
     add_summary(&cluster, events, text)
 }
 
-/// Each event in turn.
+/// Runs the events in order.
 pub fn happen<C: Exclusion>(cluster: &mut Cluster<C>, events: &[Event]) -> Result<(), AllocError>
     ensures { OnOk result (after_drawn C.core cluster.old events.now ≡ cluster.new) }
 {
@@ -148,7 +148,7 @@ fn add_summary<C: Exclusion>(
     Ok(verdict)
 }
 
-/// How often a node entered.
+/// Returns how often a node entered.
 pub fn entries_in(trace: &[Entry]) -> u64
     ensures { result ≡ count_by is_entry trace.now }
 {

@@ -18,7 +18,7 @@ use mx_nodelaws::Exclusion;
 use mx_plan::Plan;
 use std::alloc::{AllocError, Global};
 
-/// The cluster of a plan, at rest.
+/// Creates the cluster of a plan, at rest.
 pub fn start<C: Exclusion>(
     alloc: Global,
     plan: &Plan,
@@ -56,7 +56,8 @@ where
     run_events(alloc, plan, &mut cluster, events, out)
 }
 
-/// Each event in turn, and its text in one piece; then the closing lines. Returns the status.
+/// Runs the events in order and prints the text of each in one piece, then the closing lines.
+/// Returns the status.
 fn run_events<C: Exclusion, O: Output>(
     alloc: Global,
     plan: &Plan,
@@ -122,7 +123,7 @@ where
     }
 }
 
-/// The newest item of a trace that has one.
+/// Returns the newest item of a trace that has one.
 fn newest(trace: &[Entry]) -> &Entry
     requires { 0 < length trace.now }
     ensures { (front : List Entry) (entry : Entry) → trace.now ≡ front ++ entry ∷ []

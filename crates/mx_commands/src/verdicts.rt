@@ -40,7 +40,7 @@ impl fmt::Display for VerdictLine {
     }
 }
 
-/// The status of a verdict.
+/// Returns the status for a verdict.
 pub fn verdict_status(verdict: Verdict) -> u8
     ensures { result ≡ verdict_status verdict }
 {

@@ -161,8 +161,8 @@ impl<'a> FileReport<'a> {
         self.tell_at(is_fault, offset, line)
     }
 
-    /// Adds a fault of the parcel that the event of this number, counted from 0, delivers. The line
-    /// begins with a space.
+    /// Adds a fault of event `k`, counted from 0: the parcel that it delivers. The line begins with
+    /// a space.
     pub fn fault_of_parcel<D: Display + Drop>(
         &mut self,
         k: u64,

@@ -11,21 +11,21 @@ use mx_stamps::NodeId;
 use mx_trace::{Cause, Event, Outcome};
 use std::fmt;
 
-/// The name that the plan gives a node.
+/// Returns the name that the plan gives a node.
 pub fn name_of(plan: &Plan, node: NodeId) -> &str
     ensures { result.now ≡ name_of plan.now node }
 {
     plan.node_name(node.get()).unwrap_or("")
 }
 
-/// The name that the plan gives a register.
+/// Returns the name that the plan gives a register.
 pub fn register_name_of(plan: &Plan, register: u8) -> &str
     ensures { result.now ≡ register_name_of plan.now register }
 {
     plan.register_name(register).unwrap_or("")
 }
 
-/// What came of an event.
+/// The outcome of an event.
 #[derive(Clone, Copy)]
 pub struct OutcomeText<'a>(pub &'a Outcome);
 
@@ -126,7 +126,7 @@ impl fmt::Display for EventText<'_> {
     }
 }
 
-/// The line of an event and of what came of it.
+/// The line of an event and its outcome.
 #[derive(Clone, Copy)]
 pub struct EventLine<'a> {
     pub plan: &'a Plan,

@@ -11,7 +11,7 @@ use mx_plan::Plan;
 use mx_stamps::Stamp;
 use std::alloc::AllocError;
 
-/// A letter that tells its parts.
+/// A letter that returns its parts.
 pub trait Letter: Copy + Default {
     // its parts
     ghost parts: { Self → Parts };
@@ -23,7 +23,7 @@ pub trait Letter: Copy + Default {
     fn parts(&self) -> LetterParts
         ensures { parts_of result ≡ parts self.now };
 
-    /// The words of its algorithm's letters, in the order in which they are counted.
+    /// Returns the words of its algorithm's letters, in the order of counting.
     fn words() -> &'static [&'static str]
         ensures { map (λ word. word.now) result.now ≡ words };
 
@@ -40,7 +40,7 @@ pub trait Letter: Copy + Default {
     }
 }
 
-/// The parts of a letter about the request of a stamp.
+/// Returns the parts of a letter about the request of a stamp.
 fn about(word: &'static str, stamp: &Stamp, numbers: Numbers, style: Style) -> LetterParts
     ensures { parts_of result ≡ of_request word.now stamp.now (numbers_of numbers) style }
 {
@@ -52,7 +52,7 @@ fn about(word: &'static str, stamp: &Stamp, numbers: Numbers, style: Style) -> L
     }
 }
 
-/// The parts of a letter about a number of its sender, by its name.
+/// Returns the parts of a letter about a number of its sender, by the number's name.
 fn counted(
     word: &'static str,
     name: &'static str,

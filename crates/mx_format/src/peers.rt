@@ -83,7 +83,7 @@ fn leads_to(tree: &Tree, node: NodeId, other: NodeId) -> bool
     tree.toward(node).get() == other.get()
 }
 
-/// The begin of a node's line.
+/// The start of a node's line.
 #[derive(Clone, Copy)]
 struct AsksHead<'a> {
     plan: &'a Plan,

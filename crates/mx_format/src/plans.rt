@@ -87,7 +87,7 @@ fn add_directions(plan: &Plan, tree: &Tree, text: &mut String) -> Result<(), All
     Ok(())
 }
 
-/// Appends the line of a node, where it is not the holder.
+/// Appends the line of a node, unless it is the holder.
 fn add_direction(plan: &Plan, tree: &Tree, i: u8, text: &mut String) -> Result<(), AllocError>
     requires { (i < MAX_NODES) × (i < tree.now.count) }
     ensures { OnOk result (string_bytes text.new ≡ string_bytes text.old

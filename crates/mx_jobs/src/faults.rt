@@ -34,7 +34,7 @@ pub enum RunFault {
     TurnsSpent,
 }
 
-/// The fault of a run of which a thread was not started.
+/// Returns the fault of a run in which a thread was not started.
 pub(crate) fn fault_of(refused: StartFault) -> RunFault
     ensures { IfOfEnds result ⊥ }
 {
@@ -52,7 +52,8 @@ pub struct Unfinished<C: Exclusion, J: Drop> {
     pub jobs: Vec<J>,
 }
 
-/// The fault to report after one more worker has ended: the first in the order of `RunFault`.
+/// Returns the fault to report after one more worker has ended: the first in the order of
+/// `RunFault`.
 pub(crate) fn with_end(fault: Option<RunFault>, ended: Ended) -> Option<RunFault>
     ensures job { (why : TheFault) → fault ≡ Some (RunFault.Job why) → result ≡ fault }
     ensures done { ended ≡ Ended.Done → result ≡ fault }

@@ -24,15 +24,16 @@ pub trait Job: Drop {
     // this job
     ghost makes: { Self → ℕ → List ℕ → List OneWrite → Self → Type 0 } = { λ j n v w t. Unit {0} };
 
-    // so the registers are after this many sections of all nodes, where this is what they hold
+    // the law: after this number of sections of all nodes, the registers may hold these values
     ghost holds: { ℕ → List ℕ → Type 0 } = { λ sections contents. Unit {0} };
 
-    /// The registers that the next section reads; None where the job is done.
+    /// Returns the registers that the next section reads, or `None` if the job is done.
     fn asks(&self) -> Option<ArrayVec<u8, 8>>
         ensures some { IfSome result (λ registers. asks_for self.now registers.items) }
         ensures none { IfNone result (finished self.now) };
 
-    /// The section: from its number and the values of the registers, in order, to its writes.
+    /// Runs the next section: takes its number and the values of the registers, in order, and
+    /// returns its writes.
     fn section(&mut self, number: u64, values: &[u64]) -> ArrayVec<Write, 8>
         requires { ready self.old }
         ensures made { makes self.old number values.now result.items self.new }

@@ -1,4 +1,4 @@
-//! Jobs: what the nodes of a cluster do in sections of their own, each in a thread.
+//! Jobs: what the nodes of a cluster do in their sections, each node in a thread.
 #![tactic(auto)]
 
 mod calls;

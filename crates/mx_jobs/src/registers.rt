@@ -12,7 +12,7 @@ use mx_stamps::MAX_REGISTERS;
 /// The greatest number of registers.
 const ROOM: usize = MAX_REGISTERS as usize;
 
-/// The values of the first `count` registers, in order, 0 for one that no section wrote.
+/// Returns the values of the first `count` registers, in order; 0 if no section wrote one.
 pub fn contents(journal: &Journal, count: u8) -> ArrayVec<u64, ROOM>
     requires least { 1 ≤ count }
     requires most { count ≤ MAX_REGISTERS }
@@ -26,7 +26,7 @@ pub fn contents(journal: &Journal, count: u8) -> ArrayVec<u64, ROOM>
     contents
 }
 
-/// The value of a register, 0 where it is not there.
+/// Returns the value of a register, or 0 if it is absent.
 fn value_of(view: &View, register: u8) -> u64
     ensures { result ≡ get_or (values_in view.now) register 0 }
 {

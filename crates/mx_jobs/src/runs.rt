@@ -32,22 +32,22 @@ pub struct Finished<J: Drop> {
     pub jobs: Vec<J>,
 }
 
-/// What the threads of a run leave, all of which are done: the k-th station and the k-th job are
-/// what the k-th that were handed in have become.
+/// What the threads of a finished run leave: the k-th station and the k-th job, as they are after
+/// the run.
 #[derive(Drop)]
 pub struct Ran<C: Exclusion, J: Drop> {
     pub stations: Vec<Station<C>>,
     pub jobs: Vec<J>,
 }
 
-/// Runs a cluster from its new stations, each in a thread of its own, and gathers what they have.
+/// Runs a cluster from its new stations, each in a thread, and gathers their journals and receipts.
 /// The k-th job is that of node k, and the k-th fates are those of the parcels that reach it. A
-/// node goes through the sections of its job, and then answers the others until all jobs are done.
-/// No node makes more turns than the options say.
+/// node goes through the sections of its job, and then replies to the others until all jobs are
+/// done. No node makes more turns than the options say.
 ///
 /// # Errors
 ///
-/// `RunFault` says why the run came to no end. The stations and the jobs come back, in order.
+/// `RunFault` says why the run did not finish. The stations and the jobs come back, in order.
 pub fn run<
     C: Exclusion + Send + 'static,
     J: Job + Send + 'static,
@@ -89,12 +89,12 @@ where
     }
 }
 
-/// Runs stations, each in a thread of its own, until all jobs are done. The k-th job and the k-th
-/// fates are those of the k-th station.
+/// Runs stations, each in a thread, until all jobs are done. The k-th job and the k-th fates are
+/// those of the k-th station.
 ///
 /// # Errors
 ///
-/// `RunFault` says why the run came to no end. The stations and the jobs come back, in order.
+/// `RunFault` says why the run did not finish. The stations and the jobs come back, in order.
 pub fn run_stations<
     C: Exclusion + Send + 'static,
     J: Job + Send + 'static,
@@ -142,7 +142,7 @@ where
     }
 }
 
-/// Fair links to each of this many nodes, which lose and repeat nothing.
+/// Returns fair links to `count` nodes: they lose and repeat nothing.
 pub fn fair_links(alloc: Global, count: usize) -> Result<Vec<Fair>, AllocError> {
     let mut links = Vec::new(alloc);
     for _node in 0..count {
@@ -151,7 +151,7 @@ pub fn fair_links(alloc: Global, count: usize) -> Result<Vec<Fair>, AllocError> 
     Ok(links)
 }
 
-/// Runs each station in a thread of its own, until all threads have ended.
+/// Runs each station in a thread, until all threads have ended.
 fn run_all<
     C: Exclusion + Send + 'static,
     J: Job + Send + 'static,
@@ -194,7 +194,7 @@ where
     }
 }
 
-/// How many nodes there are, 1 where there is no station.
+/// Returns the number of nodes, or 1 if there is no station.
 fn count_of<C: Exclusion>(stations: &[Station<C>]) -> u8
     ensures { result < 22 }
 {
@@ -204,7 +204,7 @@ fn count_of<C: Exclusion>(stations: &[Station<C>]) -> u8
     }
 }
 
-/// Gathers what the nodes did, all of which are done.
+/// Gathers what the nodes did, once all are done.
 fn finish<C: Exclusion, J: Job>(
     alloc: Global,
     stations: Vec<Station<C>>,

@@ -10,8 +10,8 @@ use mx_nodelaws::Exclusion;
 use mx_stations::{Field, Station};
 use std::alloc::{AllocError, Global};
 
-/// How a cluster begins: where the numbers of requests start, the greatest section number, and how
-/// many registers there are.
+/// The settings of a new cluster: the number from which requests count, the greatest section
+/// number, and the number of registers.
 #[derive(Clone, Copy, Debug, PartialEq, Eq)]
 pub struct Settings {
     pub origin: u64,

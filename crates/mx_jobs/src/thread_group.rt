@@ -1,4 +1,4 @@
-//! The threads of a run behind one gate.
+//! The threads of a run, which share one gate.
 
 ghost use Rattle.std.specs.Prelude.{◌≡◌, ◌<◌, ◌++◌, ◌∷◌, [], IfErr, IfNone, IfOk, IfSome, OnErr, OnOk};
 ghost use Rattle.std.specs.List.{AllZip};
@@ -35,8 +35,8 @@ impl<T: Drop> From<NotStarted<T>> for AllocError {
     }
 }
 
-/// The threads of a run behind one gate. Each has promised something of what it leaves; a contract
-/// sees the promises of those that are not joined yet, in order.
+/// The threads of a run, which share one gate. Each has promised something of what it leaves; a
+/// contract sees the promises of those that are not joined yet, in order.
 #[derive(Drop)]
 pub struct ThreadGroup<T, P: Promise<T>> {
     handles: Vec<PromisedHandle<T, P>>,
@@ -52,7 +52,7 @@ impl<T, P: Promise<T>> Model for ThreadGroup<T, P> {
 }
 
 impl<T: Drop, P: Promise<T> + Drop> ThreadGroup<T, P> {
-    /// No threads yet, behind a gate for this many nodes.
+    /// Creates a group without threads, with a gate for this number of nodes.
     pub fn new(alloc: Global, nodes: u8) -> Result<Self, AllocError>
         requires { nodes < 22 }
         ensures { IfOk result (λ group. group ≡ []) }
@@ -64,7 +64,7 @@ impl<T: Drop, P: Promise<T> + Drop> ThreadGroup<T, P> {
         })
     }
 
-    /// Starts a thread for a task, which is given the gate.
+    /// Starts a thread for a task, which gets the gate.
     ///
     /// # Errors
     ///
@@ -116,7 +116,7 @@ impl<T: Drop, P: Promise<T> + Drop> ThreadGroup<T, P> {
         }
     }
 
-    /// Starts a thread for a task, which is given the gate.
+    /// Starts a thread for a task, which gets the gate.
     ///
     /// # Errors
     ///
@@ -178,7 +178,7 @@ impl<T: Drop, P: Promise<T> + Drop> ThreadGroup<T, P> {
         self.gate.shut();
     }
 
-    /// Whether as many threads have ended as the gate has nodes.
+    /// Returns whether the threads of all nodes have ended.
     pub fn has_ended(&self) -> bool {
         self.gate.has_ended()
     }

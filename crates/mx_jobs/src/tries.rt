@@ -95,8 +95,8 @@ pub(crate) fn try_leave<C: Exclusion>(station: &mut Station<C>) -> bool
 }
 
 /// Makes the job's next section, which reads these registers, if the node is inside and its journal
-/// has the records of all earlier sections. It begins with an empty draft, so that a try that met a
-/// gap leaves nothing behind.
+/// has the records of all earlier sections. It starts with an empty draft, so an earlier try that
+/// met a gap has no effect.
 pub(crate) fn try_section<C: Exclusion, J: Job>(
     station: &mut Station<C>,
     job: &mut J,
@@ -135,7 +135,7 @@ pub(crate) fn try_section<C: Exclusion, J: Job>(
     }
 }
 
-/// What a section that was made came to.
+/// Returns the outcome of a section that was made.
 fn outcome_of(has_left: bool) -> Tried
     ensures left { result ≡ Tried.Left → has_left ≡ true }
     ensures pending { result ≡ Tried.Pending → has_left ≡ false }

@@ -1,4 +1,4 @@
-//! A worker: it takes a station through the sections of a job, and answers the other nodes until
+//! A worker: it takes a station through the sections of a job, and replies to the other nodes until
 //! all are done.
 
 ghost use Rattle.std.specs.Prelude.{◌≡◌, ◌≤◌, ◌<◌, ◌↔◌, Bool, false, true, IfOk, OnErr, OnOk, IsTrue, length};
@@ -16,20 +16,20 @@ use mx_nodelaws::{EnterFault, Exclusion, Phase};
 use mx_stamps::NodeId;
 use mx_stations::{Patience, Station, TakeFault, TurnReport, settle_if_due};
 
-/// When workers begin, when they may stop, and whether they have to. Each call may wait for other
+/// Says when workers start, when they may stop, and whether they must. Each call may wait for other
 /// workers.
 pub trait Gate: mx_stations::Gate {
-    /// Why all workers are to stop: the job of one cannot go on. It is asked after each turn.
+    /// Returns why all workers must stop: the job of one cannot go on. It is asked after each turn.
     fn broken(&self) -> Option<JobFault>;
 }
 
 /// How far a worker may go.
 #[derive(Clone, Copy, Debug, PartialEq, Eq)]
 pub struct RunOptions {
-    /// How many turns it makes at the most.
+    /// The most turns that a node makes.
     pub turns: u64,
-    /// After every so many sections of its own its station settles: the registers after all
-    /// sections that its journal has without gaps come in place of their records. With 0 it never
+    /// The station settles whenever the number of its sections reaches a multiple of this. The
+    /// registers after all sections up to its first gap then replace their records. With 0 it never
     /// settles.
     pub settle_every: u64,
 }
@@ -41,7 +41,7 @@ pub enum Ended {
     Done,
     /// All turns were made.
     NotYet,
-    /// The gate did not let it begin.
+    /// The gate did not let it start.
     GateShut,
     /// The job cannot go on.
     Broken(JobFault),
@@ -49,8 +49,8 @@ pub enum Ended {
     Stopped(JobFault),
 }
 
-/// How far a worker is: whether a section of its job is made and not left yet, which node it asked
-/// last for the records that it lacks, and how long it waits between two turns.
+/// The state of a worker: whether a section of its job is made but not left, which node it asked
+/// last for records, and how long it waits between turns.
 #[derive(Drop)]
 struct WorkerState {
     pending: bool,
@@ -58,11 +58,11 @@ struct WorkerState {
     patience: Patience,
 }
 
-/// Waits at the gate, and then works at the job for at most as many turns as the options say, under
-/// these fates of parcels. In each turn the acts that are due come first: it asks, enters, and
-/// inside makes the job's next section and leaves. If records are missing, it asks the next node in
-/// the circle for them. If memory is refused when it leaves, it tries again on the next turn. Then
-/// the station takes a turn, and settles if that is due.
+/// Waits at the gate, then works at the job for at most `options.turns` turns, with these fates of
+/// parcels. In each turn the acts that are due come first: it asks, enters, and inside makes the
+/// job's next section and leaves. If records are missing, it asks the next node in the circle for
+/// them. If memory is refused when it leaves, it tries again on the next turn. Then the station
+/// takes a turn, and settles if that is due.
 pub fn work<C: Exclusion, J: Job, G: Gate, F: Fates>(
     station: &mut Station<C>,
     job: &mut J,
@@ -113,8 +113,8 @@ fn is_inside<C: Exclusion>(station: &Station<C>) -> bool
     matches!(station.phase(), Phase::Inside(_))
 }
 
-/// The acts that are due, and a turn of the station, which settles at its end if that is due.
-/// Returns whether the job has no more sections.
+/// Does the acts that are due, and a turn of the station, which settles at its end if that is due.
+/// Returns whether the job is done.
 fn take_turn<C: Exclusion, J: Job, F: Fates>(
     station: &mut Station<C>,
     job: &mut J,
@@ -152,7 +152,7 @@ fn rest<C: Exclusion>(
     patience.wait(station, report, asks);
 }
 
-/// The acts that are due. Returns whether the job has no more sections.
+/// Does the acts that are due. Returns whether the job is done.
 fn act<C: Exclusion, J: Job>(
     station: &mut Station<C>,
     job: &mut J,
@@ -242,7 +242,7 @@ fn want_next<C: Exclusion>(station: &mut Station<C>, stance: &mut WorkerState)
     stance.wanted = next;
 }
 
-/// The next node in the circle of this many, of which `other` is one.
+/// Returns the node after `node`, in cyclic order of `nodes` nodes; `other` is one of them.
 fn node_after(node: NodeId, other: NodeId, nodes: u8) -> NodeId
     requires { other < nodes }
     ensures { result < nodes }

@@ -17,12 +17,12 @@ pub struct Line {
     pub order: Order,
 }
 
-/// What the words of a line ask for. A line without words asks for nothing.
+/// Parses the words of a line. Returns `None` for a line without words.
 ///
 /// # Errors
 ///
-/// The first word that is wrong, from the left. What is wrong with the number of the words counts
-/// first, and is an error of the word after which they stand.
+/// Returns the first wrong word, from the left. A wrong number of words comes first, as an error of
+/// the word that takes them.
 pub fn read_line<N: Names>(names: &N, words: &[&str]) -> Result<Option<Line>, LineError>
     ensures { result ≡ line_of (N.known names.now) (texts_of words.now) }
 {

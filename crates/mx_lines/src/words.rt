@@ -22,8 +22,8 @@ pub fn words_in(alloc: Global, line: &str) -> Result<Vec<&str>, AllocError>
     before_comment(line).split_whitespace().collect(alloc)
 }
 
-/// The byte of a line with which its word of this number begins, counted from 0; none where there
-/// are fewer words.
+/// Returns the byte at which word `number` of a line begins, both counted from 0, or `None` if
+/// there are fewer words.
 pub fn place_of_word(line: &str, number: usize) -> Option<usize> {
     let mut left = number;
     let mut is_inside = false;

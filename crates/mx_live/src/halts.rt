@@ -1,4 +1,4 @@
-//! Why a live run ends without a journal, and how that is told.
+//! Why a live run ends without a journal, and the message for it.
 
 ghost use Rattle.std.specs.Prelude.{◌≡◌, Some};
 ghost use Rattle.mx_live.specs.Halts.{TellsHalt, halt_line, halt_status};
@@ -25,7 +25,7 @@ pub enum Halt {
 }
 
 impl Halt {
-    /// The status with which the run ends.
+    /// Returns the status of the run.
     pub(crate) fn status(self) -> u8
         ensures { result ≡ halt_status self }
     {
@@ -74,7 +74,7 @@ impl From<AllocError> for Halt {
     }
 }
 
-/// The line of a halt, where the plan has this name.
+/// The message for a halt; the plan has this file name.
 #[derive(Clone, Copy)]
 pub(crate) struct HaltLine<'a> {
     pub(crate) halt: Halt,
@@ -96,7 +96,7 @@ impl fmt::Display for HaltLine<'_> {
     }
 }
 
-/// The line of a fault of a plan of this name.
+/// Returns the message for a fault of the plan with this file name.
 fn fault_line<'a>(fault: Fault, plan: &'a str) -> FaultLine<'a>
     ensures fault { result.fault ≡ fault }
     ensures plan { result.names.plan.now ≡ plan.now }
@@ -106,7 +106,7 @@ fn fault_line<'a>(fault: Fault, plan: &'a str) -> FaultLine<'a>
     FaultLine { fault, names }
 }
 
-/// Tells why a run has no journal, and returns the status. A writer that refuses is told nothing.
+/// Reports why a run has no journal, and returns the status. A writer that refuses gets nothing.
 pub fn tell<E: Output>(alloc: Global, halt: Halt, plan: &str, err: &mut E) -> u8
     ensures { TellsHalt (E.takes_all err.old) plan.now halt
         (E.written err.old) (E.written err.new) result }

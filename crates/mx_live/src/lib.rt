@@ -1,5 +1,5 @@
-//! `mx live`: one thread for each node of a plan, each of which adds 1 to the first register in
-//! sections of its own; then their journals are gathered.
+//! `mx live`: one thread for each node of a plan. Each node adds 1 to the first register in its
+//! sections; then the journals are gathered.
 #![tactic(auto)]
 
 mod halts;

@@ -54,8 +54,7 @@ pub fn live<R: Threads + Clock, S: Source, O: Output, E: Output>(
     }
 }
 
-/// Runs what is asked for, and tells why there is no journal where there is none. Returns the
-/// status.
+/// Runs the request, or reports why there is no journal. Returns the status.
 fn run_live<R: Threads + Clock, S: Source, O: Output, E: Output>(
     rt: &R,
     alloc: Global,
@@ -94,8 +93,7 @@ fn live_and_show<R: Threads + Clock, S: Source, O: Output, E: Output>(
     live_plan(rt, alloc, &plan, request, out, err)
 }
 
-/// Runs the nodes of a plan, where it has sections enough, and prints what their journals have
-/// together.
+/// Runs the nodes of a plan, if it has enough sections, and prints their gathered journal.
 fn live_plan<R: Threads + Clock, O: Output, E: Output>(
     rt: &R,
     alloc: Global,

@@ -10,7 +10,7 @@ use mx_registers::view;
 use std::alloc::AllocError;
 use std::fmt;
 
-/// A name, what stands behind it, and a number.
+/// A name, the text after it, and a number.
 #[derive(Clone, Copy)]
 struct NumberLine<'a> {
     name: &'a str,
@@ -65,7 +65,7 @@ fn add_values(plan: &Plan, journal: &Journal, text: &mut String) -> Result<(), A
     Ok(())
 }
 
-/// The name that the plan gives a register.
+/// Returns the name that the plan gives a register.
 fn name_of(plan: &Plan, register: u8) -> &str
     ensures { result.now ≡ register_name_of plan.now register }
 {

@@ -1,4 +1,4 @@
-//! The nodes of a plan, each run in a thread of its own, and what they have together.
+//! Runs each node of a plan in a thread, and gathers the stations.
 
 ghost use Rattle.std.specs.Prelude.{◌≡◌, ◌⊎◌, length, IfErr, IfNone, IfOk, IfSome};
 ghost use Rattle.mx_cli.specs.LiveWords.{request_of};
@@ -92,7 +92,7 @@ where
     }
 }
 
-/// The stations of a plan, each at rest.
+/// Creates the stations of a plan, each at rest.
 pub fn stations_in<C: Exclusion>(
     alloc: Global,
     plan: &Plan,
@@ -110,9 +110,9 @@ pub fn stations_in<C: Exclusion>(
     )
 }
 
-/// Runs each station in a thread of its own, until all threads have ended, and returns what they
-/// left: the stations, in the same order, and how their workers ended. An `Err` means that memory
-/// ran out, or that a thread could not be started.
+/// Runs each station in a thread, until all threads have ended. Returns the stations, in the same
+/// order, and how their workers ended. An `Err` means that memory ran out, or that a thread could
+/// not be started.
 pub fn run_stations<C: Exclusion + Send + 'static, R: Threads + Clock, E: Output>(
     rt: &R,
     alloc: Global,
@@ -136,7 +136,7 @@ where
     join_all(rt, workers)
 }
 
-/// What is ordered of each worker.
+/// Returns the orders for each worker.
 fn orders_of(request: &LiveRequest<'_>) -> WorkerConfig
     ensures { result ≡ orders_in (request_of request.now) }
 {
@@ -148,7 +148,7 @@ fn orders_of(request: &LiveRequest<'_>) -> WorkerConfig
     }
 }
 
-/// What the stations that workers left have together, if each worker is done. Else why the first
+/// Gathers the stations that the workers left, if all are done. Otherwise returns why the first
 /// that is not done is not.
 pub fn gather_left<C: Exclusion>(alloc: Global, left: Vec<Ended<C>>) -> Result<Gathered, Halt>
     requires { OfOneTable (stations_of left.items) }
@@ -167,7 +167,7 @@ pub fn gather_left<C: Exclusion>(alloc: Global, left: Vec<Ended<C>>) -> Result<G
     }
 }
 
-/// The stations that were left.
+/// Returns the stations that were left.
 fn only_stations<C: Exclusion>(
     alloc: Global,
     left: Vec<Ended<C>>,
@@ -181,7 +181,7 @@ fn only_stations<C: Exclusion>(
     Ok(stations)
 }
 
-/// A watch over the nodes, where there are any.
+/// Returns a watch over the nodes, if there are any.
 fn watch_over<C: Exclusion>(stations: &[Station<C>]) -> Result<Option<Watch<C>>, AllocError> {
     match stations.first() {
         Some(station) => Ok(Some(station.watch()?)),
@@ -189,7 +189,7 @@ fn watch_over<C: Exclusion>(stations: &[Station<C>]) -> Result<Option<Watch<C>>,
     }
 }
 
-/// Why the first worker that is not done is not.
+/// Returns why the first worker that is not done is not.
 fn first_halt<S>(left: &[(S, Worked)]) -> Option<Halt>
     ensures some { IfSome result (HaltsIn left.now) }
     ensures none { IfNone result (AreDone left.now) }
@@ -204,7 +204,7 @@ fn first_halt<S>(left: &[(S, Worked)]) -> Option<Halt>
     None
 }
 
-/// What stations have together.
+/// Gathers the stations.
 fn gather_all<C: Exclusion>(alloc: Global, stations: Vec<Station<C>>) -> Result<Gathered, Halt>
     requires { OfOneTable stations.items }
     ensures serial { IfOk result (λ all. AreSerial all.receipts.items all.journal) }

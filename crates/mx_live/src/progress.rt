@@ -17,7 +17,7 @@ use std::time::Duration;
 /// How often in a second it is looked whether the run is over.
 const LOOKS_A_SECOND: u32 = 20;
 
-/// How many sections stand.
+/// The number of sections left so far.
 #[derive(Clone, Copy)]
 struct ProgressLine(u64);
 
@@ -29,7 +29,7 @@ impl fmt::Display for ProgressLine {
     }
 }
 
-/// Tells how far the workers are if that was asked for, until all have ended.
+/// Reports progress until all workers have ended, if that was requested.
 pub(crate) fn report_if_asked<C: Exclusion, K: Clock, E: Output>(
     clock: &K,
     alloc: Global,
@@ -49,8 +49,8 @@ pub(crate) fn report_if_asked<C: Exclusion, K: Clock, E: Output>(
     }
 }
 
-/// Tells about once a second how many sections stand, until all workers have ended. What can't be
-/// told is left out.
+/// Prints the number of sections left so far about once a second, until all workers have ended. A
+/// line that cannot be written is skipped.
 fn report_progress<C: Exclusion, K: Clock, E: Output>(
     clock: &K,
     alloc: Global,
@@ -69,7 +69,7 @@ fn report_progress<C: Exclusion, K: Clock, E: Output>(
     }
 }
 
-/// Tells how many sections stand, or nothing.
+/// Prints the number of sections left so far, or nothing.
 fn report_sections<E: Output>(alloc: Global, sections: u64, err: &mut E)
     ensures progress { Progresses (E.written err.old) (E.written err.new) }
     ensures stays { E.takes_all err.new ≡ E.takes_all err.old }
@@ -77,7 +77,7 @@ fn report_sections<E: Output>(alloc: Global, sections: u64, err: &mut E)
     let _ = put_line(alloc, err, ProgressLine(sections));
 }
 
-/// Waits for a second, or until all workers have ended. True where they have.
+/// Waits for a second, or until all workers have ended. Returns whether they have.
 fn is_over<C: Exclusion, K: Clock>(clock: &K, workers: &Workers<C>) -> bool {
     for _look in 0..LOOKS_A_SECOND {
         if workers.has_ended() {

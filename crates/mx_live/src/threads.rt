@@ -48,8 +48,8 @@ impl<C: Exclusion> Promise<Ended<C>> for WorkAt<Station<C>> {
 /// The threads of a live run.
 pub(crate) type Workers<C> = ThreadGroup<Ended<C>, WorkAt<Station<C>>>;
 
-/// Does the work at a station, under links of its own seed. It settles after as many sections
-/// of its own as the orders say, with 0 never.
+/// Works at a station, with links of its own seed. The station settles after each given number of
+/// its sections; with 0 never.
 fn work_at<C: Exclusion>(station: Station<C>, gate: &StartGate, orders: WorkerConfig) -> Ended<C>
     ensures { IsLeft C.core orders station result }
 {
@@ -61,7 +61,7 @@ fn work_at<C: Exclusion>(station: Station<C>, gate: &StartGate, orders: WorkerCo
     work_settling(station, script, orders.settle, gate, weather, orders.turns)
 }
 
-/// The weather of the links to a node.
+/// Returns the weather of the links to a node.
 fn weather_at(seed: u64, node: NodeId) -> Weather
     ensures { result ≡ weather_of seed node }
 {
@@ -114,8 +114,8 @@ where
     Ok(())
 }
 
-/// Starts a thread for each station, behind a gate for this many nodes. Where one can't be started
-/// those that were started are joined.
+/// Starts a thread for each station, with one gate for this number of nodes. If one cannot be
+/// started, those before it are joined.
 pub(crate) fn start_all<C: Exclusion + Send + 'static, R: Threads>(
     rt: &R,
     alloc: Global,

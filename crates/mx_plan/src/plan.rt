@@ -105,7 +105,7 @@ impl Plan {
         self.sections
     }
 
-    /// Returns the number from which stamps, grants and hops count on.
+    /// Returns the number from which stamps, grants and hops count.
     pub fn origin(&self) -> u64
         ensures value { result ≡ self.now.origin }
     {

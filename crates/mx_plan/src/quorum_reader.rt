@@ -79,7 +79,7 @@ fn grid_in(nodes: u8, rows: Option<u64>, cols: Option<u64>) -> Result<Shape, Pla
     }
 }
 
-/// Returns whether a grid has this many places.
+/// Returns whether a grid has this number of places.
 fn is_size(nodes: u8, rows: u64, cols: u64) -> bool
     ensures { result ≡ (rows * cols == nodes) }
 {

@@ -50,8 +50,8 @@ fn file_of_text(alloc: Global, plan: &Plan, script: &[u8]) -> Result<String, Hal
     script_file(alloc, plan, text_in(alloc, script)?)
 }
 
-/// Passes on what the output kept back, tells why there is no file where there is none, and returns
-/// the status: that of the end, 1 after a fault or where an output refused, 5 where memory ran out.
+/// Flushes the output, reports why there is no file, and returns the status: that of the end, 1
+/// after a fault or a refused write, 5 if memory ran out.
 pub fn close_script<O: Output, E: Output>(
     alloc: Global,
     ended: Result<u8, Halt>,

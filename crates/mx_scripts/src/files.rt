@@ -189,8 +189,8 @@ impl fmt::Display for NextText<'_> {
     }
 }
 
-/// The file of events over the names of a plan is read back as these events, by whoever reads
-/// events as `replay` does. There is nothing to do.
+/// Shows that the file of events over a plan's names is read as these events, by the rules of
+/// `replay`. Does nothing.
 pub fn reads_back(plan: &Plan, events: &[Event])
     ensures { IsPlan plan.now → AreReadable plan.now events.now
         → events_at plan.now (file_text plan.now events.now) ≡ Ok events.now }

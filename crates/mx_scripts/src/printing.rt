@@ -66,7 +66,7 @@ pub fn run_walk<S: Source, O: Output, E: Output>(
     close(alloc, ended, &names, out, err)
 }
 
-/// Prints the events of a script, or tells why not. Returns the status.
+/// Prints the events of a script, or reports why it cannot. Returns the status.
 pub fn run_script<S: Source, O: Output, E: Output>(
     alloc: Global,
     names: &Names<'_>,

@@ -1,4 +1,4 @@
-//! Gathering: the journal and receipts of all stations of a table, while nobody is inside. All
+//! Gathering: the journal and receipts of all stations of a table, while no node is inside. All
 //! memory is allocated before a seat is joined, so on an error the caller gets the stations back
 //! unchanged.
 

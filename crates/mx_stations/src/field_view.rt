@@ -40,8 +40,8 @@ impl<C: Exclusion> Station<C> {
 }
 
 impl<C: Exclusion> Watch<C> {
-    /// Returns the number of sections left so far, read from the status words of the nodes one
-    /// after another. It reads without a lock, and nothing is proved about it.
+    /// Returns the number of sections left so far, by the status words of the nodes, read in turn.
+    /// It reads without a lock, and nothing is proved about it.
     pub fn sections(&self) -> u64 {
         let field = &*self.field;
         let mut left = 0;

@@ -15,7 +15,7 @@ use std::thread::yield_now;
 /// cluster and for `FEW` more.
 const YIELDS: u32 = 3;
 
-/// Among few nodes a yield returns at once, so a worker is as patient as if there were this many
+/// Among few nodes a yield returns at once, so a worker waits as if there were this number of nodes
 /// more.
 const FEW: u32 = 8;
 

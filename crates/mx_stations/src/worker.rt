@@ -38,7 +38,7 @@ pub struct Script {
 pub enum Worked {
     /// The station has its sections, and the gate let it stop.
     Done,
-    /// All turns were made: this many.
+    /// All turns were made; their number.
     NotYet(u64),
     /// The gate did not let it start.
     GateShut,
@@ -53,7 +53,7 @@ pub(crate) struct WorkerState {
     pub(crate) patience: Patience,
 }
 
-/// Waits at the gate, and then works at the station for at most this many turns.
+/// Waits at the gate, then works at the station for at most `turns` turns.
 ///
 /// In each turn the acts that are due come first. It asks if it is idle and lacks sections, and
 /// enters if it can. Inside it reads the register and writes 1 more, or asks the next node in the
@@ -178,7 +178,7 @@ fn count_of<C: Exclusion>(station: &Station<C>) -> u8
     station.field.nodes
 }
 
-/// Returns the next node in the circle of this many.
+/// Returns the next node, in cyclic order.
 fn node_after(node: NodeId, nodes: u8) -> NodeId
     requires { 0 < nodes }
     ensures { result < nodes }

@@ -10,7 +10,7 @@ use mx_stations::{Field, Gathered, Script, Station, Worked, gather, work};
 use std::alloc::{AllocError, Global};
 use std::test::Fail;
 
-/// Works for a section that nobody permits, and counts whether it has spent all its turns.
+/// Works for a section that no node permits, and counts whether it has spent all its turns.
 fn work_in_vain(station: Station<Ricart>, spent: &mut u8) -> Station<Ricart>
     ensures { KeepsTable station result }
 {

@@ -15,10 +15,9 @@ use mx_cli::{Exploration, Names, Stop, close, fetch_plan, refuse};
 use mx_io::{Output, Source};
 use std::alloc::Global;
 
-/// Runs the words of a command line that is `explore` with `--walk`, without the program's name, and
-/// returns the status: 0 if all went well, or help was asked for, 1 if the plan, a file or an output
-/// is at fault, 2 if the words are not those of the command, 4 if the verdict is that the trace is
-/// broken, 5 if memory ran out.
+/// Runs the arguments of `explore --walk`, without the program's name, and returns the exit status:
+/// 0 if all went well, or for help; 1 for an error in the plan, a file or an output; 2 for wrong
+/// arguments; 4 if the trace is broken; 5 if memory ran out.
 pub fn explore_walk<S: Source, O: Output, E: Output>(
     alloc: Global,
     words: &[&str],
@@ -83,7 +82,7 @@ fn run_seed<S: Source, O: Output, E: Output>(
     close(alloc, ended, &names, out, err)
 }
 
-/// The names that the lines of faults have, where there is a plan alone.
+/// Returns the names for messages about a plan without a second file.
 fn plan_alone<'a>(exploration: &Exploration<'a>) -> Names<'a>
     ensures { names_of result ≡ (exploration.now.plan.now, exploration.now.plan.now) }
 {

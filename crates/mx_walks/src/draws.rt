@@ -8,7 +8,7 @@ use mx_stamps::{MAX_NODES, NodeId};
 use rand_core::utils::NextWord;
 use rand_pcg::Pcg32;
 
-/// The node that the next word means, of this many.
+/// Draws one of `nodes` nodes by the next word.
 pub(crate) fn draw_node(words: &mut Pcg32, nodes: u8) -> NodeId
     requires nodes { (0 < nodes) × (nodes ≤ MAX_NODES) }
     ensures value { result ≡ word words.old % nodes }
@@ -17,7 +17,7 @@ pub(crate) fn draw_node(words: &mut Pcg32, nodes: u8) -> NodeId
     NodeId::of(draw_below(words, nodes)).unwrap()
 }
 
-/// The number below `count` that the next word means.
+/// Draws a number below `count` by the next word.
 pub(crate) fn draw_below(words: &mut Pcg32, count: u8) -> u8
     requires { 0 < count }
     ensures value { result ≡ word words.old % count }
@@ -26,7 +26,7 @@ pub(crate) fn draw_below(words: &mut Pcg32, count: u8) -> u8
     (words.next_word() % u32::from(count)) as u8
 }
 
-/// A number below 256, by the lowest eight bits of a word, of which the lowest six go first.
+/// Draws a number below 256 by the lowest eight bits of a word: the lowest six, then the other two.
 pub(crate) fn byte_of(word: u32) -> u64
     ensures { result ≡ byte_of word }
 {

@@ -15,7 +15,7 @@ use mx_io::Output;
 use mx_plan::Plan;
 use std::alloc::{AllocError, Global};
 
-/// Explores some seeds one after another, and prints their sums; or the first that is not sound.
+/// Explores seeds one after another, and prints their sums, or the first seed that is not sound.
 /// Returns the status.
 pub fn explore_seeds_of<O: Output>(
     alloc: Global,
@@ -50,7 +50,7 @@ fn print_end<O: Output>(alloc: Global, end: &SeedsEnd, out: &mut O) -> Result<u8
     }
 }
 
-/// The status of some seeds.
+/// Returns the status for the seeds.
 fn status_of(end: &SeedsEnd) -> u8
     ensures { result ≡ end_status end.now }
 {

@@ -33,7 +33,7 @@ are sound, the first line counts the seeds, and sums up the steps, how often a n
 were sent; the last line is the verdict. At most 1000000 seeds are explored. `mx explore --help` tells which
 events are drawn, `mx explore --walk --help` tells of walks and their options.";
 
-/// What is told where it is said what becomes of parcels, but no walk is asked for.
+/// The message for options of a walk without `--walk`.
 pub(crate) const NEEDS_WALK: &str = "error: the following required arguments were not provided:
   --walk
 
@@ -42,7 +42,7 @@ Usage: mx explore --seeds <seeds> --steps <steps> --walk <PLAN>
 For more information, try '--help'.
 ";
 
-/// What is told where a text names no seeds.
+/// The message for a text that is no range of seeds.
 pub(crate) const NO_SEEDS: &str =
     "error: invalid value for '--seeds <seeds>': two numbers such as 1..100, the first not above the second, and at most 1000000 seeds
 

@@ -17,8 +17,8 @@ use rand_pcg::Pcg32;
 /// Of 64 steps that deliver no parcel again, those below this let any node act.
 const ANYBODY: u32 = 4;
 
-/// What a node does, where it can do something. A word draws any node; with a chance below 4 that
-/// one acts, and else the next that may enter or is inside.
+/// Returns what a node does, if it can do something. A word draws a node. With a chance below 4
+/// that node acts, else the next one that may enter or is inside.
 pub(crate) fn act<C: Exclusion>(
     words: &mut Pcg32,
     nodes: u8,
@@ -39,7 +39,7 @@ pub(crate) fn act<C: Exclusion>(
     act_at(words, nodes, registers, cluster, node, is_calm)
 }
 
-/// The node that acts, by chance.
+/// Draws the node that acts.
 fn actor<C: Exclusion>(nodes: u8, cluster: &Cluster<C>, chance: u32, any: NodeId) -> NodeId
     requires { (0 < nodes) × (nodes ≤ MAX_NODES) }
     ensures { result ≡ actor C.core cluster.now.members nodes chance any }
@@ -51,7 +51,7 @@ fn actor<C: Exclusion>(nodes: u8, cluster: &Cluster<C>, chance: u32, any: NodeId
     }
 }
 
-/// What this node does by itself.
+/// Returns what this node does by itself.
 fn act_at<C: Exclusion>(
     words: &mut Pcg32,
     nodes: u8,
@@ -73,7 +73,7 @@ fn act_at<C: Exclusion>(
     }
 }
 
-/// What this member does by itself.
+/// Returns what this member does by itself.
 fn act_as<C: Exclusion>(
     words: &mut Pcg32,
     nodes: u8,
@@ -103,7 +103,8 @@ fn gapless_to(journal: &Journal) -> u64
     journal.gapless_to()
 }
 
-/// An idle node asks, wants the records of another, or settles what it has without a gap.
+/// Returns what an idle node does: it asks, wants the records of another, or settles up to its
+/// first gap.
 fn be_idle(words: &mut Pcg32, nodes: u8, node: NodeId, gapless: u64) -> Option<Event>
     requires { (0 < nodes) × (nodes ≤ MAX_NODES) }
     ensures event { result
@@ -115,7 +116,7 @@ fn be_idle(words: &mut Pcg32, nodes: u8, node: NodeId, gapless: u64) -> Option<E
     idle_by(number, words, nodes, node, gapless)
 }
 
-/// What a number below 16 means for a node that is idle.
+/// Returns what an idle node does for a number below 16.
 fn idle_by(number: u32, words: &mut Pcg32, nodes: u8, node: NodeId, gapless: u64) -> Option<Event>
     requires { (0 < nodes) × (nodes ≤ MAX_NODES) }
     ensures event { result ≡ (idle_by number nodes node gapless words.old).0 }
@@ -132,7 +133,7 @@ fn idle_by(number: u32, words: &mut Pcg32, nodes: u8, node: NodeId, gapless: u64
     }
 }
 
-/// A waiting node gives up or ticks, both seldom, or enters where it may.
+/// Returns what a waiting node does: it cancels or ticks, both seldom, or enters if it may.
 fn wait(words: &mut Pcg32, node: NodeId, may_enter: bool, is_calm: bool) -> Option<Event>
     ensures event { result ≡ waiting_by (word words.old % 64) node may_enter is_calm }
     ensures next { words.new ≡ after_words 1 words.old }
@@ -149,7 +150,7 @@ fn wait(words: &mut Pcg32, node: NodeId, may_enter: bool, is_calm: bool) -> Opti
     }
 }
 
-/// A node inside reads, writes, wants the records of another, or leaves.
+/// Returns what a node inside does: it reads, writes, wants the records of another, or leaves.
 fn be_inside(words: &mut Pcg32, nodes: u8, registers: u8, node: NodeId) -> Option<Event>
     requires nodes { (0 < nodes) × (nodes ≤ MAX_NODES) }
     requires registers { 0 < registers }
@@ -162,7 +163,7 @@ fn be_inside(words: &mut Pcg32, nodes: u8, registers: u8, node: NodeId) -> Optio
     inside_by(number, words, nodes, registers, node)
 }
 
-/// What a number below 16 means for a node that is inside.
+/// Returns what a node inside does for a number below 16.
 fn inside_by(
     number: u32,
     words: &mut Pcg32,
@@ -187,8 +188,8 @@ fn inside_by(
     }
 }
 
-/// The first node from this one on, in a ring, that may enter or is inside; this one where there is
-/// none.
+/// Returns the first node from this one on, in cyclic order, that may enter or is inside, or this
+/// one if there is none.
 fn ready_or<C: Exclusion>(nodes: u8, cluster: &Cluster<C>, any: NodeId) -> NodeId
     requires { (0 < nodes) × (nodes ≤ MAX_NODES) }
     ensures { result ≡ ready_from C.core cluster.now.members nodes any 0
@@ -203,7 +204,7 @@ fn ready_or<C: Exclusion>(nodes: u8, cluster: &Cluster<C>, any: NodeId) -> NodeI
     any
 }
 
-/// The node of this number.
+/// Returns the node of this number.
 fn node_at(number: u8) -> NodeId
     requires { number < MAX_NODES }
     ensures { result ≡ number }

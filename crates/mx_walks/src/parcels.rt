@@ -9,7 +9,7 @@ use mx_nodelaws::Exclusion;
 use mx_stamps::NodeId;
 use std::alloc::AllocError;
 
-/// The parcels sent since `seen` of them were are under way.
+/// Adds the parcels sent since there were `seen`: they are under way.
 pub(crate) fn put_new(flying: &mut Vec<u64>, seen: u64, sent: u64) -> Result<(), AllocError>
     ensures { OnOk result
         (flying.new.items ≡ flying.old.items ++ range_with_len seen (sent - seen)) }
@@ -20,7 +20,7 @@ pub(crate) fn put_new(flying: &mut Vec<u64>, seen: u64, sent: u64) -> Result<(),
     Ok(())
 }
 
-/// This parcel is under way no more. The last of the list takes its place.
+/// Removes a parcel, which is no longer under way. The last of the list takes its place.
 pub(crate) fn take(flying: &mut Vec<u64>, number: u64)
     ensures { flying.new.items ≡ without number flying.old.items }
 {
@@ -32,7 +32,7 @@ pub(crate) fn take(flying: &mut Vec<u64>, number: u64)
     }
 }
 
-/// The place of a number.
+/// Returns the place of a number.
 fn place_of(number: u64, flying: &[u64]) -> Option<usize>
     ensures value { result ≡ position (nat_eq number) flying.now }
     ensures within { IfSome result (λ place. place < length flying.now) }
@@ -46,7 +46,7 @@ fn is_same(number: u64, other: u64) -> bool
     number == other
 }
 
-/// The oldest parcel under way on the link of this one; this one where there is none.
+/// Returns the oldest parcel under way on the link of this one, or this one if there is none.
 pub(crate) fn oldest_beside<C: Exclusion>(cluster: &Cluster<C>, flying: &[u64], number: u64) -> u64
     ensures { result ≡ oldest_beside cluster.now.sent flying.now number }
 {
@@ -56,7 +56,7 @@ pub(crate) fn oldest_beside<C: Exclusion>(cluster: &Cluster<C>, flying: &[u64], 
     }
 }
 
-/// The least of a number and of the parcels under way from one node to another.
+/// Returns the least of a number and the parcels under way from one node to another.
 fn oldest_on<C: Exclusion>(
     cluster: &Cluster<C>,
     from: NodeId,
@@ -73,7 +73,8 @@ fn oldest_on<C: Exclusion>(
     oldest
 }
 
-/// The lesser of two numbers, if the second is a parcel from one node to another; else the first.
+/// Returns the lesser of two numbers if the second is a parcel from one node to another, else the
+/// first.
 fn older_of<C: Exclusion>(
     cluster: &Cluster<C>,
     from: NodeId,
@@ -101,14 +102,14 @@ fn is_on<C: Exclusion>(cluster: &Cluster<C>, from: NodeId, to: NodeId, number: u
     }
 }
 
-/// Whether no parcel is under way.
+/// Returns whether no parcel is under way.
 pub(crate) fn is_empty(flying: &[u64]) -> bool
     ensures { result ≡ is_empty flying.now }
 {
     flying.len() == 0
 }
 
-/// The parcel under way that a word means.
+/// Returns the parcel under way that a word draws.
 pub(crate) fn drawn_of(word: u32, flying: &[u64]) -> u64
     requires { is_empty flying.now ≡ false }
     ensures { result ≡ slice_index_or flying.now (word % length flying.now) 0 }

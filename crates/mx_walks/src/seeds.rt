@@ -14,7 +14,7 @@ pub struct Seeds {
     pub count: u64,
 }
 
-/// The seeds that a text such as `1..100` names, from the one number to the other.
+/// Parses a range of seeds such as `1..100`, which includes both ends.
 pub fn seeds_in(text: &str) -> Option<Seeds>
     ensures { IfSome result (λ seeds. IsRange text.now seeds.first seeds.count) }
 {
@@ -36,7 +36,7 @@ pub fn seeds_in(text: &str) -> Option<Seeds>
     })
 }
 
-/// The whole number of 64 bits that a text is.
+/// Parses a whole number of 64 bits.
 fn number_of(text: &str) -> Option<u64>
     ensures { result ≡ number_of text.now }
 {

@@ -15,10 +15,9 @@ use mx_cli::{Names, Stop, close, fetch_plan, refuse};
 use mx_io::{Output, Source};
 use std::alloc::Global;
 
-/// Runs the words of a command line that is `explore` with `--seeds`, without the program's name, and
-/// returns the status: 0 if all seeds are sound, or help was asked for, 1 if the plan, a file or an
-/// output is at fault, 2 if the words are not those of the command, 4 if a seed is not sound, 5 if
-/// memory ran out.
+/// Runs the arguments of `explore --seeds`, without the program's name, and returns the exit
+/// status: 0 if all seeds are sound, or for help; 1 for an error in the plan, a file or an output;
+/// 2 for wrong arguments; 4 if a seed is not sound; 5 if memory ran out.
 pub fn explore_seeds<S: Source, O: Output, E: Output>(
     alloc: Global,
     words: &[&str],
@@ -38,7 +37,7 @@ pub fn explore_seeds<S: Source, O: Output, E: Output>(
     }
 }
 
-/// Tells why the words are refused. Returns the status.
+/// Reports why the arguments are refused, and returns the status.
 fn refuse_words<E: Output>(why: &str, err: &mut E) -> u8
     ensures { result ≡ 2 }
 {

@@ -43,15 +43,15 @@ fn seeds_command<'a>(alloc: Global) -> Result<Command<'a>, AllocError>
     with_conditions(alloc, with_walk)
 }
 
-/// The commands that are read.
+/// Returns the command line.
 fn seeds_line<'a>(alloc: Global) -> Result<Command<'a>, AllocError>
     ensures { IfOk result (IsLine seeds_line) }
 {
     line_of(alloc, seeds_command(alloc)?)
 }
 
-/// What the words ask for. Their faults are those of `clap`, and words that ask for help come as
-/// such a fault too, with the text to show.
+/// Parses the arguments. Errors are those of `clap`; a request for help is one too, with the text
+/// to print.
 pub(crate) fn asked_seeds<'a>(
     alloc: Global,
     words: &'a [&'a str],
@@ -95,7 +95,7 @@ fn seeds_in<'a>(matches: &ArgMatches<'a>) -> Option<SeedsRequest<'a>>
     })
 }
 
-/// How events are drawn: a walk; or each alone, unless it is said what becomes of parcels.
+/// Returns how events are drawn: as a walk, or each alone if no option is about parcels.
 fn manner_in(matches: &ArgMatches<'_>) -> Option<Manner>
     ensures { result ≡ manner_in (rows_of (found_of matches.now)) }
 {

@@ -14,7 +14,7 @@ use mx_plan::Plan;
 use mx_stamps::MAX_NODES;
 use std::alloc::{AllocError, Global};
 
-/// A walk from a seed on, of this many steps, each of an event or none.
+/// Runs a walk of `steps` steps from a seed. A step may have no event.
 pub fn walk_cluster<C: Exclusion>(
     alloc: Global,
     plan: &Plan,
@@ -38,7 +38,7 @@ pub fn walk_cluster<C: Exclusion>(
     )
 }
 
-/// A walk over this many nodes and registers.
+/// A walk over these numbers of nodes and registers.
 fn walk_over<C: Exclusion>(
     alloc: Global,
     nodes: u8,
@@ -80,7 +80,7 @@ fn step<C: Exclusion>(
     walk.look(cluster.sent())
 }
 
-/// The event happens, where there is one. One of a parcel that was not sent is passed over.
+/// Applies the event, if there is one. A delivery of an unsent parcel is passed over.
 fn play<C: Exclusion>(cluster: &mut Cluster<C>, event: Option<Event>) -> Result<(), AllocError>
     ensures { OnOk result (after_placed C.core cluster.old event ≡ cluster.new) }
 {

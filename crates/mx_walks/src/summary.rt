@@ -1,4 +1,4 @@
-//! What came of the events that were drawn from a seed.
+//! The outcome of the events drawn from a seed.
 
 ghost use Rattle.std.specs.Prelude.{◌≡◌, Some};
 ghost use Rattle.mx_walks.specs.Summaries.{summary_text};
@@ -18,7 +18,7 @@ pub struct Summary {
 }
 
 impl Summary {
-    /// The line of the counts.
+    /// Returns the line of the counts.
     fn counts(&self) -> ExploredLine
         ensures steps { result.steps ≡ self.now.steps }
         ensures entered { result.entered ≡ self.now.entered }

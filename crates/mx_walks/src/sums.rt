@@ -18,7 +18,7 @@ pub struct Sums {
 }
 
 impl Sums {
-    /// The sums of no seed.
+    /// Returns the sums before the first seed.
     pub(crate) fn none() -> Sums
         ensures { result ≡ no_sums }
     {
@@ -30,7 +30,7 @@ impl Sums {
         }
     }
 
-    /// Takes in what came of one more seed, if that is sound, and returns whether it is.
+    /// Adds the summary of one more seed if it is sound, and returns whether it is.
     pub(crate) fn take_in(&mut self, summary: &Summary) -> bool
         ensures sound { result ≡ is_sound summary.now.verdict }
         ensures sums { self.new ≡ after_summary summary.now self.old }
@@ -86,7 +86,7 @@ impl fmt::Display for SeedStart {
 pub enum SeedsEnd {
     /// All are sound.
     All(Sums),
-    /// The first seed that is not sound, and what came of it.
+    /// The first seed that is not sound, and its summary.
     Broken(u64, Summary),
 }
 

@@ -1,5 +1,4 @@
-//! What a walk does next: mostly it delivers a parcel, and where it does not, a node acts that has
-//! something to do.
+//! The next step of a walk: mostly it delivers a parcel; else a node acts that has something to do.
 
 ghost use Rattle.std.specs.Prelude.{◌≡◌, ◌<◌, ◌≤◌, OnOk, false};
 ghost use Rattle.mx_walks.specs.Walk.{at_first, chosen, is_delivery, is_empty, looked, next_step, repeated, taken_up};
@@ -17,8 +16,8 @@ use rand_core::utils::NextWord;
 use rand_pcg::Pcg32;
 use std::alloc::{AllocError, Global};
 
-/// Of 64 steps that deliver no parcel again, those from the first up to the second deliver a parcel
-/// that is under way, where there is one. In what is left a node acts.
+/// Of 64 steps that deliver no parcel again, those from the first to the second deliver a parcel
+/// under way, if there is one. In the other steps a node acts.
 const DELIVERIES: (u32, u32) = (4, 52);
 
 /// How many of the newest parcels are repeated.
@@ -35,7 +34,7 @@ pub(crate) struct Walk {
 }
 
 impl Walk {
-    /// The walk of a seed. The generator is `Pcg32` by `seed_from_u64`.
+    /// Creates the walk of a seed. The generator is `Pcg32` by `seed_from_u64`.
     pub(crate) fn of(alloc: Global, seed: u64) -> Walk
         ensures { state_of result ≡ at_first seed }
     {
@@ -55,8 +54,8 @@ impl Walk {
         Ok(())
     }
 
-    /// The event of the next step; none where a parcel is lost, or where the node that would act
-    /// can but wait.
+    /// Returns the event of the next step, or none if a parcel is lost or the node that would act
+    /// can only wait.
     pub(crate) fn next<C: Exclusion>(
         &mut self,
         conditions: &Conditions,
@@ -103,7 +102,7 @@ impl Walk {
         Some(Event::Deliver(number))
     }
 
-    /// Delivers a parcel that is under way, wherever it stands, or loses it.
+    /// Delivers or loses any parcel under way.
     fn take_up<C: Exclusion>(
         &mut self,
         conditions: &Conditions,
@@ -126,7 +125,7 @@ impl Walk {
         }
     }
 
-    /// The parcel that is delivered in place of this one.
+    /// Returns the parcel that is delivered in place of this one.
     fn chosen<C: Exclusion>(
         &self,
         conditions: &Conditions,

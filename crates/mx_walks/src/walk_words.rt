@@ -57,7 +57,7 @@ fn in_order_arg<'a>(alloc: Global) -> Arg<'a>
     flag_arg(alloc, "in-order", help)
 }
 
-/// The command with the options that say what becomes of parcels.
+/// Adds the options about the fates of parcels to a command.
 pub fn with_conditions<'a>(alloc: Global, command: Command<'a>) -> Result<Command<'a>, AllocError>
     ensures { (app : App) → IsCommand app command.entry
         → IfOk result (IsCommand (with_conditions app)) }
@@ -78,15 +78,15 @@ fn walk_command<'a>(alloc: Global) -> Result<Command<'a>, AllocError>
     with_conditions(alloc, with_walk)
 }
 
-/// The commands that are read.
+/// Returns the command line.
 fn walk_line<'a>(alloc: Global) -> Result<Command<'a>, AllocError>
     ensures { IfOk result (IsLine walk_line) }
 {
     line_of(alloc, walk_command(alloc)?)
 }
 
-/// What the words ask for. Their faults are those of `clap`, and words that ask for help come as
-/// such a fault too, with the text to show.
+/// Parses the arguments. Errors are those of `clap`; a request for help is one too, with the text
+/// to print.
 pub(crate) fn asked_walk<'a>(
     alloc: Global,
     words: &'a [&'a str],
@@ -119,7 +119,7 @@ fn walk_in<'a>(matches: &ArgMatches<'a>) -> Option<WalkRequest<'a>>
     })
 }
 
-/// What was given for the parcels of a walk.
+/// Returns the conditions that the arguments give.
 pub fn conditions_in(matches: &ArgMatches<'_>) -> Conditions
     ensures { result ≡ conditions_in (rows_of (found_of matches.now)) }
 {
@@ -130,7 +130,7 @@ pub fn conditions_in(matches: &ArgMatches<'_>) -> Conditions
     }
 }
 
-/// The number that was given for an option, or another.
+/// Returns the number of an option, or another if the option is absent.
 fn number_or(matches: &ArgMatches<'_>, id: &str, other: u64) -> u64
     ensures { result ≡ number_or id.now other (rows_of (found_of matches.now)) }
 {

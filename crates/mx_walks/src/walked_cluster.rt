@@ -18,7 +18,7 @@ use mx_nodelaws::Exclusion;
 use mx_plan::Plan;
 use std::alloc::{AllocError, Global};
 
-/// The events of a seed happen; then the counts and the verdict are printed. Returns the status.
+/// Runs the events of a seed, and prints the counts and the verdict. Returns the status.
 pub fn explore_plan<O: Output>(
     alloc: Global,
     plan: &Plan,
@@ -37,7 +37,7 @@ pub fn explore_plan<O: Output>(
     print_summary(alloc, &summary, out)
 }
 
-/// Prints what came of a seed. Returns the status of the verdict.
+/// Prints the summary of a seed, and returns the status of its verdict.
 fn print_summary<O: Output>(alloc: Global, summary: &Summary, out: &mut O) -> Result<u8, Stop>
     ensures ran { Ran (O.takes_all out.old) (O.written out.old) (O.written out.new)
         (whole (summary_text summary.now)) result }
@@ -53,7 +53,7 @@ fn print_summary<O: Output>(alloc: Global, summary: &Summary, out: &mut O) -> Re
     }
 }
 
-/// What came of the events of a seed, by the plan's algorithm.
+/// Returns the summary of a seed's events, by the plan's algorithm.
 pub(crate) fn explore_seed(
     alloc: Global,
     plan: &Plan,
@@ -71,7 +71,7 @@ pub(crate) fn explore_seed(
     )
 }
 
-/// The events of a seed happen in a cluster.
+/// Runs the events of a seed in a cluster.
 fn explore_cluster<C: Exclusion>(
     alloc: Global,
     plan: &Plan,
@@ -87,7 +87,7 @@ fn explore_cluster<C: Exclusion>(
     Ok(summary_in(&cluster, steps))
 }
 
-/// The events of a seed, each in turn.
+/// Runs the events of a seed in order.
 fn apply_events<C: Exclusion>(
     alloc: Global,
     plan: &Plan,
@@ -105,7 +105,7 @@ fn apply_events<C: Exclusion>(
     }
 }
 
-/// The events that are drawn each alone.
+/// Runs events that are each drawn alone.
 fn do_schedule<C: Exclusion>(
     alloc: Global,
     plan: &Plan,
@@ -120,7 +120,7 @@ fn do_schedule<C: Exclusion>(
     happen(cluster, events.as_slice())
 }
 
-/// The counts of a cluster after this many steps, and the verdict on its trace.
+/// Returns the counts of a cluster after these steps, and the verdict on its trace.
 fn summary_in<C: Exclusion>(cluster: &Cluster<C>, steps: u64) -> Summary
     ensures { result ≡ summary_in steps cluster.now }
 {
