@@ -3,12 +3,10 @@ use Rattle.std.proofs.Common.{◌≡◌, ◌∙◌, ◌<◌, ◌^◌, ℕ, Bool,
 use Rattle.std.specs.Prelude.{option_and_then, option_map}
 use Rattle.std.specs.Str.Parse.{IsNumeral, ParsesUnsigned, digits_value, without_leading_plus}
 use Rattle.clap.specs.declared.parser.matches.ArgMatches.{ArgMatches}
-use Rattle.std.proofs.Common.{ap₂, ◌||◌}
 use Rattle.std.proofs.lemmas.Result.{IfOk-weaker}
 use Rattle.std.specs.declared.alloc.AllocError.{AllocError}
-use Rattle.clap.specs.declared.builder.arg.Arg.{Arg}
 use Rattle.clap.specs.declared.builder.command.Command.{Command}
-use Rattle.clap.specs.Words.{AddsArg, AddsSubcommand, App, ReadsOne, Row, Rule, Text, app_of, is_simple, one_text, rule_of, subcommand_of, subcommand_rows_of, with_rule, with_subcommand}
+use Rattle.clap.specs.Words.{App, ReadsOne, Row, Text, app_of, is_simple, one_text, subcommand_of, subcommand_rows_of}
 use Rattle.clap.specs.ValueTests.{is_unsigned_in}
 use Rattle.clap.specs.declared.builder.value_parser.ValueParser.TheVariants.{Unsigned}
 use Rattle.clap.specs.Walk.{rows_of}
@@ -19,7 +17,7 @@ use Rattle.clap.specs.declared.parser.matches.Found.{Found}
 use Rattle.clap.proofs.WalkLemmas.{one_text-rows}
 use Rattle.clap.proofs.ValueTestLemmas.{Accepts-accepts, accepts-Accepts}
 use Rattle.clap.specs.Faults.{fault_of, is_simple_and_free}
-use Rattle.mx_cli.specs.Words.{AddsArgMade, AddsBothMade, AddsMade, Asks, Finds, IsArgument, IsCommand, IsLine, IsReadable, asked_of, line_with, needed, number_at, number_of, where_none}
+use Rattle.mx_cli.specs.Words.{Asks, Finds, IsLine, IsReadable, asked_of, number_at, number_of, where_none}
 
 -- ---- numbers
 
@@ -48,53 +46,6 @@ module _ {E : Type 0} (G : List ℕ → Result ℕ E → Type 0) (only : (t : Li
   pub number_read : (f : Found) (id : Text) (r : Option ℕ) → (one_text f id ≡ None → r ≡ None) → ((t : List ℕ) → one_text f id ≡ Some t → ReadsOne G t r) → r ≡ number_at id (rows_of f)
   number_read f id r none some = found_read (one_text f id) r none some ∙ ap (option_and_then number_of) (one_text-rows f id)
 
--- ---- arguments and commands
-
-module _ {before : Arg} {rule : Rule} where
-  pub is_needed : {after : Arg} → IsArgument rule before → after ≡ (let a : Arg = record before { required = true } in a) → IsArgument (needed rule) after
-  is_needed h e = record {
-    rule = ap rule_of e ∙ ap needed h.rule;
-    local = ap (λ (a : Arg). a.global) e ∙ h.local;
-  }
-
-module _ {before : Command} {app : App} {argument : Arg} {rule : Rule} where
-  pub with_one : {after : Command} → IsCommand app before → IsArgument rule argument → AddsArg before argument after → IsCommand (with_rule app rule) after
-  with_one h i adds = record {
-    app = adds.shape i.local ∙ ap₂ with_rule h.app i.rule;
-    local = adds.globals ∙ ap₂ ◌||◌ h.local i.local;
-  }
-
-  pub with_last : (r : Result Command AllocError) → IsCommand app before → IsArgument rule argument → IfOk r (AddsArg before argument) → IfOk r (IsCommand (with_rule app rule))
-  with_last r h i = IfOk-weaker r _ _ (λ command adds. with_one h i adds)
-
-module _ (app : App) {argument : Arg} {rule : Rule} where
-  made_with_one : (begun : Result Command AllocError) (after : Command) → IfOk begun (IsCommand app) → IsArgument rule argument → AddsArgMade begun argument after → IsCommand (with_rule app rule) after
-  made_with_one (Ok command) after h i adds = with_one h i adds
-  made_with_one (Err e) after h i adds = absurd adds
-
-  -- the same of a command that was made
-  pub with_arg : (begun r : Result Command AllocError) → IfOk begun (IsCommand app) → IsArgument rule argument → IfOk r (AddsArgMade begun argument) → IfOk r (IsCommand (with_rule app rule))
-  with_arg begun r h i = IfOk-weaker r _ _ (λ command adds. made_with_one begun command h i adds)
-
--- a command line with one more command
-pub with_command : {before after command : Command} {line app : App} → app_of before ≡ line → IsCommand app command → AddsSubcommand before command after → app_of after ≡ with_subcommand line app.top
-with_command e h adds = adds.shape h.local ∙ ap₂ with_subcommand e (ap (λ (a : App). a.top) h.app)
-
--- the same of a command that was made
-pub with_made : (before after : Command) (made : Result Command AllocError) {line : App} (app : App) → app_of before ≡ line → IfOk made (IsCommand app) → AddsMade before made after → app_of after ≡ with_subcommand line app.top
-with_made before after (Ok command) app e h adds = with_command e h adds
-with_made before after (Err error) app e h adds = absurd adds
-
-with_both : (begun made : Result Command AllocError) (after : Command) (line app : App) → IfOk begun (λ l. app_of l ≡ line) → IfOk made (IsCommand app) → AddsBothMade begun made after
-    → app_of after ≡ with_subcommand line app.top
-with_both (Ok before) made after line app e h adds = with_made before after made app e h adds
-with_both (Err error) made after line app e h adds = absurd adds
-
--- the same of a command line that was made too
-pub with_command_made : (begun made r : Result Command AllocError) (line app : App) → IfOk begun (λ l. app_of l ≡ line) → IfOk made (IsCommand app) → IfOk r (AddsBothMade begun made)
-    → IfOk r (λ l. app_of l ≡ with_subcommand line app.top)
-with_command_made begun made r line app e h = IfOk-weaker r _ _ (λ command adds. with_both begun made command line app e h adds)
-
 -- ---- a parse
 
 -- what the parse of a command line answers, which is read as this application
@@ -109,10 +60,6 @@ parsed line words r fails found app is = subst (λ (a : App). Finds a words r) i
 -- a line that is read as an application that can be read
 pub is_line : (r : Result Command AllocError) (app : App) → IfOk r (λ line. app_of line ≡ app) → IsReadable app → IfOk r (IsLine app)
 is_line r app read h = IfOk-weaker r _ _ (λ line is. record { app = is; readable = record { plain = ap is_simple is ∙ h.plain; free = ap is_simple_and_free is ∙ h.free } }) read
-
--- the line with a command alone
-pub is_line_with : (r : Result Command AllocError) {command : App} (app : App) → command ≡ app → IfOk r (λ line. app_of line ≡ line_with command) → IsReadable (line_with app) → IfOk r (IsLine (line_with app))
-is_line_with r app same read h = is_line r (line_with app) (IfOk-weaker r _ _ (λ line is. is ∙ ap line_with same) read) h
 
 -- what is read of what was found is what the words ask for
 pub asks : {T X : Type 0} (value : T → X) (line : App) (words : List Text) (read : Option (Text × List Row) → Option X) (matches : ArgMatches) (request : Option T)

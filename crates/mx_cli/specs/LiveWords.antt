@@ -1,40 +1,14 @@
 -- What the words of `live` ask for, as `clap` reads them.
-use Rattle.std.specs.Prelude.{ℕ, Bool, List, Option, codes, option_map, option_and_then, unwrap_or}
-use Rattle.clap.specs.Words.{App, Row, Rule, Text, first_of, new_app, with_rule}
-use Rattle.mx_stamps.specs.declared.limits.TheConstants.{MAX_SECTIONS}
+use Rattle.std.specs.Prelude.{ℕ, Bool, List, [], ◌∷◌, Option, codes, option_map, option_and_then, unwrap_or}
+use Rattle.clap.specs.Words.{App, Row, Text, first_of}
 use Rattle.mx_cli.specs.declared.live_words.LiveRequest.{LiveRequest as Given}
-use Rattle.mx_cli.specs.Words.{asked_of, by_name, flag_rule, is_given, line_with, needed, number_at, number_rule, plan_rule}
-
--- `--sections M`, a number up to that of the last section that a cluster may have
-abbrev pub sections_rule : Rule
-sections_rule = needed (number_rule (codes "sections") MAX_SECTIONS)
-
--- `--seed S`, a number of 64 bits
-abbrev pub link_seed_rule : Rule
-link_seed_rule = number_rule (codes "seed") 18446744073709551615
-
--- `--turns T`, a number of 64 bits
-abbrev pub turns_rule : Rule
-turns_rule = number_rule (codes "turns") 18446744073709551615
-
--- `--settle N`, a number up to the same
-abbrev pub settle_rule : Rule
-settle_rule = number_rule (codes "settle") MAX_SECTIONS
-
--- `--progress`
-abbrev pub progress_rule : Rule
-progress_rule = flag_rule (codes "progress")
-
--- `live PLAN --sections M`, and perhaps `--seed S`, `--turns T`, `--settle N` and `--progress`
-abbrev pub live_app : App
-live_app =
-    let named = with_rule (new_app (codes "live")) plan_rule in
-    let bounded = with_rule (with_rule (with_rule named sections_rule) link_seed_rule) turns_rule in
-    with_rule (with_rule bounded settle_rule) progress_rule
+use Rattle.mx_cli.specs.declared.table.CommandId.TheVariants as id
+use Rattle.mx_cli.specs.Table.{line_of}
+use Rattle.mx_cli.specs.Words.{asked_of, by_name, is_given, number_at}
 
 -- the whole command line
 unfoldable pub live_line : App
-live_line = line_with live_app
+live_line = line_of (id.Live ∷ [])
 
 -- the name of the plan, how many sections each node is to have, the seed, how many turns each may
 -- take, after how many of its sections it settles its journal (0 for never), and whether progress

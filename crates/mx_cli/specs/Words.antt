@@ -1,20 +1,18 @@
 -- What the words of a command line ask for, as `clap` reads them.
 use Rattle.std.specs.Prelude.{◌≡◌, ◌≢◌, ◌⊎◌, ◌||◌, ℕ, Bool, List, [], ◌∷◌, Option, Some, None, true, false, codes, map, if◌then◌else◌, option_map, option_and_then, Result, Ok, Err, MatchResult}
-use Rattle.std.specs.declared.alloc.AllocError.{AllocError}
 use Rattle.std.specs.Borrow.{Bor}
 use Rattle.std.specs.Option.{option_map_or}
 use Rattle.std.specs.Str.{bytes_eq}
 use Rattle.std.specs.Str.Parse.{digits_value, without_leading_plus}
-use Rattle.clap.specs.Words.{AddsArg, AddsSubcommand, App, Row, Rule, Text, app_of, first_of, is_simple, one_of, new_app, new_rule, rule_of, subcommand_of, subcommand_rows_of, with_rule, with_subcommand}
+use Rattle.clap.specs.Words.{App, Row, Rule, Text, app_of, first_of, is_simple, one_of, rule_of, subcommand_of, subcommand_rows_of}
 use Rattle.clap.specs.Faults.{fault_of, is_simple_and_free}
 use Rattle.clap.specs.Kinds.{HasKind, Kinds, IsAmong}
 use Rattle.clap.specs.ValueTests.{is_unsigned_in}
 use Rattle.clap.specs.declared.builder.arg.Arg.{Arg}
 use Rattle.clap.specs.declared.builder.command.Command.{Command}
 use Rattle.clap.specs.declared.builder.command.Command.TheViews.{out-Command}
-use Rattle.clap.specs.declared.builder.action.ArgAction.TheVariants.{SetTrue}
-use Rattle.clap.specs.declared.builder.value_parser.ValueParser.TheVariants.{Unsigned}
 use Rattle.clap.specs.declared.parser.matches.ArgMatches.{ArgMatches}
+use Rattle.mx_cli.specs.Table.{mx_app}
 use Rattle.mx_cli.specs.declared.words.Exploration.{Exploration}
 use Rattle.mx_cli.specs.declared.words.Names.{Names}
 use Rattle.mx_cli.specs.declared.words.Request.{Request as Given}
@@ -22,33 +20,6 @@ use Rattle.mx_cli.specs.declared.words.Request.TheVariants as given
 use Rattle.clap.specs.declared.error.Error.{Error}
 use Rattle.clap.specs.declared.error.kind.ErrorKind.{ErrorKind}
 use Rattle.clap.specs.declared.error.kind.ErrorKind.TheVariants.{DisplayHelp, DisplayVersion}
-use Rattle.mx_stamps.specs.declared.limits.TheConstants.{MAX_EVENTS}
-
--- an argument that has to be given
-abbrev pub needed : Rule → Rule
-needed rule = record rule { required = true }
-
--- a file that has to be named
-abbrev pub file_rule : Text → Rule
-file_rule id = needed (new_rule id)
-
--- `--ID`
-abbrev pub flag_rule : Text → Rule
-flag_rule id = record (new_rule id) { long = Some id; action = Some SetTrue }
-
--- `--ID TEXT`
-abbrev pub text_rule : Text → Rule
-text_rule id = record (new_rule id) { long = Some id }
-
--- `--ID N`, a number up to the most
-abbrev pub number_rule : Text → ℕ → Rule
-number_rule id most = record (new_rule id) { long = Some id; parser = Some (Unsigned 0 most) }
-
-abbrev pub plan_rule : Rule
-plan_rule = file_rule (codes "PLAN")
-
-abbrev pub events_rule : Rule
-events_rule = file_rule (codes "EVENTS")
 
 -- the argument is read by this rule, and is not one of subcommands too
 pub record IsArgument (read_by : Rule) (argument : Arg) : Type 0 where
@@ -64,87 +35,6 @@ pub record IsCommand (read_as : App) (command : Command) : Type 0 where
   pub app : app_of command ≡ read_as
   pub local : HasNoGlobals command
 
--- `--seed S`, a number of 64 bits
-abbrev pub seed_rule : Rule
-seed_rule = needed (number_rule (codes "seed") 18446744073709551615)
-
--- `--steps K`, a number up to that of the most events
-abbrev pub steps_rule : Rule
-steps_rule = needed (number_rule (codes "steps") MAX_EVENTS)
-
--- `--asks`
-abbrev pub asks_rule : Rule
-asks_rule = flag_rule (codes "asks")
-
--- `check PLAN`, and perhaps `--asks`
-abbrev pub check_app : App
-check_app = with_rule (with_rule (new_app (codes "check")) plan_rule) asks_rule
-
--- `--quiet`
-abbrev pub quiet_rule : Rule
-quiet_rule = flag_rule (codes "quiet")
-
--- `--node NAME`
-abbrev pub node_rule : Rule
-node_rule = text_rule (codes "node")
-
--- `--json`
-abbrev pub json_rule : Rule
-json_rule = flag_rule (codes "json")
-
--- `--count`
-abbrev pub count_rule : Rule
-count_rule = flag_rule (codes "count")
-
--- `--state`
-abbrev pub state_rule : Rule
-state_rule = flag_rule (codes "state")
-
--- `replay PLAN EVENTS`, and perhaps `--quiet`, `--node NAME`, `--json` and `--state`
-abbrev pub replay_app : App
-replay_app =
-    let named = with_rule (with_rule (new_app (codes "replay")) plan_rule) events_rule in
-    let shown = with_rule (with_rule named quiet_rule) node_rule in
-    with_rule (with_rule shown json_rule) state_rule
-
--- `explore PLAN --seed S --steps K`, and perhaps `--count`
-abbrev pub explore_app : App
-explore_app =
-    let named = with_rule (new_app (codes "explore")) plan_rule in
-    let drawn = with_rule (with_rule named seed_rule) steps_rule in
-    with_rule drawn count_rule
-
-abbrev pub mx_start : App
-mx_start =
-    let a = new_app (codes "mx") in
-    record a {
-      top = record a.top {
-        no_binary_name = true;
-        subcommand_required = true;
-        disable_help_subcommand = true;
-        has_version = true;
-      };
-    }
-
--- the command line with this subcommand alone
-abbrev pub line_with : App → App
-line_with app = with_subcommand mx_start app.top
-
--- the subcommand was made, and the second command line is the first with it added
-abbrev pub AddsMade : Command → Result Command AllocError → Command → Type 0
-AddsMade before (Ok command) after = AddsSubcommand before command after
-AddsMade before (Err e) after = ⊥
-
--- the same of a first command line that was made too
-abbrev pub AddsBothMade : Result Command AllocError → Result Command AllocError → Command → Type 0
-AddsBothMade (Ok before) made after = AddsMade before made after
-AddsBothMade (Err e) made after = ⊥
-
--- the first command was made, and the second is that with this argument added
-abbrev pub AddsArgMade : Result Command AllocError → Arg → Command → Type 0
-AddsArgMade (Ok before) argument after = AddsArg before argument after
-AddsArgMade (Err e) argument after = ⊥
-
 -- what the words of the command line ask for, and what is wrong with them, follows from the words
 -- alone
 pub record IsReadable (line : App) : Type 0 where
@@ -155,30 +45,6 @@ pub record IsReadable (line : App) : Type 0 where
 pub record IsLine (read_as : App) (line : Command) : Type 0 where
   pub app : app_of line ≡ read_as
   pub readable : IsReadable (app_of line)
-
--- the command line with a command that it lists, and whose words are read by a command line of
--- their own
-abbrev pub with_listed : App → Text → App
-with_listed line name = with_subcommand line (new_app name).top
-
--- the command line with all commands that have one of their own
-abbrev pub with_others : App → App
-with_others line =
-    let live = with_listed line (codes "live") in
-    let drawn = with_listed (with_listed live (codes "draw")) (codes "script") in
-    let shown = with_listed (with_listed drawn (codes "play")) (codes "picture") in
-    let counted = with_listed (with_listed shown (codes "count")) (codes "judge") in
-    with_listed counted (codes "explain")
-
--- the commands whose words are read by the whole command line
-abbrev pub with_read : App → App
-with_read line =
-    let replayed = with_subcommand (with_subcommand line check_app.top) replay_app.top in
-    with_subcommand replayed explore_app.top
-
--- the whole command line
-unfoldable pub mx_app : App
-mx_app = with_others (with_read mx_start)
 
 abbrev pub texts_of : List (Bor Text) → List Text
 texts_of = map (λ word. word.now)

@@ -1,75 +1,286 @@
 //! The arguments of commands.
 
-ghost use Rattle.mx_cli.specs.Words.{IsArgument, events_rule, file_rule, flag_rule, number_rule, plan_rule, seed_rule, steps_rule, text_rule};
+ghost use Rattle.mx_cli.specs.Table.{rule_of_argument};
+ghost use Rattle.mx_cli.specs.Words.{IsArgument};
 
 use clap::builder::ValueParser;
 use clap::{Arg, ArgAction};
-use mx_stamps::MAX_EVENTS;
+use mx_stamps::{MAX_EVENTS, MAX_SECTIONS};
 use std::alloc::Global;
+
+/// What an argument takes.
+#[derive(Clone, Copy)]
+pub enum ArgumentKind {
+    /// A file, which has a place among the words.
+    File,
+    /// `--NAME`, which is given or not.
+    Flag,
+    /// `--NAME TEXT`
+    Text,
+    /// `--NAME N`, a whole number up to this one.
+    Number(u64),
+}
+
+/// An argument of a command.
+#[derive(Clone, Copy)]
+pub struct Argument {
+    pub name: &'static str,
+    pub kind: ArgumentKind,
+    pub is_required: bool,
+    /// What help says of it.
+    pub help: &'static str,
+}
+
+impl Argument {
+    /// Whether it is an option, with a name that begins with two dashes.
+    pub(crate) fn is_option(&self) -> bool {
+        !matches!(self.kind, ArgumentKind::File)
+    }
+
+    /// Whether it is an option with a value after it.
+    pub(crate) fn has_value(&self) -> bool {
+        matches!(self.kind, ArgumentKind::Text | ArgumentKind::Number(_))
+    }
+}
 
 /// The greatest number of steps of an exploration.
 const MAX_STEPS: u64 = MAX_EVENTS as u64;
 
-/// A file that has to be named.
-pub fn file_arg<'a>(alloc: Global, id: &'a str, help: &'a str) -> Arg<'a>
-    ensures { IsArgument (file_rule id.now) result }
-{
-    Arg::new(alloc, id).help(help).required(true)
-}
+/// The most parcels of 256 that are lost or repeated: all.
+const MAX_SHARE: u64 = 256;
 
-/// `--ID`, which is given or not.
-pub fn flag_arg<'a>(alloc: Global, id: &'a str, help: &'a str) -> Arg<'a>
-    ensures { IsArgument (flag_rule id.now) result }
-{
-    Arg::new(alloc, id)
-        .long(id)
-        .help(help)
-        .action(ArgAction::SetTrue)
-}
+/// A plan.
+pub(crate) const PLAN: Argument = Argument {
+    name: "PLAN",
+    kind: ArgumentKind::File,
+    is_required: true,
+    help: "The file of the plan, or - for standard input",
+};
 
-/// `--ID TEXT`, which may be given.
-pub fn text_arg<'a>(alloc: Global, id: &'a str, help: &'a str) -> Arg<'a>
-    ensures { IsArgument (text_rule id.now) result }
-{
-    Arg::new(alloc, id).long(id).help(help)
-}
+/// The events of a plan.
+pub(crate) const EVENTS: Argument = Argument {
+    name: "EVENTS",
+    kind: ArgumentKind::File,
+    is_required: true,
+    help: "The file of the events, or - for standard input",
+};
 
-/// `--ID N`, a whole number up to `most`, which may be given.
-pub fn number_arg<'a>(alloc: Global, id: &'a str, help: &'a str, most: u64) -> Arg<'a>
-    ensures { IsArgument (number_rule id.now most) result }
-{
-    let named = Arg::new(alloc, id).long(id).help(help);
-    named.value_parser(ValueParser::Unsigned(0, most))
-}
+pub(crate) const TRACE: Argument = Argument {
+    name: "TRACE",
+    kind: ArgumentKind::File,
+    is_required: true,
+    help: "The file of the trace, or - for standard input",
+};
 
-/// The argument of a plan's name.
-pub fn plan_arg<'a>(alloc: Global) -> Arg<'a>
-    ensures { IsArgument plan_rule result }
-{
-    let help = "The file of the plan, or - for standard input";
-    file_arg(alloc, "PLAN", help)
-}
+pub(crate) const SCRIPT: Argument = Argument {
+    name: "SCRIPT",
+    kind: ArgumentKind::File,
+    is_required: true,
+    help: "The file of the script, or - for standard input",
+};
 
-/// The argument of the name of a plan's events.
-pub fn events_arg<'a>(alloc: Global) -> Arg<'a>
-    ensures { IsArgument events_rule result }
-{
-    let help = "The file of the events, or - for standard input";
-    file_arg(alloc, "EVENTS", help)
-}
+/// A script that `play` begins with.
+pub(crate) const FIRST_SCRIPT: Argument = Argument {
+    name: "SCRIPT",
+    kind: ArgumentKind::File,
+    is_required: false,
+    help: "The file of a script whose lines come first",
+};
 
-/// The argument `--seed`.
-pub fn seed_arg<'a>(alloc: Global) -> Arg<'a>
-    ensures { IsArgument seed_rule result }
-{
-    let help = "The seed that is drawn from, a whole number of 64 bits";
-    number_arg(alloc, "seed", help, u64::MAX).required(true)
-}
+/// What `explain` looks at beside the plan.
+pub(crate) const EVENTS_OR_SCRIPT: Argument = Argument {
+    name: "EVENTS",
+    kind: ArgumentKind::File,
+    is_required: false,
+    help: "The file of the events, or of the script, or - for standard input",
+};
 
-/// The argument `--steps`.
-pub fn steps_arg<'a>(alloc: Global) -> Arg<'a>
-    ensures { IsArgument steps_rule result }
+pub(crate) const ASKS: Argument = Argument {
+    name: "asks",
+    kind: ArgumentKind::Flag,
+    is_required: false,
+    help: "Prints whom each node asks too",
+};
+
+pub(crate) const QUIET: Argument = Argument {
+    name: "quiet",
+    kind: ArgumentKind::Flag,
+    is_required: false,
+    help: "Prints the closing lines alone",
+};
+
+pub(crate) const NODE: Argument = Argument {
+    name: "node",
+    kind: ArgumentKind::Text,
+    is_required: false,
+    help: "Prints the lines of the node of this name alone",
+};
+
+pub(crate) const JSON: Argument = Argument {
+    name: "json",
+    kind: ArgumentKind::Flag,
+    is_required: false,
+    help: "Prints an object of JSON in place of each line",
+};
+
+pub(crate) const STATE: Argument = Argument {
+    name: "state",
+    kind: ArgumentKind::Flag,
+    is_required: false,
+    help: "Prints what each node knows at the end",
+};
+
+pub(crate) const SEED: Argument = Argument {
+    name: "seed",
+    kind: ArgumentKind::Number(u64::MAX),
+    is_required: true,
+    help: "The seed that is drawn from, a whole number of 64 bits",
+};
+
+pub(crate) const SEEDS: Argument = Argument {
+    name: "seeds",
+    kind: ArgumentKind::Text,
+    is_required: true,
+    help: "The seeds that are drawn from, one after another, such as 1..100",
+};
+
+pub(crate) const STEPS: Argument = Argument {
+    name: "steps",
+    kind: ArgumentKind::Number(MAX_STEPS),
+    is_required: true,
+    help: "How many steps the schedule has, 0 to 1000000",
+};
+
+/// `--count` of `explore`.
+pub(crate) const COUNT_TOO: Argument = Argument {
+    name: "count",
+    kind: ArgumentKind::Flag,
+    is_required: false,
+    help: "Prints the counts of `mx count` too",
+};
+
+pub(crate) const WALK: Argument = Argument {
+    name: "walk",
+    kind: ArgumentKind::Flag,
+    is_required: false,
+    help: "Draws with purpose: parcels arrive, and nodes enter and leave",
+};
+
+/// `--walk` of a walk, which has no other form.
+pub(crate) const WALK_WANTED: Argument = Argument {
+    name: "walk",
+    kind: ArgumentKind::Flag,
+    is_required: true,
+    help: "Draws with purpose: parcels arrive, and nodes enter and leave",
+};
+
+pub(crate) const LOSS: Argument = Argument {
+    name: "loss",
+    kind: ArgumentKind::Number(MAX_SHARE),
+    is_required: false,
+    help: "Of 256 parcels, how many are lost, 0 to 256; 4 if not given",
+};
+
+pub(crate) const REPEAT: Argument = Argument {
+    name: "repeat",
+    kind: ArgumentKind::Number(MAX_SHARE),
+    is_required: false,
+    help: "Of 256 steps, how many deliver a parcel again, 0 to 256; 8 if not given",
+};
+
+pub(crate) const IN_ORDER: Argument = Argument {
+    name: "in-order",
+    kind: ArgumentKind::Flag,
+    is_required: false,
+    help: "Delivers the oldest parcel of a link first",
+};
+
+pub(crate) const SECTIONS: Argument = Argument {
+    name: "sections",
+    kind: ArgumentKind::Number(MAX_SECTIONS),
+    is_required: true,
+    help: "How many sections each node is to have, 0 to 1000000",
+};
+
+/// The seed of the links of `live`.
+pub(crate) const LINK_SEED: Argument = Argument {
+    name: "seed",
+    kind: ArgumentKind::Number(u64::MAX),
+    is_required: false,
+    help: "The seed that is drawn from, a whole number of 64 bits; 1 if not given",
+};
+
+pub(crate) const TURNS: Argument = Argument {
+    name: "turns",
+    kind: ArgumentKind::Number(u64::MAX),
+    is_required: false,
+    help: "How many turns each node may take, a whole number of 64 bits; 10000000 if not given",
+};
+
+pub(crate) const SETTLE: Argument = Argument {
+    name: "settle",
+    kind: ArgumentKind::Number(MAX_SECTIONS),
+    is_required: false,
+    help: "After how many of its sections each node settles its journal, 0 to 1000000; 0 for never",
+};
+
+pub(crate) const PROGRESS: Argument = Argument {
+    name: "progress",
+    kind: ArgumentKind::Flag,
+    is_required: false,
+    help: "Tells on standard error, about once a second, how many sections stand so far",
+};
+
+pub(crate) const FROM: Argument = Argument {
+    name: "from",
+    kind: ArgumentKind::Number(u64::MAX),
+    is_required: false,
+    help: "Draws the events from this index on, counted from 0",
+};
+
+pub(crate) const TO: Argument = Argument {
+    name: "to",
+    kind: ArgumentKind::Number(u64::MAX),
+    is_required: false,
+    help: "Draws the events up to this index",
+};
+
+/// `--node` of `picture`.
+pub(crate) const PICTURE_NODE: Argument = Argument {
+    name: "node",
+    kind: ArgumentKind::Text,
+    is_required: false,
+    help: "Draws the events of the node of this name, and those that send it a parcel or deliver one of its own",
+};
+
+pub(crate) const JOURNALS: Argument = Argument {
+    name: "journals",
+    kind: ArgumentKind::Flag,
+    is_required: false,
+    help: "Tells which sections a node's journal has, at each event that changes it",
+};
+
+/// `--script` of `explain`.
+pub(crate) const IS_SCRIPT: Argument = Argument {
+    name: "script",
+    kind: ArgumentKind::Flag,
+    is_required: false,
+    help: "Reads a script, as `mx script` does, in place of events",
+};
+
+/// The argument as `clap` takes it.
+pub(crate) fn clap_argument<'a>(alloc: Global, argument: &Argument) -> Arg<'a>
+    ensures { IsArgument (rule_of_argument argument.now) result }
 {
-    let help = "How many steps the schedule has, 0 to 1000000";
-    number_arg(alloc, "steps", help, MAX_STEPS).required(true)
+    let named = Arg::new(alloc, argument.name)
+        .help(argument.help)
+        .required(argument.is_required);
+    match argument.kind {
+        ArgumentKind::File => named,
+        ArgumentKind::Flag => named.long(argument.name).action(ArgAction::SetTrue),
+        ArgumentKind::Text => named.long(argument.name),
+        ArgumentKind::Number(most) => named
+            .long(argument.name)
+            .value_parser(ValueParser::Unsigned(0, most)),
+    }
 }

@@ -5,7 +5,7 @@ ghost use Rattle.mx_cli.specs.FaultLines.{fault_line, part_text};
 ghost use Rattle.mx_cli.specs.Words.{names_of};
 
 use crate::faults::{Fault, Named};
-use crate::splitting::are_dashes;
+use crate::first_line::are_dashes;
 use crate::words::Names;
 use std::fmt;
 

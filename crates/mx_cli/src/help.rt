@@ -7,14 +7,6 @@ pub(crate) const VERSION: &str = "0.1.0, proved by Rattle's logic dac8208d650f15
 pub(crate) const MX: &str =
     "Nodes that guard shared registers by distributed mutual exclusion: Ricart and Agrawala, Maekawa, Raymond";
 
-pub(crate) const CHECK: &str = "Prints what a plan says of its cluster";
-
-pub(crate) const REPLAY: &str =
-    "Prints what comes of each event, each parcel that it sends, and where each node stands at the end";
-
-pub(crate) const EXPLORE: &str =
-    "Lets events drawn from a seed happen, and judges what came of them";
-
 /// What help says of a command that another program has.
 pub(crate) const LISTED: &str = "It is one of the commands of the whole program.";
 

@@ -1,39 +1,36 @@
-//! What every command does before and after its own work: it reads the words of its command line,
-//! fetches its plan from a source, and tells what was asked for wrongly, what is at fault, or that
-//! memory ran out.
+//! What every command does before and after its own work: it parses its arguments, by one table of
+//! all commands, reads its plan from a source, and reports wrong arguments, a fault, or that memory
+//! ran out.
 #![tactic(auto)]
 
-mod about;
 mod arguments;
-mod closing;
+mod examples;
 mod fault_lines;
 mod faults;
+mod first_line;
+mod forms;
 mod help;
 mod line;
 mod live_words;
 mod not_json;
 mod planning;
-mod splitting;
-mod telling;
+mod report;
+mod status;
+mod table;
 mod tips;
 mod words;
 
-pub use about::{
-    ABOUT_COUNT, ABOUT_DRAW, ABOUT_EXPLAIN, ABOUT_JUDGE, ABOUT_PICTURE, ABOUT_PLAY, ABOUT_SCRIPT,
-};
-pub use arguments::{
-    events_arg, file_arg, flag_arg, number_arg, plan_arg, seed_arg, steps_arg, text_arg,
-};
-pub use closing::{close, close_with, is_refused};
 pub use fault_lines::FaultLine;
 pub use faults::{Fault, Named, Stop};
-pub use line::{bare_command, command_line, line_of, matches_in};
-pub use live_words::{LiveRequest, asked_live};
+pub use first_line::{are_dashes, split_line};
+pub use forms::{command_in, takes_value};
+pub use line::matches_in;
+pub use live_words::{LiveRequest, parse_live};
 pub use not_json::{fetch_named, naming, stop_named};
 pub use planning::{PlanAndText, fetch, fetch_both, fetch_plan, plan_in};
-pub use splitting::{are_dashes, split_line};
-pub use telling::{put_line, refuse, tell, tell_line, tell_memory};
+pub use report::{put_line, refuse, tell, tell_line, tell_memory};
+pub use status::{close, close_with, is_refused};
+pub use table::CommandId;
 pub use words::{
-    Exploration, Names, Request, asked, exploration_at, explore_command, is_given, names_at,
-    number_at, replay_command, text_at,
+    Exploration, Names, Request, exploration_at, is_given, names_at, number_at, parse, text_at,
 };

@@ -1,16 +1,18 @@
-//! The command line that subcommands are added to, and what is found in its words.
+//! Command lines, made from the table, and what is found in their words.
 
 ghost use Rattle.std.specs.Prelude.{◌≡◌, IfOk};
-ghost use Rattle.clap.specs.Words.{App, app_of, new_app, with_rule};
-ghost use Rattle.mx_cli.specs.Words.{Finds, line_with, mx_start, plan_rule, texts_of, AddsArgMade, AddsBothMade, HasNoGlobals, IsCommand, IsReadable};
+ghost use Rattle.clap.specs.Words.{App, app_of, new_app};
+ghost use Rattle.mx_cli.specs.Table.{app_of_row, command_app, line_of, listed_app, mx_app, mx_start, with_commands};
+ghost use Rattle.mx_cli.specs.Words.{Finds, IsCommand, IsLine, IsReadable, texts_of};
 
-use crate::arguments::plan_arg;
+use crate::arguments::clap_argument;
 use crate::help;
-use clap::{Arg, ArgMatches, Command, Error};
+use crate::table::{CommandId, CommandRow, LISTED, READ, row_of};
+use clap::{ArgMatches, Command, Error};
 use std::alloc::{AllocError, Global};
 
-/// The command line of `mx`, which has no subcommand yet.
-pub fn command_line<'a>(alloc: Global) -> Result<Command<'a>, AllocError>
+/// The command line of `mx`, without a command yet.
+fn bare_line<'a>(alloc: Global) -> Result<Command<'a>, AllocError>
     ensures { IfOk result (λ command. app_of command ≡ mx_start) }
 {
     let begun = Command::new(alloc, "mx")
@@ -23,63 +25,117 @@ pub fn command_line<'a>(alloc: Global) -> Result<Command<'a>, AllocError>
     Ok(begun)
 }
 
-/// The command line of `mx` with this subcommand alone.
-pub fn line_of<'a>(alloc: Global, command: Command<'a>) -> Result<Command<'a>, AllocError>
-    requires { HasNoGlobals command }
-    ensures { IfOk result (λ line. app_of line ≡ line_with (app_of command.entry)) }
+/// The same, with its example.
+fn start_line<'a>(alloc: Global) -> Result<Command<'a>, AllocError>
+    ensures { IfOk result (λ line. app_of line ≡ mx_start) }
 {
-    with_made(command_line(alloc), Ok(command))
+    Ok(bare_line(alloc)?.after_help(help::MX_EXAMPLE))
 }
 
-/// The command line with one more subcommand, where both were made.
-pub(crate) fn with_made<'a>(
-    line: Result<Command<'a>, AllocError>,
-    command: Result<Command<'a>, AllocError>,
-) -> Result<Command<'a>, AllocError>
-    ensures { IfOk result (AddsBothMade line.entry command.entry) }
+/// The command of a row, with its arguments.
+fn command_of_row<'a>(alloc: Global, row: &CommandRow) -> Result<Command<'a>, AllocError>
+    ensures { IfOk result (IsCommand (app_of_row row.now)) }
 {
-    line?.subcommand(command?)
+    let mut command = listed_row(alloc, row, row.example);
+    for argument in row.arguments {
+        command = command.arg(clap_argument(alloc, argument))?;
+    }
+    Ok(command)
 }
 
-/// The command with one more argument, where it was made.
-pub(crate) fn with_arg<'a>(
-    command: Result<Command<'a>, AllocError>,
-    argument: Arg<'a>,
-) -> Result<Command<'a>, AllocError>
-    ensures { IfOk result (AddsArgMade command.entry argument.entry) }
+/// The command of a row, without its arguments.
+fn listed_row<'a>(alloc: Global, row: &CommandRow, example: &'static str) -> Command<'a>
+    ensures { IsCommand (new_app row.now.name.now) result }
 {
-    command?.arg(argument)
+    Command::new(alloc, row.name)
+        .about(row.about)
+        .after_help(example)
 }
 
-/// A subcommand whose first argument is the name of a plan.
-pub(crate) fn plan_command<'a>(
+/// A command with its arguments.
+fn full_command<'a>(alloc: Global, id: CommandId) -> Result<Command<'a>, AllocError>
+    ensures { IfOk result (IsCommand (command_app id)) }
+{
+    command_of_row(alloc, row_of(id))
+}
+
+/// A command none of whose arguments is read.
+fn listed_command<'a>(alloc: Global, id: CommandId) -> Command<'a>
+    ensures { IsCommand (listed_app id) result }
+{
+    listed_row(alloc, row_of(id), help::LISTED)
+}
+
+/// The command line with these commands too.
+fn with_commands<'a>(
     alloc: Global,
-    name: &'a str,
-    about: &'a str,
-    example: &'a str,
+    line: Command<'a>,
+    ids: &[CommandId],
 ) -> Result<Command<'a>, AllocError>
-    ensures { IfOk result (IsCommand (with_rule (new_app name.now) plan_rule)) }
+    ensures { IfOk result (λ made. app_of made
+        ≡ with_commands command_app (app_of line.entry) ids.now) }
 {
-    bare_command(alloc, name, about, example).arg(plan_arg(alloc))
+    let mut line = line;
+    for id in ids {
+        line = line.subcommand(full_command(alloc, *id)?)?;
+    }
+    Ok(line)
 }
 
-/// A subcommand that has no argument yet, with what its help says and the example there.
-pub fn bare_command<'a>(
+/// The command line with these commands too, of which no argument is read.
+fn with_listed<'a>(
     alloc: Global,
-    name: &'a str,
-    about: &'a str,
-    example: &'a str,
-) -> Command<'a>
-    ensures { IsCommand (new_app name.now) result }
+    line: Command<'a>,
+    ids: &[CommandId],
+) -> Result<Command<'a>, AllocError>
+    ensures { IfOk result (λ made. app_of made
+        ≡ with_commands listed_app (app_of line.entry) ids.now) }
 {
-    Command::new(alloc, name).about(about).after_help(example)
+    let mut line = line;
+    for id in ids {
+        line = line.subcommand(listed_command(alloc, *id))?;
+    }
+    Ok(line)
 }
 
-/// What is found in the words of a command line. Faults are those of `clap`, and words that ask for
-/// help or for the version come as such a fault too, with the text to show.
-pub fn matches_in<'a>(line: Command<'a>, words: &'a [&'a str]) -> Result<ArgMatches<'a>, Error>
+/// The command line of `mx` with these commands alone.
+fn line_of<'a>(alloc: Global, ids: &[CommandId]) -> Result<Command<'a>, AllocError>
+    ensures { IfOk result (λ line. app_of line ≡ line_of ids.now) }
+{
+    with_commands(alloc, start_line(alloc)?, ids)
+}
+
+/// The command line of `command`, which lists all commands.
+pub(crate) fn whole_line<'a>(alloc: Global) -> Result<Command<'a>, AllocError>
+    ensures { IfOk result (IsLine mx_app) }
+{
+    with_listed(alloc, line_of(alloc, &READ)?, &LISTED)
+}
+
+/// Finds what the words of a command line give.
+pub(crate) fn matches_of<'a>(
+    line: Command<'a>,
+    words: &'a [&'a str],
+) -> Result<ArgMatches<'a>, Error>
     requires { IsReadable (app_of line) }
     ensures { (app : App) → app_of line.entry ≡ app → Finds app (texts_of words.entry.now) result }
 {
     line.try_get_matches_from(words)
+}
+
+/// Finds what the words give in the command line of `mx` with these commands alone.
+///
+/// # Errors
+///
+/// Returns the error of `clap` for wrong arguments, and also, with the text to show, if help is
+/// requested.
+pub fn matches_in<'a>(
+    alloc: Global,
+    ids: &[CommandId],
+    words: &'a [&'a str],
+) -> Result<ArgMatches<'a>, Error>
+    requires { IsReadable (line_of ids.now) }
+    ensures { Finds (line_of ids.entry.now) (texts_of words.entry.now) result }
+{
+    matches_of(line_of(alloc, ids)?, words)
 }

@@ -8,7 +8,7 @@ ghost use Rattle.mx_cli.specs.Reading.{Reads, ReadsBoth, Fetches, line_of, plan_
 ghost use Rattle.mx_cli.specs.Words.{names_of};
 
 use crate::faults::{Fault, Named, Stop};
-use crate::splitting::{are_dashes, split_line};
+use crate::first_line::{are_dashes, split_line};
 use crate::words::Names;
 use mx_io::{Source, SourceFault};
 use mx_plan::{Plan, read_plan};

@@ -1,20 +1,14 @@
-//! The command line.
+//! What the words of a command line ask for.
 
-ghost use Rattle.std.specs.Prelude.{◌≡◌, Some, IfOk, option_map};
-ghost use Rattle.clap.specs.Words.{App, app_of, first_of, found_of, rows_of, subcommand_rows_of};
-ghost use Rattle.mx_cli.specs.Words.{IsCommand, check_app, explore_app, mx_app, mx_start, replay_app, with_listed, with_others, with_read};
+ghost use Rattle.std.specs.Prelude.{◌≡◌, Some, option_map};
+ghost use Rattle.clap.specs.Words.{first_of, found_of, rows_of, subcommand_rows_of};
+ghost use Rattle.mx_cli.specs.Table.{mx_app};
 ghost use Rattle.mx_cli.specs.Words.{check_in, exploration_at, explore_in, explored, is_given, is_view, names_at, names_of, number_at, replay_in};
-ghost use Rattle.mx_cli.specs.Words.{Asks, IsLine, request_asked, request_in, request_of, texts_of};
+ghost use Rattle.mx_cli.specs.Words.{Asks, request_asked, request_in, request_of, texts_of};
 
-use crate::about::{
-    ABOUT_COUNT, ABOUT_DRAW, ABOUT_EXPLAIN, ABOUT_JUDGE, ABOUT_LIVE, ABOUT_PICTURE, ABOUT_PLAY,
-    ABOUT_SCRIPT,
-};
-use crate::arguments::{events_arg, flag_arg, seed_arg, steps_arg, text_arg};
-use crate::help;
-use crate::line::{bare_command, command_line, matches_in, plan_command, with_arg, with_made};
-use clap::{ArgMatches, Command, Error};
-use std::alloc::{AllocError, Global};
+use crate::line::{matches_of, whole_line};
+use clap::{ArgMatches, Error};
+use std::alloc::Global;
 
 /// The names of a plan and of its events.
 #[derive(Clone, Copy, Debug, PartialEq, Eq)]
@@ -42,126 +36,31 @@ pub enum Request<'a> {
     Explore(Exploration<'a>),
 }
 
-/// `check PLAN`, which may have `--asks`.
-fn check_command<'a>(alloc: Global) -> Result<Command<'a>, AllocError>
-    ensures { IfOk result (IsCommand check_app) }
-{
-    let begun = plan_command(alloc, "check", help::CHECK, help::CHECK_EXAMPLE);
-    let asks = flag_arg(alloc, "asks", "Prints whom each node asks too");
-    with_arg(begun, asks)
-}
-
-/// `replay PLAN EVENTS`, which may have `--quiet`, `--node NAME`, `--json` and `--state`.
-pub fn replay_command<'a>(alloc: Global) -> Result<Command<'a>, AllocError>
-    ensures { IfOk result (IsCommand replay_app) }
-{
-    let begun = plan_command(alloc, "replay", help::REPLAY, help::REPLAY_EXAMPLE);
-    let with_events = with_arg(begun, events_arg(alloc));
-    let quiet = flag_arg(alloc, "quiet", "Prints the closing lines alone");
-    let with_quiet = with_arg(with_events, quiet);
-    let node = text_arg(
-        alloc,
-        "node",
-        "Prints the lines of the node of this name alone",
-    );
-    let with_node = with_arg(with_quiet, node);
-    let json = flag_arg(
-        alloc,
-        "json",
-        "Prints an object of JSON in place of each line",
-    );
-    let with_json = with_arg(with_node, json);
-    let state = flag_arg(alloc, "state", "Prints what each node knows at the end");
-    with_arg(with_json, state)
-}
-
-/// Creates the command line `explore PLAN --seed S --steps K [--count]`.
-pub fn explore_command<'a>(alloc: Global) -> Result<Command<'a>, AllocError>
-    ensures { IfOk result (IsCommand explore_app) }
-{
-    let begun = plan_command(alloc, "explore", help::EXPLORE, help::EXPLORE_EXAMPLE);
-    let with_seed = with_arg(begun, seed_arg(alloc));
-    let with_steps = with_arg(with_seed, steps_arg(alloc));
-    let count = flag_arg(alloc, "count", "Prints the counts of `mx count` too");
-    with_arg(with_steps, count)
-}
-
-/// The whole command line.
-fn mx_command<'a>(alloc: Global) -> Result<Command<'a>, AllocError>
-    ensures { IfOk result (IsLine mx_app) }
-{
-    with_others(alloc, read_command(alloc))
-}
-
-/// The command line with the commands that it reads.
-fn read_command<'a>(alloc: Global) -> Result<Command<'a>, AllocError>
-    ensures { IfOk result (λ command. app_of command ≡ with_read mx_start) }
-{
-    let with_check = with_made(mx_line(alloc), check_command(alloc));
-    let with_replay = with_made(with_check, replay_command(alloc));
-    with_made(with_replay, explore_command(alloc))
-}
-
-/// The command line with those that have a command line of their own too, so that help lists them
-/// and a mistyped word finds them.
-fn with_others<'a>(
-    alloc: Global,
-    line: Result<Command<'a>, AllocError>,
-) -> Result<Command<'a>, AllocError>
-    ensures { (app : App) → IfOk line.entry (λ command. app_of command ≡ app)
-        → IfOk result (λ command. app_of command ≡ with_others app) }
-{
-    let with_live = with_listed(alloc, line, "live", ABOUT_LIVE);
-    let with_draw = with_listed(alloc, with_live, "draw", ABOUT_DRAW);
-    let with_script = with_listed(alloc, with_draw, "script", ABOUT_SCRIPT);
-    let with_play = with_listed(alloc, with_script, "play", ABOUT_PLAY);
-    let with_picture = with_listed(alloc, with_play, "picture", ABOUT_PICTURE);
-    let with_count = with_listed(alloc, with_picture, "count", ABOUT_COUNT);
-    let with_judge = with_listed(alloc, with_count, "judge", ABOUT_JUDGE);
-    with_listed(alloc, with_judge, "explain", ABOUT_EXPLAIN)
-}
-
-/// The command line with a command of this name, none of whose arguments is read.
-fn with_listed<'a>(
-    alloc: Global,
-    line: Result<Command<'a>, AllocError>,
-    name: &'a str,
-    about: &'a str,
-) -> Result<Command<'a>, AllocError>
-    ensures { (app : App) → IfOk line.entry (λ command. app_of command ≡ app)
-        → IfOk result (λ command. app_of command ≡ with_listed app name.now) }
-{
-    with_made(line, Ok(bare_command(alloc, name, about, help::LISTED)))
-}
-
-/// The command line of `mx` with its example, before it has a subcommand.
-fn mx_line<'a>(alloc: Global) -> Result<Command<'a>, AllocError>
-    ensures { IfOk result (λ line. app_of line ≡ mx_start) }
-{
-    Ok(command_line(alloc)?.after_help(help::MX_EXAMPLE))
-}
-
-/// What the words ask for. Their faults are those of `clap`, and words that ask for help or for the
-/// version come as such a fault too, with the text to show.
-pub fn asked<'a>(alloc: Global, words: &'a [&'a str]) -> Result<Option<Request<'a>>, Error>
+/// Parses the words of a command line that `command` runs.
+///
+/// # Errors
+///
+/// Returns the error of `clap` for wrong arguments, and also, with the text to show, if help or the
+/// version is requested.
+pub fn parse<'a>(alloc: Global, words: &'a [&'a str]) -> Result<Option<Request<'a>>, Error>
     ensures { Asks request_of mx_app (texts_of words.entry.now)
         (request_asked (texts_of words.entry.now)) result }
 {
-    let matches = matches_in(mx_command(alloc)?, words)?;
-    Ok(request_in(&matches))
+    let matches = matches_of(whole_line(alloc)?, words)?;
+    Ok(from_matches(&matches))
 }
 
-fn request_in<'a>(matches: &ArgMatches<'a>) -> Option<Request<'a>>
+fn from_matches<'a>(matches: &ArgMatches<'a>) -> Option<Request<'a>>
     ensures { option_map request_of result ≡ request_in (subcommand_rows_of matches.now) }
 {
     match matches.subcommand() {
-        Some((name, inner)) => request_of(name, inner),
+        Some((name, inner)) => request_in(name, inner),
         None => None,
     }
 }
 
 /// What the command of this name asks for.
-fn request_of<'a>(name: &str, matches: &ArgMatches<'a>) -> Option<Request<'a>>
+fn request_in<'a>(name: &str, matches: &ArgMatches<'a>) -> Option<Request<'a>>
     ensures { option_map request_of result
         ≡ request_in (Some (name.now, rows_of (found_of matches.now))) }
 {

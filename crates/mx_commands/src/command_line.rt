@@ -1,7 +1,8 @@
 //! The command: from words, named bytes and two outputs to a status.
 
 ghost use Rattle.std.specs.Prelude.{◌≡◌, ◌&&◌, Err, IsSome, IfSome, IfOk};
-ghost use Rattle.mx_cli.specs.Words.{texts_of, names_of, request_asked, request_of, AskNothing, mx_app};
+ghost use Rattle.mx_cli.specs.Table.{mx_app};
+ghost use Rattle.mx_cli.specs.Words.{texts_of, names_of, request_asked, request_of, AskNothing};
 ghost use Rattle.mx_cli.specs.Outputs.{IsPassedOn, refused_after};
 ghost use Rattle.mx_commands.specs.Jobs.{names_in};
 ghost use Rattle.mx_cli.specs.Closed.{IsRunStatus};
@@ -11,7 +12,7 @@ ghost use Rattle.mx_cli.specs.Told.{Answers, Declines, seen};
 use crate::check_plan::{check, check_asks};
 use crate::exploration::explore;
 use crate::replays::replay;
-use mx_cli::{Names, Request, Stop, asked, is_refused, refuse, tell, tell_memory};
+use mx_cli::{Names, Request, Stop, is_refused, parse, refuse, tell, tell_memory};
 use mx_io::{Output, Source};
 use std::alloc::Global;
 
@@ -34,7 +35,7 @@ pub fn command<S: Source, O: Output, E: Output>(
     ensures other { AskNothing (texts_of words.entry.now) → Declines
         (seen O.Output E.Output out.old err.old) (seen O.Output E.Output out.new err.new) result }
 {
-    match asked(alloc, words) {
+    match parse(alloc, words) {
         Ok(Some(request)) => run_request(alloc, &request, source, out, err),
         Ok(None) => 2,
         Err(e) => refuse(alloc, &e, out, err),

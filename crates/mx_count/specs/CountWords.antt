@@ -1,18 +1,16 @@
 -- What the words of `count`, and of `explore` with `--count`, ask for, as `clap` reads them.
-use Rattle.std.specs.Prelude.{ℕ, List, Option, Some, None, codes, if◌then◌else◌, option_map}
+use Rattle.std.specs.Prelude.{ℕ, List, [], ◌∷◌, Option, Some, None, codes, if◌then◌else◌, option_map}
 use Rattle.std.specs.Str.{bytes_eq}
-use Rattle.clap.specs.Words.{App, Row, Text, new_app, with_rule, with_subcommand}
-use Rattle.mx_cli.specs.Words.{asked_of, events_rule, exploration_at, explore_app, line_with, names_at, names_of, plan_rule}
+use Rattle.clap.specs.Words.{App, Row, Text}
+use Rattle.mx_cli.specs.Table.{line_of}
+use Rattle.mx_cli.specs.Words.{asked_of, exploration_at, names_at, names_of}
+use Rattle.mx_cli.specs.declared.table.CommandId.TheVariants as id
 use Rattle.mx_count.specs.declared.words.Request.{Request as Told}
 use Rattle.mx_count.specs.declared.words.Request.TheVariants.{Given, Drawn}
 
--- `count PLAN EVENTS`
-abbrev pub count_app : App
-count_app = with_rule (with_rule (new_app (codes "count")) plan_rule) events_rule
-
 -- the whole command line
 unfoldable pub count_line : App
-count_line = with_subcommand (line_with count_app) explore_app.top
+count_line = line_of (id.Count ∷ id.ExploreCount ∷ [])
 
 -- what is to be counted: what comes of the events of these names, or of those of a seed and a
 -- number of steps

@@ -9,7 +9,7 @@ ghost use Rattle.mx_count.specs.CountWords as wants;
 ghost use Rattle.mx_count.specs.Printed.{PrintsCounts};
 
 use crate::printed_counts::{count_listed, count_schedule};
-use crate::words::{Request, asked};
+use crate::words::{Request, parse};
 use mx_cli::{Exploration, Named, Names, Stop, close, fetch_named, fetch_plan, naming, refuse};
 use mx_io::{Output, Source};
 use std::alloc::Global;
@@ -34,7 +34,7 @@ pub fn count<S: Source, O: Output, E: Output>(
     ensures answers { Answers count_line (texts_of words.entry.now) (O.takes_all out.old)
         (seen O.Output E.Output out.old err.old) (seen O.Output E.Output out.new err.new) result }
 {
-    match asked(alloc, words) {
+    match parse(alloc, words) {
         Ok(Some(request)) => count_and_close(alloc, &request, source, out, err),
         Ok(None) => 2,
         Err(e) => refuse(alloc, &e, out, err),

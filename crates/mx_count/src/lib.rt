@@ -5,7 +5,6 @@
 mod count_command;
 mod count_lines;
 mod counted_run;
-mod help;
 mod kinds;
 mod parcel_counts;
 mod printed_counts;

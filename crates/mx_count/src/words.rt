@@ -1,17 +1,13 @@
-//! The words of `count`, and those of `explore` with `--count`.
+//! The arguments of `count`, and those of `explore` with `--count`.
 
-ghost use Rattle.std.specs.Prelude.{◌≡◌, IfOk, option_map};
-ghost use Rattle.clap.specs.Words.{app_of, found_of, rows_of, subcommand_rows_of};
-ghost use Rattle.mx_cli.specs.Words.{Asks, IsCommand, IsLine, line_with, texts_of};
-ghost use Rattle.mx_count.specs.CountWords.{count_app, count_line, drawn_in, given_in, request_asked, request_in, request_of};
+ghost use Rattle.std.specs.Prelude.{◌≡◌, option_map};
+ghost use Rattle.clap.specs.Words.{found_of, rows_of, subcommand_rows_of};
+ghost use Rattle.mx_cli.specs.Words.{Asks, texts_of};
+ghost use Rattle.mx_count.specs.CountWords.{count_line, drawn_in, given_in, request_asked, request_in, request_of};
 
-use crate::help;
-use clap::{ArgMatches, Command, Error};
-use mx_cli::{
-    ABOUT_COUNT, Exploration, Names, bare_command, events_arg, exploration_at, explore_command,
-    line_of, matches_in, names_at, plan_arg,
-};
-use std::alloc::{AllocError, Global};
+use clap::{ArgMatches, Error};
+use mx_cli::{CommandId, Exploration, Names, exploration_at, matches_in, names_at};
+use std::alloc::Global;
 
 /// What is to be counted.
 #[derive(Clone, Copy)]
@@ -35,39 +31,21 @@ impl<'a> Request<'a> {
     }
 }
 
-fn count_command<'a>(alloc: Global) -> Result<Command<'a>, AllocError>
-    ensures { IfOk result (IsCommand count_app) }
-{
-    let begun = bare_command(alloc, "count", ABOUT_COUNT, help::COUNT_EXAMPLE);
-    let with_plan = begun.arg(plan_arg(alloc))?;
-    with_plan.arg(events_arg(alloc))
-}
-
-/// The commands that are read.
-fn count_line<'a>(alloc: Global) -> Result<Command<'a>, AllocError>
-    ensures { IfOk result (IsLine count_line) }
-{
-    counted_line(alloc)?.subcommand(explore_command(alloc)?)
-}
-
-/// The command line of `count` alone.
-fn counted_line<'a>(alloc: Global) -> Result<Command<'a>, AllocError>
-    ensures { IfOk result (λ command. app_of command ≡ line_with count_app) }
-{
-    line_of(alloc, count_command(alloc)?)
-}
-
-/// What the words ask to count. Their faults are those of `clap`, and words that ask for help come
-/// as such a fault too, with the text to show.
-pub(crate) fn asked<'a>(alloc: Global, words: &'a [&'a str]) -> Result<Option<Request<'a>>, Error>
+/// Parses a command line that begins with `count`, or is `explore` with `--count`.
+///
+/// # Errors
+///
+/// Returns the error of `clap` for wrong arguments, and also, with the text to show, if help is
+/// requested.
+pub(crate) fn parse<'a>(alloc: Global, words: &'a [&'a str]) -> Result<Option<Request<'a>>, Error>
     ensures { Asks request_of count_line (texts_of words.entry.now)
         (request_asked (texts_of words.entry.now)) result }
 {
-    let matches = matches_in(count_line(alloc)?, words)?;
-    Ok(request_in(&matches))
+    let matches = matches_in(alloc, &[CommandId::Count, CommandId::ExploreCount], words)?;
+    Ok(from_matches(&matches))
 }
 
-fn request_in<'a>(matches: &ArgMatches<'a>) -> Option<Request<'a>>
+fn from_matches<'a>(matches: &ArgMatches<'a>) -> Option<Request<'a>>
     ensures { option_map request_of result ≡ request_in (subcommand_rows_of matches.now) }
 {
     match matches.subcommand() {

@@ -1,27 +1,16 @@
 -- What the words of `explain` ask for, as `clap` reads them: a check, a replay or a script that is
 -- to be explained.
-use Rattle.std.specs.Prelude.{Bool, List, Option, Some, None, codes, if◌then◌else◌, option_map}
-use Rattle.clap.specs.Words.{App, Row, Rule, Text, first_of, new_app, new_rule, with_rule}
-use Rattle.mx_cli.specs.Words.{Request, asked_of, by_name, check, flag_rule, is_given, line_with, names_of, plan_rule, replay, request_of}
+use Rattle.std.specs.Prelude.{Bool, List, [], ◌∷◌, Option, Some, None, codes, if◌then◌else◌, option_map}
+use Rattle.clap.specs.Words.{App, Row, Text, first_of}
+use Rattle.mx_cli.specs.Table.{line_of}
+use Rattle.mx_cli.specs.Words.{Request, asked_of, by_name, check, is_given, names_of, replay, request_of}
+use Rattle.mx_cli.specs.declared.table.CommandId.TheVariants as id
 use Rattle.mx_explain.specs.declared.asking.Matter.{Matter as Given}
 use Rattle.mx_explain.specs.declared.asking.Matter.TheVariants as given
 
--- `[EVENTS]`
-abbrev pub events_rule : Rule
-events_rule = new_rule (codes "EVENTS")
-
--- `--script`
-abbrev pub script_rule : Rule
-script_rule = flag_rule (codes "script")
-
--- `explain PLAN [EVENTS]`, and perhaps `--script`
-abbrev pub explain_app : App
-explain_app =
-    with_rule (with_rule (with_rule (new_app (codes "explain")) plan_rule) events_rule) script_rule
-
 -- the whole command line
 unfoldable pub explain_line : App
-explain_line = line_with explain_app
+explain_line = line_of (id.Explain ∷ [])
 
 -- a check or a replay; or the script of a plan
 pub data Matter : Type 0 where

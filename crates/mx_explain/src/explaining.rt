@@ -10,7 +10,7 @@ ghost use Rattle.mx_explain.specs.Explained.{Explains, ExplainsMatter, FailsToPr
 ghost use Rattle.mx_diagnostics.specs.Reports.{has_fault};
 ghost use Rattle.std.specs.Io.KnownBytes.{Keeps};
 
-use crate::asking::{Matter, asked};
+use crate::asking::{Matter, parse};
 use crate::files::explain_files;
 use crate::reasons::Reasons;
 use crate::scripts::explain_script;
@@ -61,7 +61,7 @@ pub fn explain<S: Source + Reasons, O: Output, E: Output>(
     ensures answers { Answers explain_line (texts_of words.entry.now) (O.takes_all out.old)
         (seen O.Output E.Output out.old err.old) (seen O.Output E.Output out.new err.new) result }
 {
-    match asked(alloc, words) {
+    match parse(alloc, words) {
         Ok(Some(matter)) => explain_matter(alloc, &matter, source, out, err),
         Ok(None) => 2,
         Err(e) => refuse(alloc, &e, out, err),

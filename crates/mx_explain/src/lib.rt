@@ -5,7 +5,6 @@
 mod asking;
 mod explaining;
 mod files;
-mod help;
 mod reasons;
 mod refused_lines;
 mod runs;

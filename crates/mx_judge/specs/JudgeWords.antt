@@ -1,18 +1,13 @@
 -- The arguments of `judge`, as `clap` parses them.
-use Rattle.std.specs.Prelude.{List, Option, codes, option_map, option_and_then}
-use Rattle.clap.specs.Words.{App, Row, Rule, Text, first_of, new_app, with_rule}
-use Rattle.mx_cli.specs.Words.{asked_of, by_name, file_rule, line_with, plan_rule}
-
-abbrev pub trace_rule : Rule
-trace_rule = file_rule (codes "TRACE")
-
--- `judge PLAN TRACE`
-abbrev pub judge_app : App
-judge_app = with_rule (with_rule (new_app (codes "judge")) plan_rule) trace_rule
+use Rattle.std.specs.Prelude.{List, [], ◌∷◌, Option, codes, option_map, option_and_then}
+use Rattle.clap.specs.Words.{App, Row, Text, first_of}
+use Rattle.mx_cli.specs.Table.{line_of}
+use Rattle.mx_cli.specs.Words.{asked_of, by_name}
+use Rattle.mx_cli.specs.declared.table.CommandId.TheVariants as id
 
 -- the whole command line
 unfoldable pub judge_line : App
-judge_line = line_with judge_app
+judge_line = line_of (id.Judge ∷ [])
 
 -- the names that were given for the plan and the trace
 abbrev pub judge_in : List Row → Option (Text × Text)

@@ -12,7 +12,7 @@ ghost use Rattle.mx_judge.specs.Judged.{ClosesJudged, IsUnprinted, Judges, Judge
 
 use crate::errors::JudgeError;
 use crate::trace_reader::read_trace;
-use crate::words::asked;
+use crate::words::parse;
 use mx_cli::{Names, Stop, close, close_with, fetch_named, put_line, refuse};
 use mx_commands::{VerdictLine, verdict_status};
 use mx_explorer::{Verdict, judge};
@@ -41,7 +41,7 @@ pub fn judge_trace<S: Source, O: Output, E: Output>(
     ensures answers { Answers judge_line (texts_of words.entry.now) (O.takes_all out.old)
         (seen O.Output E.Output out.old err.old) (seen O.Output E.Output out.new err.new) result }
 {
-    match asked(alloc, words) {
+    match parse(alloc, words) {
         Ok(Some(names)) => judge_and_close(alloc, &names, source, out, err),
         Ok(None) => 2,
         Err(e) => refuse(alloc, &e, out, err),

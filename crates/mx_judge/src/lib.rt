@@ -4,7 +4,6 @@
 mod entry_reader;
 mod errors;
 mod faults;
-mod help;
 mod judge_command;
 mod members;
 mod outcome_reader;

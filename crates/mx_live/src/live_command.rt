@@ -15,7 +15,7 @@ ghost use Rattle.mx_live.specs.Progress.{TellsProgress};
 use crate::halts::{Halt, tell};
 use crate::live_text::add_journal;
 use crate::node_runs::live_by_shape;
-use mx_cli::{LiveRequest, asked_live, fetch_plan, refuse};
+use mx_cli::{LiveRequest, fetch_plan, parse_live, refuse};
 use mx_io::{Output, Source};
 use mx_plan::Plan;
 use mx_stations::Gathered;
@@ -47,7 +47,7 @@ pub fn live<R: Threads + Clock, S: Source, O: Output, E: Output>(
     ensures other { AskNothing (texts_of words.entry.now) → Declines
         (seen O.Output E.Output out.old err.old) (seen O.Output E.Output out.new err.new) result }
 {
-    match asked_live(alloc, words) {
+    match parse_live(alloc, words) {
         Ok(Some(request)) => run_live(rt, alloc, &request, source, out, err),
         Ok(None) => 2,
         Err(e) => refuse(alloc, &e, out, err),

@@ -1,30 +1,14 @@
 -- The arguments of `picture`, as `clap` parses them.
-use Rattle.std.specs.Prelude.{ℕ, Bool, List, Option, codes, option_map, unwrap_or}
-use Rattle.clap.specs.Words.{App, Row, Rule, Text, first_of, new_app, with_rule}
-use Rattle.mx_cli.specs.Words.{asked_of, by_name, events_rule, flag_rule, is_given, line_with, names_at, names_of, node_rule, number_at, number_rule, plan_rule}
+use Rattle.std.specs.Prelude.{ℕ, Bool, List, [], ◌∷◌, Option, codes, option_map, unwrap_or}
+use Rattle.clap.specs.Words.{App, Row, Text, first_of}
+use Rattle.mx_cli.specs.Table.{line_of}
+use Rattle.mx_cli.specs.Words.{asked_of, by_name, is_given, names_at, names_of, number_at}
+use Rattle.mx_cli.specs.declared.table.CommandId.TheVariants as id
 use Rattle.mx_picture.specs.declared.words.Request.{Request as Told}
-
--- `--from K`, a number of 64 bits
-abbrev pub from_rule : Rule
-from_rule = number_rule (codes "from") 18446744073709551615
-
--- `--to K`, a number of 64 bits
-abbrev pub to_rule : Rule
-to_rule = number_rule (codes "to") 18446744073709551615
-
--- `--journals`
-abbrev pub journals_rule : Rule
-journals_rule = flag_rule (codes "journals")
-
--- `picture PLAN EVENTS`, and perhaps `--from K`, `--to K`, `--node NAME` and `--journals`
-abbrev pub picture_app : App
-picture_app =
-    let named = with_rule (with_rule (new_app (codes "picture")) plan_rule) events_rule in
-    with_rule (with_rule (with_rule (with_rule named from_rule) to_rule) node_rule) journals_rule
 
 -- the whole command line
 unfoldable pub picture_line : App
-picture_line = line_with picture_app
+picture_line = line_of (id.Picture ∷ [])
 
 -- the names of the plan and of the events; the first and the last event that are drawn, and the
 -- node if it is only one; whether journals are shown

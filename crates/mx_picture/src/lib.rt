@@ -3,7 +3,6 @@
 
 mod drawing;
 mod escaping;
-mod help;
 mod inks;
 mod journals;
 mod labels;

@@ -7,7 +7,7 @@ ghost use Rattle.mx_picture.specs.PictureWords.{request_asked, request_of, pictu
 ghost use Rattle.mx_picture.specs.Pictures.{Pictures};
 
 use crate::reading::draw;
-use crate::words::{Request, asked};
+use crate::words::{Request, parse};
 use mx_cli::{close, refuse};
 use mx_io::{Output, Source};
 use std::alloc::Global;
@@ -32,7 +32,7 @@ pub fn picture<S: Source, O: Output, E: Output>(
     ensures answers { Answers picture_line (texts_of words.entry.now) (O.takes_all out.old)
         (seen O.Output E.Output out.old err.old) (seen O.Output E.Output out.new err.new) result }
 {
-    match asked(alloc, words) {
+    match parse(alloc, words) {
         Ok(Some(request)) => run_picture(alloc, &request, source, out, err),
         Ok(None) => 2,
         Err(e) => refuse(alloc, &e, out, err),

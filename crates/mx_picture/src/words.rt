@@ -1,17 +1,13 @@
 //! The arguments of `picture`.
 
-ghost use Rattle.std.specs.Prelude.{◌≡◌, IfOk, option_map};
+ghost use Rattle.std.specs.Prelude.{◌≡◌, option_map};
 ghost use Rattle.clap.specs.Words.{found_of, rows_of, subcommand_rows_of};
-ghost use Rattle.mx_cli.specs.Words.{Asks, IsCommand, IsLine, texts_of};
-ghost use Rattle.mx_picture.specs.PictureWords.{picture_app, picture_in, picture_line, request_asked, request_in, request_of};
+ghost use Rattle.mx_cli.specs.Words.{Asks, texts_of};
+ghost use Rattle.mx_picture.specs.PictureWords.{picture_in, picture_line, request_asked, request_in, request_of};
 
-use crate::help;
-use clap::{ArgMatches, Command, Error};
-use mx_cli::{
-    ABOUT_PICTURE, Names, bare_command, events_arg, flag_arg, is_given, line_of, matches_in,
-    names_at, number_arg, number_at, plan_arg, text_arg, text_at,
-};
-use std::alloc::{AllocError, Global};
+use clap::{ArgMatches, Error};
+use mx_cli::{CommandId, Names, is_given, matches_in, names_at, number_at, text_at};
+use std::alloc::Global;
 
 /// The picture that is requested: the plan and the events, the first and the last event, the node
 /// if it is only one, and whether journals are shown.
@@ -24,40 +20,21 @@ pub(crate) struct Request<'a> {
     pub(crate) has_journals: bool,
 }
 
-fn picture_command<'a>(alloc: Global) -> Result<Command<'a>, AllocError>
-    ensures { IfOk result (IsCommand picture_app) }
-{
-    let begun = bare_command(alloc, "picture", ABOUT_PICTURE, help::PICTURE_EXAMPLE);
-    let with_plan = begun.arg(plan_arg(alloc))?;
-    let with_events = with_plan.arg(events_arg(alloc))?;
-    let with_from = with_events.arg(number_arg(alloc, "from", help::FROM, u64::MAX))?;
-    let with_to = with_from.arg(number_arg(alloc, "to", help::TO, u64::MAX))?;
-    let with_node = with_to.arg(text_arg(alloc, "node", help::NODE))?;
-    with_node.arg(flag_arg(alloc, "journals", help::JOURNALS))
-}
-
-/// Parses a command line that starts with `picture`.
+/// Parses a command line that begins with `picture`.
 ///
 /// # Errors
 ///
 /// Returns the error of `clap` for wrong arguments, and also, with the text to show, if help is
 /// requested.
-pub(crate) fn asked<'a>(alloc: Global, words: &'a [&'a str]) -> Result<Option<Request<'a>>, Error>
+pub(crate) fn parse<'a>(alloc: Global, words: &'a [&'a str]) -> Result<Option<Request<'a>>, Error>
     ensures { Asks request_of picture_line (texts_of words.entry.now)
         (request_asked (texts_of words.entry.now)) result }
 {
-    let matches = matches_in(picture_line(alloc)?, words)?;
-    Ok(request_in(&matches))
+    let matches = matches_in(alloc, &[CommandId::Picture], words)?;
+    Ok(from_matches(&matches))
 }
 
-/// Returns the command line that is parsed.
-fn picture_line<'a>(alloc: Global) -> Result<Command<'a>, AllocError>
-    ensures { IfOk result (IsLine picture_line) }
-{
-    line_of(alloc, picture_command(alloc)?)
-}
-
-fn request_in<'a>(matches: &ArgMatches<'a>) -> Option<Request<'a>>
+fn from_matches<'a>(matches: &ArgMatches<'a>) -> Option<Request<'a>>
     ensures { option_map request_of result ≡ request_in (subcommand_rows_of matches.now) }
 {
     match matches.subcommand() {

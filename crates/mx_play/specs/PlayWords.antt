@@ -1,21 +1,15 @@
 -- What the words of `play` ask for, as `clap` reads them.
-use Rattle.std.specs.Prelude.{◌≡◌, List, [], Option, None, codes, option_map}
+use Rattle.std.specs.Prelude.{◌≡◌, List, [], ◌∷◌, Option, None, codes, option_map}
 use Rattle.clap.specs.Faults.{fault_of}
-use Rattle.clap.specs.Words.{App, Row, Rule, Text, first_of, new_app, new_rule, with_rule}
-use Rattle.mx_cli.specs.Words.{asked_of, by_name, line_with, plan_rule}
+use Rattle.clap.specs.Words.{App, Row, Text, first_of}
+use Rattle.mx_cli.specs.Table.{line_of}
+use Rattle.mx_cli.specs.Words.{asked_of, by_name}
+use Rattle.mx_cli.specs.declared.table.CommandId.TheVariants as id
 use Rattle.mx_play.specs.declared.words.Request.{Request as Told}
-
--- a script may be named
-abbrev pub script_rule : Rule
-script_rule = new_rule (codes "SCRIPT")
-
--- `play PLAN`, and perhaps `SCRIPT`
-abbrev pub play_app : App
-play_app = with_rule (with_rule (new_app (codes "play")) plan_rule) script_rule
 
 -- the whole command line
 unfoldable pub play_line : App
-play_line = line_with play_app
+play_line = line_of (id.Play ∷ [])
 
 -- the names of a plan, and perhaps of a script whose lines come first
 abbrev pub Request : Type 0

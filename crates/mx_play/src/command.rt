@@ -10,7 +10,7 @@ ghost use Rattle.mx_play.specs.Played.{HasPlayed, IsPlayedBy};
 use crate::playing::play_by;
 use crate::reading::Lines;
 use crate::starting::fetch_start;
-use crate::words::{Request, asked};
+use crate::words::{Request, parse};
 use mx_cli::{Names, PlanAndText, close, refuse};
 use mx_io::{Output, Source};
 use std::alloc::Global;
@@ -38,7 +38,7 @@ pub fn play<S: Source, L: Lines, O: Output, E: Output>(
     ensures other { AskNothing (texts_of words.entry.now) → Declines
         (seen O.Output E.Output out.old err.old) (seen O.Output E.Output out.new err.new) result }
 {
-    match asked(alloc, words) {
+    match parse(alloc, words) {
         Ok(Some(request)) => play_request(alloc, &request, source, lines, out, err),
         Ok(None) => 2,
         Err(e) => refuse(alloc, &e, out, err),

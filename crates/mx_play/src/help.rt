@@ -1,4 +1,4 @@
-//! The texts of help.
+//! The words of a session.
 
 ghost use Rattle.std.specs.Prelude.{◌≡◌, ◌++◌, OnOk, string_bytes};
 ghost use Rattle.mx_play.specs.Help.{words_text};
@@ -46,23 +46,3 @@ const WORDS: &str = "ask N         node N asks to enter\n\
     help          these words\n\
     end           the closing lines and the verdict, and the end\n\
     quit, exit    the same as end\n";
-
-pub(crate) const PLAY_EXAMPLE: &str =
-    "Example: node a enters, and then the last two lines never happened.
-
-  plan.json    {\"algorithm\":\"ricart\",\"nodes\":[\"a\",\"b\",\"c\"],\"registers\":[\"count\"],\"sections\":10}
-
-  mx play plan.json
-  ask a
-  deliver all
-  enter a
-  show a
-  undo 2
-  end
-
-A line of standard input is one of a script, as `mx script --help` tells them, and what is printed of it is what
-`mx replay` prints of its events. `show` prints the line of each node, and of each parcel under way; `show N` those
-of node N. `undo` takes back the last line that was done, `undo K` the last K of them, and `redo` the last undo. `events`
-prints the events so far, as a file that `mx replay` reads, `mark WORD` itself, and `help` the words. What is wrong in a line is told on standard error, and
-nothing changes. `end`, `quit`, `exit` or the end of standard input prints the closing lines and the verdict. Where a script is
-named, its lines come first. Where the plan is -, it is the first line of standard input.";

@@ -1,19 +1,9 @@
 //! The hint for a reader at a terminal: the command that shows the place of a fault, and why.
 
-use mx_cli::put_line;
+use mx_cli::{CommandId, command_in, put_line, takes_value};
 use mx_io::Output;
 use std::alloc::Global;
 use std::fmt;
-
-/// The options with a value after them.
-const VALUED: &[&str] = &[
-    "--node",
-    "--seed",
-    "--steps",
-    "--sections",
-    "--turns",
-    "--settle",
-];
 
 /// The command that explains these arguments: `explain` with the files in them.
 #[derive(Clone, Copy)]
@@ -27,7 +17,7 @@ impl fmt::Display for Hint<'_> {
             if !is_value && !word.starts_with("--") {
                 write!(f, " {word}")?;
             }
-            is_value = VALUED.contains(word);
+            is_value = takes_value(word);
         }
         f.write_str("' says where and why\n")
     }
@@ -37,11 +27,35 @@ impl fmt::Display for Hint<'_> {
 /// nothing for a file that was standard input, and for a command whose files `explain` does not
 /// read.
 pub(crate) fn tell_hint<E: Output>(alloc: Global, words: &[&str], err: &mut E) {
-    let Some((command, names)) = words.split_first() else {
+    let Some((_, names)) = words.split_first() else {
         return;
     };
-    let is_explained = matches!(*command, "check" | "replay" | "explore" | "live");
+    let is_explained = match command_in(words) {
+        Some(id) => is_explained(id),
+        None => false,
+    };
     if is_explained && !names.contains(&"-") {
         let _ = put_line(alloc, err, Hint(names));
+    }
+}
+
+/// Returns whether `explain` reads the files of a command.
+fn is_explained(id: CommandId) -> bool {
+    match id {
+        CommandId::Check
+        | CommandId::Replay
+        | CommandId::ReplayView
+        | CommandId::Explore
+        | CommandId::ExploreCount
+        | CommandId::ExploreWalk
+        | CommandId::ExploreSeeds
+        | CommandId::Live => true,
+        CommandId::Draw
+        | CommandId::Script
+        | CommandId::Play
+        | CommandId::Picture
+        | CommandId::Count
+        | CommandId::Judge
+        | CommandId::Explain => false,
     }
 }

@@ -1,5 +1,5 @@
-//! `mx`, the program. It passes the arguments, files and streams of the process to the function
-//! that the first argument names, and to `command` if it names none of the others.
+//! `mx`, the program. It passes the arguments, files and streams of the process to the call of the
+//! command that the arguments name, and to `command` if they name none.
 #![tactic(auto)]
 
 mod hints;
@@ -7,6 +7,7 @@ mod kept;
 
 use crate::hints::tell_hint;
 use crate::kept::Kept;
+use mx_cli::{CommandId, command_in};
 use mx_commands::command;
 use mx_count::count;
 use mx_explain::explain;
@@ -38,19 +39,26 @@ where
 {
     let alloc = rt.alloc();
     let mut source = Streams { rt };
-    match first_of(words) {
-        "count" => count(alloc, words, &mut source, out, err),
-        "draw" | "script" => event_file(alloc, words, &mut source, out, err),
-        "explain" => explain(alloc, words, &mut Kept::new(alloc, source), out, err),
-        "explore" if has_seeds(words) => explore_seeds(alloc, words, &mut source, out, err),
-        "explore" if is_walk(words) => explore_walk(alloc, words, &mut source, out, err),
-        "explore" if has_word(words, "--count") => count(alloc, words, &mut source, out, err),
-        "judge" => judge_trace(alloc, words, &mut source, out, err),
-        "live" => live(rt, alloc, words, &mut source, out, err),
-        "picture" => picture(alloc, words, &mut source, out, err),
-        "play" => play(alloc, words, &mut source, &mut typed_lines(rt), out, err),
-        "replay" if is_view(words) => replay_view(alloc, words, &mut source, out, err),
-        _ => command(alloc, words, &mut source, out, err),
+    match command_in(words) {
+        Some(CommandId::Count | CommandId::ExploreCount) => {
+            count(alloc, words, &mut source, out, err)
+        }
+        Some(CommandId::Draw | CommandId::Script) => {
+            event_file(alloc, words, &mut source, out, err)
+        }
+        Some(CommandId::Explain) => {
+            explain(alloc, words, &mut Kept::new(alloc, source), out, err)
+        }
+        Some(CommandId::ExploreSeeds) => explore_seeds(alloc, words, &mut source, out, err),
+        Some(CommandId::ExploreWalk) => explore_walk(alloc, words, &mut source, out, err),
+        Some(CommandId::Judge) => judge_trace(alloc, words, &mut source, out, err),
+        Some(CommandId::Live) => live(rt, alloc, words, &mut source, out, err),
+        Some(CommandId::Picture) => picture(alloc, words, &mut source, out, err),
+        Some(CommandId::Play) => { play(alloc, words, &mut source, &mut typed_lines(rt), out, err) }
+        Some(CommandId::ReplayView) => replay_view(alloc, words, &mut source, out, err),
+        Some(CommandId::Check | CommandId::Replay | CommandId::Explore) | None => {
+            command(alloc, words, &mut source, out, err)
+        }
     }
 }
 
@@ -94,44 +102,12 @@ where
 /// Replaces the argument `help` by `--help`, and `help` before a command by the option `--help` of
 /// that command.
 fn with_help(mut words: Vec<&str>) -> Result<Vec<&str>, AllocError> {
-    if words.is_empty() || first_of(words.as_slice()) != "help" {
+    if !matches!(words.first(), Some(&"help")) {
         return Ok(words);
     }
     words.remove(0);
     words.push("--help")?;
     Ok(words)
-}
-
-/// Returns the first argument, or an empty text if there is none.
-fn first_of<'a>(words: &[&'a str]) -> &'a str {
-    match words.first() {
-        Some(word) => word,
-        None => "",
-    }
-}
-
-/// Returns whether an argument chooses how a replay is shown.
-fn is_view(words: &[&str]) -> bool {
-    words.iter().any(|word| {
-        *word == "--quiet" || *word == "--json" || *word == "--state" || word.starts_with("--node")
-    })
-}
-
-/// Whether one of the words names seeds.
-fn has_seeds(words: &[&str]) -> bool {
-    words.iter().any(|word| word.starts_with("--seeds"))
-}
-
-/// Whether one of the words is an option of a walk.
-fn is_walk(words: &[&str]) -> bool {
-    has_word(words, "--walk")
-        || has_word(words, "--in-order")
-        || words.iter().any(|word| word.starts_with("--loss") || word.starts_with("--repeat"))
-}
-
-/// Returns whether this is among the arguments.
-fn has_word(words: &[&str], wanted: &str) -> bool {
-    words.iter().any(|word| *word == wanted)
 }
 
 fn main(rt: HostRuntime) -> ExitCode {

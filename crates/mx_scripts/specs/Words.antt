@@ -1,36 +1,20 @@
 -- What the words of `draw` and `script` ask for, as `clap` reads them.
 use Rattle.std.specs.Option.{option_map_or}
-use Rattle.std.specs.Prelude.{◌||◌, ℕ, List, Bool, true, false, Option, Some, None, codes, if◌then◌else◌, option_map, option_and_then}
+use Rattle.std.specs.Prelude.{◌||◌, ℕ, List, [], ◌∷◌, Bool, true, false, Option, Some, None, codes, if◌then◌else◌, option_map, option_and_then}
 use Rattle.std.specs.Str.{bytes_eq}
-use Rattle.clap.specs.Words.{App, Row, Rule, Text, first_of, new_app, with_rule, with_subcommand}
-use Rattle.mx_cli.specs.Words.{asked_of, exploration_at, file_rule, flag_rule, is_given, line_with, names_of, plan_rule, seed_rule, steps_rule}
+use Rattle.clap.specs.Words.{App, Row, Text, first_of}
+use Rattle.mx_cli.specs.Table.{line_of}
+use Rattle.mx_cli.specs.Words.{asked_of, exploration_at, is_given, names_of}
+use Rattle.mx_cli.specs.declared.table.CommandId.TheVariants as id
 use Rattle.mx_walks.specs.declared.conditions.Conditions.{Conditions}
-use Rattle.mx_walks.specs.WalkWords.{conditions_in, with_conditions}
+use Rattle.mx_walks.specs.WalkWords.{conditions_in}
 use Rattle.mx_scripts.specs.Requests.{Request, draw, walk, script}
 use Rattle.mx_scripts.specs.declared.words.Request.{Request as Told}
 use Rattle.mx_scripts.specs.declared.words.Request.TheVariants as asked
 
--- `--walk`
-abbrev pub walk_rule : Rule
-walk_rule = flag_rule (codes "walk")
-
-abbrev pub script_rule : Rule
-script_rule = file_rule (codes "SCRIPT")
-
--- `draw PLAN --seed S --steps K`, and perhaps `--walk`, which `--loss P`, `--repeat P` and
--- `--in-order` need
-abbrev pub draw_app : App
-draw_app =
-    let named = with_rule (new_app (codes "draw")) plan_rule in
-    with_conditions (with_rule (with_rule (with_rule named seed_rule) steps_rule) walk_rule)
-
--- `script PLAN SCRIPT`
-abbrev pub script_app : App
-script_app = with_rule (with_rule (new_app (codes "script")) plan_rule) script_rule
-
 -- the whole command line
 unfoldable pub file_line : App
-file_line = with_subcommand (line_with draw_app) script_app.top
+file_line = line_of (id.Draw ∷ id.Script ∷ [])
 
 -- ---- what is asked for
 

@@ -9,7 +9,7 @@ ghost use Rattle.mx_scripts.specs.Words.{request_asked, request_of, file_line};
 
 use crate::help;
 use crate::printing::{run_draw, run_script, run_walk};
-use crate::words::{Request, asked};
+use crate::words::{Request, parse};
 use mx_cli::refuse;
 use mx_io::{Output, Source};
 use std::alloc::Global;
@@ -39,7 +39,7 @@ pub fn event_file<S: Source, O: Output, E: Output>(
     ensures answers { Answers file_line (texts_of words.entry.now) (O.takes_all out.old)
         (seen O.Output E.Output out.old err.old) (seen O.Output E.Output out.new err.new) result }
 {
-    match asked(alloc, words) {
+    match parse(alloc, words) {
         Ok(Some(request)) => run_request(alloc, &request, source, out, err),
         Ok(None) => need_walk(err),
         Err(e) => refuse(alloc, &e, out, err),

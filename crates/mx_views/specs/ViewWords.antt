@@ -1,13 +1,15 @@
 -- What the words of `replay` with `--quiet`, `--node`, `--json` or `--state` ask for, as `clap` reads
 -- them.
-use Rattle.std.specs.Prelude.{Bool, List, Option, codes, option_map}
+use Rattle.std.specs.Prelude.{Bool, List, [], ◌∷◌, Option, codes, option_map}
 use Rattle.clap.specs.Words.{App, Row, Text, first_of}
-use Rattle.mx_cli.specs.Words.{asked_of, by_name, is_given, line_with, names_at, names_of, replay_app}
+use Rattle.mx_cli.specs.Table.{line_of}
+use Rattle.mx_cli.specs.Words.{asked_of, by_name, is_given, names_at, names_of}
+use Rattle.mx_cli.specs.declared.table.CommandId.TheVariants as id
 use Rattle.mx_views.specs.declared.words.Request.{Request as Told}
 
 -- the whole command line
 unfoldable pub view_line : App
-view_line = line_with replay_app
+view_line = line_of (id.ReplayView ∷ [])
 
 -- the names of the plan and of the events; whether the closing lines alone are to be shown, of
 -- which node alone, whether as JSON, and whether with what each node knows

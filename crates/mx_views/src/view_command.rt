@@ -16,7 +16,7 @@ ghost use Rattle.mx_views.specs.Viewed.{CourseRan, IsFound, IsStranger, ViewRan,
 use crate::halts::{Halt, Stranger};
 use crate::selection::{Selection, View};
 use crate::shown_run::show;
-use crate::words::{Request, asked};
+use crate::words::{Request, parse};
 use mx_cli::{Named, Stop, close, close_with, fetch_named, refuse, stop_named};
 use mx_commands::by_shape;
 use mx_diagnostics::told_of_node;
@@ -49,7 +49,7 @@ pub fn replay_view<S: Source, O: Output, E: Output>(
     ensures answers { Answers view_line (texts_of words.entry.now) (O.takes_all out.old)
         (seen O.Output E.Output out.old err.old) (seen O.Output E.Output out.new err.new) result }
 {
-    match asked(alloc, words) {
+    match parse(alloc, words) {
         Ok(Some(request)) => view_and_close(alloc, &request, source, out, err),
         Ok(None) => 2,
         Err(e) => refuse(alloc, &e, out, err),

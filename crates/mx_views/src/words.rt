@@ -1,13 +1,13 @@
-//! The words of `replay` with `--quiet`, `--node`, `--json` or `--state`.
+//! The arguments of `replay` with `--quiet`, `--node`, `--json` or `--state`.
 
-ghost use Rattle.std.specs.Prelude.{◌≡◌, IfOk, option_map};
+ghost use Rattle.std.specs.Prelude.{◌≡◌, option_map};
 ghost use Rattle.clap.specs.Words.{found_of, rows_of, subcommand_rows_of};
-ghost use Rattle.mx_cli.specs.Words.{Asks, IsLine, texts_of};
-ghost use Rattle.mx_views.specs.ViewWords.{request_of, view_in, view_line, request_asked, request_in};
+ghost use Rattle.mx_cli.specs.Words.{Asks, texts_of};
+ghost use Rattle.mx_views.specs.ViewWords.{request_asked, request_in, request_of, view_in, view_line};
 
-use clap::{ArgMatches, Command, Error};
-use mx_cli::{Names, is_given, line_of, matches_in, names_at, replay_command, text_at};
-use std::alloc::{AllocError, Global};
+use clap::{ArgMatches, Error};
+use mx_cli::{CommandId, Names, is_given, matches_in, names_at, text_at};
+use std::alloc::Global;
 
 /// What is to be shown of a replay: the names of its plan and events, whether the closing lines
 /// alone, of which node alone, whether as JSON, and whether with what each node knows.
@@ -20,24 +20,21 @@ pub(crate) struct Request<'a> {
     pub(crate) has_state: bool,
 }
 
-/// What the words ask to show. Their faults are those of `clap`, and words that ask for help come
-/// as such a fault too, with the text to show.
-pub(crate) fn asked<'a>(alloc: Global, words: &'a [&'a str]) -> Result<Option<Request<'a>>, Error>
+/// Parses a command line that begins with `replay`.
+///
+/// # Errors
+///
+/// Returns the error of `clap` for wrong arguments, and also, with the text to show, if help is
+/// requested.
+pub(crate) fn parse<'a>(alloc: Global, words: &'a [&'a str]) -> Result<Option<Request<'a>>, Error>
     ensures { Asks request_of view_line (texts_of words.entry.now)
         (request_asked (texts_of words.entry.now)) result }
 {
-    let matches = matches_in(view_line(alloc)?, words)?;
-    Ok(request_in(&matches))
+    let matches = matches_in(alloc, &[CommandId::ReplayView], words)?;
+    Ok(from_matches(&matches))
 }
 
-/// The command line that is read, which has `replay` alone.
-fn view_line<'a>(alloc: Global) -> Result<Command<'a>, AllocError>
-    ensures { IfOk result (IsLine view_line) }
-{
-    line_of(alloc, replay_command(alloc)?)
-}
-
-fn request_in<'a>(matches: &ArgMatches<'a>) -> Option<Request<'a>>
+fn from_matches<'a>(matches: &ArgMatches<'a>) -> Option<Request<'a>>
     ensures { option_map request_of result ≡ request_in (subcommand_rows_of matches.now) }
 {
     match matches.subcommand() {

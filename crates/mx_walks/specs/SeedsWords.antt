@@ -1,28 +1,18 @@
 -- What the words of `explore` with `--seeds` ask for, as `clap` reads them.
-use Rattle.std.specs.Prelude.{◌||◌, ℕ, List, Bool, true, false, Option, Some, None, codes, if◌then◌else◌, option_map, option_and_then}
+use Rattle.std.specs.Prelude.{◌||◌, ℕ, List, [], ◌∷◌, Bool, true, false, Option, Some, None, codes, if◌then◌else◌, option_map, option_and_then}
 use Rattle.std.specs.Option.{option_map_or}
-use Rattle.clap.specs.Words.{App, Row, Rule, Text, first_of, new_app, with_rule}
-use Rattle.mx_cli.specs.Words.{asked_of, by_name, flag_rule, is_given, line_with, needed, number_at, plan_rule, steps_rule, text_rule}
+use Rattle.clap.specs.Words.{App, Row, Text, first_of}
+use Rattle.mx_cli.specs.Table.{line_of}
+use Rattle.mx_cli.specs.Words.{asked_of, by_name, is_given, number_at}
+use Rattle.mx_cli.specs.declared.table.CommandId.TheVariants as id
 use Rattle.mx_walks.specs.declared.manner.Manner.{Manner}
 use Rattle.mx_walks.specs.declared.manner.Manner.TheVariants.{Schedule, Walk}
 use Rattle.mx_walks.specs.declared.seeds_words.SeedsRequest.{SeedsRequest as Given}
-use Rattle.mx_walks.specs.WalkWords.{conditions_in, with_conditions}
-
--- `--seeds A..B`
-abbrev pub seeds_rule : Rule
-seeds_rule = needed (text_rule (codes "seeds"))
-
--- `explore PLAN --seeds A..B --steps K`, and perhaps `--walk`, which `--loss P`, `--repeat P` and
--- `--in-order` need
-abbrev pub seeds_app : App
-seeds_app =
-    let named = with_rule (new_app (codes "explore")) plan_rule in
-    let drawn = with_rule (with_rule named seeds_rule) steps_rule in
-    with_conditions (with_rule drawn (flag_rule (codes "walk")))
+use Rattle.mx_walks.specs.WalkWords.{conditions_in}
 
 -- the whole command line
 unfoldable pub seeds_line : App
-seeds_line = line_with seeds_app
+seeds_line = line_of (id.ExploreSeeds ∷ [])
 
 -- it is said what becomes of parcels
 abbrev pub has_conditions : List Row → Bool

@@ -9,7 +9,7 @@ ghost use Rattle.mx_walks.specs.Printed.{Explores, ExploresWalk, seed_job};
 ghost use Rattle.mx_walks.specs.WalkWords.{request_asked, request_of, walk_line};
 
 use crate::manner::Manner;
-use crate::walk_words::{WalkRequest, asked_walk};
+use crate::walk_words::{WalkRequest, parse_walk};
 use crate::walked_cluster::explore_plan;
 use mx_cli::{Exploration, Names, Stop, close, fetch_plan, refuse};
 use mx_io::{Output, Source};
@@ -34,7 +34,7 @@ pub fn explore_walk<S: Source, O: Output, E: Output>(
     ensures answers { Answers walk_line (texts_of words.entry.now) (O.takes_all out.old)
         (seen O.Output E.Output out.old err.old) (seen O.Output E.Output out.new err.new) result }
 {
-    match asked_walk(alloc, words) {
+    match parse_walk(alloc, words) {
         Ok(Some(request)) => run_walk(alloc, &request, source, out, err),
         Ok(None) => 2,
         Err(e) => refuse(alloc, &e, out, err),

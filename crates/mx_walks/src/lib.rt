@@ -30,5 +30,5 @@ pub use seeds_command::explore_seeds;
 pub use steps::walk_cluster;
 pub use summary::Summary;
 pub use sums::{SeedsEnd, Sums};
-pub use walk_words::{conditions_in, with_conditions};
+pub use walk_words::conditions_in;
 pub use walked_cluster::explore_plan;

@@ -10,7 +10,7 @@ ghost use Rattle.mx_walks.specs.SeedsWords.{request_asked, request_of, seeds_lin
 use crate::each_seed::explore_seeds_of;
 use crate::help;
 use crate::seeds::{Seeds, seeds_in};
-use crate::seeds_words::{SeedsRequest, asked_seeds};
+use crate::seeds_words::{SeedsRequest, parse_seeds};
 use mx_cli::{Names, Stop, close, fetch_plan, refuse};
 use mx_io::{Output, Source};
 use std::alloc::Global;
@@ -30,7 +30,7 @@ pub fn explore_seeds<S: Source, O: Output, E: Output>(
     ensures answers { Answers seeds_line (texts_of words.entry.now) (O.takes_all out.old)
         (seen O.Output E.Output out.old err.old) (seen O.Output E.Output out.new err.new) result }
 {
-    match asked_seeds(alloc, words) {
+    match parse_seeds(alloc, words) {
         Ok(Some(request)) => run_request(alloc, &request, source, out, err),
         Ok(None) => refuse_words(help::NEEDS_WALK, err),
         Err(e) => refuse(alloc, &e, out, err),

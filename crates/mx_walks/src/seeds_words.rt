@@ -1,19 +1,15 @@
-//! The words of `explore` with `--seeds`.
+//! The arguments of `explore` with `--seeds`.
 
-ghost use Rattle.std.specs.Prelude.{◌≡◌, IfOk, option_map};
+ghost use Rattle.std.specs.Prelude.{◌≡◌, option_map};
 ghost use Rattle.clap.specs.Words.{found_of, rows_of, subcommand_rows_of};
-ghost use Rattle.mx_cli.specs.Words.{Asks, IsArgument, IsCommand, IsLine, texts_of};
-ghost use Rattle.mx_walks.specs.SeedsWords.{has_conditions, manner_in, request_asked, request_in, request_of, seeds_app, seeds_in, seeds_line, seeds_rule};
+ghost use Rattle.mx_cli.specs.Words.{Asks, texts_of};
+ghost use Rattle.mx_walks.specs.SeedsWords.{has_conditions, manner_in, request_asked, request_in, request_of, seeds_in, seeds_line};
 
-use crate::help;
 use crate::manner::Manner;
-use crate::walk_words::{conditions_in, with_conditions};
-use clap::{Arg, ArgMatches, Command, Error};
-use mx_cli::{
-    bare_command, flag_arg, is_given, line_of, matches_in, number_at, plan_arg, steps_arg,
-    text_arg, text_at,
-};
-use std::alloc::{AllocError, Global};
+use crate::walk_words::conditions_in;
+use clap::{ArgMatches, Error};
+use mx_cli::{CommandId, is_given, matches_in, number_at, text_at};
+use std::alloc::Global;
 
 /// What is to be explored: a plan, the text that names the seeds, the number of steps of each, and
 /// how their events are drawn.
@@ -25,45 +21,24 @@ pub(crate) struct SeedsRequest<'a> {
     pub(crate) manner: Manner,
 }
 
-fn seeds_arg<'a>(alloc: Global) -> Arg<'a>
-    ensures { IsArgument seeds_rule result }
-{
-    let help = "The seeds that are drawn from, one after another, such as 1..100";
-    text_arg(alloc, "seeds", help).required(true)
-}
-
-fn seeds_command<'a>(alloc: Global) -> Result<Command<'a>, AllocError>
-    ensures { IfOk result (IsCommand seeds_app) }
-{
-    let begun = bare_command(alloc, "explore", help::ABOUT_SEEDS, help::SEEDS_EXAMPLE);
-    let with_plan = begun.arg(plan_arg(alloc))?;
-    let with_seeds = with_plan.arg(seeds_arg(alloc))?;
-    let with_steps = with_seeds.arg(steps_arg(alloc))?;
-    let with_walk = with_steps.arg(flag_arg(alloc, "walk", help::WALK))?;
-    with_conditions(alloc, with_walk)
-}
-
-/// Returns the command line.
-fn seeds_line<'a>(alloc: Global) -> Result<Command<'a>, AllocError>
-    ensures { IfOk result (IsLine seeds_line) }
-{
-    line_of(alloc, seeds_command(alloc)?)
-}
-
-/// Parses the arguments. Errors are those of `clap`; a request for help is one too, with the text
-/// to print.
-pub(crate) fn asked_seeds<'a>(
+/// Parses a command line that is `explore` with `--seeds`.
+///
+/// # Errors
+///
+/// Returns the error of `clap` for wrong arguments, and also, with the text to show, if help is
+/// requested.
+pub(crate) fn parse_seeds<'a>(
     alloc: Global,
     words: &'a [&'a str],
 ) -> Result<Option<SeedsRequest<'a>>, Error>
     ensures { Asks request_of seeds_line (texts_of words.entry.now)
         (request_asked (texts_of words.entry.now)) result }
 {
-    let matches = matches_in(seeds_line(alloc)?, words)?;
-    Ok(request_in(&matches))
+    let matches = matches_in(alloc, &[CommandId::ExploreSeeds], words)?;
+    Ok(from_matches(&matches))
 }
 
-fn request_in<'a>(matches: &ArgMatches<'a>) -> Option<SeedsRequest<'a>>
+fn from_matches<'a>(matches: &ArgMatches<'a>) -> Option<SeedsRequest<'a>>
     ensures { option_map request_of result ≡ request_in (subcommand_rows_of matches.now) }
 {
     match matches.subcommand() {

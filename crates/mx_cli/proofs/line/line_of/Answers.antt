@@ -1,9 +1,9 @@
-use Rattle.std.proofs.Common.{Ok, refl}
-use Rattle.clap.specs.Words.{app_of}
-use Rattle.mx_cli.specs.Words.{mx_start}
-use Rattle.mx_cli.proofs.WordLemmas.{with_command_made}
+use Rattle.std.proofs.Common.{◌∙◌, ap}
+use Rattle.std.proofs.lemmas.Result.{IfOk-weaker}
+use Rattle.clap.specs.Words.{App}
+use Rattle.mx_cli.specs.Table.{command_app, with_commands}
 use Rattle.mx_cli.proofs.line.line_of.Goals as goal
 
 pub returns : goal.returns
 returns c =
-    with_command_made c.command_line.result (Ok c.args.command) c.with_made.result mx_start (app_of c.args.command) c.command_line.ensures (record { app = refl; local = c.requires }) c.with_made.ensures
+    IfOk-weaker c.with_commands.result _ _ (λ made is. is ∙ ap (λ (l : App). with_commands command_app l c.args.ids.now) c.in_ok-start_line.ensures) c.with_commands.ensures

@@ -1,11 +1,11 @@
-use Rattle.std.proofs.lemmas.Result.{IfOk-weaker}
-use Rattle.clap.specs.Words.{app_of}
-use Rattle.mx_cli.specs.Words.{texts_of}
-use Rattle.mx_cli.proofs.WordLemmas.{parsed}
+use Rattle.std.proofs.Common.{sym, subst}
+use Rattle.clap.specs.Words.{App}
+use Rattle.mx_cli.specs.Table.{line_of}
+use Rattle.mx_cli.specs.Words.{IsReadable}
 use Rattle.mx_cli.proofs.line.matches_in.Goals as goal
 
+pub matches_of-requires : goal.matches_of-requires
+matches_of-requires c = subst (λ (a : App). IsReadable a) (sym c.in_ok-line_of.ensures) c.requires
+
 pub returns : goal.returns
-returns c = λ app is.
-    let parse = c.try_get_matches_from in
-    let found = IfOk-weaker parse.result _ _ (λ m h. (h c.requires.plain).1) parse.ensures.matches in
-    parsed (app_of c.args.line) (texts_of c.args.words.now) parse.result (parse.ensures.kinds c.requires.free) found app is
+returns c = c.matches_of.ensures (line_of c.args.ids.now) c.in_ok-line_of.ensures

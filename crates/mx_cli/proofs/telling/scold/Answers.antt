@@ -1,8 +1,0 @@
-use Rattle.std.proofs.Common.{inl, refl}
-use Rattle.mx_cli.proofs.telling.scold.Goals as goal
-
-pub returns-in-Ok : goal.returns-in-Ok
-returns-in-Ok g c = inl refl
-
-pub returns-in-Ok-2 : goal.returns-in-Ok-2
-returns-in-Ok-2 g c = inl refl

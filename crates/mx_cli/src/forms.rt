@@ -1,0 +1,102 @@
+//! Which command words name, and which form of it one of their options chooses.
+
+use crate::table::{CommandId, LISTED, READ, row_of};
+
+/// A form of a command, which words ask for by one of its options.
+struct Form {
+    id: CommandId,
+    /// The options without a value that choose it.
+    flags: &'static [&'static str],
+    /// The options with a value that choose it.
+    options: &'static [&'static str],
+}
+
+/// The forms, of which an earlier one goes before a later one of the same command.
+static FORMS: [Form; 4] = [
+    Form {
+        id: CommandId::ReplayView,
+        flags: &["--quiet", "--json", "--state"],
+        options: &["--node"],
+    },
+    Form {
+        id: CommandId::ExploreSeeds,
+        flags: &[],
+        options: &["--seeds"],
+    },
+    Form {
+        id: CommandId::ExploreWalk,
+        flags: &["--walk", "--in-order"],
+        options: &["--loss", "--repeat"],
+    },
+    Form {
+        id: CommandId::ExploreCount,
+        flags: &["--count"],
+        options: &[],
+    },
+];
+
+impl Form {
+    /// Whether one of these words chooses the form.
+    fn is_chosen_by(&self, words: &[&str]) -> bool {
+        words.iter().any(|word| is_among(word, self.flags) || begins_with_one(word, self.options))
+    }
+}
+
+fn is_among(word: &str, names: &[&str]) -> bool {
+    names.iter().any(|name| *name == word)
+}
+
+/// Whether a word begins with one of these options, since its value may follow it after `=`.
+fn begins_with_one(word: &str, names: &[&str]) -> bool {
+    names.iter().any(|name| word.starts_with(*name))
+}
+
+/// Returns the command that the first of these words names, in the form that their options choose.
+/// Returns `None` if the first word is no command.
+pub fn command_in(words: &[&str]) -> Option<CommandId> {
+    let Some(name) = words.first() else {
+        return None;
+    };
+    match form_in(name, words) {
+        Some(id) => Some(id),
+        None => command_named(name),
+    }
+}
+
+/// The form of the command of this name that these words choose.
+fn form_in(name: &str, words: &[&str]) -> Option<CommandId> {
+    for form in &FORMS {
+        if row_of(form.id).name == name && form.is_chosen_by(words) {
+            return Some(form.id);
+        }
+    }
+    None
+}
+
+fn command_named(name: &str) -> Option<CommandId> {
+    for id in READ.iter().chain(&LISTED) {
+        if row_of(*id).name == name {
+            return Some(*id);
+        }
+    }
+    None
+}
+
+/// Whether this word is an option with a value after it.
+pub fn takes_value(word: &str) -> bool {
+    match word.strip_prefix("--") {
+        Some(name) => {
+            READ.iter().chain(&LISTED).any(|id| has_valued(*id, name))
+                || FORMS.iter().any(|form| has_valued(form.id, name))
+        }
+        None => false,
+    }
+}
+
+/// Whether a command has an option of this name with a value after it.
+fn has_valued(id: CommandId, name: &str) -> bool {
+    row_of(id)
+        .arguments
+        .iter()
+        .any(|argument| argument.has_value() && argument.name == name)
+}

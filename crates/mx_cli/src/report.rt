@@ -1,0 +1,131 @@
+//! What is told to whom asked: help, faults, and that memory ran out.
+
+ghost use Rattle.std.specs.Prelude.{◌≡◌, ◌⊎◌, List, true, false, IfSome, IfErr, OnOk, OnErr};
+ghost use Rattle.std.specs.Io.KnownBytes.{Appends, Keeps};
+ghost use Rattle.clap.specs.Words.{App, HasKind, Text, fault_of, kind_of};
+ghost use Rattle.mx_cli.specs.Words.{names_of};
+ghost use Rattle.mx_io.specs.Outputs.{refused_by};
+ghost use Rattle.mx_cli.specs.FaultLines.{fault_line};
+ghost use Rattle.mx_cli.specs.Told.{Answers, Helps, MayTell, RunsOut, TellsFault, seen};
+
+use crate::fault_lines::FaultLine;
+use crate::faults::Fault;
+use crate::tips::with_tip;
+use crate::words::Names;
+use clap::error::ErrorKind;
+use mx_io::{Output, OutputFault};
+use std::alloc::Global;
+use std::fmt::Display;
+
+/// Writes the help that the words of a command line ask for, or why they are refused, and returns
+/// the status.
+pub fn refuse<O: Output, E: Output>(alloc: Global, e: &clap::Error, out: &mut O, err: &mut E) -> u8
+    ensures memory { kind_of e.now ≡ ErrorKind.OutOfMemory → RunsOut
+        (seen O.Output E.Output out.old err.old) (seen O.Output E.Output out.new err.new) result }
+    ensures answers { (line : App) (words : List Text) → HasKind (fault_of line words) e.now
+        → Answers line words (O.takes_all out.old)
+        (seen O.Output E.Output out.old err.old) (seen O.Output E.Output out.new err.new) result }
+{
+    match e.kind() {
+        ErrorKind::OutOfMemory => tell_memory(err),
+        ErrorKind::DisplayHelp | ErrorKind::DisplayVersion => show(alloc, e, out, err),
+        _ => report_usage(alloc, e, err),
+    }
+}
+
+/// Writes the line of a fault, and returns the status.
+pub fn tell<E: Output>(alloc: Global, fault: Fault, names: &Names<'_>, err: &mut E) -> u8
+    ensures { TellsFault (E.takes_all err.old) (fault_line (names_of names.now) fault)
+        (E.written err.old) (E.written err.new) result }
+{
+    let line = FaultLine {
+        fault,
+        names: *names,
+    };
+    tell_line(alloc, line, err)
+}
+
+/// Writes a line of why a run ended, and returns the status.
+pub fn tell_line<E: Output, D: Display + Drop>(alloc: Global, line: D, err: &mut E) -> u8
+    ensures status { (result ≡ 1) ⊎ (result ≡ 5) }
+    ensures told { IfSome (D.output line) (λ text. TellsFault (E.takes_all err.old) text
+        (E.written err.old) (E.written err.new) result) }
+{
+    match put_line(alloc, err, line) {
+        Ok(()) => 1,
+        Err(OutputFault::Refused) => 1,
+        Err(OutputFault::Memory) => tell_memory(err),
+    }
+}
+
+/// Writes that memory ran out, where that can be written, and returns the status of that.
+pub fn tell_memory<E: Output>(err: &mut E) -> u8
+    ensures status { result ≡ 5 }
+    ensures told { MayTell (E.written err.old) (E.written err.new) }
+{
+    let _ = err.put("mx: out of memory\n".as_bytes());
+    5
+}
+
+/// Writes the help, or the version, that was asked for.
+fn show<O: Output, E: Output>(alloc: Global, e: &clap::Error, out: &mut O, err: &mut E) -> u8
+    ensures { Helps (O.takes_all out.old)
+        (seen O.Output E.Output out.old err.old) (seen O.Output E.Output out.new err.new) result }
+{
+    match put_and_flush(alloc, out, e) {
+        Ok(()) => 0,
+        Err(OutputFault::Refused) => 1,
+        Err(OutputFault::Memory) => tell_memory(err),
+    }
+}
+
+/// Writes what is wrong with the words.
+fn report_usage<E: Output>(alloc: Global, e: &clap::Error, err: &mut E) -> u8
+    ensures { (result ≡ 2) ⊎ ((result ≡ 5) × MayTell (E.written err.old) (E.written err.new)) }
+{
+    match write_usage(alloc, e, err) {
+        Ok(()) | Err(OutputFault::Refused) => 2,
+        Err(OutputFault::Memory) => tell_memory(err),
+    }
+}
+
+/// Writes what is wrong with the words, with a tip, or nothing of it.
+fn write_usage<E: Output>(alloc: Global, e: &clap::Error, err: &mut E) -> Result<(), OutputFault>
+    ensures { OnErr result (Keeps (E.written err.old) (E.written err.new)) }
+{
+    let told = e.to_string(alloc)?;
+    let text = with_tip(alloc, told.as_str())?;
+    err.put(text.as_bytes())
+}
+
+fn put_and_flush<O: Output, D: Display + Drop>(
+    alloc: Global,
+    out: &mut O,
+    line: D,
+) -> Result<(), OutputFault>
+    ensures takes { IfErr result (λ fault.
+        O.takes_all out.old ≡ true → fault ≡ OutputFault.Memory) }
+    ensures refused { O.has_refused out.new ≡ refused_by result (O.has_refused out.old) }
+    ensures passed { OnOk result (O.keeps_back out.new ≡ false) }
+{
+    put_line(alloc, out, line)?;
+    out.flush()
+}
+
+/// Writes a text whole, or nothing of it.
+pub fn put_line<O: Output, D: Display + Drop>(
+    alloc: Global,
+    out: &mut O,
+    line: D,
+) -> Result<(), OutputFault>
+    ensures ok { OnOk result (IfSome (D.output line)
+        (Appends (O.written out.old) (O.written out.new))) }
+    ensures err { OnErr result (Keeps (O.written out.old) (O.written out.new)) }
+    ensures takes { IfErr result (λ fault.
+        O.takes_all out.old ≡ true → fault ≡ OutputFault.Memory) }
+    ensures refused { O.has_refused out.new ≡ refused_by result (O.has_refused out.old) }
+    ensures stays { O.takes_all out.new ≡ O.takes_all out.old }
+{
+    let text = line.to_string(alloc)?;
+    out.put(text.as_bytes())
+}

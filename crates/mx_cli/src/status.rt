@@ -1,0 +1,85 @@
+//! The end of a command: what the output kept back is passed on, and a fault is told.
+
+ghost use Rattle.std.specs.Prelude.{◌≡◌, ◌⊎◌, ◌↔◌, ◌&&◌, Err, IfOk, IfSome, IsTrue, false};
+ghost use Rattle.std.specs.Io.KnownBytes.{Keeps};
+ghost use Rattle.mx_cli.specs.Words.{names_of};
+ghost use Rattle.mx_cli.specs.Closed.{Closes, IsRunStatus, PassesOn};
+ghost use Rattle.mx_cli.specs.Told.{TellsFault};
+
+use crate::faults::Stop;
+use crate::report::{tell, tell_line, tell_memory};
+use crate::words::Names;
+use mx_io::{Output, OutputFault};
+use std::alloc::Global;
+use std::fmt::Display;
+
+/// Passes on what the output kept back, tells why the run ended early where it did, and returns the
+/// status: that of the run, 1 after a fault or where an output refused, 5 where memory ran out. An
+/// output that has refused is asked for nothing more.
+pub fn close<O: Output, E: Output>(
+    alloc: Global,
+    ended: Result<u8, Stop>,
+    names: &Names<'_>,
+    out: &mut O,
+    err: &mut E,
+) -> u8
+    ensures closes { Closes (O.takes_all out.old && E.takes_all err.old) (names_of names.now) ended
+        (E.written err.old) (E.written err.new) result }
+    ensures status { IfOk ended (λ own. own ≡ 0) → IsRunStatus result }
+    ensures held { Keeps (O.written out.old) (O.written out.new) }
+    ensures passed { result ≡ 0 → O.keeps_back out.new ≡ false }
+    ensures kept_back { PassesOn (E.written err.old) (E.written err.new) (O.keeps_back out.new)
+        result }
+{
+    if is_refused(&ended) {
+        return 1;
+    }
+    match out.flush() {
+        Ok(()) => tell_end(alloc, ended, names, err),
+        Err(OutputFault::Refused) => 1,
+        Err(OutputFault::Memory) => tell_memory(err),
+    }
+}
+
+/// Passes on what the output kept back, writes a line of why the run ended, and returns the status:
+/// 1, or 5 where memory ran out.
+pub fn close_with<O: Output, E: Output, D: Display + Drop>(
+    alloc: Global,
+    line: D,
+    out: &mut O,
+    err: &mut E,
+) -> u8
+    ensures told { IfSome (D.output line) (λ text.
+        TellsFault (O.takes_all out.old && E.takes_all err.old) text
+        (E.written err.old) (E.written err.new) result) }
+    ensures status { (result ≡ 1) ⊎ (result ≡ 5) }
+    ensures held { Keeps (O.written out.old) (O.written out.new) }
+    ensures kept_back { PassesOn (E.written err.old) (E.written err.new) (O.keeps_back out.new)
+        result }
+{
+    match out.flush() {
+        Ok(()) => tell_line(alloc, line, err),
+        Err(OutputFault::Refused) => 1,
+        Err(OutputFault::Memory) => tell_memory(err),
+    }
+}
+
+/// Tells why a run ended early, where it did, and returns the status.
+fn tell_end<E: Output>(alloc: Global, ended: Result<u8, Stop>, names: &Names<'_>, err: &mut E) -> u8
+    ensures { Closes (E.takes_all err.old) (names_of names.now) ended
+        (E.written err.old) (E.written err.new) result }
+{
+    match ended {
+        Ok(status) => status,
+        Err(Stop::Fault(fault)) => tell(alloc, fault, names, err),
+        Err(Stop::Writer) => 1,
+        Err(Stop::Memory) => tell_memory(err),
+    }
+}
+
+/// Whether an output has refused.
+pub fn is_refused(ended: &Result<u8, Stop>) -> bool
+    ensures { IsTrue result ↔ (ended.now ≡ Err Stop.Writer) }
+{
+    matches!(ended, Err(Stop::Writer))
+}
