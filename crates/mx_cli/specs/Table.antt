@@ -86,9 +86,11 @@ walk_rule = flag_rule (codes "walk")
 
 -- ---- commands
 
--- `check PLAN`, and perhaps `--asks`
+-- `check PLAN`, and perhaps `--asks` and `--json`
 abbrev pub check_app : App
-check_app = app_with (codes "check") (plan_rule ∷ flag_rule (codes "asks") ∷ [])
+check_app =
+    app_with (codes "check")
+    (plan_rule ∷ flag_rule (codes "asks") ∷ flag_rule (codes "json") ∷ [])
 
 -- `replay PLAN EVENTS`, and perhaps `--quiet`, `--node NAME`, `--json` and `--state`
 abbrev pub replay_app : App
@@ -97,11 +99,12 @@ replay_app =
     (plan_rule ∷ events_rule ∷ flag_rule (codes "quiet") ∷ text_rule (codes "node")
     ∷ flag_rule (codes "json") ∷ flag_rule (codes "state") ∷ [])
 
--- `explore PLAN --seed S --steps K`, and perhaps `--count`
+-- `explore PLAN --seed S --steps K`, and perhaps `--count` and `--json`
 abbrev pub explore_app : App
 explore_app =
     app_with (codes "explore")
-    (plan_rule ∷ seed_rule ∷ steps_rule ∷ flag_rule (codes "count") ∷ [])
+    (plan_rule ∷ seed_rule ∷ steps_rule ∷ flag_rule (codes "count") ∷ flag_rule (codes "json")
+    ∷ [])
 
 -- `explore PLAN --seed S --steps K --walk`, and perhaps `--loss P`, `--repeat P` and `--in-order`
 abbrev pub walk_app : App
@@ -138,16 +141,17 @@ script_app = app_with (codes "script") (plan_rule ∷ file_rule (codes "SCRIPT")
 abbrev pub play_app : App
 play_app = app_with (codes "play") (plan_rule ∷ new_rule (codes "SCRIPT") ∷ [])
 
--- `picture PLAN EVENTS`, and perhaps `--from K`, `--to K`, `--node NAME` and `--journals`
+-- `picture PLAN EVENTS`, and perhaps `--from K`, `--to K`, `--node NAME`, `--journals` and
+-- `--letters`
 abbrev pub picture_app : App
 picture_app =
     app_with (codes "picture")
     (plan_rule ∷ events_rule ∷ wide_rule (codes "from") ∷ wide_rule (codes "to")
-    ∷ text_rule (codes "node") ∷ flag_rule (codes "journals") ∷ [])
+    ∷ text_rule (codes "node") ∷ flag_rule (codes "journals") ∷ flag_rule (codes "letters") ∷ [])
 
--- `count PLAN EVENTS`
+-- `count PLAN EVENTS`, and perhaps `--json`
 abbrev pub count_app : App
-count_app = app_with (codes "count") (plan_rule ∷ events_rule ∷ [])
+count_app = app_with (codes "count") (plan_rule ∷ events_rule ∷ flag_rule (codes "json") ∷ [])
 
 -- `judge PLAN TRACE`
 abbrev pub judge_app : App
@@ -161,6 +165,7 @@ explain_app =
 
 abbrev pub command_app : CommandId → App
 command_app id.Check = check_app
+command_app id.CheckJson = check_app
 command_app id.Replay = replay_app
 command_app id.ReplayView = replay_app
 command_app id.Explore = explore_app

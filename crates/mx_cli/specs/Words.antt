@@ -112,18 +112,20 @@ exploration_at rows =
 abbrev pub checking : Bool → Text → Request
 checking with_asks plan = if with_asks then asks plan else check plan
 
--- what was given for the arguments of each command
+-- what was given for the arguments of each command; a check, but not one with `--json`
 abbrev pub check_in : List Row → Option Request
-check_in rows = option_map (checking (is_given (codes "asks") rows)) (first_of (codes "PLAN") rows)
+check_in rows =
+    if is_given (codes "json") rows then None
+    else option_map (checking (is_given (codes "asks") rows)) (first_of (codes "PLAN") rows)
 
 -- a replay, but not one with `--quiet`, `--node`, `--json` or `--state`
 abbrev pub replay_in : List Row → Option Request
 replay_in rows = if is_view rows then None else option_map replay (names_at rows)
 
--- an exploration, but not one with `--count`
+-- an exploration, but not one with `--count` or `--json`
 abbrev pub explore_in : List Row → Option Request
 explore_in rows =
-    if is_given (codes "count") rows then None
+    if is_given (codes "count") rows || is_given (codes "json") rows then None
     else option_map (λ e. explore e.0 e.1.0 e.1.1) (exploration_at rows)
 
 -- the command that was met, and what was given for it

@@ -123,6 +123,13 @@ pub(crate) const JSON: Argument = Argument {
     help: "Prints an object of JSON in place of each line",
 };
 
+pub(crate) const LETTERS: Argument = Argument {
+    name: "letters",
+    kind: ArgumentKind::Flag,
+    is_required: false,
+    help: "Draws letters only: no gossip, no repeats, and nothing that a tick sends again",
+};
+
 pub(crate) const STATE: Argument = Argument {
     name: "state",
     kind: ArgumentKind::Flag,

@@ -12,7 +12,12 @@ struct Form {
 }
 
 /// The forms, of which an earlier one goes before a later one of the same command.
-static FORMS: [Form; 4] = [
+static FORMS: [Form; 5] = [
+    Form {
+        id: CommandId::CheckJson,
+        flags: &["--json"],
+        options: &[],
+    },
     Form {
         id: CommandId::ReplayView,
         flags: &["--quiet", "--json", "--state"],
@@ -30,7 +35,7 @@ static FORMS: [Form; 4] = [
     },
     Form {
         id: CommandId::ExploreCount,
-        flags: &["--count"],
+        flags: &["--count", "--json"],
         options: &[],
     },
 ];

@@ -5,8 +5,8 @@ ghost use Rattle.mx_cli.specs.Table.{app_of_row, command_app};
 
 use crate::arguments::{
     ASKS, Argument, COUNT_TOO, EVENTS, EVENTS_OR_SCRIPT, FIRST_SCRIPT, FROM, IN_ORDER, IS_SCRIPT,
-    JOURNALS, JSON, LINK_SEED, LOSS, NODE, PICTURE_NODE, PLAN, PROGRESS, QUIET, REPEAT, SCRIPT,
-    SECTIONS, SEED, SEEDS, SETTLE, STATE, STEPS, TO, TRACE, TURNS, WALK, WALK_WANTED,
+    JOURNALS, JSON, LETTERS, LINK_SEED, LOSS, NODE, PICTURE_NODE, PLAN, PROGRESS, QUIET, REPEAT,
+    SCRIPT, SECTIONS, SEED, SEEDS, SETTLE, STATE, STEPS, TO, TRACE, TURNS, WALK, WALK_WANTED,
 };
 use crate::{examples, help};
 
@@ -14,11 +14,13 @@ use crate::{examples, help};
 #[derive(Clone, Copy, Debug, PartialEq, Eq)]
 pub enum CommandId {
     Check,
+    /// `check` with `--json`.
+    CheckJson,
     Replay,
     /// `replay` with an option that says what is shown.
     ReplayView,
     Explore,
-    /// `explore` with `--count`.
+    /// `explore` with `--count` or `--json`.
     ExploreCount,
     /// `explore` with `--walk`.
     ExploreWalk,
@@ -64,7 +66,7 @@ pub(crate) const LISTED: [CommandId; 8] = [
 static CHECK: CommandRow = CommandRow {
     name: "check",
     about: "Prints what a plan says of its cluster",
-    arguments: &[PLAN, ASKS],
+    arguments: &[PLAN, ASKS, JSON],
     example: help::CHECK_EXAMPLE,
 };
 
@@ -78,7 +80,7 @@ static REPLAY: CommandRow = CommandRow {
 static EXPLORE: CommandRow = CommandRow {
     name: "explore",
     about: "Lets events drawn from a seed happen, and judges what came of them",
-    arguments: &[PLAN, SEED, STEPS, COUNT_TOO],
+    arguments: &[PLAN, SEED, STEPS, COUNT_TOO, JSON],
     example: help::EXPLORE_EXAMPLE,
 };
 
@@ -127,14 +129,14 @@ static PLAY: CommandRow = CommandRow {
 static PICTURE: CommandRow = CommandRow {
     name: "picture",
     about: "Prints a picture of what comes of events: an SVG in which time goes down",
-    arguments: &[PLAN, EVENTS, FROM, TO, PICTURE_NODE, JOURNALS],
+    arguments: &[PLAN, EVENTS, FROM, TO, PICTURE_NODE, JOURNALS, LETTERS],
     example: examples::PICTURE,
 };
 
 static COUNT: CommandRow = CommandRow {
     name: "count",
     about: "Counts the letters of each kind, the refusals by cause, and the longest wait",
-    arguments: &[PLAN, EVENTS],
+    arguments: &[PLAN, EVENTS, JSON],
     example: examples::COUNT,
 };
 
@@ -157,7 +159,7 @@ pub fn row_of(id: CommandId) -> &'static CommandRow
     ensures { app_of_row result.now ≡ command_app id }
 {
     match id {
-        CommandId::Check => &CHECK,
+        CommandId::Check | CommandId::CheckJson => &CHECK,
         CommandId::Replay | CommandId::ReplayView => &REPLAY,
         CommandId::Explore | CommandId::ExploreCount => &EXPLORE,
         CommandId::ExploreWalk => &EXPLORE_WALK,

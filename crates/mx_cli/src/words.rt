@@ -75,6 +75,9 @@ fn request_in<'a>(name: &str, matches: &ArgMatches<'a>) -> Option<Request<'a>>
 fn check_in<'a>(matches: &ArgMatches<'a>) -> Option<Request<'a>>
     ensures { option_map request_of result ≡ check_in (rows_of (found_of matches.now)) }
 {
+    if is_given(matches, "json") {
+        return None;
+    }
     let Some(plan) = text_at(matches, "PLAN") else {
         return None;
     };
@@ -97,7 +100,7 @@ fn replay_in<'a>(matches: &ArgMatches<'a>) -> Option<Request<'a>>
 fn explore_in<'a>(matches: &ArgMatches<'a>) -> Option<Request<'a>>
     ensures { option_map request_of result ≡ explore_in (rows_of (found_of matches.now)) }
 {
-    if is_given(matches, "count") {
+    if is_given(matches, "count") || is_given(matches, "json") {
         return None;
     }
     exploration_at(matches).map(Request::Explore)
