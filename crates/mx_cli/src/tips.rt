@@ -21,7 +21,10 @@ const OPTIONS: [(&str, &[&str]); 8] = [
             "--in-order",
         ],
     ),
-    ("picture", &["--from", "--to", "--node", "--journals"]),
+    (
+        "picture",
+        &["--from", "--to", "--node", "--journals", "--letters"],
+    ),
     (
         "live",
         &["--sections", "--seed", "--turns", "--settle", "--progress"],

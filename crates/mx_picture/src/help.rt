@@ -24,3 +24,6 @@ pub(crate) const NODE: &str =
 
 pub(crate) const JOURNALS: &str =
     "Tells which sections a node's journal has, at each event that changes it";
+
+pub(crate) const LETTERS: &str =
+    "Draws letters only: no gossip, no repeats, and nothing that a tick sends again";

@@ -14,7 +14,7 @@ use mx_cli::{
 use std::alloc::{AllocError, Global};
 
 /// The picture that is requested: the plan and the events, the first and the last event, the node
-/// if it is only one, and whether journals are shown.
+/// if it is only one, and whether journals, or only letters, are shown.
 #[derive(Clone, Copy)]
 pub(crate) struct Request<'a> {
     pub(crate) names: Names<'a>,
@@ -22,6 +22,7 @@ pub(crate) struct Request<'a> {
     pub(crate) to: u64,
     pub(crate) node: Option<&'a str>,
     pub(crate) has_journals: bool,
+    pub(crate) only_letters: bool,
 }
 
 fn picture_command<'a>(alloc: Global) -> Result<Command<'a>, AllocError>
@@ -33,7 +34,8 @@ fn picture_command<'a>(alloc: Global) -> Result<Command<'a>, AllocError>
     let with_from = with_events.arg(number_arg(alloc, "from", help::FROM, u64::MAX))?;
     let with_to = with_from.arg(number_arg(alloc, "to", help::TO, u64::MAX))?;
     let with_node = with_to.arg(text_arg(alloc, "node", help::NODE))?;
-    with_node.arg(flag_arg(alloc, "journals", help::JOURNALS))
+    let with_journals = with_node.arg(flag_arg(alloc, "journals", help::JOURNALS))?;
+    with_journals.arg(flag_arg(alloc, "letters", help::LETTERS))
 }
 
 /// Parses a command line that starts with `picture`.
@@ -42,7 +44,7 @@ fn picture_command<'a>(alloc: Global) -> Result<Command<'a>, AllocError>
 ///
 /// Returns the error of `clap` for wrong arguments, and also, with the text to show, if help is
 /// requested.
-pub(crate) fn asked<'a>(alloc: Global, words: &'a [&'a str]) -> Result<Option<Request<'a>>, Error>
+pub(crate) fn parse<'a>(alloc: Global, words: &'a [&'a str]) -> Result<Option<Request<'a>>, Error>
     ensures { Asks request_of picture_line (texts_of words.entry.now)
         (request_asked (texts_of words.entry.now)) result }
 {
@@ -78,5 +80,6 @@ fn picture_in<'a>(matches: &ArgMatches<'a>) -> Option<Request<'a>>
         to: number_at(matches, "to").unwrap_or(u64::MAX),
         node: text_at(matches, "node"),
         has_journals: is_given(matches, "journals"),
+        only_letters: is_given(matches, "letters"),
     })
 }

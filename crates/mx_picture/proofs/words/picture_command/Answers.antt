@@ -8,4 +8,5 @@ returns c =
     let from = with_one events c.number_arg.ensures c.in_ok-with_from.ensures in
     let to = with_one from c.number_arg-2.ensures c.in_ok-with_to.ensures in
     let node = with_one to c.text_arg.ensures c.in_ok-with_node.ensures in
-    with_last c.arg-6.result node c.flag_arg.ensures c.arg-6.ensures
+    let journals = with_one node c.flag_arg.ensures c.in_ok-with_journals.ensures in
+    with_last c.arg-7.result journals c.flag_arg-2.ensures c.arg-7.ensures
