@@ -1,16 +1,21 @@
 """Reads a picture of `mx picture` back, and compares what it shows with what a replay prints.
 
-Usage: tests/picture.py PLAN PRINTED PICTURE, where PRINTED is what `mx replay`, or tests/oracle.py,
-prints of the same plan and events. It prints each thing that only one of the two has, and is silent where
-they have the same; and it sees that nothing reaches out of the page, and that it has nothing but drawing.
+Usage: tests/picture.py PLAN PRINTED PICTURE [--from K] [--to K] [--node N] [--letters], where PRINTED is what
+`mx replay`, or tests/oracle.py, prints of the same plan and events, and the options are those of the picture. It prints
+each thing that only one of the two has, and is silent where they have the same; and it sees that nothing reaches out of
+the page, and that it has nothing but drawing.
 """
+import argparse
 import json
 import re
 import sys
 import xml.etree.ElementTree as xml
 from collections import Counter
 
-LANE, ROW = 180, 13  # how far apart nodes and rows are
+ROW = 13  # how far apart rows are
+COLUMNS = 60, 180  # how far apart the lines of nodes are, at least and at most
+SPAN = 2000  # how far apart the first and the last line are, at most
+GAP = 8  # the room between a text and the next line
 NAMED_ROWS = 50  # after how many rows the names of the nodes come again
 LONG_ROWS, LONG_NODES = 26, 6  # from how many rows, or nodes, on an arrow is long, so that its text names the sender
 EDGE = 60  # the room at each edge for the indices of the events
@@ -20,6 +25,7 @@ TRAITS = """width height viewBox role transform class style id d x y dx dy cx cy
 markerWidth markerHeight markerUnits orient href""".split()
 ALGORITHMS = {"ricart": "Ricart and Agrawala's", "maekawa": "Maekawa's", "raymond": "Raymond's"}
 INKS = {"request": "request", "reply": "grant", "locked": "grant", "privilege": "grant"}
+GOSSIP = ["want", "base", "records"]
 
 
 class Run:
@@ -36,73 +42,212 @@ class Run:
                 self.parcels.append((len(self.events) - 1, *ends, parcel[3]))
         self.arriving = {int(args[0]) for word, args, _, _ in self.events if word == "deliver"}
 
+    def is_original(self, number):
+        """Whether a parcel is a letter that no tick sent again."""
+        by, _, _, text = self.parcels[number]
+        return not is_gossip(text) and self.events[by][0] != "tick"
+
     def node_of(self, event):
         word, args, _, _ = event
         return self.parcels[int(args[0])][2] if word == "deliver" else self.names.index(args[0])
 
 
-def shown(run):
-    """What a picture of the run has to show, as a count of things, and at which side of its node each text is best."""
-    things, story, row, sent_in, delivered, since, best, named = [], [], 0, [], set(), {}, {}, 0
+class Part:
+    """The part of a run that is drawn."""
 
-    def ends(node):
-        begun, what = since.pop(node, (row, "nothing"))
-        if what != "nothing":
-            things.append((what, node, begun, row))
+    def __init__(self, first=0, last=None, node=None, letters=False):
+        self.first, self.last, self.node, self.letters = first, last, node, letters
 
-    for index, event in enumerate(run.events):
-        word, args, outcome, told = event
-        node = run.node_of(event)
-        if row - named >= NAMED_ROWS:
-            outside = [at for at in range(len(run.names)) if not since.get(at, (0, ""))[1].startswith("inside")]
-            things += [("named", at, row, run.names[at]) for at in outside]
-            named, row = row, row + 1
-        things.append(("index", row, str(index)))
-        goes_right = {to > start for by, start, to, _ in run.parcels if by == index}
-        if index % 10 == 0:
-            things.append(("guide", row))
+    def has_index(self, index):
+        return self.first <= index and (self.last is None or index <= self.last)
+
+    def has_node(self, node):
+        return self.node is None or node == self.node
+
+    def is_whole(self):
+        return self.first == 0 and self.last is None and self.node is None
+
+    def concerns(self, parcel):
+        """Whether a parcel is drawn where the event that sends it is."""
+        _, start, to, text = parcel
+        return (self.has_node(start) or self.has_node(to)) and not (self.letters and is_gossip(text))
+
+    def has_event(self, run, index, delivered):
+        """Whether an event is drawn, after these parcels were delivered."""
+        word, args, outcome, _ = run.events[index]
+        if not self.has_index(index):
+            return False
+        if self.letters and word != "deliver" and outcome.split()[0] not in ("asked", "entered", "left", "cancelled"):
+            return False
+        if self.letters and word == "deliver" and (int(args[0]) in delivered or not run.is_original(int(args[0]))):
+            return False
+        is_own = self.concerns(run.parcels[int(args[0])]) if word == "deliver" else self.has_node(run.node_of(run.events[index]))
+        return is_own or any(self.concerns(parcel) for parcel in run.parcels if parcel[0] == index)
+
+    def text(self, names):
+        """What the heading says of the part."""
+        told = f", from event {self.first}" if self.first else ""
+        told += "" if self.last is None else f", to event {self.last}"
+        told += "" if self.node is None else f", node {names[self.node]}"
+        return told + (", letters only" if self.letters else "")
+
+
+def is_gossip(text):
+    return text.split()[0] in GOSSIP
+
+
+class Drawing:
+    """What a picture of a part of a run has to show, as a list of things, with the side of its node where each text is
+    best, and the nodes that act or receive."""
+
+    def __init__(self, run, part):
+        self.run, self.part = run, part
+        self.things, self.story, self.row, self.entered = [], [], 0, 0
+        self.shown, self.delivered, self.since, self.best, self.used = {}, set(), {}, {}, set()
+        named, skipped = 0, False
+        for index in range(len(run.events)):
+            if not part.has_event(run, index, self.delivered):
+                skipped |= not (part.letters and part.has_index(index))
+                self.leave_out(index)
+                continue
+            if skipped:
+                self.add("index", self.row, "..")
+                self.row += 1
+                skipped = False
+            if self.row - named >= NAMED_ROWS:
+                inside = [at for at, (_, what) in self.since.items() if what.startswith("inside")]
+                self.things += [("named", at, self.row, name) for at, name in enumerate(run.names) if at not in inside]
+                named, self.row = self.row, self.row + 1
+            self.draw(index)
+            self.row += 1
+        if skipped:
+            self.add("index", self.row, "..")
+            self.row += 1
+        for node in list(self.since):
+            self.end(node)
+
+    def add(self, *thing):
+        self.things.append(thing)
+
+    def end(self, node):
+        """The phase of a node ends."""
+        begun, what = self.since.pop(node, (self.row, "nothing"))
+        if begun != self.row:
+            self.add(what, node, begun, self.row)
+
+    def change(self, node, outcome):
+        """The phase of a node after an outcome."""
+        if outcome.startswith("asked"):
+            self.since[node] = self.row, "waits"
+        elif outcome.startswith("entered"):
+            self.end(node)
+            self.entered += 1
+            self.since[node] = self.row, "inside " + outcome.split()[1]
+        elif outcome.startswith("left") or outcome == "cancelled":
+            self.end(node)
+
+    def leave_out(self, index):
+        """What an event does that is not drawn."""
+        word, args, outcome, _ = self.run.events[index]
         if word == "deliver":
             number = int(args[0])
-            _, start, _, text = run.parcels[number]
-            look = INKS.get(text.split()[0], "other") + (" again" if number in delivered else "")
-            delivered.add(number)
-            ends_of_arrow = f" from {run.names[start]}", f" to {run.names[node]}"
-            things.append(("arrow", look, start, sent_in[number], node, row))
-            things.append(("title", f"#{number} {text}{ends_of_arrow[0]}{ends_of_arrow[1]}"))
-            is_far = abs(start - node) >= LONG_NODES or row - sent_in[number] >= LONG_ROWS
-            told = f"#{number} {text}" + (ends_of_arrow[0] if is_far else "")
-            things.append(("text", node, row, told))
-            best[node, row] = "right" if start <= node else "left"
+            _, start, to, _ = self.run.parcels[number]
+            if number in self.shown and number not in self.delivered:
+                side = "left" if to < start else "right"
+                self.add("start", self.look(number), start, side, self.shown[number])
+                self.add("title", self.title(number))
+            self.delivered.add(number)
+        elif self.part.last is None or index <= self.part.last:
+            self.change(self.run.node_of(self.run.events[index]), outcome)
+
+    def look(self, number):
+        again = " again" if number in self.delivered else ""
+        return INKS.get(self.run.parcels[number][3].split()[0], "other") + again
+
+    def title(self, number):
+        _, start, to, text = self.run.parcels[number]
+        return f"#{number} {text} from {self.run.names[start]} to {self.run.names[to]}"
+
+    def draw(self, index):
+        """What is drawn of an event."""
+        event = self.run.events[index]
+        word, _, outcome, told = event
+        node, row = self.run.node_of(event), self.row
+        self.add("index", row, str(index))
+        if index % 10 == 0:
+            self.add("guide", row)
+        if word == "deliver":
+            told = self.deliver(int(event[1][0]))
         else:
-            things.append(("text", node, row, told))
-            best[node, row] = "left" if goes_right == {True} else "right"
+            goes_right = {to > start for by, start, to, _ in self.run.parcels if by == index}
+            self.best[node, row] = "left" if goes_right == {True} else "right"
+        self.used.add(node)
+        self.add("text", node, row, told)
         if not outcome.startswith("entered"):
-            things.append(("hollow dot" if outcome.startswith("refused") else "dot", node, row, told))
+            self.add("hollow dot" if outcome.startswith("refused") else "dot", node, row, told)
         if outcome.startswith(("entered", "left")):
-            story.append(f" {index} {told}.")
-        if outcome.startswith("asked"):
-            since[node] = row, "waits"
-        elif outcome.startswith("entered"):
-            ends(node)
-            since[node] = row, "inside " + outcome.split()[1]
-        elif outcome.startswith("left") or outcome == "cancelled":
-            ends(node)
-        present = row
-        for number, (by, start, to, text) in enumerate(run.parcels):
-            if by == index:
-                sent_in.append(present)
-                if number not in run.arriving:
-                    row += 1
-                    side = "right" if start <= to else "left"
-                    things.append(("lost", start, present, side, row))
-                    things.append(("air", start, row, side, f"#{number} {text} to {run.names[to]}"))
-        row += 1
-    for node in list(since):
-        ends(node)
-    for node, name in enumerate(run.names):
-        things += [("name", node, name), ("name", node, name), ("line", node, row)]
-    things.append(("story", "Sections:" + ("".join(story) or " none.")))
-    return Counter(things), best
+            self.story.append(f" {index} {told}.")
+        self.change(node, outcome)
+        for number, parcel in enumerate(self.run.parcels):
+            if parcel[0] == index and self.part.concerns(parcel):
+                self.shown[number] = row
+                if number not in self.run.arriving:
+                    self.lose(number, row)
+
+    def deliver(self, number):
+        """What is drawn of a delivery in the present row; returns its text."""
+        _, start, node, text = self.run.parcels[number]
+        is_cut = number not in self.shown
+        if is_cut:
+            self.add("tip", self.look(number), node, "left" if node < start else "right", self.row)
+        else:
+            self.add("arrow", self.look(number), start, self.shown[number], node, self.row)
+        self.add("title", self.title(number))
+        self.delivered.add(number)
+        self.best[node, self.row] = "right" if start <= node else "left"
+        is_far = is_cut or abs(start - node) >= LONG_NODES or self.row - self.shown[number] >= LONG_ROWS
+        return f"#{number} {text}" + (f" from {self.run.names[start]}" if is_far else "")
+
+    def lose(self, number, sent_in):
+        """A parcel that is never delivered, in a row of its own."""
+        _, start, to, text = self.run.parcels[number]
+        self.row += 1
+        side = "right" if start <= to else "left"
+        self.add("lost", start, sent_in, side, self.row)
+        self.add("title", self.title(number))
+        self.add("air", start, self.row, side, f"#{number} {text} to {self.run.names[to]}")
+
+    def nodes(self):
+        """The nodes that have a line."""
+        everyone = range(len(self.run.names))
+        return [node for node in everyone if self.part.is_whole() or not self.used or node in self.used]
+
+    def everything(self):
+        """The things of the picture, as a count."""
+        nodes = self.nodes()
+        things = [thing for thing in self.things if thing[0] != "named" or thing[1] in nodes]
+        things = [thing for thing in things if not thing[0].startswith(("waits", "inside")) or thing[1] in nodes]
+        for node in nodes:
+            name = self.run.names[node]
+            things += [("name", node, name), ("name", node, name), ("line", node, self.row)]
+        things.append(("story", "Sections:" + ("".join(self.story) or " none.")))
+        return Counter(things)
+
+    def places(self):
+        """The positions of the lines: as far apart as the texts want that are between two of them."""
+        right, left = Counter(), Counter()
+        for thing in self.things:
+            if thing[0] in ("text", "air"):
+                node, row, text = thing[1], thing[2], thing[-1]
+                side, near = (thing[3], 33) if thing[0] == "air" else (self.best[node, row], 17)
+                wants = right if side == "right" else left
+                wants[node] = max(wants[node], near + room_of(text))
+        nodes, half = self.nodes(), {node: room_of(name) // 2 for node, name in enumerate(self.run.names)}
+        wanted = [GAP + max(right[one], left[two], half[one] + half[two]) for one, two in zip(nodes, nodes[1:])]
+        columns = [max(min(width, COLUMNS[1]), COLUMNS[0]) for width in wanted]
+        if sum(columns) > SPAN:
+            columns = [max(min(width, SPAN // len(columns)), COLUMNS[0]) for width in wanted]
+        return {node: sum(columns[:at]) for at, node in enumerate(nodes)}
 
 
 def width_of(text):
@@ -115,71 +260,94 @@ def width_of(text):
 
 
 def room_of(text):
-    """The room that is kept for a text, of which none needs more."""
-    return sum(12 if "A" <= letter <= "Z" or letter in "mw" else 7 for letter in text)
+    """The room that is kept for a text, of which none needs more, in whole points."""
+    narrow, middle = dict.fromkeys(" .:,ftI", 278), dict.fromkeys("ckJsvxyz", 500)
+    wide = dict.fromkeys("ABCDEFHKNPRSTUVXYZw", 722) | dict.fromkeys("GOQ", 778) | dict.fromkeys("mMW", 944)
+    widths = narrow | middle | wide | {"-": 333, "r": 333, "i": 222, "j": 222, "l": 222}
+    return 12 * sum(widths.get(letter, 556) for letter in text) // 1000 + 1
 
 
-def is_crossed(arrow, node, row, side, wide):
-    """Whether an arrow runs through a text of this width at this side of a node."""
+def is_crossed(arrow, places, node, row, side, reach):
+    """Whether an arrow runs through a text at this side of a node, which is from one to another point away from it."""
     _, _, start, above, end, below = arrow
-    x, to, top, bottom = start * LANE, end * LANE, above * ROW, below * ROW
+    x, to, top, bottom = places[start], places[end], above * ROW, below * ROW
     if start == end:
         x, to = x - 20, to - 20
     high, low = max(top, row * ROW - 5), min(bottom, row * ROW + 5)
     if low < high:
         return False
     ways = [x + (to - x) * (y - top) / (bottom - top) for y in (high, low)]
-    near, far = (node * LANE + (17 if side == "right" else -17), node * LANE + (17 + wide if side == "right" else -17 - wide))
+    aside = 1 if side == "right" else -1
+    near, far = (places[node] + away * aside for away in reach)
     return min(ways) <= max(near, far) and max(ways) >= min(near, far)
 
 
-def badly_placed(things, sides, best):
+def badly_placed(things, places, sides, best):
     """The texts at a side where an arrow runs through them while the other is free, and those at the other in vain."""
     arrows = [thing for thing in things if thing[0] == "arrow"]
     for _, node, row, text in (thing for thing in things if thing[0] == "text"):
         own, other = best[node, row], "left" if best[node, row] == "right" else "right"
 
-        def crossed(side, wide):
-            return any(is_crossed(arrow, node, row, side, wide) for arrow in arrows)
+        def crossed(side, reach):
+            return any(is_crossed(arrow, places, node, row, side, reach) for arrow in arrows)
 
+        # the program counts in whole points
+        surely, maybe = (18, 16 + width_of(text)), (16, 18 + room_of(text))
         if sides[node, row] == own:
-            is_well = not crossed(own, width_of(text) - 1) or crossed(other, room_of(text) + 1)
+            is_well = not crossed(own, surely) or crossed(other, maybe)
         else:
-            is_well = crossed(own, room_of(text) + 1) and not crossed(other, width_of(text) - 1)
+            is_well = crossed(own, maybe) and not crossed(other, surely)
         if not is_well:
             yield node, row, sides[node, row], text
 
 
-def place(number, unit):
-    """The node or the row of a coordinate."""
-    assert int(number) % unit == 0, f"{number} is no multiple of {unit}"
-    return int(number) // unit
+def row_of(y):
+    """The row of a height."""
+    assert int(y) % ROW == 0, f"{y} is no multiple of {ROW}"
+    return int(y) // ROW
 
 
-def path_of(look, d):
+def path_of(look, d, node_at):
     """The thing that a path draws."""
+
+    def node(x):
+        return node_at[int(x)]
+
     if box := re.fullmatch(r"M(\d+) (\d+)m-12-6h24v(\d+)h-24z", d):
         x, y, high = map(int, box.groups())
-        return "inside", place(x, LANE), place(y, ROW), place(y + high - 12, ROW)
+        return "inside", node(x), row_of(y), row_of(y + high - 12)
     if bar := re.fullmatch(r"M(\d+) (\d+)v(\d+)", d):
         x, y, down = map(int, bar.groups())
-        return "waits", place(x, LANE), place(y, ROW), place(y + down, ROW)
+        return "waits", node(x), row_of(y), row_of(y + down)
     if line := re.fullmatch(r"M(\d+)-12V(\d+)", d):
-        return "line", place(line[1], LANE), place(line[2], ROW)
+        return "line", node(line[1]), row_of(line[2])
     if lost := re.fullmatch(r"M(\d+) (\d+)l(-?)26 (\d+)m-3-3l6 6m0-6l-6 6", d):
         x, y, side, down = lost.groups()
-        return "lost", place(x, LANE), place(y, ROW), "left" if side else "right", place(int(y) + int(down), ROW)
+        return "lost", node(x), row_of(y), "left" if side else "right", row_of(int(y) + int(down))
+    if tip := re.fullmatch(r"M(\d+) (\d+)m(-?)26-13l(-?)26 13", d):
+        x, y, back, aside = tip.groups()
+        assert back != aside
+        return "tip", look, node(x), "left" if aside else "right", row_of(y)
     if arrow := re.fullmatch(r"M(\d+) (\d+)l(-?\d+) (\d+)", d):
         x, y, aside, down = map(int, arrow.groups())
-        return "arrow", look, place(x, LANE), place(y, ROW), place(x + aside, LANE), place(y + down, ROW)
+        if abs(aside) == 26:
+            assert down == ROW
+            return "start", look, node(x), "left" if aside < 0 else "right", row_of(y)
+        return "arrow", look, node(x), row_of(y), node(x + aside), row_of(y + down)
     bow = re.fullmatch(r"M(\d+) (\d+)q-40 (\d+) 0 (\d+)", d)
     x, y, half, down = map(int, bow.groups())
     assert half == down // 2
-    return "arrow", look, place(x, LANE), place(y, ROW), place(x, LANE), place(y + down, ROW)
+    return "arrow", look, node(x), row_of(y), node(x), row_of(y + down)
 
 
-def read_back(picture):
-    """What a picture shows, as a count of things, and at which side of its node each text is."""
+def places_in(root, names):
+    """The positions of the lines, by the names above them."""
+    above = [part for part in root if part.get("class") == "name" and part.get("y") == "-18"]
+    return {names.index(part.text): int(part.get("x")) for part in above}
+
+
+def read_back(picture, names):
+    """What a picture shows, as a count of things, at which side of its node each text is, and where the lines are."""
     root = xml.parse(picture).getroot()
     assert all(part.tag.removeprefix(SVG) in PARTS and set(part.keys()) <= set(TRAITS) for part in root.iter())
     left, top, width, height = map(int, root.get("viewBox").split())
@@ -190,28 +358,30 @@ def read_back(picture):
     things.append(("story", root[1].text.removeprefix("Time goes down, and each event is told beside its node. ")))
     groups = root.findall(SVG + "g")
     assert groups[1][0].text == "event"
+    places = places_in(root, names)
+    node_at = {x: node for node, x in places.items()}
     for text in groups[1][1:]:
-        things.append(("index", place(text.get("y"), ROW), text.text))
+        things.append(("index", row_of(text.get("y")), text.text))
     for part in root:
         look = part.get("class", "")
         if part.tag == SVG + "circle":
             dot = "hollow dot" if look == "refused" else "dot"
-            things.append((dot, place(part.get("cx"), LANE), place(part.get("cy"), ROW), part[0].text))
+            things.append((dot, node_at[int(part.get("cx"))], row_of(part.get("cy")), part[0].text))
         elif part.tag == SVG + "use":
             assert (part.get("href"), int(part.get("x"))) == ("#" + groups[1].get("id"), width - EDGE)
         elif look == "guide":
             across = f"M-{-left} (\\d+)h{width}"
             assert re.fullmatch(f"({across})*", part.get("d"))
-            things += [("guide", place(y, ROW)) for y in re.findall(across, part.get("d"))]
+            things += [("guide", row_of(y)) for y in re.findall(across, part.get("d"))]
         elif part.tag == SVG + "path":
-            thing = path_of(look, part.get("d"))
+            thing = path_of(look, part.get("d"), node_at)
             (boxes if thing[0] == "inside" else things).append(thing)
-            if thing[0] == "arrow":
+            if thing[0] in ("arrow", "tip", "start", "lost"):
                 things.append(("title", part[0].text))
             if thing[0] == "inside":
                 box_titles.append(part[0].text)
             marker = part.get("marker-end")
-            assert (marker == f"url(#{look.split()[0]})") if thing[0] == "arrow" else marker is None
+            assert (marker == f"url(#{look.split()[0]})") if thing[0] in ("arrow", "tip") else marker is None
         elif part.tag == SVG + "text":
             x, y = int(part.get("x")), int(part.get("y"))
             wide = width_of(part.text)
@@ -219,21 +389,22 @@ def read_back(picture):
                 assert (x, y) == (left + 16, top + 20) and x + 14 / 12 * wide <= left + width, f"too wide: {part.text}"
                 things.append(("heading", part.text))
                 continue
+            node = node_at[x]
             if look == "name":
                 assert left <= x - wide / 2 and x + wide / 2 <= left + width, f"too wide: {part.text}"
                 again = part.get("dy") == "4"
-                things.append(("named", place(x, LANE), place(y, ROW), part.text) if again else ("name", place(x, LANE), part.text))
+                things.append(("named", node, row_of(y), part.text) if again else ("name", node, part.text))
                 continue
             if look == "section":
-                sections[place(x, LANE), place(y, ROW)] = part.text
+                sections[node, row_of(y)] = part.text
                 continue
             side = "left" if "left" in look else "right"
             assert part.get("dx") == ("-" if side == "left" else "") + ("33" if "air" in look else "17")
             if "air" in look:
-                things.append(("air", place(x, LANE), place(y, ROW), side, part.text))
+                things.append(("air", node, row_of(y), side, part.text))
             else:
-                things.append(("text", place(x, LANE), place(y, ROW), part.text))
-                sides[place(x, LANE), place(y, ROW)] = side
+                things.append(("text", node, row_of(y), part.text))
+                sides[node, row_of(y)] = side
             reach = x - 33 - wide if side == "left" else x + 33 + wide
             assert left + EDGE <= reach <= left + width - EDGE, f"too wide: {part.text}"
             assert 0 <= y <= top + height
@@ -242,30 +413,43 @@ def read_back(picture):
         assert titled == f"section {section}"
         things.append(("inside " + section, node, begun, ended))
     assert not sections
-    return Counter(things), sides
+    return Counter(things), sides, places
+
+
+def arguments():
+    parser = argparse.ArgumentParser()
+    for word in ("plan", "printed", "picture"):
+        parser.add_argument(word)
+    parser.add_argument("--from", type=int, default=0, dest="first")
+    parser.add_argument("--to", type=int, dest="last")
+    parser.add_argument("--node")
+    parser.add_argument("--letters", action="store_true")
+    return parser.parse_args()
 
 
 def main():
-    plan, printed, picture = sys.argv[1:]
-    with open(plan, encoding="utf-8") as file:
+    words = arguments()
+    with open(words.plan, encoding="utf-8") as file:
         plan = json.load(file)
-    with open(printed, encoding="utf-8") as file:
+    with open(words.printed, encoding="utf-8") as file:
         run = Run(plan["nodes"], file.read().splitlines())
+    part = Part(words.first, words.last, run.names.index(words.node) if words.node else None, words.letters)
+    drawing = Drawing(run, part)
     title = f"{ALGORITHMS[plan['algorithm']]} algorithm, nodes: {' '.join(run.names)}, events: {len(run.events)}"
-    entered = sum(outcome.startswith("entered") for _, _, outcome, _ in run.events)
-    heading = f"{ALGORITHMS[plan['algorithm']]} algorithm, nodes: {len(run.names)}, sections entered: {entered}"
-    heading += "" if run.events else ", no events"
-    wanted, best = shown(run)
-    wanted += Counter([("title", title), ("heading", heading)])
-    there, sides = read_back(picture)
+    heading = f"{ALGORITHMS[plan['algorithm']]} algorithm, nodes: {len(run.names)}, sections entered: {drawing.entered}"
+    heading += part.text(run.names) + ("" if drawing.used else ", no events")
+    wanted = drawing.everything() + Counter([("title", title), ("heading", heading)])
+    there, sides, places = read_back(words.picture, run.names)
     for thing in (wanted - there).elements():
         print("lacks", *thing)
     for thing in (there - wanted).elements():
         print("has", *thing)
-    misplaced = list(badly_placed(there, sides, best)) if wanted == there else []
+    if places != drawing.places():
+        print("lines at", places, "in place of", drawing.places())
+    misplaced = list(badly_placed(there, places, sides, drawing.best)) if wanted == there else []
     for text in misplaced:
         print("badly placed", *text)
-    sys.exit(wanted != there or misplaced != [])
+    sys.exit(wanted != there or places != drawing.places() or misplaced != [])
 
 
 if __name__ == "__main__":

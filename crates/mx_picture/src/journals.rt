@@ -7,27 +7,27 @@ use std::alloc::AllocError;
 /// The greatest number of ranges of records that are shown.
 const MAX_RANGES: usize = 8;
 
-/// The extent of a journal: a journal that changes has another base or more records.
+/// The size of a journal: a journal that changes has another base or more records.
 #[derive(Clone, Copy, PartialEq, Eq)]
-struct Extent {
+struct JournalSize {
     upto: u64,
     records: usize,
 }
 
-/// The extent of each node's journal when it was last shown.
+/// The size of each node's journal when it was last shown.
 #[derive(Clone, Copy, Drop)]
-pub(crate) struct Known {
-    extents: [Extent; MAX_NODES as usize],
+pub(crate) struct ShownJournals {
+    sizes: [JournalSize; MAX_NODES as usize],
 }
 
-impl Known {
+impl ShownJournals {
     pub(crate) fn new() -> Self {
-        let nothing = Extent {
+        let nothing = JournalSize {
             upto: 0,
             records: 0,
         };
-        Known {
-            extents: [nothing; MAX_NODES as usize],
+        ShownJournals {
+            sizes: [nothing; MAX_NODES as usize],
         }
     }
 
@@ -38,17 +38,17 @@ impl Known {
         journal: &Journal,
         label: &mut String,
     ) -> Result<(), AllocError> {
-        let extent = Extent {
+        let size = JournalSize {
             upto: journal.base().upto(),
             records: journal.len(),
         };
         let index = usize::from(node.get());
-        if self.extents[index] == extent {
+        if self.sizes[index] == size {
             return Ok(());
         }
-        self.extents[index] = extent;
+        self.sizes[index] = size;
         label.push_str(", has")?;
-        add_base(extent.upto, label)?;
+        add_base(size.upto, label)?;
         add_ranges(journal, label)
     }
 }

@@ -1,21 +1,34 @@
 //! `mx picture`: the outcomes of events as a picture, a static SVG in which time runs down.
 #![tactic(auto)]
 
-mod drawing;
-mod escaping;
-mod inks;
+mod arrows;
+mod columns;
+mod command;
+mod dots;
+mod flights;
+mod heading;
+mod input;
 mod journals;
 mod labels;
-mod looks;
+mod lanes;
+mod legend;
+mod letters;
+mod name_rows;
+mod omissions;
 mod page;
 mod parcels;
 mod part;
-mod passing;
-mod picturing;
-mod places;
-mod reading;
+mod phases;
+mod route;
+mod rows;
+mod run;
+mod segment;
+mod shapes;
 mod sheet;
-mod widths;
+mod side;
+mod style;
+mod text_width;
+mod title;
 mod words;
 
-pub use picturing::picture;
+pub use command::picture;

@@ -3,12 +3,19 @@
 ghost use Rattle.std.specs.Prelude.{string_bytes, OnOk};
 ghost use Rattle.mx_picture.specs.Drawn.{IsWhole};
 
-use crate::escaping::add_escaped;
-use crate::looks::{LEGEND, LEGEND_WIDTH, STYLES};
+use crate::columns::Columns;
+use crate::heading::{add_document_title, add_story, heading_of};
+use crate::labels::Extent;
+use crate::lanes::Lanes;
+use crate::legend::{LEGEND, LEGEND_WIDTH, STYLES};
 use crate::part::Part;
-use crate::places::{LANE, y_of};
-use crate::sheet::{NameRow, Sheet};
-use mx_plan::{Plan, Shape};
+use crate::rows::y_of;
+use crate::shapes::Shapes;
+use crate::sheet::Sheet;
+use crate::text_width::width_of;
+use crate::title::add_escaped;
+use mx_plan::Plan;
+use mx_stamps::{MAX_NODES, NodeId};
 use std::alloc::AllocError;
 
 /// The height above the first row, in pixels: the heading, the legend and the names of the nodes.
@@ -29,12 +36,55 @@ const NAME: u64 = 100;
 /// The distance of texts from their nodes, and from the edge of the page, in pixels.
 const MARGIN: u64 = 40;
 
-/// The page, with room for all texts. The line of the first node is `left` pixels from its edge.
+/// The distance of the heading from the edge, in pixels.
+const INDENT: u64 = 16;
+
+/// The page, with room for all texts. The line of the first node is `left` pixels from its edge, and
+/// lines end at the height `bottom`.
 #[derive(Clone, Copy)]
 struct Frame {
     left: u64,
     width: u64,
     height: u64,
+    bottom: u64,
+}
+
+impl Frame {
+    fn new(columns: &Columns, extent: Extent, heading: &str, bottom: u64) -> Self {
+        let left = extent
+            .left
+            .saturating_add(MARGIN)
+            .max(NAME)
+            .saturating_add(INDICES);
+        let right = extent
+            .right
+            .saturating_add(MARGIN)
+            .max(columns.last.saturating_add(NAME))
+            .saturating_add(INDICES);
+        Frame {
+            left,
+            width: left
+                .saturating_add(right)
+                .max(LEGEND_WIDTH)
+                .max(heading_width(heading)),
+            height: bottom.saturating_add(HEAD + FOOT),
+            bottom,
+        }
+    }
+}
+
+/// Returns the room that a heading wants, which is larger than other texts and bold.
+fn heading_width(heading: &str) -> u64 {
+    width_of(heading).saturating_mul(5) / 4 + 2 * INDENT
+}
+
+/// All that a page shows, and where.
+#[derive(Drop)]
+struct Page<'a> {
+    plan: &'a Plan,
+    shapes: &'a Shapes,
+    columns: Columns,
+    frame: Frame,
 }
 
 /// Appends the whole picture of a part of a number of events.
@@ -47,65 +97,63 @@ pub(crate) fn add_page(
 ) -> Result<(), AllocError>
     ensures { OnOk result (IsWhole (string_bytes text.new)) }
 {
-    let frame = frame_of(plan, sheet);
-    add_size(&frame, text)?;
-    add_title(plan, events, text)?;
-    add_story(sheet, text)?;
-    add_ground(plan, part, sheet, &frame, text)?;
-    add_lines(plan, sheet, text)?;
-    add_marks(sheet, text)
+    let shapes = &sheet.shapes;
+    let columns = columns_of(plan, part, shapes);
+    let texts = shapes.texts(&columns)?;
+    let heading = heading_of(plan, part, sheet)?;
+    let page = Page {
+        plan,
+        shapes,
+        columns,
+        frame: Frame::new(&columns, texts.extent, heading.as_str(), y_of(sheet.row)),
+    };
+    add_top(&page, events, heading.as_str(), text)?;
+    add_lines(&page, text)?;
+    add_marks(&page, texts.svg.as_str(), text)
+}
+
+/// Returns the columns of the nodes that are shown: those with events, if only a part is shown and
+/// has any.
+fn columns_of(plan: &Plan, part: &Part, shapes: &Shapes) -> Columns {
+    let lanes = if part.is_whole() || shapes.lanes.is_empty() {
+        Lanes::all(plan.nodes())
+    } else {
+        shapes.lanes
+    };
+    Columns::new(plan, &lanes, shapes.labels.as_slice())
 }
 
 /// Appends everything that is below the drawn marks.
-fn add_ground(
-    plan: &Plan,
-    part: &Part,
-    sheet: &Sheet,
-    frame: &Frame,
+fn add_top(
+    page: &Page<'_>,
+    events: u64,
+    heading: &str,
     text: &mut String,
 ) -> Result<(), AllocError> {
-    add_head(frame, text)?;
-    add_heading(plan, part, sheet, frame, text)?;
-    add_guides(sheet, frame, text)?;
-    add_indices(sheet, frame, text)?;
-    add_lanes(plan, y_of(sheet.row), text)
+    add_size(&page.frame, text)?;
+    add_document_title(page.plan, events, text)?;
+    add_story(page.shapes.story.as_str(), text)?;
+    add_head(&page.frame, text)?;
+    add_heading_text(&page.frame, heading, text)?;
+    add_guides(page, text)?;
+    add_indices(page, text)?;
+    add_lanes(page, text)
 }
 
 /// Appends bars and arrows, and above them the names of the nodes in the rows that repeat them.
-fn add_lines(plan: &Plan, sheet: &Sheet, text: &mut String) -> Result<(), AllocError> {
-    text.push_str(sheet.bars.as_str())?;
-    text.push_str(sheet.arrows.as_str())?;
-    for row in &sheet.headings {
-        add_names(plan, row, text)?;
-    }
-    Ok(())
+fn add_lines(page: &Page<'_>, text: &mut String) -> Result<(), AllocError> {
+    page.shapes.add_lines(&page.columns, text)?;
+    page.shapes
+        .add_repeated_names(page.plan, &page.columns, text)
 }
 
 /// Appends dots, numbers of sections and texts, and closes the picture.
-fn add_marks(sheet: &Sheet, text: &mut String) -> Result<(), AllocError>
+fn add_marks(page: &Page<'_>, texts: &str, text: &mut String) -> Result<(), AllocError>
     ensures { OnOk result (IsWhole (string_bytes text.new)) }
 {
-    text.push_str(sheet.marks.as_str())?;
+    page.shapes.add_marks(&page.columns, text)?;
+    text.push_str(texts)?;
     text.push_str("</svg>\n")
-}
-
-fn frame_of(plan: &Plan, sheet: &Sheet) -> Frame {
-    let left = sheet
-        .left
-        .saturating_add(MARGIN)
-        .max(NAME)
-        .saturating_add(INDICES);
-    let last = LANE * u64::from(plan.nodes() - 1);
-    let right = sheet
-        .right
-        .saturating_add(MARGIN)
-        .max(last + NAME)
-        .saturating_add(INDICES);
-    Frame {
-        left,
-        width: left.saturating_add(right).max(LEGEND_WIDTH),
-        height: y_of(sheet.row) + HEAD + FOOT,
-    }
 }
 
 /// Appends the size of the picture.
@@ -118,36 +166,6 @@ fn add_size(frame: &Frame, text: &mut String) -> Result<(), AllocError> {
         "<svg xmlns=\"http://www.w3.org/2000/svg\" role=\"img\" width=\"{width}\" height=\"{height}\""
     )?;
     write!(text, " viewBox=\"-{left} -{HEAD} {width} {height}\">\n")
-}
-
-/// Appends the title: the algorithm, the nodes and the number of events.
-fn add_title(plan: &Plan, events: u64, text: &mut String) -> Result<(), AllocError> {
-    let algorithm = algorithm_of(plan);
-    write!(text, "<title>{algorithm} algorithm, nodes:")?;
-    for index in 0..plan.nodes() {
-        text.push(' ')?;
-        add_escaped(plan.node_name(index).unwrap_or(""), text)?;
-    }
-    write!(text, ", events: {events}</title>\n")
-}
-
-/// Returns the name of the plan's algorithm.
-fn algorithm_of(plan: &Plan) -> &'static str {
-    match plan.shape() {
-        Shape::Ricart(_) => "Ricart and Agrawala's",
-        Shape::Maekawa(_) => "Maekawa's",
-        Shape::Raymond(_) => "Raymond's",
-    }
-}
-
-/// Appends the description for readers who cannot see the picture.
-fn add_story(sheet: &Sheet, text: &mut String) -> Result<(), AllocError> {
-    text.push_str("<desc>Time goes down, and each event is told beside its node. Sections:")?;
-    if sheet.story.is_empty() {
-        text.push_str(" none.")?;
-    }
-    text.push_str(sheet.story.as_str())?;
-    text.push_str("</desc>\n")
 }
 
 /// Appends the styles, the paper and the legend.
@@ -165,95 +183,46 @@ fn add_head(frame: &Frame, text: &mut String) -> Result<(), AllocError> {
     text.push_str("</g>\n</g>\n")
 }
 
-/// Appends what the picture shows: the algorithm, the number of nodes, the number of sections
-/// entered, which part of the events it is, and whether that part is empty.
-fn add_heading(
-    plan: &Plan,
-    part: &Part,
-    sheet: &Sheet,
-    frame: &Frame,
-    text: &mut String,
-) -> Result<(), AllocError> {
-    let algorithm = algorithm_of(plan);
-    let nodes = plan.nodes();
-    let entered = sheet.entered;
-    let aside = frame.left.saturating_sub(16);
+/// Appends the heading.
+fn add_heading_text(frame: &Frame, heading: &str, text: &mut String) -> Result<(), AllocError> {
+    let aside = frame.left.saturating_sub(INDENT);
     write!(text, "<text class=\"heading\" x=\"-{aside}\" y=\"-66\">")?;
-    write!(
-        text,
-        "{algorithm} algorithm, nodes: {nodes}, sections entered: {entered}"
-    )?;
-    add_part(plan, part, text)?;
-    if sheet.marks.is_empty() {
-        text.push_str(", no events")?;
-    }
+    text.push_str(heading)?;
     text.push_str("</text>\n")
 }
 
-/// Appends the part of the events that is shown, if it is not all.
-fn add_part(plan: &Plan, part: &Part, text: &mut String) -> Result<(), AllocError> {
-    if part.from > 0 {
-        let from = part.from;
-        write!(text, ", from event {from}")?;
-    }
-    if part.to < u64::MAX {
-        let to = part.to;
-        write!(text, ", to event {to}")?;
-    }
-    match part.node {
-        Some(node) => add_node(plan.node_name(node.get()).unwrap_or(""), text),
-        None => Ok(()),
-    }
-}
-
-/// Appends the node whose events are shown.
-fn add_node(name: &str, text: &mut String) -> Result<(), AllocError> {
-    text.push_str(", node ")?;
-    add_escaped(name, text)
-}
-
-/// Appends the names of the nodes in a row that shows them.
-fn add_names(plan: &Plan, row: &NameRow, text: &mut String) -> Result<(), AllocError> {
-    let y = row.y;
-    for index in 0..plan.nodes() {
-        if row.has_name(index) {
-            let x = LANE * u64::from(index);
-            write!(text, "<text class=\"name\" x=\"{x}\" y=\"{y}\" dy=\"4\">")?;
-            add_escaped(plan.node_name(index).unwrap_or(""), text)?;
-            text.push_str("</text>\n")?;
-        }
-    }
-    Ok(())
-}
-
 /// Appends the lines across the page.
-fn add_guides(sheet: &Sheet, frame: &Frame, text: &mut String) -> Result<(), AllocError> {
-    let left = frame.left;
-    let width = frame.width;
+fn add_guides(page: &Page<'_>, text: &mut String) -> Result<(), AllocError> {
+    let left = page.frame.left;
+    let width = page.frame.width;
     text.push_str("<path class=\"guide\" d=\"")?;
-    for y in &sheet.guides {
+    for y in &page.shapes.guides {
         write!(text, "M-{left} {y}h{width}")?;
     }
     text.push_str("\"/>\n")
 }
 
 /// Appends the indices of the events, at the left edge and at the right one.
-fn add_indices(sheet: &Sheet, frame: &Frame, text: &mut String) -> Result<(), AllocError> {
-    let aside = frame.left.saturating_sub(INDEX_END);
+fn add_indices(page: &Page<'_>, text: &mut String) -> Result<(), AllocError> {
+    let aside = page.frame.left.saturating_sub(INDEX_END);
     write!(
         text,
         "<g id=\"indices\" class=\"index\" transform=\"translate(-{aside})\">\n<text y=\"-18\">event</text>\n"
     )?;
-    text.push_str(sheet.indices.as_str())?;
-    let across = frame.width.saturating_sub(INDICES);
+    text.push_str(page.shapes.indices.as_str())?;
+    let across = page.frame.width.saturating_sub(INDICES);
     write!(text, "</g>\n<use href=\"#indices\" x=\"{across}\"/>\n")
 }
 
-/// Appends the line of each node, with its name above and below.
-fn add_lanes(plan: &Plan, bottom: u64, text: &mut String) -> Result<(), AllocError> {
-    for index in 0..plan.nodes() {
-        let name = plan.node_name(index).unwrap_or("");
-        add_lane(name, LANE * u64::from(index), bottom, text)?;
+/// Appends the line of each node that is shown, with its name above and below.
+fn add_lanes(page: &Page<'_>, text: &mut String) -> Result<(), AllocError> {
+    for index in 0..MAX_NODES {
+        if let Some(node) = NodeId::of(index)
+            && page.columns.has(node)
+        {
+            let name = page.plan.node_name(index).unwrap_or("");
+            add_lane(name, page.columns.x_of(node), page.frame.bottom, text)?;
+        }
     }
     Ok(())
 }

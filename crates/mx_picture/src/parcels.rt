@@ -1,15 +1,14 @@
 //! The drawing of parcels: as arrows to their delivery, or lost in the air.
 
-use crate::drawing::{Drawing, tell_journal};
-use crate::inks::ink_of;
-use crate::labels::Spot;
-use crate::passing::concerns;
-use mx_format::{Letter, add_parcel};
-use mx_member::{Parcel, SentParcel};
-use mx_network::Cluster;
+use crate::omissions::{concerns, sends_original};
+use crate::route::Route;
+use crate::run::{Drawing, write_end, write_journal, write_parcel, write_route};
+use crate::side::Side;
+use mx_format::Letter;
+use mx_member::SentParcel;
+use mx_network::{Cluster, Event};
 use mx_nodelaws::Exclusion;
 use mx_plan::Plan;
-use mx_stamps::NodeId;
 use std::alloc::AllocError;
 
 /// Draws the arrow of a parcel to its delivery.
@@ -25,18 +24,27 @@ where
     let Some(sent) = cluster.sent_parcel(number) else {
         return Ok(());
     };
-    let spot = if sent.from.get() <= sent.to.get() {
-        Spot::Right
-    } else {
-        Spot::Left
-    };
     draw_arrow(plan, number, &sent, drawing)?;
-    tell_parcel(plan, number, sent.parcel, &mut drawing.label)?;
-    if drawing.sheet.is_far(number, sent.from, sent.to) {
-        name_end(plan, "from", sent.from, &mut drawing.label)?;
+    write_delivery(plan, number, &sent, drawing)?;
+    write_journal(cluster, sent.to, drawing)?;
+    let side = Side::after(Route::new(&sent).is_left());
+    drawing.sheet.mark(sent.to, side, drawing.label.as_str())
+}
+
+/// Replaces the label by the number and the text of a parcel that is delivered now, and its sender
+/// if that is far away.
+fn write_delivery<M: Letter>(
+    plan: &Plan,
+    number: u64,
+    sent: &SentParcel<'_, M>,
+    drawing: &mut Drawing,
+) -> Result<(), AllocError> {
+    write_parcel(plan, number, sent.parcel, &mut drawing.label)?;
+    if drawing.sheet.is_far(number, Route::new(sent)) {
+        write_end(plan, "from", sent.from, &mut drawing.label)
+    } else {
+        Ok(())
     }
-    tell_journal(cluster, sent.to, drawing)?;
-    drawing.sheet.mark(sent.to, spot, drawing.label.as_str())
 }
 
 /// Draws the arrow of a parcel to its delivery. Its title has the text of the parcel and both ends.
@@ -46,33 +54,27 @@ fn draw_arrow<M: Letter>(
     sent: &SentParcel<'_, M>,
     drawing: &mut Drawing,
 ) -> Result<(), AllocError> {
-    tell_parcel(plan, number, sent.parcel, &mut drawing.label)?;
-    name_end(plan, "from", sent.from, &mut drawing.label)?;
-    name_end(plan, "to", sent.to, &mut drawing.label)?;
-    let ink = ink_of(sent.parcel);
+    write_route(plan, number, sent, &mut drawing.label)?;
     let title = drawing.label.as_str();
-    drawing.sheet.arrow(number, sent.from, sent.to, ink, title)
+    drawing.sheet.arrow(number, Route::new(sent), title)
 }
 
-/// Appends the name of a node where a parcel comes from or goes to.
-fn name_end(plan: &Plan, word: &str, node: NodeId, label: &mut String) -> Result<(), AllocError> {
-    let name = plan.node_name(node.get()).unwrap_or("");
-    write!(label, " {word} {name}")
-}
-
-/// The parcels from `before` on, which the present event sent.
+/// Draws the parcels from `before` on, which the present event sent, as far as they are lost.
 pub(crate) fn draw_sent<C: Exclusion>(
     plan: &Plan,
     cluster: &Cluster<C>,
     before: u64,
+    event: &Event,
     drawing: &mut Drawing,
 ) -> Result<(), AllocError>
 where
     C::Msg: Letter,
 {
     for number in before..cluster.sent() {
-        drawing.sheet.send(true)?;
-        if !drawing.arriving.contains(&number) && concerns(cluster, number, &drawing.part) {
+        let is_shown = concerns(cluster, number, &drawing.part);
+        let is_original = sends_original(cluster, number, event);
+        drawing.sheet.send(is_shown, is_original)?;
+        if is_shown && !drawing.arriving.contains(&number) {
             draw_loss(plan, cluster, number, drawing)?;
         }
     }
@@ -92,36 +94,21 @@ where
     let Some(sent) = cluster.sent_parcel(number) else {
         return Ok(());
     };
-    let spot = if sent.from.get() <= sent.to.get() {
-        Spot::RightInAir
-    } else {
-        Spot::LeftInAir
-    };
-    tell_loss(plan, number, &sent, &mut drawing.label)?;
-    drawing
-        .sheet
-        .lose_below(sent.from, spot, drawing.label.as_str())
+    let route = Route::new(&sent);
+    write_route(plan, number, &sent, &mut drawing.label)?;
+    drawing.sheet.lose(route, drawing.label.as_str())?;
+    write_loss(plan, number, &sent, &mut drawing.label)?;
+    let side = Side::in_air(route.is_left());
+    drawing.sheet.text(route.from, side, drawing.label.as_str())
 }
 
 /// Replaces the label by the number and the text of a parcel, and its addressee.
-fn tell_loss<M: Letter>(
+fn write_loss<M: Letter>(
     plan: &Plan,
     number: u64,
     sent: &SentParcel<'_, M>,
     label: &mut String,
 ) -> Result<(), AllocError> {
-    tell_parcel(plan, number, sent.parcel, label)?;
-    name_end(plan, "to", sent.to, label)
-}
-
-/// Replaces the label by the number and the text of a parcel.
-fn tell_parcel<M: Letter>(
-    plan: &Plan,
-    number: u64,
-    parcel: &Parcel<M>,
-    label: &mut String,
-) -> Result<(), AllocError> {
-    label.clear();
-    write!(label, "#{number} ")?;
-    add_parcel(plan, parcel, label)
+    write_parcel(plan, number, sent.parcel, label)?;
+    write_end(plan, "to", sent.to, label)
 }

@@ -2,14 +2,15 @@
 
 use mx_stamps::NodeId;
 
-/// The events from one index to another, of all nodes or of one, and whether journals are shown
-/// too.
+/// The events from one index to another, of all nodes or of one. Journals are shown too, or no more
+/// than the letters of the algorithm.
 #[derive(Clone, Copy)]
 pub(crate) struct Part {
     pub(crate) from: u64,
     pub(crate) to: u64,
     pub(crate) node: Option<NodeId>,
     pub(crate) has_journals: bool,
+    pub(crate) only_letters: bool,
 }
 
 impl Part {
@@ -24,5 +25,10 @@ impl Part {
             Some(shown) => shown == node,
             None => true,
         }
+    }
+
+    /// Returns whether the events of all indices and all nodes may be shown.
+    pub(crate) fn is_whole(&self) -> bool {
+        self.from == 0 && self.to == u64::MAX && self.node.is_none()
     }
 }

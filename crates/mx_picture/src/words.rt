@@ -10,7 +10,7 @@ use mx_cli::{CommandId, Names, is_given, matches_in, names_at, number_at, text_a
 use std::alloc::Global;
 
 /// The picture that is requested: the plan and the events, the first and the last event, the node
-/// if it is only one, and whether journals are shown.
+/// if it is only one, and whether journals, or only letters, are shown.
 #[derive(Clone, Copy)]
 pub(crate) struct Request<'a> {
     pub(crate) names: Names<'a>,
@@ -18,6 +18,7 @@ pub(crate) struct Request<'a> {
     pub(crate) to: u64,
     pub(crate) node: Option<&'a str>,
     pub(crate) has_journals: bool,
+    pub(crate) only_letters: bool,
 }
 
 /// Parses a command line that begins with `picture`.
@@ -55,5 +56,6 @@ fn picture_in<'a>(matches: &ArgMatches<'a>) -> Option<Request<'a>>
         to: number_at(matches, "to").unwrap_or(u64::MAX),
         node: text_at(matches, "node"),
         has_journals: is_given(matches, "journals"),
+        only_letters: is_given(matches, "letters"),
     })
 }

@@ -1,0 +1,17 @@
+use Rattle.mx_cli.specs.Words.{texts_of}
+use Rattle.mx_cli.specs.Told.{seen}
+use Rattle.mx_cli.proofs.RefusedLemmas.{refused}
+use Rattle.mx_picture.proofs.RefusedLemmas.{short_pictures}
+use Rattle.mx_picture.specs.PictureWords.{picture_line, request_asked, request_in}
+use Rattle.mx_picture.proofs.command.picture.Goals as goal
+
+pub returns-in-Err : goal.returns-in-Err
+unfolding request_asked
+returns-in-Err g c = record {
+  pictures = refused picture_line request_in (texts_of c.args.words.now) c.in-Err.e c.in-Err.ensures c.refuse.ensures.memory _
+      (λ m request. short_pictures (g.O.Output.takes_all c.args.out.now) (g.E.Output.takes_all c.args.err.now) (g.S.Source.told c.args.source.now) request
+      (seen g.O.Output g.E.Output c.args.out.now c.args.err.now)
+      (seen g.O.Output g.E.Output c.refuse.new.out c.refuse.new.err)
+      c.refuse.result m);
+  answers = c.refuse.ensures.answers picture_line (texts_of c.args.words.now) c.in-Err.ensures;
+}

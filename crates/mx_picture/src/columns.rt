@@ -1,0 +1,152 @@
+//! The horizontal positions of the nodes' lines.
+
+ghost use Rattle.std.specs.Prelude.{◌≤◌, max};
+
+use crate::labels::Label;
+use crate::lanes::Lanes;
+use crate::text_width::width_of;
+use mx_plan::Plan;
+use mx_stamps::{MAX_NODES, NodeId};
+
+/// The least and the greatest distance between the lines of neighbours, in pixels.
+const MIN_COLUMN: u64 = 60;
+
+const MAX_COLUMN: u64 = 180;
+
+/// The greatest distance between the first line and the last, in pixels.
+const MAX_SPAN: u64 = 2000;
+
+/// The room between a text and the next line, in pixels.
+const GAP: u64 = 8;
+
+/// The room that texts want beside the lines of nodes, in pixels: names on both sides, texts of
+/// events on one.
+#[derive(Clone, Copy)]
+struct Room {
+    names: [u64; MAX_NODES as usize],
+    left: [u64; MAX_NODES as usize],
+    right: [u64; MAX_NODES as usize],
+}
+
+impl Room {
+    /// Finds the room for the names of the plan's nodes, and for these texts on their first sides.
+    fn new(plan: &Plan, labels: &[Label]) -> Self {
+        let mut room = Room {
+            names: [0; MAX_NODES as usize],
+            left: [0; MAX_NODES as usize],
+            right: [0; MAX_NODES as usize],
+        };
+        room.add_names(plan);
+        room.add_labels(labels);
+        room
+    }
+
+    fn add_names(&mut self, plan: &Plan) {
+        for index in 0..MAX_NODES {
+            let name = plan.node_name(index).unwrap_or("");
+            self.names[usize::from(index)] = width_of(name) / 2;
+        }
+    }
+
+    fn add_labels(&mut self, labels: &[Label]) {
+        for label in labels {
+            let index = usize::from(label.node.get());
+            let wanted = label.reach(label.side);
+            if label.side.is_left() {
+                self.left[index] = self.left[index].max(wanted);
+            } else {
+                self.right[index] = self.right[index].max(wanted);
+            }
+        }
+    }
+
+    /// Returns the room between the lines of two nodes, the first at the left of the other.
+    fn between(&self, left: NodeId, right: NodeId) -> u64 {
+        let left = usize::from(left.get());
+        let right = usize::from(right.get());
+        let names = self.names[left].saturating_add(self.names[right]);
+        let texts = self.right[left].max(self.left[right]);
+        names.max(texts).saturating_add(GAP)
+    }
+}
+
+/// The horizontal positions of the lines of nodes, in pixels from the first line.
+#[derive(Clone, Copy)]
+pub(crate) struct Columns {
+    lanes: Lanes,
+    /// The greatest distance between the lines of neighbours.
+    widest: u64,
+    places: [u64; MAX_NODES as usize],
+    /// The position of the last line.
+    pub(crate) last: u64,
+}
+
+impl Columns {
+    /// Finds the columns of these nodes, which are as wide as the texts of their neighbours want,
+    /// or narrower if there is not enough room for all.
+    pub(crate) fn new(plan: &Plan, lanes: &Lanes, labels: &[Label]) -> Self {
+        let room = Room::new(plan, labels);
+        let columns = Columns::within(MAX_COLUMN, lanes, &room);
+        if columns.last <= MAX_SPAN {
+            columns
+        } else {
+            Columns::within(widest_column(lanes.len()), lanes, &room)
+        }
+    }
+
+    /// Finds the columns if lines are at most `widest` apart.
+    fn within(widest: u64, lanes: &Lanes, room: &Room) -> Self {
+        let mut columns = Columns {
+            lanes: *lanes,
+            widest,
+            places: [0; MAX_NODES as usize],
+            last: 0,
+        };
+        let mut before = None;
+        for index in 0..MAX_NODES {
+            if let Some(node) = NodeId::of(index)
+                && lanes.has(node)
+            {
+                columns.add(before, node, room);
+                before = Some(node);
+            }
+        }
+        columns
+    }
+
+    /// Adds the column of a node, at the right of another, if there is one.
+    fn add(&mut self, before: Option<NodeId>, node: NodeId, room: &Room) {
+        if let Some(before) = before {
+            let width = column_width(room.between(before, node), self.widest);
+            self.last = self.last.saturating_add(width);
+        }
+        self.places[usize::from(node.get())] = self.last;
+    }
+
+    /// Returns whether the picture has a lane for this node.
+    pub(crate) fn has(&self, node: NodeId) -> bool {
+        self.lanes.has(node)
+    }
+
+    /// Returns the position of the node's line.
+    pub(crate) fn x_of(&self, node: NodeId) -> u64 {
+        self.places[usize::from(node.get())]
+    }
+}
+
+/// Returns the greatest distance between neighbours of this many lines.
+fn widest_column(lines: u64) -> u64
+    ensures { result ≤ 180 }
+{
+    let columns = lines.saturating_sub(1).max(1);
+    MAX_COLUMN.min(MAX_SPAN / columns)
+}
+
+/// Returns the distance between two lines whose texts want this room between them, if lines are at
+/// most `widest` apart.
+fn column_width(room: u64, widest: u64) -> u64
+    ensures least { 60 ≤ result }
+    ensures most { result ≤ max 60 widest }
+{
+    room.min(widest).max(MIN_COLUMN)
+}

@@ -1,0 +1,95 @@
+//! What a picture says of itself: its title, its description and its heading.
+
+use crate::part::Part;
+use crate::sheet::Sheet;
+use crate::title::add_escaped;
+use mx_plan::{Plan, Shape};
+use std::alloc::AllocError;
+
+/// Appends the title: the algorithm, the nodes and the number of events.
+pub(crate) fn add_document_title(
+    plan: &Plan,
+    events: u64,
+    text: &mut String,
+) -> Result<(), AllocError> {
+    let algorithm = algorithm_of(plan);
+    write!(text, "<title>{algorithm} algorithm, nodes:")?;
+    for index in 0..plan.nodes() {
+        text.push(' ')?;
+        add_escaped(plan.node_name(index).unwrap_or(""), text)?;
+    }
+    write!(text, ", events: {events}</title>\n")
+}
+
+/// Returns the name of the plan's algorithm.
+fn algorithm_of(plan: &Plan) -> &'static str {
+    match plan.shape() {
+        Shape::Ricart(_) => "Ricart and Agrawala's",
+        Shape::Maekawa(_) => "Maekawa's",
+        Shape::Raymond(_) => "Raymond's",
+    }
+}
+
+/// Appends the description for readers who cannot see the picture.
+pub(crate) fn add_story(story: &str, text: &mut String) -> Result<(), AllocError> {
+    text.push_str("<desc>Time goes down, and each event is told beside its node. Sections:")?;
+    if story.is_empty() {
+        text.push_str(" none.")?;
+    }
+    text.push_str(story)?;
+    text.push_str("</desc>\n")
+}
+
+/// Returns what the picture shows: the algorithm, the number of nodes, the number of sections
+/// entered, which part of the events it is, and whether that part is empty.
+pub(crate) fn heading_of(plan: &Plan, part: &Part, sheet: &Sheet) -> Result<String, AllocError> {
+    let mut text = String::new(sheet.shapes.alloc);
+    add_heading(plan, part, sheet, &mut text)?;
+    Ok(text)
+}
+
+fn add_heading(
+    plan: &Plan,
+    part: &Part,
+    sheet: &Sheet,
+    text: &mut String,
+) -> Result<(), AllocError> {
+    let algorithm = algorithm_of(plan);
+    let nodes = plan.nodes();
+    let entered = sheet.entered;
+    write!(
+        text,
+        "{algorithm} algorithm, nodes: {nodes}, sections entered: {entered}"
+    )?;
+    add_range(part, text)?;
+    add_choice(plan, part, text)?;
+    if sheet.shapes.is_empty() {
+        text.push_str(", no events")?;
+    }
+    Ok(())
+}
+
+/// Appends the first and the last event that are shown, if these are not all.
+fn add_range(part: &Part, text: &mut String) -> Result<(), AllocError> {
+    if part.from > 0 {
+        let from = part.from;
+        write!(text, ", from event {from}")?;
+    }
+    if part.to < u64::MAX {
+        let to = part.to;
+        write!(text, ", to event {to}")?;
+    }
+    Ok(())
+}
+
+/// Appends the node whose events are shown, if it is only one, and whether only letters are shown.
+fn add_choice(plan: &Plan, part: &Part, text: &mut String) -> Result<(), AllocError> {
+    if let Some(node) = part.node {
+        text.push_str(", node ")?;
+        add_escaped(plan.node_name(node.get()).unwrap_or(""), text)?;
+    }
+    if part.only_letters {
+        text.push_str(", letters only")?;
+    }
+    Ok(())
+}

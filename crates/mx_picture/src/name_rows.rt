@@ -1,0 +1,61 @@
+//! The rows of a picture that repeat the names of the nodes.
+
+use crate::columns::Columns;
+use crate::phases::PhaseSpan;
+use crate::title::add_escaped;
+use mx_nodelaws::Phase;
+use mx_plan::Plan;
+use mx_stamps::{MAX_NODES, NodeId};
+use std::alloc::AllocError;
+
+/// The number of rows after which the names of the nodes are repeated.
+pub(crate) const NAMED_ROWS: u64 = 50;
+
+/// A row that repeats the names of the nodes, except those that are inside: a box is there.
+#[derive(Clone, Copy)]
+pub(crate) struct NameRow {
+    y: u64,
+    is_inside: [bool; MAX_NODES as usize],
+}
+
+impl NameRow {
+    /// Creates the row at this height, for nodes in these phases.
+    pub(crate) fn new(y: u64, phases: &[PhaseSpan; MAX_NODES as usize]) -> Self {
+        let mut is_inside = [false; MAX_NODES as usize];
+        for index in 0..MAX_NODES as usize {
+            is_inside[index] = matches!(phases[index].phase, Phase::Inside(_));
+        }
+        NameRow { y, is_inside }
+    }
+
+    /// Appends the names.
+    pub(crate) fn add_to(
+        &self,
+        plan: &Plan,
+        columns: &Columns,
+        text: &mut String,
+    ) -> Result<(), AllocError> {
+        for index in 0..MAX_NODES {
+            if let Some(node) = NodeId::of(index)
+                && columns.has(node)
+                && !self.is_inside[usize::from(index)]
+            {
+                self.add_name(plan, node, columns.x_of(node), text)?;
+            }
+        }
+        Ok(())
+    }
+
+    fn add_name(
+        &self,
+        plan: &Plan,
+        node: NodeId,
+        x: u64,
+        text: &mut String,
+    ) -> Result<(), AllocError> {
+        let y = self.y;
+        write!(text, "<text class=\"name\" x=\"{x}\" y=\"{y}\" dy=\"4\">")?;
+        add_escaped(plan.node_name(node.get()).unwrap_or(""), text)?;
+        text.push_str("</text>\n")
+    }
+}

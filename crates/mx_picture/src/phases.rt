@@ -1,0 +1,52 @@
+//! The phases of nodes: bars where they wait, and boxes where they are inside.
+
+use mx_nodelaws::Phase;
+use mx_stamps::NodeId;
+use std::alloc::AllocError;
+
+/// A phase of a node, and the row in which it started.
+#[derive(Clone, Copy)]
+pub(crate) struct PhaseSpan {
+    pub(crate) since: u64,
+    pub(crate) phase: Phase,
+}
+
+/// A phase of a node in the picture, from a height down.
+#[derive(Clone, Copy)]
+pub(crate) struct Bar {
+    pub(crate) node: NodeId,
+    pub(crate) y: u64,
+    pub(crate) down: u64,
+    pub(crate) phase: Phase,
+}
+
+impl Bar {
+    /// Appends the bar of a node that waits, or the box of one that is inside, on the line at `x`.
+    pub(crate) fn add_to(&self, x: u64, text: &mut String) -> Result<(), AllocError> {
+        let y = self.y;
+        let down = self.down;
+        match self.phase {
+            Phase::Idle => Ok(()),
+            Phase::Waiting => write!(text, "<path class=\"waits\" d=\"M{x} {y}v{down}\"/>\n"),
+            Phase::Inside(number) => {
+                let high = down.saturating_add(12);
+                write!(
+                    text,
+                    "<path class=\"inside\" d=\"M{x} {y}m-12-6h24v{high}h-24z\"><title>section {number}</title></path>\n"
+                )
+            }
+        }
+    }
+
+    /// Appends the number of the section of a box, on the line at `x`.
+    pub(crate) fn add_number(&self, x: u64, text: &mut String) -> Result<(), AllocError> {
+        let y = self.y;
+        match self.phase {
+            Phase::Inside(number) => write!(
+                text,
+                "<text class=\"section\" x=\"{x}\" y=\"{y}\" dy=\"4\">{number}</text>\n"
+            ),
+            Phase::Idle | Phase::Waiting => Ok(()),
+        }
+    }
+}

@@ -1,0 +1,65 @@
+//! The lines of arrows, and the rectangles of texts that they may cross.
+
+/// The offset by which everything is moved to the right, so that positions left of the first node
+/// are numbers too.
+pub(crate) const SHIFT: u64 = 1_000_000;
+
+/// How far the bow of an arrow to its own node swings to the left, in pixels.
+const BOW: u64 = 20;
+
+/// The line of an arrow between two points, in pixels from the top and from the left, moved by
+/// `SHIFT`.
+#[derive(Clone, Copy)]
+pub(crate) struct Segment {
+    from: u64,
+    top: u64,
+    to: u64,
+    bottom: u64,
+}
+
+impl Segment {
+    /// Creates the line from one node, at this height, down to another. A bow is a line at the left
+    /// of its node.
+    pub(crate) fn new(from: u64, to: u64, y: u64, down: u64) -> Self {
+        let aside = if to == from { SHIFT - BOW } else { SHIFT };
+        Segment {
+            from: from.saturating_add(aside),
+            top: y,
+            to: to.saturating_add(aside),
+            bottom: y.saturating_add(down),
+        }
+    }
+
+    /// Returns the horizontal position of the line at this height.
+    fn across(&self, y: u64) -> u64 {
+        let down = self.bottom.saturating_sub(self.top).max(1);
+        let part = y.saturating_sub(self.top);
+        let aside = self.to.abs_diff(self.from).saturating_mul(part) / down;
+        if self.to >= self.from {
+            self.from.saturating_add(aside)
+        } else {
+            self.from.saturating_sub(aside)
+        }
+    }
+
+    /// Returns whether the line runs through a rectangle.
+    pub(crate) fn crosses(&self, rect: &Rect) -> bool {
+        let top = rect.top.max(self.top);
+        let bottom = rect.bottom.min(self.bottom);
+        if bottom < top {
+            return false;
+        }
+        let above = self.across(top);
+        let below = self.across(bottom);
+        above.min(below) <= rect.right && above.max(below) >= rect.left
+    }
+}
+
+/// The rectangle of a text on the page, in pixels, moved to the right by `SHIFT`.
+#[derive(Clone, Copy)]
+pub(crate) struct Rect {
+    pub(crate) left: u64,
+    pub(crate) right: u64,
+    pub(crate) top: u64,
+    pub(crate) bottom: u64,
+}

@@ -1,0 +1,61 @@
+//! The sides of nodes on which texts are.
+
+/// The place of a text: left or right of its node, or beside the end of a lost parcel there.
+#[derive(Clone, Copy, PartialEq, Eq)]
+pub(crate) enum Side {
+    Left,
+    Right,
+    LeftInAir,
+    RightInAir,
+}
+
+impl Side {
+    /// Returns the side for the text of a delivery, away from the arrow, which goes to the left or
+    /// to the right.
+    pub(crate) fn after(is_left: bool) -> Side {
+        if is_left { Side::Left } else { Side::Right }
+    }
+
+    /// Returns the side for the end of a lost parcel that goes to the left, or to the right.
+    pub(crate) fn in_air(is_left: bool) -> Side {
+        if is_left {
+            Side::LeftInAir
+        } else {
+            Side::RightInAir
+        }
+    }
+
+    /// Returns the other side of the node. The end of a lost parcel has no other side.
+    pub(crate) fn other(self) -> Side {
+        match self {
+            Side::Left => Side::Right,
+            Side::Right => Side::Left,
+            Side::LeftInAir | Side::RightInAir => self,
+        }
+    }
+
+    pub(crate) fn is_left(self) -> bool {
+        match self {
+            Side::Left | Side::LeftInAir => true,
+            Side::Right | Side::RightInAir => false,
+        }
+    }
+
+    /// Returns the distance between the text and its node, in pixels.
+    pub(crate) fn gap(self) -> u64 {
+        match self {
+            Side::Left | Side::Right => 17,
+            Side::LeftInAir | Side::RightInAir => 33,
+        }
+    }
+
+    /// Returns the attributes of a text on this side.
+    pub(crate) fn attributes(self) -> &'static str {
+        match self {
+            Side::Left => " class=\"left\" dx=\"-17\"",
+            Side::Right => " dx=\"17\"",
+            Side::LeftInAir => " class=\"air left\" dx=\"-33\"",
+            Side::RightInAir => " class=\"air\" dx=\"33\"",
+        }
+    }
+}
