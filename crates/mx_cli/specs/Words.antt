@@ -76,9 +76,15 @@ steps_rule = needed (number_rule (codes "steps") MAX_EVENTS)
 abbrev pub asks_rule : Rule
 asks_rule = flag_rule (codes "asks")
 
--- `check PLAN`, and perhaps `--asks`
+-- `--json`
+abbrev pub json_rule : Rule
+json_rule = flag_rule (codes "json")
+
+-- `check PLAN`, and perhaps `--asks` and `--json`
 abbrev pub check_app : App
-check_app = with_rule (with_rule (new_app (codes "check")) plan_rule) asks_rule
+check_app =
+    let asked = with_rule (with_rule (new_app (codes "check")) plan_rule) asks_rule in
+    with_rule asked json_rule
 
 -- `--quiet`
 abbrev pub quiet_rule : Rule
@@ -87,10 +93,6 @@ quiet_rule = flag_rule (codes "quiet")
 -- `--node NAME`
 abbrev pub node_rule : Rule
 node_rule = text_rule (codes "node")
-
--- `--json`
-abbrev pub json_rule : Rule
-json_rule = flag_rule (codes "json")
 
 -- `--count`
 abbrev pub count_rule : Rule
@@ -107,12 +109,12 @@ replay_app =
     let shown = with_rule (with_rule named quiet_rule) node_rule in
     with_rule (with_rule shown json_rule) state_rule
 
--- `explore PLAN --seed S --steps K`, and perhaps `--count`
+-- `explore PLAN --seed S --steps K`, and perhaps `--count` and `--json`
 abbrev pub explore_app : App
 explore_app =
     let named = with_rule (new_app (codes "explore")) plan_rule in
     let drawn = with_rule (with_rule named seed_rule) steps_rule in
-    with_rule drawn count_rule
+    with_rule (with_rule drawn count_rule) json_rule
 
 abbrev pub mx_start : App
 mx_start =
@@ -246,18 +248,20 @@ exploration_at rows =
 abbrev pub checking : Bool → Text → Request
 checking with_asks plan = if with_asks then asks plan else check plan
 
--- what was given for the arguments of each command
+-- what was given for the arguments of each command; a check, but not one with `--json`
 abbrev pub check_in : List Row → Option Request
-check_in rows = option_map (checking (is_given (codes "asks") rows)) (first_of (codes "PLAN") rows)
+check_in rows =
+    if is_given (codes "json") rows then None
+    else option_map (checking (is_given (codes "asks") rows)) (first_of (codes "PLAN") rows)
 
 -- a replay, but not one with `--quiet`, `--node`, `--json` or `--state`
 abbrev pub replay_in : List Row → Option Request
 replay_in rows = if is_view rows then None else option_map replay (names_at rows)
 
--- an exploration, but not one with `--count`
+-- an exploration, but not one with `--count` or `--json`
 abbrev pub explore_in : List Row → Option Request
 explore_in rows =
-    if is_given (codes "count") rows then None
+    if is_given (codes "count") rows || is_given (codes "json") rows then None
     else option_map (λ e. explore e.0 e.1.0 e.1.1) (exploration_at rows)
 
 -- the command that was met, and what was given for it

@@ -1,6 +1,6 @@
 //! The arguments of commands.
 
-ghost use Rattle.mx_cli.specs.Words.{IsArgument, events_rule, file_rule, flag_rule, number_rule, plan_rule, seed_rule, steps_rule, text_rule};
+ghost use Rattle.mx_cli.specs.Words.{IsArgument, events_rule, file_rule, flag_rule, json_rule, number_rule, plan_rule, seed_rule, steps_rule, text_rule};
 
 use clap::builder::ValueParser;
 use clap::{Arg, ArgAction};
@@ -56,6 +56,14 @@ pub fn events_arg<'a>(alloc: Global) -> Arg<'a>
 {
     let help = "The file of the events, or - for standard input";
     file_arg(alloc, "EVENTS", help)
+}
+
+/// The argument `--json`.
+pub fn json_arg<'a>(alloc: Global) -> Arg<'a>
+    ensures { IsArgument json_rule result }
+{
+    let help = "Prints an object of JSON in place of each line";
+    flag_arg(alloc, "json", help)
 }
 
 /// The argument `--seed`.

@@ -60,7 +60,8 @@ The first line printed tells the algorithm, and how many nodes, registers and se
 come, for Maekawa, lines `meet a b: c` of the least arbiter that any two nodes share, and for Raymond lines
 `toward a: b` of each node's way to the holder. With --asks come lines `asks a: b c` of whom each node asks:
 for Ricart and Agrawala all others, for Maekawa its arbiters, itself among them, and for Raymond, at the
-start, its neighbour on the way to the holder, which asks nobody. Where something is wrong, `mx explain PLAN`
+start, its neighbour on the way to the holder, which asks nobody. With --json each line is an object of JSON.
+Where something is wrong, `mx explain PLAN`
 says where it stands and what was expected. docs/FORMATS.md has all formats.";
 
 pub(crate) const REPLAY_EXAMPLE: &str =
@@ -98,7 +99,7 @@ pub(crate) const EXPLORE_EXAMPLE: &str = "Example: a thousand steps drawn from t
 The events are asking, entering, reading, writing, leaving, cancelling, ticking, wanting, settling,
 restarting and the delivery of one of the newest 64 parcels. The first line counts the steps, how often a
 node entered, and the parcels that were sent; the last line is the verdict. With --count the counts of
-`mx count` stand between them. With --walk the events are those of `mx draw .. --walk`, so that nodes come to
+`mx count` stand between them. With --json each line is an object of JSON. With --walk the events are those of `mx draw .. --walk`, so that nodes come to
 enter; `mx explore --walk --help` tells of its options. `mx check --help` tells what a plan is; docs/FORMATS.md
 has all formats.";
 

@@ -22,7 +22,7 @@ pub use about::{
     ABOUT_COUNT, ABOUT_DRAW, ABOUT_EXPLAIN, ABOUT_JUDGE, ABOUT_PICTURE, ABOUT_PLAY, ABOUT_SCRIPT,
 };
 pub use arguments::{
-    events_arg, file_arg, flag_arg, number_arg, plan_arg, seed_arg, steps_arg, text_arg,
+    events_arg, file_arg, flag_arg, json_arg, number_arg, plan_arg, seed_arg, steps_arg, text_arg,
 };
 pub use closing::{close, close_with, is_refused};
 pub use fault_lines::FaultLine;
@@ -34,6 +34,6 @@ pub use planning::{PlanAndText, fetch, fetch_both, fetch_plan, plan_in};
 pub use splitting::{are_dashes, split_line};
 pub use telling::{put_line, refuse, tell, tell_line, tell_memory};
 pub use words::{
-    Exploration, Names, Request, asked, exploration_at, explore_command, is_given, names_at,
-    number_at, replay_command, text_at,
+    Exploration, Names, Request, asked, check_command, exploration_at, explore_command, is_given,
+    names_at, number_at, replay_command, text_at,
 };

@@ -4,12 +4,13 @@ use std::alloc::{AllocError, Global};
 
 /// The options of the command line without a command, and of each command that has some, but
 /// `--help`.
-const OPTIONS: [(&str, &[&str]); 8] = [
+const OPTIONS: [(&str, &[&str]); 9] = [
     ("<COMMAND>", &["--version"]),
-    ("check", &["--asks"]),
+    ("check", &["--asks", "--json"]),
     ("replay", &["--quiet", "--node", "--json", "--state"]),
     ("explain", &["--script"]),
-    ("explore", &["--seed", "--steps", "--count"]),
+    ("explore", &["--seed", "--steps", "--count", "--json"]),
+    ("count", &["--json"]),
     (
         "draw",
         &[
@@ -82,6 +83,9 @@ fn add_tip(word: &str, command: &str, text: &mut String) -> Result<(), AllocErro
     if is_number(word) {
         return text.push_str("numbers are written without a sign");
     }
+    if let Some(option) = option_of(command, word) {
+        return add_clash(option, command, text);
+    }
     match owner_of(word) {
         Some((option, owner)) => add_owner(option, owner, text),
         None => add_options(command, text),
@@ -108,11 +112,36 @@ fn owner_of(word: &str) -> Option<(&'static str, &'static str)> {
     None
 }
 
+/// The first option of a command that begins with this word.
+fn option_of(wanted: &str, word: &str) -> Option<&'static str> {
+    for (command, options) in &OPTIONS {
+        if *command == wanted {
+            return first_with(*options, word);
+        }
+    }
+    None
+}
+
+fn first_with(options: &'static [&'static str], word: &str) -> Option<&'static str> {
+    for option in options {
+        if begins(option, word) {
+            return Some(*option);
+        }
+    }
+    None
+}
+
 /// Whether an option begins with this word, be it behind one dash.
 fn begins(option: &str, word: &str) -> bool {
     let name = option.trim_start_matches('-');
     let begun = word.trim_start_matches('-');
     !begun.is_empty() && name.starts_with(begun)
+}
+
+/// Appends that a command has an option, but not with the others that are given.
+fn add_clash(option: &str, command: &str, text: &mut String) -> Result<(), AllocError> {
+    add_owner(option, command, text)?;
+    text.push_str(", but not with the others that are given")
 }
 
 /// Appends which command has an option.

@@ -10,7 +10,7 @@ use crate::about::{
     ABOUT_COUNT, ABOUT_DRAW, ABOUT_EXPLAIN, ABOUT_JUDGE, ABOUT_LIVE, ABOUT_PICTURE, ABOUT_PLAY,
     ABOUT_SCRIPT,
 };
-use crate::arguments::{events_arg, flag_arg, seed_arg, steps_arg, text_arg};
+use crate::arguments::{events_arg, flag_arg, json_arg, seed_arg, steps_arg, text_arg};
 use crate::help;
 use crate::line::{bare_command, command_line, matches_in, plan_command, with_arg, with_made};
 use clap::{ArgMatches, Command, Error};
@@ -42,13 +42,14 @@ pub enum Request<'a> {
     Explore(Exploration<'a>),
 }
 
-/// `check PLAN`, which may have `--asks`.
-fn check_command<'a>(alloc: Global) -> Result<Command<'a>, AllocError>
+/// `check PLAN`, which may have `--asks` and `--json`.
+pub fn check_command<'a>(alloc: Global) -> Result<Command<'a>, AllocError>
     ensures { IfOk result (IsCommand check_app) }
 {
     let begun = plan_command(alloc, "check", help::CHECK, help::CHECK_EXAMPLE);
     let asks = flag_arg(alloc, "asks", "Prints whom each node asks too");
-    with_arg(begun, asks)
+    let with_asks = with_arg(begun, asks);
+    with_arg(with_asks, json_arg(alloc))
 }
 
 /// `replay PLAN EVENTS`, which may have `--quiet`, `--node NAME`, `--json` and `--state`.
@@ -65,17 +66,12 @@ pub fn replay_command<'a>(alloc: Global) -> Result<Command<'a>, AllocError>
         "Prints the lines of the node of this name alone",
     );
     let with_node = with_arg(with_quiet, node);
-    let json = flag_arg(
-        alloc,
-        "json",
-        "Prints an object of JSON in place of each line",
-    );
-    let with_json = with_arg(with_node, json);
+    let with_json = with_arg(with_node, json_arg(alloc));
     let state = flag_arg(alloc, "state", "Prints what each node knows at the end");
     with_arg(with_json, state)
 }
 
-/// `explore PLAN --seed S --steps K`, which may have `--count`.
+/// `explore PLAN --seed S --steps K`, which may have `--count` and `--json`.
 pub fn explore_command<'a>(alloc: Global) -> Result<Command<'a>, AllocError>
     ensures { IfOk result (IsCommand explore_app) }
 {
@@ -83,7 +79,8 @@ pub fn explore_command<'a>(alloc: Global) -> Result<Command<'a>, AllocError>
     let with_seed = with_arg(begun, seed_arg(alloc));
     let with_steps = with_arg(with_seed, steps_arg(alloc));
     let count = flag_arg(alloc, "count", "Prints the counts of `mx count` too");
-    with_arg(with_steps, count)
+    let with_count = with_arg(with_steps, count);
+    with_arg(with_count, json_arg(alloc))
 }
 
 /// The whole command line.
@@ -176,6 +173,9 @@ fn request_of<'a>(name: &str, matches: &ArgMatches<'a>) -> Option<Request<'a>>
 fn check_in<'a>(matches: &ArgMatches<'a>) -> Option<Request<'a>>
     ensures { option_map request_of result ≡ check_in (rows_of (found_of matches.now)) }
 {
+    if is_given(matches, "json") {
+        return None;
+    }
     let Some(plan) = text_at(matches, "PLAN") else {
         return None;
     };
@@ -198,7 +198,7 @@ fn replay_in<'a>(matches: &ArgMatches<'a>) -> Option<Request<'a>>
 fn explore_in<'a>(matches: &ArgMatches<'a>) -> Option<Request<'a>>
     ensures { option_map request_of result ≡ explore_in (rows_of (found_of matches.now)) }
 {
-    if is_given(matches, "count") {
+    if is_given(matches, "count") || is_given(matches, "json") {
         return None;
     }
     exploration_at(matches).map(Request::Explore)

@@ -1,35 +1,41 @@
 -- What the words of `count`, and of `explore` with `--count`, ask for, as `clap` reads them.
-use Rattle.std.specs.Prelude.{ℕ, List, Option, Some, None, codes, if◌then◌else◌, option_map}
+use Rattle.std.specs.Prelude.{ℕ, Bool, not, List, Option, Some, None, codes, if◌then◌else◌, option_map}
 use Rattle.std.specs.Str.{bytes_eq}
 use Rattle.clap.specs.Words.{App, Row, Text, new_app, with_rule, with_subcommand}
-use Rattle.mx_cli.specs.Words.{asked_of, events_rule, exploration_at, explore_app, line_with, names_at, names_of, plan_rule}
+use Rattle.mx_cli.specs.Words.{asked_of, events_rule, exploration_at, explore_app, is_given, json_rule, line_with, names_at, names_of, plan_rule}
 use Rattle.mx_count.specs.declared.words.Request.{Request as Told}
 use Rattle.mx_count.specs.declared.words.Request.TheVariants.{Given, Drawn}
 
--- `count PLAN EVENTS`
+-- `count PLAN EVENTS`, and perhaps `--json`
 abbrev pub count_app : App
-count_app = with_rule (with_rule (new_app (codes "count")) plan_rule) events_rule
+count_app =
+    let named = with_rule (with_rule (new_app (codes "count")) plan_rule) events_rule in
+    with_rule named json_rule
 
 -- the whole command line
 unfoldable pub count_line : App
 count_line = with_subcommand (line_with count_app) explore_app.top
 
 -- what is to be counted: what comes of the events of these names, or of those of a seed and a
--- number of steps
+-- number of steps; and whether as JSON, and the first counts alone
 pub data Request : Type 0 where
-  given : Text × Text → Request
-  drawn : Text → ℕ → ℕ → Request
+  given : Text × Text → Bool → Request
+  drawn : Text → ℕ → ℕ → Bool → Bool → Request
 
 abbrev pub request_of : Told → Request
-request_of (Given names) = given (names_of names)
-request_of (Drawn exploration) = drawn exploration.plan.now exploration.seed exploration.steps
+request_of (Given names is_json) = given (names_of names) is_json
+request_of (Drawn exploration is_json is_brief) =
+    drawn exploration.plan.now exploration.seed exploration.steps is_json is_brief
 
 -- what was given for the arguments of each command
 abbrev pub given_in : List Row → Option Request
-given_in rows = option_map given (names_at rows)
+given_in rows =
+    option_map (λ names. given names (is_given (codes "json") rows)) (names_at rows)
 
 abbrev pub drawn_in : List Row → Option Request
-drawn_in rows = option_map (λ e. drawn e.0 e.1.0 e.1.1) (exploration_at rows)
+drawn_in rows =
+    option_map (λ e. drawn e.0 e.1.0 e.1.1 (is_given (codes "json") rows)
+    (not (is_given (codes "count") rows))) (exploration_at rows)
 
 abbrev pub request_in : Option (Text × List Row) → Option Request
 request_in None = None

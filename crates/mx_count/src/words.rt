@@ -1,4 +1,4 @@
-//! The words of `count`, and those of `explore` with `--count`.
+//! The words of `count`, and those of `explore` with `--count` or `--json`.
 
 ghost use Rattle.std.specs.Prelude.{◌≡◌, IfOk, option_map};
 ghost use Rattle.clap.specs.Words.{app_of, found_of, rows_of, subcommand_rows_of};
@@ -9,7 +9,7 @@ use crate::help;
 use clap::{ArgMatches, Command, Error};
 use mx_cli::{
     ABOUT_COUNT, Exploration, Names, bare_command, events_arg, exploration_at, explore_command,
-    line_of, matches_in, names_at, plan_arg,
+    is_given, json_arg, line_of, matches_in, names_at, plan_arg,
 };
 use std::alloc::{AllocError, Global};
 
@@ -17,17 +17,25 @@ use std::alloc::{AllocError, Global};
 #[derive(Clone, Copy)]
 pub(crate) enum Request<'a> {
     /// What comes of the events that a file has.
-    Given(Names<'a>),
+    Given {
+        names: Names<'a>,
+        is_json: bool,
+    },
     /// What comes of events drawn from a seed.
-    Drawn(Exploration<'a>),
+    Drawn {
+        exploration: Exploration<'a>,
+        is_json: bool,
+        /// Whether the first counts alone.
+        is_brief: bool,
+    },
 }
 
 impl<'a> Request<'a> {
     /// The names that the lines of faults have.
     pub(crate) fn names(&self) -> Names<'a> {
         match self {
-            Request::Given(names) => *names,
-            Request::Drawn(exploration) => Names {
+            Request::Given { names, .. } => *names,
+            Request::Drawn { exploration, .. } => Names {
                 plan: exploration.plan,
                 events: exploration.plan,
             },
@@ -40,7 +48,8 @@ fn count_command<'a>(alloc: Global) -> Result<Command<'a>, AllocError>
 {
     let begun = bare_command(alloc, "count", ABOUT_COUNT, help::COUNT_EXAMPLE);
     let with_plan = begun.arg(plan_arg(alloc))?;
-    with_plan.arg(events_arg(alloc))
+    let with_events = with_plan.arg(events_arg(alloc))?;
+    with_events.arg(json_arg(alloc))
 }
 
 /// The commands that are read.
@@ -80,11 +89,24 @@ fn request_in<'a>(matches: &ArgMatches<'a>) -> Option<Request<'a>>
 fn given_in<'a>(matches: &ArgMatches<'a>) -> Option<Request<'a>>
     ensures { option_map request_of result ≡ given_in (rows_of (found_of matches.now)) }
 {
-    names_at(matches).map(Request::Given)
+    let Some(names) = names_at(matches) else {
+        return None;
+    };
+    Some(Request::Given {
+        names,
+        is_json: is_given(matches, "json"),
+    })
 }
 
 fn drawn_in<'a>(matches: &ArgMatches<'a>) -> Option<Request<'a>>
     ensures { option_map request_of result ≡ drawn_in (rows_of (found_of matches.now)) }
 {
-    exploration_at(matches).map(Request::Drawn)
+    let Some(exploration) = exploration_at(matches) else {
+        return None;
+    };
+    Some(Request::Drawn {
+        exploration,
+        is_json: is_given(matches, "json"),
+        is_brief: !is_given(matches, "count"),
+    })
 }

@@ -16,7 +16,7 @@ use mx_live::live;
 use mx_picture::picture;
 use mx_play::{Typed, play};
 use mx_scripts::event_file;
-use mx_views::replay_view;
+use mx_views::{check_objects, replay_view};
 use mx_walks::{explore_seeds, explore_walk};
 use std::alloc::AllocError;
 use std::io;
@@ -39,12 +39,13 @@ where
     let alloc = rt.alloc();
     let mut source = Streams { rt };
     match first_of(words) {
+        "check" if has_word(words, "--json") => check_objects(alloc, words, &mut source, out, err),
         "count" => count(alloc, words, &mut source, out, err),
         "draw" | "script" => event_file(alloc, words, &mut source, out, err),
         "explain" => explain(alloc, words, &mut Kept::new(alloc, source), out, err),
         "explore" if has_seeds(words) => explore_seeds(alloc, words, &mut source, out, err),
         "explore" if is_walk(words) => explore_walk(alloc, words, &mut source, out, err),
-        "explore" if has_word(words, "--count") => count(alloc, words, &mut source, out, err),
+        "explore" if is_counted(words) => count(alloc, words, &mut source, out, err),
         "judge" => judge_trace(alloc, words, &mut source, out, err),
         "live" => live(rt, alloc, words, &mut source, out, err),
         "picture" => picture(alloc, words, &mut source, out, err),
@@ -127,6 +128,11 @@ fn is_walk(words: &[&str]) -> bool {
     has_word(words, "--walk")
         || has_word(words, "--in-order")
         || words.iter().any(|word| word.starts_with("--loss") || word.starts_with("--repeat"))
+}
+
+/// Returns whether an exploration is to be counted, or printed as JSON.
+fn is_counted(words: &[&str]) -> bool {
+    has_word(words, "--count") || has_word(words, "--json")
 }
 
 /// Returns whether this is among the arguments.

@@ -3,4 +3,5 @@ use Rattle.mx_cli.proofs.words.check_command.Goals as goal
 
 pub returns : goal.returns
 returns c =
-    with_arg _ c.plan_command-begun.result c.with_arg.result c.plan_command-begun.ensures c.flag_arg-asks.ensures c.with_arg.ensures
+    let asks = with_arg _ c.plan_command-begun.result c.with_arg-with_asks.result c.plan_command-begun.ensures c.flag_arg-asks.ensures c.with_arg-with_asks.ensures in
+    with_arg _ c.with_arg-with_asks.result c.with_arg.result asks c.json_arg.ensures c.with_arg.ensures
