@@ -1,7 +1,8 @@
 """What `mx count` and `mx explore --count` have to print, counted from the lines that the second implementation
 prints (tests/oracle.py).
 
-Usage: tests/counting.py PLAN EVENTS, or tests/counting.py PLAN SEED STEPS.
+Usage: tests/counting.py PLAN EVENTS [--json], or tests/counting.py PLAN SEED STEPS [--json | --brief-json]. With
+--brief-json it is what `mx explore --json` has to print.
 """
 import sys
 
@@ -29,78 +30,172 @@ CAUSES = [
 ]
 
 
-def counts(plan, lines):
-    """The lines from that of the letters to that of the longest wait."""
-    events = [line.split(": ", 1) for line in lines if line[0].isdigit()]
-    parcels = [line.split()[1:3] for line in lines if line.startswith("  #")]
-    letters = [kind for way, kind in parcels if kind not in GOSSIP and not is_own(way)]
-    sections = sum(outcome.startswith("entered ") for _, outcome in events)
-    refused = [outcome[len("refused "):] for _, outcome in events if outcome.startswith("refused ")]
-    yield "letters", len(letters)
-    for kind in KINDS[plan["algorithm"]]:
-        yield kind, letters.count(kind)
-    yield "own", sum(kind not in GOSSIP and is_own(way) for way, kind in parcels)
-    yield "gossip", sum(kind in GOSSIP for _, kind in parcels)
-    for gossip in GOSSIP:
-        yield gossip, sum(kind == gossip for _, kind in parcels)
-    yield "letters for each section", share(len(letters), sections)
-    yield "refused", len(refused)
-    for cause in CAUSES:
-        yield cause, sum(text.rstrip("0123456789 ") == cause for text in refused)
-    yield "longest wait", longest_wait(events)
+class Run:
+    """The events of a run with their outcomes, and the parcels, from the lines of the second implementation."""
+
+    def __init__(self, lines):
+        self.events = []
+        self.parcels = []
+        for line in lines:
+            if line.startswith("  #"):
+                _, way, kind = line.split()[:3]
+                self.parcels.append((*way.split(">"), kind))
+            elif line[0].isdigit():
+                event, outcome = line.split(": ", 1)
+                self.events.append((event.split()[1:], outcome))
+
+    def is_letter(self, event):
+        """Whether an event delivers a letter from one node to another."""
+        if event[0] != "deliver":
+            return False
+        sender, addressee, kind = self.parcels[int(event[1])]
+        return kind not in GOSSIP and sender != addressee
+
+    def letters(self, start, end):
+        """The letters delivered after one event and before another."""
+        return sum(self.is_letter(event) for event, _ in self.events[start + 1 : end])
+
+    def response_times(self):
+        asked, times = {}, {}
+        for place, ((kind, *rest), outcome) in enumerate(self.events):
+            if outcome.startswith("asked "):
+                asked[rest[0]] = place
+            elif outcome.startswith("entered "):
+                start = asked.pop(rest[0])
+                times[start] = self.letters(start, place)
+            elif outcome == "cancelled":
+                del asked[rest[0]]
+        return [times[start] for start in sorted(times)]
+
+    def delays(self):
+        left, delays = None, []
+        for place, ((kind, *rest), outcome) in enumerate(self.events):
+            if outcome.startswith("left "):
+                left = (rest[0], place)
+            elif outcome.startswith("entered ") and left is not None:
+                if left[0] != rest[0]:
+                    delays.append(self.letters(left[1], place))
+                left = None
+        return delays
+
+    def longest_wait(self):
+        """The most events from a node's asking to its entering, to its giving up, or to the end."""
+        asked, longest = {}, 0
+        for place, (event, outcome) in enumerate(self.events):
+            if outcome.startswith("asked "):
+                asked[event[1]] = place
+            elif event[0] in ("enter", "cancel") and not outcome.startswith("refused "):
+                longest = max(longest, place - asked.pop(event[1]))
+        return max([longest] + [len(self.events) - place for place in asked.values()])
+
+    def of_node(self, node):
+        own = [outcome for event, outcome in self.events if event[0] != "deliver" and event[1] == node]
+        delivered = [self.parcels[int(event[1])] for event, _ in self.events if event[0] == "deliver"]
+        return {
+            "sections": sum(outcome.startswith("entered ") for outcome in own),
+            "sent": sum(sender == node for sender, _, _ in self.parcels),
+            "received": sum(addressee == node for _, addressee, _ in delivered),
+            "refused": sum(outcome.startswith("refused ") for outcome in own),
+        }
+
+    def counts(self, algorithm):
+        """The counts after the first ones: how far each is indented, its name, and its number, text or spread."""
+        letters = [kind for sender, addressee, kind in self.parcels if kind not in GOSSIP and sender != addressee]
+        sections = sum(outcome.startswith("entered ") for _, outcome in self.events)
+        refused = [outcome[len("refused ") :] for _, outcome in self.events if outcome.startswith("refused ")]
+        yield 1, "letters", len(letters)
+        for kind in KINDS[algorithm]:
+            yield 2, kind, letters.count(kind)
+        yield 1, "own", sum(kind not in GOSSIP and sender == to for sender, to, kind in self.parcels)
+        yield 1, "gossip", sum(kind in GOSSIP for _, _, kind in self.parcels)
+        for gossip in GOSSIP:
+            yield 2, gossip, sum(kind == gossip for _, _, kind in self.parcels)
+        yield 0, "letters for each section", tenths(len(letters), sections)
+        yield 0, "refused", len(refused)
+        for cause in CAUSES:
+            yield 1, cause, sum(text.rstrip("0123456789 ") == cause for text in refused)
+        yield 0, "longest wait", self.longest_wait()
+        yield 0, "response time", spread(self.response_times())
+        yield 0, "synchronization delay", spread(self.delays())
 
 
-def is_own(way):
-    """Whether a parcel goes from a node to itself."""
-    sender, addressee = way.split(">")
-    return sender == addressee
+def tenths(total, number):
+    return "%d.%d" % divmod(total * 10 // number, 10) if number else None
 
 
-def share(letters, sections):
-    return "%d.%d" % divmod(letters * 10 // sections, 10) if sections else "none"
+def spread(numbers):
+    return (min(numbers), tenths(sum(numbers), len(numbers)), max(numbers)) if numbers else None
 
 
-def longest_wait(events):
-    """The most events from a node's asking to its entering, to its giving up, or to the end."""
-    asked, longest = {}, 0
-    for place, (event, outcome) in enumerate(events):
-        words = event.split()
-        if outcome.startswith("asked "):
-            asked[words[2]] = place
-        elif words[1] in ("enter", "cancel") and not outcome.startswith("refused "):
-            longest = max(longest, place - asked.pop(words[2]))
-    return max([longest] + [len(events) - place for place in asked.values()])
+SPREAD = ("least", "mean", "greatest")
 
 
-def of_events(plan, events):
-    lines = []
-    if oracle.replay(plan, events, lines.append) is not None:
-        sys.exit(1)
-    happened = [line for line in lines if line[0].isdigit()]
-    yield "events", len(happened)
-    yield "sections", sum(": entered " in line for line in happened)
-    yield "parcels", sum(line.startswith("  #") for line in lines)
+def line_text(value):
+    if value is None:
+        return "none"
+    if isinstance(value, tuple):
+        return ", ".join(f"{name} {part}" for name, part in zip(SPREAD, value))
+    return str(value)
+
+
+def json_text(value):
+    if value is None:
+        return "null"
+    if isinstance(value, tuple):
+        return "{" + ",".join(f'"{name}":{part}' for name, part in zip(SPREAD, value)) + "}"
+    return str(value)
+
+
+def print_lines(head, counts, nodes):
+    for line in head:
+        print(line)
+    for depth, name, value in counts:
+        print("  " * depth + name, line_text(value))
+    for node, numbers in nodes:
+        print(f"{node}: " + ", ".join(f"{name} {number}" for name, number in numbers.items()))
+    print("verdict sound")
+
+
+def print_json(head, counts, nodes):
+    print("{" + ",".join(f'"{name}":{json_text(value)}' for name, value in [*head, *counts]) + "}")
+    for node, numbers in nodes:
+        print("{" + ",".join([f'"node":"{node}"', *(f'"{name}":{number}' for name, number in numbers.items())]) + "}")
+    print('{"verdict":"sound"}')
+
+
+def happened(plan, lines):
+    """The lines of events and parcels alone."""
     names = tuple(f"{name}: " for name in plan["nodes"])
-    yield from counts(plan, [line for line in lines if not line.startswith(names) and not line.startswith("verdict")])
-
-
-def of_drawn(plan, seed, steps):
-    printed = []
-    oracle.explore(plan, seed, steps, printed.append)
-    _, lines = oracle.run_drawn(plan, seed, steps)
-    print(printed[0])
-    yield from counts(plan, lines)
+    return [line for line in lines if not line.startswith(names) and not line.startswith("verdict")]
 
 
 def main():
-    plan = oracle.load(sys.argv[1])
-    if len(sys.argv) == 4:
-        counted = of_drawn(plan, int(sys.argv[2]), int(sys.argv[3]))
+    words = [word for word in sys.argv[1:] if not word.startswith("--")]
+    plan = oracle.load(words[0])
+    if len(words) == 3:
+        printed = []
+        oracle.explore(plan, int(words[1]), int(words[2]), printed.append)
+        _, lines = oracle.run_drawn(plan, int(words[1]), int(words[2]))
+        line_head = printed[:1]
+        run = Run(happened(plan, lines))
+        sections = sum(outcome.startswith("entered ") for _, outcome in run.events)
+        json_head = [("explored", int(words[2])), ("entered", sections), ("sent", len(run.parcels))]
     else:
-        counted = of_events(plan, oracle.load(sys.argv[2]))
-    for name, count in counted:
-        print(name, count)
-    print("verdict sound")
+        lines = []
+        if oracle.replay(plan, oracle.load(words[1]), lines.append) is not None:
+            sys.exit(1)
+        run = Run(happened(plan, lines))
+        sections = sum(outcome.startswith("entered ") for _, outcome in run.events)
+        json_head = [("events", len(run.events)), ("sections", sections), ("parcels", len(run.parcels))]
+        line_head = [f"{name} {number}" for name, number in json_head]
+    counts = list(run.counts(plan["algorithm"]))
+    nodes = [(node, run.of_node(node)) for node in plan["nodes"]]
+    if "--brief-json" in sys.argv:
+        print_json(json_head, [], [])
+    elif "--json" in sys.argv:
+        print_json(json_head, [(name, value) for _, name, value in counts], nodes)
+    else:
+        print_lines(line_head, counts, nodes)
 
 
 if __name__ == "__main__":

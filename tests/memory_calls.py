@@ -75,7 +75,8 @@ class Sources:
                 continue
             in_trait, owner = None, name
             if within:
-                in_trait, owner = [at for at in owners if at.start() < call.start()][-1].groups()
+                before = [at for at in owners if at.start() < call.start()]
+                in_trait, owner = before[-1].groups() if before else (None, name)
             if (marked or in_trait) and (file.crate, owner) in self.public:
                 yield file.crate, f"{owner}::{name}" if within else name
 

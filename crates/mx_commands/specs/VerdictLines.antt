@@ -1,10 +1,11 @@
--- The line of a verdict.
-use Rattle.std.specs.Prelude.{◌++◌, codes, decimal}
+-- The line of a verdict, and its object of JSON.
+use Rattle.std.specs.Prelude.{ℕ, ◌++◌, Bool, codes, decimal, if◌then◌else◌}
 use Rattle.mx_explorer.specs.declared.verdict.Clause.{Clause}
 use Rattle.mx_explorer.specs.declared.verdict.Clause.TheVariants.{Overlap, Number, Read}
 use Rattle.mx_explorer.specs.declared.verdict.Verdict.{Verdict}
 use Rattle.mx_explorer.specs.declared.verdict.Verdict.TheVariants.{Sound, Broken}
 use Rattle.mx_plan.specs.Text.{Text, line_feed}
+use Rattle.mx_format.specs.Members.{number_member, word_member}
 
 abbrev pub clause_text : Clause → Text
 clause_text Overlap = codes "overlap"
@@ -15,3 +16,18 @@ abbrev pub verdict_line : Verdict → Text
 verdict_line Sound = codes "verdict sound" ++ line_feed
 verdict_line (Broken k clause) =
     codes "verdict broken at " ++ decimal k ++ codes ": " ++ clause_text clause ++ line_feed
+
+-- ---- as JSON
+
+abbrev pub broken_json : ℕ → Text → Text
+broken_json k clause =
+    codes "{\"verdict\":\"broken\"" ++ number_member (codes "index") k
+    ++ word_member (codes "clause") clause ++ codes "}\n"
+
+abbrev pub verdict_json : Verdict → Text
+verdict_json Sound = codes "{\"verdict\":\"sound\"}\n"
+verdict_json (Broken k clause) = broken_json k (clause_text clause)
+
+-- a verdict as JSON, or as a line
+abbrev pub verdict_text : Bool → Verdict → Text
+verdict_text is_json verdict = if is_json then verdict_json verdict else verdict_line verdict

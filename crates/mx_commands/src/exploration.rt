@@ -156,7 +156,7 @@ pub fn entries_in(trace: &[Entry]) -> u64
 }
 
 /// Whether a node entered.
-fn is_entry(entry: &Entry) -> bool
+pub fn is_entry(entry: &Entry) -> bool
     ensures { result ≡ is_entry entry.now }
 {
     matches!(entry.outcome, Outcome::Entered(_))

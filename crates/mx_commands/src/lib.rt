@@ -8,11 +8,13 @@ mod exploration;
 mod replays;
 mod runs;
 mod shapes;
+mod verdict_json;
 mod verdicts;
 
 pub use check_plan::print;
 pub use cluster_lines::add_nodes;
 pub use command_line::{carry_out, command, names_in};
-pub use exploration::{entries_in, happen};
+pub use exploration::{entries_in, happen, is_entry};
 pub use runs::{add_closing, start, step};
-pub use verdicts::{VerdictLine, verdict_status};
+pub use verdict_json::VerdictJson;
+pub use verdicts::{VerdictLine, add_verdict, verdict_status};

@@ -1,10 +1,12 @@
 //! The line of a verdict, and its status.
 
-ghost use Rattle.std.specs.Prelude.{◌≡◌, Some};
+ghost use Rattle.std.specs.Prelude.{◌≡◌, ◌++◌, OnOk, Some, string_bytes};
 ghost use Rattle.mx_commands.specs.Ran.{verdict_status};
-ghost use Rattle.mx_commands.specs.VerdictLines.{clause_text, verdict_line};
+ghost use Rattle.mx_commands.specs.VerdictLines.{clause_text, verdict_line, verdict_text};
 
+use crate::verdict_json::VerdictJson;
 use mx_explorer::{Clause, Verdict};
+use std::alloc::AllocError;
 use std::fmt;
 
 /// What is broken.
@@ -38,6 +40,17 @@ impl fmt::Display for VerdictLine {
             }
         }
     }
+}
+
+/// Appends a verdict: its object of JSON, or its line.
+pub fn add_verdict(is_json: bool, verdict: Verdict, text: &mut String) -> Result<(), AllocError>
+    ensures { OnOk result (string_bytes text.new
+        ≡ string_bytes text.old ++ verdict_text is_json verdict) }
+{
+    if is_json {
+        return text.write(VerdictJson(verdict));
+    }
+    text.write(VerdictLine(verdict))
 }
 
 /// Returns the status for a verdict.

@@ -3,10 +3,10 @@ use Rattle.std.proofs.Common.{◌≡◌, ◌∙◌, ◌<◌, ◌≤◌, ◌+◌,
 use Rattle.std.specs.Int.{from_bool}
 use Rattle.std.specs.List.{count_by}
 use Rattle.std.proofs.lemmas.List.{at_drop_all, at_drop_more, length-drop, take_all}
-use Rattle.std.proofs.lemmas.List.Sums.{sum_by-cons}
+use Rattle.std.proofs.lemmas.List.Sums.{count_by-le-length, sum_by-cons}
 use Rattle.std.proofs.lemmas.Option.{get_or_from_slice_get, slice_get_within}
 use Rattle.mx_trace.specs.declared.outcome.Entry.{Entry}
-use Rattle.mx_count.specs.Counts.{longest_wait, wait_from}
+use Rattle.mx_count.specs.Waits.{longest_wait, wait_from}
 
 -- one item counts or not
 counts_one : {X : Type 0} (p : X → Bool) (x : X) (xs : List X) (b : Bool) → b ≡ p x → from_bool b + count_by p xs ≡ count_by p (x ∷ xs)
@@ -22,6 +22,19 @@ count_more p xs k x b n there is one =
 
 pub count_end : {X : Type 0} (p : X → Bool) (xs : List X) (k n total : ℕ) → length xs ≤ k → n + count_by p (drop k xs) ≡ total → n ≡ total
 count_end p xs k n total le is = let none : count_by p (drop k xs) ≡ 0 = at_drop_all (count_by p) xs k le in omega arith
+
+-- one more item of a list, which counts or not
+pub count_item : {X : Type 0} (p : X → Bool) (xs : List X) (k : ℕ) (d : X) (b : Bool) (n count total : ℕ) → k < length xs → count + count_by p (drop k xs) ≡ total
+    → b ≡ p (get_or xs k d) → n ≡ from_bool b → (count + n) + count_by p (drop (k + 1) xs) ≡ total
+count_item p xs k d b n count total lt whole is one =
+    let step : count_by p (drop k xs) ≡ count_by p (get_or xs k d ∷ drop (k + 1) xs) = at_drop_more (count_by p) xs k d lt in
+    let item : n + count_by p (drop (k + 1) xs) ≡ count_by p (get_or xs k d ∷ drop (k + 1) xs) =
+    ap (λ m. m + count_by p (drop (k + 1) xs)) one ∙ counts_one p (get_or xs k d) (drop (k + 1) xs) b is in
+    omega (arith, step, item, whole)
+
+-- a count that goes on is no greater than the list is long
+pub count_fits : {X : Type 0} (p : X → Bool) (xs : List X) (count rest : ℕ) → count + rest ≡ count_by p xs → count ≤ length xs
+count_fits p xs count rest whole = let few : count_by p xs ≤ length xs = count_by-le-length p xs in omega (arith, few, whole)
 
 -- one more item of the trace, and the wait that begins there
 pub wait_more : (xs : List Entry) (k l total w m : ℕ) (e : Entry) → k < length xs → max l (longest_wait (drop k xs)) ≡ total

@@ -1,5 +1,5 @@
 -- What is counted, from what its parts append.
-use Rattle.std.proofs.Common.{◌≡◌, ◌∙◌, ◌++◌, ℕ, List, [], ◌∷◌, Result, Ok, Err, ap, append_assoc, codes, length, map, refl, sym}
+use Rattle.std.proofs.Common.{◌≡◌, ◌∙◌, ◌++◌, ℕ, Bool, List, [], ◌∷◌, Result, Ok, Err, ap, append_assoc, codes, length, map, refl}
 use Rattle.std.specs.Prelude.{OnOk}
 use Rattle.std.specs.Bool.{⊤}
 use Rattle.std.specs.List.{count_by}
@@ -12,18 +12,23 @@ use Rattle.mx_trace.specs.declared.outcome.Entry.{Entry}
 use Rattle.mx_explorer.specs.declared.verdict.Verdict.{Verdict}
 use Rattle.mx_explorer.specs.declared.verdict.Verdict.TheVariants.{Sound}
 use Rattle.mx_plan.specs.Text.{Text}
+use Rattle.mx_plan.specs.Fields.{Fields}
 use Rattle.mx_format.specs.Lines.{each_text}
 use Rattle.mx_cli.specs.declared.faults.Stop.{Stop}
 use Rattle.mx_commands.specs.Explored.{is_entry}
-use Rattle.mx_commands.specs.VerdictLines.{verdict_line}
-use Rattle.mx_commands.proofs.ExploreLemmas.{with_verdict}
-use Rattle.mx_count.specs.Counted.{AddsCounts, Leads, counts_text, first_text}
-use Rattle.mx_count.specs.Counts.{longest_wait, parcels_text, refusals_text, share_text, tallies_text, tally_line}
-use Rattle.mx_count.specs.Kinds.{is_under, letter_names, names_with, other_names, refusal_names}
-use Rattle.mx_count.specs.declared.counted_run.Course.{Course}
+use Rattle.mx_commands.specs.VerdictLines.{verdict_text}
+use Rattle.mx_count.specs.Counted.{AddsCounts, Leads, cluster_text, counts_text, details_text, first_text}
+use Rattle.mx_count.specs.Counts.{all_parcels_text, all_refusals_text, parcels_text, tallies_text, times_text}
+use Rattle.mx_count.specs.Waits.{longest_wait}
+use Rattle.mx_count.specs.Kinds.{gossip_names, is_under, letter_names, other_names}
+use Rattle.mx_count.specs.Measures.{measure_text}
+use Rattle.mx_count.specs.NodeCounts.{entries_of, node_tallies, node_tally, received_of, refused_of, sent_of}
+use Rattle.mx_count.specs.Tallies.{counts_end, kind_indent, part_indent, share_text, tally_text}
+use Rattle.mx_count.specs.declared.counted_run.Options.{Options}
+use Rattle.mx_count.specs.declared.measures.Measure.TheVariants.{Response, Delay}
 
 -- one text after another
-joined : (t t1 t2 a b : Text) → t1 ≡ t ++ a → t2 ≡ t1 ++ b → t2 ≡ t ++ (a ++ b)
+pub joined : (t t1 t2 a b : Text) → t1 ≡ t ++ a → t2 ≡ t1 ++ b → t2 ≡ t ++ (a ++ b)
 joined t t1 t2 a b first second = second ∙ ap (λ (x : Text). x ++ b) first ∙ append_assoc t a b
 
 -- the texts of what another list is made of
@@ -31,62 +36,100 @@ pub each_map : {X Y : Type 0} (f : Y → Text) (h : X → Y) (xs : List X) → e
 each_map f h [] = refl
 each_map f h (x ∷ xs) = ap (λ (t : Text). f (h x) ++ t) (each_map f h xs)
 
--- a line whose number is another one's
-pub tally_is : (t t1 name : Text) (n m : ℕ) → t1 ≡ t ++ tally_line name n → n ≡ m → t1 ≡ t ++ tally_line name m
-tally_is t t1 name n m is same = is ∙ ap (λ (k : ℕ). t ++ tally_line name k) same
+-- a count that is another one
+pub tally_is : (is_json : Bool) (indent t t1 name : Text) (n m : ℕ) → t1 ≡ t ++ tally_text is_json indent name n → n ≡ m → t1 ≡ t ++ tally_text is_json indent name m
+tally_is is_json indent t t1 name n m is same = is ∙ ap (λ (k : ℕ). t ++ tally_text is_json indent name k) same
 
--- two texts, and then the line of a verdict that is sound
-with_counts : (t t1 t2 t3 a b : Text) (v : Verdict) → v ≡ Sound → t1 ≡ t ++ a → t2 ≡ t1 ++ b → t3 ≡ t2 ++ verdict_line v → t3 ≡ t ++ (a ++ b ++ verdict_line Sound)
-with_counts t t1 t2 t3 a b v sound first second third =
-    with_verdict t t2 t3 (a ++ b) v sound (joined t t1 t2 a b first second) third
+-- a text of names that are others
+pub renamed : (f : List Text → Text) (t t1 : Text) (names others : List Text) → names ≡ others → t1 ≡ t ++ f names → t1 ≡ t ++ f others
+renamed f t t1 names others same is = is ∙ ap (λ (ns : List Text). t ++ f ns) same
+
+-- two texts, the second of other names
+pub two_named : (r : Result ⊤ AllocError) (f g : List Text → Text) (t t1 t2 : Text) (ns ms ns1 ms1 : List Text) → ns ≡ ns1 → ms ≡ ms1
+    → t1 ≡ t ++ f ns → OnOk r (t2 ≡ t1 ++ g ms) → OnOk r (t2 ≡ t ++ (f ns1 ++ g ms1))
+two_named (Ok u) f g t t1 t2 ns ms ns1 ms1 first second one two = joined t t1 t2 (f ns1) (g ms1) (renamed f t t1 ns ns1 first one) (renamed g t1 t2 ms ms1 second two)
+two_named (Err e) f g t t1 t2 ns ms ns1 ms1 first second one two = tt
+
+-- three texts
+pub three : (r : Result ⊤ AllocError) (t t1 t2 t3 a b c : Text) → t1 ≡ t ++ a → t2 ≡ t1 ++ b → OnOk r (t3 ≡ t2 ++ c) → OnOk r (t3 ≡ t ++ (a ++ b ++ c))
+three (Ok u) t t1 t2 t3 a b c first second third = joined t t2 t3 (a ++ b) c (joined t t1 t2 a b first second) third
+three (Err e) t t1 t2 t3 a b c first second third = tt
+
+-- four texts
+pub four : (t t1 t2 t3 t4 a b c d : Text) → t1 ≡ t ++ a → t2 ≡ t1 ++ b → t3 ≡ t2 ++ c → t4 ≡ t3 ++ d → t4 ≡ t ++ (a ++ b ++ c ++ d)
+four t t1 t2 t3 t4 a b c d first second third fourth =
+    joined t t3 t4 (a ++ b ++ c) d (joined t t2 t3 (a ++ b) c (joined t t1 t2 a b first second) third) fourth
+
+-- the counts under four lists of names
+pub named_is : {M : Type 0} (kind_text : M → Text) (words : List Text) (is_json : Bool) (sent : List (ℕ × ℕ × Parcel M)) (ns own others gossip : List Text) (t t1 t2 t3 t4 : Text)
+    (r : Result ⊤ AllocError) → ns ≡ letter_names → own ≡ words → others ≡ other_names → gossip ≡ gossip_names
+    → t1 ≡ t ++ parcels_text kind_text is_json part_indent sent ns → t2 ≡ t1 ++ parcels_text kind_text is_json kind_indent sent own
+    → t3 ≡ t2 ++ parcels_text kind_text is_json part_indent sent others → OnOk r (t4 ≡ t3 ++ parcels_text kind_text is_json kind_indent sent gossip)
+    → OnOk r (t4 ≡ t ++ all_parcels_text kind_text words is_json sent)
+named_is {M} kind_text words is_json sent ns own others gossip t t1 t2 t3 t4 (Ok u) a b c d first second third fourth =
+    let part = parcels_text kind_text is_json part_indent sent in
+    let kind = parcels_text kind_text is_json kind_indent sent in
+    four t t1 t2 t3 t4 (part letter_names) (kind words) (part other_names) (kind gossip_names)
+    (renamed part t t1 ns letter_names a first) (renamed kind t1 t2 own words b second) (renamed part t2 t3 others other_names c third) (renamed kind t3 t4 gossip gossip_names d fourth)
+named_is {M} kind_text words is_json sent ns own others gossip t t1 t2 t3 t4 (Err e) a b c d first second third fourth = tt
+
+-- the counts of parcels, the share, the counts of refusals and the times
+pub tallied_is : {S M : Type 0} (kind_text : M → Text) (words : List Text) (is_json : Bool) (g : ClusterState S M) (trace : List Entry) (sections letters : ℕ) (t t1 t2 t3 t4 : Text)
+    (r : Result ⊤ AllocError) → trace ≡ g.trace → letters ≡ count_by (is_under kind_text (codes "letters")) g.sent
+    → t1 ≡ t ++ all_parcels_text kind_text words is_json g.sent → t2 ≡ t1 ++ share_text is_json letters sections → t3 ≡ t2 ++ all_refusals_text is_json trace
+    → OnOk r (t4 ≡ t3 ++ times_text is_json g.sent g.trace) → OnOk r (t4 ≡ t ++ tallies_text kind_text words is_json g sections)
+tallied_is {S} {M} kind_text words is_json g trace sections letters t t1 t2 t3 t4 (Ok u) same counted first second third fourth =
+    four t t1 t2 t3 t4 (all_parcels_text kind_text words is_json g.sent) (share_text is_json (count_by (is_under kind_text (codes "letters")) g.sent) sections)
+    (all_refusals_text is_json g.trace) (times_text is_json g.sent g.trace) first
+    (second ∙ ap (λ (n : ℕ). t1 ++ share_text is_json n sections) counted) (third ∙ ap (λ (es : List Entry). t2 ++ all_refusals_text is_json es) same) fourth
+tallied_is {S} {M} kind_text words is_json g trace sections letters t t1 t2 t3 t4 (Err e) same counted first second third fourth = tt
+
+-- the longest wait, and two measures
+pub timed_is : {M : Type 0} (is_json : Bool) (sent : List (ℕ × ℕ × Parcel M)) (trace es : List Entry) (wait : ℕ) (t t1 t2 t3 : Text) (r : Result ⊤ AllocError) → es ≡ trace → wait ≡ longest_wait es
+    → t1 ≡ t ++ tally_text is_json [] (codes "longest wait") wait → t2 ≡ t1 ++ measure_text is_json sent trace Response → OnOk r (t3 ≡ t2 ++ measure_text is_json sent trace Delay)
+    → OnOk r (t3 ≡ t ++ times_text is_json sent trace)
+timed_is {M} is_json sent trace es wait t t1 t2 t3 (Ok u) same waited first second third =
+    let longest = tally_text is_json [] (codes "longest wait") (longest_wait trace) in
+    joined t t2 t3 (longest ++ measure_text is_json sent trace Response) (measure_text is_json sent trace Delay)
+    (joined t t1 t2 longest (measure_text is_json sent trace Response) (tally_is is_json [] t t1 (codes "longest wait") wait (longest_wait trace) first (waited ∙ ap longest_wait same)) second)
+    third
+timed_is {M} is_json sent trace es wait t t1 t2 t3 (Err e) same waited first second third = tt
+
+-- the counts of a node
+pub node_counted : {S M : Type 0} (is_json : Bool) (g : ClusterState S M) (i entered sent received refused : ℕ) (t t1 t2 t3 t4 : Text) (r : Result ⊤ AllocError)
+    → entered ≡ entries_of i g → sent ≡ sent_of i g → received ≡ received_of i g → refused ≡ refused_of i g → t1 ≡ t ++ node_tally is_json (codes ": ") (codes "sections") entered
+    → t2 ≡ t1 ++ node_tally is_json (codes ", ") (codes "sent") sent → t3 ≡ t2 ++ node_tally is_json (codes ", ") (codes "received") received
+    → OnOk r (t4 ≡ t3 ++ node_tally is_json (codes ", ") (codes "refused") refused) → OnOk r (t4 ≡ t ++ node_tallies is_json g i)
+node_counted {S} {M} is_json g i entered sent received refused t t1 t2 t3 t4 (Ok u) a b c d first second third fourth =
+    let one = node_tally is_json (codes ": ") (codes "sections") in
+    let more = node_tally is_json (codes ", ") in
+    four t t1 t2 t3 t4 (one (entries_of i g)) (more (codes "sent") (sent_of i g)) (more (codes "received") (received_of i g)) (more (codes "refused") (refused_of i g))
+    (first ∙ ap (λ (n : ℕ). t ++ one n) a) (second ∙ ap (λ (n : ℕ). t1 ++ more (codes "sent") n) b) (third ∙ ap (λ (n : ℕ). t2 ++ more (codes "received") n) c)
+    (fourth ∙ ap (λ (n : ℕ). t3 ++ more (codes "refused") n) d)
+node_counted {S} {M} is_json g i entered sent received refused t t1 t2 t3 t4 (Err e) a b c d first second third fourth = tt
 
 -- the counts of a cluster, by equal numbers of sections and parcels
-pub counted_is : {S M : Type 0} (kind_text : M → Text) (words : List Text) (course : Course) (events : ℕ) (g : ClusterState S M) (sections parcels : ℕ) (t t1 t2 t3 : Text) (v : Verdict)
-    → sections ≡ count_by is_entry g.trace → parcels ≡ length g.sent → v ≡ Sound → t1 ≡ t ++ first_text course events sections parcels
-    → t2 ≡ t1 ++ tallies_text kind_text words g sections → t3 ≡ t2 ++ verdict_line v → t3 ≡ t ++ counts_text kind_text words course events g
-counted_is {S} {M} kind_text words course events g sections parcels t t1 t2 t3 v entered sent sound first second third =
-    with_counts t t1 t2 t3 (first_text course events sections parcels) (tallies_text kind_text words g sections) v sound first second third
-    ∙ ap (λ (n : ℕ). t ++ (first_text course events n parcels ++ tallies_text kind_text words g n ++ verdict_line Sound)) entered
-    ∙ ap (λ (n : ℕ). t ++ (first_text course events (count_by is_entry g.trace) n ++ tallies_text kind_text words g (count_by is_entry g.trace) ++ verdict_line Sound)) sent
+pub cluster_is : {S M : Type 0} (kind_text : M → Text) (words : List Text) (options : Options) (events : ℕ) (g : ClusterState S M) (sections parcels : ℕ) (t t1 t2 t3 : Text)
+    (r : Result ⊤ AllocError) → sections ≡ count_by is_entry g.trace → parcels ≡ length g.sent → t1 ≡ t ++ first_text options.course options.is_json events sections parcels
+    → t2 ≡ t1 ++ details_text kind_text words options g sections → OnOk r (t3 ≡ t2 ++ counts_end options.is_json) → OnOk r (t3 ≡ t ++ cluster_text kind_text words options events g)
+cluster_is {S} {M} kind_text words options events g sections parcels t t1 t2 t3 (Ok u) entered sent first second third =
+    let head = first_text options.course options.is_json events in
+    let details = details_text kind_text words options g in
+    let end = counts_end options.is_json in
+    let all = count_by is_entry g.trace in
+    joined t t2 t3 (head sections parcels ++ details sections) end (joined t t1 t2 (head sections parcels) (details sections) first second) third
+    ∙ ap (λ (n : ℕ). t ++ (head n parcels ++ details n ++ end)) entered ∙ ap (λ (n : ℕ). t ++ (head all n ++ details all ++ end)) sent
+cluster_is {S} {M} kind_text words options events g sections parcels t t1 t2 t3 (Err e) entered sent first second third = tt
 
--- the texts of two lists, one after another
-each_append : {X : Type 0} (f : X → Text) (xs ys : List X) → each_text f (xs ++ ys) ≡ each_text f xs ++ each_text f ys
-each_append f [] ys = refl
-each_append f (x ∷ xs) ys = ap (λ (t : Text). f x ++ t) (each_append f xs ys) ∙ sym (append_assoc (f x) (each_text f xs) (each_text f ys))
-
--- the counts under three lists of names, one after another
-pub named_is : {M : Type 0} (kind_text : M → Text) (sent : List (ℕ × ℕ × Parcel M)) (words first_names own_names last_names : List Text) (t t1 t2 t3 : Text) (r : Result ⊤ AllocError)
-    → first_names ≡ letter_names → own_names ≡ words → last_names ≡ other_names → t1 ≡ t ++ parcels_text kind_text sent first_names
-    → t2 ≡ t1 ++ parcels_text kind_text sent own_names → OnOk r (t3 ≡ t2 ++ parcels_text kind_text sent last_names) → OnOk r (t3 ≡ t ++ parcels_text kind_text sent (names_with words))
-named_is {M} kind_text sent words first_names own_names last_names t t1 t2 t3 (Ok u) a b c first second third =
-    let line = λ (name : Text). tally_line name (count_by (is_under kind_text name) sent) in
-    let text = parcels_text kind_text sent in
-    let one : t1 ≡ t ++ text letter_names = first ∙ ap (λ (ns : List Text). t ++ text ns) a in
-    let two : t2 ≡ t1 ++ text words = second ∙ ap (λ (ns : List Text). t1 ++ text ns) b in
-    let last : t3 ≡ t2 ++ text other_names = third ∙ ap (λ (ns : List Text). t2 ++ text ns) c in
-    joined t t1 t3 (text letter_names) (text (words ++ other_names)) one
-    (last ∙ ap (λ (x : Text). x ++ text other_names) two ∙ append_assoc t1 (text words) (text other_names) ∙ ap (λ (x : Text). t1 ++ x) (sym (each_append line words other_names)))
-    ∙ ap (λ (x : Text). t ++ x) (sym (each_append line letter_names (words ++ other_names)))
-named_is {M} kind_text sent words first_names own_names last_names t t1 t2 t3 (Err e) a b c first second third = tt
-
--- the counts of parcels, the share, the counts of refusals and the longest wait, one after another
-pub tallied_is : {S M : Type 0} (kind_text : M → Text) (words causes : List Text) (g : ClusterState S M) (trace : List Entry) (sections letters wait : ℕ) (t t1 t2 t3 t4 : Text)
-    → causes ≡ refusal_names → trace ≡ g.trace → letters ≡ count_by (is_under kind_text (codes "letters")) g.sent → wait ≡ longest_wait trace
-    → t1 ≡ t ++ parcels_text kind_text g.sent (names_with words) → t2 ≡ t1 ++ share_text letters sections → t3 ≡ t2 ++ refusals_text trace causes
-    → t4 ≡ t3 ++ tally_line (codes "longest wait") wait → t4 ≡ t ++ tallies_text kind_text words g sections
-tallied_is {S} {M} kind_text words causes g trace sections letters wait t t1 t2 t3 t4 caused same counted waited first second third fourth =
-    let parcels = parcels_text kind_text g.sent (names_with words) in
-    let share = share_text (count_by (is_under kind_text (codes "letters")) g.sent) sections in
-    let shared : t2 ≡ t1 ++ share = second ∙ ap (λ (n : ℕ). t1 ++ share_text n sections) counted in
-    let refused : t3 ≡ t2 ++ refusals_text g.trace refusal_names =
-    third ∙ ap (λ (ns : List Text). t2 ++ refusals_text trace ns) caused ∙ ap (λ (es : List Entry). t2 ++ refusals_text es refusal_names) same in
-    let longest : t4 ≡ t3 ++ tally_line (codes "longest wait") (longest_wait g.trace) =
-    tally_is t3 t4 (codes "longest wait") wait (longest_wait g.trace) fourth (waited ∙ ap longest_wait same) in
-    joined t t3 t4 (parcels ++ share ++ refusals_text g.trace refusal_names) (tally_line (codes "longest wait") (longest_wait g.trace))
-    (joined t t2 t3 (parcels ++ share) (refusals_text g.trace refusal_names) (joined t t1 t2 parcels share first shared) refused) longest
+-- two texts, and then a verdict that is sound
+pub with_counts : (is_json : Bool) (t t1 t2 t3 a b : Text) (v : Verdict) → v ≡ Sound → t1 ≡ t ++ a → t2 ≡ t1 ++ b → t3 ≡ t2 ++ verdict_text is_json v
+    → t3 ≡ t ++ (a ++ b ++ verdict_text is_json Sound)
+with_counts is_json t t1 t2 t3 a b v sound first second third =
+    joined t t2 t3 (a ++ b) (verdict_text is_json Sound) (joined t t1 t2 a b first second) (third ∙ ap (λ (x : Verdict). t2 ++ verdict_text is_json x) sound)
 
 -- counts that were appended after events that lead to this cluster
-pub counted_after : {H S M : Type 0} (core : Core H S M) (kind_text : M → Text) (words : List Text) (course : Course) (es : List Event) (start g : ClusterState S M) (old new : Text) (r : Result ℕ Stop)
-    → Leads course core start es g → OnOk r (new ≡ old ++ counts_text kind_text words course (length es) g) → OnOk r (AddsCounts core kind_text words course es start old new)
-counted_after {H} {S} {M} core kind_text words course es start g old new (Ok status) leads is = (g, leads, is)
-counted_after {H} {S} {M} core kind_text words course es start g old new (Err end) leads is = tt
+pub counted_after : {H S M : Type 0} (core : Core H S M) (kind_text : M → Text) (words : List Text) (options : Options) (p : Fields) (es : List Event) (start g : ClusterState S M)
+    (old new : Text) (r : Result ℕ Stop) → Leads options.course core start es g → OnOk r (new ≡ old ++ counts_text kind_text words options p (length es) g)
+    → OnOk r (AddsCounts core kind_text words options p es start old new)
+counted_after {H} {S} {M} core kind_text words options p es start g old new (Ok status) leads is = (g, leads, is)
+counted_after {H} {S} {M} core kind_text words options p es start g old new (Err end) leads is = tt

@@ -1,4 +1,5 @@
 pub mod CountLemmas
 pub mod CountedLemmas
 pub mod ListedLemmas
+pub mod MeasureLemmas
 pub mod PrintedLemmas

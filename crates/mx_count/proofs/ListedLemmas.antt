@@ -1,5 +1,5 @@
 -- What was printed, of events that a text lists.
-use Rattle.std.proofs.Common.{◌≡◌, ◌∙◌, ℕ, Bool, List, [], Result, Ok, Err, IfOk, subst}
+use Rattle.std.proofs.Common.{◌≡◌, ◌∙◌, ℕ, Bool, false, List, [], Result, Ok, Err, IfOk, subst}
 use Rattle.std.specs.Io.KnownBytes.{Appends}
 use Rattle.mx_stamps.proofs.Lists.{append_nil}
 use Rattle.mx_events.specs.declared.event.Event.{Event}
@@ -11,16 +11,16 @@ use Rattle.mx_io.specs.Outputs.{Held}
 use Rattle.mx_commands.specs.Ran.{Ran}
 use Rattle.mx_commands.specs.Runs.{whole}
 use Rattle.mx_count.specs.Counted.{AddsCountsBy}
-use Rattle.mx_count.specs.Listed.{PrintsCountsOf, PrintsListed}
-use Rattle.mx_count.specs.declared.counted_run.Course.{Course}
+use Rattle.mx_count.specs.Listed.{PrintsCountsOf, PrintsListed, options_of}
+use Rattle.mx_count.specs.declared.counted_run.Options.{Options}
 use Rattle.mx_count.specs.declared.counted_run.Course.TheVariants.{Given}
 
 -- a text that was printed whole, and is the counts
-pub counts_printed : (course : Course) (p : Fields) (es : List Event) (takes : Bool) (a b : Held) (empty text bytes : Text) (r : Result ℕ Stop) → empty ≡ []
-    → AddsCountsBy course p es empty text p.shape → bytes ≡ text → Ran takes a b (whole bytes) r → IfOk r (λ _. PrintsCountsOf course p es a b)
-counts_printed course p es takes a b empty text bytes (Ok status) none adds is ran =
-    (text, subst (λ (t : Text). AddsCountsBy course p es t text p.shape) none adds, subst (λ (t : Text). Appends a b t) (append_nil bytes ∙ is) ran.1)
-counts_printed course p es takes a b empty text bytes (Err end) none adds is ran = tt
+pub counts_printed : (options : Options) (p : Fields) (es : List Event) (takes : Bool) (a b : Held) (empty text bytes : Text) (r : Result ℕ Stop) → empty ≡ []
+    → AddsCountsBy options p es empty text p.shape → bytes ≡ text → Ran takes a b (whole bytes) r → IfOk r (λ _. PrintsCountsOf options p es a b)
+counts_printed options p es takes a b empty text bytes (Ok status) none adds is ran =
+    (text, subst (λ (t : Text). AddsCountsBy options p es t text p.shape) none adds, subst (λ (t : Text). Appends a b t) (append_nil bytes ∙ is) ran.1)
+counts_printed options p es takes a b empty text bytes (Err end) none adds is ran = tt
 
 -- the run has not stopped
 pub on_ok : {A B : Type 0} (r : Result ℕ Stop) → (A → B) → IfOk r (λ _. A) → IfOk r (λ _. B)
@@ -29,7 +29,7 @@ on_ok (Err end) f h = tt
 
 -- ---- what a text lists
 
-module _ (a b : Held) where
+module _ (is_json : Bool) (a b : Held) where
   -- the events that a text lists were counted
-  pub listed : (p : Fields) (bytes : Text) (es slice : List Event) → events_at p bytes ≡ Ok es → slice ≡ es → PrintsCountsOf Given p slice a b → PrintsListed p bytes a b
-  listed p bytes es slice read is prints = (es, read, subst (λ (l : List Event). PrintsCountsOf Given p l a b) is prints)
+  pub listed : (p : Fields) (bytes : Text) (es slice : List Event) → events_at p bytes ≡ Ok es → slice ≡ es → PrintsCountsOf (options_of Given is_json false) p slice a b → PrintsListed is_json p bytes a b
+  listed p bytes es slice read is prints = (es, read, subst (λ (l : List Event). PrintsCountsOf (options_of Given is_json false) p l a b) is prints)

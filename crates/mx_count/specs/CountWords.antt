@@ -1,9 +1,9 @@
 -- What the words of `count`, and of `explore` with `--count`, ask for, as `clap` reads them.
-use Rattle.std.specs.Prelude.{ℕ, List, [], ◌∷◌, Option, Some, None, codes, if◌then◌else◌, option_map}
+use Rattle.std.specs.Prelude.{ℕ, Bool, not, List, [], ◌∷◌, Option, Some, None, codes, if◌then◌else◌, option_map}
 use Rattle.std.specs.Str.{bytes_eq}
 use Rattle.clap.specs.Words.{App, Row, Text}
 use Rattle.mx_cli.specs.Table.{line_of}
-use Rattle.mx_cli.specs.Words.{asked_of, exploration_at, names_at, names_of}
+use Rattle.mx_cli.specs.Words.{asked_of, exploration_at, is_given, names_at, names_of}
 use Rattle.mx_cli.specs.declared.table.CommandId.TheVariants as id
 use Rattle.mx_count.specs.declared.words.Request.{Request as Told}
 use Rattle.mx_count.specs.declared.words.Request.TheVariants.{Given, Drawn}
@@ -13,21 +13,25 @@ unfoldable pub count_line : App
 count_line = line_of (id.Count ∷ id.ExploreCount ∷ [])
 
 -- what is to be counted: what comes of the events of these names, or of those of a seed and a
--- number of steps
+-- number of steps; and whether as JSON, and the first counts alone
 pub data Request : Type 0 where
-  given : Text × Text → Request
-  drawn : Text → ℕ → ℕ → Request
+  given : Text × Text → Bool → Request
+  drawn : Text → ℕ → ℕ → Bool → Bool → Request
 
 abbrev pub request_of : Told → Request
-request_of (Given names) = given (names_of names)
-request_of (Drawn exploration) = drawn exploration.plan.now exploration.seed exploration.steps
+request_of (Given names is_json) = given (names_of names) is_json
+request_of (Drawn exploration is_json is_brief) =
+    drawn exploration.plan.now exploration.seed exploration.steps is_json is_brief
 
 -- what was given for the arguments of each command
 abbrev pub given_in : List Row → Option Request
-given_in rows = option_map given (names_at rows)
+given_in rows =
+    option_map (λ names. given names (is_given (codes "json") rows)) (names_at rows)
 
 abbrev pub drawn_in : List Row → Option Request
-drawn_in rows = option_map (λ e. drawn e.0 e.1.0 e.1.1) (exploration_at rows)
+drawn_in rows =
+    option_map (λ e. drawn e.0 e.1.0 e.1.1 (is_given (codes "json") rows)
+    (not (is_given (codes "count") rows))) (exploration_at rows)
 
 abbrev pub request_in : Option (Text × List Row) → Option Request
 request_in None = None

@@ -1,5 +1,5 @@
 -- What is counted of the events of a run.
-use Rattle.std.specs.Prelude.{◌≡◌, ℕ, ◌++◌, List, length}
+use Rattle.std.specs.Prelude.{◌≡◌, ℕ, ◌++◌, Bool, List, [], codes, length, if◌then◌else◌}
 use Rattle.std.specs.List.{count_by}
 use Rattle.mx_nodelaws.specs.Core.{Core}
 use Rattle.mx_ricart.specs.Step.{ricart_core}
@@ -16,23 +16,59 @@ use Rattle.mx_format.specs.Parts.{maekawa_parts, maekawa_words, raymond_parts, r
 use Rattle.mx_format.specs.PlanTexts.{explored_line}
 use Rattle.mx_commands.specs.Explored.{after_drawn, is_entry}
 use Rattle.mx_commands.specs.Runs.{at_rest}
-use Rattle.mx_commands.specs.VerdictLines.{verdict_line}
-use Rattle.mx_count.specs.Counts.{head_text, tallies_text}
+use Rattle.mx_commands.specs.VerdictLines.{verdict_text}
+use Rattle.mx_format.specs.Members.{number_member, number_start}
+use Rattle.mx_count.specs.Counts.{tallies_text}
+use Rattle.mx_count.specs.NodeCounts.{nodes_text}
+use Rattle.mx_count.specs.Tallies.{counts_end, first_tally_text, tally_text}
 use Rattle.mx_count.specs.declared.counted_run.Course.{Course}
+use Rattle.mx_count.specs.declared.counted_run.Options.{Options}
 use Rattle.mx_count.specs.declared.counted_run.Course.TheVariants.{Given, Drawn}
 
 -- how many events, sections and parcels there are, as `count` and as `explore` has them
-abbrev pub first_text : Course → ℕ → ℕ → ℕ → Text
-first_text Given events sections parcels = head_text events sections parcels
-first_text Drawn events sections parcels = explored_line events sections parcels
+abbrev pub head_text : Bool → ℕ → ℕ → ℕ → Text
+head_text is_json events sections parcels =
+    first_tally_text is_json (codes "events") events
+    ++ tally_text is_json [] (codes "sections") sections
+    ++ tally_text is_json [] (codes "parcels") parcels
 
--- the counts of a cluster after this many events, and the verdict, which is sound
-abbrev pub counts_text : {S M : Type 0} → (M → Text) → List Text → Course → ℕ → ClusterState S M
+abbrev pub explored_json : ℕ → ℕ → ℕ → Text
+explored_json steps entered sent =
+    number_start (codes "explored") steps ++ number_member (codes "entered") entered
+    ++ number_member (codes "sent") sent
+
+abbrev pub explored_head : Bool → ℕ → ℕ → ℕ → Text
+explored_head is_json steps entered sent =
+    if is_json then explored_json steps entered sent else explored_line steps entered sent
+
+abbrev pub first_text : Course → Bool → ℕ → ℕ → ℕ → Text
+first_text Given is_json events sections parcels = head_text is_json events sections parcels
+first_text Drawn is_json events sections parcels = explored_head is_json events sections parcels
+
+-- the counts after the first ones, and those of the nodes, unless the counts are brief
+abbrev pub details_text : {S M : Type 0} → (M → Text) → List Text → Options → ClusterState S M → ℕ
     → Text
-counts_text kind_text words course events g =
+details_text kind_text words options g sections =
+    if options.is_brief then [] else tallies_text kind_text words options.is_json g sections
+
+abbrev pub all_nodes_text : {S M : Type 0} → Options → Fields → ClusterState S M → Text
+all_nodes_text options p g = if options.is_brief then [] else nodes_text options.is_json p g
+
+-- the counts of a cluster after this many events; if they are brief, its first counts alone
+abbrev pub cluster_text : {S M : Type 0} → (M → Text) → List Text → Options → ℕ → ClusterState S M
+    → Text
+cluster_text kind_text words options events g =
     let sections = count_by is_entry g.trace in
-    first_text course events sections (length g.sent) ++ tallies_text kind_text words g sections
-    ++ verdict_line Sound
+    first_text options.course options.is_json events sections (length g.sent)
+    ++ details_text kind_text words options g sections ++ counts_end options.is_json
+
+-- the counts of a cluster, those of its nodes, unless they are brief, and the verdict, which is
+-- sound
+abbrev pub counts_text : {S M : Type 0} → (M → Text) → List Text → Options → Fields → ℕ
+    → ClusterState S M → Text
+counts_text kind_text words options p events g =
+    cluster_text kind_text words options events g ++ all_nodes_text options p g
+    ++ verdict_text options.is_json Sound
 
 -- events lead from one cluster to another: those that were given all happen, and of those that were
 -- drawn the ones that can
@@ -42,20 +78,20 @@ Leads Given core g es new = RunsTo core g es new
 Leads Drawn core g es new = after_drawn core g es ≡ new
 
 -- the counts of a cluster to which these events lead were appended to a text
-abbrev pub AddsCounts : {H S M : Type 0} → Core H S M → (M → Text) → List Text → Course → List Event
-    → ClusterState S M → Text → Text → Type 0
-AddsCounts {H} {S} {M} core kind_text words course es start old new =
-    (g : ClusterState S M) × Leads course core start es g
-    × (new ≡ old ++ counts_text kind_text words course (length es) g)
+abbrev pub AddsCounts : {H S M : Type 0} → Core H S M → (M → Text) → List Text → Options → Fields
+    → List Event → ClusterState S M → Text → Text → Type 0
+AddsCounts {H} {S} {M} core kind_text words options p es start old new =
+    (g : ClusterState S M) × Leads options.course core start es g
+    × (new ≡ old ++ counts_text kind_text words options p (length es) g)
 
 -- the same of events that lead from the cluster of a plan, at rest, by its algorithm
-abbrev pub AddsCountsBy : Course → Fields → List Event → Text → Text → Shape → Type 0
-AddsCountsBy course p es old new (Ricart count) =
-    AddsCounts ricart_core (word_by ricart_parts) ricart_words course es
+abbrev pub AddsCountsBy : Options → Fields → List Event → Text → Text → Shape → Type 0
+AddsCountsBy options p es old new (Ricart count) =
+    AddsCounts ricart_core (word_by ricart_parts) ricart_words options p es
     (at_rest ricart_core p count) old new
-AddsCountsBy course p es old new (Maekawa family) =
-    AddsCounts maekawa_core (word_by maekawa_parts) maekawa_words course es
+AddsCountsBy options p es old new (Maekawa family) =
+    AddsCounts maekawa_core (word_by maekawa_parts) maekawa_words options p es
     (at_rest maekawa_core p family) old new
-AddsCountsBy course p es old new (Raymond tree) =
-    AddsCounts raymond_core (word_by raymond_parts) raymond_words course es
+AddsCountsBy options p es old new (Raymond tree) =
+    AddsCounts raymond_core (word_by raymond_parts) raymond_words options p es
     (at_rest raymond_core p tree) old new

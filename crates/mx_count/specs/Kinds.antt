@@ -1,5 +1,5 @@
 -- The names under which parcels and refusals are counted.
-use Rattle.std.specs.Prelude.{ℕ, ◌||◌, Bool, false, List, [], ◌∷◌, ◌++◌, codes, nat_eq, if◌then◌else◌}
+use Rattle.std.specs.Prelude.{ℕ, ◌||◌, Bool, false, List, [], ◌∷◌, codes, nat_eq, if◌then◌else◌}
 use Rattle.std.specs.Str.{bytes_eq}
 use Rattle.mx_member.specs.declared.parcel.Parcel.{Parcel}
 use Rattle.mx_member.specs.declared.parcel.Parcel.TheVariants as parcel
@@ -7,6 +7,8 @@ use Rattle.mx_trace.specs.Causes.{cause_words}
 use Rattle.mx_trace.specs.declared.outcome.Outcome.{Outcome}
 use Rattle.mx_trace.specs.declared.outcome.Outcome.TheVariants.{Refused}
 use Rattle.mx_plan.specs.Text.{Text}
+use Rattle.mx_count.specs.declared.kinds.Group.{Group}
+use Rattle.mx_count.specs.declared.kinds.Group.TheVariants.{Named, SentBy}
 
 -- a letter counts under `letters` and under its kind, unless a node sent it to itself; a parcel of
 -- gossip counts under `gossip` and under its kind
@@ -31,21 +33,29 @@ is_refused_under name (Refused cause) =
     bytes_eq name (codes "refused") || bytes_eq name (cause_words cause)
 is_refused_under name _ = false
 
--- the names under which parcels are counted, in the order of their lines: all letters, the words of
--- the algorithm's letters, and the others
+-- the names of the parts of all parcels, in the order of their lines; the parts of the letters are
+-- the words of the algorithm's letters
 abbrev pub letter_names : List Text
 letter_names = codes "letters" ∷ []
 
 abbrev pub other_names : List Text
-other_names =
-    codes "own" ∷ codes "gossip" ∷ codes "want" ∷ codes "base" ∷ codes "records" ∷ []
+other_names = codes "own" ∷ codes "gossip" ∷ []
 
-abbrev pub names_with : List Text → List Text
-names_with words = letter_names ++ words ++ other_names
+-- the names of the parts of gossip
+abbrev pub gossip_names : List Text
+gossip_names = codes "want" ∷ codes "base" ∷ codes "records" ∷ []
 
--- those under which refusals are counted
-abbrev pub refusal_names : List Text
-refusal_names =
-    codes "refused" ∷ codes "not idle" ∷ codes "stamps spent" ∷ codes "not waiting"
-    ∷ codes "not granted" ∷ codes "numbers spent"
-    ∷ codes "not inside" ∷ codes "no register" ∷ codes "gap" ∷ codes "full" ∷ codes "below" ∷ []
+-- the name of all refusals, and those of its parts
+abbrev pub refused_names : List Text
+refused_names = codes "refused" ∷ []
+
+abbrev pub cause_names : List Text
+cause_names =
+    codes "not idle" ∷ codes "stamps spent" ∷ codes "not waiting" ∷ codes "not granted"
+    ∷ codes "numbers spent" ∷ codes "not inside" ∷ codes "no register" ∷ codes "gap"
+    ∷ codes "full" ∷ codes "below" ∷ []
+
+-- parcels that are counted together: those under a name, or those that a node sent
+abbrev pub is_in : {M : Type 0} → (M → Text) → Group → ℕ × ℕ × Parcel M → Bool
+is_in kind_text (Named name) = is_under kind_text name.now
+is_in kind_text (SentBy node) = λ x. nat_eq x.0 node

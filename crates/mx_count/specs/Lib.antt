@@ -1,8 +1,13 @@
--- Kinds: under which names parcels and refusals are counted. Counts: the counts, and their lines.
--- Counted: what is counted of the events of a run. Listed: what is printed of events that a text
--- lists, or that were drawn. CountWords: what the words ask to count. Printed: what is printed of a
--- plan and its events.
+-- Kinds: under which names parcels and refusals are counted. Tallies: the texts of counts. Waits:
+-- how long nodes waited. NodeCounts: the counts of each node. Measures: response times and
+-- synchronization delays. Counts: the counts of a cluster. Counted: what is counted of the events
+-- of a run. Listed: what is printed of events that a text lists, or that were drawn. CountWords:
+-- what the words ask to count. Printed: what is printed of a plan and its events.
 pub mod Kinds
+pub mod Tallies
+pub mod Waits
+pub mod NodeCounts
+pub mod Measures
 pub mod Counts
 pub mod Counted
 pub mod Listed

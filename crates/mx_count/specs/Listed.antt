@@ -1,5 +1,5 @@
 -- What is printed of a plan and of events that a text lists, or that were drawn.
-use Rattle.std.specs.Prelude.{◌≡◌, List, [], Option, Some, None, Ok, IfSome}
+use Rattle.std.specs.Prelude.{◌≡◌, Bool, false, List, [], Option, Some, None, Ok, IfSome}
 use Rattle.std.specs.Io.KnownBytes.{Appends}
 use Rattle.mx_events.specs.declared.event.Event.{Event}
 use Rattle.mx_plan.specs.Text.{Text}
@@ -9,13 +9,19 @@ use Rattle.mx_io.specs.Outputs.{Held}
 use Rattle.mx_io.specs.Told.{Telling}
 use Rattle.mx_count.specs.Counted.{AddsCountsBy}
 use Rattle.mx_count.specs.declared.counted_run.Course.{Course}
+use Rattle.mx_count.specs.declared.counted_run.Options.{Options}
 use Rattle.mx_count.specs.declared.counted_run.Course.TheVariants.{Given}
+
+-- where the events come from, and whether their counts are printed as JSON, and only the first
+abbrev pub options_of : Course → Bool → Bool → Options
+options_of course is_json is_brief =
+    record { course = course; is_json = is_json; is_brief = is_brief }
 
 -- the counts of a cluster to which the events lead were printed, by the plan's algorithm, and
 -- nothing else
-abbrev pub PrintsCountsOf : Course → Fields → List Event → Held → Held → Type 0
-PrintsCountsOf course p es old new =
-    (text : Text) × AddsCountsBy course p es [] text p.shape × Appends old new text
+abbrev pub PrintsCountsOf : Options → Fields → List Event → Held → Held → Type 0
+PrintsCountsOf options p es old new =
+    (text : Text) × AddsCountsBy options p es [] text p.shape × Appends old new text
 
 -- these events of the plan were read
 abbrev pub Lists : Fields → Telling → List Event → Type 0
@@ -27,6 +33,7 @@ abbrev pub AreEventsOf : Option Telling → Fields → List Event → Type 0
 AreEventsOf told p es = IfSome told (λ telling. Lists p telling es)
 
 -- the counts of the events that a text lists were printed
-abbrev pub PrintsListed : Fields → Text → Held → Held → Type 0
-PrintsListed p bytes old new =
-    (es : List Event) × (events_at p bytes ≡ Ok es) × PrintsCountsOf Given p es old new
+abbrev pub PrintsListed : Bool → Fields → Text → Held → Held → Type 0
+PrintsListed is_json p bytes old new =
+    (es : List Event) × (events_at p bytes ≡ Ok es)
+    × PrintsCountsOf (options_of Given is_json false) p es old new

@@ -1,5 +1,5 @@
 -- What is printed of the plan and the events that the words ask to count.
-use Rattle.std.specs.Prelude.{◌≡◌, List, Option}
+use Rattle.std.specs.Prelude.{◌≡◌, false, List, Option}
 use Rattle.mx_events.specs.declared.event.Event.{Event}
 use Rattle.mx_plan.specs.Text.{Text}
 use Rattle.mx_plan.specs.Fields.{Fields}
@@ -7,24 +7,25 @@ use Rattle.mx_commands.specs.Explored.{schedule_of}
 use Rattle.mx_cli.specs.Reading.{IsPlanOf, plan_told, text_told}
 use Rattle.mx_io.specs.Outputs.{Held}
 use Rattle.mx_io.specs.Told.{Telling}
-use Rattle.mx_count.specs.Listed.{AreEventsOf, PrintsCountsOf}
-use Rattle.mx_count.specs.declared.counted_run.Course.{Course}
+use Rattle.mx_count.specs.Listed.{AreEventsOf, PrintsCountsOf, options_of}
+use Rattle.mx_count.specs.declared.counted_run.Options.{Options}
 use Rattle.mx_count.specs.declared.counted_run.Course.TheVariants.{Given, Drawn}
 use Rattle.mx_count.specs.CountWords.{Request, given, drawn}
 
 -- the plan and the events that the words ask for: those that the source tells of, or the schedule
 -- of the seed
 abbrev pub IsRunOf : (Text → Option Telling) → Request → Fields → List Event → Type 0
-IsRunOf told (given names) p es =
+IsRunOf told (given names is_json) p es =
     IsPlanOf (plan_told told names) p × AreEventsOf (text_told told names) p es
-IsRunOf told (drawn name seed steps) p es = IsPlanOf (told name) p × (es ≡ schedule_of p seed steps)
+IsRunOf told (drawn name seed steps is_json is_brief) p es =
+    IsPlanOf (told name) p × (es ≡ schedule_of p seed steps)
 
-abbrev pub course_of : Request → Course
-course_of (given names) = Given
-course_of (drawn name seed steps) = Drawn
+abbrev pub options_in : Request → Options
+options_in (given names is_json) = options_of Given is_json false
+options_in (drawn name seed steps is_json is_brief) = options_of Drawn is_json is_brief
 
 -- the plan and the events were read, or drawn, and their counts were printed
 abbrev pub PrintsCounts : (Text → Option Telling) → Request → Held → Held → Type 0
 PrintsCounts told request old new =
     (p : Fields) × (es : List Event) × IsRunOf told request p es
-    × PrintsCountsOf (course_of request) p es old new
+    × PrintsCountsOf (options_in request) p es old new

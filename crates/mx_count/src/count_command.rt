@@ -8,16 +8,17 @@ ghost use Rattle.mx_count.specs.CountWords.{request_asked, request_of, count_lin
 ghost use Rattle.mx_count.specs.CountWords as wants;
 ghost use Rattle.mx_count.specs.Printed.{PrintsCounts};
 
+use crate::counted_run::{Course, Options};
 use crate::printed_counts::{count_listed, count_schedule};
 use crate::words::{Request, parse};
 use mx_cli::{Exploration, Named, Names, Stop, close, fetch_named, fetch_plan, naming, refuse};
 use mx_io::{Output, Source};
 use std::alloc::Global;
 
-/// Runs the words of a command line of which the first is `count`, or `explore` with `--count`,
-/// without the program's name, and returns the status: 0 where all went well, or help was asked
-/// for, 1 where the plan, its events, a file or an output is at fault, 2 where the words are not
-/// those of the command, 5 where memory ran out.
+/// Runs the words of a command line of which the first is `count`, or `explore` with `--count` or
+/// `--json`, without the program's name, and returns the status: 0 where all went well, or help was
+/// asked for, 1 where the plan, its events, a file or an output is at fault, 2 where the words are
+/// not those of the command, 5 where memory ran out.
 pub fn count<S: Source, O: Output, E: Output>(
     alloc: Global,
     words: &[&str],
@@ -71,8 +72,12 @@ fn count_request<S: Source, O: Output>(
     ensures zero { IfOk result (λ status. status ≡ 0) }
 {
     match request {
-        Request::Given(names) => count_given(alloc, names, source, out),
-        Request::Drawn(exploration) => count_drawn(alloc, exploration, source, out),
+        Request::Given { names, is_json } => count_given(alloc, names, *is_json, source, out),
+        Request::Drawn {
+            exploration,
+            is_json,
+            is_brief,
+        } => count_drawn(alloc, exploration, *is_json, *is_brief, source, out),
     }
 }
 
@@ -80,16 +85,17 @@ fn count_request<S: Source, O: Output>(
 fn count_given<S: Source, O: Output>(
     alloc: Global,
     names: &Names<'_>,
+    is_json: bool,
     source: &mut S,
     out: &mut O,
 ) -> Result<u8, Stop>
     ensures printed { IfOk result (λ _.
-        PrintsCounts (S.told source.old) (wants.given (names_of names.now))
+        PrintsCounts (S.told source.old) (wants.given (names_of names.now) is_json)
         (O.written out.old) (O.written out.new)) }
     ensures zero { IfOk result (λ status. status ≡ 0) }
 {
     let both = fetch_named(alloc, source, names)?;
-    let ended = count_listed(alloc, &both.plan, both.text.as_slice(), out);
+    let ended = count_listed(alloc, &both.plan, both.text.as_slice(), is_json, out);
     naming(ended, Named::Events)
 }
 
@@ -97,14 +103,21 @@ fn count_given<S: Source, O: Output>(
 fn count_drawn<S: Source, O: Output>(
     alloc: Global,
     exploration: &Exploration<'_>,
+    is_json: bool,
+    is_brief: bool,
     source: &mut S,
     out: &mut O,
 ) -> Result<u8, Stop>
     ensures printed { IfOk result (λ _. PrintsCounts (S.told source.old)
-        (wants.drawn exploration.now.plan.now exploration.now.seed exploration.now.steps)
-        (O.written out.old) (O.written out.new)) }
+        (wants.drawn exploration.now.plan.now exploration.now.seed exploration.now.steps is_json
+        is_brief) (O.written out.old) (O.written out.new)) }
     ensures zero { IfOk result (λ status. status ≡ 0) }
 {
     let plan = fetch_plan(alloc, source, exploration.plan)?;
-    count_schedule(alloc, &plan, exploration.seed, exploration.steps, out)
+    let options = Options {
+        course: Course::Drawn,
+        is_json,
+        is_brief,
+    };
+    count_schedule(alloc, &plan, exploration, options, out)
 }

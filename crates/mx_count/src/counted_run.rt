@@ -3,17 +3,21 @@
 ghost use Rattle.std.specs.Prelude.{◌≡◌, ◌++◌, IfOk, OnOk, string_bytes};
 ghost use Rattle.mx_network.specs.Step.{RunsTo};
 ghost use Rattle.mx_format.specs.Parts.{word_by};
-ghost use Rattle.mx_count.specs.Counts.{head_text, share_text, tallies_text};
-ghost use Rattle.mx_count.specs.Counted.{AddsCounts, AddsCountsBy, Leads, counts_text, first_text};
+ghost use Rattle.mx_count.specs.Counts.{tallies_text, times_text};
+ghost use Rattle.mx_count.specs.Counted.{AddsCounts, AddsCountsBy, Leads, all_nodes_text, cluster_text, counts_text, details_text, explored_head, explored_json, first_text, head_text};
 
-use crate::count_lines::{ShareLine, TallyLine};
-use crate::kinds::refusal_names;
+use crate::kinds::Group;
+use crate::measures::Measure;
+use crate::node_counts::add_node_counts;
 use crate::parcel_counts::{add_parcel_counts, count_parcels};
 use crate::refusal_counts::add_refusal_counts;
+use crate::spread::add_measure;
+use crate::tallies::{add_counts_end, add_first_tally, add_share, add_tally};
 use crate::waits::longest_wait;
 use mx_cli::{Fault, Stop};
-use mx_commands::{VerdictLine, by_shape, entries_in, happen, verdict_status};
+use mx_commands::{add_verdict, by_shape, entries_in, happen, verdict_status};
 use mx_explorer::judge;
+use mx_format::json::{NumberStart, add_number};
 use mx_format::{ExploredLine, Letter};
 use mx_network::{Cluster, Event, RunFault, StepFault};
 use mx_nodelaws::Exclusion;
@@ -29,41 +33,53 @@ pub enum Course {
     Drawn,
 }
 
+/// How counts are printed, and where their events come from.
+#[derive(Clone, Copy)]
+pub struct Options {
+    pub course: Course,
+    /// Whether as JSON.
+    pub is_json: bool,
+    /// Whether without what `explore` prints with `--count` alone.
+    pub is_brief: bool,
+}
+
 /// The events happen, by the plan's algorithm; then what is counted of them, and the verdict.
 /// Returns the status.
 pub(crate) fn add_counts_of(
     alloc: Global,
     plan: &Plan,
     events: &[Event],
-    course: Course,
+    options: Options,
     text: &mut String,
 ) -> Result<u8, Stop>
-    ensures text { OnOk result (AddsCountsBy course plan.now events.now
+    ensures text { OnOk result (AddsCountsBy options plan.now events.now
         (string_bytes text.old) (string_bytes text.new) plan.now.shape) }
     ensures zero { IfOk result (λ status. status ≡ 0) }
 {
     by_shape!(
         alloc,
         plan,
-        |cluster| add_counts_after(cluster, events, course, text)
+        |cluster| add_counts_after(alloc, plan, cluster, events, options, text)
     )
 }
 
 /// The events happen; then what is counted of them, and the verdict. Returns the status.
 fn add_counts_after<C: Exclusion>(
+    alloc: Global,
+    plan: &Plan,
     mut cluster: Cluster<C>,
     events: &[Event],
-    course: Course,
+    options: Options,
     text: &mut String,
 ) -> Result<u8, Stop>
 where
     C::Msg: Letter,
-    ensures text { OnOk result (AddsCounts C.core (word_by C.Msg.parts) C.Msg.words course
-        events.now cluster (string_bytes text.old) (string_bytes text.new)) }
+    ensures text { OnOk result (AddsCounts C.core (word_by C.Msg.parts) C.Msg.words options
+        plan.now events.now cluster (string_bytes text.old) (string_bytes text.new)) }
     ensures zero { IfOk result (λ status. status ≡ 0) }
 {
-    apply_events(&mut cluster, events, course)?;
-    add_counts(&cluster, events.len() as u64, course, text)
+    apply_events(&mut cluster, events, options.course)?;
+    add_counts(alloc, plan, &cluster, events.len() as u64, options, text)
 }
 
 /// Each event in turn.
@@ -99,101 +115,186 @@ fn stop_at(stopped: RunFault) -> Stop {
     }
 }
 
-/// Appends the counts and the verdict.
+/// Appends the counts of a cluster and of its nodes, and the verdict. Returns the status.
 fn add_counts<C: Exclusion>(
+    alloc: Global,
+    plan: &Plan,
     cluster: &Cluster<C>,
     steps: u64,
-    course: Course,
+    options: Options,
     text: &mut String,
 ) -> Result<u8, Stop>
 where
     C::Msg: Letter,
     ensures text { OnOk result (string_bytes text.new ≡ string_bytes text.old
-        ++ counts_text (word_by C.Msg.parts) C.Msg.words course steps cluster.now) }
+        ++ counts_text (word_by C.Msg.parts) C.Msg.words options plan.now steps cluster.now) }
     ensures zero { IfOk result (λ status. status ≡ 0) }
 {
-    let trace = cluster.trace();
-    let entered = entries_in(trace);
-    add_first(course, steps, entered, cluster.sent(), text)?;
-    add_tallies(cluster, entered, text)?;
-    let verdict = judge(trace);
-    text.write(VerdictLine(verdict))?;
+    add_cluster(alloc, cluster, steps, options, text)?;
+    add_nodes(plan, cluster, options, text)?;
+    let verdict = judge(cluster.trace());
+    add_verdict(options.is_json, verdict, text)?;
     Ok(verdict_status(verdict))
+}
+
+/// Appends the counts of a cluster.
+fn add_cluster<C: Exclusion>(
+    alloc: Global,
+    cluster: &Cluster<C>,
+    steps: u64,
+    options: Options,
+    text: &mut String,
+) -> Result<(), AllocError>
+where
+    C::Msg: Letter,
+    ensures { OnOk result (string_bytes text.new ≡ string_bytes text.old
+        ++ cluster_text (word_by C.Msg.parts) C.Msg.words options steps cluster.now) }
+{
+    let entered = entries_in(cluster.trace());
+    add_first(options, steps, entered, cluster.sent(), text)?;
+    add_details(alloc, cluster, options, entered, text)?;
+    add_counts_end(options.is_json, text)
 }
 
 /// Appends how many events, sections and parcels there are, as the commands of these events do.
 fn add_first(
-    course: Course,
+    options: Options,
+    events: u64,
+    sections: u64,
+    parcels: u64,
+    text: &mut String,
+) -> Result<(), AllocError>
+    ensures { OnOk result (string_bytes text.new ≡ string_bytes text.old
+        ++ first_text options.course options.is_json events sections parcels) }
+{
+    match options.course {
+        Course::Given => add_head(options.is_json, events, sections, parcels, text),
+        Course::Drawn => add_explored(options.is_json, events, sections, parcels, text),
+    }
+}
+
+/// Appends how many events, sections and parcels there are.
+fn add_head(
+    is_json: bool,
     events: u64,
     sections: u64,
     parcels: u64,
     text: &mut String,
 ) -> Result<(), AllocError>
     ensures { OnOk result (string_bytes text.new
-        ≡ string_bytes text.old ++ first_text course events sections parcels) }
+        ≡ string_bytes text.old ++ head_text is_json events sections parcels) }
 {
-    match course {
-        Course::Given => add_head(events, sections, parcels, text),
-        Course::Drawn => text.write(ExploredLine {
-            steps: events,
-            entered: sections,
-            sent: parcels,
-        }),
-    }
+    add_first_tally(is_json, "events", events, text)?;
+    add_tally(is_json, "", "sections", sections, text)?;
+    add_tally(is_json, "", "parcels", parcels, text)
 }
 
-/// Appends how many events, sections and parcels there are.
-fn add_head(events: u64, sections: u64, parcels: u64, text: &mut String) -> Result<(), AllocError>
+/// Appends how many steps, sections and parcels an exploration has.
+fn add_explored(
+    is_json: bool,
+    steps: u64,
+    entered: u64,
+    sent: u64,
+    text: &mut String,
+) -> Result<(), AllocError>
     ensures { OnOk result (string_bytes text.new
-        ≡ string_bytes text.old ++ head_text events sections parcels) }
+        ≡ string_bytes text.old ++ explored_head is_json steps entered sent) }
 {
-    text.write(TallyLine {
-        name: "events",
-        count: events,
-    })?;
-    text.write(TallyLine {
-        name: "sections",
-        count: sections,
-    })?;
-    text.write(TallyLine {
-        name: "parcels",
-        count: parcels,
+    if is_json {
+        return add_explored_members(steps, entered, sent, text);
+    }
+    text.write(ExploredLine {
+        steps,
+        entered,
+        sent,
     })
 }
 
-/// Appends what is counted of the parcels, of the refusals and of the waits.
-fn add_tallies<C: Exclusion>(
+/// Begins an object with how many steps, sections and parcels an exploration has.
+fn add_explored_members(
+    steps: u64,
+    entered: u64,
+    sent: u64,
+    text: &mut String,
+) -> Result<(), AllocError>
+    ensures { OnOk result (string_bytes text.new
+        ≡ string_bytes text.old ++ explored_json steps entered sent) }
+{
+    text.write(NumberStart("explored", steps))?;
+    add_number("entered", entered, text)?;
+    add_number("sent", sent, text)
+}
+
+/// Appends the other counts of a cluster, unless they are brief.
+fn add_details<C: Exclusion>(
+    alloc: Global,
     cluster: &Cluster<C>,
+    options: Options,
     entered: u64,
     text: &mut String,
 ) -> Result<(), AllocError>
 where
     C::Msg: Letter,
-    ensures { OnOk result (string_bytes text.new
-        ≡ string_bytes text.old
-        ++ tallies_text (word_by C.Msg.parts) C.Msg.words cluster.now entered) }
+    ensures { OnOk result (string_bytes text.new ≡ string_bytes text.old
+        ++ details_text (word_by C.Msg.parts) C.Msg.words options cluster.now entered) }
 {
-    let trace = cluster.trace();
-    add_parcel_counts(cluster, text)?;
-    add_share(count_parcels(cluster, "letters"), entered, text)?;
-    add_refusal_counts(trace, refusal_names(), text)?;
-    text.write(TallyLine {
-        name: "longest wait",
-        count: longest_wait(trace),
-    })?;
-    Ok(())
+    if options.is_brief {
+        return Ok(());
+    }
+    add_tallies(alloc, cluster, options.is_json, entered, text)
 }
 
-/// Appends how many letters there are for each section entered.
-fn add_share(letters: u64, sections: u64, text: &mut String) -> Result<(), AllocError>
-    ensures { OnOk result (string_bytes text.new
-        ≡ string_bytes text.old ++ share_text letters sections) }
+/// Appends what is counted of the parcels and of the refusals, and how long requests took.
+fn add_tallies<C: Exclusion>(
+    alloc: Global,
+    cluster: &Cluster<C>,
+    is_json: bool,
+    entered: u64,
+    text: &mut String,
+) -> Result<(), AllocError>
+where
+    C::Msg: Letter,
+    ensures { OnOk result (string_bytes text.new ≡ string_bytes text.old
+        ++ tallies_text (word_by C.Msg.parts) C.Msg.words is_json cluster.now entered) }
 {
-    if sections == 0 {
-        return text.push_str("letters for each section none\n");
+    let trace = cluster.trace();
+    let letters = count_parcels(cluster, &Group::Named("letters"));
+    add_parcel_counts(cluster, is_json, text)?;
+    add_share(is_json, letters, entered, text)?;
+    add_refusal_counts(trace, is_json, text)?;
+    add_times(alloc, cluster, is_json, text)
+}
+
+/// Appends the longest wait, the response time and the synchronization delay.
+fn add_times<C: Exclusion>(
+    alloc: Global,
+    cluster: &Cluster<C>,
+    is_json: bool,
+    text: &mut String,
+) -> Result<(), AllocError>
+    ensures { OnOk result (string_bytes text.new ≡ string_bytes text.old
+        ++ times_text is_json cluster.now.sent cluster.now.trace) }
+{
+    let wait = longest_wait(cluster.trace());
+    add_tally(is_json, "", "longest wait", wait, text)?;
+    add_measure(alloc, cluster, is_json, Measure::Response, text)?;
+    add_measure(alloc, cluster, is_json, Measure::Delay, text)
+}
+
+/// Appends the counts of the nodes, unless the counts are brief.
+fn add_nodes<C: Exclusion>(
+    plan: &Plan,
+    cluster: &Cluster<C>,
+    options: Options,
+    text: &mut String,
+) -> Result<(), AllocError>
+where
+    C::Msg: Letter,
+    ensures { OnOk result (string_bytes text.new ≡ string_bytes text.old
+        ++ all_nodes_text options plan.now cluster.now) }
+{
+    if options.is_brief {
+        return Ok(());
     }
-    text.write(ShareLine {
-        whole: letters / sections,
-        tenths: u128::from(letters % sections) * 10 / u128::from(sections),
-    })
+    add_node_counts(plan, cluster, options.is_json, text)
 }

@@ -3,32 +3,55 @@
 ghost use Rattle.std.specs.Prelude.{◌≡◌, ◌||◌, map};
 ghost use Rattle.std.specs.Str.{bytes_eq};
 ghost use Rattle.mx_format.specs.Parts.{word_by};
-ghost use Rattle.mx_count.specs.Kinds.{is_refused_under, is_under, letter_names, other_names, refusal_names};
+ghost use Rattle.mx_count.specs.Kinds.{cause_names, gossip_names, is_in, is_refused_under, is_under, letter_names, other_names, refused_names};
 
 use mx_format::Letter;
 use mx_member::{Parcel, SentParcel};
 use mx_network::Outcome;
+use mx_stamps::NodeId;
 
-/// The name of all letters that went from one node to another, in whose first line their count is.
+/// Parcels that are counted together.
+#[derive(Clone, Copy)]
+pub(crate) enum Group<'a> {
+    /// Those that are counted under a name.
+    Named(&'a str),
+    /// Those that a node sent.
+    SentBy(NodeId),
+}
+
+/// The name of all letters from one node to another.
 pub(crate) fn letter_names() -> &'static [&'static str]
     ensures { map (λ name. name.now) result.now ≡ letter_names }
 {
     &["letters"]
 }
 
-/// The names under which parcels are counted that are none of these.
+/// The names of the other parcels.
 pub(crate) fn other_names() -> &'static [&'static str]
     ensures { map (λ name. name.now) result.now ≡ other_names }
 {
-    &["own", "gossip", "want", "base", "records"]
+    &["own", "gossip"]
 }
 
-/// The names under which refusals are counted.
-pub(crate) fn refusal_names() -> &'static [&'static str]
-    ensures { map (λ name. name.now) result.now ≡ refusal_names }
+/// The names of the kinds of gossip.
+pub(crate) fn gossip_names() -> &'static [&'static str]
+    ensures { map (λ name. name.now) result.now ≡ gossip_names }
+{
+    &["want", "base", "records"]
+}
+
+/// The name of all refusals.
+pub(crate) fn refused_names() -> &'static [&'static str]
+    ensures { map (λ name. name.now) result.now ≡ refused_names }
+{
+    &["refused"]
+}
+
+/// The names of the causes of refusals.
+pub(crate) fn cause_names() -> &'static [&'static str]
+    ensures { map (λ name. name.now) result.now ≡ cause_names }
 {
     &[
-        "refused",
         "not idle",
         "stamps spent",
         "not waiting",
@@ -42,9 +65,20 @@ pub(crate) fn refusal_names() -> &'static [&'static str]
     ]
 }
 
+/// Whether a parcel is one of a group.
+pub(crate) fn is_in<M: Letter>(group: &Group<'_>, sent: &SentParcel<'_, M>) -> bool
+    ensures { result ≡ is_in (word_by M.parts) group.now
+        (sent.now.from, sent.now.to, sent.now.parcel.now) }
+{
+    match group {
+        Group::Named(name) => is_under(*name, sent),
+        Group::SentBy(node) => sent.from.get() == node.get(),
+    }
+}
+
 /// Whether a parcel is counted under a name. A letter that a node sends to itself is one of its
 /// own, and counts under that alone.
-pub(crate) fn is_under<M: Letter>(name: &str, sent: &SentParcel<'_, M>) -> bool
+fn is_under<M: Letter>(name: &str, sent: &SentParcel<'_, M>) -> bool
     ensures { result ≡ is_under (word_by M.parts) name.now
         (sent.now.from, sent.now.to, sent.now.parcel.now) }
 {

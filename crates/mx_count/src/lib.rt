@@ -6,11 +6,15 @@ mod count_command;
 mod count_lines;
 mod counted_run;
 mod kinds;
+mod measures;
+mod node_counts;
 mod parcel_counts;
 mod printed_counts;
 mod refusal_counts;
+mod spread;
+mod tallies;
 mod waits;
 mod words;
 
 pub use count_command::count;
-pub use counted_run::Course;
+pub use counted_run::{Course, Options};

@@ -3,35 +3,39 @@
 ghost use Rattle.std.specs.Prelude.{◌≡◌, ◌+◌, ◌<◌, ◌++◌, OnOk, drop, length, string_bytes, map};
 ghost use Rattle.std.specs.List.{count_by};
 ghost use Rattle.mx_format.specs.Parts.{word_by};
-ghost use Rattle.mx_count.specs.Counts.{parcels_text};
-ghost use Rattle.mx_count.specs.Kinds.{is_under, names_with};
+ghost use Rattle.mx_count.specs.Counts.{all_parcels_text, parcels_text};
+ghost use Rattle.mx_count.specs.Kinds.{is_in};
 
-use crate::count_lines::TallyLine;
-use crate::kinds::{is_under, letter_names, other_names};
+use crate::kinds::{Group, gossip_names, is_in, letter_names, other_names};
+use crate::tallies::{KIND_INDENT, PART_INDENT, add_tally};
 use mx_format::Letter;
 use mx_network::Cluster;
 use mx_nodelaws::Exclusion;
 use std::alloc::AllocError;
 
-/// Appends a line for each name under which parcels are counted.
+/// Appends the counts of all letters and of each kind of them, of the letters of nodes to
+/// themselves, and of gossip and each kind of it.
 pub(crate) fn add_parcel_counts<C: Exclusion>(
     cluster: &Cluster<C>,
+    is_json: bool,
     text: &mut String,
 ) -> Result<(), AllocError>
 where
     C::Msg: Letter,
-    ensures { OnOk result (string_bytes text.new
-        ≡ string_bytes text.old
-        ++ parcels_text (word_by C.Msg.parts) cluster.now.sent (names_with C.Msg.words)) }
+    ensures { OnOk result (string_bytes text.new ≡ string_bytes text.old
+        ++ all_parcels_text (word_by C.Msg.parts) C.Msg.words is_json cluster.now.sent) }
 {
-    add_counts_under(cluster, letter_names(), text)?;
-    add_counts_under(cluster, C::Msg::words(), text)?;
-    add_counts_under(cluster, other_names(), text)
+    add_counts_under(cluster, is_json, PART_INDENT, letter_names(), text)?;
+    add_counts_under(cluster, is_json, KIND_INDENT, C::Msg::words(), text)?;
+    add_counts_under(cluster, is_json, PART_INDENT, other_names(), text)?;
+    add_counts_under(cluster, is_json, KIND_INDENT, gossip_names(), text)
 }
 
-/// Appends a line for each of these names.
+/// Appends a count for each of these names.
 fn add_counts_under<C: Exclusion>(
     cluster: &Cluster<C>,
+    is_json: bool,
+    indent: &str,
     names: &[&str],
     text: &mut String,
 ) -> Result<(), AllocError>
@@ -39,42 +43,40 @@ where
     C::Msg: Letter,
     ensures { OnOk result (string_bytes text.new
         ≡ string_bytes text.old
-        ++ parcels_text (word_by C.Msg.parts) cluster.now.sent
+        ++ parcels_text (word_by C.Msg.parts) is_json indent.now cluster.now.sent
         (map (λ name. name.now) names.now)) }
 {
     for name in names {
-        text.write(TallyLine {
-            name: *name,
-            count: count_parcels(cluster, *name),
-        })?;
+        let count = count_parcels(cluster, &Group::Named(*name));
+        add_tally(is_json, indent, *name, count, text)?;
     }
     Ok(())
 }
 
-/// How many parcels count under a name.
-pub(crate) fn count_parcels<C: Exclusion>(cluster: &Cluster<C>, name: &str) -> u64
+/// Returns the number of parcels of a group.
+pub(crate) fn count_parcels<C: Exclusion>(cluster: &Cluster<C>, group: &Group<'_>) -> u64
 where
     C::Msg: Letter,
-    ensures { result ≡ count_by (is_under (word_by C.Msg.parts) name.now) cluster.now.sent }
+    ensures { result ≡ count_by (is_in (word_by C.Msg.parts) group.now) cluster.now.sent }
 {
     let mut count = 0;
     for number in 0..cluster.sent() {
-        count += count_parcel(cluster, number, name);
+        count += count_parcel(cluster, number, group);
     }
     count
 }
 
-/// One where the parcel of this number counts under a name, else nothing.
-fn count_parcel<C: Exclusion>(cluster: &Cluster<C>, number: u64, name: &str) -> u64
+/// Returns 1 if the parcel of this number is one of a group, else 0.
+fn count_parcel<C: Exclusion>(cluster: &Cluster<C>, number: u64, group: &Group<'_>) -> u64
 where
     C::Msg: Letter,
     requires { number < length cluster.now.sent }
-    ensures { result + count_by (is_under (word_by C.Msg.parts) name.now)
+    ensures { result + count_by (is_in (word_by C.Msg.parts) group.now)
         (drop (number + 1) cluster.now.sent)
-        ≡ count_by (is_under (word_by C.Msg.parts) name.now) (drop number cluster.now.sent) }
+        ≡ count_by (is_in (word_by C.Msg.parts) group.now) (drop number cluster.now.sent) }
 {
     match cluster.sent_parcel(number) {
-        Some(sent) => u64::from(is_under(name, &sent)),
+        Some(sent) => u64::from(is_in(group, &sent)),
         None => unreachable!(),
     }
 }

@@ -2,10 +2,10 @@
 
 ghost use Rattle.std.specs.Prelude.{◌≡◌, IfOk};
 ghost use Rattle.mx_commands.specs.Explored.{schedule_of};
-ghost use Rattle.mx_count.specs.Listed.{PrintsCountsOf, PrintsListed};
+ghost use Rattle.mx_count.specs.Listed.{PrintsCountsOf, PrintsListed, options_of};
 
-use crate::counted_run::{Course, add_counts_of};
-use mx_cli::Stop;
+use crate::counted_run::{Course, Options, add_counts_of};
+use mx_cli::{Exploration, Stop};
 use mx_commands::print;
 use mx_explorer::schedule;
 use mx_io::Output;
@@ -18,31 +18,37 @@ pub(crate) fn count_listed<O: Output>(
     alloc: Global,
     plan: &Plan,
     text: &[u8],
+    is_json: bool,
     out: &mut O,
 ) -> Result<u8, Stop>
-    ensures printed { IfOk result (λ _. PrintsListed plan.now text.now
+    ensures printed { IfOk result (λ _. PrintsListed is_json plan.now text.now
         (O.written out.old) (O.written out.new)) }
     ensures zero { IfOk result (λ status. status ≡ 0) }
 {
     let events = read_events(alloc, text, plan)?;
-    print_counts(alloc, plan, events.as_slice(), Course::Given, out)
+    let options = Options {
+        course: Course::Given,
+        is_json,
+        is_brief: false,
+    };
+    print_counts(alloc, plan, events.as_slice(), options, out)
 }
 
 /// Draws a schedule of this many steps, and prints what is counted of it.
 pub(crate) fn count_schedule<O: Output>(
     alloc: Global,
     plan: &Plan,
-    seed: u64,
-    steps: u64,
+    exploration: &Exploration<'_>,
+    options: Options,
     out: &mut O,
 ) -> Result<u8, Stop>
-    ensures printed { IfOk result (λ _.
-        PrintsCountsOf Course.Drawn plan.now (schedule_of plan.now seed steps)
+    ensures printed { IfOk result (λ _. PrintsCountsOf options plan.now
+        (schedule_of plan.now exploration.now.seed exploration.now.steps)
         (O.written out.old) (O.written out.new)) }
     ensures zero { IfOk result (λ status. status ≡ 0) }
 {
-    let events = schedule(alloc, seed, steps, plan)?;
-    print_counts(alloc, plan, events.as_slice(), Course::Drawn, out)
+    let events = schedule(alloc, exploration.seed, exploration.steps, plan)?;
+    print_counts(alloc, plan, events.as_slice(), options, out)
 }
 
 /// Prints what is counted of these events.
@@ -50,14 +56,14 @@ fn print_counts<O: Output>(
     alloc: Global,
     plan: &Plan,
     events: &[Event],
-    course: Course,
+    options: Options,
     out: &mut O,
 ) -> Result<u8, Stop>
-    ensures printed { IfOk result (λ _. PrintsCountsOf course plan.now events.now
+    ensures printed { IfOk result (λ _. PrintsCountsOf options plan.now events.now
         (O.written out.old) (O.written out.new)) }
     ensures zero { IfOk result (λ status. status ≡ 0) }
 {
     let mut text = String::new(alloc);
-    add_counts_of(alloc, plan, events, course, &mut text)?;
+    add_counts_of(alloc, plan, events, options, &mut text)?;
     print(text.as_bytes(), out)
 }

@@ -2,27 +2,39 @@
 
 ghost use Rattle.std.specs.Prelude.{◌≡◌, ◌++◌, OnOk, string_bytes, map};
 ghost use Rattle.std.specs.List.{count_by};
-ghost use Rattle.mx_count.specs.Counts.{is_entry_under, refusals_text};
+ghost use Rattle.mx_count.specs.Counts.{all_refusals_text, is_entry_under, refusals_text};
 
-use crate::count_lines::TallyLine;
-use crate::kinds::is_refused_under;
+use crate::kinds::{cause_names, is_refused_under, refused_names};
+use crate::tallies::{PART_INDENT, add_tally};
 use mx_network::Entry;
 use std::alloc::AllocError;
 
-/// Appends a line for each name.
+/// Appends the counts of all refusals and of those of each cause.
 pub(crate) fn add_refusal_counts(
     trace: &[Entry],
-    names: &[&str],
+    is_json: bool,
     text: &mut String,
 ) -> Result<(), AllocError>
     ensures { OnOk result (string_bytes text.new
-        ≡ string_bytes text.old ++ refusals_text trace.now (map (λ name. name.now) names.now)) }
+        ≡ string_bytes text.old ++ all_refusals_text is_json trace.now) }
+{
+    add_refusals_under(trace, is_json, "", refused_names(), text)?;
+    add_refusals_under(trace, is_json, PART_INDENT, cause_names(), text)
+}
+
+/// Appends a count for each of these names.
+fn add_refusals_under(
+    trace: &[Entry],
+    is_json: bool,
+    indent: &str,
+    names: &[&str],
+    text: &mut String,
+) -> Result<(), AllocError>
+    ensures { OnOk result (string_bytes text.new ≡ string_bytes text.old
+        ++ refusals_text is_json indent.now trace.now (map (λ name. name.now) names.now)) }
 {
     for name in names {
-        text.write(TallyLine {
-            name: *name,
-            count: count_refusals(trace, *name),
-        })?;
+        add_tally(is_json, indent, *name, count_refusals(trace, *name), text)?;
     }
     Ok(())
 }

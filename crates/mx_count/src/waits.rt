@@ -1,7 +1,7 @@
 //! How long nodes waited.
 
 ghost use Rattle.std.specs.Prelude.{◌≡◌, ◌<◌, ◌≤◌, IfSome, length, position};
-ghost use Rattle.mx_count.specs.Counts.{ends_wait, is_end, is_refusal, longest_wait, until_end, wait_from};
+ghost use Rattle.mx_count.specs.Waits.{ends_wait, is_end, is_refusal, longest_wait, until_end, wait_from};
 
 use mx_network::{Entry, Event, Outcome};
 use mx_stamps::NodeId;
@@ -40,7 +40,7 @@ fn until_end(node: NodeId, rest: &[Entry]) -> u64
 }
 
 /// The place of the event by which this node's wait ends.
-fn end_in(node: NodeId, rest: &[Entry]) -> Option<usize>
+pub(crate) fn end_in(node: NodeId, rest: &[Entry]) -> Option<usize>
     ensures value { result ≡ position (ends_wait node) rest.now }
     ensures within { IfSome result (λ index. index < length rest.now) }
 {
@@ -63,7 +63,7 @@ fn is_end(node: NodeId, event: &Event) -> bool
     }
 }
 
-fn is_refusal(outcome: &Outcome) -> bool
+pub(crate) fn is_refusal(outcome: &Outcome) -> bool
     ensures { result ≡ is_refusal outcome.now }
 {
     matches!(outcome, Outcome::Refused(_))

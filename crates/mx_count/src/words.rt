@@ -1,4 +1,4 @@
-//! The arguments of `count`, and those of `explore` with `--count`.
+//! The arguments of `count`, and those of `explore` with `--count` or `--json`.
 
 ghost use Rattle.std.specs.Prelude.{◌≡◌, option_map};
 ghost use Rattle.clap.specs.Words.{found_of, rows_of, subcommand_rows_of};
@@ -6,24 +6,32 @@ ghost use Rattle.mx_cli.specs.Words.{Asks, texts_of};
 ghost use Rattle.mx_count.specs.CountWords.{count_line, drawn_in, given_in, request_asked, request_in, request_of};
 
 use clap::{ArgMatches, Error};
-use mx_cli::{CommandId, Exploration, Names, exploration_at, matches_in, names_at};
+use mx_cli::{CommandId, Exploration, Names, exploration_at, is_given, matches_in, names_at};
 use std::alloc::Global;
 
 /// What is to be counted.
 #[derive(Clone, Copy)]
 pub(crate) enum Request<'a> {
     /// What comes of the events that a file has.
-    Given(Names<'a>),
+    Given {
+        names: Names<'a>,
+        is_json: bool,
+    },
     /// What comes of events drawn from a seed.
-    Drawn(Exploration<'a>),
+    Drawn {
+        exploration: Exploration<'a>,
+        is_json: bool,
+        /// Whether the first counts alone.
+        is_brief: bool,
+    },
 }
 
 impl<'a> Request<'a> {
     /// The names that the lines of faults have.
     pub(crate) fn names(&self) -> Names<'a> {
         match self {
-            Request::Given(names) => *names,
-            Request::Drawn(exploration) => Names {
+            Request::Given { names, .. } => *names,
+            Request::Drawn { exploration, .. } => Names {
                 plan: exploration.plan,
                 events: exploration.plan,
             },
@@ -31,7 +39,7 @@ impl<'a> Request<'a> {
     }
 }
 
-/// Parses a command line that begins with `count`, or is `explore` with `--count`.
+/// Parses a command line that begins with `count`, or is `explore` with `--count` or `--json`.
 ///
 /// # Errors
 ///
@@ -58,11 +66,24 @@ fn from_matches<'a>(matches: &ArgMatches<'a>) -> Option<Request<'a>>
 fn given_in<'a>(matches: &ArgMatches<'a>) -> Option<Request<'a>>
     ensures { option_map request_of result ≡ given_in (rows_of (found_of matches.now)) }
 {
-    names_at(matches).map(Request::Given)
+    let Some(names) = names_at(matches) else {
+        return None;
+    };
+    Some(Request::Given {
+        names,
+        is_json: is_given(matches, "json"),
+    })
 }
 
 fn drawn_in<'a>(matches: &ArgMatches<'a>) -> Option<Request<'a>>
     ensures { option_map request_of result ≡ drawn_in (rows_of (found_of matches.now)) }
 {
-    exploration_at(matches).map(Request::Drawn)
+    let Some(exploration) = exploration_at(matches) else {
+        return None;
+    };
+    Some(Request::Drawn {
+        exploration,
+        is_json: is_given(matches, "json"),
+        is_brief: !is_given(matches, "count"),
+    })
 }

@@ -8,7 +8,8 @@ use Rattle.mx_plan.specs.declared.shape.Shape.{Shape}
 use Rattle.mx_plan.specs.declared.shape.Shape.TheVariants.{Ricart, Maekawa, Raymond}
 use Rattle.mx_format.specs.EventTexts.{name_of}
 use Rattle.mx_format.specs.Lines.{texts_from}
-use Rattle.mx_format.specs.PlanTexts.{plan_text}
+use Rattle.mx_format.specs.Members.{node_member, node_start}
+use Rattle.mx_format.specs.PlanTexts.{plan_text_by}
 
 -- node i asks node j: by Ricart and Agrawala's algorithm each other node; by Maekawa's each of its
 -- set; by Raymond's, at the start, its neighbour on the way to the holder, which asks nobody
@@ -20,25 +21,41 @@ asks_of (Raymond tree) i j = if nat_eq i tree.holder then false else nat_eq (tow
 abbrev pub asked_name : Fields → ℕ → Text
 asked_name p j = codes " " ++ name_of p j
 
--- the name of node j, where node i asks it
-abbrev pub asked_text : Fields → ℕ → ℕ → Text
-asked_text p i j = if asks_of p.shape i j then asked_name p j else []
+abbrev pub asked_json : Fields → ℕ → ℕ → Text
+asked_json p i j = node_start p i ++ node_member p (codes "asks") j ++ codes "}\n"
 
--- the names of all that node i asks, in the order of the plan
-abbrev pub asked_names : Fields → ℕ → Text
-asked_names p i = texts_from (λ j name. asked_text p i j) 0 p.nodes
+abbrev pub asked_by : Bool → Fields → ℕ → ℕ → Text
+asked_by is_json p i j = if is_json then asked_json p i j else asked_name p j
+
+-- the name of node j, or an object of JSON of both, where node i asks it
+abbrev pub asked_text : Bool → Fields → ℕ → ℕ → Text
+asked_text is_json p i j = if asks_of p.shape i j then asked_by is_json p i j else []
+
+-- the same of all that node i asks, in the order of the plan
+abbrev pub asked_names : Bool → Fields → ℕ → Text
+asked_names is_json p i = texts_from (λ j name. asked_text is_json p i j) 0 p.nodes
 
 abbrev pub asks_head : Fields → ℕ → Text
 asks_head p i = codes "asks " ++ name_of p i ++ codes ":"
 
--- the line of a node
-abbrev pub asks_line : Fields → ℕ → Text
-asks_line p i = (asks_head p i ++ asked_names p i) ++ line_feed
+-- what a line has before the names, and after them
+abbrev pub asks_start : Bool → Fields → ℕ → Text
+asks_start is_json p i = if is_json then [] else asks_head p i
 
--- the lines of all nodes, in the order of the plan
-abbrev pub asks_lines : Fields → Text
-asks_lines p = texts_from (λ i name. asks_line p i) 0 p.nodes
+abbrev pub asks_end : Bool → Text
+asks_end is_json = if is_json then [] else line_feed
+
+-- the line of a node, or an object of JSON for each that it asks
+abbrev pub asks_line : Bool → Fields → ℕ → Text
+asks_line is_json p i = (asks_start is_json p i ++ asked_names is_json p i) ++ asks_end is_json
+
+-- those of all nodes, in the order of the plan
+abbrev pub asks_lines : Bool → Fields → Text
+asks_lines is_json p = texts_from (λ i name. asks_line is_json p i) 0 p.nodes
 
 -- what a plan says, and whom each of its nodes asks
+abbrev pub plan_asks_text_by : Bool → Fields → Text
+plan_asks_text_by is_json p = plan_text_by is_json p ++ asks_lines is_json p
+
 abbrev pub plan_asks_text : Fields → Text
-plan_asks_text p = plan_text p ++ asks_lines p
+plan_asks_text p = plan_asks_text_by false p

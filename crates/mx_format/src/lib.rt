@@ -3,6 +3,7 @@
 
 mod events;
 mod facts;
+pub mod json;
 mod letters;
 mod nodes;
 mod parcels;
@@ -19,6 +20,6 @@ pub use letters::Letter;
 pub use nodes::add_member_line;
 pub use parcels::{add_parcel, add_parcel_line};
 pub use parts::{LetterParts, Numbers, Style, Subject};
-pub use peers::add_asks;
+pub use peers::{add_asks, add_asks_json};
 pub use plan_lines::ExploredLine;
-pub use plans::add_plan;
+pub use plans::{add_plan, add_plan_json};

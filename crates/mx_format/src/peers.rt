@@ -1,10 +1,11 @@
 //! Whom the nodes of a plan ask.
 
-ghost use Rattle.std.specs.Prelude.{◌≡◌, ◌<◌, ◌++◌, Some, length, nat_eq, false, if◌then◌else◌, string_bytes, OnOk};
+ghost use Rattle.std.specs.Prelude.{◌≡◌, ◌<◌, ◌++◌, Some, length, nat_eq, false, true, if◌then◌else◌, string_bytes, OnOk};
 ghost use Rattle.mx_trees.specs.Tree.{toward_of};
-ghost use Rattle.mx_format.specs.AskTexts.{asked_name, asked_names, asked_text, asks_head, asks_line, asks_lines, asks_of};
+ghost use Rattle.mx_format.specs.AskTexts.{asked_by, asked_json, asked_name, asked_names, asked_text, asks_end, asks_head, asks_line, asks_lines, asks_of, asks_start};
 
 use crate::events::name_of;
+use crate::json::{NodeStart, add_node_name};
 use mx_plan::{Plan, Shape};
 use mx_stamps::{MAX_NODES, NodeId};
 use mx_trees::Tree;
@@ -13,50 +14,127 @@ use std::fmt;
 
 /// Appends a line for each node, in the order of the plan, with those that it asks.
 pub fn add_asks(plan: &Plan, text: &mut String) -> Result<(), AllocError>
-    ensures { OnOk result (string_bytes text.new ≡ string_bytes text.old ++ asks_lines plan.now) }
+    ensures { OnOk result (string_bytes text.new
+        ≡ string_bytes text.old ++ asks_lines false plan.now) }
+{
+    add_asks_as(plan, false, text)
+}
+
+/// Appends the same as objects of JSON: one on a line, of a node and one that it asks.
+pub fn add_asks_json(plan: &Plan, text: &mut String) -> Result<(), AllocError>
+    ensures { OnOk result (string_bytes text.new
+        ≡ string_bytes text.old ++ asks_lines true plan.now) }
+{
+    add_asks_as(plan, true, text)
+}
+
+/// Appends whom each node asks, as lines or as objects of JSON.
+fn add_asks_as(plan: &Plan, is_json: bool, text: &mut String) -> Result<(), AllocError>
+    ensures { OnOk result (string_bytes text.new
+        ≡ string_bytes text.old ++ asks_lines is_json plan.now) }
 {
     for i in 0..plan.nodes() {
-        add_line(plan, i, text)?;
+        add_line(plan, is_json, i, text)?;
     }
     Ok(())
 }
 
-/// Appends the line of a node.
-fn add_line(plan: &Plan, i: u8, text: &mut String) -> Result<(), AllocError>
+/// Appends the line of a node, or an object of JSON for each that it asks.
+fn add_line(plan: &Plan, is_json: bool, i: u8, text: &mut String) -> Result<(), AllocError>
     requires { (i < MAX_NODES) × (i < length plan.now.nodes) }
-    ensures { OnOk result (string_bytes text.new ≡ string_bytes text.old ++ asks_line plan.now i) }
+    ensures { OnOk result (string_bytes text.new
+        ≡ string_bytes text.old ++ asks_line is_json plan.now i) }
 {
     let node = NodeId::of(i).unwrap();
-    text.write(AsksHead { plan, node })?;
-    add_asked(plan, i, text)?;
+    add_start(plan, is_json, node, text)?;
+    add_asked(plan, is_json, i, text)?;
+    add_end(is_json, text)
+}
+
+/// Appends what a line has before the names.
+fn add_start(plan: &Plan, is_json: bool, node: NodeId, text: &mut String) -> Result<(), AllocError>
+    ensures { OnOk result (string_bytes text.new
+        ≡ string_bytes text.old ++ asks_start is_json plan.now node) }
+{
+    if is_json {
+        return Ok(());
+    }
+    text.write(AsksHead { plan, node })
+}
+
+/// Appends what a line has after the names.
+fn add_end(is_json: bool, text: &mut String) -> Result<(), AllocError>
+    ensures { OnOk result (string_bytes text.new ≡ string_bytes text.old ++ asks_end is_json) }
+{
+    if is_json {
+        return Ok(());
+    }
     text.push_str("\n")
 }
 
-/// Appends the names of those that a node asks.
-fn add_asked(plan: &Plan, i: u8, text: &mut String) -> Result<(), AllocError>
+/// Appends the names of those that a node asks, or an object of JSON for each.
+fn add_asked(plan: &Plan, is_json: bool, i: u8, text: &mut String) -> Result<(), AllocError>
     requires { (i < MAX_NODES) × (i < length plan.now.nodes) }
-    ensures { OnOk result (string_bytes text.new ≡ string_bytes text.old
-        ++ asked_names plan.now i) }
+    ensures { OnOk result (string_bytes text.new
+        ≡ string_bytes text.old ++ asked_names is_json plan.now i) }
 {
     for j in 0..plan.nodes() {
-        add_if_asked(plan, i, j, text)?;
+        add_if_asked(plan, is_json, i, j, text)?;
     }
     Ok(())
 }
 
-/// Appends the name of a node, where another asks it.
-fn add_if_asked(plan: &Plan, i: u8, j: u8, text: &mut String) -> Result<(), AllocError>
+/// Appends a node, where another asks it.
+fn add_if_asked(
+    plan: &Plan,
+    is_json: bool,
+    i: u8,
+    j: u8,
+    text: &mut String,
+) -> Result<(), AllocError>
     requires asking { (i < MAX_NODES) × (i < length plan.now.nodes) }
     requires asked { j < MAX_NODES }
     ensures { OnOk result (string_bytes text.new ≡ string_bytes text.old
-        ++ asked_text plan.now i j) }
+        ++ asked_text is_json plan.now i j) }
 {
     let node = NodeId::of(i).unwrap();
     let other = NodeId::of(j).unwrap();
     if !asks(plan, node, other) {
         return Ok(());
     }
+    add_one_asked(plan, is_json, node, other, text)
+}
+
+/// Appends a node that another asks.
+fn add_one_asked(
+    plan: &Plan,
+    is_json: bool,
+    node: NodeId,
+    other: NodeId,
+    text: &mut String,
+) -> Result<(), AllocError>
+    ensures { OnOk result (string_bytes text.new ≡ string_bytes text.old
+        ++ asked_by is_json plan.now node other) }
+{
+    if is_json {
+        return add_asked_json(plan, node, other, text);
+    }
     text.write(AskedName { plan, node: other })
+}
+
+/// Appends the object of a node and of one that it asks.
+fn add_asked_json(
+    plan: &Plan,
+    node: NodeId,
+    other: NodeId,
+    text: &mut String,
+) -> Result<(), AllocError>
+    ensures { OnOk result (string_bytes text.new ≡ string_bytes text.old
+        ++ asked_json plan.now node other) }
+{
+    text.write(NodeStart(plan, node))?;
+    add_node_name(plan, "asks", other, text)?;
+    text.push_str("}\n")
 }
 
 /// Whether a node asks another, or itself.

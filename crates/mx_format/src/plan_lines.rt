@@ -1,7 +1,7 @@
 //! The lines of `check` and of `explore`.
 
 ghost use Rattle.std.specs.Prelude.{◌≡◌, Some};
-ghost use Rattle.mx_format.specs.PlanTexts.{algorithm_text, bounds_text, explored_line, meet_line, plan_line, toward_line};
+ghost use Rattle.mx_format.specs.PlanTexts.{algorithm_start, algorithm_text, bounds_text, explored_line, meet_line, meet_start, plan_line, toward_line};
 
 use crate::events::name_of;
 use mx_plan::{Plan, Shape};
@@ -55,6 +55,37 @@ impl fmt::Display for PlanLine<'_> {
         let nodes = self.0.nodes();
         let bounds = BoundsText(self.0);
         writeln!(f, "plan {algorithm}, nodes {nodes}, {bounds}")
+    }
+}
+
+/// The start of a plan's object of JSON: its algorithm.
+#[derive(Clone, Copy)]
+pub struct AlgorithmStart<'a>(pub &'a Shape);
+
+impl fmt::Display for AlgorithmStart<'_> {
+    ghost output = { λ a. Some (algorithm_start a.0.now) };
+
+    fn fmt<W: fmt::Write>(&self, f: &mut fmt::Formatter<W>) -> fmt::Result {
+        let algorithm = AlgorithmText(self.0);
+        write!(f, "{{\"plan\":\"{algorithm}\"")
+    }
+}
+
+/// The start of the object of JSON of two nodes that share an arbiter.
+#[derive(Clone, Copy)]
+pub struct MeetStart<'a> {
+    pub plan: &'a Plan,
+    pub first: NodeId,
+    pub second: NodeId,
+}
+
+impl fmt::Display for MeetStart<'_> {
+    ghost output = { λ l. Some (meet_start l.plan.now l.first l.second) };
+
+    fn fmt<W: fmt::Write>(&self, f: &mut fmt::Formatter<W>) -> fmt::Result {
+        let first = name_of(self.plan, self.first);
+        let second = name_of(self.plan, self.second);
+        write!(f, "{{\"meet\":[\"{first}\",\"{second}\"]")
     }
 }
 

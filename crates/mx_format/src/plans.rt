@@ -1,12 +1,13 @@
 //! What a plan says of its cluster.
 
-ghost use Rattle.std.specs.Prelude.{◌≡◌, ◌+◌, ◌<◌, ◌++◌, length, drop, string_bytes, OnOk};
+ghost use Rattle.std.specs.Prelude.{◌≡◌, ◌+◌, ◌<◌, ◌++◌, true, length, drop, string_bytes, OnOk};
 ghost use Rattle.mx_plan.specs.Fields.{IsShape};
 ghost use Rattle.mx_plan.specs.declared.shape.Shape.TheVariants as shape;
 ghost use Rattle.mx_format.specs.Lines.{texts_from};
-ghost use Rattle.mx_format.specs.PlanTexts.{meet_lines, meet_lines_of, meet_text, plan_text, toward_lines, toward_text};
+ghost use Rattle.mx_format.specs.PlanTexts.{meet_by, meet_json, meet_lines, meet_lines_of, meet_text, plan_head, plan_json, plan_text, plan_text_by, sizes_json, toward_by, toward_json, toward_lines, toward_text};
 
-use crate::plan_lines::{MeetLine, PlanLine, TowardLine};
+use crate::json::{NodeStart, add_node_name, add_number};
+use crate::plan_lines::{AlgorithmStart, MeetLine, MeetStart, PlanLine, TowardLine};
 use mx_plan::{Plan, Shape};
 use mx_quorums::Quorums;
 use mx_stamps::{MAX_NODES, NodeId};
@@ -18,36 +19,93 @@ use std::alloc::AllocError;
 pub fn add_plan(plan: &Plan, text: &mut String) -> Result<(), AllocError>
     ensures { OnOk result (string_bytes text.new ≡ string_bytes text.old ++ plan_text plan.now) }
 {
-    text.write(PlanLine(plan))?;
+    add_plan_as(plan, false, text)
+}
+
+/// Appends the same as objects of JSON, one on a line.
+pub fn add_plan_json(plan: &Plan, text: &mut String) -> Result<(), AllocError>
+    ensures { OnOk result (string_bytes text.new
+        ≡ string_bytes text.old ++ plan_text_by true plan.now) }
+{
+    add_plan_as(plan, true, text)
+}
+
+/// Appends what a plan says, as lines or as objects of JSON.
+fn add_plan_as(plan: &Plan, is_json: bool, text: &mut String) -> Result<(), AllocError>
+    ensures { OnOk result (string_bytes text.new
+        ≡ string_bytes text.old ++ plan_text_by is_json plan.now) }
+{
+    add_head(plan, is_json, text)?;
     match plan.shape() {
         Shape::Ricart(_) => Ok(()),
-        Shape::Maekawa(sets) => add_meetings(plan, sets, text),
-        Shape::Raymond(tree) => add_directions(plan, tree, text),
+        Shape::Maekawa(sets) => add_meetings(plan, is_json, sets, text),
+        Shape::Raymond(tree) => add_directions(plan, is_json, tree, text),
     }
 }
 
+/// Appends the algorithm of a plan, and how many nodes, registers and sections it has.
+fn add_head(plan: &Plan, is_json: bool, text: &mut String) -> Result<(), AllocError>
+    ensures { OnOk result (string_bytes text.new
+        ≡ string_bytes text.old ++ plan_head is_json plan.now) }
+{
+    if is_json {
+        return add_object(plan, text);
+    }
+    text.write(PlanLine(plan))
+}
+
+/// Appends the object of a plan.
+fn add_object(plan: &Plan, text: &mut String) -> Result<(), AllocError>
+    ensures { OnOk result (string_bytes text.new ≡ string_bytes text.old ++ plan_json plan.now) }
+{
+    text.write(AlgorithmStart(plan.shape()))?;
+    add_sizes(plan, text)?;
+    text.push_str("}\n")
+}
+
+/// Appends how many nodes and registers a plan has, and its bounds.
+fn add_sizes(plan: &Plan, text: &mut String) -> Result<(), AllocError>
+    ensures { OnOk result (string_bytes text.new ≡ string_bytes text.old ++ sizes_json plan.now) }
+{
+    add_number("nodes", u64::from(plan.nodes()), text)?;
+    add_number("registers", u64::from(plan.registers()), text)?;
+    add_number("sections", plan.sections(), text)?;
+    add_number("origin", plan.origin(), text)
+}
+
 /// Appends the lines of any two nodes.
-fn add_meetings(plan: &Plan, sets: &Quorums, text: &mut String) -> Result<(), AllocError>
+fn add_meetings(
+    plan: &Plan,
+    is_json: bool,
+    sets: &Quorums,
+    text: &mut String,
+) -> Result<(), AllocError>
     requires { sets.now.count ≡ length plan.now.nodes }
     ensures { OnOk result (string_bytes text.new ≡ string_bytes text.old
-        ++ meet_lines plan.now sets.now) }
+        ++ meet_lines is_json plan.now sets.now) }
 {
     for i in 0..plan.nodes() {
-        add_meetings_of(plan, sets, i, text)?;
+        add_meetings_of(plan, is_json, sets, i, text)?;
     }
     Ok(())
 }
 
 /// Appends the lines of a node and each later one.
-fn add_meetings_of(plan: &Plan, sets: &Quorums, i: u8, text: &mut String) -> Result<(), AllocError>
+fn add_meetings_of(
+    plan: &Plan,
+    is_json: bool,
+    sets: &Quorums,
+    i: u8,
+    text: &mut String,
+) -> Result<(), AllocError>
     requires count { sets.now.count ≡ length plan.now.nodes }
     requires there { i < length plan.now.nodes }
     requires few { i < MAX_NODES }
     ensures { OnOk result (string_bytes text.new ≡ string_bytes text.old
-        ++ meet_lines_of plan.now sets.now i) }
+        ++ meet_lines_of is_json plan.now sets.now i) }
 {
     for j in i + 1..plan.nodes() {
-        add_meeting(plan, sets, i, j, text)?;
+        add_meeting(plan, is_json, sets, i, j, text)?;
     }
     Ok(())
 }
@@ -55,6 +113,7 @@ fn add_meetings_of(plan: &Plan, sets: &Quorums, i: u8, text: &mut String) -> Res
 /// Appends the line of two nodes.
 fn add_meeting(
     plan: &Plan,
+    is_json: bool,
     sets: &Quorums,
     i: u8,
     j: u8,
@@ -63,43 +122,127 @@ fn add_meeting(
     requires first { (i < MAX_NODES) × (i < sets.now.count) }
     requires second { (j < MAX_NODES) × (j < sets.now.count) }
     ensures { OnOk result (string_bytes text.new ≡ string_bytes text.old
-        ++ meet_text plan.now sets.now i j) }
+        ++ meet_text is_json plan.now sets.now i j) }
 {
     let first = NodeId::of(i).unwrap();
     let second = NodeId::of(j).unwrap();
+    add_meet(
+        plan,
+        is_json,
+        first,
+        second,
+        sets.meeting(first, second),
+        text,
+    )
+}
+
+/// Appends two nodes, and the least arbiter that both have.
+fn add_meet(
+    plan: &Plan,
+    is_json: bool,
+    first: NodeId,
+    second: NodeId,
+    node: NodeId,
+    text: &mut String,
+) -> Result<(), AllocError>
+    ensures { OnOk result (string_bytes text.new ≡ string_bytes text.old
+        ++ meet_by is_json plan.now first second node) }
+{
+    if is_json {
+        return add_meet_json(plan, first, second, node, text);
+    }
     text.write(MeetLine {
         plan,
         first,
         second,
-        node: sets.meeting(first, second),
+        node,
     })
 }
 
+/// Appends the same as an object.
+fn add_meet_json(
+    plan: &Plan,
+    first: NodeId,
+    second: NodeId,
+    node: NodeId,
+    text: &mut String,
+) -> Result<(), AllocError>
+    ensures { OnOk result (string_bytes text.new ≡ string_bytes text.old
+        ++ meet_json plan.now first second node) }
+{
+    text.write(MeetStart {
+        plan,
+        first,
+        second,
+    })?;
+    add_node_name(plan, "arbiter", node, text)?;
+    text.push_str("}\n")
+}
+
 /// Appends the lines of all nodes but the holder.
-fn add_directions(plan: &Plan, tree: &Tree, text: &mut String) -> Result<(), AllocError>
+fn add_directions(
+    plan: &Plan,
+    is_json: bool,
+    tree: &Tree,
+    text: &mut String,
+) -> Result<(), AllocError>
     requires { tree.now.count ≡ length plan.now.nodes }
     ensures { OnOk result (string_bytes text.new ≡ string_bytes text.old
-        ++ toward_lines plan.now tree.now) }
+        ++ toward_lines is_json plan.now tree.now) }
 {
     for i in 0..plan.nodes() {
-        add_direction(plan, tree, i, text)?;
+        add_direction(plan, is_json, tree, i, text)?;
     }
     Ok(())
 }
 
 /// Appends the line of a node, unless it is the holder.
-fn add_direction(plan: &Plan, tree: &Tree, i: u8, text: &mut String) -> Result<(), AllocError>
+fn add_direction(
+    plan: &Plan,
+    is_json: bool,
+    tree: &Tree,
+    i: u8,
+    text: &mut String,
+) -> Result<(), AllocError>
     requires { (i < MAX_NODES) × (i < tree.now.count) }
     ensures { OnOk result (string_bytes text.new ≡ string_bytes text.old
-        ++ toward_text plan.now tree.now i) }
+        ++ toward_text is_json plan.now tree.now i) }
 {
     let node = NodeId::of(i).unwrap();
     if i == tree.holder().get() {
         return Ok(());
     }
-    text.write(TowardLine {
-        plan,
-        node,
-        next: tree.toward(node),
-    })
+    add_toward(plan, is_json, node, tree.toward(node), text)
+}
+
+/// Appends a node, and its neighbour on the way to the holder.
+fn add_toward(
+    plan: &Plan,
+    is_json: bool,
+    node: NodeId,
+    next: NodeId,
+    text: &mut String,
+) -> Result<(), AllocError>
+    ensures { OnOk result (string_bytes text.new
+        ≡ string_bytes text.old ++ toward_by is_json plan.now node next) }
+{
+    if is_json {
+        return add_toward_json(plan, node, next, text);
+    }
+    text.write(TowardLine { plan, node, next })
+}
+
+/// Appends the same as an object.
+fn add_toward_json(
+    plan: &Plan,
+    node: NodeId,
+    next: NodeId,
+    text: &mut String,
+) -> Result<(), AllocError>
+    ensures { OnOk result (string_bytes text.new
+        ≡ string_bytes text.old ++ toward_json plan.now node next) }
+{
+    text.write(NodeStart(plan, node))?;
+    add_node_name(plan, "toward", next, text)?;
+    text.push_str("}\n")
 }

@@ -17,7 +17,7 @@ use mx_live::live;
 use mx_picture::picture;
 use mx_play::{Typed, play};
 use mx_scripts::event_file;
-use mx_views::replay_view;
+use mx_views::{check_objects, replay_view};
 use mx_walks::{explore_seeds, explore_walk};
 use std::alloc::AllocError;
 use std::io;
@@ -40,6 +40,7 @@ where
     let alloc = rt.alloc();
     let mut source = Streams { rt };
     match command_in(words) {
+        Some(CommandId::CheckJson) => check_objects(alloc, words, &mut source, out, err),
         Some(CommandId::Count | CommandId::ExploreCount) => {
             count(alloc, words, &mut source, out, err)
         }

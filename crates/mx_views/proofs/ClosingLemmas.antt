@@ -12,13 +12,13 @@ use Rattle.mx_format.specs.NodeTexts.{register_in}
 use Rattle.mx_format.proofs.NodeLemmas.{is_at}
 use Rattle.mx_format.proofs.Places.{place_more}
 use Rattle.mx_views.specs.NodeJson.{register_json}
-use Rattle.mx_views.specs.Shown.{verdict_text}
+use Rattle.mx_commands.specs.VerdictLines.{verdict_text}
 use Rattle.mx_views.specs.declared.selection.View.{View}
 
 -- a text, and then the line of a verdict that is sound
-pub with_verdict : (view : View) (t t1 t2 a : Text) (v : Verdict) → v ≡ Sound → t1 ≡ t ++ a → t2 ≡ t1 ++ verdict_text view v → t2 ≡ t ++ (a ++ verdict_text view Sound)
+pub with_verdict : (view : View) (t t1 t2 a : Text) (v : Verdict) → v ≡ Sound → t1 ≡ t ++ a → t2 ≡ t1 ++ verdict_text view.is_json v → t2 ≡ t ++ (a ++ verdict_text view.is_json Sound)
 with_verdict view t t1 t2 a v sound first second =
-    second ∙ ap (λ (x : Verdict). t1 ++ verdict_text view x) sound ∙ ap (λ (x : Text). x ++ verdict_text view Sound) first ∙ append_assoc t a (verdict_text view Sound)
+    second ∙ ap (λ (x : Verdict). t1 ++ verdict_text view.is_json x) sound ∙ ap (λ (x : Text). x ++ verdict_text view.is_json Sound) first ∙ append_assoc t a (verdict_text view.is_json Sound)
 
 -- the value of one more register
 pub value_more : (p : Fields) (journal : JournalState) (k : ℕ) (name : Text) (value : ℕ) (t t' : Text) → k < length p.registers → name ≡ register_name_of p k

@@ -9,7 +9,7 @@ use Rattle.mx_plan.specs.Text.{Text}
 use Rattle.mx_plan.specs.Fields.{Fields}
 use Rattle.mx_format.specs.Lines.{each_text}
 use Rattle.mx_views.specs.FactJson.{fact_json, knows_json}
-use Rattle.mx_views.specs.Members.{array_json, values_json}
+use Rattle.mx_views.specs.Arrays.{array_json, values_json}
 
 -- one text after another, where both were written
 pub both_written : (t t1 t2 a b : Text) (r : Result ⊤ AllocError) → t1 ≡ t ++ a → OnOk r (t2 ≡ t1 ++ b) → OnOk r (t2 ≡ t ++ (a ++ b))

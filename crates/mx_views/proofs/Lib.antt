@@ -3,3 +3,4 @@ pub mod ClosingLemmas
 pub mod ShownLemmas
 pub mod ViewedLemmas
 pub mod EndLemmas
+pub mod ObjectLemmas

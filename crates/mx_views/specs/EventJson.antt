@@ -12,7 +12,7 @@ use Rattle.mx_trace.specs.declared.outcome.Outcome.{Outcome}
 use Rattle.mx_trace.specs.declared.outcome.Outcome.TheVariants.{Asked, Entered, Value, Written, Left, Cancelled, Sent, Settled, Delivered, Woken, Refused}
 use Rattle.mx_plan.specs.Text.{Text}
 use Rattle.mx_plan.specs.Fields.{Fields}
-use Rattle.mx_views.specs.Members.{node_member, number_member, number_start, register_member, word_member}
+use Rattle.mx_format.specs.Members.{node_member, number_member, number_start, register_member, word_member}
 
 -- ---- what happens
 

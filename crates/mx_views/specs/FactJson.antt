@@ -5,7 +5,8 @@ use Rattle.mx_knowledge.specs.declared.fact.Item.TheVariants.{Number, Node, Stam
 use Rattle.mx_knowledge.specs.Facts.{Known}
 use Rattle.mx_plan.specs.Text.{Text}
 use Rattle.mx_plan.specs.Fields.{Fields}
-use Rattle.mx_views.specs.Members.{array_json, node_member, node_start, number_member, number_start}
+use Rattle.mx_format.specs.Members.{node_member, node_start, number_member, number_start}
+use Rattle.mx_views.specs.Arrays.{array_json}
 
 -- a value of a fact: a number, the name of a node, a stamp, or a name with a number
 abbrev pub item_json : Fields → Item → Text

@@ -4,7 +4,7 @@ use Rattle.mx_plan.specs.Text.{Text}
 use Rattle.mx_plan.specs.Fields.{Fields}
 use Rattle.mx_format.specs.Lines.{each_text}
 use Rattle.mx_format.specs.Parts.{About, Named, Parts, number, request}
-use Rattle.mx_views.specs.Members.{node_member, number_member, word_member}
+use Rattle.mx_format.specs.Members.{node_member, number_member, word_member}
 
 -- what a letter is about: the number and the node of a stamp, or a number by its name
 abbrev pub about_json : Fields → About → Text

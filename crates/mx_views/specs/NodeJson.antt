@@ -1,4 +1,4 @@
--- Nodes and the verdict as JSON.
+-- Nodes as JSON.
 use Rattle.std.specs.Prelude.{ℕ, ◌-◌, ◌==◌, List, [], ◌++◌, codes, decimal, length, if◌then◌else◌}
 use Rattle.mx_journal.specs.Settled.{JournalState}
 use Rattle.mx_knowledge.specs.Facts.{Known}
@@ -6,15 +6,12 @@ use Rattle.mx_nodelaws.specs.Core.{Core}
 use Rattle.mx_nodelaws.specs.declared.phase.Phase.{Phase}
 use Rattle.mx_nodelaws.specs.declared.phase.Phase.TheVariants.{Idle, Waiting, Inside}
 use Rattle.mx_member.specs.Member.{MemberState, first_gap}
-use Rattle.mx_explorer.specs.declared.verdict.Verdict.{Verdict}
-use Rattle.mx_explorer.specs.declared.verdict.Verdict.TheVariants.{Sound, Broken}
 use Rattle.mx_plan.specs.Text.{Text}
 use Rattle.mx_plan.specs.Fields.{Fields}
 use Rattle.mx_format.specs.Lines.{texts_from}
 use Rattle.mx_format.specs.NodeTexts.{register_in}
-use Rattle.mx_commands.specs.VerdictLines.{clause_text}
 use Rattle.mx_views.specs.FactJson.{knows_json}
-use Rattle.mx_views.specs.Members.{node_start, number_member, word_member}
+use Rattle.mx_format.specs.Members.{node_start, number_member, word_member}
 
 -- inside, with the number of the section
 abbrev pub inside_json : ℕ → Text
@@ -63,12 +60,3 @@ abbrev pub member_json : {H S M : Type 0} → Core H S M → (S → List Known) 
 member_json core knows p i m =
     standing_json core p i m.core ++ contents_json p m.journal ++ knows_json p (knows m.core)
     ++ codes "}\n"
-
-abbrev pub broken_json : ℕ → Text → Text
-broken_json k clause =
-    codes "{\"verdict\":\"broken\"" ++ number_member (codes "index") k
-    ++ word_member (codes "clause") clause ++ codes "}\n"
-
-abbrev pub verdict_json : Verdict → Text
-verdict_json Sound = codes "{\"verdict\":\"sound\"}\n"
-verdict_json (Broken k clause) = broken_json k (clause_text clause)

@@ -8,7 +8,8 @@ use Rattle.mx_plan.specs.Text.{Text}
 use Rattle.mx_plan.specs.Fields.{Fields}
 use Rattle.mx_format.specs.Parts.{Parts}
 use Rattle.mx_views.specs.LetterJson.{letter_json}
-use Rattle.mx_views.specs.Members.{array_json, node_member, number_member, number_start, word_member}
+use Rattle.mx_format.specs.Members.{node_member, number_member, number_start, word_member}
+use Rattle.mx_views.specs.Arrays.{array_json}
 
 abbrev pub range_json : Range → Text
 range_json range =

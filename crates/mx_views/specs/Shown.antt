@@ -35,9 +35,9 @@ use Rattle.mx_format.specs.ParcelTexts.{parcel_line}
 use Rattle.mx_format.specs.Parts.{Parts, maekawa_parts, raymond_parts, ricart_parts}
 use Rattle.mx_cli.specs.declared.faults.Fault.TheVariants.{NoParcel}
 use Rattle.mx_commands.specs.Runs.{Report, after_texts, at_rest, ends_with, whole}
-use Rattle.mx_commands.specs.VerdictLines.{verdict_line}
+use Rattle.mx_commands.specs.VerdictLines.{verdict_text}
 use Rattle.mx_views.specs.EventJson.{event_json}
-use Rattle.mx_views.specs.NodeJson.{member_json, verdict_json}
+use Rattle.mx_views.specs.NodeJson.{member_json}
 use Rattle.mx_views.specs.ParcelJson.{parcel_json}
 use Rattle.mx_views.specs.declared.selection.View.{View}
 
@@ -69,10 +69,6 @@ module _ {M : Type 0} where
   shows_event node sent event = option_map_or (shows node) (owner_of sent event) false
 
 -- ---- lines
-
--- the line of the verdict
-abbrev pub verdict_text : View → Verdict → Text
-verdict_text view verdict = if view.is_json then verdict_json verdict else verdict_line verdict
 
 module _ (p : Fields) (view : View) where
   -- the line of the k-th event
@@ -114,7 +110,7 @@ module _ {H S M : Type 0} (p : Fields) (view : View) (core : Core H S M) (knows 
 
     -- the lines of the nodes that are shown, and the verdict, which is sound
     abbrev pub closing_text : ClusterState S M → Text
-    closing_text g = texts_from shown_member 0 g.members ++ verdict_text view Sound
+    closing_text g = texts_from shown_member 0 g.members ++ verdict_text view.is_json Sound
 
 -- ---- runs
 

@@ -3,11 +3,11 @@
 ghost use Rattle.std.specs.Prelude.{◌≡◌, ◌+◌, ◌<◌, ◌++◌, length, drop, string_bytes, IfOk, OnOk};
 ghost use Rattle.mx_format.specs.Lines.{texts_from};
 ghost use Rattle.mx_format.specs.NodeTexts.{member_line};
-ghost use Rattle.mx_views.specs.Shown.{closing_text, member_text, shown_member, state_text, verdict_text};
+ghost use Rattle.mx_views.specs.Shown.{closing_text, member_text, shown_member, state_text};
 
-use crate::node_json::{VerdictJson, add_node_json};
+use crate::node_json::add_node_json;
 use crate::selection::Selection;
-use mx_commands::VerdictLine;
+use mx_commands::add_verdict;
 use mx_explorer::{Verdict, judge};
 use mx_format::{add_facts_line, add_member_line};
 use mx_knowledge::Knowledge;
@@ -32,7 +32,7 @@ pub(crate) fn add_closing<C: Exclusion + Knowledge>(
 {
     add_nodes(alloc, selection, cluster, text)?;
     let verdict = judge(cluster.trace());
-    add_verdict(selection, verdict, text)?;
+    add_verdict(selection.view.is_json, verdict, text)?;
     Ok(verdict)
 }
 
@@ -53,21 +53,6 @@ fn add_nodes<C: Exclusion + Knowledge>(
         add_node(alloc, selection, cluster, index, text)?;
     }
     Ok(())
-}
-
-/// Appends the line of a verdict.
-fn add_verdict(
-    selection: &Selection<'_>,
-    verdict: Verdict,
-    text: &mut String,
-) -> Result<(), AllocError>
-    ensures { OnOk result (string_bytes text.new
-        ≡ string_bytes text.old ++ verdict_text selection.now.view verdict) }
-{
-    if selection.view.is_json {
-        return text.write(VerdictJson(verdict));
-    }
-    text.write(VerdictLine(verdict))
 }
 
 /// Appends the line of the node of this index, where it is shown.

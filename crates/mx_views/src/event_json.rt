@@ -3,8 +3,8 @@
 ghost use Rattle.std.specs.Prelude.{◌≡◌, ◌++◌, OnOk, string_bytes};
 ghost use Rattle.mx_views.specs.EventJson.{act_json, bare_json, event_json, left_json, number_json, outcome_json, owner_json, refusal_json, rest_json, with_json};
 
-use crate::json::{NumberStart, add_node_name, add_number, add_register_name, add_word};
 use mx_events::Event;
+use mx_format::json::{NumberStart, add_node_name, add_number, add_register_name, add_word};
 use mx_journal::Receipt;
 use mx_network::{Cause, Entry, Outcome};
 use mx_plan::Plan;

@@ -4,7 +4,8 @@ ghost use Rattle.std.specs.Prelude.{◌≡◌, ◌++◌, OnOk, Some, string_byte
 ghost use Rattle.mx_knowledge.specs.Facts.{fact_of};
 ghost use Rattle.mx_views.specs.FactJson.{fact_json, item_json, knows_json};
 
-use crate::json::{NodeStart, NumberStart, Value, add_array, add_node_name, add_number};
+use crate::arrays::{Value, add_array};
+use mx_format::json::{NodeStart, NumberStart, add_node_name, add_number};
 use mx_knowledge::{Fact, Facts, Item};
 use mx_plan::Plan;
 use std::alloc::AllocError;

@@ -4,7 +4,7 @@ ghost use Rattle.std.specs.Prelude.{◌≡◌, ◌++◌, OnOk, string_bytes};
 ghost use Rattle.mx_format.specs.Parts.{numbers_of, parts_of, subject_of};
 ghost use Rattle.mx_views.specs.LetterJson.{about_json, letter_json, numbers_json};
 
-use crate::json::{add_node_name, add_number, add_word};
+use mx_format::json::{add_node_name, add_number, add_word};
 use mx_format::{LetterParts, Numbers, Subject};
 use mx_plan::Plan;
 use std::alloc::AllocError;

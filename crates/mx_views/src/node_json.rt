@@ -1,13 +1,11 @@
-//! Nodes and the verdict as JSON.
+//! Nodes as JSON.
 
 ghost use Rattle.std.specs.Prelude.{◌≡◌, ◌++◌, OnOk, Some, string_bytes};
-ghost use Rattle.mx_commands.specs.VerdictLines.{clause_text};
 ghost use Rattle.mx_views.specs.FactJson.{knows_json};
-ghost use Rattle.mx_views.specs.NodeJson.{broken_json, comma_at, contents_json, inside_json, journal_json, member_json, phase_json, register_json, registers_json, standing_json, values_of, verdict_json};
+ghost use Rattle.mx_views.specs.NodeJson.{comma_at, contents_json, inside_json, journal_json, member_json, phase_json, register_json, registers_json, standing_json, values_of};
 
 use crate::fact_json::add_knows_json;
-use crate::json::{NodeStart, Number, Word, add_number, add_word};
-use mx_explorer::{Clause, Verdict};
+use mx_format::json::{NodeStart, add_number, add_word};
 use mx_format::register_name_of;
 use mx_journal::Journal;
 use mx_knowledge::Knowledge;
@@ -150,51 +148,4 @@ fn comma_at(place: u8) -> &'static str
     ensures { result.now ≡ comma_at place }
 {
     if place == 0 { "" } else { "," }
-}
-
-/// The line of a verdict.
-#[derive(Clone, Copy)]
-pub(crate) struct VerdictJson(pub(crate) Verdict);
-
-impl fmt::Display for VerdictJson {
-    ghost output = { λ v. Some (verdict_json v.0) };
-
-    fn fmt<W: fmt::Write>(&self, f: &mut fmt::Formatter<W>) -> fmt::Result {
-        match self.0 {
-            Verdict::Sound => f.write_str("{\"verdict\":\"sound\"}\n"),
-            Verdict::Broken(index, clause) => BrokenJson {
-                index,
-                name: clause_name(clause),
-            }
-            .fmt(f),
-        }
-    }
-}
-
-/// The line of a verdict that something is broken at an event.
-#[derive(Clone, Copy)]
-struct BrokenJson<'a> {
-    index: u64,
-    name: &'a str,
-}
-
-impl fmt::Display for BrokenJson<'_> {
-    ghost output = { λ b. Some (broken_json b.index b.name.now) };
-
-    fn fmt<W: fmt::Write>(&self, f: &mut fmt::Formatter<W>) -> fmt::Result {
-        let index = Number("index", self.index);
-        let clause = Word("clause", self.name);
-        write!(f, "{{\"verdict\":\"broken\"{index}{clause}}}\n")
-    }
-}
-
-/// What is broken.
-fn clause_name(clause: Clause) -> &'static str
-    ensures { result.now ≡ clause_text clause }
-{
-    match clause {
-        Clause::Overlap => "overlap",
-        Clause::Number => "number",
-        Clause::Read => "read",
-    }
 }

@@ -3,9 +3,10 @@
 ghost use Rattle.std.specs.Prelude.{◌≡◌, ◌++◌, OnOk, Some, string_bytes};
 ghost use Rattle.mx_views.specs.ParcelJson.{base_json, content_json, parcel_json, range_json, record_json, records_json, want_json};
 
-use crate::json::{NumberStart, Value, add_array, add_node_name, add_number, add_word};
+use crate::arrays::{Value, add_array};
 use crate::letter_json::add_letter_json;
 use mx_format::Letter;
+use mx_format::json::{NumberStart, add_node_name, add_number, add_word};
 use mx_journal::{Range, Record};
 use mx_member::{Parcel, SentParcel};
 use mx_plan::Plan;

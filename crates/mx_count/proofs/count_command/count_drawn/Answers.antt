@@ -6,5 +6,5 @@ pub returns-clause-printed : goal.returns-clause-printed
 returns-clause-printed g c =
     let e = c.args.exploration.now in
     on_ok c.count_schedule.result
-    (drawn_printed (g.O.Output.written c.args.out.now) (g.O.Output.written c.count_schedule.new.out) (g.S.Source.told c.args.source.now) e.plan.now e.seed e.steps c.in_ok-plan.plan c.in_ok-plan.ensures.told)
+    (drawn_printed (g.O.Output.written c.args.out.now) (g.O.Output.written c.count_schedule.new.out) (g.S.Source.told c.args.source.now) e.plan.now e.seed e.steps c.args.is_json c.args.is_brief c.in_ok-plan.plan c.in_ok-plan.ensures.told)
     c.count_schedule.ensures.printed

@@ -17,10 +17,10 @@ returns-clause-printed g c =
     let told = g.S.Source.told c.args.source.now in
     let names = names_of c.args.names.now in
     let both = c.in_ok-both.both in
-    let prints = subst (λ (l : List ℕ). IfOk c.count_listed-ended.result (λ _. PrintsListed both.plan l a b)) c.as_slice.ensures.value c.count_listed-ended.ensures.printed in
-    let done = on_ok c.count_listed-ended.result (given_printed a b told names both c.in_ok-both.ensures.ok) prints in
-    subst (λ (r : Result ℕ Stop). IfOk r (λ _. PrintsCounts told (given names) a b)) (sym c.naming.ensures)
-    (named_ok (λ _. PrintsCounts told (given names) a b) Events c.count_listed-ended.result done)
+    let prints = subst (λ (l : List ℕ). IfOk c.count_listed-ended.result (λ _. PrintsListed c.args.is_json both.plan l a b)) c.as_slice.ensures.value c.count_listed-ended.ensures.printed in
+    let done = on_ok c.count_listed-ended.result (given_printed a b told names c.args.is_json both c.in_ok-both.ensures.ok) prints in
+    subst (λ (r : Result ℕ Stop). IfOk r (λ _. PrintsCounts told (given names c.args.is_json) a b)) (sym c.naming.ensures)
+    (named_ok (λ _. PrintsCounts told (given names c.args.is_json) a b) Events c.count_listed-ended.result done)
 
 pub returns-clause-zero : goal.returns-clause-zero
 returns-clause-zero g c =

@@ -4,21 +4,21 @@ use Rattle.std.specs.List.{count_by}
 use Rattle.mx_plan.specs.Text.{Text}
 use Rattle.mx_format.specs.Parts.{word_by}
 use Rattle.mx_format.proofs.Places.{each_end, each_more}
-use Rattle.mx_count.specs.Counts.{tally_line}
 use Rattle.mx_count.specs.Kinds.{is_under}
+use Rattle.mx_count.specs.Tallies.{tally_text}
 use Rattle.mx_count.proofs.CountedLemmas.{each_map, tally_is}
 use Rattle.mx_count.proofs.parcel_counts.add_counts_under.Goals as goal
 
 pub loop-name-preserved : goal.loop-name-preserved
 loop-name-preserved g c =
-    let line = λ (name : Bor Text). tally_line name.now (count_by (is_under (word_by g.C.Msg.Letter.parts) name.now) c.args.cluster.now.sent) in
-    c.loop-name.invariant ∙ each_more line c.args.names.now c.loop-name.name-index _ (string_bytes c.loop-name.text) (string_bytes c.write.new.self) c.loop-name-test.true
-    (tally_is _ _ _ _ _ c.in_ok-write.ensures.bytes c.count_parcels.ensures)
+    let line = λ (name : Bor Text). tally_text c.args.is_json c.args.indent.now name.now (count_by (is_under (word_by g.C.Msg.Letter.parts) name.now) c.args.cluster.now.sent) in
+    c.loop-name.invariant ∙ each_more line c.args.names.now c.loop-name.name-index _ (string_bytes c.loop-name.text) (string_bytes c.add_tally.new.text) c.loop-name-test.true
+    (tally_is c.args.is_json c.args.indent.now _ _ _ _ _ c.in_ok-add_tally.ensures c.count_parcels-count.ensures)
 
 pub returns : goal.returns
 returns g c =
     let sent = c.args.cluster.now.sent in
-    let line = λ (name : Text). tally_line name (count_by (is_under (word_by g.C.Msg.Letter.parts) name) sent) in
+    let line = λ (name : Text). tally_text c.args.is_json c.args.indent.now name (count_by (is_under (word_by g.C.Msg.Letter.parts) name) sent) in
     let text = λ (name : Bor Text). name.now in
     sym (c.loop-name.invariant ∙ each_end (λ (name : Bor Text). line name.now) c.args.names.now c.loop-name.name-index (string_bytes c.loop-name.text) c.loop-name-test.false)
     ∙ ap (λ (t : Text). string_bytes c.args.text.now ++ t) (each_map line text c.args.names.now)

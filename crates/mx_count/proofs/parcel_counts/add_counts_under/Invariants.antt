@@ -4,11 +4,11 @@ use Rattle.std.specs.List.{count_by}
 use Rattle.mx_plan.specs.Text.{Text}
 use Rattle.mx_format.specs.Lines.{each_text}
 use Rattle.mx_format.specs.Parts.{word_by}
-use Rattle.mx_count.specs.Counts.{tally_line}
 use Rattle.mx_count.specs.Kinds.{is_under}
+use Rattle.mx_count.specs.Tallies.{tally_text}
 use Rattle.mx_count.proofs.parcel_counts.add_counts_under.Given as goal
 
 abbrev pub invariant-loop-name : goal.invariant-loop-name
 invariant-loop-name g l =
-    let line = λ (name : Bor Text). tally_line name.now (count_by (is_under (word_by g.C.Msg.Letter.parts) name.now) l.cluster.sent) in
+    let line = λ (name : Bor Text). tally_text l.is_json l.indent name.now (count_by (is_under (word_by g.C.Msg.Letter.parts) name.now) l.cluster.sent) in
     string_bytes l.fn.text ++ each_text line l.names ≡ string_bytes l.text ++ each_text line (drop l.name-index l.names)

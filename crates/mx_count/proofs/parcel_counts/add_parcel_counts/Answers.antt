@@ -8,6 +8,8 @@ use Rattle.mx_count.proofs.parcel_counts.add_parcel_counts.Goals as goal
 pub returns : goal.returns
 returns g c =
     let texts = map (λ (name : Bor Text). name.now) in
-    named_is (word_by g.C.Msg.Letter.parts) c.args.cluster.now.sent g.C.Msg.Letter.words (texts c.letter_names.result.now) (texts c.words.result.now) (texts c.other_names.result.now)
-    (string_bytes c.args.text.now) (string_bytes c.add_counts_under.new.text) (string_bytes c.add_counts_under-2.new.text) (string_bytes c.add_counts_under-3.new.text) c.add_counts_under-3.result
-    c.letter_names.ensures c.words.ensures c.other_names.ensures c.in_ok-add_counts_under.ensures c.in_ok-add_counts_under-2.ensures c.add_counts_under-3.ensures
+    named_is (word_by g.C.Msg.Letter.parts) g.C.Msg.Letter.words c.args.is_json c.args.cluster.now.sent (texts c.letter_names.result.now) (texts c.words.result.now)
+    (texts c.other_names.result.now) (texts c.gossip_names.result.now)
+    (string_bytes c.args.text.now) (string_bytes c.add_counts_under.new.text) (string_bytes c.add_counts_under-2.new.text) (string_bytes c.add_counts_under-3.new.text)
+    (string_bytes c.add_counts_under-4.new.text) c.add_counts_under-4.result c.letter_names.ensures c.words.ensures c.other_names.ensures c.gossip_names.ensures
+    c.in_ok-add_counts_under.ensures c.in_ok-add_counts_under-2.ensures c.in_ok-add_counts_under-3.ensures c.add_counts_under-4.ensures

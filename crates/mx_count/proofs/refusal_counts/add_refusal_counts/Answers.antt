@@ -1,20 +1,17 @@
-use Rattle.std.proofs.Common.{◌∙◌, ◌++◌, ap, string_bytes, sym}
+use Rattle.std.proofs.Common.{[], map, string_bytes}
 use Rattle.std.specs.Borrow.{Bor}
-use Rattle.std.specs.List.{count_by}
 use Rattle.mx_plan.specs.Text.{Text}
-use Rattle.mx_format.proofs.Places.{each_end, each_more}
-use Rattle.mx_count.specs.Counts.{is_entry_under, tally_line}
-use Rattle.mx_count.proofs.CountedLemmas.{each_map, tally_is}
+use Rattle.mx_count.specs.Counts.{refusals_text}
+use Rattle.mx_count.specs.Kinds.{cause_names, refused_names}
+use Rattle.mx_count.specs.Tallies.{part_indent}
+use Rattle.mx_count.proofs.CountedLemmas.{two_named}
 use Rattle.mx_count.proofs.refusal_counts.add_refusal_counts.Goals as goal
-
-pub loop-name-preserved : goal.loop-name-preserved
-loop-name-preserved c =
-    let line = λ (name : Bor Text). tally_line name.now (count_by (is_entry_under name.now) c.args.trace.now) in
-    c.loop-name.invariant ∙ each_more line c.args.names.now c.loop-name.name-index _ (string_bytes c.loop-name.text) (string_bytes c.write.new.self) c.loop-name-test.true
-    (tally_is _ _ _ _ _ c.in_ok-write.ensures.bytes c.count_refusals.ensures)
 
 pub returns : goal.returns
 returns c =
-    let line = λ (name : Text). tally_line name (count_by (is_entry_under name) c.args.trace.now) in
-    sym (c.loop-name.invariant ∙ each_end (λ (name : Bor Text). line name.now) c.args.names.now c.loop-name.name-index (string_bytes c.loop-name.text) c.loop-name-test.false)
-    ∙ ap (λ (t : Text). string_bytes c.args.text.now ++ t) (each_map line (λ (name : Bor Text). name.now) c.args.names.now)
+    let texts = map (λ (name : Bor Text). name.now) in
+    let trace = c.args.trace.now in
+    two_named c.add_refusals_under-2.result (refusals_text c.args.is_json [] trace) (refusals_text c.args.is_json part_indent trace)
+    (string_bytes c.args.text.now) (string_bytes c.add_refusals_under.new.text) (string_bytes c.add_refusals_under-2.new.text)
+    (texts c.refused_names.result.now) (texts c.cause_names.result.now) refused_names cause_names c.refused_names.ensures c.cause_names.ensures
+    c.in_ok-add_refusals_under.ensures c.add_refusals_under-2.ensures

@@ -1,5 +1,5 @@
 use Rattle.mx_count.proofs.CountLemmas.{wait_end, wait_more}
-use Rattle.mx_count.specs.Counts.{longest_wait}
+use Rattle.mx_count.specs.Waits.{longest_wait}
 use Rattle.mx_count.proofs.waits.longest_wait.Goals as goal
 
 pub loop-index-preserved : goal.loop-index-preserved

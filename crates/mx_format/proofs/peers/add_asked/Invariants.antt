@@ -6,6 +6,6 @@ use Rattle.mx_format.proofs.peers.add_asked.Given as goal
 abbrev pub invariant-loop-j : goal.invariant-loop-j
 invariant-loop-j l = record {
   in_range : l.j ≤ length l.plan.nodes;
-  written : string_bytes l.initial.text ++ asked_names l.plan l.i
-      ≡ string_bytes l.text ++ texts_from (λ k name. asked_text l.plan l.i k) l.j (drop l.j l.plan.nodes);
+  written : string_bytes l.initial.text ++ asked_names l.is_json l.plan l.i
+      ≡ string_bytes l.text ++ texts_from (λ k name. asked_text l.is_json l.plan l.i k) l.j (drop l.j l.plan.nodes);
 }

@@ -6,6 +6,6 @@ use Rattle.mx_format.proofs.plans.add_directions.Given as goal
 abbrev pub invariant-loop-i : goal.invariant-loop-i
 invariant-loop-i l = record {
   in_range : l.i ≤ length l.plan.nodes;
-  written : string_bytes l.initial.text ++ toward_lines l.plan l.tree
-      ≡ string_bytes l.text ++ texts_from (λ k name. toward_text l.plan l.tree k) l.i (drop l.i l.plan.nodes);
+  written : string_bytes l.initial.text ++ toward_lines l.is_json l.plan l.tree
+      ≡ string_bytes l.text ++ texts_from (λ k name. toward_text l.is_json l.plan l.tree k) l.i (drop l.i l.plan.nodes);
 }

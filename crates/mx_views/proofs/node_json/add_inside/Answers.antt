@@ -1,5 +1,5 @@
 use Rattle.std.specs.Prelude.{codes, string_bytes}
-use Rattle.mx_views.specs.Members.{number_member, word_member}
+use Rattle.mx_format.specs.Members.{number_member, word_member}
 use Rattle.mx_views.proofs.JsonLemmas.{both_written}
 use Rattle.mx_views.proofs.node_json.add_inside.Goals as goal
 

@@ -1,5 +1,5 @@
 use Rattle.std.specs.Prelude.{codes, string_bytes}
-use Rattle.mx_views.specs.Members.{array_json}
+use Rattle.mx_views.specs.Arrays.{array_json}
 use Rattle.mx_views.specs.ParcelJson.{record_json}
 use Rattle.mx_views.proofs.JsonLemmas.{both_written}
 use Rattle.mx_views.proofs.parcel_json.add_records.Goals as goal

@@ -1,0 +1,55 @@
+//! The object of a verdict, as JSON.
+
+ghost use Rattle.std.specs.Prelude.{◌≡◌, Some};
+ghost use Rattle.mx_commands.specs.VerdictLines.{broken_json, clause_text, verdict_json};
+
+use mx_explorer::{Clause, Verdict};
+use mx_format::json::{Number, Word};
+use std::fmt;
+
+/// The object of a verdict.
+#[derive(Clone, Copy)]
+pub struct VerdictJson(pub Verdict);
+
+impl fmt::Display for VerdictJson {
+    ghost output = { λ v. Some (verdict_json v.0) };
+
+    fn fmt<W: fmt::Write>(&self, f: &mut fmt::Formatter<W>) -> fmt::Result {
+        match self.0 {
+            Verdict::Sound => f.write_str("{\"verdict\":\"sound\"}\n"),
+            Verdict::Broken(index, clause) => BrokenJson {
+                index,
+                name: clause_name(clause),
+            }
+            .fmt(f),
+        }
+    }
+}
+
+/// The object of a broken verdict: the event at which it is, and the clause.
+#[derive(Clone, Copy)]
+struct BrokenJson<'a> {
+    index: u64,
+    name: &'a str,
+}
+
+impl fmt::Display for BrokenJson<'_> {
+    ghost output = { λ b. Some (broken_json b.index b.name.now) };
+
+    fn fmt<W: fmt::Write>(&self, f: &mut fmt::Formatter<W>) -> fmt::Result {
+        let index = Number("index", self.index);
+        let clause = Word("clause", self.name);
+        write!(f, "{{\"verdict\":\"broken\"{index}{clause}}}\n")
+    }
+}
+
+/// What is broken.
+fn clause_name(clause: Clause) -> &'static str
+    ensures { result.now ≡ clause_text clause }
+{
+    match clause {
+        Clause::Overlap => "overlap",
+        Clause::Number => "number",
+        Clause::Read => "read",
+    }
+}

@@ -1,0 +1,134 @@
+-- How long requests take, in letters: response times and synchronization delays.
+use Rattle.std.specs.Prelude.{ℕ, ◌+◌, ◌++◌, Bool, false, not, List, [], ◌∷◌, Option, Some, None, codes, length, max, min, nat_eq, position, slice_get, take, if◌then◌else◌}
+use Rattle.std.specs.List.{count_by}
+use Rattle.std.specs.Option.{option_map_or}
+use Rattle.mx_events.specs.declared.event.Event.{Event}
+use Rattle.mx_events.specs.declared.event.Event.TheVariants.{Deliver, Leave}
+use Rattle.mx_trace.specs.declared.outcome.Entry.{Entry}
+use Rattle.mx_trace.specs.declared.outcome.Outcome.{Outcome}
+use Rattle.mx_trace.specs.declared.outcome.Outcome.TheVariants.{Asked, Left}
+use Rattle.mx_member.specs.declared.parcel.Parcel.{Parcel}
+use Rattle.mx_member.specs.declared.parcel.Parcel.TheVariants.{Guard}
+use Rattle.mx_commands.specs.Explored.{is_entry}
+use Rattle.mx_plan.specs.Text.{Text}
+use Rattle.mx_count.specs.Waits.{ends_wait}
+use Rattle.mx_count.specs.NodeCounts.{is_entry_of}
+use Rattle.mx_count.specs.Tallies.{absent_text, labelled, quotient_text, value_end, value_start}
+use Rattle.mx_count.specs.declared.measures.Measure.{Measure}
+use Rattle.mx_count.specs.declared.measures.Measure.TheVariants.{Response, Delay}
+
+-- ---- letters
+
+-- a letter from one node to another, among the parcels of gossip and the letters of nodes to
+-- themselves
+abbrev pub is_between : {M : Type 0} → ℕ → ℕ → Parcel M → Bool
+is_between from to (Guard letter) = not (nat_eq from to)
+is_between from to _ = false
+
+abbrev pub is_letter : {M : Type 0} → Option (ℕ × ℕ × Parcel M) → Bool
+is_letter None = false
+is_letter (Some p) = is_between p.0 p.1 p.2
+
+-- an event delivers such a letter
+abbrev pub delivers_letter : {M : Type 0} → List (ℕ × ℕ × Parcel M) → Event → Bool
+delivers_letter sent (Deliver k) = is_letter (slice_get sent k)
+delivers_letter sent _ = false
+
+-- the letters delivered, repeated ones too
+abbrev pub letters_in : {M : Type 0} → List (ℕ × ℕ × Parcel M) → List Entry → ℕ
+letters_in sent es = count_by (λ entry. delivers_letter sent entry.event) es
+
+-- ---- where they end
+
+-- the place, if what is there is of this kind
+abbrev pub place_if : (Entry → Bool) → List Entry → Option ℕ → Option ℕ
+place_if p es None = None
+place_if p es (Some k) = if option_map_or p (slice_get es k) false then Some k else None
+
+-- a response time ends where the node that asked enters, unless it gives up before
+abbrev pub response_end : ℕ → List Entry → Option ℕ
+response_end node es = place_if is_entry es (position (ends_wait node) es)
+
+-- a synchronization delay ends at the next section, unless it is of the node that left
+abbrev pub delay_end : ℕ → List Entry → Option ℕ
+delay_end node es = place_if (λ entry. not (is_entry_of node entry)) es (position is_entry es)
+
+-- a response time begins where a node asks, a synchronization delay where it leaves
+abbrev pub response_from : Outcome → List Entry → Option ℕ
+response_from (Asked stamp) es = response_end stamp.node es
+response_from _ es = None
+
+abbrev pub delay_from : Event → Outcome → List Entry → Option ℕ
+delay_from (Leave node) (Left receipt) es = delay_end node es
+delay_from _ _ es = None
+
+abbrev pub end_from : Measure → Entry → List Entry → Option ℕ
+end_from Response entry es = response_from entry.outcome es
+end_from Delay entry es = delay_from entry.event entry.outcome es
+
+-- ---- the measures of a trace
+
+-- the letters that are delivered up to a place
+abbrev pub letters_until : {M : Type 0} → List (ℕ × ℕ × Parcel M) → List Entry → Option ℕ → List ℕ
+letters_until sent es None = []
+letters_until sent es (Some k) = letters_in sent (take k es) ∷ []
+
+-- the letters of each of them, in the order in which they begin
+unfoldable pub measured : {M : Type 0} → Measure → List (ℕ × ℕ × Parcel M) → List Entry → List ℕ
+measured measure sent [] = []
+measured measure sent (e ∷ es) =
+    letters_until sent es (end_from measure e es) ++ measured measure sent es
+
+-- ---- their text
+
+-- the least, the sum and the greatest of numbers, from those of others on
+unfoldable pub least_from : ℕ → List ℕ → ℕ
+least_from least [] = least
+least_from least (x ∷ xs) = least_from (min least x) xs
+
+unfoldable pub sum_from : ℕ → List ℕ → ℕ
+sum_from sum [] = sum
+sum_from sum (x ∷ xs) = sum_from (sum + x) xs
+
+unfoldable pub greatest_from : ℕ → List ℕ → ℕ
+greatest_from greatest [] = greatest
+greatest_from greatest (x ∷ xs) = greatest_from (max greatest x) xs
+
+abbrev pub least_start : Bool → Text
+least_start is_json = if is_json then codes "{\"least\":" else codes "least "
+
+abbrev pub least_text : Bool → ℕ → Text
+least_text is_json least = labelled (least_start is_json) least
+
+abbrev pub greatest_start : Bool → Text
+greatest_start is_json = if is_json then codes ",\"greatest\":" else codes ", greatest "
+
+abbrev pub greatest_text : Bool → ℕ → Text
+greatest_text is_json greatest = labelled (greatest_start is_json) greatest
+
+abbrev pub mean_start : Bool → Text
+mean_start is_json = if is_json then codes ",\"mean\":" else codes ", mean "
+
+abbrev pub measure_end : Bool → Text
+measure_end is_json = if is_json then codes "}" else []
+
+-- the least, the mean and the greatest of numbers, of which there is one at least
+abbrev pub spread_text : Bool → ℕ → List ℕ → Text
+spread_text is_json x xs =
+    least_text is_json (least_from x xs)
+    ++ (mean_start is_json ++ quotient_text (sum_from x xs) (length xs + 1))
+    ++ greatest_text is_json (greatest_from x xs) ++ measure_end is_json
+
+abbrev pub numbers_text : Bool → List ℕ → Text
+numbers_text is_json [] = absent_text is_json
+numbers_text is_json (x ∷ xs) = spread_text is_json x xs
+
+abbrev pub measure_name : Measure → Text
+measure_name Response = codes "response time"
+measure_name Delay = codes "synchronization delay"
+
+abbrev pub measure_text : {M : Type 0} → Bool → List (ℕ × ℕ × Parcel M) → List Entry → Measure
+    → Text
+measure_text is_json sent trace measure =
+    (value_start is_json (measure_name measure)
+    ++ numbers_text is_json (measured measure sent trace)) ++ value_end is_json

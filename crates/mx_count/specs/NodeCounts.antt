@@ -1,0 +1,85 @@
+-- What is counted of each node of a cluster.
+use Rattle.std.specs.Prelude.{ℕ, ◌&&◌, ◌++◌, Bool, false, List, Option, Some, None, codes, decimal, nat_eq, slice_get, if◌then◌else◌}
+use Rattle.std.specs.List.{count_by}
+use Rattle.mx_events.specs.Events.{node_of}
+use Rattle.mx_events.specs.declared.event.Event.{Event}
+use Rattle.mx_events.specs.declared.event.Event.TheVariants.{Deliver}
+use Rattle.mx_trace.specs.declared.outcome.Entry.{Entry}
+use Rattle.mx_member.specs.declared.parcel.Parcel.{Parcel}
+use Rattle.mx_network.specs.Step.{ClusterState}
+use Rattle.mx_commands.specs.Explored.{is_entry}
+use Rattle.mx_plan.specs.Text.{Text}
+use Rattle.mx_plan.specs.Fields.{Fields}
+use Rattle.mx_format.specs.EventTexts.{name_of}
+use Rattle.mx_format.specs.Lines.{texts_from}
+use Rattle.mx_format.specs.Members.{node_start, number_member}
+use Rattle.mx_count.specs.Waits.{is_refusal}
+
+-- this node is that of an event
+abbrev pub is_node : ℕ → Option ℕ → Bool
+is_node i None = false
+is_node i (Some node) = nat_eq node i
+
+-- a node enters here
+abbrev pub is_entry_of : ℕ → Entry → Bool
+is_entry_of i entry = is_node i (node_of entry.event) && is_entry entry
+
+-- an event of a node is refused
+abbrev pub is_refusal_of : ℕ → Entry → Bool
+is_refusal_of i entry = is_node i (node_of entry.event) && is_refusal entry.outcome
+
+-- a node is the addressee of a parcel
+abbrev pub is_addressee : {M : Type 0} → ℕ → Option (ℕ × ℕ × Parcel M) → Bool
+is_addressee i None = false
+is_addressee i (Some p) = nat_eq p.1 i
+
+-- a parcel is delivered to a node
+abbrev pub is_delivered_to : {M : Type 0} → ℕ → List (ℕ × ℕ × Parcel M) → Event → Bool
+is_delivered_to i sent (Deliver k) = is_addressee i (slice_get sent k)
+is_delivered_to i sent _ = false
+
+-- how often a node entered; the parcels that it sent; its deliveries, repeated ones too; its events
+-- that were refused
+abbrev pub entries_of : {S M : Type 0} → ℕ → ClusterState S M → ℕ
+entries_of i g = count_by (is_entry_of i) g.trace
+
+abbrev pub sent_of : {S M : Type 0} → ℕ → ClusterState S M → ℕ
+sent_of i g = count_by (λ p. nat_eq p.0 i) g.sent
+
+abbrev pub received_of : {S M : Type 0} → ℕ → ClusterState S M → ℕ
+received_of i g = count_by (λ entry. is_delivered_to i g.sent entry.event) g.trace
+
+abbrev pub refused_of : {S M : Type 0} → ℕ → ClusterState S M → ℕ
+refused_of i g = count_by (is_refusal_of i) g.trace
+
+-- ---- the text of a node
+
+abbrev pub node_tally_text : Text → Text → ℕ → Text
+node_tally_text before name count = before ++ name ++ codes " " ++ decimal count
+
+-- a name and its count, in a line after what separates them from the others
+abbrev pub node_tally : Bool → Text → Text → ℕ → Text
+node_tally is_json before name count =
+    if is_json then number_member name count else node_tally_text before name count
+
+abbrev pub node_head : Bool → Fields → ℕ → Text
+node_head is_json p i = if is_json then node_start p i else name_of p i
+
+abbrev pub node_end : Bool → Text
+node_end is_json = if is_json then codes "}\n" else codes "\n"
+
+-- the counts of the i-th node
+abbrev pub node_tallies : {S M : Type 0} → Bool → ClusterState S M → ℕ → Text
+node_tallies is_json g i =
+    node_tally is_json (codes ": ") (codes "sections") (entries_of i g)
+    ++ node_tally is_json (codes ", ") (codes "sent") (sent_of i g)
+    ++ node_tally is_json (codes ", ") (codes "received") (received_of i g)
+    ++ node_tally is_json (codes ", ") (codes "refused") (refused_of i g)
+
+abbrev pub node_text : {S M : Type 0} → Bool → Fields → ClusterState S M → ℕ → Text
+node_text is_json p g i =
+    node_head is_json p i ++ node_tallies is_json g i ++ node_end is_json
+
+-- those of all nodes, in the order of the plan
+abbrev pub nodes_text : {S M : Type 0} → Bool → Fields → ClusterState S M → Text
+nodes_text is_json p g = texts_from (λ i name. node_text is_json p g i) 0 p.nodes

@@ -1,0 +1,183 @@
+//! How long requests take, in letters: response times and synchronization delays.
+
+ghost use Rattle.std.specs.Prelude.{◌≡◌, ◌<◌, ◌≤◌, ◌++◌, ◌+◌, IfOk, IfSome, OnOk, length, position, slice_get, take};
+ghost use Rattle.std.specs.Option.{option_map_or};
+ghost use Rattle.mx_commands.specs.Explored.{is_entry};
+ghost use Rattle.mx_count.specs.Waits.{ends_wait};
+ghost use Rattle.mx_count.specs.Measures.{delay_end, delay_from, delivers_letter, end_from, is_between, is_letter, letters_in, letters_until, measured, response_end, response_from};
+
+use crate::node_counts::is_entry_of;
+use crate::waits::end_in;
+use mx_commands::is_entry;
+use mx_member::{Parcel, SentParcel};
+use mx_network::{Cluster, Entry, Event, Outcome};
+use mx_nodelaws::Exclusion;
+use mx_stamps::NodeId;
+use std::alloc::{AllocError, Global};
+
+/// What is measured in letters.
+#[derive(Clone, Copy)]
+pub(crate) enum Measure {
+    /// From an ask to the enter of the same node.
+    Response,
+    /// From a leave to the next enter, of another node.
+    Delay,
+}
+
+/// Returns the letters delivered in each response time, or in each synchronization delay, in the
+/// order in which they begin.
+pub(crate) fn measured<C: Exclusion>(
+    alloc: Global,
+    cluster: &Cluster<C>,
+    measure: Measure,
+) -> Result<Vec<u64>, AllocError>
+    ensures { IfOk result (λ numbers. numbers.items
+        ≡ measured measure cluster.now.sent cluster.now.trace) }
+{
+    measured_in(alloc, cluster, measure, cluster.trace())
+}
+
+/// Returns the same of a trace.
+fn measured_in<C: Exclusion>(
+    alloc: Global,
+    cluster: &Cluster<C>,
+    measure: Measure,
+    trace: &[Entry],
+) -> Result<Vec<u64>, AllocError>
+    ensures { IfOk result (λ numbers. numbers.items
+        ≡ measured measure cluster.now.sent trace.now) }
+{
+    let mut numbers = Vec::new(alloc);
+    for (index, entry) in trace.iter().enumerate() {
+        add_measured(cluster, measure, entry, &trace[index + 1..], &mut numbers)?;
+    }
+    Ok(numbers)
+}
+
+/// Appends the letters of what begins at an item of the trace and ends after it, if there is such.
+fn add_measured<C: Exclusion>(
+    cluster: &Cluster<C>,
+    measure: Measure,
+    entry: &Entry,
+    rest: &[Entry],
+    numbers: &mut Vec<u64>,
+) -> Result<(), AllocError>
+    ensures { OnOk result (numbers.new.items ≡ numbers.old.items
+        ++ letters_until cluster.now.sent rest.now (end_from measure entry.now rest.now)) }
+{
+    let Some(end) = end_from(measure, entry, rest) else {
+        return Ok(());
+    };
+    numbers.push(letters_in(cluster, &rest[..end]))?;
+    Ok(())
+}
+
+/// Returns the number of letters that these items of the trace deliver.
+fn letters_in<C: Exclusion>(cluster: &Cluster<C>, entries: &[Entry]) -> u64
+    ensures { result ≡ letters_in cluster.now.sent entries.now }
+{
+    let mut count = 0;
+    for entry in entries {
+        count += u64::from(delivers_letter(cluster, &entry.event));
+    }
+    count
+}
+
+/// Whether an event delivers a letter from one node to another.
+fn delivers_letter<C: Exclusion>(cluster: &Cluster<C>, event: &Event) -> bool
+    ensures { result ≡ delivers_letter cluster.now.sent event.now }
+{
+    match event {
+        Event::Deliver(number) => is_letter(cluster, *number),
+        _ => false,
+    }
+}
+
+/// Whether the parcel of this number is a letter from one node to another.
+fn is_letter<C: Exclusion>(cluster: &Cluster<C>, number: u64) -> bool
+    ensures { result ≡ is_letter (slice_get cluster.now.sent number) }
+{
+    match cluster.sent_parcel(number) {
+        Some(sent) => is_between(&sent),
+        None => false,
+    }
+}
+
+/// Whether a parcel is a letter from one node to another.
+fn is_between<M>(sent: &SentParcel<'_, M>) -> bool
+    ensures { result ≡ is_between sent.now.from sent.now.to sent.now.parcel.now }
+{
+    match sent.parcel {
+        Parcel::Guard(_) => sent.from.get() != sent.to.get(),
+        _ => false,
+    }
+}
+
+/// Returns the place after an item of the trace at which what begins there ends.
+fn end_from(measure: Measure, entry: &Entry, rest: &[Entry]) -> Option<usize>
+    ensures value { result ≡ end_from measure entry.now rest.now }
+    ensures within { IfSome result (λ end. end < length rest.now) }
+{
+    match measure {
+        Measure::Response => response_from(&entry.outcome, rest),
+        Measure::Delay => delay_from(&entry.event, &entry.outcome, rest),
+    }
+}
+
+fn response_from(outcome: &Outcome, rest: &[Entry]) -> Option<usize>
+    ensures value { result ≡ response_from outcome.now rest.now }
+    ensures within { IfSome result (λ end. end < length rest.now) }
+{
+    match outcome {
+        Outcome::Asked(stamp) => response_end(stamp.node, rest),
+        _ => None,
+    }
+}
+
+fn delay_from(event: &Event, outcome: &Outcome, rest: &[Entry]) -> Option<usize>
+    ensures value { result ≡ delay_from event.now outcome.now rest.now }
+    ensures within { IfSome result (λ end. end < length rest.now) }
+{
+    match (event, outcome) {
+        (Event::Leave(node), Outcome::Left(_)) => delay_end(*node, rest),
+        _ => None,
+    }
+}
+
+/// Returns the place at which a node enters that asked before, if it does not give up.
+fn response_end(node: NodeId, rest: &[Entry]) -> Option<usize>
+    ensures value { result ≡ response_end node rest.now }
+    ensures within { IfSome result (λ end. end < length rest.now) }
+{
+    let Some(end) = end_in(node, rest) else {
+        return None;
+    };
+    if is_entry(&rest[end]) {
+        Some(end)
+    } else {
+        None
+    }
+}
+
+/// Returns the place of the next section, if another node enters it.
+fn delay_end(node: NodeId, rest: &[Entry]) -> Option<usize>
+    ensures value { result ≡ delay_end node rest.now }
+    ensures within { IfSome result (λ end. end < length rest.now) }
+{
+    let Some(end) = next_entry(rest) else {
+        return None;
+    };
+    if is_entry_of(node, &rest[end]) {
+        None
+    } else {
+        Some(end)
+    }
+}
+
+/// Returns the place of the next section.
+fn next_entry(rest: &[Entry]) -> Option<usize>
+    ensures value { result ≡ position is_entry rest.now }
+    ensures within { IfSome result (λ index. index < length rest.now) }
+{
+    rest.iter().position(|entry| is_entry(entry))
+}

@@ -1,0 +1,155 @@
+//! The least, the mean and the greatest of numbers.
+
+ghost use Rattle.std.specs.Prelude.{◌≡◌, ◌++◌, ◌+◌, OnOk, length, string_bytes};
+ghost use Rattle.mx_count.specs.Measures.{greatest_from, greatest_start, greatest_text, least_from, least_start, least_text, mean_start, measure_end, measure_name, measure_text, numbers_text, spread_text, sum_from};
+ghost use Rattle.mx_count.specs.Tallies.{quotient_text};
+
+use crate::count_lines::Labelled;
+use crate::measures::{Measure, measured};
+use crate::tallies::{add_absent, add_quotient, add_value_end, add_value_start};
+use mx_network::Cluster;
+use mx_nodelaws::Exclusion;
+use std::alloc::{AllocError, Global};
+
+/// Appends the least, the mean and the greatest of what is measured.
+pub(crate) fn add_measure<C: Exclusion>(
+    alloc: Global,
+    cluster: &Cluster<C>,
+    is_json: bool,
+    measure: Measure,
+    text: &mut String,
+) -> Result<(), AllocError>
+    ensures { OnOk result (string_bytes text.new ≡ string_bytes text.old
+        ++ measure_text is_json cluster.now.sent cluster.now.trace measure) }
+{
+    let numbers = measured(alloc, cluster, measure)?;
+    add_value_start(is_json, measure_name(measure), text)?;
+    add_numbers(is_json, numbers.as_slice(), text)?;
+    add_value_end(is_json, text)
+}
+
+/// Returns the name of a measure.
+fn measure_name(measure: Measure) -> &'static str
+    ensures { result.now ≡ measure_name measure }
+{
+    match measure {
+        Measure::Response => "response time",
+        Measure::Delay => "synchronization delay",
+    }
+}
+
+/// Appends the least, the mean and the greatest of numbers, or that there are none.
+fn add_numbers(is_json: bool, numbers: &[u64], text: &mut String) -> Result<(), AllocError>
+    ensures { OnOk result (string_bytes text.new
+        ≡ string_bytes text.old ++ numbers_text is_json numbers.now) }
+{
+    let Some((first, rest)) = numbers.split_first() else {
+        return add_absent(is_json, text);
+    };
+    add_spread(is_json, *first, rest, text)
+}
+
+/// Appends the least, the mean and the greatest of a number and others.
+fn add_spread(is_json: bool, first: u64, rest: &[u64], text: &mut String) -> Result<(), AllocError>
+    ensures { OnOk result (string_bytes text.new
+        ≡ string_bytes text.old ++ spread_text is_json first rest.now) }
+{
+    add_least(is_json, least_of(first, rest), text)?;
+    add_mean(is_json, first, rest, text)?;
+    add_greatest(is_json, greatest_of(first, rest), text)?;
+    add_measure_end(is_json, text)
+}
+
+/// Appends the least of numbers.
+fn add_least(is_json: bool, least: u64, text: &mut String) -> Result<(), AllocError>
+    ensures { OnOk result (string_bytes text.new
+        ≡ string_bytes text.old ++ least_text is_json least) }
+{
+    text.write(Labelled(least_start(is_json), least))
+}
+
+fn least_start(is_json: bool) -> &'static str
+    ensures { result.now ≡ least_start is_json }
+{
+    if is_json { "{\"least\":" } else { "least " }
+}
+
+/// Appends the mean of a number and others.
+fn add_mean(is_json: bool, first: u64, rest: &[u64], text: &mut String) -> Result<(), AllocError>
+    ensures { OnOk result (string_bytes text.new ≡ string_bytes text.old
+        ++ (mean_start is_json ++ quotient_text (sum_from first rest.now) (length rest.now + 1))) }
+{
+    add_mean_start(is_json, text)?;
+    add_quotient(sum_of(first, rest), rest.len() as u64 + 1, text)
+}
+
+/// Appends the name of a mean.
+fn add_mean_start(is_json: bool, text: &mut String) -> Result<(), AllocError>
+    ensures { OnOk result (string_bytes text.new ≡ string_bytes text.old ++ mean_start is_json) }
+{
+    if is_json {
+        return text.push_str(",\"mean\":");
+    }
+    text.push_str(", mean ")
+}
+
+/// Appends the greatest of numbers.
+fn add_greatest(is_json: bool, greatest: u64, text: &mut String) -> Result<(), AllocError>
+    ensures { OnOk result (string_bytes text.new
+        ≡ string_bytes text.old ++ greatest_text is_json greatest) }
+{
+    text.write(Labelled(greatest_start(is_json), greatest))
+}
+
+fn greatest_start(is_json: bool) -> &'static str
+    ensures { result.now ≡ greatest_start is_json }
+{
+    if is_json {
+        ",\"greatest\":"
+    } else {
+        ", greatest "
+    }
+}
+
+/// Ends the object of a measure.
+fn add_measure_end(is_json: bool, text: &mut String) -> Result<(), AllocError>
+    ensures { OnOk result (string_bytes text.new ≡ string_bytes text.old ++ measure_end is_json) }
+{
+    if is_json {
+        return text.push_str("}");
+    }
+    Ok(())
+}
+
+/// Returns the least of a number and others.
+fn least_of(first: u64, rest: &[u64]) -> u64
+    ensures { result ≡ least_from first rest.now }
+{
+    let mut least = first;
+    for number in rest {
+        least = least.min(*number);
+    }
+    least
+}
+
+/// Returns the greatest of a number and others.
+fn greatest_of(first: u64, rest: &[u64]) -> u64
+    ensures { result ≡ greatest_from first rest.now }
+{
+    let mut greatest = first;
+    for number in rest {
+        greatest = greatest.max(*number);
+    }
+    greatest
+}
+
+/// Returns the sum of a number and others.
+fn sum_of(first: u64, rest: &[u64]) -> u128
+    ensures { result ≡ sum_from first rest.now }
+{
+    let mut sum = u128::from(first);
+    for number in rest {
+        sum += u128::from(*number);
+    }
+    sum
+}

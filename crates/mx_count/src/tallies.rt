@@ -1,0 +1,158 @@
+//! Counts and values with their names, as lines or as members of an object of JSON.
+
+ghost use Rattle.std.specs.Prelude.{◌≡◌, ◌≢◌, ◌++◌, [], OnOk, string_bytes};
+ghost use Rattle.mx_count.specs.Tallies.{absent_text, counts_end, first_tally_text, key_text, quotient_text, share_of, share_text, tally_text, value_end, value_start};
+
+use crate::count_lines::{TallyLine, TenthsText};
+use mx_format::json::{NumberStart, add_number};
+use std::alloc::AllocError;
+
+/// How far a part is indented below its sum.
+pub(crate) const PART_INDENT: &str = "  ";
+
+/// How far a part of a part is indented.
+pub(crate) const KIND_INDENT: &str = "    ";
+
+/// Appends the first count of an object, or of lines.
+pub(crate) fn add_first_tally(
+    is_json: bool,
+    name: &str,
+    count: u64,
+    text: &mut String,
+) -> Result<(), AllocError>
+    ensures { OnOk result (string_bytes text.new
+        ≡ string_bytes text.old ++ first_tally_text is_json name.now count) }
+{
+    if is_json {
+        return text.write(NumberStart(name, count));
+    }
+    let indent = "";
+    text.write(TallyLine {
+        indent,
+        name,
+        count,
+    })
+}
+
+/// Appends a count.
+pub(crate) fn add_tally(
+    is_json: bool,
+    indent: &str,
+    name: &str,
+    count: u64,
+    text: &mut String,
+) -> Result<(), AllocError>
+    ensures { OnOk result (string_bytes text.new
+        ≡ string_bytes text.old ++ tally_text is_json indent.now name.now count) }
+{
+    if is_json {
+        return add_number(name, count, text);
+    }
+    text.write(TallyLine {
+        indent,
+        name,
+        count,
+    })
+}
+
+/// Appends the number of letters for each section entered.
+pub(crate) fn add_share(
+    is_json: bool,
+    letters: u64,
+    sections: u64,
+    text: &mut String,
+) -> Result<(), AllocError>
+    ensures { OnOk result (string_bytes text.new
+        ≡ string_bytes text.old ++ share_text is_json letters sections) }
+{
+    add_value_start(is_json, "letters for each section", text)?;
+    add_share_value(is_json, letters, sections, text)?;
+    add_value_end(is_json, text)
+}
+
+/// Appends the quotient of letters and sections, if there are sections.
+fn add_share_value(
+    is_json: bool,
+    letters: u64,
+    sections: u64,
+    text: &mut String,
+) -> Result<(), AllocError>
+    ensures { OnOk result (string_bytes text.new
+        ≡ string_bytes text.old ++ share_of is_json letters sections) }
+{
+    if sections == 0 {
+        return add_absent(is_json, text);
+    }
+    add_quotient(u128::from(letters), sections, text)
+}
+
+/// Appends a quotient with one decimal, rounded down.
+pub(crate) fn add_quotient(sum: u128, number: u64, text: &mut String) -> Result<(), AllocError>
+    requires { number ≢ 0 }
+    ensures { OnOk result (string_bytes text.new
+        ≡ string_bytes text.old ++ quotient_text sum number) }
+{
+    let divisor = u128::from(number);
+    text.write(TenthsText {
+        whole: sum / divisor,
+        tenths: sum % divisor * 10 / divisor,
+    })
+}
+
+/// Appends that there is no such value.
+pub(crate) fn add_absent(is_json: bool, text: &mut String) -> Result<(), AllocError>
+    ensures { OnOk result (string_bytes text.new
+        ≡ string_bytes text.old ++ absent_text is_json) }
+{
+    if is_json {
+        return text.push_str("null");
+    }
+    text.push_str("none")
+}
+
+/// Appends the name of a value.
+pub(crate) fn add_value_start(
+    is_json: bool,
+    name: &str,
+    text: &mut String,
+) -> Result<(), AllocError>
+    ensures { OnOk result (string_bytes text.new
+        ≡ string_bytes text.old ++ value_start is_json name.now) }
+{
+    if is_json {
+        return add_key(name, text);
+    }
+    text.push_str(name)?;
+    text.push_str(" ")
+}
+
+/// Appends the key of a member, after a comma.
+fn add_key(name: &str, text: &mut String) -> Result<(), AllocError>
+    ensures { OnOk result (string_bytes text.new ≡ string_bytes text.old ++ key_text name.now) }
+{
+    text.push_str(",\"")?;
+    text.push_str(name)?;
+    text.push_str("\":")
+}
+
+/// Appends what comes after a value.
+pub(crate) fn add_value_end(is_json: bool, text: &mut String) -> Result<(), AllocError>
+    ensures { OnOk result (string_bytes text.new
+        ≡ string_bytes text.old ++ value_end is_json) }
+{
+    if is_json {
+        return Ok(());
+    }
+    text.push_str("\n")
+}
+
+/// Closes the object of a cluster's counts.
+pub(crate) fn add_counts_end(is_json: bool, text: &mut String) -> Result<(), AllocError>
+    ensures { OnOk result (string_bytes text.new
+        ≡ string_bytes text.old ++ counts_end is_json) }
+{
+    if is_json {
+        return text.push_str("}\n");
+    }
+    Ok(())
+}

@@ -1,0 +1,113 @@
+//! `check` with `--json`: from words, named bytes and two outputs to a status.
+
+ghost use Rattle.std.specs.Prelude.{◌≡◌, ◌++◌, true, IsSome, IfSome, IfOk, OnOk, string_bytes};
+ghost use Rattle.std.specs.Io.KnownBytes.{Appends};
+ghost use Rattle.mx_cli.specs.Words.{texts_of};
+ghost use Rattle.mx_cli.specs.Told.{Answers, seen};
+ghost use Rattle.mx_cli.specs.Closed.{IsRunStatus, PassesOn};
+ghost use Rattle.mx_format.specs.AskTexts.{plan_asks_text_by};
+ghost use Rattle.mx_views.specs.PlanObjects.{PrintsObjects, objects_of};
+ghost use Rattle.mx_views.specs.PlanWords.{check_line, plan_asked, plan_request_of};
+
+use crate::plan_words::{PlanRequest, parse_plan};
+use mx_cli::{Stop, close, fetch_plan, refuse};
+use mx_commands::print;
+use mx_format::{add_asks_json, add_plan_json};
+use mx_io::{Output, Source};
+use mx_plan::Plan;
+use std::alloc::{AllocError, Global};
+
+/// Runs the words of a command line that is `check` with `--json`, without the program's name, and
+/// returns the status: 0 if all went well, or help was asked for, 1 if the plan, a file or an output
+/// is at fault, 2 if the words are not those of the command, 5 if memory ran out.
+pub fn check_objects<S: Source, O: Output, E: Output>(
+    alloc: Global,
+    words: &[&str],
+    source: &mut S,
+    out: &mut O,
+    err: &mut E,
+) -> u8
+    ensures printed { IfSome (plan_asked (texts_of words.entry.now)) (λ request.
+        result ≡ 0
+        → PrintsObjects (S.told source.old) request (O.written out.old) (O.written out.new)) }
+    ensures passed { IsSome (plan_asked (texts_of words.entry.now))
+        → PassesOn (E.written err.old) (E.written err.new) (O.keeps_back out.new) result }
+    ensures status { IsSome (plan_asked (texts_of words.entry.now)) → IsRunStatus result }
+    ensures answers { Answers check_line (texts_of words.entry.now) (O.takes_all out.old)
+        (seen O.Output E.Output out.old err.old) (seen O.Output E.Output out.new err.new) result }
+{
+    match parse_plan(alloc, words) {
+        Ok(Some(request)) => check_and_close(alloc, &request, source, out, err),
+        Ok(None) => 2,
+        Err(e) => refuse(alloc, &e, out, err),
+    }
+}
+
+/// Prints what a plan says, and closes the run. Returns the status.
+fn check_and_close<S: Source, O: Output, E: Output>(
+    alloc: Global,
+    request: &PlanRequest<'_>,
+    source: &mut S,
+    out: &mut O,
+    err: &mut E,
+) -> u8
+    ensures printed { result ≡ 0 → PrintsObjects (S.told source.old)
+        (plan_request_of request.now) (O.written out.old) (O.written out.new) }
+    ensures passed { PassesOn (E.written err.old) (E.written err.new) (O.keeps_back out.new)
+        result }
+    ensures status { IsRunStatus result }
+{
+    let ended = check_plan(alloc, request, source, out);
+    close(alloc, ended, &request.names(), out, err)
+}
+
+/// Reads a plan, and prints what it says. Returns the status.
+fn check_plan<S: Source, O: Output>(
+    alloc: Global,
+    request: &PlanRequest<'_>,
+    source: &mut S,
+    out: &mut O,
+) -> Result<u8, Stop>
+    ensures printed { IfOk result (λ _. PrintsObjects (S.told source.old)
+        (plan_request_of request.now) (O.written out.old) (O.written out.new)) }
+    ensures zero { IfOk result (λ status. status ≡ 0) }
+{
+    let plan = fetch_plan(alloc, source, request.plan)?;
+    print_objects(alloc, &plan, request.has_asks, out)
+}
+
+/// Prints what a plan says. Returns the status.
+fn print_objects<O: Output>(
+    alloc: Global,
+    plan: &Plan,
+    has_asks: bool,
+    out: &mut O,
+) -> Result<u8, Stop>
+    ensures printed { IfOk result (λ _. Appends (O.written out.old) (O.written out.new)
+        (objects_of has_asks plan.now)) }
+    ensures zero { IfOk result (λ status. status ≡ 0) }
+{
+    let mut text = String::new(alloc);
+    add_objects(plan, has_asks, &mut text)?;
+    print(text.as_bytes(), out)
+}
+
+/// Appends what a plan says, and perhaps whom each of its nodes asks.
+fn add_objects(plan: &Plan, has_asks: bool, text: &mut String) -> Result<(), AllocError>
+    ensures { OnOk result (string_bytes text.new
+        ≡ string_bytes text.old ++ objects_of has_asks plan.now) }
+{
+    if has_asks {
+        return add_all_objects(plan, text);
+    }
+    add_plan_json(plan, text)
+}
+
+/// Appends what a plan says, and whom each of its nodes asks.
+fn add_all_objects(plan: &Plan, text: &mut String) -> Result<(), AllocError>
+    ensures { OnOk result (string_bytes text.new
+        ≡ string_bytes text.old ++ plan_asks_text_by true plan.now) }
+{
+    add_plan_json(plan, text)?;
+    add_asks_json(plan, text)
+}
