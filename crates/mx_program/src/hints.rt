@@ -43,6 +43,7 @@ pub(crate) fn tell_hint<E: Output>(alloc: Global, words: &[&str], err: &mut E) {
 fn is_explained(id: CommandId) -> bool {
     match id {
         CommandId::Check
+        | CommandId::CheckJson
         | CommandId::Replay
         | CommandId::ReplayView
         | CommandId::Explore
