@@ -3,14 +3,14 @@
 #![tactic(auto)]
 
 mod asking;
+mod cached_source;
 mod explaining;
 mod files;
 mod help;
-mod reasons;
 mod refused_lines;
 mod runs;
 mod script_runs;
 mod scripts;
 
+pub use cached_source::Reasons;
 pub use explaining::explain;
-pub use reasons::Reasons;

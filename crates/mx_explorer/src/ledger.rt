@@ -28,7 +28,7 @@ pub(crate) struct Ledger {
 }
 
 impl Ledger {
-    /// The ledger before the first item.
+    /// Creates the ledger before the first item.
     pub(crate) fn new() -> Ledger
         ensures { IsLedgerOf [] result }
     {

@@ -6,7 +6,7 @@ pub enum Clause {
     /// A node entered while another or the same was inside; or a node left that was not inside, or
     /// that was inside with another number.
     Overlap,
-    /// The n-th section entered does not bear n.
+    /// The n-th section entered does not have the number n.
     Number,
     /// A value was read by a node that is not inside; or it is not the value that the sections
     /// before and the node's own writes leave.

@@ -9,8 +9,8 @@ use rand_core::utils::NextWord;
 use rand_pcg::Pcg32;
 use std::marker::Model;
 
-/// A network that loses and repeats parcels, by the words of a generator. Each fate takes one
-/// word, of which the lowest byte decides.
+/// A network that loses and repeats parcels, by the words of a generator. Each fate takes one word;
+/// its lowest byte decides.
 #[derive(Drop)]
 pub struct Weather {
     words: Pcg32,
@@ -27,7 +27,7 @@ impl Model for Weather {
 }
 
 impl Weather {
-    /// The weather of a seed, in which `drop` of 256 bytes lose a parcel and `twice` of them repeat
+    /// Creates the weather of a seed: `drop` of 256 bytes lose a parcel, and `twice` of them repeat
     /// it. The generator is `Pcg32` by `seed_from_u64`.
     pub fn of(seed: u64, drop: u16, twice: u16) -> Weather
         requires { drop + twice ≤ 256 }
@@ -42,7 +42,7 @@ impl Weather {
 }
 
 impl Fates for Weather {
-    /// The fate that the next word means.
+    /// Returns the fate for the next word.
     fn fate(&mut self) -> Fate
         ensures value { result ≡ fate_in self.old }
         ensures next { self.new ≡ after_fate self.old }
@@ -56,7 +56,7 @@ impl Fates for Weather {
     }
 }
 
-/// The fate that a byte means.
+/// Returns the fate for a byte.
 fn fate_of(byte: u32, lost: u16, doubled: u16) -> Fate
     ensures { result ≡ fate_by byte lost doubled }
 {

@@ -3,10 +3,8 @@
 #![tactic(auto)]
 
 mod hints;
-mod kept;
 
 use crate::hints::tell_hint;
-use crate::kept::Kept;
 use mx_commands::command;
 use mx_count::count;
 use mx_explain::explain;
@@ -41,7 +39,7 @@ where
     match first_of(words) {
         "count" => count(alloc, words, &mut source, out, err),
         "draw" | "script" => event_file(alloc, words, &mut source, out, err),
-        "explain" => explain(alloc, words, &mut Kept::new(alloc, source), out, err),
+        "explain" => explain(alloc, words, &mut source, out, err),
         "explore" if has_seeds(words) => explore_seeds(alloc, words, &mut source, out, err),
         "explore" if is_walk(words) => explore_walk(alloc, words, &mut source, out, err),
         "explore" if has_word(words, "--count") => count(alloc, words, &mut source, out, err),
