@@ -1,2 +1,2 @@
-pub mod ShownLemmas
+pub mod EscapeLemmas
 pub mod ReportLemmas

@@ -2,9 +2,9 @@
 use Rattle.std.proofs.Common.{◌≡◌, ◌≢◌, ◌∙◌, ◌+◌, ◌<◌, ◌≤◌, ◌++◌, ◌==◌, ◌||◌, ◌&&◌, ◌⊎◌, ◌↔◌, ℕ, Bool, true, false, not, cond, ltb, List, [], ◌∷◌, length, get_or, drop, ap, sym, subst, refl, inl, inr, arith, append_assoc, append-nil, add-one, drop-cons}
 use Rattle.std.proofs.lemmas.Bool.Decides.{nat_tests}
 use Rattle.mx_plan.specs.Text.{Text}
-use Rattle.mx_diagnostics.specs.Shown.{ArePrintable, IsPrintable, shown}
-use Rattle.mx_diagnostics.specs.Reports.{AreLines, AreShown, IsLine, IsLonger, IsReport, Reported, Told, has_colon, has_fault, last_line, line_after, lines_text, nothing_at_fault, report_text}
-use Rattle.mx_diagnostics.proofs.ShownLemmas.{ArePrintable-append, shown-printable}
+use Rattle.mx_diagnostics.specs.Escapes.{ArePrintable, IsPrintable, shown}
+use Rattle.mx_diagnostics.specs.Reports.{AreLines, AreShown, IsLine, IsLonger, IsReport, Reported, Told, has_colon, has_fault, last_line, line_after, lines_text, nothing_at_fault, report_text, taken}
+use Rattle.mx_diagnostics.proofs.EscapeLemmas.{ArePrintable-append, shown-printable}
 
 -- ---- lines
 
@@ -89,6 +89,37 @@ longer_then a b c p q = record {
   lines = q.lines ∙ ap (λ x. x ++ q.added) p.lines ∙ append_assoc a.lines p.added q.added;
   is_well = q.is_well ∙ p.is_well;
 }
+
+-- ---- lines that a report takes
+
+taken_by : (b : Bool) (x : Told) (a c d : List Told) → a ≡ c ++ d → cond b a (x ∷ a) ≡ cond b c (x ∷ c) ++ d
+taken_by true x a c d e = e
+taken_by false x a c d e = ap (λ l. x ∷ l) e
+
+pub taken-append : (w : Bool) (xs ys : List Told) → taken w (xs ++ ys) ≡ taken w xs ++ taken w ys
+taken-append w [] ys = refl
+taken-append w (x ∷ xs) ys = taken_by (w && x.is_fault) x (taken w (xs ++ ys)) (taken w xs) (taken w ys) (taken-append w xs ys)
+
+-- a line that is added, or is not
+pub lines_pushed : (w : Bool) (ts us : List Told) (t : Told) → us ≡ ts ++ t ∷ [] → (w && t.is_fault) ≡ false → us ≡ ts ++ taken w (t ∷ [])
+lines_pushed w ts us t e skip = e ∙ ap (λ b. ts ++ cond b [] (t ∷ [])) (sym skip)
+
+pub lines_skipped : (w : Bool) (ts : List Told) (t : Told) → (w && t.is_fault) ≡ true → ts ≡ ts ++ taken w (t ∷ [])
+lines_skipped w ts t skip = sym (append-nil ts) ∙ ap (λ b. ts ++ cond b [] (t ∷ [])) (sym skip)
+
+-- the lines that are left, at the start of a loop, after a step and at its end
+pub left_all : (w : Bool) (ts xs rest : List Told) → rest ≡ xs → ts ++ taken w rest ≡ ts ++ taken w xs
+left_all w ts xs rest e = ap (λ l. ts ++ taken w l) e
+
+pub left_after : (w w' : Bool) (ts us rest rest' whole : List Told) (t : Told) → w' ≡ w → us ≡ ts ++ taken w' (t ∷ []) → rest ≡ t ∷ rest' → ts ++ taken w rest ≡ whole → us ++ taken w rest' ≡ whole
+left_after w w' ts us rest rest' whole t same e is held =
+    ap (λ l. l ++ taken w rest') (e ∙ ap (λ v. ts ++ taken v (t ∷ [])) same)
+    ∙ append_assoc ts (taken w (t ∷ [])) (taken w rest')
+    ∙ ap (λ l. ts ++ l) (sym (taken-append w (t ∷ []) rest') ∙ ap (taken w) (sym is))
+    ∙ held
+
+pub left_none : (w : Bool) (ts rest whole : List Told) → rest ≡ [] → ts ++ taken w rest ≡ whole → ts ≡ whole
+left_none w ts rest whole e held = sym (append-nil ts) ∙ ap (λ l. ts ++ taken w l) (sym e) ∙ held
 
 -- ---- texts
 

@@ -1,4 +1,4 @@
--- Shown: texts of others, shown without control characters. Reports: the lines of a report, and its
+-- Escapes: texts of others, shown without control characters. Reports: the lines of a report, and its
 -- text.
-pub mod Shown
+pub mod Escapes
 pub mod Reports

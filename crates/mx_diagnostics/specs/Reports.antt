@@ -1,7 +1,7 @@
 -- The lines of a report, and its text.
-use Rattle.std.specs.Prelude.{◌≡◌, ◌==◌, ◌||◌, ◌++◌, ◌⊎◌, ℕ, Bool, true, false, List, [], ◌∷◌, Option, IfSome, codes, if◌then◌else◌}
+use Rattle.std.specs.Prelude.{◌≡◌, ◌==◌, ◌||◌, ◌&&◌, ◌++◌, ◌+◌, ◌^◌, ◌<◌, ◌≤◌, ◌⊎◌, ℕ, Bool, true, false, List, [], ◌∷◌, Option, IfSome, codes, length, if◌then◌else◌}
 use Rattle.mx_plan.specs.Text.{Text}
-use Rattle.mx_diagnostics.specs.Shown.{ArePrintable, IsPrintable, shown}
+use Rattle.mx_diagnostics.specs.Escapes.{ArePrintable, IsPrintable, shown}
 
 -- ---- lines
 
@@ -54,6 +54,51 @@ pub record IsLonger (old new : Reported) : Type 0 where
   pub each : AreLines added
   pub lines : new.lines ≡ old.lines ++ added
   pub is_well : new.is_well ≡ old.is_well
+
+-- the lines that a report takes: no fault if the command found none
+abbrev pub taken : Bool → List Told → List Told
+taken is_well [] = []
+taken is_well (t ∷ ts) = if is_well && t.is_fault then taken is_well ts else t ∷ taken is_well ts
+
+-- ---- files
+
+-- the lines of a file, how many more are only counted, and whether one of those is a fault
+pub record FileLines : Type 0 where
+  pub lines : List Told
+  pub more : ℕ
+  pub hides_fault : Bool
+
+-- the greatest number of lines of a file
+abbrev pub max_lines : ℕ
+max_lines = 20
+
+-- a line is added
+pub record ShowsLine (is_fault : Bool) (old new : FileLines) : Type 0 where
+  pub line : Told
+  pub kind : line.is_fault ≡ is_fault
+  pub lines : new.lines ≡ old.lines ++ line ∷ []
+  pub more : new.more ≡ old.more
+  pub hides : new.hides_fault ≡ old.hides_fault
+
+-- a line is counted
+pub record CountsLine (is_fault : Bool) (old new : FileLines) : Type 0 where
+  pub lines : new.lines ≡ old.lines
+  pub more : old.more + 1 < 2 ^ 64 → new.more ≡ old.more + 1
+  pub some : 0 < new.more
+  pub hides : new.hides_fault ≡ (old.hides_fault || is_fault)
+
+-- one line more: it is added, or counted if the file has the greatest number
+abbrev pub AddsLine : Bool → FileLines → FileLines → Type 0
+AddsLine is_fault old new =
+    ((length old.lines < max_lines) × ShowsLine is_fault old new)
+    ⊎ ((max_lines ≤ length old.lines) × CountsLine is_fault old new)
+
+-- all lines of a file: those that it has, and a last one if more are counted
+pub record AreAll (file : FileLines) (lines : List Told) : Type 0 where
+  pub last : List Told
+  pub all : lines ≡ file.lines ++ last
+  pub none : file.more ≡ 0 → last ≡ []
+  pub some : 0 < file.more → (t : Told) × (last ≡ t ∷ []) × (t.is_fault ≡ file.hides_fault)
 
 -- ---- texts
 

@@ -1,34 +1,34 @@
-//! What is wrong in a plan and its events, where it is, and what was expected there: a line for
-//! each mistake.
+//! What is wrong in a plan and its events or its script, where it is, and what was expected there:
+//! a line for each mistake.
 #![tactic(auto)]
 
-mod circles;
-mod event_faults;
-mod expecting;
+mod cycles;
+mod escapes;
+mod event_report;
+mod expectations;
 mod file_report;
-mod finding;
-mod json_faults;
-mod lines;
-mod places;
-mod plan_faults;
-mod repeated;
+mod json_fault;
+mod json_part;
+mod json_reader;
+mod json_tree;
+mod json_words;
+mod location;
+mod messages;
+mod names;
+mod path;
+mod plan_members;
+mod plan_report;
+mod plan_walk;
 mod report;
 mod report_line;
-mod scan;
-mod script_faults;
-mod shape_alone;
-mod shape_faults;
-mod shape_members;
-mod shown;
-mod texts;
-mod told;
-mod values;
-mod whole;
+mod script_report;
+mod shapes;
 mod words;
 
+pub use event_report::{EventOffsets, explain_event_text};
 pub use file_report::FileReport;
-pub use lines::Unreadable;
+pub use messages::Unreadable;
+pub use names::{PlanNames, message_of_unknown_node};
+pub use plan_report::explain_plan_text;
 pub use report::Report;
-pub use script_faults::explain_script_text;
-pub use texts::{explain_event_text, explain_plan_text};
-pub use told::told_of_node;
+pub use script_report::explain_script_text;

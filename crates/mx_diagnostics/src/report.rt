@@ -1,7 +1,7 @@
 //! The report on all files, line by line.
 
-ghost use Rattle.std.specs.Prelude.{◌≡◌, ◌↔◌, ◌||◌, ◌&&◌, [], ◌++◌, OnOk, IfOk, codes, false, not, string_bytes};
-ghost use Rattle.mx_diagnostics.specs.Reports.{AreLines, AreShown, IsLonger, has_fault, last_line, lines_text, nothing_at_fault, report_text};
+ghost use Rattle.std.specs.Prelude.{◌≡◌, ◌↔◌, ◌||◌, ◌&&◌, List, [], ◌∷◌, ◌++◌, OnOk, IfOk, codes, false, not, string_bytes};
+ghost use Rattle.mx_diagnostics.specs.Reports.{AreAll, AreLines, AreShown, IsLonger, has_fault, last_line, lines_text, nothing_at_fault, report_text, taken, Told};
 
 use crate::file_report::FileReport;
 use crate::report_line::ReportLine;
@@ -57,16 +57,24 @@ impl Report {
         self.push(line)
     }
 
-    /// Adds the lines of a file.
+    /// Adds the lines of a file, or its warnings alone if the files are well.
+    ///
+    /// # Errors
+    ///
+    /// Returns `AllocError` if memory runs out. The first lines may be there then.
     pub fn add(&mut self, file: FileReport<'_>) -> Result<(), AllocError>
         ensures longer { IsLonger self.old self.new }
+        ensures all { OnOk result ((lines : List Told) × AreAll file.entry lines
+            × (self.new.lines ≡ self.old.lines ++ taken self.old.is_well lines)) }
     {
         let lines = file.into_lines()?;
         self.push_all(lines)
     }
 
     fn push_all(&mut self, lines: Vec<ReportLine>) -> Result<(), AllocError>
-        ensures { IsLonger self.old self.new }
+        ensures longer { IsLonger self.old self.new }
+        ensures all { OnOk result
+            (self.new.lines ≡ self.old.lines ++ taken self.old.is_well lines.items) }
     {
         for line in lines {
             self.push(line)?;
@@ -79,6 +87,8 @@ impl Report {
         ensures longer { IsLonger self.old self.new }
         ensures fault { OnOk result (has_fault self.new.lines
             ≡ (has_fault self.old.lines || (line.is_fault && not self.old.is_well))) }
+        ensures lines { OnOk result
+            (self.new.lines ≡ self.old.lines ++ taken self.old.is_well (line ∷ [])) }
     {
         if both(self.is_well, line.is_fault()) {
             return Ok(());
@@ -133,7 +143,7 @@ fn both(a: bool, b: bool) -> bool
     a && b
 }
 
-fn either(a: bool, b: bool) -> bool
+pub(crate) fn either(a: bool, b: bool) -> bool
     ensures { result ≡ (a || b) }
 {
     a || b

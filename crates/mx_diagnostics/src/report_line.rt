@@ -3,7 +3,7 @@
 ghost use Rattle.std.specs.Prelude.{◌≡◌, IfOk};
 ghost use Rattle.mx_diagnostics.specs.Reports.{IsLine, IsLineOf};
 
-use crate::shown::add_shown;
+use crate::escapes::add_escaped_text;
 use std::alloc::{AllocError, Global};
 use std::fmt::Display;
 use std::marker::Model;
@@ -40,9 +40,9 @@ impl ReportLine {
         said.write(message)?;
         let room = file.len().saturating_add(said.len()).saturating_add(1);
         let mut text = String::with_capacity(alloc, room)?;
-        add_shown(file, &mut text)?;
+        add_escaped_text(file, &mut text)?;
         text.push_str(":")?;
-        add_shown(said.as_str(), &mut text)?;
+        add_escaped_text(said.as_str(), &mut text)?;
         Ok(ReportLine { is_fault, text })
     }
 

@@ -1,6 +1,6 @@
 //! The words of events and of scripts, and which of them is meant by another word.
 
-use crate::values::is_among;
+use crate::expectations::is_among;
 use mx_events::EVENT_KINDS;
 use mx_lines::words_in;
 use std::alloc::{AllocError, Global};

@@ -11,8 +11,8 @@ ghost use Rattle.mx_diagnostics.specs.Reports.{has_fault};
 ghost use Rattle.std.specs.Io.KnownBytes.{Keeps};
 
 use crate::asking::{Matter, parse};
+use crate::cached_source::{CachedSource, Reasons};
 use crate::files::explain_files;
-use crate::reasons::Reasons;
 use crate::scripts::explain_script;
 use mx_cli::{Fault, Request, Stop, close, refuse};
 use mx_commands::{carry_out, names_in};
@@ -22,9 +22,9 @@ use std::alloc::{AllocError, Global};
 
 /// An output that takes all, and keeps nothing.
 #[derive(Drop)]
-struct Nowhere;
+struct NullOutput;
 
-impl Output for Nowhere {
+impl Output for NullOutput {
     ghost takes_all = { λ _. true };
 
     ghost has_refused = { λ _. false };
@@ -62,10 +62,33 @@ pub fn explain<S: Source + Reasons, O: Output, E: Output>(
         (seen O.Output E.Output out.old err.old) (seen O.Output E.Output out.new err.new) result }
 {
     match parse(alloc, words) {
-        Ok(Some(matter)) => explain_matter(alloc, &matter, source, out, err),
+        Ok(Some(matter)) => explain_cached(alloc, &matter, source, out, err),
         Ok(None) => 2,
         Err(e) => refuse(alloc, &e, out, err),
     }
+}
+
+/// Explains what was asked for. Each file is read once.
+fn explain_cached<S: Source + Reasons, O: Output, E: Output>(
+    alloc: Global,
+    matter: &Matter<'_>,
+    source: &mut S,
+    out: &mut O,
+    err: &mut E,
+) -> u8
+    ensures explains { ExplainsMatter (O.takes_all out.old) (E.takes_all err.old)
+        (S.told source.old) (matter_of matter.now) (E.written err.old) (E.written err.new) result }
+    ensures told { TellsLines (O.takes_all out.old && E.takes_all err.old) (O.written out.old)
+        (O.written out.new) (E.written err.old) (E.written err.new) result }
+    ensures passed { PassesOn (E.written err.old) (E.written err.new) (O.keeps_back out.new)
+        result }
+    ensures status { IsRunStatus result }
+{
+    let mut cached = CachedSource {
+        source,
+        entries: Vec::new(alloc),
+    };
+    explain_matter(alloc, matter, &mut cached, out, err)
 }
 
 fn explain_matter<S: Source + Reasons, O: Output, E: Output>(
@@ -122,8 +145,8 @@ fn carry_out_and_explain<S: Source + Reasons, O: Output>(
     ensures zero { IfOk result (λ status. status ≡ 0) }
     ensures stays { O.takes_all out.new ≡ O.takes_all out.old }
 {
-    let mut nowhere = Nowhere;
-    let ended = carry_out(alloc, request, source, &mut nowhere);
+    let mut null = NullOutput;
+    let ended = carry_out(alloc, request, source, &mut null);
     print_end(alloc, request, &ended, source, out)?;
     ended
 }

@@ -2,17 +2,16 @@
 
 ghost use Rattle.mx_diagnostics.specs.Reports.{IsLonger};
 
-use crate::reasons::Reasons;
+use crate::cached_source::Reasons;
 use crate::runs::explain_run;
 use crate::script_runs::explain_script_run;
 use mx_cli::{Fault, Names, Request, are_dashes, split_line};
 use mx_diagnostics::{
-    FileReport, Report, Unreadable, explain_event_text, explain_plan_text, explain_script_text,
+    FileReport, PlanNames, Report, Unreadable, explain_event_text, explain_plan_text,
+    explain_script_text,
 };
-use mx_io::{Source, SourceFault};
-use mx_plan::{PlanFault, ShapeFault};
+use mx_io::{Refusal, Source};
 use mx_scripts::BadLine;
-use serde_json::Value;
 use std::alloc::AllocError;
 
 /// What comes with a plan. Where both were read they can run.
@@ -37,13 +36,12 @@ pub(crate) fn explain_files<S: Source + Reasons>(
 ) -> Result<(), AllocError>
     ensures { IsLonger report.old report.new }
 {
-    let shape = shape_fault_in(fault);
     match request {
         Request::Replay(names) => {
             let is_read = matches!(fault, None | Some(Fault::NoParcel(_)));
-            explain_both(report, names, shape, &Second::Events { is_read }, source)
+            explain_both(report, names, &Second::Events { is_read }, source)
         }
-        Request::Check(plan) | Request::Asks(plan) => explain_alone(report, plan, shape, source),
+        Request::Check(plan) | Request::Asks(plan) => explain_alone(report, plan, source),
         Request::Explore(_) => Ok(()),
     }
 }
@@ -53,16 +51,15 @@ pub(crate) fn explain_files<S: Source + Reasons>(
 pub(crate) fn explain_both<S: Source + Reasons>(
     report: &mut Report,
     names: &Names<'_>,
-    shape: Option<ShapeFault>,
     second: &Second<'_>,
     source: &mut S,
 ) -> Result<(), AllocError>
     ensures { IsLonger report.old report.new }
 {
     if are_dashes(names) {
-        explain_one(report, names, shape, second, source)
+        explain_one(report, names, second, source)
     } else {
-        explain_two(report, names, shape, second, source)
+        explain_two(report, names, second, source)
     }
 }
 
@@ -70,13 +67,12 @@ pub(crate) fn explain_both<S: Source + Reasons>(
 fn explain_alone<S: Source + Reasons>(
     report: &mut Report,
     name: &str,
-    shape: Option<ShapeFault>,
     source: &mut S,
 ) -> Result<(), AllocError>
     ensures { IsLonger report.old report.new }
 {
     if let Some(text) = fetched(report, name, source)? {
-        let _ = explain_plan_text(report, name, text.as_slice(), shape)?;
+        let _ = explain_plan_text(report, name, text.as_slice())?;
     }
     Ok(())
 }
@@ -85,7 +81,6 @@ fn explain_alone<S: Source + Reasons>(
 fn explain_one<S: Source + Reasons>(
     report: &mut Report,
     names: &Names<'_>,
-    shape: Option<ShapeFault>,
     second: &Second<'_>,
     source: &mut S,
 ) -> Result<(), AllocError>
@@ -95,15 +90,14 @@ fn explain_one<S: Source + Reasons>(
         return Ok(());
     };
     let (line, rest) = split_line(text.as_slice());
-    let plan = explain_plan_text(report, names.plan, line, shape)?;
-    explain_second(report, names.events, second, plan.as_ref(), line, rest, 1)
+    let plan = explain_plan_text(report, names.plan, line)?;
+    explain_second(report, names.events, second, &plan, line, rest, 1)
 }
 
 /// A plan and what comes with it in two files.
 fn explain_two<S: Source + Reasons>(
     report: &mut Report,
     names: &Names<'_>,
-    shape: Option<ShapeFault>,
     second: &Second<'_>,
     source: &mut S,
 ) -> Result<(), AllocError>
@@ -112,22 +106,22 @@ fn explain_two<S: Source + Reasons>(
     let Some(text) = fetched(report, names.plan, source)? else {
         return Ok(());
     };
-    let plan = explain_plan_text(report, names.plan, text.as_slice(), shape)?;
+    let plan = explain_plan_text(report, names.plan, text.as_slice())?;
     let Some(rest) = fetched(report, names.events, source)? else {
         return Ok(());
     };
     let (text, rest) = (text.as_slice(), rest.as_slice());
-    explain_second(report, names.events, second, plan.as_ref(), text, rest, 0)
+    explain_second(report, names.events, second, &plan, text, rest, 0)
 }
 
 /// What is wrong in events or in a script, each event and each line by itself, and in their run.
-fn explain_second(
+fn explain_second<'a>(
     report: &mut Report,
-    file: &str,
+    file: &'a str,
     second: &Second<'_>,
-    plan: Option<&Value>,
+    plan: &PlanNames,
     plan_text: &[u8],
-    text: &[u8],
+    text: &'a [u8],
     above: usize,
 ) -> Result<(), AllocError>
     ensures { IsLonger report.old report.new }
@@ -155,20 +149,12 @@ fn fetched<S: Source + Reasons>(
 ) -> Result<Option<Vec<u8>>, AllocError>
     ensures { IsLonger report.old report.new }
 {
-    match source.bytes(report.alloc(), name) {
+    match source.fetched(report.alloc(), name) {
         Ok(bytes) => Ok(Some(bytes)),
-        Err(SourceFault::Memory) => Err(AllocError),
-        Err(SourceFault::Unreadable) => {
-            report.add_fault(name, Unreadable(source.reason(name)))?;
+        Err(Refusal::Memory) => Err(AllocError),
+        Err(Refusal::Because(reason)) => {
+            report.add_fault(name, Unreadable(reason))?;
             Ok(None)
         }
-    }
-}
-
-/// Why the nodes of a plan have no shape, where that is the fault.
-pub(crate) fn shape_fault_in(fault: Option<Fault>) -> Option<ShapeFault> {
-    match fault {
-        Some(Fault::BadText(PlanFault::BadShape(fault))) => Some(fault),
-        _ => None,
     }
 }

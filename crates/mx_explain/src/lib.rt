@@ -3,13 +3,13 @@
 #![tactic(auto)]
 
 mod asking;
+mod cached_source;
 mod explaining;
 mod files;
-mod reasons;
 mod refused_lines;
 mod runs;
 mod script_runs;
 mod scripts;
 
+pub use cached_source::Reasons;
 pub use explaining::explain;
-pub use reasons::Reasons;

@@ -3,7 +3,7 @@
 ghost use Rattle.mx_diagnostics.specs.Reports.{IsLonger};
 
 use mx_commands::by_shape;
-use mx_diagnostics::{FileReport, Report};
+use mx_diagnostics::{EventOffsets, FileReport, Report};
 use mx_events::Event;
 use mx_format::{EventText, OutcomeText, add_facts_line};
 use mx_knowledge::Knowledge;
@@ -17,11 +17,11 @@ use std::fmt;
 
 /// Warns of each event that its node refuses, and tells which parcel was not sent. Both texts were
 /// read before, so that only memory can be at fault.
-pub(crate) fn explain_run(
+pub(crate) fn explain_run<'a>(
     report: &mut Report,
-    file: &str,
+    file: &'a str,
     plan: &[u8],
-    events: &[u8],
+    events: &'a [u8],
     above: usize,
 ) -> Result<(), AllocError>
     ensures { IsLonger report.old report.new }
@@ -34,26 +34,29 @@ pub(crate) fn explain_run(
         return Err(AllocError);
     };
     let mut lines = FileReport::new(alloc, file);
-    lines.look_at(events, above)?;
-    explain_by_shape(&mut lines, &plan, read.as_slice())?;
+    lines.look_at(events, above);
+    let offsets = EventOffsets::read(alloc, events)?;
+    explain_by_shape(&mut lines, &offsets, &plan, read.as_slice())?;
     report.add(lines)
 }
 
 fn explain_by_shape(
     lines: &mut FileReport<'_>,
+    offsets: &EventOffsets,
     plan: &Plan,
     events: &[Event],
 ) -> Result<(), AllocError> {
     by_shape!(
         lines.alloc(),
         plan,
-        |cluster| explain_events(lines, plan, cluster, events)
+        |cluster| explain_events(lines, offsets, plan, cluster, events)
     )
 }
 
 /// Each event in turn, up to the first that can't happen.
 fn explain_events<C: Exclusion + Knowledge>(
     lines: &mut FileReport<'_>,
+    offsets: &EventOffsets,
     plan: &Plan,
     mut cluster: Cluster<C>,
     events: &[Event],
@@ -62,18 +65,19 @@ fn explain_events<C: Exclusion + Knowledge>(
         let outcome = match cluster.step(*event) {
             Ok(outcome) => outcome,
             Err(StepFault::Memory) => return Err(AllocError),
-            Err(_) => return tell_unsent(lines, k as u64, event, cluster.sent()),
+            Err(_) => return report_unsent(lines, offsets, k as u64, event, cluster.sent()),
         };
         if let Outcome::Refused(cause) = outcome {
-            warn_of_event(lines, plan, &cluster, k as u64, event, cause)?;
+            warn_of_event(lines, offsets, plan, &cluster, k as u64, event, cause)?;
         }
     }
     Ok(())
 }
 
-/// Tells how many parcels were sent before an event that delivers one that was not.
-fn tell_unsent(
+/// Reports how many parcels were sent before an event that delivers one that was not.
+fn report_unsent(
     lines: &mut FileReport<'_>,
+    offsets: &EventOffsets,
     k: u64,
     event: &Event,
     sent: u64,
@@ -81,7 +85,7 @@ fn tell_unsent(
     match event {
         Event::Deliver(number) => {
             let number = *number;
-            lines.fault_of_parcel(k, Unsent { k, number, sent })
+            lines.fault_at(offsets.argument(k), Unsent { k, number, sent })
         }
         _ => Ok(()),
     }
@@ -90,6 +94,7 @@ fn tell_unsent(
 /// Warns of an event that is refused. If lines are only counted, why is not looked up.
 fn warn_of_event<C: Exclusion + Knowledge>(
     lines: &mut FileReport<'_>,
+    offsets: &EventOffsets,
     plan: &Plan,
     cluster: &Cluster<C>,
     k: u64,
@@ -97,10 +102,10 @@ fn warn_of_event<C: Exclusion + Knowledge>(
     cause: Cause,
 ) -> Result<(), AllocError> {
     if lines.is_full() {
-        return lines.warn_of_event(k, "");
+        return lines.warn_at(0, "");
     }
     let text = refusal(lines.alloc(), plan, cluster, k, event, cause)?;
-    lines.warn_of_event(k, text.as_str())
+    lines.warn_at(offsets.event(k), text.as_str())
 }
 
 /// The warning of an event that is refused. It begins with a space.

@@ -22,12 +22,12 @@ pub(crate) fn explain_script_run<'a>(
     alloc: Global,
     file: &'a str,
     plan: &[u8],
-    script: &[u8],
+    script: &'a [u8],
     above: usize,
     refused: Option<&BadLine>,
 ) -> Result<FileReport<'a>, AllocError> {
     let mut lines = FileReport::new(alloc, file);
-    lines.look_at(script, above)?;
+    lines.look_at(script, above);
     let Ok(plan) = read_plan(alloc, plan) else {
         return Err(AllocError);
     };

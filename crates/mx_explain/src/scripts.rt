@@ -8,9 +8,9 @@ ghost use Rattle.mx_diagnostics.specs.Reports.{has_fault};
 ghost use Rattle.mx_explain.specs.Explained.{FailsToPrint, Prints, PrintsReport, TellsLines};
 ghost use Rattle.mx_scripts.specs.Ended.{EndsScript, ScriptsOf};
 
+use crate::cached_source::Reasons;
 use crate::explaining::put_report;
-use crate::files::{Second, explain_both, shape_fault_in};
-use crate::reasons::Reasons;
+use crate::files::{Second, explain_both};
 use mx_cli::{Fault, Names, Stop};
 use mx_diagnostics::Report;
 use mx_io::{Output, Source};
@@ -129,7 +129,7 @@ fn report_of<S: Source + Reasons>(
         is_read: fault.is_none(),
         refused: line,
     };
-    explain_both(&mut report, names, shape_fault_in(fault), &second, source)?;
+    explain_both(&mut report, names, &second, source)?;
     report.end(names.plan)?;
     Ok(report)
 }

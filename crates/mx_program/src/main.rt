@@ -3,10 +3,8 @@
 #![tactic(auto)]
 
 mod hints;
-mod kept;
 
 use crate::hints::tell_hint;
-use crate::kept::Kept;
 use mx_cli::{CommandId, command_in};
 use mx_commands::command;
 use mx_count::count;
@@ -47,9 +45,7 @@ where
         Some(CommandId::Draw | CommandId::Script) => {
             event_file(alloc, words, &mut source, out, err)
         }
-        Some(CommandId::Explain) => {
-            explain(alloc, words, &mut Kept::new(alloc, source), out, err)
-        }
+        Some(CommandId::Explain) => explain(alloc, words, &mut source, out, err),
         Some(CommandId::ExploreSeeds) => explore_seeds(alloc, words, &mut source, out, err),
         Some(CommandId::ExploreWalk) => explore_walk(alloc, words, &mut source, out, err),
         Some(CommandId::Judge) => judge_trace(alloc, words, &mut source, out, err),

@@ -19,7 +19,7 @@ use crate::shown_run::show;
 use crate::words::{Request, parse};
 use mx_cli::{Named, Stop, close, close_with, fetch_named, refuse, stop_named};
 use mx_commands::by_shape;
-use mx_diagnostics::told_of_node;
+use mx_diagnostics::message_of_unknown_node;
 use mx_io::{Output, Source};
 use mx_network::Event;
 use mx_plan::{Plan, read_events};
@@ -172,7 +172,7 @@ fn node_in(alloc: Global, plan: &Plan, name: Option<&str>) -> Result<Option<Node
 fn stranger_in(alloc: Global, plan: &Plan, name: &str) -> Halt
     ensures { IsStranger result }
 {
-    match told_of_node(alloc, plan, name) {
+    match message_of_unknown_node(alloc, plan, name) {
         Ok(told) => Halt::NoNode(Stranger(told)),
         Err(_) => Halt::Stop(Stop::Memory),
     }

@@ -1,9 +1,9 @@
 use Rattle.std.proofs.Common.{◌≡◌, ◌∙◌, ◌++◌, [], ◌∷◌, ap, sym, append_assoc, string_bytes}
 use Rattle.std.proofs.lemmas.Iterator.{YieldsList-from_chars}
 use Rattle.std.proofs.lemmas.Iterator.Consumers.{YieldsList-end}
-use Rattle.mx_diagnostics.specs.Shown.{shown, shown_char, shown_chars}
-use Rattle.mx_diagnostics.proofs.ShownLemmas.{shown_all, shown_more}
-use Rattle.mx_diagnostics.proofs.shown.add_shown.Goals as goal
+use Rattle.mx_diagnostics.specs.Escapes.{shown, shown_char, shown_chars}
+use Rattle.mx_diagnostics.proofs.EscapeLemmas.{shown_all, shown_more}
+use Rattle.mx_diagnostics.proofs.escapes.add_escaped_text.Goals as goal
 
 pub loop-character-preserved : goal.loop-character-preserved
 loop-character-preserved c =

@@ -2,74 +2,78 @@
 
 ghost use Rattle.mx_diagnostics.specs.Reports.{IsLonger};
 
-use crate::event_faults::Known;
-use crate::file_report::FileReport;
+use crate::file_report::{Explained, FileReport};
+use crate::json_reader::read_tree;
+use crate::names::{PlanNames, as_slices};
 use crate::report::Report;
-use crate::values::names_at;
 use crate::words::{listed, script_words, word_meant};
 use mx_lines::{
     Expected, FirstWords, LineError, NameLists, first_error, message, next_error, place_of_word,
     words_in,
 };
-use mx_stamps::{MAX_NODES, MAX_REGISTERS};
-use serde_json::Value;
 use std::alloc::{AllocError, Global};
 
 /// Adds what is wrong in a script that begins below a number of lines of its file, by the names of
-/// the plan if that is JSON, and then the lines of a run of it.
-pub fn explain_script_text(
+/// the plan, and then the lines of a run of it.
+///
+/// # Errors
+///
+/// Returns `AllocError` if memory runs out.
+pub fn explain_script_text<'a>(
     report: &mut Report,
-    file: &str,
-    plan: Option<&Value>,
-    text: &[u8],
+    file: &'a str,
+    names: &PlanNames,
+    text: &'a [u8],
     above: usize,
     ran: FileReport<'_>,
 ) -> Result<(), AllocError>
     ensures longer { IsLonger report.old report.new }
 {
     let mut lines = FileReport::new(report.alloc(), file);
-    explain_script_in(&mut lines, plan, text, above)?;
+    lines.look_at(text, above);
+    explain_text(&mut lines, names, text)?;
     lines.append(ran)?;
     report.add(lines)
 }
 
-fn explain_script_in(
-    report: &mut FileReport<'_>,
-    plan: Option<&Value>,
-    text: &[u8],
-    above: usize,
-) -> Result<(), AllocError> {
-    let nodes = names_at(report.alloc(), plan, "nodes", MAX_NODES as usize)?;
-    let registers = names_at(report.alloc(), plan, "registers", MAX_REGISTERS as usize)?;
-    let known = Known {
+fn explain_text(report: &mut FileReport<'_>, names: &PlanNames, text: &[u8]) -> Explained {
+    let nodes = as_slices(report.alloc(), names.nodes.as_slice())?;
+    let registers = as_slices(report.alloc(), names.registers.as_slice())?;
+    let names = NameLists {
         nodes: nodes.as_slice(),
         registers: registers.as_slice(),
     };
-    report.look_at(text, above)?;
     warn_of_events(report, text)?;
-    explain_lines(report, known, text)
+    explain_lines(report, &names, text)
 }
 
 /// Warns if a text is a list of events, and no script.
-fn warn_of_events(report: &mut FileReport<'_>, text: &[u8]) -> Result<(), AllocError> {
-    match Value::from_slice(report.alloc(), text) {
-        Ok(Value::Array(_)) => report.warn_of_line(
-            1,
-            " warning: events stand here, in place of a script: explain them without --script",
-        ),
-        Err(e) if e.is_memory() => Err(AllocError),
-        _ => Ok(()),
+fn warn_of_events(report: &mut FileReport<'_>, text: &[u8]) -> Explained {
+    if !is_array(report.alloc(), text)? {
+        return Ok(());
+    }
+    report.warn_of_line(
+        1,
+        " warning: events stand here, in place of a script: explain them without --script",
+    )
+}
+
+/// Returns whether a text is an array of JSON.
+fn is_array(alloc: Global, text: &[u8]) -> Result<bool, AllocError> {
+    let Ok(text) = str::from_utf8(text) else {
+        return Ok(false);
+    };
+    let (tree, fault) = read_tree(alloc, text, 0)?;
+    match tree.root() {
+        Some(root) => Ok(fault.is_none() && root.is_array()),
+        None => Ok(false),
     }
 }
 
-fn explain_lines(
-    report: &mut FileReport<'_>,
-    known: Known<'_>,
-    text: &[u8],
-) -> Result<(), AllocError> {
+fn explain_lines(report: &mut FileReport<'_>, names: &NameLists<'_>, text: &[u8]) -> Explained {
     let mut begins = 0usize;
     for line in text.split(|byte| *byte == b'\n') {
-        explain_line(report, known, line, begins)?;
+        explain_line(report, names, line, begins)?;
         begins = begins.saturating_add(line.len()).saturating_add(1);
     }
     Ok(())
@@ -78,12 +82,12 @@ fn explain_lines(
 /// A line that begins at a byte of the text.
 fn explain_line(
     report: &mut FileReport<'_>,
-    known: Known<'_>,
+    names: &NameLists<'_>,
     line: &[u8],
     begins: usize,
-) -> Result<(), AllocError> {
+) -> Explained {
     match str::from_utf8(line) {
-        Ok(line) => explain_words(report, known, line, begins),
+        Ok(line) => explain_words(report, names, line, begins),
         Err(e) => {
             let offset = begins.saturating_add(e.valid_up_to());
             report.fault_at(offset, " bytes that are not UTF-8 stand here")
@@ -95,33 +99,29 @@ fn explain_line(
 /// registers.
 fn explain_words(
     report: &mut FileReport<'_>,
-    known: Known<'_>,
+    names: &NameLists<'_>,
     line: &str,
     begins: usize,
-) -> Result<(), AllocError> {
-    let names = NameLists {
-        nodes: known.nodes,
-        registers: known.registers,
-    };
+) -> Explained {
     let words = words_in(report.alloc(), line)?;
-    let mut wrong = first_error(&names, words.as_slice());
+    let mut wrong = first_error(names, words.as_slice());
     for _ in 0..words.len().saturating_add(1) {
         let Some(error) = wrong else {
             return Ok(());
         };
-        if is_known(known, &error) {
-            explain_word(report, &names, line, words.as_slice(), &error, begins)?;
+        if is_known(names, &error) {
+            explain_word(report, names, line, words.as_slice(), &error, begins)?;
         }
-        wrong = next_error(&names, words.as_slice(), &error);
+        wrong = next_error(names, words.as_slice(), &error);
     }
     Ok(())
 }
 
 /// Whether any names are known of the kind that was expected.
-fn is_known(known: Known<'_>, error: &LineError) -> bool {
+fn is_known(names: &NameLists<'_>, error: &LineError) -> bool {
     match error.expected {
-        Expected::Node => !known.nodes.is_empty(),
-        Expected::Register => !known.registers.is_empty(),
+        Expected::Node => !names.nodes.is_empty(),
+        Expected::Register => !names.registers.is_empty(),
         _ => true,
     }
 }
@@ -134,9 +134,9 @@ fn explain_word(
     words: &[&str],
     error: &LineError,
     begins: usize,
-) -> Result<(), AllocError> {
+) -> Explained {
     if report.is_full() {
-        return report.fault("");
+        return report.fault_at(0, "");
     }
     let place = place_of_word(line, error.word).unwrap_or(0);
     let text = message_for(report.alloc(), names, words, error)?;

@@ -7,7 +7,7 @@ use Rattle.std.proofs.lemmas.Bool.Decides.{nat_tests}
 use Rattle.std.proofs.lemmas.Fmt.{hex_one_digit, hex_two_digits}
 use lib.Utf8.{encode}
 use Rattle.mx_plan.specs.Text.{Text}
-use Rattle.mx_diagnostics.specs.Shown.{ArePrintable, IsPrintable, escaped, shown, shown_char, shown_chars}
+use Rattle.mx_diagnostics.specs.Escapes.{ArePrintable, IsPrintable, escaped, shown, shown_char, shown_chars}
 
 -- one character more
 pub shown_chars_push : (cs : List ℕ) (c : ℕ) → shown_chars (cs ++ c ∷ []) ≡ shown_chars cs ++ shown_char c

@@ -2,13 +2,13 @@
 
 ghost use Rattle.std.specs.Prelude.{◌≡◌, ◌++◌, OnOk, codes, false, string_bytes};
 ghost use Rattle.std.specs.Fmt.{digits};
-ghost use Rattle.mx_diagnostics.specs.Shown.{escaped, shown, shown_char};
+ghost use Rattle.mx_diagnostics.specs.Escapes.{escaped, shown, shown_char};
 
 use std::alloc::AllocError;
 
 /// Appends a text as it is, but for its control characters, which are escaped: as `\0`, `\t`, `\n`
 /// or `\r`, else by their number, as `\u{1b}`.
-pub(crate) fn add_shown(raw: &str, text: &mut String) -> Result<(), AllocError>
+pub(crate) fn add_escaped_text(raw: &str, text: &mut String) -> Result<(), AllocError>
     ensures { OnOk result (string_bytes text.new ≡ string_bytes text.old ++ shown raw.now) }
 {
     for character in raw.chars() {

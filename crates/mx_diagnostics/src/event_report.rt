@@ -1,0 +1,208 @@
+//! What is wrong in the text of events, each event by itself.
+
+ghost use Rattle.mx_diagnostics.specs.Reports.{IsLonger};
+
+use crate::expectations::Place;
+use crate::file_report::{Explained, FileReport};
+use crate::json_part::{Part, read_part};
+use crate::json_reader::read_tree;
+use crate::json_tree::{Node, items_of};
+use crate::messages::ArgumentCount;
+use crate::names::{PlanNames, as_slices};
+use crate::path::Path;
+use crate::report::Report;
+use crate::words::{event_words, first_script_line, listed, word_meant};
+use mx_events::{ArgumentKind, EventKind};
+use mx_lines::NameLists;
+use mx_stamps::MAX_EVENTS;
+use std::alloc::{AllocError, Global};
+
+/// How many brackets a list of events nests.
+const NESTING: usize = 2;
+
+/// Adds what is wrong in events that begin below a number of lines of their file, by the names of
+/// the plan.
+///
+/// # Errors
+///
+/// Returns `AllocError` if memory runs out.
+pub fn explain_event_text<'a>(
+    report: &mut Report,
+    file: &'a str,
+    names: &PlanNames,
+    text: &'a [u8],
+    above: usize,
+) -> Result<(), AllocError>
+    ensures longer { IsLonger report.old report.new }
+{
+    let mut lines = FileReport::new(report.alloc(), file);
+    explain_text(&mut lines, names, Part { text, above })?;
+    report.add(lines)
+}
+
+fn explain_text<'a>(report: &mut FileReport<'a>, names: &PlanNames, part: Part<'a>) -> Explained {
+    let nodes = as_slices(report.alloc(), names.nodes.as_slice())?;
+    let registers = as_slices(report.alloc(), names.registers.as_slice())?;
+    let names = NameLists {
+        nodes: nodes.as_slice(),
+        registers: registers.as_slice(),
+    };
+    let content = read_part(report, part, NESTING)?;
+    match content.tree.root() {
+        Some(events) if content.is_whole || events.is_array() => {
+            explain_events(report, events, &names)
+        }
+        _ => warn_of_script(report, part),
+    }
+}
+
+/// Warns if a text that is no list of events is a script.
+fn warn_of_script<'a>(report: &mut FileReport<'a>, part: Part<'a>) -> Explained {
+    let Some(number) = first_script_line(report.alloc(), part.text)? else {
+        return Ok(());
+    };
+    report.look_at(part.text, part.above);
+    report.warn_of_line(
+        number,
+        " warning: a script stands here, in place of events: explain it with --script",
+    )
+}
+
+/// Explains each event.
+fn explain_events(
+    report: &mut FileReport<'_>,
+    events: Node<'_>,
+    names: &NameLists<'_>,
+) -> Explained {
+    let place = Place {
+        path: Path::new("", "events"),
+        value: Some(events),
+        parent: 0,
+    };
+    if !events.is_array() {
+        return place.expect(
+            report,
+            "an array of events, as [[\"ask\",NODE],[\"deliver\",0]]",
+        );
+    }
+    let items = events.items(report.alloc())?;
+    if items.len() > MAX_EVENTS {
+        return place.expect(report, "at most 1000000 events");
+    }
+    for (k, event) in items.iter().enumerate() {
+        explain_event(report, &place.item(k, *event), *event, names)?;
+    }
+    Ok(())
+}
+
+/// Explains an event, which has this place.
+fn explain_event<'a>(
+    report: &mut FileReport<'_>,
+    place: &Place<'a>,
+    event: Node<'a>,
+    names: &NameLists<'_>,
+) -> Explained {
+    let items = event.items(report.alloc())?;
+    let Some((first, arguments)) = items.as_slice().split_first() else {
+        return place.expect(
+            report,
+            "an array of a word and its arguments, as [\"ask\",NODE]",
+        );
+    };
+    let Some(kind) = EventKind::of_word(first.text()) else {
+        return explain_word(report, &place.item(0, *first), first.text());
+    };
+    let kinds = kind.arguments();
+    if kinds.len() != arguments.len() {
+        let message = ArgumentCount {
+            path: place.path,
+            word: kind.word(),
+            expected: kinds.len(),
+            actual: arguments.len(),
+        };
+        return report.fault_at(event.offset(), message);
+    }
+    for (i, (kind, value)) in kinds.iter().zip(arguments).enumerate() {
+        explain_argument(report, &place.item(i + 1, *value), *kind, names)?;
+    }
+    Ok(())
+}
+
+/// Reports a word that no event has. Lists the words, unless lines are only counted.
+fn explain_word(report: &mut FileReport<'_>, place: &Place<'_>, word: &str) -> Explained {
+    if report.is_full() {
+        return place.expect(report, "");
+    }
+    let alloc = report.alloc();
+    let words = event_words(alloc)?;
+    let meant = word_meant(word, words.as_slice());
+    let listed = listed(alloc, words.as_slice(), meant)?;
+    if meant.is_some() {
+        return place.expect(report, listed.as_str());
+    }
+    place.expect_word(report, words.as_slice(), listed.as_str())
+}
+
+/// Explains an argument of a kind.
+fn explain_argument(
+    report: &mut FileReport<'_>,
+    place: &Place<'_>,
+    kind: ArgumentKind,
+    names: &NameLists<'_>,
+) -> Explained {
+    match kind {
+        ArgumentKind::Node => place.expect_word(report, names.nodes, "a node of the plan"),
+        ArgumentKind::Register => {
+            place.expect_word(report, names.registers, "a register of the plan")
+        }
+        ArgumentKind::Value | ArgumentKind::Section | ArgumentKind::Parcel => {
+            place.expect_number(
+                report,
+                0,
+                u64::MAX,
+                "a whole number of 64 bits without a sign",
+            )
+        }
+    }
+}
+
+/// Where the events of a text begin.
+#[derive(Drop)]
+pub struct EventOffsets {
+    /// The byte of each event, and that of its first argument.
+    offsets: Vec<(usize, usize)>,
+}
+
+impl EventOffsets {
+    /// Returns the offsets of the events of a text. It stops where the text is no list of events.
+    ///
+    /// # Errors
+    ///
+    /// Returns `AllocError` if memory runs out.
+    pub fn read(alloc: Global, text: &[u8]) -> Result<EventOffsets, AllocError> {
+        let (tree, _) = read_tree(alloc, str::from_utf8(text).unwrap_or(""), NESTING)?;
+        let mut offsets = Vec::new(alloc);
+        for event in items_of(alloc, tree.root())?.iter() {
+            let items = event.items(alloc)?;
+            let argument = items.get(1).unwrap_or(event);
+            offsets.push((event.offset(), argument.offset()))?;
+        }
+        Ok(EventOffsets { offsets })
+    }
+
+    /// Returns the byte at which an event begins, counted from 0.
+    pub fn event(&self, k: u64) -> usize {
+        match self.offsets.get(k as usize) {
+            Some((offset, _)) => *offset,
+            None => 0,
+        }
+    }
+
+    /// Returns the byte at which the first argument of an event begins.
+    pub fn argument(&self, k: u64) -> usize {
+        match self.offsets.get(k as usize) {
+            Some((_, offset)) => *offset,
+            None => 0,
+        }
+    }
+}

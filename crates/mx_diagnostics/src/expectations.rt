@@ -1,0 +1,124 @@
+//! Values that are not what is expected.
+
+ghost use Rattle.std.specs.Prelude.{IfOk, IfSome};
+ghost use Rattle.std.specs.List.{Contains};
+
+use crate::file_report::{Explained, FileReport};
+use crate::json_tree::{Node, text_of};
+use crate::messages::Expected;
+use crate::path::Path;
+use mx_lines::nearest;
+use std::alloc::AllocError;
+
+/// A place of a plan or of events: its value, if there is one, and what has to have it.
+#[derive(Clone, Copy)]
+pub(crate) struct Place<'a> {
+    pub(crate) path: Path<'a>,
+    pub(crate) value: Option<Node<'a>>,
+    /// The byte that is named if there is no value.
+    pub(crate) parent: usize,
+}
+
+impl<'a> Place<'a> {
+    /// Returns the place of an item of the value.
+    pub(crate) fn item(&self, i: usize, value: Node<'a>) -> Place<'a> {
+        Place {
+            path: self.path.item(i),
+            value: Some(value),
+            parent: self.offset(),
+        }
+    }
+
+    /// Returns the byte at which the value begins, or its parent.
+    pub(crate) fn offset(&self) -> usize {
+        match self.value {
+            Some(node) => node.offset(),
+            None => self.parent,
+        }
+    }
+
+    /// Reports that something else is expected.
+    pub(crate) fn expect(&self, report: &mut FileReport<'_>, expected: &str) -> Explained {
+        self.report_expected(report, expected, None)
+    }
+
+    /// Reports that something else is expected, and which word is the nearest.
+    fn report_expected(
+        &self,
+        report: &mut FileReport<'_>,
+        expected: &str,
+        nearest: Option<&str>,
+    ) -> Explained {
+        let message = Expected {
+            path: self.path,
+            actual: self.value,
+            expected,
+            nearest,
+        };
+        report.fault_at(self.offset(), message)
+    }
+
+    /// Reports a value that is none of these words. If there are no words, as in a plan without
+    /// nodes, that is reported elsewhere.
+    pub(crate) fn expect_word(
+        &self,
+        report: &mut FileReport<'_>,
+        words: &[&str],
+        expected: &str,
+    ) -> Explained {
+        let word = text_of(self.value);
+        if words.is_empty() || is_among(word, words) {
+            return Ok(());
+        }
+        let nearest = nearest_word(report, word, words)?;
+        self.report_expected(report, expected, nearest)
+    }
+
+    /// Reports a value that is no whole number in a range.
+    pub(crate) fn expect_number(
+        &self,
+        report: &mut FileReport<'_>,
+        least: u64,
+        most: u64,
+        expected: &str,
+    ) -> Explained {
+        match number_of(self.value) {
+            Some(n) if least <= n && n <= most => Ok(()),
+            _ => self.expect(report, expected),
+        }
+    }
+}
+
+/// Returns the whole number that a value is.
+pub(crate) fn number_of(value: Option<Node<'_>>) -> Option<u64> {
+    value?.number()
+}
+
+/// Returns the word of these that is nearest, which nobody asks for once lines are only counted.
+pub(crate) fn nearest_word<'a>(
+    report: &FileReport<'_>,
+    word: &str,
+    words: &[&'a str],
+) -> Result<Option<&'a str>, AllocError>
+    ensures { IfOk result (λ found. IfSome found (Contains words.now)) }
+{
+    if report.is_full() {
+        return Ok(None);
+    }
+    nearest(report.alloc(), word, words)
+}
+
+/// Returns the index of a text in these.
+pub(crate) fn index_in(text: &str, texts: &[&str]) -> Option<usize> {
+    for (i, known) in texts.iter().enumerate() {
+        if *known == text {
+            return Some(i);
+        }
+    }
+    None
+}
+
+/// Returns whether a text is one of these.
+pub(crate) fn is_among(text: &str, texts: &[&str]) -> bool {
+    index_in(text, texts).is_some()
+}

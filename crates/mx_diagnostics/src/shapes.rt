@@ -1,0 +1,268 @@
+//! Why the nodes of a plan have no shape.
+
+use crate::expectations::{index_in, is_among};
+use crate::file_report::{Explained, FileReport};
+use crate::json_tree::{Node, items_of, text_of};
+use mx_plan::is_name;
+use mx_quorums::{QuorumFault, Quorums};
+use mx_trees::{Tree, TreeFault};
+use std::alloc::{AllocError, Global};
+use std::fmt;
+
+/// Reports why the nodes of a plan have no shape, if their names and the members for their shape
+/// are correct.
+pub(crate) fn explain_shape(
+    report: &mut FileReport<'_>,
+    plan: Node<'_>,
+    algorithm: &str,
+    nodes: &[&str],
+) -> Explained {
+    if !are_names(nodes) {
+        return Ok(());
+    }
+    match algorithm {
+        "maekawa" => explain_quorums(report, plan, nodes),
+        "raymond" => explain_tree(report, plan, nodes),
+        _ => Ok(()),
+    }
+}
+
+/// Returns whether these are the names of nodes: none comes twice.
+fn are_names(nodes: &[&str]) -> bool {
+    for (i, name) in nodes.iter().enumerate() {
+        if !is_name(name) || is_among(name, nodes.get(..i).unwrap_or(&[])) {
+            return false;
+        }
+    }
+    true
+}
+
+fn explain_quorums(report: &mut FileReport<'_>, plan: Node<'_>, nodes: &[&str]) -> Explained {
+    let Some(quorums) = plan.get("quorums") else {
+        return Ok(());
+    };
+    let Some(fault) = quorum_fault(report.alloc(), quorums, nodes)? else {
+        return Ok(());
+    };
+    let place = place_of(report.alloc(), quorums, fault)?;
+    report.fault_at(place.offset(), QuorumMessage { fault, nodes })
+}
+
+/// Returns why quorums are no family of sets. A grid with a place for each node always is one.
+fn quorum_fault(
+    alloc: Global,
+    quorums: Node<'_>,
+    nodes: &[&str],
+) -> Result<Option<QuorumFault>, AllocError> {
+    match text_of(quorums.get("kind")) {
+        "plane" => match u8::try_from(nodes.len()) {
+            Ok(count) => Ok(Quorums::plane(count).err()),
+            Err(_) => Ok(None),
+        },
+        "listed" => {
+            let sets = items_of(alloc, quorums.get("sets"))?;
+            listed_fault(alloc, sets.as_slice(), nodes)
+        }
+        _ => Ok(None),
+    }
+}
+
+/// Returns why these sets, one for each node, are no family.
+fn listed_fault(
+    alloc: Global,
+    sets: &[Node<'_>],
+    nodes: &[&str],
+) -> Result<Option<QuorumFault>, AllocError> {
+    if sets.len() != nodes.len() {
+        return Ok(None);
+    }
+    let mut numbered = Vec::new(alloc);
+    for set in sets {
+        let Some(numbers) = numbers_of(alloc, *set, nodes)? else {
+            return Ok(None);
+        };
+        numbered.push(numbers)?;
+    }
+    Ok(Quorums::listed(numbered.as_slice()).err())
+}
+
+/// Returns the number of a node.
+fn number_in(name: &str, nodes: &[&str]) -> Option<u8> {
+    let index = index_in(name, nodes)?;
+    u8::try_from(index).ok()
+}
+
+/// Returns the numbers of the nodes that an array names, or nothing if it names others.
+fn numbers_of(
+    alloc: Global,
+    array: Node<'_>,
+    nodes: &[&str],
+) -> Result<Option<Vec<u8>>, AllocError> {
+    if !array.is_array() {
+        return Ok(None);
+    }
+    let mut numbers = Vec::new(alloc);
+    for item in array.items(alloc)?.iter() {
+        let Some(number) = number_in(item.text(), nodes) else {
+            return Ok(None);
+        };
+        numbers.push(number)?;
+    }
+    Ok(Some(numbers))
+}
+
+/// Returns the value in which a fault of quorums is.
+fn place_of<'a>(
+    alloc: Global,
+    quorums: Node<'a>,
+    fault: QuorumFault,
+) -> Result<Node<'a>, AllocError> {
+    match fault {
+        QuorumFault::EmptySet(i) | QuorumFault::NotOwnMember(i) | QuorumFault::Apart(_, i) => {
+            let sets = items_of(alloc, quorums.get("sets"))?;
+            Ok(sets.get(usize::from(i)).copied().unwrap_or(quorums))
+        }
+        QuorumFault::NoPlane(_) => Ok(quorums.get("kind").unwrap_or(quorums)),
+        QuorumFault::NoNodes | QuorumFault::TooMany | QuorumFault::Stranger(_, _) => Ok(quorums),
+    }
+}
+
+fn explain_tree(report: &mut FileReport<'_>, plan: Node<'_>, nodes: &[&str]) -> Explained {
+    let Some(edges) = plan.get("edges") else {
+        return Ok(());
+    };
+    if !edges.is_array() {
+        return Ok(());
+    }
+    let list = edges.items(report.alloc())?;
+    let Some(fault) = tree_fault(report.alloc(), plan, list.as_slice(), nodes)? else {
+        return Ok(());
+    };
+    let message = TreeMessage {
+        fault,
+        nodes,
+        edges: list.len(),
+    };
+    let place = match fault {
+        TreeFault::BadEdge(k) => list.get(k as usize).copied().unwrap_or(edges),
+        _ => edges,
+    };
+    report.fault_at(place.offset(), message)
+}
+
+/// Returns why edges and the holder of a plan are no tree.
+fn tree_fault(
+    alloc: Global,
+    plan: Node<'_>,
+    edges: &[Node<'_>],
+    nodes: &[&str],
+) -> Result<Option<TreeFault>, AllocError> {
+    let Some(holder) = number_in(text_of(plan.get("holder")), nodes) else {
+        return Ok(None);
+    };
+    let mut numbered = Vec::new(alloc);
+    for edge in edges {
+        match numbers_of(alloc, *edge, nodes)?.as_deref() {
+            Some([i, j]) => numbered.push((*i, *j))?,
+            _ => return Ok(None),
+        }
+    }
+    match u8::try_from(nodes.len()) {
+        Ok(count) => Ok(Tree::of(count, numbered.as_slice(), holder).err()),
+        Err(_) => Ok(None),
+    }
+}
+
+/// A node, with its name and its number.
+#[derive(Clone, Copy)]
+struct NamedNode<'a> {
+    nodes: &'a [&'a str],
+    i: u8,
+}
+
+impl fmt::Display for NamedNode<'_> {
+    fn fmt<W: fmt::Write>(&self, f: &mut fmt::Formatter<W>) -> fmt::Result {
+        let i = self.i;
+        match self.nodes.get(usize::from(i)) {
+            Some(name) => write!(f, "{name} (node {i})"),
+            None => write!(f, "node {i}"),
+        }
+    }
+}
+
+/// The message of a fault of arbiter sets.
+#[derive(Clone, Copy)]
+struct QuorumMessage<'a> {
+    fault: QuorumFault,
+    nodes: &'a [&'a str],
+}
+
+impl fmt::Display for QuorumMessage<'_> {
+    fn fmt<W: fmt::Write>(&self, f: &mut fmt::Formatter<W>) -> fmt::Result {
+        let nodes = self.nodes;
+        match self.fault {
+            QuorumFault::EmptySet(i) => {
+                let node = NamedNode { nodes, i };
+                write!(
+                    f,
+                    " quorums.sets[{i}]: the set of {node} is empty, expected that it has the node itself"
+                )
+            }
+            QuorumFault::NotOwnMember(i) => {
+                let node = NamedNode { nodes, i };
+                write!(
+                    f,
+                    " quorums.sets[{i}]: the set of {node} lacks the node itself"
+                )
+            }
+            QuorumFault::Apart(i, j) => {
+                let (first, second) = (NamedNode { nodes, i }, NamedNode { nodes, i: j });
+                write!(
+                    f,
+                    " quorums.sets[{j}]: the sets of {first} and of {second} have no node in common, expected that any two do"
+                )
+            }
+            QuorumFault::NoPlane(n) => write!(
+                f,
+                " quorums.kind: there is no plane of {n} nodes, expected 7, 13 or 21; a grid has rows times cols"
+            ),
+            QuorumFault::NoNodes | QuorumFault::TooMany | QuorumFault::Stranger(_, _) => {
+                f.write_str(" quorums: these are no sets of the nodes")
+            }
+        }
+    }
+}
+
+/// The message of a fault of a tree, with the number of its edges.
+#[derive(Clone, Copy)]
+struct TreeMessage<'a> {
+    fault: TreeFault,
+    nodes: &'a [&'a str],
+    edges: usize,
+}
+
+impl fmt::Display for TreeMessage<'_> {
+    fn fmt<W: fmt::Write>(&self, f: &mut fmt::Formatter<W>) -> fmt::Result {
+        let nodes = self.nodes;
+        match self.fault {
+            TreeFault::BadEdge(k) => {
+                write!(f, " edges[{k}]: this edge joins a node with itself")
+            }
+            TreeFault::WrongCount => {
+                let edges = self.edges;
+                let wanted = nodes.len().saturating_sub(1);
+                write!(
+                    f,
+                    " edges: {edges} edges stand here, expected {wanted}, one fewer than nodes"
+                )
+            }
+            TreeFault::NotJoined(i) => {
+                let (node, first) = (NamedNode { nodes, i }, NamedNode { nodes, i: 0 });
+                write!(f, " edges: no way leads from {node} to {first}")
+            }
+            TreeFault::NoNodes | TreeFault::TooMany | TreeFault::BadHolder => {
+                f.write_str(" edges: these are no edges of the nodes")
+            }
+        }
+    }
+}

@@ -1,0 +1,100 @@
+//! A source that keeps what it has read.
+
+use mx_io::{Refusal, Source, SourceFault, Streams, Table, read_name};
+use std::alloc::{AllocError, Global};
+use std::rt::Files;
+
+/// Named bytes that can say why a name cannot be read.
+pub trait Reasons: Source {
+    /// Returns the bytes of a name, which may have been read before.
+    ///
+    /// # Errors
+    ///
+    /// Returns `Because` with the reason if the name cannot be read, and `Memory` if memory runs
+    /// out.
+    fn fetched(&mut self, alloc: Global, name: &str) -> Result<Vec<u8>, Refusal>;
+}
+
+impl Reasons for Table<'_> {
+    fn fetched(&mut self, alloc: Global, name: &str) -> Result<Vec<u8>, Refusal> {
+        match self.bytes(alloc, name) {
+            Ok(bytes) => Ok(bytes),
+            Err(SourceFault::Memory) => Err(Refusal::Memory),
+            Err(SourceFault::Unreadable) => {
+                Err(Refusal::Because("there is no entry of this name"))
+            }
+        }
+    }
+}
+
+impl<R: Files + Input> Reasons for Streams<'_, R> {
+    fn fetched(&mut self, alloc: Global, name: &str) -> Result<Vec<u8>, Refusal> {
+        read_name(self.rt, alloc, name)
+    }
+}
+
+/// The bytes of a name.
+#[derive(Drop)]
+pub(crate) struct Entry {
+    name: String,
+    bytes: Vec<u8>,
+}
+
+/// A source whose bytes are read once: they are kept until they are fetched again.
+#[derive(Drop)]
+pub(crate) struct CachedSource<'s, S: Source + Reasons> {
+    pub(crate) source: &'s mut S,
+    pub(crate) entries: Vec<Entry>,
+}
+
+impl<'s, S: Source + Reasons> Source for CachedSource<'s, S> {
+    ghost told = { λ c. S.told c.source.now };
+
+    fn bytes(&mut self, alloc: Global, name: &str) -> Result<Vec<u8>, SourceFault> {
+        let bytes = match self.source.bytes(alloc, name) {
+            Ok(bytes) => bytes,
+            Err(fault) => return Err(fault),
+        };
+        match keep(alloc, &mut self.entries, name, bytes.as_slice()) {
+            Ok(()) => Ok(bytes),
+            Err(_) => Err(SourceFault::Memory),
+        }
+    }
+}
+
+impl<'s, S: Source + Reasons> Reasons for CachedSource<'s, S> {
+    fn fetched(&mut self, alloc: Global, name: &str) -> Result<Vec<u8>, Refusal> {
+        match take(&mut self.entries, name) {
+            Some(bytes) => Ok(bytes),
+            None => self.source.fetched(alloc, name),
+        }
+    }
+}
+
+/// Keeps a copy of the bytes of a name.
+fn keep(
+    alloc: Global,
+    entries: &mut Vec<Entry>,
+    name: &str,
+    bytes: &[u8],
+) -> Result<(), AllocError> {
+    let name = String::from_str(alloc, name)?;
+    let bytes = Vec::from_slice(alloc, bytes)?;
+    entries.push(Entry { name, bytes })?;
+    Ok(())
+}
+
+/// Takes the bytes that are kept under a name.
+fn take(entries: &mut Vec<Entry>, name: &str) -> Option<Vec<u8>> {
+    let index = index_of(entries.as_slice(), name)?;
+    Some(entries.swap_remove(index).bytes)
+}
+
+fn index_of(entries: &[Entry], name: &str) -> Option<usize> {
+    for (i, entry) in entries.iter().enumerate() {
+        if entry.name.as_str() == name {
+            return Some(i);
+        }
+    }
+    None
+}
