@@ -86,7 +86,13 @@ where
     let trace = cluster.trace();
     add_node_tally(is_json, ": ", "sections", entries_of(trace, node), text)?;
     add_node_tally(is_json, ", ", "sent", sent_of(cluster, node), text)?;
-    add_node_tally(is_json, ", ", "received", received_of(cluster, trace, node), text)?;
+    add_node_tally(
+        is_json,
+        ", ",
+        "received",
+        received_of(cluster, trace, node),
+        text,
+    )?;
     add_node_tally(is_json, ", ", "refused", refused_of(trace, node), text)
 }
 

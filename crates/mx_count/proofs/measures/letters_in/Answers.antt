@@ -1,4 +1,4 @@
-use Rattle.std.proofs.Common.{◌≤◌, ◌+◌, arith, length}
+use Rattle.std.proofs.Common.{◌∙◌, ◌≤◌, ◌+◌, ap, arith, length}
 use Rattle.std.specs.List.{count_by}
 use Rattle.mx_trace.specs.declared.outcome.Entry.{Entry}
 use Rattle.mx_count.specs.Measures.{delivers_letter}
@@ -10,16 +10,16 @@ overflow_add-count g c =
     let counts = λ (entry : Entry). delivers_letter c.args.cluster.now.sent entry.event in
     let entries = c.args.entries.now in
     let step = count_item counts entries c.loop-entry.entry-index _ c.delivers_letter.result c.from-count.result c.loop-entry.count (count_by counts entries) c.loop-entry-test.true c.loop-entry.invariant
-    c.delivers_letter.ensures c.from-count.ensures in
+    (c.delivers_letter.ensures ∙ ap counts c.entry-item.is) c.from-count.ensures in
     let fits : c.loop-entry.count + c.from-count.result ≤ length entries = count_fits counts entries (c.loop-entry.count + c.from-count.result) _ step in
-    omega (arith, fits)
+    omega arith
 
 pub loop-entry-preserved : goal.loop-entry-preserved
 loop-entry-preserved g c =
     let counts = λ (entry : Entry). delivers_letter c.args.cluster.now.sent entry.event in
     let entries = c.args.entries.now in
     count_item counts entries c.loop-entry.entry-index _ c.delivers_letter.result c.from-count.result c.loop-entry.count (count_by counts entries) c.loop-entry-test.true c.loop-entry.invariant
-    c.delivers_letter.ensures c.from-count.ensures
+    (c.delivers_letter.ensures ∙ ap counts c.entry-item.is) c.from-count.ensures
 
 pub returns : goal.returns
 returns g c =
