@@ -65,91 +65,91 @@ pub(crate) const LISTED: [CommandId; 8] = [
 
 static CHECK: CommandRow = CommandRow {
     name: "check",
-    about: "Prints what a plan says of its cluster",
+    about: "Checks a plan and prints a summary",
     arguments: &[PLAN, ASKS, JSON],
     example: help::CHECK_EXAMPLE,
 };
 
 static REPLAY: CommandRow = CommandRow {
     name: "replay",
-    about: "Prints what comes of each event, each parcel that it sends, and where each node stands at the end",
+    about: "Runs the events of a file and prints each outcome, each parcel sent, and the nodes at the end",
     arguments: &[PLAN, EVENTS, QUIET, NODE, JSON, STATE],
     example: help::REPLAY_EXAMPLE,
 };
 
 static EXPLORE: CommandRow = CommandRow {
     name: "explore",
-    about: "Lets events drawn from a seed happen, and judges what came of them",
+    about: "Runs random events from a seed and checks the run",
     arguments: &[PLAN, SEED, STEPS, COUNT_TOO, JSON],
     example: help::EXPLORE_EXAMPLE,
 };
 
 static EXPLORE_WALK: CommandRow = CommandRow {
     name: "explore",
-    about: "Lets a walk drawn from a seed happen, and judges what came of it",
+    about: "Runs a random walk from a seed and checks the run",
     arguments: &[PLAN, SEED, STEPS, WALK_WANTED, LOSS, REPEAT, IN_ORDER],
     example: examples::WALK,
 };
 
 static EXPLORE_SEEDS: CommandRow = CommandRow {
     name: "explore",
-    about: "Lets events drawn from one seed after another happen, and judges what came of them",
+    about: "Runs random events from several seeds, one after another, and checks each run",
     arguments: &[PLAN, SEEDS, STEPS, WALK, LOSS, REPEAT, IN_ORDER],
     example: examples::SEEDS,
 };
 
 static LIVE: CommandRow = CommandRow {
     name: "live",
-    about: "Runs each node in a thread of its own, and prints what their gathered journal has",
+    about: "Runs each node in a thread and prints their merged journal",
     arguments: &[PLAN, SECTIONS, LINK_SEED, TURNS, SETTLE, PROGRESS],
     example: help::LIVE_EXAMPLE,
 };
 
 static DRAW: CommandRow = CommandRow {
     name: "draw",
-    about: "Prints events drawn from a seed, as a file that `replay` reads",
+    about: "Prints random events from a seed as a file for `replay`",
     arguments: &[PLAN, SEED, STEPS, WALK, LOSS, REPEAT, IN_ORDER],
     example: examples::DRAW,
 };
 
 static SCRIPTED: CommandRow = CommandRow {
     name: "script",
-    about: "Prints the events of a script, as a file that `replay` reads",
+    about: "Prints the events of a script as a file for `replay`",
     arguments: &[PLAN, SCRIPT],
     example: examples::SCRIPT,
 };
 
 static PLAY: CommandRow = CommandRow {
     name: "play",
-    about: "Reads lines of a script, does each at once, and prints what came of it",
+    about: "Runs the lines of a script as they are typed and prints each outcome",
     arguments: &[PLAN, FIRST_SCRIPT],
     example: examples::PLAY,
 };
 
 static PICTURE: CommandRow = CommandRow {
     name: "picture",
-    about: "Prints a picture of what comes of events: an SVG in which time goes down",
+    about: "Draws a run as an SVG in which time goes down",
     arguments: &[PLAN, EVENTS, FROM, TO, PICTURE_NODE, JOURNALS, LETTERS],
     example: examples::PICTURE,
 };
 
 static COUNT: CommandRow = CommandRow {
     name: "count",
-    about: "Counts the letters of each kind, the refusals by cause, and the longest wait",
+    about: "Counts the letters, refusals and waits of a run",
     arguments: &[PLAN, EVENTS, JSON],
     example: examples::COUNT,
 };
 
 static JUDGE: CommandRow = CommandRow {
     name: "judge",
-    about: "Judges the trace of a run, whoever has written it",
+    about: "Judges the trace of a run, whichever program wrote it",
     arguments: &[PLAN, TRACE],
     example: examples::JUDGE,
 };
 
 static EXPLAIN: CommandRow = CommandRow {
     name: "explain",
-    about: "Tells what is wrong in a plan and its events, where it stands, and what was expected",
+    about: "Explains what is wrong in a plan, its events or a script, and where",
     arguments: &[PLAN, EVENTS_OR_SCRIPT, IS_SCRIPT],
     example: examples::EXPLAIN,
 };
