@@ -1,5 +1,7 @@
 //! A source that keeps what it has read.
 
+ghost use Rattle.std.specs.Prelude.{◌<◌, IfSome, length};
+
 use mx_io::{Refusal, Source, SourceFault, Streams, Table, read_name};
 use std::alloc::{AllocError, Global};
 use std::rt::Files;
@@ -90,11 +92,9 @@ fn take(entries: &mut Vec<Entry>, name: &str) -> Option<Vec<u8>> {
     Some(entries.swap_remove(index).bytes)
 }
 
-fn index_of(entries: &[Entry], name: &str) -> Option<usize> {
-    for (i, entry) in entries.iter().enumerate() {
-        if entry.name.as_str() == name {
-            return Some(i);
-        }
-    }
-    None
+/// Returns the place at which the bytes of a name are kept.
+fn index_of(entries: &[Entry], name: &str) -> Option<usize>
+    ensures within { IfSome result (λ index. index < length entries.now) }
+{
+    entries.iter().position(|entry| entry.name.as_str() == name)
 }
