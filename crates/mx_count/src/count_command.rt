@@ -15,10 +15,13 @@ use mx_cli::{Exploration, Named, Names, Stop, close, fetch_named, fetch_plan, na
 use mx_io::{Output, Source};
 use std::alloc::Global;
 
-/// Runs the words of a command line of which the first is `count`, or `explore` with `--count` or
-/// `--json`, without the program's name, and returns the status: 0 where all went well, or help was
-/// asked for, 1 where the plan, its events, a file or an output is at fault, 2 where the words are
-/// not those of the command, 5 where memory ran out.
+/// Runs a command line, without the program's name, that begins with `count`, or with `explore` and
+/// has `--count` or `--json`. Prints the counts of a run. Returns the exit status:
+///
+/// - 0 on success, or if help was requested;
+/// - 1 for an error in the plan, its events, a file or an output;
+/// - 2 for wrong arguments;
+/// - 5 if memory ran out.
 pub fn count<S: Source, O: Output, E: Output>(
     alloc: Global,
     words: &[&str],
