@@ -38,10 +38,13 @@ impl Output for NullOutput {
     }
 }
 
-/// Runs the words of a command line of which `explain` is the first, without the program's name,
-/// and returns the status: that of the check, of the replay or of the script that is explained, 0,
-/// 1 or 5; 0 where help was asked for, 1 where an output refused, 2 where the words are not those
-/// of `explain`.
+/// Runs a command line whose first argument is `explain`, without the program's name. Returns the
+/// exit status:
+///
+/// - that of the check, the replay or the script that it explains: 0, 1 or 5;
+/// - 0 if help was requested;
+/// - 1 if an output failed;
+/// - 2 for wrong arguments.
 pub fn explain<S: Source + Reasons, O: Output, E: Output>(
     alloc: Global,
     words: &[&str],

@@ -23,11 +23,14 @@ use std::alloc::Global;
 use std::rt::Clock;
 use std::thread::Threads;
 
-/// Runs the words of a command line of which `live` is the first, without the program's name, and
-/// returns the status: 0 where all went well, or help was asked for, 1 where the plan, its file or
-/// an output is at fault or the plan allows too few sections, 2 where the words are not those of
-/// `live`, 3 where turns were spent or the gate was shut, 5 where memory ran out or a thread could
-/// not be started.
+/// Runs a command line whose first argument is `live`, without the program's name. Returns the exit
+/// status:
+///
+/// - 0 on success, or if help was requested;
+/// - 1 for an error in the plan, its file or an output, or if the plan allows too few sections;
+/// - 2 for wrong arguments;
+/// - 3 if turns were spent, or if the gate was shut;
+/// - 5 if memory ran out, or if a thread could not be started.
 ///
 /// A status says of the threads only that there is such an outcome. Which one it was is said by
 /// `run_stations` and `gather_left`, which return it.

@@ -15,10 +15,13 @@ use mx_cli::{Names, PlanAndText, close, refuse};
 use mx_io::{Output, Source};
 use std::alloc::Global;
 
-/// Runs the words of a command line of which `play` is the first, without the program's name, over
-/// the lines that come, and returns the status: 0 where the session came to its end, or help was
-/// asked for, 1 where the plan, a file or an output is at fault, 2 where the words are not those of
-/// the command, 5 where memory ran out.
+/// Runs a command line whose first argument is `play`, without the program's name, on the lines of
+/// a session. Returns the exit status:
+///
+/// - 0 if the session came to its end, or if help was requested;
+/// - 1 for an error in the plan, a file or an output;
+/// - 2 for wrong arguments;
+/// - 5 if memory ran out.
 pub fn play<S: Source, L: Lines, O: Output, E: Output>(
     alloc: Global,
     words: &[&str],

@@ -14,10 +14,13 @@ use mx_cli::refuse;
 use mx_io::{Output, Source};
 use std::alloc::Global;
 
-/// Runs the words of a command line of which `draw` or `script` is the first, without the program's
-/// name, and returns the status: 0 where a file of events was printed, or help was asked for, 1
-/// where a plan, a script, a file or an output is at fault, 2 where the words are no such command,
-/// 5 where memory ran out.
+/// Runs a command line whose first argument is `draw` or `script`, without the program's name, and
+/// prints a file of events. Returns the exit status:
+///
+/// - 0 on success, or if help was requested;
+/// - 1 for an error in a plan, a script, a file or an output;
+/// - 2 for wrong arguments;
+/// - 5 if memory ran out.
 pub fn event_file<S: Source, O: Output, E: Output>(
     alloc: Global,
     words: &[&str],

@@ -17,9 +17,13 @@ use mx_io::{Output, Source};
 use mx_plan::Plan;
 use std::alloc::{AllocError, Global};
 
-/// Runs the words of a command line that is `check` with `--json`, without the program's name, and
-/// returns the status: 0 if all went well, or help was asked for, 1 if the plan, a file or an output
-/// is at fault, 2 if the words are not those of the command, 5 if memory ran out.
+/// Runs a command line, without the program's name, that begins with `check` and has `--json`.
+/// Returns the exit status:
+///
+/// - 0 on success, or if help was requested;
+/// - 1 for an error in the plan, a file or an output;
+/// - 2 for wrong arguments;
+/// - 5 if memory ran out.
 pub fn check_objects<S: Source, O: Output, E: Output>(
     alloc: Global,
     words: &[&str],

@@ -26,10 +26,13 @@ use mx_plan::{Plan, read_events};
 use mx_stamps::NodeId;
 use std::alloc::Global;
 
-/// Runs the words of a command line of which `replay` is the first, with `--quiet`, `--node`,
-/// `--json` or `--state`, without the program's name, and returns the status: 0 where all went well,
-/// or help was asked for, 1 where the plan, its events, the node, a file or an output is at fault, 2
-/// where the words are not those of the command, 5 where memory ran out.
+/// Runs a command line, without the program's name, that begins with `replay` and has `--quiet`,
+/// `--node`, `--json` or `--state`. Returns the exit status:
+///
+/// - 0 on success, or if help was requested;
+/// - 1 for an error in the plan, its events, the node, a file or an output;
+/// - 2 for wrong arguments;
+/// - 5 if memory ran out.
 pub fn replay_view<S: Source, O: Output, E: Output>(
     alloc: Global,
     words: &[&str],

@@ -15,9 +15,14 @@ use mx_cli::{Exploration, Names, Stop, close, fetch_plan, refuse};
 use mx_io::{Output, Source};
 use std::alloc::Global;
 
-/// Runs the arguments of `explore --walk`, without the program's name, and returns the exit status:
-/// 0 if all went well, or for help; 1 for an error in the plan, a file or an output; 2 for wrong
-/// arguments; 4 if the trace is broken; 5 if memory ran out.
+/// Runs a command line, without the program's name, that begins with `explore` and has `--walk`.
+/// Returns the exit status:
+///
+/// - 0 on success, or if help was requested;
+/// - 1 for an error in the plan, a file or an output;
+/// - 2 for wrong arguments;
+/// - 4 if the trace is broken;
+/// - 5 if memory ran out.
 pub fn explore_walk<S: Source, O: Output, E: Output>(
     alloc: Global,
     words: &[&str],

@@ -15,9 +15,14 @@ use mx_cli::{Names, Stop, close, fetch_plan, refuse};
 use mx_io::{Output, Source};
 use std::alloc::Global;
 
-/// Runs the arguments of `explore --seeds`, without the program's name, and returns the exit
-/// status: 0 if all seeds are sound, or for help; 1 for an error in the plan, a file or an output;
-/// 2 for wrong arguments; 4 if a seed is not sound; 5 if memory ran out.
+/// Runs a command line, without the program's name, that begins with `explore` and has `--seeds`.
+/// Returns the exit status:
+///
+/// - 0 if all seeds are sound, or if help was requested;
+/// - 1 for an error in the plan, a file or an output;
+/// - 2 for wrong arguments;
+/// - 4 if a seed is not sound;
+/// - 5 if memory ran out.
 pub fn explore_seeds<S: Source, O: Output, E: Output>(
     alloc: Global,
     words: &[&str],
