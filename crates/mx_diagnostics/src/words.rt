@@ -6,7 +6,7 @@ use mx_lines::words_in;
 use std::alloc::{AllocError, Global};
 
 /// The words of scripts that are none of events.
-const SCRIPT_WORDS: [&str; 3] = ["lose", "again", "times"];
+const SCRIPT_WORDS: [&str; 5] = ["lose", "again", "cut", "heal", "times"];
 
 /// Words that are none of these, and the word that is meant.
 const MEANT: [(&str, &str); 6] = [
