@@ -16,10 +16,10 @@ use std::alloc::{AllocError, Global};
 /// A drawn section to settle up to is below this.
 const SETTLED: u8 = 17;
 
-/// A drawn schedule of this many steps, over the nodes and registers of a plan. The generator is
+/// Draws a schedule of `steps` events over the nodes and registers of a plan. The generator is
 /// `Pcg32` by `seed_from_u64`. Each step takes a word for the kind of the event and one for each of
-/// its arguments. The word of a delivery is not yet the number of a parcel: see `place`. Its only
-/// fault is that memory runs out.
+/// its arguments. The word of a delivery is not yet the number of a parcel: see `place`. It fails
+/// only if memory runs out.
 pub fn schedule(alloc: Global, seed: u64, steps: u64, plan: &Plan) -> Result<Vec<Event>, AllocError>
     ensures value { IfOk result (λ v. v.items ≡ drawn_list steps (length plan.now.nodes)
         (length plan.now.registers) (generator_of seed)) }
@@ -30,7 +30,7 @@ pub fn schedule(alloc: Global, seed: u64, steps: u64, plan: &Plan) -> Result<Vec
     schedule_over(alloc, seed, steps, plan.nodes(), plan.registers())
 }
 
-/// A drawn schedule over this many nodes and registers.
+/// Draws a schedule over these numbers of nodes and registers.
 fn schedule_over(
     alloc: Global,
     seed: u64,
@@ -53,7 +53,7 @@ fn schedule_over(
     Ok(events)
 }
 
-/// The next event.
+/// Draws the next event.
 fn draw(words: &mut Pcg32, nodes: u8, registers: u8) -> Event
     requires nodes { (0 < nodes) × (nodes ≤ MAX_NODES) }
     requires registers { 0 < registers }
@@ -64,8 +64,8 @@ fn draw(words: &mut Pcg32, nodes: u8, registers: u8) -> Event
     draw_by(number, words, nodes, registers)
 }
 
-/// The event that a number below 16 means. Deliveries are the most frequent.
-#[tactic(auto, using(crate::proofs::Schedules::leaves, crate::proofs::Schedules::delivers, crate::proofs::Schedules::cancels))]
+/// Draws the event for a number below 16. Deliveries are the most frequent.
+#[tactic(auto, using(crate::proofs::DrawnEvents::leaves, crate::proofs::DrawnEvents::delivers, crate::proofs::DrawnEvents::cancels))]
 fn draw_by(number: u32, words: &mut Pcg32, nodes: u8, registers: u8) -> Event
     requires nodes { (0 < nodes) × (nodes ≤ MAX_NODES) }
     requires registers { 0 < registers }
