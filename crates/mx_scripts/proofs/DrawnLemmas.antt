@@ -22,7 +22,7 @@ use Rattle.mx_explorer.specs.Drawn.{IsDrawn, drawn, drawn_list, event_by, word}
 use Rattle.mx_explorer.specs.Drawn as drawing
 use Rattle.mx_explorer.specs.Place.{place_of}
 use Rattle.mx_explorer.specs.Weather.{generator_of}
-use Rattle.mx_explorer.proofs.Schedules.{all_drawn}
+use Rattle.mx_explorer.proofs.DrawnEvents.{all_drawn}
 use Rattle.mx_commands.specs.Explored.{after_drawn, after_placed, or_stay, schedule_of}
 use Rattle.mx_commands.specs.Runs.{at_rest}
 use Rattle.mx_scripts.specs.Drawn.{drawn_file, parcels_in, placed_in, placed_schedule}

@@ -3,7 +3,7 @@ use Rattle.mx_stamps.specs.Lists.{IsIn}
 use Rattle.mx_stamps.proofs.Lists.{append_append, append_nil}
 use Rattle.mx_explorer.specs.Drawn.{after_drawn, drawn_list}
 use Rattle.mx_explorer.specs.Weather.{generator_of}
-use Rattle.mx_explorer.proofs.Schedules.{all_drawn}
+use Rattle.mx_explorer.proofs.DrawnEvents.{all_drawn}
 use Rattle.mx_explorer.proofs.schedules.schedule_over.Goals as goal
 
 pub loop-init : goal.loop-init
