@@ -65,7 +65,7 @@ fn draw(words: &mut Pcg32, nodes: u8, registers: u8) -> Event
 }
 
 /// The event that a number below 16 means. Deliveries are the most frequent.
-#[tactic(auto, using(crate::proofs::Schedules::leaves, crate::proofs::Schedules::delivers, crate::proofs::Schedules::cancels))]
+#[tactic(auto, using(crate::proofs::DrawnEvents::leaves, crate::proofs::DrawnEvents::delivers, crate::proofs::DrawnEvents::cancels))]
 fn draw_by(number: u32, words: &mut Pcg32, nodes: u8, registers: u8) -> Event
     requires nodes { (0 < nodes) × (nodes ≤ MAX_NODES) }
     requires registers { 0 < registers }
