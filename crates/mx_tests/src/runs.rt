@@ -3,7 +3,7 @@
 
 use crate::given::{lists, node};
 use crate::steps::{MAEKAWA, RAYMOND, RICART, Reads, Run, Step, Writes};
-use Step::{Ask, AskInVain, Cancel, Deliver, Enter, Leave, LeaveInVain, Restart, Settle, Want};
+use Step::{Ask, AskInVain, Cancel, Deliver, Enter, Leave, LeaveInVain, Restart, Want};
 use mx_journal::Receipt;
 use mx_maekawa::Maekawa;
 use mx_network::{Cluster, Event, Outcome};
@@ -30,19 +30,38 @@ pub(crate) fn event_of(step: &Step) -> Event {
         Step::Write(i, register, value) => Event::Write(name(i), *register, *value),
         Leave(i, _, _, _) | LeaveInVain(i) => Event::Leave(name(i)),
         Cancel(i) => Event::Cancel(name(i)),
-        Settle(i, upto) => Event::Settle(name(i), *upto),
         Want(i, j) => Event::Want(name(i), name(j)),
         Deliver(number) => Event::Deliver(*number),
         Restart(i) => Event::Restart(name(i)),
     }
 }
 
+/// Returns whether a receipt has these reads.
+fn has_read(receipt: &Receipt, reads: Reads) -> bool {
+    for (read, (register, value, after)) in receipt.reads.iter().zip(reads) {
+        if read.register != *register || read.value != *value || read.after != *after {
+            return false;
+        }
+    }
+    receipt.reads.len() == reads.len()
+}
+
+/// Returns whether a receipt has these writes.
+fn has_written(receipt: &Receipt, writes: Writes) -> bool {
+    for (write, (register, value)) in receipt.writes.iter().zip(writes) {
+        if write.register != *register || write.value != *value {
+            return false;
+        }
+    }
+    receipt.writes.len() == writes.len()
+}
+
 /// Returns whether this is the receipt of a section of a node.
 fn tells(receipt: &Receipt, of: (&u8, &u64), reads: Reads, writes: Writes) -> bool {
     receipt.node == name(of.0)
         && receipt.number == *of.1
-        && receipt.reads.as_slice() == reads
-        && receipt.writes.as_slice() == writes
+        && has_read(receipt, reads)
+        && has_written(receipt, writes)
 }
 
 /// Returns whether an outcome has the stamp or the receipt of a step.

@@ -1,5 +1,5 @@
 use Rattle.mx_stations.proofs.SameTable.{kept_on}
-use Rattle.mx_tests.proofs.four_slots.assert_calls.Goals as goal
+use Rattle.mx_tests.proofs.station_calls.assert_calls.Goals as goal
 
 pub loop-i-preserved : goal.loop-i-preserved
 loop-i-preserved g c = record {
