@@ -7,6 +7,7 @@ use arrayvec::ArrayVec;
 use mx_jobs::{Job, RunOptions, Settings, fair_links, run, stations};
 use mx_journal::Write;
 use mx_maekawa::Maekawa;
+use mx_nodelaws::Exclusion;
 use mx_raymond::Raymond;
 use mx_ricart::Ricart;
 use std::alloc::{AllocError, Global};
@@ -62,31 +63,18 @@ fn adders(alloc: Global, nodes: usize, sections: u64) -> Result<Vec<Adder>, Allo
     Ok(all)
 }
 
-/// Runs this many sections for each node, and returns how many were run.
-fn ricart<R: Threads>(rt: &R, alloc: Global, nodes: u8, sections: u64) -> Result<usize> {
-    let stations = stations::<Ricart>(alloc, &count_of(nodes)?, &SETTINGS)?;
-    let links = fair_links(alloc, stations.len())?;
-    let jobs = adders(alloc, stations.len(), sections)?;
-    match run(rt, alloc, stations, jobs, links, OPTIONS) {
-        Ok(all) => Ok(all.gathered.receipts.len()),
-        Err(left) => bail!("no end: {}", left.fault),
-    }
-}
-
-/// Does the same by Maekawa's algorithm.
-fn maekawa<R: Threads>(rt: &R, alloc: Global, nodes: u8, sections: u64) -> Result<usize> {
-    let stations = stations::<Maekawa>(alloc, &quorums_of(nodes)?, &SETTINGS)?;
-    let links = fair_links(alloc, stations.len())?;
-    let jobs = adders(alloc, stations.len(), sections)?;
-    match run(rt, alloc, stations, jobs, links, OPTIONS) {
-        Ok(all) => Ok(all.gathered.receipts.len()),
-        Err(left) => bail!("no end: {}", left.fault),
-    }
-}
-
-/// Does the same by Raymond's algorithm.
-fn raymond<R: Threads>(rt: &R, alloc: Global, nodes: u8, sections: u64) -> Result<usize> {
-    let stations = stations::<Raymond>(alloc, &binary_tree(alloc, nodes)?, &SETTINGS)?;
+/// Runs this many sections for each node of a cluster, and returns how many were run.
+fn run_all<C: Exclusion + Send + 'static, R: Threads>(
+    rt: &R,
+    alloc: Global,
+    shape: &C::Shape,
+    sections: u64,
+) -> Result<usize>
+where
+    C::Msg: Send + 'static,
+    C::Shape: Send + 'static,
+{
+    let stations = stations::<C>(alloc, shape, &SETTINGS)?;
     let links = fair_links(alloc, stations.len())?;
     let jobs = adders(alloc, stations.len(), sections)?;
     match run(rt, alloc, stations, jobs, links, OPTIONS) {
@@ -102,10 +90,11 @@ fn run_by<R: Threads + AllocGlobal>(
     nodes: u8,
     sections: u64,
 ) -> Result<usize> {
+    let alloc = rt.alloc();
     match algorithm {
-        "ricart" => ricart(rt, rt.alloc(), nodes, sections),
-        "maekawa" => maekawa(rt, rt.alloc(), nodes, sections),
-        "raymond" => raymond(rt, rt.alloc(), nodes, sections),
+        "ricart" => run_all::<Ricart, R>(rt, alloc, &count_of(nodes)?, sections),
+        "maekawa" => run_all::<Maekawa, R>(rt, alloc, &quorums_of(nodes)?, sections),
+        "raymond" => run_all::<Raymond, R>(rt, alloc, &binary_tree(alloc, nodes)?, sections),
         _ => bail!("no such algorithm"),
     }
 }
