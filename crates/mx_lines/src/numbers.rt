@@ -4,7 +4,7 @@ ghost use Rattle.std.specs.Prelude.{◌≡◌};
 ghost use Rattle.mx_lines.specs.Numbers.{number_of};
 
 /// The whole number of 64 bits that a text is.
-pub(crate) fn number_of(text: &str) -> Option<u64>
+pub fn number_of(text: &str) -> Option<u64>
     ensures { result ≡ number_of text.now }
 {
     match text.parse::<u64>() {
