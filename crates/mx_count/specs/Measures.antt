@@ -112,7 +112,7 @@ mean_start is_json = if is_json then codes ",\"mean\":" else codes ", mean "
 abbrev pub measure_end : Bool → Text
 measure_end is_json = if is_json then codes "}" else []
 
--- the least, the mean and the greatest of numbers, of which there is one at least
+-- the least, the mean and the greatest of one or more numbers
 abbrev pub spread_text : Bool → ℕ → List ℕ → Text
 spread_text is_json x xs =
     least_text is_json (least_from x xs)

@@ -1,4 +1,4 @@
-//! The events of a run happen, and what came of them is counted.
+//! Runs events, and counts their parcels, refusals and waits.
 
 ghost use Rattle.std.specs.Prelude.{◌≡◌, ◌++◌, IfOk, OnOk, string_bytes};
 ghost use Rattle.mx_network.specs.Step.{RunsTo};
@@ -96,7 +96,7 @@ fn apply_events<C: Exclusion>(
     }
 }
 
-/// Each event of a file in turn, all of which name nodes of the plan.
+/// Runs the events of a file in order; each names nodes of the plan.
 fn run_given<C: Exclusion>(cluster: &mut Cluster<C>, events: &[Event]) -> Result<(), Stop>
     ensures { OnOk result (RunsTo C.core cluster.old events.now cluster.new) }
 {

@@ -12,7 +12,7 @@ use std::fmt;
 struct Parts(Vec<usize>);
 
 impl Parts {
-    /// Nodes of which no two are connected.
+    /// Creates the parts of a graph without edges: each node is one.
     fn new(alloc: Global, nodes: usize) -> Result<Self, AllocError> {
         let parts = (0..nodes).collect(alloc)?;
         Ok(Parts(parts))

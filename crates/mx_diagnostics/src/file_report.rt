@@ -233,7 +233,7 @@ impl<D: Display + Drop> Display for Located<D> {
     }
 }
 
-/// The message of a file of which more lines are not shown.
+/// The message that a file has more lines, which are not shown.
 #[derive(Clone, Copy)]
 struct MoreLines(u64);
 

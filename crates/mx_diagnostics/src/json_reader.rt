@@ -85,7 +85,7 @@ pub(crate) fn read_tree(
 }
 
 impl TreeReader<'_> {
-    /// Reads all tokens, each of which takes a byte or more.
+    /// Reads all tokens. Each takes a byte or more.
     fn read(&mut self, alloc: Global) -> Result<(), JsonFault> {
         let mut scratch = Scratch::new(alloc);
         let mut tokens = Reader::new(self.text, &mut scratch)?;

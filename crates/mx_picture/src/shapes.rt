@@ -23,7 +23,7 @@ pub(crate) struct Texts {
     pub(crate) extent: Extent,
 }
 
-/// The shapes of a picture, of which each kind lies over those before it.
+/// The shapes of a picture. Each kind is drawn over the kinds before it.
 #[derive(Drop)]
 pub(crate) struct Shapes {
     pub(crate) alloc: Global,
